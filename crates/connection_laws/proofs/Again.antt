@@ -18,7 +18,7 @@ use Rattle.ft_model.specs.Connection.{LiveTurn}
 use Rattle.connection_laws.specs.Inside.{GoesOn}
 use Rattle.south_wrap.specs.Patching.{inward}
 use Rattle.south_wrap.specs.Standing.{south_at}
-use Rattle.connection_laws.specs.Turning.{Fits, NewsFit}
+use Rattle.connection_laws.specs.Turning.{SegmentFits, NewsFit}
 use Rattle.connection_laws.proofs.Lowered.{Lowers, lowers, moves, used_by}
 use Rattle.connection_laws.proofs.Meets.{Moves, stays_inside, unacknowledged, minus_none}
 use Rattle.ft_io.proofs.Booleans.{middle_false}
@@ -38,7 +38,7 @@ pub record Stays (u : ℕ) (news : News) (p : Point) : Type 0 where
   edge : u ≤ edge_after news p
   wl2 : u ≤ wl2_after news p
 
-by_ack : (u i delta : ℕ) (segment : Segment) (b : Bool) → has_ack segment ≡ b → (p : Point) → GoesOn u i delta p → Fits p segment → Stays u (Comes segment) p
+by_ack : (u i delta : ℕ) (segment : Segment) (b : Bool) → has_ack segment ≡ b → (p : Point) → GoesOn u i delta p → SegmentFits p segment → Stays u (Comes segment) p
 unfolding acknowledged_after edge_after wl2_after
 by_ack u i delta segment true h p g f =
     let l : Lowers u p.sent (ack_of p.sisn segment) (ack_of i (inward (south_at delta p) segment)) = lowers u i delta p segment g f.ack (f.near h) in

@@ -16,7 +16,7 @@ use Rattle.seq_arith.specs.Packet.{Segment}
 use Rattle.tcp_endpoint.specs.States.{has_begun}
 use Rattle.tcp_endpoint.specs.Sending.{Sending, must_run}
 use Rattle.tcp_endpoint.specs.Tcb.{Tcb}
-use Rattle.tcp_endpoint.specs.Leaving.{flushed, with_turn_ended, announced, after_full, with_fin_out, with_text_sent, with_probe}
+use Rattle.tcp_endpoint.specs.Leaving.{flushed, with_turn_ended, with_advertised, after_full, with_fin_out, with_text_sent, with_probe}
 use Rattle.endpoint_laws.specs.Ending.{IsNamedRightly, resets}
 use Rattle.endpoint_laws.specs.Laws.{IsBounded}
 use Rattle.endpoint_laws.specs.Turn.{Call, MayUse, arrived, before_flush}
@@ -154,12 +154,12 @@ una_ticks Begins p h = absurd (false≢true h)
 less_same : (u a b w : ℕ) → u ≤ a → u ≤ b → a ≡ b → a - u ≡ w → b - u ≡ w
 less_same u a b w x y h k = omega (arith, x, y, h, k)
 
-flushed_answer : (w : Tcb) → (flushed w).answer ≡ None
-unfolding flushed with_turn_ended announced after_full with_fin_out with_text_sent with_probe
-flushed_answer w = refl
+flushed_reset_reply : (w : Tcb) → (flushed w).reset_reply ≡ None
+unfolding flushed with_turn_ended with_advertised after_full with_fin_out with_text_sent with_probe
+flushed_reset_reply w = refl
 
 pub flushed_reset : (w : Tcb) → (flushed w).reset ≡ w.reset
-unfolding flushed with_turn_ended announced after_full with_fin_out with_text_sent with_probe
+unfolding flushed with_turn_ended with_advertised after_full with_fin_out with_text_sent with_probe
 flushed_reset w = refl
 
 pub ends_inside : {State : Type 0} (service : Machine State) (boot u i delta : ℕ) (news : News) (p q : Point) (calls : List Call) (e : Tcb) (sent : List Packet)
@@ -209,7 +209,7 @@ ends_inside service boot u i delta news p q calls e sent st named unreset_p off 
     record {
       stands = record {
         name = flushed_name w ∙ end.closed;
-        answer = flushed_answer w;
+        reset_reply = flushed_reset_reply w;
         kept = flushed_reset w ∙ reset_law inner calls e st.begun ∙ (λ j. kept j || none j);
         ended = flush_keeps (λ (s : Sending). s.closed) w (record { sends = λ s n. refl; ends = λ s. refl; times = λ s x y. refl })
             ∙ (last (and_parts w.sending.fin_sent (w.sending.una == w.sending.sent) over.1).0).0;

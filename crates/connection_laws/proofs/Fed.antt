@@ -10,7 +10,7 @@ use Rattle.ft_model.specs.Network.{Packet}
 use Rattle.ft_model.specs.News.{News}
 use Rattle.ft_model.specs.Taken.{taken_after}
 use Rattle.ft_model.specs.Sending.{acknowledged_after}
-use Rattle.ft_model.proofs.Services.{GoesOn, reads_go_on, more_bytes, prefix_length, sum_take}
+use Rattle.ft_model.proofs.Services.{RunExtends, reads_go_on, more_bytes, prefix_length, sum_take}
 use Rattle.tcp_endpoint.specs.Receiving.{taken}
 use Rattle.tcp_endpoint.specs.Sending.{Sending, bytes_end}
 use Rattle.tcp_endpoint.specs.Tcb.{Tcb}
@@ -39,7 +39,7 @@ use Rattle.connection_laws.proofs.Outliving.{front_goes_on, reads_rise}
 use Rattle.connection_laws.proofs.Meets.{laws_inside}
 use Rattle.connection_laws.proofs.Again.{stays}
 use Rattle.connection_laws.proofs.Ending.{unreset, flushed_reset}
-use Rattle.connection_laws.proofs.Keeping.{Keeps, news_keep, end_kept}
+use Rattle.connection_laws.proofs.Keeping.{KeepsOutput, news_keep, end_kept}
 use Rattle.connection_laws.proofs.Flushed.{end_flushed}
 use Rattle.ft_model.proofs.Running.{taken_grows}
 
@@ -79,17 +79,17 @@ front_if true xs more = (more, refl)
 front_if false xs more = ([], none_more xs)
 
 pub answered_goes : {State : Type 0} (service : Machine State) (news : News) (p q : Point) (more : List ℕ) → sum p.lengths ≤ length p.taken → q.taken ≡ taken_after news p
-    → p.reads_answered ≤ q.reads_answered → q.lengths ≡ p.lengths ++ more → GoesOn (answered_run service p) (answered_run service q)
+    → p.reads_answered ≤ q.reads_answered → q.lengths ≡ p.lengths ++ more → RunExtends (answered_run service p) (answered_run service q)
 answered_goes service news p q more enough taken rises lengths =
     let front : IsPrefix p.taken q.taken = subst (IsPrefix p.taken) (sym taken) (taken_grows news p) in
     let few : sum (take p.reads_answered p.lengths) ≤ length p.taken = omega (arith, enough, sum_take p.reads_answered p.lengths) in
     let here : reference service q.taken (take p.reads_answered p.lengths) ≡ answered_run service p = more_bytes service p.taken q.taken (take p.reads_answered p.lengths) front few in
-    subst (λ r. GoesOn r (answered_run service q)) here
-    (subst (λ l. GoesOn (reference service q.taken (take p.reads_answered p.lengths)) (reference service q.taken (take q.reads_answered l))) (sym lengths)
+    subst (λ r. RunExtends r (answered_run service q)) here
+    (subst (λ l. RunExtends (reference service q.taken (take p.reads_answered p.lengths)) (reference service q.taken (take q.reads_answered l))) (sym lengths)
     (reads_go_on service q.taken (take p.reads_answered p.lengths) (take q.reads_answered (p.lengths ++ more)) (front_goes_on p.reads_answered q.reads_answered p.lengths more rises)))
 
 -- what TCP holds, step by step: more may leave, some is acknowledged, some is written, and a flush
-pub fed_later : {State : Type 0} (service : Machine State) (u : ℕ) (p q : Point) (given : ℕ) (e : Tcb) → GoesOn (answered_run service p) (answered_run service q)
+pub fed_later : {State : Type 0} (service : Machine State) (u : ℕ) (p q : Point) (given : ℕ) (e : Tcb) → RunExtends (answered_run service p) (answered_run service q)
     → Feeds service u p given e → Feeds service u q given e
 fed_later service u p q given e goes f =
     let laws : HoldingLaws (answered_run service p).output (e.sending.una + u) given e.sending.held =
@@ -105,7 +105,7 @@ fed_later service u p q given e goes f =
 further : (u una una' : ℕ) → una ≤ una' → una + u + (una' - una) ≡ una' + u
 further u una una' h = omega (arith, h)
 
-pub fed_arrived : {State : Type 0} (service : Machine State) (u : ℕ) (q : Point) (given : ℕ) (e m : Tcb) → Keeps e.sending m.sending → e.sending.una ≤ m.sending.una
+pub fed_arrived : {State : Type 0} (service : Machine State) (u : ℕ) (q : Point) (given : ℕ) (e m : Tcb) → KeepsOutput e.sending m.sending → e.sending.una ≤ m.sending.una
     → m.sending.una ≤ m.sending.sent → e.sending.sent ≤ e.sending.una + length e.sending.held + one_if e.sending.fin_sent → Feeds service u q given e → Feeds service u q given m
 fed_arrived service u q given e m keeps rises order flight f =
     let output : List ℕ = (answered_run service q).output in
@@ -347,10 +347,10 @@ north_feeds service boot u i delta given news p q sent old new reads e t st k =
     let r : ReceivesAt (inside u i p) e = st.stands.receives in
     let enough : sum p.lengths ≤ length p.taken = omega (arith, r.read, r.long) in
     let rises : p.reads_answered ≤ q.reads_answered = omega (arith, reads_rise news p, k.goes.reads_answered) in
-    let goes : GoesOn (answered_run service p) (answered_run service q) = answered_goes service news p q (lengths_of reads) enough k.goes.taken rises k.lengths in
+    let goes : RunExtends (answered_run service p) (answered_run service q) = answered_goes service news p q (lengths_of reads) enough k.goes.taken rises k.lengths in
     let usual : IsUsualNews inner e = usual_news u i delta p e news st.goes_on st.stands k.fits in
     let came : Arrived inner (inside u i p) e m = arrives inner (inside u i p) e st.begun st.between st.stands usual in
-    let keeps : Keeps e.sending m.sending = news_keep inner e st.begun st.between.bounds usual in
+    let keeps : KeepsOutput e.sending m.sending = news_keep inner e st.begun st.between.bounds usual in
     let none : m.reset ≡ false = reset_law inner [] e st.begun ∙ (λ j. k.kept j || unreset u i delta p e news st k.unreset k.fits k.goes_unreset j) in
     let arrived_fed : Feeds service u q given m =
     fed_arrived service u q given e m keeps came.una came.bounds.order st.between.bounds.flight (fed_later service u p q given e goes k.feeds) in

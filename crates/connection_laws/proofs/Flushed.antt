@@ -6,7 +6,7 @@ use Rattle.seq_arith.specs.Offset.{one_if}
 use Rattle.tcp_endpoint.specs.States.{has_begun}
 use Rattle.tcp_endpoint.specs.Sending.{Sending, bytes_end, timed, send_edge, sendable, sends_fin, with_sent, with_fin_sent}
 use Rattle.tcp_endpoint.specs.Tcb.{Tcb}
-use Rattle.tcp_endpoint.specs.Leaving.{probes_text, probes_fin, with_probe, with_text_sent, with_fin_out, after_full, announced, with_turn_ended, flushed}
+use Rattle.tcp_endpoint.specs.Leaving.{probes_text, probes_fin, with_probe, with_text_sent, with_fin_out, after_full, with_advertised, with_turn_ended, flushed}
 use Rattle.endpoint_laws.specs.Laws.{IsBounded}
 use Rattle.endpoint_laws.proofs.TurnLaw.{after_steps}
 use Rattle.ft_io.proofs.Booleans.{left_true, right_true}
@@ -69,7 +69,7 @@ ends_of p b o f c una len sent order flight h =
     (unsent, all_sent f una len sent order flight unsent (right_true (p && b && o && not f) none probed))
 
 pub end_flushed : (u : Tcb) → IsBounded u → bytes_end (flushed u).sending ≡ bytes_end u.sending
-unfolding flushed with_turn_ended announced after_full with_fin_out with_text_sent with_probe
+unfolding flushed with_turn_ended with_advertised after_full with_fin_out with_text_sent with_probe
 end_flushed u b =
     let s : Sending = u.sending in
     end_timed _ (after_steps (has_begun u.name) (probes_text u) (probes_fin u) u.sending)

@@ -17,7 +17,7 @@ use Rattle.north_wrap.specs.Sockets.{SocketLaws}
 use Rattle.north_wrap.specs.Standing.{NorthStands, SocketStands, with_taken, with_answered}
 use Rattle.north_wrap.proofs.Answering.{answers_stand, taking_stands}
 use Rattle.connection_laws.specs.Feeding.{tcp_reader, tcp_writer}
-use Rattle.connection_laws.specs.Standing.{heard}
+use Rattle.connection_laws.specs.Standing.{north_after_news}
 use Rattle.ft_model.proofs.Running.{taken_grows}
 
 -- TCP is a socket by its laws
@@ -68,7 +68,7 @@ takes : {S : Type 0} (service : Machine S) (p b : Point) (given : ℕ) (n : Nort
 takes service p b given n taken front t l a f st = north_alike service (with_taken front.0 p) b given n (front.1 ∙ t) l a f (taking_stands service p given n front.0 st)
 
 pub hears : {S : Type 0} (service : Machine S) (news : News) (p b : Point) (given : ℕ) (n : NorthState S) → b.taken ≡ taken_after news p → b.lengths ≡ p.lengths
-    → b.reads_answered ≡ reads_answered_after news p → b.fetched ≡ p.fetched → NorthStands service p given n → NorthStands service b given (heard news n)
+    → b.reads_answered ≡ reads_answered_after news p → b.fetched ≡ p.fetched → NorthStands service p given n → NorthStands service b given (north_after_news news n)
 unfolding taken_after reads_answered_after
 hears service (Comes segment) p b given n t l a f st = takes service p b given n (taken_after (Comes segment) p) (taken_grows (Comes segment) p) (sym t) (sym l) (sym a) (sym f) st
 hears service (Logged kept) p b given n t l a f st =
@@ -76,7 +76,7 @@ hears service (Logged kept) p b given n t l a f st =
 hears service Ticks p b given n t l a f st = north_alike service p b given n (sym t) (sym l) (sym a) (sym f) st
 hears service Begins p b given n t l a f st = north_alike service p b given n (sym t) (sym l) (sym a) (sym f) st
 
-pub heard_shut : {S : Type 0} (news : News) (n : NorthState S) → (heard news n).shut ≡ n.shut
+pub heard_shut : {S : Type 0} (news : News) (n : NorthState S) → (north_after_news news n).shut ≡ n.shut
 unfolding answered_on
 heard_shut (Comes segment) n = refl
 heard_shut (Logged kept) n = refl
@@ -98,7 +98,7 @@ socket_stands b n m read unread fin kept shut = record {
 
 -- and where the client has reset the connection
 pub reset_hears : {S : Type 0} (service : Machine S) (boot : ℕ) (news : News) (p q : Point) (given : ℕ) (n : NorthState S) (sent : List Packet) → NorthStands service p given n
-    → ResetTurn boot news p q sent → NorthStands service q given (heard news n)
+    → ResetTurn boot news p q sent → NorthStands service q given (north_after_news news n)
 unfolding reads_answered_after
 reset_hears service boot (Comes segment) p q given n sent st t = subst (λ r. NorthStands service r given n) (sym t.point) (north_alike service p _ given n refl refl refl refl st)
 reset_hears service boot (Logged kept) p q given n sent st t =

@@ -256,19 +256,19 @@ full_is service server news inner p q u i delta s =
     ∙ (λ k. new_texts_are service server news inner p q u i delta s k ++ new_fin_is service server news inner p q u i delta s k)) j)
 
 -- TCP sends no RST: its segments pass
-passed_or : (delta : ℕ) (q : Point) (owed : Bool) (bare : Segment) (xs : List Segment) → has_rst bare ≡ false → list_any has_rst xs ≡ false
-    → passed delta q (or_bare owed bare xs) ≡ or_bare owed (outward (south_at delta q) bare) (map (outward (south_at delta q)) xs)
+passed_or : (delta : ℕ) (q : Point) (ack_pending : Bool) (bare : Segment) (xs : List Segment) → has_rst bare ≡ false → list_any has_rst xs ≡ false
+    → passed delta q (or_bare ack_pending bare xs) ≡ or_bare ack_pending (outward (south_at delta q) bare) (map (outward (south_at delta q)) xs)
 passed_or delta q true bare [] a b = ap (λ v. if v then [] else outward (south_at delta q) bare ∷ []) (ap (λ v. v || false) a)
 passed_or delta q false bare [] a b = refl
-passed_or delta q owed bare (x ∷ xs) a b = ap (λ v. if v then [] else map (outward (south_at delta q)) (x ∷ xs)) b
+passed_or delta q ack_pending bare (x ∷ xs) a b = ap (λ v. if v then [] else map (outward (south_at delta q)) (x ∷ xs)) b
 
-pub passed_is : {State : Type 0} (service : Machine State) (server : Addr) (news inner : News) (p q : Point) (u i delta : ℕ) (owed : Bool) → u ≤ q.sent
+pub passed_is : {State : Type 0} (service : Machine State) (server : Addr) (news inner : News) (p q : Point) (u i delta : ℕ) (ack_pending : Bool) → u ≤ q.sent
     → Sends service news inner p q u i delta
-    → passed delta q (or_bare owed (bare_segment server (inside u i q)) (full (swallowing u service) server inner (inside u i p) (inside u i q)))
-    ≡ or_bare owed (bare_segment server q) (full service server news p q)
-passed_is service server news inner p q u i delta owed above s =
-    passed_or delta q owed (bare_segment server (inside u i q)) _ refl (full_quiet (swallowing u service) server inner (inside u i p) (inside u i q))
-    ∙ (λ j. or_bare owed (bare_is server u i delta q s.shift above j) (full_is service server news inner p q u i delta s j))
+    → passed delta q (or_bare ack_pending (bare_segment server (inside u i q)) (full (swallowing u service) server inner (inside u i p) (inside u i q)))
+    ≡ or_bare ack_pending (bare_segment server q) (full service server news p q)
+passed_is service server news inner p q u i delta ack_pending above s =
+    passed_or delta q ack_pending (bare_segment server (inside u i q)) _ refl (full_quiet (swallowing u service) server inner (inside u i p) (inside u i q))
+    ∙ (λ j. or_bare ack_pending (bare_is server u i delta q s.shift above j) (full_is service server news inner p q u i delta s j))
 
 -- a segment without data that is owed besides
 pub or_besides : (a b : Bool) (bare : Segment) (xs : List Segment) → or_bare b bare (or_bare a bare xs) ≡ or_bare (a || b) bare xs

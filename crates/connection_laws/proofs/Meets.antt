@@ -23,7 +23,7 @@ use Rattle.connection_laws.specs.Passing.{news_inside}
 use Rattle.south_wrap.specs.Patching.{inward}
 use Rattle.south_wrap.specs.Standing.{south_at}
 use Rattle.endpoint_laws.specs.Standing.{MeetsLaws}
-use Rattle.connection_laws.specs.Turning.{Fits, NewsFit}
+use Rattle.connection_laws.specs.Turning.{SegmentFits, NewsFit}
 use Rattle.connection_laws.proofs.Swallowed.{inside_target}
 use Rattle.connection_laws.proofs.Lowered.{Lowers, lowers, moves, una_inside, moves_inside, edge_inside, wl2_inside, counts_inside}
 use Rattle.connection_laws.proofs.Duplicates.{duplicates, duplicates_inside, flight_inside, congestion_inside}
@@ -179,12 +179,12 @@ idle_inside u i delta p segment h =
       ticks = refl;
     }
 
-comes_any : (u i delta : ℕ) (p : Point) (segment : Segment) (b : Bool) → has_ack segment ≡ b → GoesOn u i delta p → Fits p segment
+comes_any : (u i delta : ℕ) (p : Point) (segment : Segment) (b : Bool) → has_ack segment ≡ b → GoesOn u i delta p → SegmentFits p segment
     → Moves (Comes segment) p u i (Comes (inward (south_at delta p) segment))
 comes_any u i delta p segment true h g f = comes_inside u i delta p segment g (lowers u i delta p segment g f.ack (f.near h))
 comes_any u i delta p segment false h g f = idle_inside u i delta p segment h
 
-by_repeat : (u i delta : ℕ) (p : Point) (segment : Segment) (b : Bool) → repeats_syn p segment ≡ b → GoesOn u i delta p → Fits p segment
+by_repeat : (u i delta : ℕ) (p : Point) (segment : Segment) (b : Bool) → repeats_syn p segment ≡ b → GoesOn u i delta p → SegmentFits p segment
     → Moves (Comes segment) p u i (if b then Begins else Comes (inward (south_at delta p) segment))
 by_repeat u i delta p segment true h g f =
     stays_inside u i p segment (nothing_counts p segment

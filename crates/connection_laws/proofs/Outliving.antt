@@ -22,9 +22,9 @@ use Rattle.ft_model.specs.Timer.{is_tick, must_run, expires, rest_after, interva
 use Rattle.ft_model.specs.Segments.{opens_with}
 use Rattle.ft_model.specs.Opening.{is_syn}
 use Rattle.ft_model.specs.Connection.{LiveTurn}
-use Rattle.ft_model.proofs.Services.{GoesOn, reads_go_on}
+use Rattle.ft_model.proofs.Services.{RunExtends, reads_go_on}
 use Rattle.tcp_endpoint.specs.declared.states.StateName.TheVariants.{Closed}
-use Rattle.tcp_endpoint.specs.Arrival.{received, received_in, in_closed, refusing, refusing_without_ack}
+use Rattle.tcp_endpoint.specs.Arrival.{received, received_in, in_closed, with_reset_reply, with_reset_reply_without_ack}
 use Rattle.tcp_endpoint.specs.Receiving.{Receiving}
 use Rattle.tcp_endpoint.specs.Receiving as receiver
 use Rattle.tcp_endpoint.specs.Sending.{Sending}
@@ -35,7 +35,7 @@ use Rattle.endpoint_laws.specs.Laws.{IsBounded, Bounds}
 use Rattle.endpoint_laws.specs.Turn.{Call, arrived, used}
 use Rattle.endpoint_laws.specs.Unconnected.{sent_in_closed}
 use Rattle.tcp_endpoint.specs.States.{has_begun}
-use Rattle.tcp_endpoint.specs.Leaving.{flushed, with_turn_ended, announced, after_full, with_fin_out, with_text_sent, with_probe, probes, probes_text, probes_fin}
+use Rattle.tcp_endpoint.specs.Leaving.{flushed, with_turn_ended, with_advertised, after_full, with_fin_out, with_text_sent, with_probe, probes, probes_text, probes_fin}
 use Rattle.endpoint_laws.proofs.TurnLaw.{after_steps, timed_sent}
 use Rattle.endpoint_laws.proofs.EndingLaw.{flushed_name}
 use Rattle.endpoint_laws.proofs.NoConnection.{closed_stays_law, closed_answers_law, same_closed}
@@ -49,7 +49,7 @@ use Rattle.connection_laws.specs.Passing.{news_inside, passed}
 use Rattle.endpoint_laws.specs.Standing.{ReceivesAt}
 use Rattle.endpoint_laws.proofs.Calls.{FinIsLast, IsUsed, used_is, bounded_used, last_used}
 use Rattle.connection_laws.specs.Closing.{StandsClosed, ReadsOn, GoesOnClosed}
-use Rattle.connection_laws.proofs.Keeping.{Keeps, kept_same, kept_ticked}
+use Rattle.connection_laws.proofs.Keeping.{KeepsOutput, kept_same, kept_ticked}
 use Rattle.connection_laws.proofs.Quiet.{no_third, quiet_sends}
 use Rattle.connection_laws.proofs.Forged.{plus_none, either}
 use Rattle.connection_laws.proofs.Held.{behind_at}
@@ -164,14 +164,14 @@ pub record IsStill (e m : Tcb) : Type 0 where
   pub iss : m.sending.iss ≡ e.sending.iss
   pub syn_acked : m.sending.syn_acked ≡ e.sending.syn_acked
   pub una : m.sending.una ≡ e.sending.una
-  pub keeps : Keeps e.sending m.sending
+  pub keeps : KeepsOutput e.sending m.sending
   pub kept : m.reset ≡ e.reset
   pub bounds : IsBounded e → IsBounded m
   pub last : FinIsLast e.sending → FinIsLast m.sending
 
-in_closed_keeps : {X : Type 0} (f : Tcb → X) (e : Tcb) (p : Segment) → e.name ≡ Closed → f (refusing e p) ≡ f e → f (refusing_without_ack e p) ≡ f e → f (received e p) ≡ f e
+in_closed_keeps : {X : Type 0} (f : Tcb → X) (e : Tcb) (p : Segment) → e.name ≡ Closed → f (with_reset_reply e p) ≡ f e → f (with_reset_reply_without_ack e p) ≡ f e → f (received e p) ≡ f e
 unfolding received in_closed
-in_closed_keeps f e p closed h k = ap (λ n. f (received_in n e p)) closed ∙ same_closed f (has_rst p) (has_ack p) e (refusing e p) (refusing_without_ack e p) h k
+in_closed_keeps f e p closed h k = ap (λ n. f (received_in n e p)) closed ∙ same_closed f (has_rst p) (has_ack p) e (with_reset_reply e p) (with_reset_reply_without_ack e p) h k
 
 still_halves : (e m : Tcb) → m.receiving ≡ e.receiving → m.sending ≡ e.sending → m.reset ≡ e.reset → IsStill e m
 still_halves e m r s k = record {
@@ -179,7 +179,7 @@ still_halves e m r s k = record {
   iss = ap (λ (x : Sending). x.iss) s;
   syn_acked = ap (λ (x : Sending). x.syn_acked) s;
   una = ap (λ (x : Sending). x.una) s;
-  keeps = subst (λ (x : Sending). Keeps e.sending x) (sym s) (kept_same e.sending);
+  keeps = subst (λ (x : Sending). KeepsOutput e.sending x) (sym s) (kept_same e.sending);
   kept = k;
   bounds = λ b. subst (λ (x : Receiving). Bounds x m.sending) (sym r) (subst (λ (x : Sending). Bounds e.receiving x) (sym s) b);
   last = λ l. subst FinIsLast (sym s) l;
@@ -197,7 +197,7 @@ part_ticked f s true c h = h c (min 64 (2 * s.interval)) (min 64 (2 * s.interval
 part_ticked f s false c h = h s.congestion s.interval (s.rest - 1)
 
 pub still : (news : News) (e : Tcb) → e.name ≡ Closed → IsStill e (arrived news e)
-unfolding after_tick timer_ticked waited refusing refusing_without_ack
+unfolding after_tick timer_ticked waited with_reset_reply with_reset_reply_without_ack
 still (Comes p) e closed =
     still_halves e (received e p) (in_closed_keeps (λ (t : Tcb). t.receiving) e p closed refl refl) (in_closed_keeps (λ (t : Tcb). t.sending) e p closed refl refl)
     (in_closed_keeps (λ (t : Tcb). t.reset) e p closed refl refl)
@@ -220,7 +220,7 @@ off_second_of true b o f h = ap (λ x. x && o && f) h
 off_second_of false b o f h = refl
 
 pub closed_sent : (w : Tcb) → has_begun w.name ≡ false → (flushed w).sending.sent ≡ w.sending.sent
-unfolding flushed with_turn_ended announced after_full with_fin_out with_text_sent with_probe
+unfolding flushed with_turn_ended with_advertised after_full with_fin_out with_text_sent with_probe
 closed_sent w off =
     let s : Sending = w.sending in
     let none : probes w ≡ false = off_second_of w.probe (has_begun w.name) s.syn_acked (not s.fin_sent) off in
@@ -254,7 +254,7 @@ outlives service server boot u i delta news p q calls e sent st l reads =
     let run_is : answered_run service q ≡ reference service p.taken (take q.reads_answered (p.lengths ++ l.reads.news)) =
     λ j. reference service (taken j) (take q.reads_answered (l.reads.lengths j)) in
     let more : p.reads_answered ≤ q.reads_answered = omega (arith, reads_rise news p, l.reads_answered) in
-    let goes : GoesOn (answered_run service p) (reference service p.taken (take q.reads_answered (p.lengths ++ l.reads.news))) =
+    let goes : RunExtends (answered_run service p) (reference service p.taken (take q.reads_answered (p.lengths ++ l.reads.news))) =
     reads_go_on service p.taken (take p.reads_answered p.lengths) (take q.reads_answered (p.lengths ++ l.reads.news)) (front_goes_on p.reads_answered q.reads_answered p.lengths l.reads.news more) in
     let out : released service q ≡ released service p = ap (λ r. length r.output) run_is ∙ ap length (goes.closed closed).0 in
     let closed_then : (answered_run service q).closed ≡ true = ap (λ r. r.closed) run_is ∙ (goes.closed closed).1 in
@@ -275,7 +275,7 @@ outlives service server boot u i delta news p q calls e sent st l reads =
     let r : ReceivesAt p e = st.receives in
     let last : FinIsLast w.sending = last_used m.sending w.sending a.sends (s.last st.fin_last) in
     let bounds : IsBounded w = bounded_used calls m reads.may (s.last st.fin_last) (s.bounds st.bounds) in
-    let stays = closed_stays_law inner calls e st.name st.answer in
+    let stays = closed_stays_law inner calls e st.name st.reset_reply in
     let at : ReceivesAt q w = record {
       cisn = a.irs ∙ ap (λ (x : Receiving). x.irs) s.receiving ∙ r.cisn ∙ (λ j. (sym l.same.cisn j + sym l.same.fetched j) % 2 ^ 32);
       limit = (λ j. (a.limit ∙ ap (λ (x : Receiving). x.limit) s.receiving) j + l.same.fetched j) ∙ r.limit;
@@ -290,7 +290,7 @@ outlives service server boot u i delta news p q calls e sent st l reads =
       stands = record {
         name = stays.0;
         kept = stays.3 ∙ st.kept;
-        answer = stays.1;
+        reset_reply = stays.1;
         ended = flush_keeps (λ (x : Sending). x.closed) w (record { sends = λ x n. refl; ends = λ x. refl; times = λ x y z. refl }) ∙ a.sends.closed (s.keeps.closed ∙ st.ended);
         bounds = bounded_by_flush w bounds;
         fin_last = last_flushed w bounds last;
@@ -313,7 +313,7 @@ outlives service server boot u i delta news p q calls e sent st l reads =
         all_sent = sent_all;
         still = l.rest ∙ rest_stops service news p q syn_acked una_sent sent_all;
       };
-      silent = ap (passed delta q) (closed_answers_law inner calls e st.name st.answer) ∙ refusals_stay delta q e.local inner;
+      silent = ap (passed delta q) (closed_answers_law inner calls e st.name st.reset_reply) ∙ refusals_stay delta q e.local inner;
       syn_acked = st.syn_acked;
       taken = λ j. length (taken j) + one_if ((fin ∙ sym over.0) j);
       segments = quiet_sends service server news p q (record { opens = opens_not news p over.0 st.syn_acked; expires = still_p; third = third; past = past });

@@ -10,7 +10,7 @@ use Rattle.ft_model.specs.Point.{Point, released}
 use Rattle.ft_model.specs.News.{News}
 use Rattle.ft_model.specs.News.News.{Comes, Logged, Ticks, Begins}
 use Rattle.ft_model.specs.Offset.{text_of, fin_of}
-use Rattle.ft_model.specs.Owed.{is_owed}
+use Rattle.ft_model.specs.Owed.{is_ack_pending}
 use Rattle.ft_model.specs.Sending.{acknowledges, acknowledged_by, window_by, acknowledged_after, is_duplicate, is_third_duplicate, sent_at_once}
 use Rattle.ft_model.specs.Timer.{expires}
 use Rattle.ft_model.specs.Segments.{syn_ack, opens_with, full_segments, segments_of, resent, new_texts, new_fin, new_length, texts, bare_segment, or_bare, fin_if_closed, is_unacknowledged, first_unacknowledged, probe}
@@ -63,4 +63,4 @@ nothing_full service server news p q h =
 
 pub quiet_sends : {State : Type 0} (service : Machine State) (server : Addr) (news : News) (p q : Point) → IsQuiet service news p q → SendsAlone service server news p q
 unfolding segments_of
-quiet_sends service server news p q h = ap (or_bare (is_owed service news p q) (bare_segment server q)) (nothing_full service server news p q h)
+quiet_sends service server news p q h = ap (or_bare (is_ack_pending service news p q) (bare_segment server q)) (nothing_full service server news p q h)

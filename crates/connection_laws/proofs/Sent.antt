@@ -9,14 +9,14 @@ use Rattle.seq_arith.specs.Arrival.{int_eq}
 use Rattle.seq_arith.specs.Packet.{Segment, has_syn, has_rst, has_ack}
 use Rattle.server_trait.specs.Service.{Machine}
 use Rattle.ft_model.specs.Offset.{first_of, ack_of, length_of}
-use Rattle.ft_model.specs.Point.{Point, taken_units, announced_edge, released}
+use Rattle.ft_model.specs.Point.{Point, taken_units, advertised_edge, released}
 use Rattle.ft_model.specs.Point as point
 use Rattle.ft_model.specs.News.{News}
 use Rattle.ft_model.specs.News.News.{Comes, Logged, Ticks, Begins}
 use Rattle.ft_model.specs.Network.{Packet}
 use Rattle.ft_model.specs.Answered.{answered_after}
 use Rattle.ft_model.specs.Taken.{accepts, uses, counts, taken_after, fin_after}
-use Rattle.ft_model.specs.Owed.{is_refused, owes, asks}
+use Rattle.ft_model.specs.Owed.{is_refused, needs_ack, asks}
 use Rattle.ft_model.specs.Owed as outer
 use Rattle.ft_model.specs.Reads.{Makes, MakesReads, next_read, next_length, may_read}
 use Rattle.ft_model.specs.Sending.{edge_after, is_third_duplicate, sent_at_once, syn_acked_after}
@@ -26,11 +26,11 @@ use Rattle.ft_model.specs.Opening.{is_syn}
 use Rattle.ft_model.specs.Segments.{syn_ack, repeats_syn, opens_with, full_segments, segments_of, or_bare, bare_segment, resent, new_texts, new_fin, is_unacknowledged, first_unacknowledged, probe}
 use Rattle.ft_model.specs.Connection.{LiveTurn}
 use Rattle.connection_laws.specs.Inside.{swallowing, inside, GoesOn}
-use Rattle.connection_laws.specs.Passing.{news_inside, passed, asks_besides, owes_besides, leaves}
+use Rattle.connection_laws.specs.Passing.{news_inside, passed, asks_besides, needs_ack_besides, leaves}
 use Rattle.south_wrap.specs.Patching.{inward}
 use Rattle.south_wrap.specs.Standing.{south_at}
-use Rattle.endpoint_laws.specs.Standing.{MeetsLaws, owes_to, is_owed, refuses, refusals, segments_by_laws}
-use Rattle.connection_laws.specs.Turning.{Turns, Fits}
+use Rattle.endpoint_laws.specs.Standing.{MeetsLaws, news_needs_ack, is_ack_pending, refuses, refusals, segments_by_laws}
+use Rattle.connection_laws.specs.Turning.{Turns, SegmentFits}
 use Rattle.connection_laws.proofs.Lowered.{Lowers, lowers}
 use Rattle.connection_laws.proofs.Meets.{Moves, moves_inside_all, stays_inside, laws_inside, minus_none}
 use Rattle.connection_laws.proofs.Leaving.{Sends, full, passed_is, or_besides}
@@ -63,7 +63,7 @@ refused_by u sent true has ack inner o l = refl
 refused_by u sent false has ack inner o l =
     ap (λ b. true && has && b) (less_is inner ∙ ap not (same_sign u sent ack inner (o refl) l) ∙ sym (less_is ack))
 
-refused_any : (u i delta : ℕ) (p : Point) (segment : Segment) (b : Bool) → has_ack segment ≡ b → GoesOn u i delta p → Fits p segment
+refused_any : (u i delta : ℕ) (p : Point) (segment : Segment) (b : Bool) → has_ack segment ≡ b → GoesOn u i delta p → SegmentFits p segment
     → is_refused (inside u i p) (inward (south_at delta p) segment) ≡ is_refused p segment
 refused_any u i delta p segment true h g f =
     refused_by u p.sent p.syn_acked (has_ack segment) (ack_of p.sisn segment) (ack_of i (inward (south_at delta p) segment)) (λ o. (g.syn_unacked o).0)
@@ -72,14 +72,14 @@ refused_any u i delta p segment false h g f =
     middle_false (not p.syn_acked) (has_ack segment) (int_lt (ack_of i (inward (south_at delta p) segment)) (pos 0)) h
     ∙ sym (middle_false (not p.syn_acked) (has_ack segment) (int_lt (ack_of p.sisn segment) (pos 0)) h)
 
-refused_is : (u i delta : ℕ) (p : Point) (segment : Segment) → GoesOn u i delta p → Fits p segment
+refused_is : (u i delta : ℕ) (p : Point) (segment : Segment) → GoesOn u i delta p → SegmentFits p segment
     → is_refused (inside u i p) (inward (south_at delta p) segment) ≡ is_refused p segment
 refused_is u i delta p segment g f = refused_any u i delta p segment (has_ack segment) refl g f
 
-owes_is : (u i delta : ℕ) (p : Point) (segment : Segment) → GoesOn u i delta p → Fits p segment
-    → owes (inside u i p) (inward (south_at delta p) segment) ≡ owes p segment
-unfolding owes accepts
-owes_is u i delta p segment g f =
+needs_ack_is : (u i delta : ℕ) (p : Point) (segment : Segment) → GoesOn u i delta p → SegmentFits p segment
+    → needs_ack (inside u i p) (inward (south_at delta p) segment) ≡ needs_ack p segment
+unfolding needs_ack accepts
+needs_ack_is u i delta p segment g f =
     ap (λ b. if accepts p segment
     then (if has_rst segment then not (int_eq (first_of p.cisn segment) (pos (taken_units p)))
     else (if has_syn segment then true
@@ -88,22 +88,22 @@ owes_is u i delta p segment g f =
 
 usually : {State : Type 0} (service : Machine State) (server : Addr) (news inner : News) (p q : Point) (u i delta : ℕ) → u ≤ q.sent
     → Sends service news inner p q u i delta → refusals server inner (inside u i p) ≡ [] → opens_with news p ≡ false
-    → (owes_to inner (inside u i p) || asks_besides service news p) ≡ asks service news p
+    → (news_needs_ack inner (inside u i p) || asks_besides service news p) ≡ asks service news p
     → leaves service server news p q (passed delta q (segments_by_laws (swallowing u service) server inner (inside u i p) (inside u i q)))
     ≡ segments_of service server news p q
-unfolding segments_of full_segments outer.is_owed
+unfolding segments_of full_segments outer.is_ack_pending
 usually service server news inner p q u i delta above s none opens asked =
     let bare : Segment = bare_segment server q in
-    let b : Bool = owes_besides service news p q in
-    let o : Bool = is_owed inner (inside u i p) (inside u i q) in
-    let owed : (o || b) ≡ outer.is_owed service news p q =
-    or_five (owes_to inner (inside u i p)) (not (taken_units p == taken_units q)) (not (announced_edge p == announced_edge q)) (asks_besides service news p) (nat_lt p.answered q.answered)
-    ∙ ap (λ a. a || nat_lt p.answered q.answered || not (taken_units p == taken_units q) || not (announced_edge p == announced_edge q)) asked in
+    let b : Bool = needs_ack_besides service news p q in
+    let o : Bool = is_ack_pending inner (inside u i p) (inside u i q) in
+    let ack_pending : (o || b) ≡ outer.is_ack_pending service news p q =
+    or_five (news_needs_ack inner (inside u i p)) (not (taken_units p == taken_units q)) (not (advertised_edge p == advertised_edge q)) (asks_besides service news p) (nat_lt p.answered q.answered)
+    ∙ ap (λ a. a || nat_lt p.answered q.answered || not (taken_units p == taken_units q) || not (advertised_edge p == advertised_edge q)) asked in
     (λ j. or_bare b bare ((if opens j then syn_ack server q ∷ [] else [])
     ++ passed delta q (or_bare o (bare_segment server (inside u i q)) (none j ++ full (swallowing u service) server inner (inside u i p) (inside u i q)))))
     ∙ ap (or_bare b bare) (passed_is service server news inner p q u i delta o above s)
     ∙ or_besides o b bare (full service server news p q)
-    ∙ (λ j. or_bare (owed j) bare ((if sym opens j then syn_ack server q ∷ [] else []) ++ full service server news p q))
+    ∙ (λ j. or_bare (ack_pending j) bare ((if sym opens j then syn_ack server q ∷ [] else []) ++ full service server news p q))
 
 -- where nothing is taken nothing is read
 pub never : (n : ℕ) → nat_lt n 0 ≡ false
@@ -143,10 +143,10 @@ same_self n = grind arith
 
 -- nothing is announced anew
 pub nothing_new : (p q : Point) → q.taken ≡ p.taken → q.fin ≡ p.fin → q.fetched ≡ p.fetched → q.lengths ≡ p.lengths
-    → (not (taken_units p == taken_units q) || not (announced_edge p == announced_edge q)) ≡ false
+    → (not (taken_units p == taken_units q) || not (advertised_edge p == advertised_edge q)) ≡ false
 nothing_new p q a b c d =
-    (λ j. not (taken_units p == length (a j) + (if b j then 1 else 0)) || not (announced_edge p == min (max (c j) (sum (d j)) + 65535) (2 ^ 24) + (if b j then 1 else 0)))
-    ∙ (λ j. not (same_self (taken_units p) j) || not (same_self (announced_edge p) j))
+    (λ j. not (taken_units p == length (a j) + (if b j then 1 else 0)) || not (advertised_edge p == min (max (c j) (sum (d j)) + 65535) (2 ^ 24) + (if b j then 1 else 0)))
+    ∙ (λ j. not (same_self (taken_units p) j) || not (same_self (advertised_edge p) j))
 
 quiet_or : (bare : Segment) (xs : List Segment) → or_bare false bare xs ≡ xs
 quiet_or bare [] = refl
@@ -170,11 +170,11 @@ repeated service server boot segment p q sent u i delta above s few opens l laws
     let units = units_none (length p.taken) p.fin (second_of_three (syn_at p segment) (taken_units p == 0) (p.una == 0) opens) in
     let lens : q.lengths ≡ p.lengths =
     same_lengths service p q l.reads (ap length laws.taken ∙ units.0) (l.same.fetched ∙ omega (arith, few, units.0)) (laws.fin ∙ units.1) in
-    let quiet : is_owed Begins (inside u i p) (inside u i q) ≡ false = nothing_new p q laws.taken laws.fin l.same.fetched lens in
-    (λ j. or_bare (owes_besides service (Comes segment) p q) (bare_segment server q) ((if opens j then syn_ack server q ∷ [] else [])
+    let quiet : is_ack_pending Begins (inside u i p) (inside u i q) ≡ false = nothing_new p q laws.taken laws.fin l.same.fetched lens in
+    (λ j. or_bare (needs_ack_besides service (Comes segment) p q) (bare_segment server q) ((if opens j then syn_ack server q ∷ [] else [])
     ++ passed delta q (or_bare (quiet j) (bare_segment server (inside u i q)) (full (swallowing u service) server Begins (inside u i p) (inside u i q)))))
     ∙ ap (λ xs. syn_ack server q ∷ xs) (passed_is service server (Comes segment) Begins p q u i delta false above s ∙ quiet_or (bare_segment server q) (full service server (Comes segment) p q))
-    ∙ (λ j. or_bare (outer.is_owed service (Comes segment) p q) (bare_segment server q) ((if sym opens j then syn_ack server q ∷ [] else []) ++ full service server (Comes segment) p q))
+    ∙ (λ j. or_bare (outer.is_ack_pending service (Comes segment) p q) (bare_segment server q) ((if sym opens j then syn_ack server q ∷ [] else []) ++ full service server (Comes segment) p q))
 
 four_of : (a b c d : Bool) → (a && not b && not c && d) ≡ true → (a ≡ true) × (b ≡ false) × (c ≡ false) × (d ≡ true)
 four_of true false false true h = (refl, refl, refl, refl)
@@ -208,17 +208,17 @@ nothing_long r = omega arith
 -- an acceptable segment acknowledges less than the SYN
 record IsRefused (p q : Point) (segment : Segment) : Type 0 where
   opens : opens_with (Comes segment) p ≡ false
-  owed : owes p segment ≡ false
+  ack_pending : needs_ack p segment ≡ false
   fin : p.fin ≡ false
   answered : q.answered ≡ p.answered
-  new : (not (taken_units p == taken_units q) || not (announced_edge p == announced_edge q)) ≡ false
+  new : (not (taken_units p == taken_units q) || not (advertised_edge p == advertised_edge q)) ≡ false
   sent : p.sent ≡ 0
   edge : q.edge ≡ 0
   third : is_third_duplicate (Comes segment) p ≡ false
 
 refused_turn : {State : Type 0} (service : Machine State) (server : Addr) (boot : ℕ) (segment : Segment) (p q : Point) (sent : List Packet) (u i delta : ℕ)
     → GoesOn u i delta p → refuses p segment ≡ true → LiveTurn service server boot (Comes segment) p q sent → IsRefused p q segment
-unfolding owes counts answered_after taken_after fin_after edge_after is_third_duplicate
+unfolding needs_ack counts answered_after taken_after fin_after edge_after is_third_duplicate
 refused_turn service server boot segment p q sent u i delta g r l =
     let f = four_of (accepts p segment) (has_rst segment) (has_syn segment) (is_refused p segment) r in
     let k = three_of p.syn_acked (has_ack segment) (int_lt (ack_of p.sisn segment) (pos 0)) f.3 in
@@ -234,7 +234,7 @@ refused_turn service server boot segment p q sent u i delta g r l =
     same_lengths service p q l.reads (ap length (taken ∙ o.3)) (l.same.fetched ∙ o.6) (fin ∙ o.4) in
     record {
       opens = λ j. f.2 j && not (has_ack segment) && not (has_rst segment) && segment.head.seq == p.cisn && taken_units p == 0 && p.una == 0;
-      owed = λ j. if f.0 j then (if f.1 j then not (int_eq (first_of p.cisn segment) (pos (taken_units p)))
+      ack_pending = λ j. if f.0 j then (if f.1 j then not (int_eq (first_of p.cisn segment) (pos (taken_units p)))
           else (if f.2 j then true else (if f.3 j then false else nat_lt 0 (length_of segment))))
           else not (has_rst segment);
       fin = o.4;
@@ -249,24 +249,24 @@ refused : {State : Type 0} (service : Machine State) (server : Addr) (boot : ℕ
     → GoesOn u i delta p → refuses p segment ≡ true → refuses (inside u i p) inner ≡ true → LiveTurn service server boot (Comes segment) p q sent
     → leaves service server (Comes segment) p q (passed delta q (segments_by_laws (swallowing u service) server (Comes inner) (inside u i p) (inside u i q)))
     ≡ segments_of service server (Comes segment) p q
-unfolding segments_of full_segments outer.is_owed resent new_texts new_fin sent_at_once
+unfolding segments_of full_segments outer.is_ack_pending resent new_texts new_fin sent_at_once
 refused service server boot segment inner p q sent u i delta g r s l =
     let t : IsRefused p q segment = refused_turn service server boot segment p q sent u i delta g r l in
     let once : sent_at_once service p q ≡ 0 = (λ j. max (t.sent j) (min (point.target service q) (min (t.edge j) (q.una + q.congestion.cwnd))))
     ∙ nothing_at_once (point.target service q) (q.una + q.congestion.cwnd) in
     let long : new_length service p q ≡ 0 = (λ j. min (once j) (released service q) - t.sent j) ∙ nothing_long (released service q) in
     let rose : nat_lt p.answered q.answered ≡ false = ap (nat_lt p.answered) t.answered ∙ less_itself p.answered in
-    let besides : owes_besides service (Comes segment) p q ≡ false = λ j. (t.fin j && nat_lt (released service p) p.una && not (has_rst segment)) || rose j in
+    let besides : needs_ack_besides service (Comes segment) p q ≡ false = λ j. (t.fin j && nat_lt (released service p) p.una && not (has_rst segment)) || rose j in
     let rest : full service server (Comes segment) p q ≡ [] =
     (λ j. (if t.third j then (if is_unacknowledged p q then first_unacknowledged service server p q else probe service server p q) else [])
     ++ (texts service server q (long j) p.sent (long j) ++ (if nat_lt (released service q) (once j) && nat_le p.sent (released service q) then fin_if_closed service server q else [])))
     ∙ (λ j. if never (released service q) j && nat_le p.sent (released service q) then fin_if_closed service server q else []) in
-    let owed : outer.is_owed service (Comes segment) p q ≡ false =
-    (λ j. ((t.owed j || (t.fin j && nat_lt (released service p) p.una && not (has_rst segment))) || rose j || not (taken_units p == taken_units q)) || not (announced_edge p == announced_edge q)) ∙ t.new in
+    let ack_pending : outer.is_ack_pending service (Comes segment) p q ≡ false =
+    (λ j. ((t.ack_pending j || (t.fin j && nat_lt (released service p) p.una && not (has_rst segment))) || rose j || not (taken_units p == taken_units q)) || not (advertised_edge p == advertised_edge q)) ∙ t.new in
     (λ j. or_bare (besides j) (bare_segment server q) ((if t.opens j then syn_ack server q ∷ [] else [])
-    ++ passed delta q (or_bare (is_owed (Comes inner) (inside u i p) (inside u i q)) (bare_segment server (inside u i q))
+    ++ passed delta q (or_bare (is_ack_pending (Comes inner) (inside u i p) (inside u i q)) (bare_segment server (inside u i q))
     ((if s j then rst_at_ack server inner ∷ [] else []) ++ full (swallowing u service) server (Comes inner) (inside u i p) (inside u i q)))))
-    ∙ (λ j. or_bare (sym owed j) (bare_segment server q) ((if sym t.opens j then syn_ack server q ∷ [] else []) ++ sym rest j))
+    ∙ (λ j. or_bare (sym ack_pending j) (bare_segment server q) ((if sym t.opens j then syn_ack server q ∷ [] else []) ++ sym rest j))
 
 -- whichever comes
 pub still_syn_unacked : (news : News) (p : Point) → syn_acked_after news p ≡ false → p.syn_acked ≡ false
@@ -306,8 +306,8 @@ comes service server boot segment p q sent u i delta false t before after r open
     let same : refuses (inside u i p) inner ≡ refuses p segment =
     ap (λ v. accepts p segment && not (has_rst segment) && not (has_syn segment) && v) (refused_is u i delta p segment before t.fits) in
     let none : refusals server (Comes inner) (inside u i p) ≡ [] = none_if (refuses (inside u i p) inner) (rst_at_ack server inner) (same ∙ r) in
-    let asked : (owes_to (Comes inner) (inside u i p) || asks_besides service (Comes segment) p) ≡ asks service (Comes segment) p =
-    ap (λ v. v || asks_besides service (Comes segment) p) (owes_is u i delta p segment before t.fits) in
+    let asked : (news_needs_ack (Comes inner) (inside u i p) || asks_besides service (Comes segment) p) ≡ asks service (Comes segment) p =
+    ap (λ v. v || asks_besides service (Comes segment) p) (needs_ack_is u i delta p segment before t.fits) in
     usually service server (Comes segment) (Comes inner) p q u i delta (omega (arith, after.una, after.order)) s none opens asked
 
 by_syn : {State : Type 0} (service : Machine State) (server : Addr) (boot : ℕ) (segment : Segment) (p q : Point) (sent : List Packet) (u i delta : ℕ) (b : Bool)

@@ -8,7 +8,7 @@ use Rattle.seq_arith.specs.Packet.{Segment}
 use Rattle.server_trait.specs.Service.{Machine}
 use Rattle.ft_model.specs.News.News.{Begins}
 use Rattle.ft_model.specs.Opening.{point_opened}
-use Rattle.ft_model.specs.Owed.{is_owed}
+use Rattle.ft_model.specs.Owed.{is_ack_pending}
 use Rattle.ft_model.specs.Point.{Point, released, made}
 use Rattle.ft_model.specs.Segments.{segments_of, syn_ack, bare_segment, or_bare}
 use Rattle.ft_model.specs.Sending.{acknowledged_after}
@@ -32,7 +32,7 @@ use Rattle.north_wrap.specs.NorthState.{NorthState, lengths_of, Turns as NorthTu
 use Rattle.north_wrap.specs.Standing.{NorthStands, SocketStands, NorthTurn, given_more, given_text, off_socket}
 use Rattle.north_wrap.proofs.Logged.{answered_front}
 use Rattle.north_wrap.proofs.WholeTurn.{whole_turn}
-use Rattle.connection_laws.specs.Passing.{passed, owes_besides}
+use Rattle.connection_laws.specs.Passing.{passed, needs_ack_besides}
 use Rattle.connection_laws.specs.Beginning.{MayOpen, BeginsInside, opened_syn, listens_with}
 use Rattle.connection_laws.specs.Feeding.{tcp_reader, tcp_writer, Feeds, north_calls}
 use Rattle.connection_laws.specs.Standing.{PartsTurn}
@@ -72,8 +72,8 @@ unfolding listening
 listens local numbers =
     bounded_in_listen (listens_with local numbers) (opened_syn local numbers) refl refl (bounded_at_listen local numbers.sisn (2 ^ 24) (omega arith))
 
-alone_or : (owed : Bool) (bare x : Segment) (xs ys : List Segment) → xs ≡ ys → ys ≡ x ∷ [] → or_bare owed bare (xs ++ []) ≡ ys
-alone_or owed bare x xs ys a b = (λ j. or_bare owed bare ((a ∙ b) j ++ [])) ∙ sym b
+alone_or : (ack_pending : Bool) (bare x : Segment) (xs ys : List Segment) → xs ≡ ys → ys ≡ x ∷ [] → or_bare ack_pending bare (xs ++ []) ≡ ys
+alone_or ack_pending bare x xs ys a b = (λ j. or_bare ack_pending bare ((a ∙ b) j ++ [])) ∙ sym b
 
 at_none : (n : ℕ) → n ≡ 0 → max 0 0 ≡ n + 0
 at_none n h = omega (arith, h)
@@ -130,7 +130,7 @@ starts_together service boot local numbers old new reads t o st open_still turns
         exact = by.1.exact;
         all_or_full = by.1.all_or_full;
       };
-      segments = alone_or (owes_besides service Begins p q || (is_closed (used calls m).name && is_owed service Begins p q)) (bare_segment local q) (syn_ack local q)
+      segments = alone_or (needs_ack_besides service Begins p q || (is_closed (used calls m).name && is_ack_pending service Begins p q)) (bare_segment local q) (syn_ack local q)
           (passed 0 q (leaving (used calls m))) (segments_of service local Begins p q) begins.segments begins.alone;
       closed = λ h. absurd (false≢true (sym (begun_open (used calls m).name (ap has_begun (sym (flushed_name (used calls m))) ∙ begins.stands.begun)) ∙ h));
     })

@@ -14,7 +14,7 @@ use Rattle.tcp_endpoint.specs.States.{after_syn_acked, after_fin, after_fin_acke
 use Rattle.tcp_endpoint.specs.Receiving.{next, with_segment}
 use Rattle.tcp_endpoint.specs.Sending.{with_syn_acked, fin_acked}
 use Rattle.tcp_endpoint.specs.Tcb.{Tcb}
-use Rattle.tcp_endpoint.specs.Arrival.{first, ack_at, owing_if, killed, entering, refusing, with_text_and_fin, with_fin_acked, with_first_ack, with_ack_used, with_ack, check_ack, check_syn, check_rst, waiting_again, accepts, is_allowed, check_place, in_others, received}
+use Rattle.tcp_endpoint.specs.Arrival.{first, ack_at, with_ack_pending_if, with_reset, entering, with_reset_reply, with_text_and_fin, with_fin_acked, with_first_ack, with_ack_used, with_ack, check_ack, check_syn, check_rst, with_time_wait_restarted, accepts, is_allowed, check_sequence, in_others, received}
 use Rattle.tcp_endpoint.specs.Turning.{after_tick, timer_ticked, waited}
 use Rattle.endpoint_laws.specs.Turn.{Call, MayUse, arrived, used}
 use Rattle.endpoint_laws.specs.Ending.{IsNamed, IsNamedRightly}
@@ -76,17 +76,17 @@ later_opens : (e : Tcb) (p : Segment) → has_begun e.name ≡ true → has_begu
 unfolding with_ack with_ack_used with_fin_acked
 later_opens e p begun acked off =
     let m : Tcb = with_ack_used e p in
-    holds_if IsOpenWith (is_ahead e.sending.sent (ack_at e p)) (owing_if true e) (with_text_and_fin (with_fin_acked m) p)
-    (λ h. not_taken (owing_if true e) off)
+    holds_if IsOpenWith (is_ahead e.sending.sent (ack_at e p)) (with_ack_pending_if true e) (with_text_and_fin (with_fin_acked m) p)
+    (λ h. not_taken (with_ack_pending_if true e) off)
     (λ h. holds_if (λ (t : Tcb). IsOpenWith (with_text_and_fin t p)) (fin_acked m.sending) (entering (after_fin_acked m.name) m) m
     (λ k. text_opens (entering (after_fin_acked m.name) m) p acked off) (λ k. text_opens m p begun off))
 
 first_opens : (e : Tcb) (p : Segment) → e.receiving.fin ≡ false → IsOpenWith (with_first_ack e p)
-unfolding with_first_ack refusing
+unfolding with_first_ack with_reset_reply
 first_opens e p off =
     let m : Tcb = record e { name = after_syn_acked e.sending.closed; sending = with_syn_acked e.sending p.head.seq p.head.window } in
-    holds_if IsOpenWith (int_eq (ack_at e p) (pos 0)) (with_text_and_fin m p) (refusing e p)
-    (λ h. text_opens m p (syn_acked_begun e.sending.closed) off) (λ h. not_taken (refusing e p) off)
+    holds_if IsOpenWith (int_eq (ack_at e p) (pos 0)) (with_text_and_fin m p) (with_reset_reply e p)
+    (λ h. text_opens m p (syn_acked_begun e.sending.closed) off) (λ h. not_taken (with_reset_reply e p) off)
 
 ack_opens : (e : Tcb) (p : Segment) → has_begun e.name ≡ true → has_begun (after_fin_acked e.name) ≡ true → e.receiving.fin ≡ false → IsOpenWith (check_ack e p)
 unfolding check_ack
@@ -99,17 +99,17 @@ rst_opens : (e : Tcb) (p : Segment) → has_begun e.name ≡ true → has_begun 
 unfolding check_rst check_syn
 rst_opens e p begun acked off =
     let at : Bool = int_eq (first e p) (pos (next e.receiving)) in
-    let m : Tcb = owing_if (nat_lt 0 (length_of p)) e in
-    holds_if IsOpenWith (has_rst p) (if at then killed e else owing_if true e) (if has_syn p then owing_if true e else check_ack m p)
-    (λ is. holds_if IsOpenWith at (killed e) (owing_if true e) (λ k. not_taken (killed e) off) (λ k. not_taken (owing_if true e) off))
-    (λ none. holds_if IsOpenWith (has_syn p) (owing_if true e) (check_ack m p) (λ s. not_taken (owing_if true e) off) (λ s. ack_opens m p begun acked off))
+    let m : Tcb = with_ack_pending_if (nat_lt 0 (length_of p)) e in
+    holds_if IsOpenWith (has_rst p) (if at then with_reset e else with_ack_pending_if true e) (if has_syn p then with_ack_pending_if true e else check_ack m p)
+    (λ is. holds_if IsOpenWith at (with_reset e) (with_ack_pending_if true e) (λ k. not_taken (with_reset e) off) (λ k. not_taken (with_ack_pending_if true e) off))
+    (λ none. holds_if IsOpenWith (has_syn p) (with_ack_pending_if true e) (check_ack m p) (λ s. not_taken (with_ack_pending_if true e) off) (λ s. ack_opens m p begun acked off))
 
 segment_opens : (e : Tcb) (p : Segment) → has_begun e.name ≡ true → has_begun (after_fin_acked e.name) ≡ true → e.receiving.fin ≡ false → IsOpenWith (in_others e p)
-unfolding in_others check_place waiting_again
+unfolding in_others check_sequence with_time_wait_restarted
 segment_opens e p begun acked off =
-    let m : Tcb = waiting_again e p in
-    holds_if IsOpenWith (accepts m p || is_allowed m p) (check_rst m p) (owing_if (not (has_rst p)) m)
-    (λ is. rst_opens m p begun acked off) (λ none. not_taken (owing_if (not (has_rst p)) m) off)
+    let m : Tcb = with_time_wait_restarted e p in
+    holds_if IsOpenWith (accepts m p || is_allowed m p) (check_rst m p) (with_ack_pending_if (not (has_rst p)) m)
+    (λ is. rst_opens m p begun acked off) (λ none. not_taken (with_ack_pending_if (not (has_rst p)) m) off)
 
 opens_with_news : (news : News) (e : Tcb) → has_begun e.name ≡ true → IsNamedRightly e → e.receiving.fin ≡ false → IsOpenWith (arrived news e)
 unfolding received after_tick timer_ticked waited

@@ -245,7 +245,7 @@ news_closed service u i delta given news p n e st c =
     let k : CountsFrom u i delta p e = c.counts in
     let fin : p.fin ≡ true = (and_parts p.fin (nat_lt (released service p) p.una) c.over).0 in
     let held : HoldsBehind p = behind_at p e c.receives c.bounds in
-    let closed : is_closed m.name ≡ true = ap is_closed (sym (flushed_name m) ∙ (closed_stays_law inner [] e c.name c.answer).0) in
+    let closed : is_closed m.name ≡ true = ap is_closed (sym (flushed_name m) ∙ (closed_stays_law inner [] e c.name c.reset_reply).0) in
     let una : acknowledged_after news p ≡ p.una = una_stays news p c.acknowledged in
     let acked : acked_number m ≡ distance (acked_at (syn_acked_after news p) p.sisn (acknowledged_after news p)) delta =
     (λ j. if (s.syn_acked ∙ k.syn_acked) j then number_at ((s.iss ∙ k.iss) j) ((s.una ∙ sym k.una) j) else m.sending.iss) ∙ behind i delta p.sisn u p.una k.shift k.above k.delta_fits

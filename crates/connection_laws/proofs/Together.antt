@@ -13,8 +13,8 @@ use Rattle.ft_model.specs.Ending.{reset_after, end_ticks_after}
 use Rattle.ft_model.specs.Network.{Packet}
 use Rattle.ft_model.specs.News.{News}
 use Rattle.ft_model.specs.News.News.{Comes, Logged, Ticks, Begins}
-use Rattle.ft_model.specs.Owed.{is_owed, owes}
-use Rattle.ft_model.specs.Point.{Point, taken_units, announced_edge, answered_run, released, target, made, is_over, HoldsBehind}
+use Rattle.ft_model.specs.Owed.{is_ack_pending, needs_ack}
+use Rattle.ft_model.specs.Point.{Point, taken_units, advertised_edge, answered_run, released, target, made, is_over, HoldsBehind}
 use Rattle.ft_model.specs.Reads.{Makes, next_read, next_length, may_read}
 use Rattle.ft_model.specs.Segments.{opens_with, repeats_syn, syn_ack, bare_segment, or_bare, segments_of, full_segments, resent, new_texts, new_fin, new_length, texts, fin_if_closed, is_unacknowledged, first_unacknowledged, probe}
 use Rattle.ft_model.specs.Sending.{acknowledged_after, edge_after, congestion_after, is_third_duplicate, send_edge, sent_at_once, sent_after}
@@ -40,19 +40,19 @@ use Rattle.north_wrap.specs.NorthState.{NorthState, lengths_of, Turns as NorthTu
 use Rattle.north_wrap.specs.Standing.{NorthStands, SocketStands, NorthTurn, given_more, given_text, off_socket, is_all_given}
 use Rattle.north_wrap.proofs.WholeTurn.{whole_turn}
 use Rattle.north_wrap.proofs.Logged.{answered_front}
-use Rattle.ft_model.proofs.Services.{GoesOn, goes_refl, prefix_length}
+use Rattle.ft_model.proofs.Services.{RunExtends, goes_refl, prefix_length}
 use Rattle.connection_laws.specs.Inside.{inside}
-use Rattle.connection_laws.specs.Passing.{news_inside, passed, owes_besides, leaves}
+use Rattle.connection_laws.specs.Passing.{news_inside, passed, needs_ack_besides, leaves}
 use Rattle.connection_laws.specs.Turning.{NewsFit, IsLater, TurnsInside}
 use Rattle.connection_laws.specs.Closing.{StandsClosed, EndsInside, GoesOnClosed}
 use Rattle.connection_laws.specs.Feeding.{tcp_reader, tcp_writer, Feeds, north_calls, FedBy}
-use Rattle.connection_laws.specs.Standing.{StandsOpen, PartsStand, PartsRest, PartsTurn, heard, repeats, adds, leaves_with}
+use Rattle.connection_laws.specs.Standing.{StandsOpen, PartsStand, PartsRest, PartsTurn, north_after_news, repeats, adds, leaves_with}
 use Rattle.connection_laws.proofs.Meets.{Moves, moves_inside_all, stays_inside, nothing_counts, is_syn_has, minus_none}
 use Rattle.connection_laws.proofs.Sent.{less_itself, nothing_new, same_lengths, syn_at, units_none}
 use Rattle.connection_laws.proofs.Whole.{usual_news, turns_inside}
 use Rattle.connection_laws.proofs.Outliving.{IsStill, still, outlives, opens_not, reads_rise, taken_stays, fin_stays}
 use Rattle.connection_laws.proofs.Ending.{unreset, flushed_reset, ends_inside, opens_not as opens_by_end}
-use Rattle.connection_laws.proofs.Keeping.{Keeps, news_keep}
+use Rattle.connection_laws.proofs.Keeping.{KeepsOutput, news_keep}
 use Rattle.connection_laws.proofs.Fed.{reading, answered_goes, fed_later, fed_arrived, fed_flushed, full_flushed, used_inside, from_start, north_calls_feed}
 use Rattle.connection_laws.proofs.Held.{behind_at}
 use Rattle.connection_laws.proofs.Joining.{socket_laws, hears, heard_shut, socket_stands}
@@ -100,29 +100,29 @@ or_off true c o h = refl
 or_off false c o h = ap (λ b. b && o) h
 
 -- what the connection adds where TCP is CLOSED is what the law owes
-besides_owed : (o b r x y : Bool) → (((b || r) || ((((o || b) || r) || x) || y))) ≡ ((((o || b) || r) || x) || y)
-besides_owed true true r x y = refl
-besides_owed true false true x y = refl
-besides_owed true false false x y = refl
-besides_owed false true r x y = refl
-besides_owed false false true x y = refl
-besides_owed false false false x y = refl
+besides_ack_pending : (o b r x y : Bool) → (((b || r) || ((((o || b) || r) || x) || y))) ≡ ((((o || b) || r) || x) || y)
+besides_ack_pending true true r x y = refl
+besides_ack_pending true false true x y = refl
+besides_ack_pending true false false x y = refl
+besides_ack_pending false true r x y = refl
+besides_ack_pending false false true x y = refl
+besides_ack_pending false false false x y = refl
 
-any_owed : (r x y : Bool) → (r || ((r || x) || y)) ≡ ((r || x) || y)
-any_owed true x y = refl
-any_owed false x y = refl
+any_ack_pending : (r x y : Bool) → (r || ((r || x) || y)) ≡ ((r || x) || y)
+any_ack_pending true x y = refl
+any_ack_pending false x y = refl
 
 on_closed : (a c o : Bool) → c ≡ true → (a || o) ≡ o → (a || (c && o)) ≡ o
 on_closed a true o h e = e
 on_closed a false o h e = absurd (false≢true h)
 
-all_owed : {S : Type 0} (service : Machine S) (news : News) (p q : Point) → (owes_besides service news p q || is_owed service news p q) ≡ is_owed service news p q
-unfolding is_owed
-all_owed service (Comes segment) p q =
-    besides_owed (owes p segment) (is_over service p && not (has_rst segment)) (nat_lt p.answered q.answered) (not (taken_units p == taken_units q)) (not (announced_edge p == announced_edge q))
-all_owed service (Logged kept) p q = any_owed (nat_lt p.answered q.answered) (not (taken_units p == taken_units q)) (not (announced_edge p == announced_edge q))
-all_owed service Ticks p q = any_owed (nat_lt p.answered q.answered) (not (taken_units p == taken_units q)) (not (announced_edge p == announced_edge q))
-all_owed service Begins p q = refl
+all_ack_pending : {S : Type 0} (service : Machine S) (news : News) (p q : Point) → (needs_ack_besides service news p q || is_ack_pending service news p q) ≡ is_ack_pending service news p q
+unfolding is_ack_pending
+all_ack_pending service (Comes segment) p q =
+    besides_ack_pending (needs_ack p segment) (is_over service p && not (has_rst segment)) (nat_lt p.answered q.answered) (not (taken_units p == taken_units q)) (not (advertised_edge p == advertised_edge q))
+all_ack_pending service (Logged kept) p q = any_ack_pending (nat_lt p.answered q.answered) (not (taken_units p == taken_units q)) (not (advertised_edge p == advertised_edge q))
+all_ack_pending service Ticks p q = any_ack_pending (nat_lt p.answered q.answered) (not (taken_units p == taken_units q)) (not (advertised_edge p == advertised_edge q))
+all_ack_pending service Begins p q = refl
 
 no_repeat : (news : News) (p : Point) → opens_with news p ≡ false → repeats news p ≡ false
 no_repeat (Comes segment) p h = h
@@ -132,9 +132,9 @@ no_repeat Begins p h = refl
 
 -- TCP CLOSED: nothing is passed on, and no SYN is repeated
 closed_leaves : {S : Type 0} (service : Machine S) (server : Addr) (delta : ℕ) (news : News) (p q : Point) (t : Tcb) → t.name ≡ Closed → passed delta q (leaving t) ≡ [] → repeats news p ≡ false
-    → segments_of service server news p q ≡ or_bare (is_owed service news p q) (bare_segment server q) [] → leaves_with service server delta news p q t ≡ segments_of service server news p q
+    → segments_of service server news p q ≡ or_bare (is_ack_pending service news p q) (bare_segment server q) [] → leaves_with service server delta news p q t ≡ segments_of service server news p q
 closed_leaves service server delta news p q t closed silent none alone =
-    (λ j. or_bare (on_closed (owes_besides service news p q) (is_closed t.name) (is_owed service news p q) (ap is_closed closed) (all_owed service news p q) j) (bare_segment server q)
+    (λ j. or_bare (on_closed (needs_ack_besides service news p q) (is_closed t.name) (is_ack_pending service news p q) (ap is_closed closed) (all_ack_pending service news p q) j) (bare_segment server q)
     (silent j ++ (if none j then syn_ack server q ∷ [] else []))) ∙ sym alone
 
 -- a repeated SYN: TCP sends nothing, so that the kept SYN-ACK leaves alone
@@ -172,9 +172,9 @@ repeated_alone service server boot segment p q sent xs few rest opens l same =
     let long : new_length service p q ≡ 0 = none_new p.sent (target service p) (send_edge p) (target service q) (send_edge q) (released service q) rest target_is edge in
     let off : (nat_lt (released service q) (sent_at_once service p q) && nat_le p.sent (released service q)) ≡ false =
     no_fin p.sent (target service p) (send_edge p) (target service q) (send_edge q) (released service q) rest target_is edge in
-    ap tail_of ((λ j. or_bare (owes_besides service (Comes segment) p q) (bare_segment server q) ((if sym opens j then syn_ack server q ∷ [] else []) ++ xs))
+    ap tail_of ((λ j. or_bare (needs_ack_besides service (Comes segment) p q) (bare_segment server q) ((if sym opens j then syn_ack server q ∷ [] else []) ++ xs))
     ∙ same
-    ∙ (λ j. or_bare (is_owed service (Comes segment) p q) (bare_segment server q)
+    ∙ (λ j. or_bare (is_ack_pending service (Comes segment) p q) (bare_segment server q)
     ((if opens j then syn_ack server q ∷ [] else [])
     ++ ((if third j then (if is_unacknowledged p q then first_unacknowledged service server p q else probe service server p q) else [])
     ++ (texts service server q (long j) p.sent (long j) ++ (if off j then fin_if_closed service server q else []))))))
@@ -186,24 +186,24 @@ nothing_behind xs = append-nil xs
 by_repeat : {S : Type 0} (service : Machine S) (server : Addr) (boot delta : ℕ) (segment : Segment) (p q : Point) (sent : List Packet) (xs : List Segment) (b : Bool) → repeats_syn p segment ≡ b
     → p.fetched ≤ length p.taken → min (target service p) (send_edge p) ≤ p.sent → LiveTurn service server boot (Comes segment) p q sent
     → leaves service server (Comes segment) p q xs ≡ segments_of service server (Comes segment) p q
-    → or_bare (owes_besides service (Comes segment) p q) (bare_segment server q) (xs ++ (if repeats_syn p segment then syn_ack server q ∷ [] else []))
+    → or_bare (needs_ack_besides service (Comes segment) p q) (bare_segment server q) (xs ++ (if repeats_syn p segment then syn_ack server q ∷ [] else []))
     ≡ segments_of service server (Comes segment) p q
 by_repeat service server boot delta segment p q sent xs true is few rest l same =
     let none : xs ≡ [] = repeated_alone service server boot segment p q sent xs few rest is l same in
-    (λ j. or_bare (owes_besides service (Comes segment) p q) (bare_segment server q) (none j ++ (if is j then syn_ack server q ∷ [] else [])))
-    ∙ (λ j. or_bare (owes_besides service (Comes segment) p q) (bare_segment server q) ((if sym is j then syn_ack server q ∷ [] else []) ++ sym none j)) ∙ same
+    (λ j. or_bare (needs_ack_besides service (Comes segment) p q) (bare_segment server q) (none j ++ (if is j then syn_ack server q ∷ [] else [])))
+    ∙ (λ j. or_bare (needs_ack_besides service (Comes segment) p q) (bare_segment server q) ((if sym is j then syn_ack server q ∷ [] else []) ++ sym none j)) ∙ same
 by_repeat service server boot delta segment p q sent xs false is few rest l same =
-    (λ j. or_bare (owes_besides service (Comes segment) p q) (bare_segment server q) (xs ++ (if is j then syn_ack server q ∷ [] else [])))
-    ∙ ap (or_bare (owes_besides service (Comes segment) p q) (bare_segment server q)) (nothing_behind xs)
-    ∙ (λ j. or_bare (owes_besides service (Comes segment) p q) (bare_segment server q) ((if sym is j then syn_ack server q ∷ [] else []) ++ xs)) ∙ same
+    (λ j. or_bare (needs_ack_besides service (Comes segment) p q) (bare_segment server q) (xs ++ (if is j then syn_ack server q ∷ [] else [])))
+    ∙ ap (or_bare (needs_ack_besides service (Comes segment) p q) (bare_segment server q)) (nothing_behind xs)
+    ∙ (λ j. or_bare (needs_ack_besides service (Comes segment) p q) (bare_segment server q) ((if sym is j then syn_ack server q ∷ [] else []) ++ xs)) ∙ same
 
 by_news : {S : Type 0} (service : Machine S) (server : Addr) (boot delta : ℕ) (news : News) (p q : Point) (sent : List Packet) (xs : List Segment) → IsLater news p
     → p.fetched ≤ length p.taken → min (target service p) (send_edge p) ≤ p.sent → LiveTurn service server boot news p q sent
     → leaves service server news p q xs ≡ segments_of service server news p q
-    → or_bare (owes_besides service news p q) (bare_segment server q) (xs ++ (if repeats news p then syn_ack server q ∷ [] else [])) ≡ segments_of service server news p q
+    → or_bare (needs_ack_besides service news p q) (bare_segment server q) (xs ++ (if repeats news p then syn_ack server q ∷ [] else [])) ≡ segments_of service server news p q
 by_news service server boot delta (Comes segment) p q sent xs later few rest l same = by_repeat service server boot delta segment p q sent xs (repeats_syn p segment) refl few rest l same
-by_news service server boot delta (Logged kept) p q sent xs later few rest l same = ap (or_bare (owes_besides service (Logged kept) p q) (bare_segment server q)) (nothing_behind xs) ∙ same
-by_news service server boot delta Ticks p q sent xs later few rest l same = ap (or_bare (owes_besides service Ticks p q) (bare_segment server q)) (nothing_behind xs) ∙ same
+by_news service server boot delta (Logged kept) p q sent xs later few rest l same = ap (or_bare (needs_ack_besides service (Logged kept) p q) (bare_segment server q)) (nothing_behind xs) ∙ same
+by_news service server boot delta Ticks p q sent xs later few rest l same = ap (or_bare (needs_ack_besides service Ticks p q) (bare_segment server q)) (nothing_behind xs) ∙ same
 by_news service server boot delta Begins p q sent xs later few rest l same =
     ap (or_bare true (bare_segment server q)) (nothing_behind xs)
     ∙ (λ j. or_bare true (bare_segment server q) ((if not (sym later j) then syn_ack server q ∷ [] else []) ++ xs)) ∙ same
@@ -213,7 +213,7 @@ open_leaves : {S : Type 0} (service : Machine S) (server : Addr) (boot delta : �
     → leaves service server news p q (passed delta q (leaving t)) ≡ segments_of service server news p q
     → leaves_with service server delta news p q t ≡ segments_of service server news p q
 open_leaves service server boot delta news p q sent t begun later few rest l same =
-    (λ j. or_bare (or_off (owes_besides service news p q) (is_closed t.name) (is_owed service news p q) (begun_open t.name begun) j) (bare_segment server q)
+    (λ j. or_bare (or_off (needs_ack_besides service news p q) (is_closed t.name) (is_ack_pending service news p q) (begun_open t.name begun) j) (bare_segment server q)
     (passed delta q (leaving t) ++ (if repeats news p then syn_ack server q ∷ [] else [])))
     ∙ by_news service server boot delta news p q sent (passed delta q (leaving t)) later few rest l same
 
@@ -315,7 +315,7 @@ record IsAt (u : ℕ) (q : Point) (e m : Tcb) : Type 0 where
   long : length q.taken ≡ receiver.taken m.receiving + q.fetched
   bounds : IsBounded m
   last : FinIsLast m.sending
-  keeps : Keeps e.sending m.sending
+  keeps : KeepsOutput e.sending m.sending
   rises : e.sending.una ≤ m.sending.una
   flight : e.sending.sent ≤ e.sending.una + length e.sending.held + one_if e.sending.fin_sent
   kept : m.reset ≡ false
@@ -378,7 +378,7 @@ at_closed service u i delta given news p b n e stand taken fin lengths fetched s
 
 pub turns_together : {S : Type 0} (service : Machine S) (boot u i delta given : ℕ) (news : News) (p : Point) (old new : NorthState S) (reads : List ReadRecord) (e t : Tcb)
     → PartsStand service u i delta given p old e → NewsFit p news → IsLater news p → reset_after news p ≡ false
-    → NorthTurns service.after tcp_reader tcp_writer (acknowledged_after news p) (heard news old) (arrived (news_inside delta p news) e) reads new t → new.run.made ≤ 2 ^ 24
+    → NorthTurns service.after tcp_reader tcp_writer (acknowledged_after news p) (north_after_news news old) (arrived (news_inside delta p news) e) reads new t → new.run.made ≤ 2 ^ 24
     → PartsTurn service e.local boot u i delta news p (lengths_of reads) new t
 turns_together service boot u i delta given news p old new reads e t st fits later off turns few =
     let ks : List ℕ = lengths_of reads in
@@ -388,18 +388,18 @@ turns_together service boot u i delta given news p old new reads e t st fits lat
     let at : IsAt u b e m =
     ⊎_elim (λ o. at_open service u i delta given news p b old e st fits off refl refl refl refl o) (λ c. at_closed service u i delta given news p b old e st refl refl refl refl c) st.tcp in
     let enough : sum p.lengths ≤ length p.taken = st.north.enough in
-    let run : GoesOn (answered_run service p) (answered_run service q) = answered_goes service news p q ks enough refl (reads_rise news p) refl in
-    let run_b : GoesOn (answered_run service p) (answered_run service b) = answered_goes service news p b [] enough refl (reads_rise news p) (sym (append-nil p.lengths)) in
+    let run : RunExtends (answered_run service p) (answered_run service q) = answered_goes service news p q ks enough refl (reads_rise news p) refl in
+    let run_b : RunExtends (answered_run service p) (answered_run service b) = answered_goes service news p b [] enough refl (reads_rise news p) (sym (append-nil p.lengths)) in
     let longer : released service p ≤ released service b = prefix_length _ _ run_b.output in
-    let north : NorthStands service b given (heard news old) = hears service news p b given old refl refl refl refl st.north in
-    let shut : m.sending.closed ≡ (heard news old).shut = at.keeps.closed ∙ st.shut ∙ sym (heard_shut news old) in
-    let socket : SocketStands b (heard news old) m.receiving.unread m.receiving.fin (is_ended m) = socket_stands b (heard news old) m at.read at.unread at.fin at.kept shut in
-    let turn : NorthTurn service tcp_reader tcp_writer b given (heard news old) m reads new t =
-    whole_turn service tcp_reader tcp_writer b given (acknowledged_after news p) (heard news old) m reads new t socket_laws north socket refl (omega (arith, longer, st.feeds.low)) turns in
+    let north : NorthStands service b given (north_after_news news old) = hears service news p b given old refl refl refl refl st.north in
+    let shut : m.sending.closed ≡ (north_after_news news old).shut = at.keeps.closed ∙ st.shut ∙ sym (heard_shut news old) in
+    let socket : SocketStands b (north_after_news news old) m.receiving.unread m.receiving.fin (is_ended m) = socket_stands b (north_after_news news old) m at.read at.unread at.fin at.kept shut in
+    let turn : NorthTurn service tcp_reader tcp_writer b given (north_after_news news old) m reads new t =
+    whole_turn service tcp_reader tcp_writer b given (acknowledged_after news p) (north_after_news news old) m reads new t socket_laws north socket refl (omega (arith, longer, st.feeds.low)) turns in
     let most : released service q ≤ 2 ^ 24 =
     (let less : released service q ≤ made service q = prefix_length _ _ (answered_front service q).output in omega (arith, less, turn.stands.run.made, few)) in
     let fed : Feeds service u q given m = fed_arrived service u q given e m at.keeps at.rises at.bounds.order at.flight (fed_later service u p q given e run st.feeds) in
-    let by = north_calls_feed service u i given p.lengths q (heard news old) new reads m t (record {
+    let by = north_calls_feed service u i given p.lengths q (north_after_news news old) new reads m t (record {
       fed = fed;
       bounds = at.bounds;
       last = at.last;
@@ -408,7 +408,7 @@ turns_together service boot u i delta given news p old new reads e t st fits lat
       taken_is = at.long;
       short = most;
     }) refl north turn in
-    let calls : List Call = north_calls (given_text service b (write_room m) given) turn.closes (off_socket (length (heard news old).rest) ks) in
+    let calls : List Call = north_calls (given_text service b (write_room m) given) turn.closes (off_socket (length (north_after_news news old).rest) ks) in
     finish service boot u i delta given (given + given_more service b (write_room m) given) news p q ks old new calls e t by.0 (record {
       before = st;
       fits = fits;
@@ -457,7 +457,7 @@ ticks_together service boot u i delta given p n e r =
     ⊎_elim (λ o. at_open service u i delta given Ticks p b n e st tt off refl refl refl refl o) (λ c. at_closed service u i delta given Ticks p b n e st refl refl refl refl c) st.tcp in
     let run : answered_run service q ≡ answered_run service p = same_run service p in
     let released_is : released service p ≡ released service q = ap (λ x. length x.output) (sym run) in
-    let goes_on : GoesOn (answered_run service p) (answered_run service q) = subst (GoesOn (answered_run service p)) (sym run) (goes_refl (answered_run service p)) in
+    let goes_on : RunExtends (answered_run service p) (answered_run service q) = subst (RunExtends (answered_run service p)) (sym run) (goes_refl (answered_run service p)) in
     let fed : Feeds service u q given m = fed_arrived service u q given e m at.keeps at.rises at.bounds.order at.flight (fed_later service u p q given e goes_on st.feeds) in
     let shut : m.sending.closed ≡ n.shut = at.keeps.closed ∙ st.shut in
     let exact : n.shut ≡ is_all_given service q given = r.exact ∙ sym (λ j. (run j).closed && same_made service p j == given) in
@@ -483,17 +483,17 @@ ticks_together service boot u i delta given p n e r =
     }) refl (goes service e.local boot Ticks p [] (no_more service p (p.lengths ++ []) r.no_read))
 
 -- at a tick nothing is owed besides
-ticks_owe_nothing : {S : Type 0} (service : Machine S) (server : Addr) (boot : ℕ) (p q : Point) (sent : List Packet) → LiveTurn service server boot Ticks p q sent → q.lengths ≡ p.lengths ++ []
-    → is_owed service Ticks p q ≡ false
-unfolding is_owed answered_after taken_after fin_after
-ticks_owe_nothing service server boot p q sent l lengths =
-    (λ j. ((false || nat_lt p.answered (l.answered j)) || not (taken_units p == taken_units q)) || not (announced_edge p == announced_edge q))
-    ∙ (λ j. ((false || less_itself p.answered j) || not (taken_units p == taken_units q)) || not (announced_edge p == announced_edge q))
+ticks_need_no_ack : {S : Type 0} (service : Machine S) (server : Addr) (boot : ℕ) (p q : Point) (sent : List Packet) → LiveTurn service server boot Ticks p q sent → q.lengths ≡ p.lengths ++ []
+    → is_ack_pending service Ticks p q ≡ false
+unfolding is_ack_pending answered_after taken_after fin_after
+ticks_need_no_ack service server boot p q sent l lengths =
+    (λ j. ((false || nat_lt p.answered (l.answered j)) || not (taken_units p == taken_units q)) || not (advertised_edge p == advertised_edge q))
+    ∙ (λ j. ((false || less_itself p.answered j) || not (taken_units p == taken_units q)) || not (advertised_edge p == advertised_edge q))
     ∙ nothing_new p q l.taken l.fin l.same.fetched (lengths ∙ append-nil p.lengths)
 
 pub ticks_add_nothing : {S : Type 0} (service : Machine S) (server : Addr) (boot : ℕ) (p q : Point) (t : Tcb) (sent : List Packet) → LiveTurn service server boot Ticks p q sent
     → q.lengths ≡ p.lengths ++ [] → adds service Ticks p q t ≡ false
 unfolding answered_after
 ticks_add_nothing service server boot p q t sent l lengths =
-    (λ j. (false || nat_lt p.answered (l.answered j)) || (is_closed t.name && is_owed service Ticks p q))
-    ∙ (λ j. (false || less_itself p.answered j) || and_right (is_closed t.name) (is_owed service Ticks p q) (ticks_owe_nothing service server boot p q sent l lengths) j)
+    (λ j. (false || nat_lt p.answered (l.answered j)) || (is_closed t.name && is_ack_pending service Ticks p q))
+    ∙ (λ j. (false || less_itself p.answered j) || and_right (is_closed t.name) (is_ack_pending service Ticks p q) (ticks_need_no_ack service server boot p q sent l lengths) j)

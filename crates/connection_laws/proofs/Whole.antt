@@ -13,20 +13,20 @@ use Rattle.ft_model.specs.Sending.{acknowledged_after}
 use Rattle.tcp_endpoint.specs.States.{has_begun}
 use Rattle.tcp_endpoint.specs.Tcb.{Tcb}
 use Rattle.endpoint_laws.specs.Turn.{Call, IsUsualNews, before_flush, turned}
-use Rattle.tcp_endpoint.specs.Leaving.{flushed, with_turn_ended, announced, after_full, with_fin_out, with_text_sent, with_probe}
+use Rattle.tcp_endpoint.specs.Leaving.{flushed, with_turn_ended, with_advertised, after_full, with_fin_out, with_text_sent, with_probe}
 use Rattle.endpoint_laws.specs.Standing.{StandsAt, LeadsTo}
 use Rattle.endpoint_laws.proofs.Turns.{leads_law}
 use Rattle.connection_laws.specs.Inside.{swallowing, inside, GoesOn}
 use Rattle.connection_laws.specs.Passing.{news_inside, passed, leaves}
 use Rattle.south_wrap.specs.Patching.{inward}
 use Rattle.south_wrap.specs.Standing.{south_at}
-use Rattle.connection_laws.specs.Turning.{Fits, NewsFit, Turns, StandsInside, UsesInside, TurnsInside}
+use Rattle.connection_laws.specs.Turning.{SegmentFits, NewsFit, Turns, StandsInside, UsesInside, TurnsInside}
 use Rattle.connection_laws.proofs.Meets.{laws_inside}
 use Rattle.connection_laws.proofs.Sent.{sent_is}
 use Rattle.connection_laws.proofs.Again.{stays, goes_on_again}
 use Rattle.connection_laws.proofs.Usual.{usual_inside}
 
-usual_by : (u i delta : ℕ) (p : Point) (e : Tcb) (segment : Segment) (b : Bool) → GoesOn u i delta p → StandsAt (inside u i p) e → Fits p segment
+usual_by : (u i delta : ℕ) (p : Point) (e : Tcb) (segment : Segment) (b : Bool) → GoesOn u i delta p → StandsAt (inside u i p) e → SegmentFits p segment
     → IsUsualNews (if b then Begins else Comes (inward (south_at delta p) segment)) e
 usual_by u i delta p e segment true g st f = tt
 usual_by u i delta p e segment false g st f = usual_inside u i delta p e segment g st f.ack f.seq f.window f.text f.near
@@ -38,7 +38,7 @@ usual_news u i delta p e Ticks g st f = tt
 usual_news u i delta p e Begins g st f = tt
 
 begun_still : (e : Tcb) → has_begun (flushed e).name ≡ has_begun e.name
-unfolding flushed with_turn_ended announced after_full with_fin_out with_text_sent with_probe
+unfolding flushed with_turn_ended with_advertised after_full with_fin_out with_text_sent with_probe
 begun_still e = refl
 
 pub above : (u a b : ℕ) → u ≤ a → b ≡ a → u ≤ b

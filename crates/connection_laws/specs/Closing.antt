@@ -4,7 +4,7 @@ use Rattle.std.specs.Prelude.{◌≡◌, ◌^◌, ◌%◌, ◌<◌, ℕ, true, f
 use Rattle.ft_io.specs.declared.Addr.{Addr}
 use Rattle.server_trait.specs.Service.{Machine}
 use Rattle.ft_model.specs.News.{News}
-use Rattle.ft_model.specs.Owed.{is_owed}
+use Rattle.ft_model.specs.Owed.{is_ack_pending}
 use Rattle.ft_model.specs.Point.{Point, taken_units, target, is_over}
 use Rattle.ft_model.specs.Segments.{segments_of, bare_segment, or_bare}
 use Rattle.tcp_endpoint.specs.declared.states.StateName.TheVariants.{Closed}
@@ -33,7 +33,7 @@ pub record CountsFrom (u i delta : ℕ) (p : Point) (e : Tcb) : Type 0 where
 pub record StandsClosed {State : Type 0} (service : Machine State) (u i delta : ℕ) (p : Point) (e : Tcb) : Type 0 where
   pub name : e.name ≡ Closed
   pub kept : e.reset ≡ false
-  pub answer : e.answer ≡ None
+  pub reset_reply : e.reset_reply ≡ None
   pub ended : e.sending.closed ≡ true
   pub bounds : IsBounded e
   pub fin_last : e.sending.fin_sent ≡ true → (e.sending.closed ≡ true) × (1 ≤ e.sending.sent) × (length e.sending.held ≡ e.sending.sent - 1 - e.sending.una)
@@ -48,7 +48,7 @@ pub record StandsClosed {State : Type 0} (service : Machine State) (u i delta : 
 -- what is sent is a segment without data, if an ACK is pending by the law, and nothing else
 abbrev pub SendsAlone : {State : Type 0} → Machine State → Addr → News → (before after : Point) → Type 0
 SendsAlone service server news before after =
-    segments_of service server news before after ≡ or_bare (is_owed service news before after) (bare_segment server after) []
+    segments_of service server news before after ≡ or_bare (is_ack_pending service news before after) (bare_segment server after) []
 
 -- a turn that leaves TCP CLOSED: its user reads and writes as before
 pub record LeavesInside {State : Type 0} (service : Machine State) (u i delta : ℕ) (news : News) (p q : Point) (calls : List Call) (e : Tcb) : Type 0 where

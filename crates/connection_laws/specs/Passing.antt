@@ -27,10 +27,10 @@ asks_besides service Begins before = true
 asks_besides service _ before = false
 
 -- .. or more is known to be logged
-abbrev pub owes_besides : {State : Type 0} → Machine State → News → (before after : Point) → Bool
-owes_besides service news before after = asks_besides service news before || nat_lt before.answered after.answered
+abbrev pub needs_ack_besides : {State : Type 0} → Machine State → News → (before after : Point) → Bool
+needs_ack_besides service news before after = asks_besides service news before || nat_lt before.answered after.answered
 
 -- what is sent: the logged SYN-ACK, then what comes out of TCP, or else a segment without data for the ACK of which TCP doesn't know
 abbrev pub leaves : {State : Type 0} → Machine State → Addr → News → (before after : Point) → List Segment → List Segment
 leaves service server news before after passed_on =
-    or_bare (owes_besides service news before after) (bare_segment server after) (syn_acks server news before after ++ passed_on)
+    or_bare (needs_ack_besides service news before after) (bare_segment server after) (syn_acks server news before after ++ passed_on)

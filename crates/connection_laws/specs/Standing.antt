@@ -5,7 +5,7 @@ use Rattle.server_trait.specs.Service.{Machine}
 use Rattle.ft_model.specs.Connection.{LiveTurn, sent_by}
 use Rattle.ft_model.specs.News.{News}
 use Rattle.ft_model.specs.News.News.{Comes, Logged}
-use Rattle.ft_model.specs.Owed.{is_owed}
+use Rattle.ft_model.specs.Owed.{is_ack_pending}
 use Rattle.ft_model.specs.Point.{Point, taken_units, released, target}
 use Rattle.ft_model.specs.Reads.{next_read}
 use Rattle.ft_model.specs.Sending.{send_edge}
@@ -17,7 +17,7 @@ use Rattle.tcp_endpoint.specs.Tcb.{Tcb}
 use Rattle.endpoint_laws.specs.Ending.{IsNamedRightly}
 use Rattle.north_wrap.specs.NorthState.{NorthState, answered_on}
 use Rattle.north_wrap.specs.Standing.{NorthStands, is_all_given}
-use Rattle.connection_laws.specs.Passing.{passed, owes_besides}
+use Rattle.connection_laws.specs.Passing.{passed, needs_ack_besides}
 use Rattle.connection_laws.specs.Turning.{StandsInside}
 use Rattle.connection_laws.specs.Closing.{StandsClosed}
 use Rattle.connection_laws.specs.Feeding.{Feeds}
@@ -46,9 +46,9 @@ pub record PartsRest {S : Type 0} (service : Machine S) (u i delta given : ℕ) 
   pub all_or_full : (given ≡ released service p) ⊎ (length e.sending.held ≡ 65535)
 
 -- what the north wrapper learns before its turn
-abbrev pub heard : {S : Type 0} → News → NorthState S → NorthState S
-heard (Logged kept) n = answered_on kept.reads n
-heard _ n = n
+abbrev pub north_after_news : {S : Type 0} → News → NorthState S → NorthState S
+north_after_news (Logged kept) n = answered_on kept.reads n
+north_after_news _ n = n
 
 -- the client repeated its SYN
 abbrev pub repeats : News → Point → Bool
@@ -57,7 +57,7 @@ repeats _ before = false
 
 -- the connection adds a segment without data where an ACK is pending of which TCP doesn't know, and where one is pending and TCP is CLOSED
 abbrev pub adds : {S : Type 0} → Machine S → News → (before after : Point) → Tcb → Bool
-adds service news before after t = owes_besides service news before after || (is_closed t.name && is_owed service news before after)
+adds service news before after t = needs_ack_besides service news before after || (is_closed t.name && is_ack_pending service news before after)
 
 -- all that is sent, where TCP is t before its flush: what TCP sends, as the client receives it, and the logged SYN-ACK; or else that segment
 abbrev pub leaves_with : {S : Type 0} → Machine S → Addr → (delta : ℕ) → News → (before after : Point) → Tcb → List Segment

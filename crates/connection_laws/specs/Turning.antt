@@ -18,7 +18,7 @@ use Rattle.connection_laws.specs.Inside.{swallowing, inside, GoesOn}
 use Rattle.connection_laws.specs.Passing.{news_inside, passed, leaves}
 
 -- a segment whose fields fit their bytes, and which acknowledges nothing far before the stream
-pub record Fits (p : Point) (segment : Segment) : Type 0 where
+pub record SegmentFits (p : Point) (segment : Segment) : Type 0 where
   pub ack : segment.head.ack < 2 ^ 32
   pub seq : segment.head.seq < 2 ^ 32
   pub window : segment.head.window ≤ 65535
@@ -26,7 +26,7 @@ pub record Fits (p : Point) (segment : Segment) : Type 0 where
   pub near : has_ack segment ≡ true → (pos 0 -ℤ pos (2 ^ 30)) ≤ℤ ack_of p.sisn segment
 
 abbrev pub NewsFit : Point → News → Type 0
-NewsFit p (Comes segment) = Fits p segment
+NewsFit p (Comes segment) = SegmentFits p segment
 NewsFit p _ = Unit {0}
 
 -- a connection that becomes live in this turn does so at the end of a restart. A new one begins with its SYN

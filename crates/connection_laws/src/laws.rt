@@ -27,7 +27,7 @@ ghost use Rattle.connection_laws.specs.Beginning.{MayOpen, BeginsInside, opened_
 ghost use Rattle.connection_laws.specs.Closing.{StandsClosed, LeavesInside, EndsInside, ReadsOn, GoesOnClosed};
 ghost use Rattle.connection_laws.specs.Feeding.{tcp_reader, tcp_writer, TurnsNorth, FedInside, north_calls, before_reads, given_after};
 ghost use Rattle.connection_laws.specs.Passing.{news_inside};
-ghost use Rattle.connection_laws.specs.Standing.{PartsStand, PartsRest, PartsTurn, heard, adds};
+ghost use Rattle.connection_laws.specs.Standing.{PartsStand, PartsRest, PartsTurn, north_after_news, adds};
 ghost use Rattle.connection_laws.specs.Telling.{PartsTell, NewsTell};
 ghost use Rattle.connection_laws.specs.Turning.{NewsFit, IsLater, Turns, StandsInside, UsesInside, TurnsInside};
 ghost use Rattle.connection_laws.specs.Splicing.{GoesOnFrom, delta_from, StandsAtEntry, spliced};
@@ -92,7 +92,7 @@ pub fn connections_are_reset_at_the_next_number()
 pub fn connections_turn_by_their_parts<S: Service>()
     ensures { (fresh : S) (boot u i delta given : ℕ) (news : News) (before : Point) (old new : NorthState S) (reads : List ReadRecord) (e t : Tcb)
         → PartsStand (machine fresh S.after) u i delta given before old e → NewsFit before news → IsLater news before → reset_after news before ≡ false
-        → NorthTurns S.after tcp_reader tcp_writer (acknowledged_after news before) (heard news old) (arrived (news_inside delta before news) e) reads new t
+        → NorthTurns S.after tcp_reader tcp_writer (acknowledged_after news before) (north_after_news news old) (arrived (news_inside delta before news) e) reads new t
         → new.run.made ≤ 2 ^ 24
         → PartsTurn (machine fresh S.after) e.local boot u i delta news before (lengths_of reads) new t }
 {}
@@ -147,5 +147,5 @@ pub fn news_tell_the_point<S: Service>()
 pub fn reset_connections_hear_what_is_logged<S: Service>()
     ensures { (fresh : S) (boot given : ℕ) (news : News) (before after : Point) (n : NorthState S) (sent : List Packet)
         → NorthStands (machine fresh S.after) before given n → ResetTurn boot news before after sent
-        → NorthStands (machine fresh S.after) after given (heard news n) }
+        → NorthStands (machine fresh S.after) after given (north_after_news news n) }
 {}

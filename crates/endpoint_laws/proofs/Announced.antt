@@ -10,17 +10,17 @@ use Rattle.segment_codec.specs.declared.Head.{Head}
 use Rattle.ft_model.specs.News.{News}
 use Rattle.ft_model.specs.News.News.{Comes, Logged, Ticks, Begins}
 use Rattle.tcp_endpoint.specs.States.{is_closed, is_syn_sent, has_begun}
-use Rattle.tcp_endpoint.specs.Receiving.{next, window, announced_edge}
+use Rattle.tcp_endpoint.specs.Receiving.{next, window, advertised_edge}
 use Rattle.tcp_endpoint.specs.Sending.{in_flight, is_unacknowledged}
 use Rattle.tcp_endpoint.specs.Tcb.{Tcb, listening, connecting}
-use Rattle.tcp_endpoint.specs.Leaving.{or_bare, head_at, opening_segment, text_at, fin_at, texts, answer_segments, answer_out, again_segment, again_out, probes_text, probes_fin, probe_out, with_probe, new_length, text_out, with_text_sent, new_fin, fin_out, with_fin_out, full_out, after_full, is_owed, bare_segment, leaving, announced, with_turn_ended, flushed}
+use Rattle.tcp_endpoint.specs.Leaving.{or_bare, head_at, opening_segment, text_at, fin_at, texts, reset_reply_segments, reset_reply_out, retransmitted_segment, retransmission_out, probes_text, probes_fin, probe_out, with_probe, new_length, text_out, with_text_sent, new_fin, fin_out, with_fin_out, full_out, after_full, is_ack_pending, bare_segment, leaving, with_advertised, with_turn_ended, flushed}
 use Rattle.tcp_endpoint.specs.Turning.{after_tick, timer_ticked, waited}
-use Rattle.endpoint_laws.specs.Laws.{told, asks}
+use Rattle.endpoint_laws.specs.Laws.{last_advertised, asks}
 use Rattle.endpoint_laws.specs.Turn.{Call, Events, arrived, called, used, before_flush, turned, sent_in}
 use Rattle.endpoint_laws.specs.Turn.Call.{Reads, Writes, Closes}
-use Rattle.endpoint_laws.specs.Announcing.{Announces, is_told, ReadsOnlyTaken, AcknowledgesAll}
+use Rattle.endpoint_laws.specs.Announcing.{Advertises, is_told, ReadsOnlyTaken, AcknowledgesAll}
 use Rattle.endpoint_laws.proofs.AnswersAlone.{is_empty}
-use Rattle.endpoint_laws.proofs.SegmentsLaw.{begun_answers, once_again}
+use Rattle.endpoint_laws.proofs.SegmentsLaw.{begun_answers, one_retransmission}
 use Rattle.endpoint_laws.proofs.ToldLaw.{leaving_by, told_by_segment, told_by_flush}
 use Rattle.endpoint_laws.proofs.EndingLaw.{used_keeps, call_answers}
 use Rattle.endpoint_laws.proofs.Rsts.{IsRst, Refuses, refuses_arrived, unbegun_same}
@@ -51,11 +51,11 @@ chosen_one : (P : Segment → Type 0) (chosen : Bool) (first second : Segment) �
 chosen_one P true first second a b = a
 chosen_one P false first second a b = b
 
-all_or_bare : (P : Segment → Type 0) (owed : Bool) (bare : Segment) (segments : List Segment) → P bare → AllByRecursion P segments
-    → AllByRecursion P (or_bare owed bare segments)
+all_or_bare : (P : Segment → Type 0) (ack_pending : Bool) (bare : Segment) (segments : List Segment) → P bare → AllByRecursion P segments
+    → AllByRecursion P (or_bare ack_pending bare segments)
 all_or_bare P true bare [] a b = (a, tt)
 all_or_bare P false bare [] a b = tt
-all_or_bare P owed bare (segment ∷ segments) a b = b
+all_or_bare P ack_pending bare (segment ∷ segments) a b = b
 
 -- the segments that the flush builds: text, the FIN, and the first segment that is unacknowledged
 text_tells : (u : Tcb) (place n : ℕ) → Tells u (text_at u place n)
@@ -74,9 +74,9 @@ opening_tells : (u : Tcb) → has_begun u.name ≡ true → Tells u (opening_seg
 unfolding opening_segment head_at
 opening_tells u begun = second_tells u (is_syn_sent u.name) _ _ (begun_answers u.name begun) (refl, refl, refl, refl)
 
-again_tells : (u : Tcb) → has_begun u.name ≡ true → Tells u (again_segment u)
-unfolding again_segment
-again_tells u begun =
+retransmission_tells : (u : Tcb) → has_begun u.name ≡ true → Tells u (retransmitted_segment u)
+unfolding retransmitted_segment
+retransmission_tells u begun =
     chosen_one (Tells u) (not u.sending.syn_acked) _ _ (opening_tells u begun) (chosen_one (Tells u) _ _ _ (fin_tells u 0) (text_tells u 0 _))
 
 texts_tell : (count : ℕ) (u : Tcb) (place left : ℕ) → AllByRecursion (Tells u) (texts count u place left)
@@ -86,9 +86,9 @@ texts_tell (suc count) u place left =
     all_chosen (Tells u) (nat_lt 0 left) _ _ (text_tells u place (min left u.sending.mss), texts_tell count u (place + min left u.sending.mss) (left - min left u.sending.mss)) tt
 
 -- the parts of what the flush sends
-again_out_tells : (u : Tcb) → has_begun u.name ≡ true → AllByRecursion (Tells u) (again_out u)
-unfolding again_out
-again_out_tells u begun = all_chosen (Tells u) (u.again && not (is_closed u.name) && is_unacknowledged u.sending) _ _ (again_tells u begun, tt) tt
+retransmission_out_tells : (u : Tcb) → has_begun u.name ≡ true → AllByRecursion (Tells u) (retransmission_out u)
+unfolding retransmission_out
+retransmission_out_tells u begun = all_chosen (Tells u) (u.retransmission_due && not (is_closed u.name) && is_unacknowledged u.sending) _ _ (retransmission_tells u begun, tt) tt
 
 probe_out_tells : (u : Tcb) → AllByRecursion (Tells u) (probe_out u)
 unfolding probe_out
@@ -117,42 +117,42 @@ unfolding bare_segment head_at after_full with_fin_out with_text_sent with_probe
 bare_tells u = (refl, refl, refl, refl)
 
 -- a RST answers, or nothing
-rsts_announce : (u : Tcb) (segments : List Segment) → AllByRecursion (λ segment. has_rst segment ≡ true) segments → AllByRecursion (Announces u) segments
-rsts_announce u segments all = all_weaker (λ segment. has_rst segment ≡ true) (Announces u) (λ segment is h. absurd (false≢true (sym h ∙ is))) segments all
+rsts_advertise : (u : Tcb) (segments : List Segment) → AllByRecursion (λ segment. has_rst segment ≡ true) segments → AllByRecursion (Advertises u) segments
+rsts_advertise u segments all = all_weaker (λ segment. has_rst segment ≡ true) (Advertises u) (λ segment is h. absurd (false≢true (sym h ∙ is))) segments all
 
-answer_announces : (taken : ℕ) (u : Tcb) → Refuses taken u → AllByRecursion (Announces u) (answer_out u)
-unfolding answer_out
-answer_announces taken u (inl none) =
-    let P : Option Head → Type 0 = λ answer. AllByRecursion (Announces u) (answer_segments answer) in
+reset_reply_advertises : (taken : ℕ) (u : Tcb) → Refuses taken u → AllByRecursion (Advertises u) (reset_reply_out u)
+unfolding reset_reply_out
+reset_reply_advertises taken u (inl none) =
+    let P : Option Head → Type 0 = λ reset_reply. AllByRecursion (Advertises u) (reset_reply_segments reset_reply) in
     subst P (sym none) tt
-answer_announces taken u (inr refused) = rsts_announce u (answer_segments u.answer) refused.0
+reset_reply_advertises taken u (inr refused) = rsts_advertise u (reset_reply_segments u.reset_reply) refused.0
 
 -- all that leaves
-full_all : (u : Tcb) (P : Segment → Type 0) → ((segment : Segment) → Tells u segment → P segment) → has_begun u.name ≡ true → AllByRecursion P (answer_out u)
+full_all : (u : Tcb) (P : Segment → Type 0) → ((segment : Segment) → Tells u segment → P segment) → has_begun u.name ≡ true → AllByRecursion P (reset_reply_out u)
     → AllByRecursion P (full_out u)
 unfolding full_out
-full_all u P weaker begun answer =
+full_all u P weaker begun reset_reply =
     let part : (segments : List Segment) → AllByRecursion (Tells u) segments → AllByRecursion P segments = all_weaker (Tells u) P weaker in
     all_both P _ (fin_out (with_text_sent (with_probe u)))
     (all_both P _ (text_out (with_probe u))
-    (all_both P _ (probe_out u) (all_both P (answer_out u) (again_out u) answer (part (again_out u) (again_out_tells u begun))) (part (probe_out u) (probe_out_tells u)))
+    (all_both P _ (probe_out u) (all_both P (reset_reply_out u) (retransmission_out u) reset_reply (part (retransmission_out u) (retransmission_out_tells u begun))) (part (probe_out u) (probe_out_tells u)))
     (part (text_out (with_probe u)) (probed_text_tells u)))
     (part (fin_out (with_text_sent (with_probe u))) (texted_fin_tells u))
 
-announcing : (u : Tcb) (segment : Segment) → Tells u segment → Announces u segment
-announcing u segment tells = λ h. (tells.1, tells.2, tells.3)
+advertising : (u : Tcb) (segment : Segment) → Tells u segment → Advertises u segment
+advertising u segment tells = λ h. (tells.1, tells.2, tells.3)
 
-pub leaving_announces : (u : Tcb) → has_begun u.name ≡ true → AllByRecursion (Announces u) (answer_out u) → AllByRecursion (Announces u) (leaving u)
+pub leaving_advertises : (u : Tcb) → has_begun u.name ≡ true → AllByRecursion (Advertises u) (reset_reply_out u) → AllByRecursion (Advertises u) (leaving u)
 unfolding leaving
-leaving_announces u begun answer =
-    all_or_bare (Announces u) (is_owed (after_full u)) (bare_segment (after_full u)) (full_out u) (announcing u (bare_segment (after_full u)) (bare_tells u))
-    (full_all u (Announces u) (announcing u) begun answer)
+leaving_advertises u begun reset_reply =
+    all_or_bare (Advertises u) (is_ack_pending (after_full u)) (bare_segment (after_full u)) (full_out u) (advertising u (bare_segment (after_full u)) (bare_tells u))
+    (full_all u (Advertises u) (advertising u) begun reset_reply)
 
 -- what the user's calls leave
-pub answer_used : (calls : List Call) (m : Tcb) → (used calls m).answer ≡ m.answer
-answer_used calls m = used_keeps (λ (t : Tcb). t.answer) call_answers calls m
+pub reset_reply_used : (calls : List Call) (m : Tcb) → (used calls m).reset_reply ≡ m.reset_reply
+reset_reply_used calls m = used_keeps (λ (t : Tcb). t.reset_reply) call_answers calls m
 
-call_tells : (call : Call) (t : Tcb) → told (called call t) ≡ told t
+call_tells : (call : Call) (t : Tcb) → last_advertised (called call t) ≡ last_advertised t
 call_tells (Reads n) t = refl
 call_tells (Writes bytes) t = refl
 call_tells Closes t = refl
@@ -172,20 +172,20 @@ next_used (Writes bytes ∷ calls) m may = next_used calls (called (Writes bytes
 next_used (Closes ∷ calls) m may = next_used calls (called Closes m) may
 
 refuses_used : (taken : ℕ) (calls : List Call) (m : Tcb) → ReadsOnlyTaken calls m → Refuses taken m → Refuses taken (used calls m)
-refuses_used taken calls m may (inl none) = inl (answer_used calls m ∙ none)
+refuses_used taken calls m may (inl none) = inl (reset_reply_used calls m ∙ none)
 refuses_used taken calls m may (inr refused) =
-    let P : Option Head → Type 0 = λ answer. IsRst answer in
-    inr (subst P (sym (answer_used calls m)) refused.0, next_used calls m may ∙ refused.1)
+    let P : Option Head → Type 0 = λ reset_reply. IsRst reset_reply in
+    inr (subst P (sym (reset_reply_used calls m)) refused.0, next_used calls m may ∙ refused.1)
 
-pub announces_law : (news : News) (calls : List Call) (e : Tcb) → e.answer ≡ None → ReadsOnlyTaken calls (arrived news e)
-    → has_begun (before_flush news calls e).name ≡ true → AllByRecursion (Announces (before_flush news calls e)) (sent_in news calls e)
-announces_law news calls e none may begun =
+pub advertises_law : (news : News) (calls : List Call) (e : Tcb) → e.reset_reply ≡ None → ReadsOnlyTaken calls (arrived news e)
+    → has_begun (before_flush news calls e).name ≡ true → AllByRecursion (Advertises (before_flush news calls e)) (sent_in news calls e)
+advertises_law news calls e none may begun =
     let u : Tcb = before_flush news calls e in
-    leaving_announces u begun
-    (answer_announces (next e.receiving) u (refuses_used (next e.receiving) calls (arrived news e) may (refuses_arrived news e none)))
+    leaving_advertises u begun
+    (reset_reply_advertises (next e.receiving) u (refuses_used (next e.receiving) calls (arrived news e) may (refuses_arrived news e none)))
 
 -- what was last announced stays, until the flush
-told_arrived : (news : News) (e : Tcb) → has_begun e.name ≡ true → told (arrived news e) ≡ told e
+told_arrived : (news : News) (e : Tcb) → has_begun e.name ≡ true → last_advertised (arrived news e) ≡ last_advertised e
 unfolding after_tick timer_ticked waited
 told_arrived (Comes segment) e begun = told_by_segment e segment begun
 told_arrived (Logged kept) e begun = refl
@@ -197,18 +197,18 @@ some_bare : (bare : Segment) (segments : List Segment) → or_bare true bare seg
 some_bare bare [] h = cc
 some_bare bare (segment ∷ segments) h = cc
 
-asks_for_next : (owed : Bool) (a b c d : ℕ) → (b ≡ a → ⊥) → (owed || not (a == b) || not (c == d)) ≡ true
-asks_for_next owed a b c d other = grind (arith, other)
+asks_for_next : (ack_pending : Bool) (a b c d : ℕ) → (b ≡ a → ⊥) → (ack_pending || not (a == b) || not (c == d)) ≡ true
+asks_for_next ack_pending a b c d other = grind (arith, other)
 
-asks_for_edge : (owed : Bool) (a b c d : ℕ) → (d ≡ c → ⊥) → (owed || not (a == b) || not (c == d)) ≡ true
-asks_for_edge owed a b c d other = grind (arith, other)
+asks_for_edge : (ack_pending : Bool) (a b c d : ℕ) → (d ≡ c → ⊥) → (ack_pending || not (a == b) || not (c == d)) ≡ true
+asks_for_edge ack_pending a b c d other = grind (arith, other)
 
-asks_where_changed : (e u : Tcb) → told u ≡ (next e.receiving, announced_edge e.receiving)
-    → (next u.receiving ≡ next e.receiving → ⊥) ⊎ (announced_edge u.receiving ≡ announced_edge e.receiving → ⊥) → asks u.owed u ≡ true
+asks_where_changed : (e u : Tcb) → last_advertised u ≡ (next e.receiving, advertised_edge e.receiving)
+    → (next u.receiving ≡ next e.receiving → ⊥) ⊎ (advertised_edge u.receiving ≡ advertised_edge e.receiving → ⊥) → asks u.ack_pending u ≡ true
 asks_where_changed e u heard (inl other) =
-    asks_for_next u.owed u.told_next (next u.receiving) u.told_edge (announced_edge u.receiving) (λ h. other (h ∙ ap (λ t. t.0) heard))
+    asks_for_next u.ack_pending u.last_ack_sent (next u.receiving) u.last_advertised_edge (advertised_edge u.receiving) (λ h. other (h ∙ ap (λ t. t.0) heard))
 asks_where_changed e u heard (inr other) =
-    asks_for_edge u.owed u.told_next (next u.receiving) u.told_edge (announced_edge u.receiving) (λ h. other (h ∙ ap (λ t. t.1) heard))
+    asks_for_edge u.ack_pending u.last_ack_sent (next u.receiving) u.last_advertised_edge (advertised_edge u.receiving) (λ h. other (h ∙ ap (λ t. t.1) heard))
 
 -- and a segment goes out that is no RST
 some_told : (bare : Segment) (segments : List Segment) → has_rst bare ≡ false → AllByRecursion (λ segment. has_rst segment ≡ false) segments
@@ -216,12 +216,12 @@ some_told : (bare : Segment) (segments : List Segment) → has_rst bare ≡ fals
 some_told bare [] plain all = ap (λ b. not b || false) plain
 some_told bare (segment ∷ segments) plain all = ap (λ b. not b || is_told segments) all.0
 
-pub unanswered_tells : (u : Tcb) → has_begun u.name ≡ true → u.answer ≡ None → asks u.owed u ≡ true → is_told (leaving u) ≡ true
-unfolding answer_out
+pub unanswered_tells : (u : Tcb) → has_begun u.name ≡ true → u.reset_reply ≡ None → asks u.ack_pending u ≡ true → is_told (leaving u) ≡ true
+unfolding reset_reply_out
 unanswered_tells u begun none asked =
     let Plain : Segment → Type 0 = λ segment. has_rst segment ≡ false in
-    let P : Option Head → Type 0 = λ answer. AllByRecursion Plain (answer_segments answer) in
-    ap is_told (leaving_by u u.owed begun refl ∙ ap (λ b. or_bare b (bare_segment (after_full u)) (full_out u)) asked)
+    let P : Option Head → Type 0 = λ reset_reply. AllByRecursion Plain (reset_reply_segments reset_reply) in
+    ap is_told (leaving_by u u.ack_pending begun refl ∙ ap (λ b. or_bare b (bare_segment (after_full u)) (full_out u)) asked)
     ∙ some_told (bare_segment (after_full u)) (full_out u) (bare_tells u).0
     (full_all u Plain (λ segment tells. tells.0) begun (subst P (sym none) tt))
 
@@ -234,74 +234,74 @@ rest_empty : (first second : List Segment) → first ++ second ≡ [] → second
 rest_empty [] second h = h
 rest_empty (segment ∷ first) second h = absurd (false≢true (ap is_empty h))
 
-full_empty : (u : Tcb) → full_out u ≡ [] → again_out u ≡ []
+full_empty : (u : Tcb) → full_out u ≡ [] → retransmission_out u ≡ []
 unfolding full_out
-full_empty u h = rest_empty (answer_out u) (again_out u) (front_empty _ _ (front_empty _ _ (front_empty _ _ h)))
+full_empty u h = rest_empty (reset_reply_out u) (retransmission_out u) (front_empty _ _ (front_empty _ _ (front_empty _ _ h)))
 
-told_by_some : (owed : Bool) (bare : Segment) (segments : List Segment) → (segments ≡ [] → ⊥) → AllByRecursion (λ segment. has_rst segment ≡ false) segments
-    → is_told (or_bare owed bare segments) ≡ true
-told_by_some owed bare [] some all = absurd (some refl)
-told_by_some owed bare (segment ∷ segments) some all = ap (λ b. not b || is_told segments) all.0
+told_by_some : (ack_pending : Bool) (bare : Segment) (segments : List Segment) → (segments ≡ [] → ⊥) → AllByRecursion (λ segment. has_rst segment ≡ false) segments
+    → is_told (or_bare ack_pending bare segments) ≡ true
+told_by_some ack_pending bare [] some all = absurd (some refl)
+told_by_some ack_pending bare (segment ∷ segments) some all = ap (λ b. not b || is_told segments) all.0
 
-pub again_is_told : (u : Tcb) → has_begun u.name ≡ true → u.answer ≡ None → u.again ≡ true → is_unacknowledged u.sending ≡ true → is_told (leaving u) ≡ true
-unfolding answer_out leaving
-again_is_told u begun none again waits =
+pub retransmission_is_told : (u : Tcb) → has_begun u.name ≡ true → u.reset_reply ≡ None → u.retransmission_due ≡ true → is_unacknowledged u.sending ≡ true → is_told (leaving u) ≡ true
+unfolding reset_reply_out leaving
+retransmission_is_told u begun none retransmission_due waits =
     let Plain : Segment → Type 0 = λ segment. has_rst segment ≡ false in
-    let P : Option Head → Type 0 = λ answer. AllByRecursion Plain (answer_segments answer) in
-    told_by_some (is_owed (after_full u)) (bare_segment (after_full u)) (full_out u)
-    (λ empty. false≢true (ap is_empty (sym (once_again u begun again waits) ∙ full_empty u empty)))
+    let P : Option Head → Type 0 = λ reset_reply. AllByRecursion Plain (reset_reply_segments reset_reply) in
+    told_by_some (is_ack_pending (after_full u)) (bare_segment (after_full u)) (full_out u)
+    (λ empty. false≢true (ap is_empty (sym (one_retransmission u begun retransmission_due waits) ∙ full_empty u empty)))
     (full_all u Plain (λ segment tells. tells.0) begun (subst P (sym none) tt))
 
 -- so where more is taken no RST answers
-unrefused : (taken : ℕ) (u : Tcb) → Refuses taken u → (next u.receiving ≡ taken → ⊥) → u.answer ≡ None
+unrefused : (taken : ℕ) (u : Tcb) → Refuses taken u → (next u.receiving ≡ taken → ⊥) → u.reset_reply ≡ None
 unrefused taken u (inl none) changed = none
 unrefused taken u (inr refused) changed = absurd (changed refused.1)
 
-by_reason : (u e : Tcb) → has_begun u.name ≡ true → told u ≡ (next e.receiving, announced_edge e.receiving) → Refuses (next e.receiving) u
-    → (next u.receiving ≡ next e.receiving → ⊥) ⊎ ((u.answer ≡ None) × (announced_edge u.receiving ≡ announced_edge e.receiving → ⊥))
+by_reason : (u e : Tcb) → has_begun u.name ≡ true → last_advertised u ≡ (next e.receiving, advertised_edge e.receiving) → Refuses (next e.receiving) u
+    → (next u.receiving ≡ next e.receiving → ⊥) ⊎ ((u.reset_reply ≡ None) × (advertised_edge u.receiving ≡ advertised_edge e.receiving → ⊥))
     → is_told (leaving u) ≡ true
 by_reason u e begun heard refuses (inl changed) =
     unanswered_tells u begun (unrefused (next e.receiving) u refuses changed) (asks_where_changed e u heard (inl changed))
 by_reason u e begun heard refuses (inr moved) = unanswered_tells u begun moved.0 (asks_where_changed e u heard (inr moved.1))
 
-pub all_told_law : (news : News) (calls : List Call) (e : Tcb) → has_begun e.name ≡ true → e.answer ≡ None → told e ≡ (next e.receiving, announced_edge e.receiving)
+pub all_told_law : (news : News) (calls : List Call) (e : Tcb) → has_begun e.name ≡ true → e.reset_reply ≡ None → last_advertised e ≡ (next e.receiving, advertised_edge e.receiving)
     → ReadsOnlyTaken calls (arrived news e) → has_begun (before_flush news calls e).name ≡ true
     → (next (before_flush news calls e).receiving ≡ next e.receiving → ⊥)
-    ⊎ (((before_flush news calls e).answer ≡ None) × (announced_edge (before_flush news calls e).receiving ≡ announced_edge e.receiving → ⊥))
+    ⊎ (((before_flush news calls e).reset_reply ≡ None) × (advertised_edge (before_flush news calls e).receiving ≡ advertised_edge e.receiving → ⊥))
     → is_told (sent_in news calls e) ≡ true
 all_told_law news calls e begun none heard_before may begun_after why =
     let m : Tcb = arrived news e in
     let u : Tcb = used calls m in
-    let heard : told u ≡ (next e.receiving, announced_edge e.receiving) = used_keeps told call_tells calls m ∙ told_arrived news e begun ∙ heard_before in
+    let heard : last_advertised u ≡ (next e.receiving, advertised_edge e.receiving) = used_keeps last_advertised call_tells calls m ∙ told_arrived news e begun ∙ heard_before in
     by_reason u e begun_after heard (refuses_used (next e.receiving) calls m may (refuses_arrived news e none)) why
 
 -- from turn to turn, whatever the limit and however much is written
 record TellsAll (e : Tcb) : Type 0 where
-  answer : e.answer ≡ None
-  heard : has_begun e.name ≡ true → told e ≡ (next e.receiving, announced_edge e.receiving)
+  reset_reply : e.reset_reply ≡ None
+  heard : has_begun e.name ≡ true → last_advertised e ≡ (next e.receiving, advertised_edge e.receiving)
 
 tells_flushed : (u : Tcb) → TellsAll (flushed u)
-unfolding flushed with_turn_ended announced after_full with_fin_out with_text_sent with_probe
-tells_flushed u = record { answer = refl; heard = λ begun. told_by_flush u begun }
+unfolding flushed with_turn_ended with_advertised after_full with_fin_out with_text_sent with_probe
+tells_flushed u = record { reset_reply = refl; heard = λ begun. told_by_flush u begun }
 
 turn_told : (news : News) (calls : List Call) (e : Tcb) → TellsAll e → ReadsOnlyTaken calls (arrived news e) → has_begun (before_flush news calls e).name ≡ true
     → (next (before_flush news calls e).receiving ≡ next e.receiving → ⊥) → is_told (sent_in news calls e) ≡ true
 turn_told news calls e t may begun_after changed =
     by_cases (has_begun e.name)
-    (λ begun. all_told_law news calls e begun t.answer (t.heard begun) may begun_after (inl changed))
+    (λ begun. all_told_law news calls e begun t.reset_reply (t.heard begun) may begun_after (inl changed))
     (λ unbegun. absurd (changed (next_used calls (arrived news e) may ∙ unbegun_same news e unbegun)))
 
 acknowledges_on : (turns : List Events) (e : Tcb) → TellsAll e → AcknowledgesAll e turns
 acknowledges_on [] e t = tt
 acknowledges_on (turn ∷ turns) e t = (
-  λ may begun. (announces_law turn.news turn.calls e t.answer may begun, turn_told turn.news turn.calls e t may begun),
+  λ may begun. (advertises_law turn.news turn.calls e t.reset_reply may begun, turn_told turn.news turn.calls e t may begun),
   acknowledges_on turns (turned turn.news turn.calls e) (tells_flushed (before_flush turn.news turn.calls e)),
 )
 
 opens_untold : (local remote : Addr) (iss limit : ℕ) → TellsAll (listening local iss limit) × TellsAll (connecting local remote iss limit)
 unfolding connecting listening
 opens_untold local remote iss limit =
-    (record { answer = refl; heard = λ begun. absurd (false≢true begun) }, record { answer = refl; heard = λ begun. absurd (false≢true begun) })
+    (record { reset_reply = refl; heard = λ begun. absurd (false≢true begun) }, record { reset_reply = refl; heard = λ begun. absurd (false≢true begun) })
 
 pub acknowledges_law : (local remote : Addr) (iss limit : ℕ) (turns : List Events)
     → AcknowledgesAll (listening local iss limit) turns × AcknowledgesAll (connecting local remote iss limit) turns

@@ -11,7 +11,7 @@ use Rattle.tcp_endpoint.specs.States.{after_syn_acked, after_fin, after_fin_acke
 use Rattle.tcp_endpoint.specs.Receiving.{Receiving, next, window}
 use Rattle.tcp_endpoint.specs.Sending.{Sending, with_syn_acked, fin_acked}
 use Rattle.tcp_endpoint.specs.Tcb.{Tcb}
-use Rattle.tcp_endpoint.specs.Arrival.{first, ack_at, rst, killed, owing_if, entering, with_text_and_fin, with_fin_acked, with_first_ack, with_ack_used, with_ack, waiting_again, received, refusing}
+use Rattle.tcp_endpoint.specs.Arrival.{first, ack_at, rst, with_reset, with_ack_pending_if, entering, with_text_and_fin, with_fin_acked, with_first_ack, with_ack_used, with_ack, with_time_wait_restarted, received, with_reset_reply}
 use Rattle.tcp_endpoint.specs.Arrival as check
 use Rattle.endpoint_laws.specs.Laws.{accepts, acknowledges_less, is_refused, IsBounded, IsUsual}
 use Rattle.endpoint_laws.proofs.TakenLaw.{part_of_if, same_if, if_when, begun_is, Aside, at_ack, others_part, segment_taken, accepts_same}
@@ -29,20 +29,20 @@ unfolding with_ack
 later_part f e p b =
     let used : Tcb = with_ack_used e p in
     let beyond : Bool = is_ahead e.sending.sent (ack_at e p) in
-    part_of_if f beyond (owing_if true e) (with_text_and_fin (with_fin_acked used) p)
-    ∙ if_when beyond (f (owing_if true e)) (f e) (f (with_text_and_fin (with_fin_acked used) p)) (f e)
-    (λ h. b.aside.owing true e) (λ h. b.text (with_fin_acked used) p ∙ b.acked used ∙ b.using e p)
+    part_of_if f beyond (with_ack_pending_if true e) (with_text_and_fin (with_fin_acked used) p)
+    ∙ if_when beyond (f (with_ack_pending_if true e)) (f e) (f (with_text_and_fin (with_fin_acked used) p)) (f e)
+    (λ h. b.aside.pending true e) (λ h. b.text (with_fin_acked used) p ∙ b.acked used ∙ b.using e p)
     ∙ same_if beyond (f e)
 
 -- .. but for the first acknowledgement of less than the SYN, which is refused
 first_part : {X : Type 0} (f : Tcb → X) (e : Tcb) (p : Segment) → Beside f
-    → f (with_first_ack e p) ≡ (if int_eq (ack_at e p) (pos 0) then f e else f (refusing e p))
+    → f (with_first_ack e p) ≡ (if int_eq (ack_at e p) (pos 0) then f e else f (with_reset_reply e p))
 unfolding with_first_ack
 first_part f e p b =
     let opening : Tcb = record e { name = after_syn_acked e.sending.closed; sending = with_syn_acked e.sending p.head.seq p.head.window } in
     let is_syn : Bool = int_eq (ack_at e p) (pos 0) in
-    part_of_if f is_syn (with_text_and_fin opening p) (refusing e p)
-    ∙ ap (λ x. if is_syn then x else f (refusing e p)) (b.text opening p ∙ b.opening e p)
+    part_of_if f is_syn (with_text_and_fin opening p) (with_reset_reply e p)
+    ∙ ap (λ x. if is_syn then x else f (with_reset_reply e p)) (b.text opening p ∙ b.opening e p)
 
 -- a segment that goes on for its place at a window of zero is answered by no RST
 off_zero : {X : Type 0} (z rst syn ack o k : Bool) (x y : X)
@@ -91,12 +91,12 @@ syn_or_less e p b usual is_ack syn_unacked =
 
 -- what the checks leave of such a part
 pub beside_is : {X : Type 0} (f : Tcb → X) (e : Tcb) (p : Segment) → Beside f → has_begun e.name ≡ true → IsBounded e → IsUsual e p
-    → f (received e p) ≡ (if is_refused e p then f (refusing (at_ack e p) p) else f e)
-unfolding received waiting_again check.is_allowed
+    → f (received e p) ≡ (if is_refused e p then f (with_reset_reply (at_ack e p) p) else f e)
+unfolding received with_time_wait_restarted check.is_allowed
 beside_is {X = X} f e p b begun bounded usual =
     let e1 : Tcb = at_ack e p in
-    let back : f e1 ≡ f e = b.aside.owing (nat_lt 0 (length_of p)) (waiting_again e p) ∙ b.aside.waiting e p in
-    let refused : X = f (refusing e1 p) in
+    let back : f e1 ≡ f e = b.aside.pending (nat_lt 0 (length_of p)) (with_time_wait_restarted e p) ∙ b.aside.waiting e p in
+    let refused : X = f (with_reset_reply e1 p) in
     let is_syn : Bool = int_eq (ack_at e p) (pos 0) in
     ap f (begun_is e.name e p begun) ∙ others_part f e p b.aside
     ∙ (λ i. if accepts_same e p i || check.is_allowed e p
@@ -127,35 +127,35 @@ acked_of f e enters =
 pub record IsApart {X : Type 0} (f : Tcb → X) : Type 0 where
   pub waits : (e : Tcb) (ticks : ℕ) → f (record e { wait = ticks }) ≡ f e
   pub enters : (e : Tcb) (name : StateName) (ticks : ℕ) → f (record e { name = name; wait = ticks }) ≡ f e
-  pub dies : (e : Tcb) → f (killed e) ≡ f e
-  pub owes : (e : Tcb) (owed : Bool) → f (record e { owed = owed }) ≡ f e
+  pub dies : (e : Tcb) → f (with_reset e) ≡ f e
+  pub needs_ack : (e : Tcb) (ack_pending : Bool) → f (record e { ack_pending = ack_pending }) ≡ f e
   pub takes : (e : Tcb) (receiving : Receiving) → f (record e { receiving = receiving }) ≡ f e
-  pub uses : (e : Tcb) (sending : Sending) (again : Bool) → f (record e { sending = sending; again = again }) ≡ f e
+  pub uses : (e : Tcb) (sending : Sending) (retransmission_due : Bool) → f (record e { sending = sending; retransmission_due = retransmission_due }) ≡ f e
   pub opens : (e : Tcb) (name : StateName) (sending : Sending) → f (record e { name = name; sending = sending }) ≡ f e
 
 pub apart_beside : {X : Type 0} (f : Tcb → X) → IsApart f → Beside f
-unfolding waiting_again with_ack_used
+unfolding with_time_wait_restarted with_ack_used
 apart_beside f a = record {
-  aside = record { killed = a.dies; owing = λ b e. a.owes e (e.owed || b); waiting = λ e p. a.waits e _ };
+  aside = record { with_reset = a.dies; pending = λ b e. a.needs_ack e (e.ack_pending || b); waiting = λ e p. a.waits e _ };
   text = λ e p. text_of f e p (λ r name. a.enters r name _) (a.takes e _);
   acked = λ e. acked_of f e (λ r name. a.enters r name _);
   using = λ e p. a.uses e _ _;
   opening = λ e p. a.opens e _ _;
 }
 
-pub answer_apart : IsApart (λ (t : Tcb). t.answer)
-answer_apart = record {
+pub reset_reply_apart : IsApart (λ (t : Tcb). t.reset_reply)
+reset_reply_apart = record {
   waits = λ e n. refl;
   enters = λ e m n. refl;
   dies = λ e. refl;
-  owes = λ e o. refl;
+  needs_ack = λ e o. refl;
   takes = λ e r. refl;
   uses = λ e s b. refl;
   opens = λ e m s. refl;
 }
 
-pub answer_is : (e : Tcb) (p : Segment) → has_begun e.name ≡ true → IsBounded e → IsUsual e p
-    → (received e p).answer ≡ (if is_refused e p then Some (rst e p p.head.ack 0 4) else e.answer)
-unfolding refusing waiting_again
-answer_is e p begun b usual =
-    beside_is (λ t. t.answer) e p (apart_beside (λ t. t.answer) answer_apart) begun b usual
+pub reset_reply_is : (e : Tcb) (p : Segment) → has_begun e.name ≡ true → IsBounded e → IsUsual e p
+    → (received e p).reset_reply ≡ (if is_refused e p then Some (rst e p p.head.ack 0 4) else e.reset_reply)
+unfolding with_reset_reply with_time_wait_restarted
+reset_reply_is e p begun b usual =
+    beside_is (λ t. t.reset_reply) e p (apart_beside (λ t. t.reset_reply) reset_reply_apart) begun b usual

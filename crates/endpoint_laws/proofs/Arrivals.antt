@@ -19,19 +19,19 @@ use Rattle.tcp_endpoint.specs.States.{has_begun}
 use Rattle.tcp_endpoint.specs.Receiving.{next}
 use Rattle.tcp_endpoint.specs.Sending.{Sending, with_syn_acked, acknowledged, congestion_expired, target, is_unacknowledged, expires, ticked}
 use Rattle.tcp_endpoint.specs.Tcb.{Tcb}
-use Rattle.tcp_endpoint.specs.Arrival.{first, ack_at, rst, received, refusing}
-use Rattle.tcp_endpoint.specs.Leaving.{answer_segments, answer_out}
+use Rattle.tcp_endpoint.specs.Arrival.{first, ack_at, rst, received, with_reset_reply}
+use Rattle.tcp_endpoint.specs.Leaving.{reset_reply_segments, reset_reply_out}
 use Rattle.tcp_endpoint.specs.Turning.{after_tick, timer_ticked, waited}
-use Rattle.endpoint_laws.specs.Laws.{accepts, counts, acknowledges, congestion_ticked, acknowledges_less, is_refused, owes, IsSentBy, IsBounded, IsUsual, ProbesRightly, told}
+use Rattle.endpoint_laws.specs.Laws.{accepts, counts, acknowledges, congestion_ticked, acknowledges_less, is_refused, needs_ack, IsSentBy, IsBounded, IsUsual, ProbesRightly, last_advertised}
 use Rattle.endpoint_laws.specs.Turn.{IsUsualNews, IsBetweenTurns, arrived}
-use Rattle.endpoint_laws.specs.Standing.{ReceivesAt, SendsAt, StandsAt, owes_to, refuses, refusals}
+use Rattle.endpoint_laws.specs.Standing.{ReceivesAt, SendsAt, StandsAt, news_needs_ack, refuses, refusals}
 use Rattle.endpoint_laws.proofs.TakenLaw.{part_of_if, same_if, if_when}
-use Rattle.endpoint_laws.proofs.SendingLaw.{later_by, used_by, sending_is, sending_law, again_law}
+use Rattle.endpoint_laws.proofs.SendingLaw.{later_by, used_by, sending_is, sending_law, retransmission_law}
 use Rattle.endpoint_laws.proofs.SendingLaw as sending
 use Rattle.endpoint_laws.proofs.Bounding.{bounded_by_segment, bounded_by_tick}
-use Rattle.endpoint_laws.proofs.OwedLaw.{owed_law}
+use Rattle.endpoint_laws.proofs.OwedLaw.{ack_pending_law}
 use Rattle.endpoint_laws.proofs.ToldLaw.{told_by_segment, probed_by_tick}
-use Rattle.endpoint_laws.proofs.Answering.{Beside, IsApart, apart_beside, beside_is, answer_is}
+use Rattle.endpoint_laws.proofs.Answering.{Beside, IsApart, apart_beside, beside_is, reset_reply_is}
 use Rattle.endpoint_laws.proofs.Calls.{FinIsLast}
 use Rattle.endpoint_laws.proofs.StandingLaw.{Meets, next_is, accepts_is, first_is, ack_is, third_is, received_receives, received_sends}
 use Rattle.ft_io.proofs.Booleans.{false_or, or_false}
@@ -60,42 +60,42 @@ pub record Arrived (news : News) (before : Point) (e m : Tcb) : Type 0 where
   pub sent : m.sending.sent ≡ e.sending.sent
   pub bounds : IsBounded m
   pub fin_last : FinIsLast m.sending
-  pub told : told m ≡ told e
-  pub again : m.again ≡ ((timer.expires news before && is_unacknowledged e.sending) || is_third_duplicate news before)
+  pub told : last_advertised m ≡ last_advertised e
+  pub retransmission_due : m.retransmission_due ≡ ((timer.expires news before && is_unacknowledged e.sending) || is_third_duplicate news before)
   pub probe : m.probe ≡ (timer.expires news before && not (is_unacknowledged e.sending))
   pub probes : ProbesRightly m
-  pub answer : answer_out m ≡ refusals e.local news before
+  pub reset_reply : reset_reply_out m ≡ refusals e.local news before
   pub target : m.sending.una ≡ e.sending.una → target e.sending ≤ target m.sending
   pub una : e.sending.una ≤ m.sending.una
 
 -- a segment: the parts that nothing of the checks has a part in
-kept_is : {X : Type 0} (f : Tcb → X) (e : Tcb) (p : Segment) → IsApart f → ((r : Tcb) → f (refusing r p) ≡ f r) → has_begun e.name ≡ true → IsBounded e → IsUsual e p
+kept_is : {X : Type 0} (f : Tcb → X) (e : Tcb) (p : Segment) → IsApart f → ((r : Tcb) → f (with_reset_reply r p) ≡ f r) → has_begun e.name ≡ true → IsBounded e → IsUsual e p
     → f (received e p) ≡ f e
 kept_is f e p apart refuses begun b usual =
     let beside : Beside f = apart_beside f apart in
     beside_is f e p beside begun b usual
-    ∙ ap (λ x. if is_refused e p then x else f e) (refuses _ ∙ beside.aside.owing _ _ ∙ beside.aside.waiting e p)
+    ∙ ap (λ x. if is_refused e p then x else f e) (refuses _ ∙ beside.aside.pending _ _ ∙ beside.aside.waiting e p)
     ∙ same_if (is_refused e p) (f e)
 
 local_is : (e : Tcb) (p : Segment) → has_begun e.name ≡ true → IsBounded e → IsUsual e p → (received e p).local ≡ e.local
-unfolding refusing
+unfolding with_reset_reply
 local_is e p begun b usual =
     kept_is (λ t. t.local) e p
-    (record { waits = λ e n. refl; enters = λ e m n. refl; dies = λ e. refl; owes = λ e o. refl; takes = λ e r. refl; uses = λ e s b. refl; opens = λ e m s. refl })
+    (record { waits = λ e n. refl; enters = λ e m n. refl; dies = λ e. refl; needs_ack = λ e o. refl; takes = λ e r. refl; uses = λ e s b. refl; opens = λ e m s. refl })
     (λ r. refl) begun b usual
 
 remote_is : (e : Tcb) (p : Segment) → has_begun e.name ≡ true → IsBounded e → IsUsual e p → (received e p).remote ≡ e.remote
-unfolding refusing
+unfolding with_reset_reply
 remote_is e p begun b usual =
     kept_is (λ t. t.remote) e p
-    (record { waits = λ e n. refl; enters = λ e m n. refl; dies = λ e. refl; owes = λ e o. refl; takes = λ e r. refl; uses = λ e s b. refl; opens = λ e m s. refl })
+    (record { waits = λ e n. refl; enters = λ e m n. refl; dies = λ e. refl; needs_ack = λ e o. refl; takes = λ e r. refl; uses = λ e s b. refl; opens = λ e m s. refl })
     (λ r. refl) begun b usual
 
 probe_is : (e : Tcb) (p : Segment) → has_begun e.name ≡ true → IsBounded e → IsUsual e p → (received e p).probe ≡ e.probe
-unfolding refusing
+unfolding with_reset_reply
 probe_is e p begun b usual =
     kept_is (λ t. t.probe) e p
-    (record { waits = λ e n. refl; enters = λ e m n. refl; dies = λ e. refl; owes = λ e o. refl; takes = λ e r. refl; uses = λ e s b. refl; opens = λ e m s. refl })
+    (record { waits = λ e n. refl; enters = λ e m n. refl; dies = λ e. refl; needs_ack = λ e o. refl; takes = λ e r. refl; uses = λ e s b. refl; opens = λ e m s. refl })
     (λ r. refl) begun b usual
 
 -- the parts of the sending half that an acknowledgement leaves
@@ -178,13 +178,13 @@ unrefused_by false true less some place place' none p = refl
 unrefused_by false false true some place place' none p = absurd (false≢true (sym none))
 unrefused_by false false false some place place' none p = refl
 
-owes_is : (p : Point) (e : Tcb) (segment : Segment) → Meets p e segment → is_refused e segment ≡ false → rule.owes p segment ≡ owes e segment
-unfolding rule.owes
-owes_is p e segment m unrefused =
+needs_ack_is : (p : Point) (e : Tcb) (segment : Segment) → Meets p e segment → is_refused e segment ≡ false → rule.needs_ack p segment ≡ needs_ack e segment
+unfolding rule.needs_ack
+needs_ack_is p e segment m unrefused =
     let k : ℕ = p.fetched in
     let n : ℕ = next e.receiving in
     let units : taken_units p ≡ n + k = next_is p e m.receives in
-    ap (λ b. if b then rule.owes_acceptable p segment else not (has_rst segment)) (accepts_is p e segment m)
+    ap (λ b. if b then rule.needs_ack_if_acceptable p segment else not (has_rst segment)) (accepts_is p e segment m)
     ∙ if_when (accepts e segment) _ _ _ _
     (λ acceptable.
     let z : first_of p.cisn segment ≡ first e segment +ℤ pos k = first_is p e segment m (or_left (accepts e segment) _ acceptable) in
@@ -206,34 +206,34 @@ unfolding is_some
 cons_is_not_nil x xs h = false≢true (sym (ap is_some h))
 
 -- a segment's RST
-answer_of : (b : Bool) (head : Head) (nothing : Option Head) → nothing ≡ None
-    → answer_segments (if b then Some head else nothing) ≡ (if b then answer_segments (Some head) else [])
-answer_of true head nothing is = refl
-answer_of false head nothing is = ap answer_segments is
+reset_reply_of : (b : Bool) (head : Head) (nothing : Option Head) → nothing ≡ None
+    → reset_reply_segments (if b then Some head else nothing) ≡ (if b then reset_reply_segments (Some head) else [])
+reset_reply_of true head nothing is = refl
+reset_reply_of false head nothing is = ap reset_reply_segments is
 
-segment_answer : (p : Point) (e : Tcb) (segment : Segment) → Meets p e segment → has_begun e.name ≡ true → e.answer ≡ None
-    → answer_out (received e segment) ≡ refusals e.local (Comes segment) p
-unfolding answer_out
-segment_answer p e segment m begun none =
-    ap answer_segments (answer_is e segment begun m.bounds m.usual)
-    ∙ answer_of (is_refused e segment) (rst e segment segment.head.ack 0 4) e.answer none
-    ∙ ap (λ b. if b then answer_segments (Some (rst e segment segment.head.ack 0 4)) else []) (sym (refuses_is p e segment m))
+segment_reset_reply : (p : Point) (e : Tcb) (segment : Segment) → Meets p e segment → has_begun e.name ≡ true → e.reset_reply ≡ None
+    → reset_reply_out (received e segment) ≡ refusals e.local (Comes segment) p
+unfolding reset_reply_out
+segment_reset_reply p e segment m begun none =
+    ap reset_reply_segments (reset_reply_is e segment begun m.bounds m.usual)
+    ∙ reset_reply_of (is_refused e segment) (rst e segment segment.head.ack 0 4) e.reset_reply none
+    ∙ ap (λ b. if b then reset_reply_segments (Some (rst e segment segment.head.ack 0 4)) else []) (sym (refuses_is p e segment m))
 
 none_chosen : (b : Bool) (x : Segment) → (if b then x ∷ [] else []) ≡ [] → b ≡ false
 none_chosen true x h = absurd (cons_is_not_nil x [] h)
 none_chosen false x h = refl
 
 -- what is owed once the news have come
-pub owed_is : (news : News) (p : Point) (e : Tcb) → has_begun e.name ≡ true → IsBetweenTurns e → StandsAt p e → IsUsualNews news e
-    → refusals e.local news p ≡ [] → (arrived news e).owed ≡ owes_to news p
+pub ack_pending_is : (news : News) (p : Point) (e : Tcb) → has_begun e.name ≡ true → IsBetweenTurns e → StandsAt p e → IsUsualNews news e
+    → refusals e.local news p ≡ [] → (arrived news e).ack_pending ≡ news_needs_ack news p
 unfolding after_tick timer_ticked waited
-owed_is (Comes segment) p e begun between stands usual none =
+ack_pending_is (Comes segment) p e begun between stands usual none =
     let m : Meets p e segment = record { receives = stands.receives; sends = stands.sends; sent = stands.sent; bounds = between.bounds; usual = usual } in
     let unrefused : is_refused e segment ≡ false = sym (refuses_is p e segment m) ∙ none_chosen (refuses p segment) _ none in
-    owed_law e segment begun between.bounds usual between.owed unrefused ∙ sym (owes_is p e segment m unrefused)
-owed_is (Logged kept) p e begun between stands usual none = between.owed
-owed_is Ticks p e begun between stands usual none = between.owed
-owed_is Begins p e begun between stands usual none = between.owed
+    ack_pending_law e segment begun between.bounds usual between.ack_pending unrefused ∙ sym (needs_ack_is p e segment m unrefused)
+ack_pending_is (Logged kept) p e begun between stands usual none = between.ack_pending
+ack_pending_is Ticks p e begun between stands usual none = between.ack_pending
+ack_pending_is Begins p e begun between stands usual none = between.ack_pending
 
 -- the three kinds of news
 segment_arrives : (p : Point) (e : Tcb) (segment : Segment) → has_begun e.name ≡ true → IsBetweenTurns e → StandsAt p e → IsUsual e segment
@@ -254,17 +254,17 @@ segment_arrives p e segment begun between stands usual =
       fin_last = fin_last_kept e.sending (received e segment).sending (fin_sent_is e segment begun b usual) by.closed by.sent b.order una by.held
           between.fin_last;
       told = told_by_segment e segment begun;
-      again = again_law e segment begun b usual ∙ false_or e.again _ between.again ∙ sym (third_is p e segment m);
+      retransmission_due = retransmission_law e segment begun b usual ∙ false_or e.retransmission_due _ between.retransmission_due ∙ sym (third_is p e segment m);
       probe = probe_is e segment begun b usual ∙ between.probe;
       probes = no_probe (received e segment) (probe_is e segment begun b usual ∙ between.probe);
-      answer = segment_answer p e segment m begun between.answer;
+      reset_reply = segment_reset_reply p e segment m begun between.reset_reply;
       target = target_is e segment begun b usual;
       una = una;
     }
 
 nothing_arrives : (news : News) (p : Point) (e : Tcb) → IsBetweenTurns e → StandsAt p e → timer.is_tick news ≡ false
     → is_third_duplicate news p ≡ false → moved news p ≡ p → refusals e.local news p ≡ [] → Arrived news p e e
-unfolding answer_out
+unfolding reset_reply_out
 nothing_arrives news p e between stands still none same quiet =
     let P : Point → Type 0 = λ q. ReceivesAt q e in
     let Q : Point → Type 0 = λ q. SendsAt q e in
@@ -277,10 +277,10 @@ nothing_arrives news p e between stands still none same quiet =
       bounds = between.bounds;
       fin_last = between.fin_last;
       told = refl;
-      again = between.again ∙ (λ i. (sym still i && p.rest == 1 && is_unacknowledged e.sending) || sym none i);
+      retransmission_due = between.retransmission_due ∙ (λ i. (sym still i && p.rest == 1 && is_unacknowledged e.sending) || sym none i);
       probe = between.probe ∙ sym (ap (λ v. v && p.rest == 1 && not (is_unacknowledged e.sending)) still);
       probes = no_probe e between.probe;
-      answer = ap answer_segments between.answer ∙ sym quiet;
+      reset_reply = ap reset_reply_segments between.reset_reply ∙ sym quiet;
       target = λ h. omega arith;
       una = omega arith;
     }
@@ -326,7 +326,7 @@ lost_is p e stands = λ i.
 
 tick_arrives : (p : Point) (e : Tcb) → IsBetweenTurns e → StandsAt p e → Arrived Ticks p e (after_tick e)
 unfolding after_tick timer_ticked waited taken_after early_after fin_after syn_acked_after acknowledged_after edge_after wl1_after wl2_after congestion_after
-    is_third_duplicate answer_out
+    is_third_duplicate reset_reply_out
 tick_arrives p e between stands =
     let t : Sending = e.sending in
     let runs_out : expires t ≡ timer.expires Ticks p = ap (λ n. n == 1) (sym stands.rest) in
@@ -344,10 +344,10 @@ tick_arrives p e between stands =
       fin_last = fin_last_kept t (ticked t) (tick_keeps (λ (q : Sending). q.fin_sent) t (λ c i r. refl))
           (tick_keeps (λ (q : Sending). q.closed) t (λ c i r. refl)) sent between.bounds.order (omega (arith, una)) (omega (arith, una, held)) between.fin_last;
       told = refl;
-      again = false_or e.again _ between.again ∙ ap (λ v. v && is_unacknowledged t) runs_out ∙ or_false _;
+      retransmission_due = false_or e.retransmission_due _ between.retransmission_due ∙ ap (λ v. v && is_unacknowledged t) runs_out ∙ or_false _;
       probe = false_or e.probe _ between.probe ∙ ap (λ v. v && not (is_unacknowledged t)) runs_out;
       probes = probed_by_tick e between.probe between.bounds between.shut;
-      answer = ap answer_segments between.answer;
+      reset_reply = ap reset_reply_segments between.reset_reply;
       target = λ h. omega (arith, tick_keeps target t (λ c i r. refl));
       una = omega (arith, una);
     }

@@ -18,7 +18,7 @@ use Rattle.tcp_endpoint.specs.Receiving.{Receiving, taken}
 use Rattle.tcp_endpoint.specs.Sending.{Sending, is_unacknowledged, target, send_edge, resent_length}
 use Rattle.tcp_endpoint.specs.Tcb.{Tcb}
 use Rattle.tcp_endpoint.specs.Arrival.{source, received, begun}
-use Rattle.tcp_endpoint.specs.Leaving.{or_bare, announced, with_turn_ended, with_fin_out, fin_at, text_at, answer_segments, answer_out, again_segment, opening_segment, again_out, probe_out, with_probe, text_out, with_text_sent, fin_out, full_out, is_owed, bare_segment, leaving, after_full, is_timed, flushed}
+use Rattle.tcp_endpoint.specs.Leaving.{or_bare, with_advertised, with_turn_ended, with_fin_out, fin_at, text_at, reset_reply_segments, reset_reply_out, retransmitted_segment, opening_segment, retransmission_out, probe_out, with_probe, text_out, with_text_sent, fin_out, full_out, is_ack_pending, bare_segment, leaving, after_full, is_timed, flushed}
 use Rattle.endpoint_laws.specs.Laws.{IsBounded, ProbesRightly}
 use Rattle.endpoint_laws.specs.Turn.{Call, MayUse, IsBetweenTurns, used, before_flush, turned}
 use Rattle.endpoint_laws.specs.Listening.{IsListening}
@@ -32,7 +32,7 @@ use Rattle.endpoint_laws.proofs.Calls.{FinIsLast, IsUsed, used_is, bounded_used}
 use Rattle.endpoint_laws.proofs.Arrivals.{no_probe}
 use Rattle.endpoint_laws.proofs.TurnEnd.{flushed_sends, full_keeps, full_name}
 use Rattle.endpoint_laws.proofs.Turns.{between_again, flushed_receives, flushed_remote, leads_law}
-use Rattle.endpoint_laws.proofs.SegmentsLaw.{Tells, opening_at, once_again, no_text_probe, no_fin_probe, probe_by, unprobed, no_text_out, no_fin_out, full_out_is}
+use Rattle.endpoint_laws.proofs.SegmentsLaw.{Tells, opening_at, one_retransmission, no_text_probe, no_fin_probe, probe_by, unprobed, no_text_out, no_fin_out, full_out_is}
 
 -- an endpoint that a SYN has just opened
 record Opened (local : Addr) (iss limit : ℕ) (syn : Segment) (m : Tcb) : Type 0 where
@@ -51,9 +51,9 @@ record Opened (local : Addr) (iss limit : ℕ) (syn : Segment) (m : Tcb) : Type 
   fin_sent : m.sending.fin_sent ≡ false
   interval : m.sending.interval ≡ 1
   rest : m.sending.rest ≡ 0
-  again : m.again ≡ true
+  retransmission_due : m.retransmission_due ≡ true
   probe : m.probe ≡ false
-  answer : m.answer ≡ None
+  reset_reply : m.reset_reply ≡ None
 
 -- LISTEN takes the SYN
 opened_by_syn : (e : Tcb) (iss limit : ℕ) (syn : Segment) → IsListening iss limit e → Opened e.local iss limit syn (begun e syn)
@@ -74,9 +74,9 @@ opened_by_syn e iss limit syn l = record {
   fin_sent = ap (λ (s : Sending). s.fin_sent) l.sending;
   interval = ap (λ (s : Sending). s.interval) l.sending;
   rest = ap (λ (s : Sending). s.rest) l.sending;
-  again = refl;
+  retransmission_due = refl;
   probe = l.probe;
-  answer = l.answer;
+  reset_reply = l.reset_reply;
 }
 
 pub none_more : (n : ℕ) → 0 + n ≡ n
@@ -121,25 +121,25 @@ sends_begun local iss limit cisn fetched syn m u o a = record {
 }
 
 -- the SYN-ACK is all that leaves
-only_the_first : (owed : Bool) (bare first : Segment) → or_bare owed bare (first ∷ []) ≡ first ∷ []
-only_the_first owed bare first = refl
+only_the_first : (ack_pending : Bool) (bare first : Segment) → or_bare ack_pending bare (first ∷ []) ≡ first ∷ []
+only_the_first ack_pending bare first = refl
 
 unsent_syn : (u : Tcb) → u.sending.syn_acked ≡ false → is_unacknowledged u.sending ≡ true
 unsent_syn u h = ap (λ o. not o || nat_lt u.sending.una u.sending.sent) h
 
-syn_ack_leaves : (p : Point) (u : Tcb) → Tells p u → has_begun u.name ≡ true → u.again ≡ true → u.probe ≡ false → u.answer ≡ None → u.sending.syn_acked ≡ false
+syn_ack_leaves : (p : Point) (u : Tcb) → Tells p u → has_begun u.name ≡ true → u.retransmission_due ≡ true → u.probe ≡ false → u.reset_reply ≡ None → u.sending.syn_acked ≡ false
     → u.sending.edge ≤ u.sending.sent → leaving u ≡ syn_ack u.local p ∷ []
-unfolding leaving full_out answer_out again_segment
-syn_ack_leaves p u t begun again probe answer syn_unacked shut =
+unfolding leaving full_out reset_reply_out retransmitted_segment
+syn_ack_leaves p u t begun retransmission_due probe reset_reply syn_unacked shut =
     let still : (with_probe u).sending.edge ≤ (with_probe u).sending.sent = subst (λ (v : Tcb). v.sending.edge ≤ v.sending.sent) (sym (unprobed u probe)) shut in
-    let first : again_segment u ≡ syn_ack u.local p =
+    let first : retransmitted_segment u ≡ syn_ack u.local p =
     ap (λ b. if not b then opening_segment u else (if length u.sending.held == 0 then fin_at u 0 else text_at u 0 (resent_length u.sending))) syn_unacked
     ∙ opening_at p u t begun in
-    ap (or_bare (is_owed (after_full u)) (bare_segment (after_full u)))
-    (full_out_is (answer_out u) (again_out u) (probe_out u) (text_out (with_probe u)) (fin_out (with_text_sent (with_probe u)))
+    ap (or_bare (is_ack_pending (after_full u)) (bare_segment (after_full u)))
+    (full_out_is (reset_reply_out u) (retransmission_out u) (probe_out u) (text_out (with_probe u)) (fin_out (with_text_sent (with_probe u)))
     [] (syn_ack u.local p ∷ []) [] []
-    (ap answer_segments answer)
-    ((λ i. once_again u begun again (unsent_syn u syn_unacked) i ++ probe_by u false false (no_text_probe u probe) (no_fin_probe u probe) i) ∙ ap (λ s. s ∷ []) first)
+    (ap reset_reply_segments reset_reply)
+    ((λ i. one_retransmission u begun retransmission_due (unsent_syn u syn_unacked) i ++ probe_by u false false (no_text_probe u probe) (no_fin_probe u probe) i) ∙ ap (λ s. s ∷ []) first)
     (no_text_out (with_probe u) still)
     (no_fin_out (with_probe u) still))
 
@@ -191,12 +191,12 @@ opened_turn local iss limit cisn fetched syn m u o a bounds whole number =
         interval = sym interval;
         rest = sym rest;
       },
-      syn_ack_leaves p u tells begun (a.again ∙ o.again) probe (a.answer ∙ o.answer) syn_acked (omega (arith, a.sends.edge, o.edge))
+      syn_ack_leaves p u tells begun (a.retransmission_due ∙ o.retransmission_due) probe (a.reset_reply ∙ o.reset_reply) syn_acked (omega (arith, a.sends.edge, o.edge))
           ∙ ap (λ l. syn_ack l p ∷ []) (a.local ∙ o.local_is),
     )
 
 flushed_name : (u : Tcb) → has_begun u.name ≡ true → has_begun (flushed u).name ≡ true
-unfolding flushed with_turn_ended announced after_full with_fin_out with_text_sent with_probe
+unfolding flushed with_turn_ended with_advertised after_full with_fin_out with_text_sent with_probe
 flushed_name u begun = begun
 
 limit_small : (limit fetched : ℕ) → limit + fetched ≡ 2 ^ 24 → limit ≤ 2 ^ 24

@@ -19,8 +19,8 @@ use Rattle.tcp_endpoint.specs.States.{has_begun}
 use Rattle.tcp_endpoint.specs.Receiving.{Receiving, taken, receive_edge, came, with_came, with_segment, read_out}
 use Rattle.tcp_endpoint.specs.Sending.{Sending, with_segment_size, with_syn_acked, acknowledged, moves_edge, send_edge, sendable, expires, is_lost, ticked, timed, with_sent, with_fin_sent, IsShort}
 use Rattle.tcp_endpoint.specs.Tcb.{Tcb, listening, connecting}
-use Rattle.tcp_endpoint.specs.Arrival.{first, ack_at, received, received_in, in_listen, begun, refusing, answered, in_syn_sent}
-use Rattle.tcp_endpoint.specs.Leaving.{probes_text, probes_fin, with_probe, with_text_sent, new_fin, with_fin_out, after_full, announced, is_timed, with_turn_ended, flushed}
+use Rattle.tcp_endpoint.specs.Arrival.{first, ack_at, received, received_in, in_listen, begun, with_reset_reply, answered, in_syn_sent}
+use Rattle.tcp_endpoint.specs.Leaving.{probes_text, probes_fin, with_probe, with_text_sent, new_fin, with_fin_out, after_full, with_advertised, is_timed, with_turn_ended, flushed}
 use Rattle.tcp_endpoint.specs.Turning.{after_tick, timer_ticked, waited, after_read, after_write}
 use Rattle.endpoint_laws.specs.Laws.{counts, acknowledges, is_duplicate, congestion_by, taken_by, Bounds, IsBounded, IsUsual}
 use Rattle.endpoint_laws.proofs.TakenLaw.{taken_law}
@@ -87,7 +87,7 @@ bounded_if true x y on off = on
 bounded_if false x y on off = off
 
 in_listen_bounded : (e : Tcb) (p : Segment) → e.sending.syn_acked ≡ false → IsBounded e → IsBounded (in_listen e p)
-unfolding in_listen begun refusing
+unfolding in_listen begun with_reset_reply
 in_listen_bounded e p syn_unacked b =
     let begins : IsBounded (begun e p) = syn_unacked_irs e.receiving e.sending _ _ (some_size p.head.mss) syn_unacked b in
     bounded_if (has_rst p) _ _ b (bounded_if (has_ack p) _ _ b (bounded_if (has_syn p) _ _ begins b))
@@ -454,7 +454,7 @@ timed_bounds r s runs b =
     bounds_if r runs _ _ (λ h. bounds_if r (s.rest == 0) _ _ (λ k. timer_bounds r s _ _ _ b b.congestion) (λ k. b)) (λ h. timer_bounds r s _ _ _ b b.congestion)
 
 pub bounded_by_flush : (e : Tcb) → IsBounded e → IsBounded (flushed e)
-unfolding flushed with_turn_ended announced after_full
+unfolding flushed with_turn_ended with_advertised after_full
 bounded_by_flush e b =
     let after : Tcb = with_fin_out (with_text_sent (with_probe e)) in
     let bounds : IsBounded after = fin_bounds _ (text_bounds _ (probe_bounds e b)) in
@@ -492,7 +492,7 @@ answered_bounds r s seq window mss b some fits small syn_unacked =
     }
 
 in_syn_sent_bounded : (e : Tcb) (p : Segment) → e.sending.syn_acked ≡ false → IsBounded e → p.head.seq < 2 ^ 32 → p.head.window ≤ 65535 → IsBounded (in_syn_sent e p)
-unfolding in_syn_sent answered refusing
+unfolding in_syn_sent answered with_reset_reply
 in_syn_sent_bounded e p syn_unacked b fits small =
     let yes : IsBounded (answered e p) = answered_bounds e.receiving e.sending p.head.seq p.head.window _ b (some_size p.head.mss) fits small syn_unacked in
     bounded_if (has_ack p) _ _

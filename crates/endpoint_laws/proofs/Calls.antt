@@ -9,7 +9,7 @@ use Rattle.tcp_endpoint.specs.States.{after_close, has_begun}
 use Rattle.tcp_endpoint.specs.Receiving.{taken}
 use Rattle.tcp_endpoint.specs.Sending.{Sending, target, must_run}
 use Rattle.tcp_endpoint.specs.Tcb.{Tcb}
-use Rattle.endpoint_laws.specs.Laws.{IsBounded, ProbesRightly, IsShut, told}
+use Rattle.endpoint_laws.specs.Laws.{IsBounded, ProbesRightly, IsShut, last_advertised}
 use Rattle.endpoint_laws.specs.Turn.{Call, called, used, MayCall, MayUse}
 use Rattle.endpoint_laws.specs.Turn.Call.{Reads, Writes, Closes}
 use Rattle.endpoint_laws.proofs.Bounding.{bounded_by_read, bounded_by_more}
@@ -47,11 +47,11 @@ pub record IsUsed (m u : Tcb) : Type 0 where
   pub early : u.receiving.early ≡ m.receiving.early
   pub unread : (all : List ℕ) (fetched : ℕ) → drop (m.receiving.read + fetched) all ≡ m.receiving.unread → drop (u.receiving.read + fetched) all ≡ u.receiving.unread
   pub sends : SendsAs m.sending u.sending
-  pub told : told u ≡ told m
-  pub owed : u.owed ≡ m.owed
-  pub again : u.again ≡ m.again
+  pub told : last_advertised u ≡ last_advertised m
+  pub ack_pending : u.ack_pending ≡ m.ack_pending
+  pub retransmission_due : u.retransmission_due ≡ m.retransmission_due
   pub probe : u.probe ≡ m.probe
-  pub answer : u.answer ≡ m.answer
+  pub reset_reply : u.reset_reply ≡ m.reset_reply
   pub begun : has_begun m.name ≡ true → has_begun u.name ≡ true
 
 sends_same : (s : Sending) → SendsAs s s
@@ -145,10 +145,10 @@ used_same m = record {
   unread = λ all fetched h. h;
   sends = sends_same m.sending;
   told = refl;
-  owed = refl;
-  again = refl;
+  ack_pending = refl;
+  retransmission_due = refl;
   probe = refl;
-  answer = refl;
+  reset_reply = refl;
   begun = λ h. h;
 }
 
@@ -164,10 +164,10 @@ used_on m n u a b = record {
   unread = λ all fetched h. b.unread all fetched (a.unread all fetched h);
   sends = sends_on m.sending n.sending u.sending a.sends b.sends;
   told = b.told ∙ a.told;
-  owed = b.owed ∙ a.owed;
-  again = b.again ∙ a.again;
+  ack_pending = b.ack_pending ∙ a.ack_pending;
+  retransmission_due = b.retransmission_due ∙ a.retransmission_due;
   probe = b.probe ∙ a.probe;
-  answer = b.answer ∙ a.answer;
+  reset_reply = b.reset_reply ∙ a.reset_reply;
   begun = λ h. b.begun (a.begun h);
 }
 
@@ -195,10 +195,10 @@ used_call (Reads n) m may = record {
   unread = λ all fetched h. read_on n m.receiving.read fetched all m.receiving.unread h;
   sends = sends_same m.sending;
   told = refl;
-  owed = refl;
-  again = refl;
+  ack_pending = refl;
+  retransmission_due = refl;
   probe = refl;
-  answer = refl;
+  reset_reply = refl;
   begun = λ h. h;
 }
 used_call (Writes bytes) m may = record {
@@ -213,10 +213,10 @@ used_call (Writes bytes) m may = record {
   sends = sends_written m.sending (m.sending.held ++ bytes) m.sending.closed (omega (arith, length-append m.sending.held bytes)) (λ h. h)
       (λ h. none_behind m.sending.closed m.reset (length m.sending.held) (length bytes) h may.0 (length-append m.sending.held bytes));
   told = refl;
-  owed = refl;
-  again = refl;
+  ack_pending = refl;
+  retransmission_due = refl;
   probe = refl;
-  answer = refl;
+  reset_reply = refl;
   begun = λ h. h;
 }
 used_call Closes m may = record {
@@ -230,10 +230,10 @@ used_call Closes m may = record {
   unread = λ all fetched h. h;
   sends = sends_written m.sending m.sending.held true (omega arith) (λ h. refl) (λ h. refl);
   told = refl;
-  owed = refl;
-  again = refl;
+  ack_pending = refl;
+  retransmission_due = refl;
   probe = refl;
-  answer = refl;
+  reset_reply = refl;
   begun = begun_closing m.name;
 }
 

@@ -18,14 +18,14 @@ use Rattle.tcp_endpoint.specs.States.{after_close, is_closed, is_time_wait, has_
 use Rattle.tcp_endpoint.specs.Receiving.{Receiving, receiving_up_to, read_out}
 use Rattle.tcp_endpoint.specs.Sending.{Sending, sending_from, bytes_end, congestion_expired, expires, ticked, timed}
 use Rattle.tcp_endpoint.specs.Tcb.{Tcb, kept_limit, listening, connecting}
-use Rattle.tcp_endpoint.specs.Arrival.{ack_at, received, received_in, in_syn_sent, answered, refusing, killed}
-use Rattle.tcp_endpoint.specs.Leaving.{head_at, opening_segment, again_segment, answer_out, again_out, probe_out, text_out, texts, fin_out, full_out, is_owed, leaving, announced, with_turn_ended, with_fin_out, with_probe, with_text_sent, after_full, is_timed, flushed}
+use Rattle.tcp_endpoint.specs.Arrival.{ack_at, received, received_in, in_syn_sent, answered, with_reset_reply, with_reset}
+use Rattle.tcp_endpoint.specs.Leaving.{head_at, opening_segment, retransmitted_segment, reset_reply_out, retransmission_out, probe_out, text_out, texts, fin_out, full_out, is_ack_pending, leaving, with_advertised, with_turn_ended, with_fin_out, with_probe, with_text_sent, after_full, is_timed, flushed}
 use Rattle.tcp_endpoint.specs.Turning.{after_tick, timer_ticked, waited}
 use Rattle.endpoint_laws.specs.Laws.{Bounds, IsBounded, asks}
 use Rattle.endpoint_laws.specs.Turn.{Call, MayCall, MayUse, IsBetweenTurns, arrived, called, used, before_flush, turned, sent_in}
 use Rattle.endpoint_laws.specs.Turn.Call.{Reads, Writes, Closes}
 use Rattle.endpoint_laws.specs.Ending.{IsNamedRightly}
-use Rattle.endpoint_laws.specs.Announcing.{Announces, is_told, ReadsOnlyTaken}
+use Rattle.endpoint_laws.specs.Announcing.{Advertises, is_told, ReadsOnlyTaken}
 use Rattle.endpoint_laws.specs.Connecting.{IsConnecting, FieldsFit}
 use Rattle.endpoint_laws.proofs.Bounding.{bounded_in_syn_sent}
 use Rattle.endpoint_laws.proofs.Calls.{FinIsLast, IsUsed, used_is, bounded_used}
@@ -34,7 +34,7 @@ use Rattle.endpoint_laws.proofs.TurnLaw.{flushed_timer}
 use Rattle.endpoint_laws.proofs.Turns.{between_again}
 use Rattle.endpoint_laws.proofs.Listening.{read_none}
 use Rattle.endpoint_laws.proofs.EndingLaw.{FollowsAt, used_keeps, used_follows, flush_follows, named_at, flushed_name}
-use Rattle.endpoint_laws.proofs.Announced.{answer_used, announces_law, unanswered_tells}
+use Rattle.endpoint_laws.proofs.Announced.{reset_reply_used, advertises_law, unanswered_tells}
 use Rattle.ft_io.proofs.Choices.{holds_if}
 use Rattle.ft_io.proofs.Booleans.{and_false}
 
@@ -121,8 +121,8 @@ connects_ticked local remote iss limit e c = record {
 
 -- a segment that leaves SYN-SENT
 connects_refusing : (local remote : Addr) (iss limit : ℕ) (e : Tcb) (p : Segment) → Connects local remote iss limit e
-    → Connects local remote iss limit (refusing e p)
-unfolding refusing
+    → Connects local remote iss limit (with_reset_reply e p)
+unfolding with_reset_reply
 connects_refusing local remote iss limit e p c =
     record { local_is = c.local_is; remote_is = c.remote_is; name = c.name; receiving = c.receiving; sending = c.sending; probe = c.probe }
 
@@ -136,8 +136,8 @@ pub answered_name : (e : Tcb) (p : Segment) → (answered e p).name ≡ Establis
 unfolding answered
 answered_name e p = refl
 
-pub refusing_name : (e : Tcb) (p : Segment) → (refusing e p).name ≡ e.name
-unfolding refusing
+pub refusing_name : (e : Tcb) (p : Segment) → (with_reset_reply e p).name ≡ e.name
+unfolding with_reset_reply
 refusing_name e p = refl
 
 connects_in : (local remote : Addr) (iss limit : ℕ) (e : Tcb) (p : Segment) → Connects local remote iss limit e → (in_syn_sent e p).name ≡ SynSent
@@ -145,15 +145,15 @@ connects_in : (local remote : Addr) (iss limit : ℕ) (e : Tcb) (p : Segment) �
 unfolding in_syn_sent
 connects_in local remote iss limit e p c =
     let P : Tcb → Type 0 = λ t. t.name ≡ SynSent → Connects local remote iss limit t in
-    let taken : Tcb = if has_rst p then killed e else (if has_syn p then answered e p else e) in
-    let refused : Tcb = if has_rst p then e else refusing e p in
+    let taken : Tcb = if has_rst p then with_reset e else (if has_syn p then answered e p else e) in
+    let refused : Tcb = if has_rst p then e else with_reset_reply e p in
     holds_if P (has_ack p) (if int_eq (ack_at e p) (pos 0) then taken else refused) e
     (λ a. holds_if P (int_eq (ack_at e p) (pos 0)) taken refused
-    (λ b. holds_if P (has_rst p) (killed e) (if has_syn p then answered e p else e)
-    (λ r h. absurd (closed_name (killed e).name refl h))
+    (λ b. holds_if P (has_rst p) (with_reset e) (if has_syn p then answered e p else e)
+    (λ r h. absurd (closed_name (with_reset e).name refl h))
     (λ r. holds_if P (has_syn p) (answered e p) e
     (λ s h. absurd (begun_name (answered e p).name (ap has_begun (answered_name e p)) h)) (λ s h. c)))
-    (λ b. holds_if P (has_rst p) e (refusing e p) (λ r h. c) (λ r h. connects_refusing local remote iss limit e p c)))
+    (λ b. holds_if P (has_rst p) e (with_reset_reply e p) (λ r h. c) (λ r h. connects_refusing local remote iss limit e p c)))
     (λ a h. c)
 
 pub received_by : (e : Tcb) (p : Segment) → e.name ≡ SynSent → received e p ≡ in_syn_sent e p
@@ -264,7 +264,7 @@ still_connecting local remote iss limit u c = λ i.
     record u { name = c.name i; receiving = c.receiving i; sending = c.sending.same i; probe = c.probe i }
 
 connects_flushed : (local remote : Addr) (iss limit : ℕ) (u : Tcb) → Connects local remote iss limit u → Flushed local remote iss limit (flushed u)
-unfolding flushed with_turn_ended announced after_full with_fin_out with_text_sent with_probe
+unfolding flushed with_turn_ended with_advertised after_full with_fin_out with_text_sent with_probe
 connects_flushed local remote iss limit u c =
     let s : Sending = record (sending_from iss) { held = u.sending.held; interval = u.sending.interval; rest = u.sending.rest } in
     let P : Tcb → Type 0 = λ t. IsConnecting iss limit (flushed t) in
@@ -276,10 +276,10 @@ connects_flushed local remote iss limit u c =
         written = unanswered.written;
         interval = unanswered.interval;
         runs = runs_timed s;
-        owed = refl;
-        again = refl;
+        ack_pending = refl;
+        retransmission_due = refl;
         probe = refl;
-        answer = refl;
+        reset_reply = refl;
       }),
       c.local_is,
       c.remote_is,
@@ -294,10 +294,10 @@ connecting_law iss limit news calls e c may still =
     (connects_arrived iss limit news e c (sent_before calls (arrived news e) still)))
 
 -- an active open sends its SYN
-pub syn_leaves : (local remote : Addr) (iss limit : ℕ) (u : Tcb) → Connects local remote iss limit u → u.again ≡ true → u.answer ≡ None
+pub syn_leaves : (local remote : Addr) (iss limit : ℕ) (u : Tcb) → Connects local remote iss limit u → u.retransmission_due ≡ true → u.reset_reply ≡ None
     → leaving u ≡ opening_segment (connecting local remote iss limit) ∷ []
-unfolding leaving full_out answer_out again_out again_segment probe_out with_probe text_out texts with_text_sent fin_out is_owed after_full with_fin_out opening_segment head_at connecting listening
-syn_leaves local remote iss limit u c again answer =
+unfolding leaving full_out reset_reply_out retransmission_out retransmitted_segment probe_out with_probe text_out texts with_text_sent fin_out is_ack_pending after_full with_fin_out opening_segment head_at connecting listening
+syn_leaves local remote iss limit u c retransmission_due reset_reply =
     let s : Sending = record (sending_from iss) { held = u.sending.held; interval = u.sending.interval; rest = u.sending.rest } in
     let alone : leaving (record u {
       local = local;
@@ -305,9 +305,9 @@ syn_leaves local remote iss limit u c again answer =
       name = SynSent;
       receiving = receiving_up_to (kept_limit limit);
       sending = s;
-      again = true;
+      retransmission_due = true;
       probe = false;
-      answer = None;
+      reset_reply = None;
     }) ≡ opening_segment (connecting local remote iss limit) ∷ [] = refl in
     (λ i. leaving (record u {
       local = c.local_is i;
@@ -315,15 +315,15 @@ syn_leaves local remote iss limit u c again answer =
       name = c.name i;
       receiving = c.receiving i;
       sending = c.sending.same i;
-      again = again i;
+      retransmission_due = retransmission_due i;
       probe = c.probe i;
-      answer = answer i;
+      reset_reply = reset_reply i;
     })) ∙ alone
 
-again_at_connect : (local remote : Addr) (iss limit : ℕ)
-    → ((connecting local remote iss limit).again ≡ true) × ((connecting local remote iss limit).answer ≡ None)
+retransmission_at_connect : (local remote : Addr) (iss limit : ℕ)
+    → ((connecting local remote iss limit).retransmission_due ≡ true) × ((connecting local remote iss limit).reset_reply ≡ None)
 unfolding connecting listening
-again_at_connect local remote iss limit = (refl, refl)
+retransmission_at_connect local remote iss limit = (refl, refl)
 
 pub connect_law : (local remote : Addr) (iss limit : ℕ) (calls : List Call) → MayUse calls (connecting local remote iss limit)
     → (used calls (connecting local remote iss limit)).name ≡ SynSent
@@ -334,9 +334,9 @@ connect_law local remote iss limit calls may still =
     let u : Tcb = used calls m in
     let c : Connects local remote iss limit u = connects_used local remote iss limit calls m may still (connects_at_connect local remote iss limit) in
     let a : IsUsed m u = used_is calls m may in
-    let due = again_at_connect local remote iss limit in (
+    let due = retransmission_at_connect local remote iss limit in (
       (connects_flushed local remote iss limit u c).0,
-      syn_leaves local remote iss limit u c (a.again ∙ due.0) (a.answer ∙ due.1),
+      syn_leaves local remote iss limit u c (a.retransmission_due ∙ due.0) (a.reset_reply ∙ due.1),
     )
 
 -- an endpoint that connects is within the bounds
@@ -372,9 +372,9 @@ record Answered (m : Tcb) : Type 0 where
   fin_sent : m.sending.fin_sent ≡ false
   interval : m.sending.interval ≡ 1
   rest : m.sending.rest ≡ 0
-  owed : m.owed ≡ true
+  ack_pending : m.ack_pending ≡ true
   probe : m.probe ≡ false
-  answer : m.answer ≡ None
+  reset_reply : m.reset_reply ≡ None
 
 by_answer : (iss limit : ℕ) (e : Tcb) (p : Segment) → IsConnecting iss limit e → Answered (answered e p)
 unfolding answered
@@ -387,25 +387,25 @@ by_answer iss limit e p c =
       fin_sent = unsent;
       interval = refl;
       rest = refl;
-      owed = refl;
+      ack_pending = refl;
       probe = c.probe;
-      answer = c.answer;
+      reset_reply = c.reset_reply;
     }
 
 answered_in : (iss limit : ℕ) (e : Tcb) (p : Segment) → IsConnecting iss limit e → has_begun (in_syn_sent e p).name ≡ true → Answered (in_syn_sent e p)
 unfolding in_syn_sent
 answered_in iss limit e p c =
     let P : Tcb → Type 0 = λ t. has_begun t.name ≡ true → Answered t in
-    let taken : Tcb = if has_rst p then killed e else (if has_syn p then answered e p else e) in
-    let refused : Tcb = if has_rst p then e else refusing e p in
+    let taken : Tcb = if has_rst p then with_reset e else (if has_syn p then answered e p else e) in
+    let refused : Tcb = if has_rst p then e else with_reset_reply e p in
     let waits : P e = λ h. absurd (begun_name e.name h c.name) in
     holds_if P (has_ack p) (if int_eq (ack_at e p) (pos 0) then taken else refused) e
     (λ a. holds_if P (int_eq (ack_at e p) (pos 0)) taken refused
-    (λ b. holds_if P (has_rst p) (killed e) (if has_syn p then answered e p else e)
+    (λ b. holds_if P (has_rst p) (with_reset e) (if has_syn p then answered e p else e)
     (λ r h. absurd (false≢true h))
     (λ r. holds_if P (has_syn p) (answered e p) e (λ s h. by_answer iss limit e p c) (λ s. waits)))
-    (λ b. holds_if P (has_rst p) e (refusing e p) (λ r. waits)
-    (λ r h. absurd (begun_name (refusing e p).name h (refusing_name e p ∙ c.name)))))
+    (λ b. holds_if P (has_rst p) e (with_reset_reply e p) (λ r. waits)
+    (λ r h. absurd (begun_name (with_reset_reply e p).name h (refusing_name e p ∙ c.name)))))
     (λ a. waits)
 
 answered_by : (iss limit : ℕ) (news : News) (e : Tcb) → IsConnecting iss limit e → has_begun (arrived news e).name ≡ true → Answered (arrived news e)
@@ -451,20 +451,20 @@ answers_law iss limit news calls e c small fit may begun =
     )
 
 -- and a segment leaves that tells what is taken, and no RST does
-call_owes : (call : Call) (t : Tcb) → (called call t).owed ≡ t.owed
-call_owes (Reads n) t = refl
-call_owes (Writes bytes) t = refl
-call_owes Closes t = refl
+call_ack_pending : (call : Call) (t : Tcb) → (called call t).ack_pending ≡ t.ack_pending
+call_ack_pending (Reads n) t = refl
+call_ack_pending (Writes bytes) t = refl
+call_ack_pending Closes t = refl
 
-owed_asks : (u : Tcb) → u.owed ≡ true → asks u.owed u ≡ true
-owed_asks u owed = ap (λ o. asks o u) owed
+pending_asks : (u : Tcb) → u.ack_pending ≡ true → asks u.ack_pending u ≡ true
+pending_asks u ack_pending = ap (λ o. asks o u) ack_pending
 
-pub answers_announce_law : (iss limit : ℕ) (news : News) (calls : List Call) (e : Tcb) → IsConnecting iss limit e → ReadsOnlyTaken calls (arrived news e)
+pub answers_advertise_law : (iss limit : ℕ) (news : News) (calls : List Call) (e : Tcb) → IsConnecting iss limit e → ReadsOnlyTaken calls (arrived news e)
     → has_begun (before_flush news calls e).name ≡ true
-    → AllByRecursion (Announces (before_flush news calls e)) (sent_in news calls e) × (is_told (sent_in news calls e) ≡ true)
-answers_announce_law iss limit news calls e c may begun =
+    → AllByRecursion (Advertises (before_flush news calls e)) (sent_in news calls e) × (is_told (sent_in news calls e) ≡ true)
+answers_advertise_law iss limit news calls e c may begun =
     let m : Tcb = arrived news e in
     let u : Tcb = used calls m in
     let h : Answered m = answered_by iss limit news e c (begun_before calls m begun) in
-    let owed : u.owed ≡ true = used_keeps (λ (t : Tcb). t.owed) call_owes calls m ∙ h.owed in
-    (announces_law news calls e c.answer may begun, unanswered_tells u begun (answer_used calls m ∙ h.answer) (owed_asks u owed))
+    let ack_pending : u.ack_pending ≡ true = used_keeps (λ (t : Tcb). t.ack_pending) call_ack_pending calls m ∙ h.ack_pending in
+    (advertises_law news calls e c.reset_reply may begun, unanswered_tells u begun (reset_reply_used calls m ∙ h.reset_reply) (pending_asks u ack_pending))

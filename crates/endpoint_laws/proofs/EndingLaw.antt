@@ -17,9 +17,9 @@ use Rattle.tcp_endpoint.specs.States.{after_syn_acked, after_close, after_fin, a
 use Rattle.tcp_endpoint.specs.Receiving.{Receiving, next, taken, receive_edge, window, with_came, with_segment}
 use Rattle.tcp_endpoint.specs.Sending.{Sending, with_syn_acked, acknowledged, fin_acked, congestion_expired, send_edge, sendable, sends_fin, timed, expires, with_sent, with_fin_sent}
 use Rattle.tcp_endpoint.specs.Tcb.{Tcb}
-use Rattle.tcp_endpoint.specs.Arrival.{first, ack_at, owing_if, killed, entering, refusing, begun, with_text_and_fin, with_fin_acked, with_first_ack, with_ack_used, with_ack, check_ack, check_syn, check_rst, waiting_again, check_place, in_others, received}
+use Rattle.tcp_endpoint.specs.Arrival.{first, ack_at, with_ack_pending_if, with_reset, entering, with_reset_reply, begun, with_text_and_fin, with_fin_acked, with_first_ack, with_ack_used, with_ack, check_ack, check_syn, check_rst, with_time_wait_restarted, check_sequence, in_others, received}
 use Rattle.tcp_endpoint.specs.Arrival as check
-use Rattle.tcp_endpoint.specs.Leaving.{probes_text, probes_fin, with_probe, with_text_sent, with_fin_out, after_full, announced, with_turn_ended, flushed, answer_segments}
+use Rattle.tcp_endpoint.specs.Leaving.{probes_text, probes_fin, with_probe, with_text_sent, with_fin_out, after_full, with_advertised, with_turn_ended, flushed, reset_reply_segments}
 use Rattle.tcp_endpoint.specs.Turning.{after_tick, timer_ticked, waited}
 use Rattle.endpoint_laws.specs.Turn.{Call, called, used, IsBetweenTurns, arrived, before_flush, turned, sent_in}
 use Rattle.endpoint_laws.specs.Turn.Call.{Reads, Writes, Closes}
@@ -213,11 +213,11 @@ stays_acked : (f : Bool) (una sent : ℕ) (ack : ℤ) → (f && una == sent) ≡
 stays_acked true una sent ack h = grind (arith, ints)
 stays_acked false una sent ack h = absurd (false≢true h)
 
-acked_follows : (e : Tcb) (p : Segment) (c : Congestion) (again : Bool) → FollowsAt e → FollowsAt (with_fin_acked (used_with e p c again))
+acked_follows : (e : Tcb) (p : Segment) (c : Congestion) (retransmission_due : Bool) → FollowsAt e → FollowsAt (with_fin_acked (used_with e p c retransmission_due))
 unfolding with_fin_acked acknowledged
-acked_follows e p c again h =
+acked_follows e p c retransmission_due h =
     let s : Sending = e.sending in
-    let m : Tcb = used_with e p c again in
+    let m : Tcb = used_with e p c retransmission_due in
     let order : m.sending.una ≤ s.sent = new_within s.una s.sent (ack_at e p) h.order in
     let stays : fin_acked s ≡ true → fin_acked m.sending ≡ true = stays_acked s.fin_sent s.una s.sent (ack_at e p) in
     holds_if (λ (t : Tcb). FollowsAt t) (fin_acked m.sending) (entering (after_fin_acked e.name) m) m
@@ -234,31 +234,31 @@ acked_follows e p c again h =
       unsent = h.unsent;
     })
 
-acked_syn_acked : (e : Tcb) (p : Segment) (c : Congestion) (again : Bool) → (with_fin_acked (used_with e p c again)).sending.syn_acked ≡ e.sending.syn_acked
+acked_syn_acked : (e : Tcb) (p : Segment) (c : Congestion) (retransmission_due : Bool) → (with_fin_acked (used_with e p c retransmission_due)).sending.syn_acked ≡ e.sending.syn_acked
 unfolding with_fin_acked acknowledged
-acked_syn_acked e p c again =
-    let m : Tcb = used_with e p c again in
+acked_syn_acked e p c retransmission_due =
+    let m : Tcb = used_with e p c retransmission_due in
     holds_if (λ (t : Tcb). t.sending.syn_acked ≡ e.sending.syn_acked) (fin_acked m.sending) (entering (after_fin_acked e.name) m) m (λ h. refl) (λ h. refl)
 
 later_follows : (e : Tcb) (p : Segment) → e.sending.syn_acked ≡ true → FollowsAt e → FollowsAt (with_ack e p)
 unfolding with_ack
 later_follows e p is h =
     let m : Tcb = with_fin_acked (with_ack_used e p) in
-    let used : m ≡ with_fin_acked (used_with e p (answered_at e p).congestion (with_ack_used e p).again) = ap with_fin_acked (used_is e p) in
-    holds_if (λ (t : Tcb). FollowsAt t) (is_ahead e.sending.sent (ack_at e p)) (owing_if true e) (with_text_and_fin m p)
+    let used : m ≡ with_fin_acked (used_with e p (answered_at e p).congestion (with_ack_used e p).retransmission_due) = ap with_fin_acked (used_is e p) in
+    holds_if (λ (t : Tcb). FollowsAt t) (is_ahead e.sending.sent (ack_at e p)) (with_ack_pending_if true e) (with_text_and_fin m p)
     (λ ahead. h)
     (λ near. text_follows m p (ap (λ (t : Tcb). t.sending.syn_acked) used ∙ acked_syn_acked e p _ _ ∙ is)
     (subst (λ (t : Tcb). FollowsAt t) (sym used) (acked_follows e p _ _ h)))
 
 -- the acknowledgement of the SYN
 first_follows : (e : Tcb) (p : Segment) → e.sending.syn_acked ≡ false → FollowsAt e → FollowsAt (with_first_ack e p)
-unfolding with_first_ack refusing
+unfolding with_first_ack with_reset_reply
 first_follows e p none h =
     let s : Sending = e.sending in
     let m : Tcb = record e { name = after_syn_acked s.closed; sending = with_syn_acked s p.head.seq p.head.window } in
     let fin : e.receiving.fin ≡ false = placed_syn_unacked e.name s.syn_acked s.closed e.receiving.fin (fin_acked s) none h.placed in
     let unsent : s.fin_sent ≡ false = h.unsent none in
-    holds_if (λ (t : Tcb). FollowsAt t) (int_eq (ack_at e p) (pos 0)) (with_text_and_fin m p) (refusing e p)
+    holds_if (λ (t : Tcb). FollowsAt t) (int_eq (ack_at e p) (pos 0)) (with_text_and_fin m p) (with_reset_reply e p)
     (λ is. text_follows m p refl (record {
       placed = placed_syn_acked s.closed e.receiving.fin (s.fin_sent && 0 == 0) fin (ap (λ b. b && 0 == 0) unsent);
       ends = h.ends;
@@ -278,23 +278,23 @@ ack_follows e p h =
 syn_follows : (e : Tcb) (p : Segment) → FollowsAt e → FollowsAt (check_syn e p)
 unfolding check_syn
 syn_follows e p h =
-    let m : Tcb = owing_if (nat_lt 0 (length_of p)) e in
-    holds_if (λ (t : Tcb). FollowsAt t) (has_syn p) (owing_if true e) (check_ack m p) (λ is. h) (λ none. ack_follows m p h)
+    let m : Tcb = with_ack_pending_if (nat_lt 0 (length_of p)) e in
+    holds_if (λ (t : Tcb). FollowsAt t) (has_syn p) (with_ack_pending_if true e) (check_ack m p) (λ is. h) (λ none. ack_follows m p h)
 
 rst_follows : (e : Tcb) (p : Segment) → (has_rst p && int_eq (first e p) (pos (next e.receiving))) ≡ false → FollowsAt e → FollowsAt (check_rst e p)
 unfolding check_rst
 rst_follows e p unreset h =
     let at : Bool = int_eq (first e p) (pos (next e.receiving)) in
-    holds_if (λ (t : Tcb). FollowsAt t) (has_rst p) (if at then killed e else owing_if true e) (check_syn e p)
-    (λ is. holds_if (λ (t : Tcb). FollowsAt t) at (killed e) (owing_if true e)
+    holds_if (λ (t : Tcb). FollowsAt t) (has_rst p) (if at then with_reset e else with_ack_pending_if true e) (check_syn e p)
+    (λ is. holds_if (λ (t : Tcb). FollowsAt t) at (with_reset e) (with_ack_pending_if true e)
     (λ k. absurd (false≢true (sym unreset ∙ (λ i. is i && k i)))) (λ k. h))
     (λ none. syn_follows e p h)
 
 others_follow : (e : Tcb) (p : Segment) → (has_rst p && int_eq (first e p) (pos (next e.receiving))) ≡ false → FollowsAt e → FollowsAt (in_others e p)
-unfolding in_others check_place waiting_again
+unfolding in_others check_sequence with_time_wait_restarted
 others_follow e p unreset h =
-    let m : Tcb = waiting_again e p in
-    holds_if (λ (t : Tcb). FollowsAt t) (goes_on m p) (check_rst m p) (owing_if (not (has_rst p)) m)
+    let m : Tcb = with_time_wait_restarted e p in
+    holds_if (λ (t : Tcb). FollowsAt t) (goes_on m p) (check_rst m p) (with_ack_pending_if (not (has_rst p)) m)
     (λ is. rst_follows m p unreset h) (λ none. h)
 
 pub received_follows : (e : Tcb) (p : Segment) → has_begun e.name ≡ true → (has_rst p && int_eq (first e p) (pos (next e.receiving))) ≡ false → FollowsAt e
@@ -407,7 +407,7 @@ timed_follows name fin true s h =
 timed_follows name fin false s h = record { placed = h.placed; ends = h.ends; order = h.order; unsent = h.unsent }
 
 pub flush_follows : (u : Tcb) → FollowsAt u → FollowsAt (flushed u)
-unfolding flushed with_turn_ended announced after_full with_fin_out with_text_sent with_probe
+unfolding flushed with_turn_ended with_advertised after_full with_fin_out with_text_sent with_probe
 flush_follows u h =
     let s : Sending = u.sending in
     let b : Bool = has_begun u.name in
@@ -442,22 +442,22 @@ between_follows e begun between named =
 pub acceptable_at : (n w : ℕ) (z : ℤ) → int_eq z (pos n) ≡ true → is_acceptable n w z 0 ≡ true
 acceptable_at n w z h = grind (arith, ints)
 
-reset_is : (e : Tcb) (p : Segment) → has_rst p ≡ true → int_eq (first e p) (pos (next e.receiving)) ≡ true → in_others e p ≡ killed (waiting_again e p)
-unfolding in_others check_place check_rst waiting_again check.accepts
+reset_is : (e : Tcb) (p : Segment) → has_rst p ≡ true → int_eq (first e p) (pos (next e.receiving)) ≡ true → in_others e p ≡ with_reset (with_time_wait_restarted e p)
+unfolding in_others check_sequence check_rst with_time_wait_restarted check.accepts
 reset_is e p is at =
-    let m : Tcb = waiting_again e p in
+    let m : Tcb = with_time_wait_restarted e p in
     let len : length_of p ≡ 0 = ap (λ b. if b then 0 else (if has_syn p then 1 else length p.payload + one_if (has_fin p))) is in
     let acceptable : is_acceptable (next e.receiving) (window e.receiving) (first e p) (length_of p) ≡ true =
     ap (is_acceptable (next e.receiving) (window e.receiving) (first e p)) len ∙ acceptable_at (next e.receiving) (window e.receiving) (first e p) at in
     let at_edge : Bool = is_at_right_edge (next e.receiving) (window e.receiving) (first e p) (length_of p) in
-    (λ i. if (acceptable i || at_edge) || check.is_allowed m p then (if is i then (if at i then killed m else owing_if true m) else check_syn m p) else owing_if (not (has_rst p)) m)
+    (λ i. if (acceptable i || at_edge) || check.is_allowed m p then (if is i then (if at i then with_reset m else with_ack_pending_if true m) else check_syn m p) else with_ack_pending_if (not (has_rst p)) m)
 
 arrived_reset : (news : News) (e : Tcb) → has_begun e.name ≡ true → resets news e ≡ true
-    → (ticks : ℕ) × (arrived news e ≡ killed (record e { wait = ticks }))
-unfolding received waiting_again
+    → (ticks : ℕ) × (arrived news e ≡ with_reset (record e { wait = ticks }))
+unfolding received with_time_wait_restarted
 arrived_reset (Comes p) e begun h =
     let at : Bool = int_eq (first e p) (pos (next e.receiving)) in
-    ((waiting_again e p).wait, begun_is e.name e p begun ∙ reset_is e p (left_true (has_rst p) at h) (right_true (has_rst p) at h))
+    ((with_time_wait_restarted e p).wait, begun_is e.name e p begun ∙ reset_is e p (left_true (has_rst p) at h) (right_true (has_rst p) at h))
 arrived_reset (Logged kept) e begun h = absurd (false≢true h)
 arrived_reset Ticks e begun h = absurd (false≢true h)
 arrived_reset Begins e begun h = absurd (false≢true h)
@@ -466,7 +466,7 @@ pub reset_closed : (news : News) (calls : List Call) (e : Tcb) → has_begun e.n
 reset_closed news calls e begun h = closed_by_calls calls (arrived news e) (ap (λ (t : Tcb). t.name) (arrived_reset news e begun h).1)
 
 pub flushed_name : (u : Tcb) → (flushed u).name ≡ u.name
-unfolding flushed with_turn_ended announced after_full with_fin_out with_text_sent with_probe
+unfolding flushed with_turn_ended with_advertised after_full with_fin_out with_text_sent with_probe
 flushed_name u = refl
 
 closed_named : (e : Tcb) → e.name ≡ Closed → IsNamedRightly e
@@ -529,14 +529,14 @@ later_resets : (e : Tcb) (p : Segment) → (with_ack e p).reset ≡ e.reset
 unfolding with_ack with_ack_used
 later_resets e p =
     let m : Tcb = with_ack_used e p in
-    holds_if (λ (t : Tcb). t.reset ≡ e.reset) (is_ahead e.sending.sent (ack_at e p)) (owing_if true e) (with_text_and_fin (with_fin_acked m) p)
+    holds_if (λ (t : Tcb). t.reset ≡ e.reset) (is_ahead e.sending.sent (ack_at e p)) (with_ack_pending_if true e) (with_text_and_fin (with_fin_acked m) p)
     (λ h. refl) (λ h. text_resets (with_fin_acked m) p ∙ acked_resets m)
 
 first_resets : (e : Tcb) (p : Segment) → (with_first_ack e p).reset ≡ e.reset
-unfolding with_first_ack refusing
+unfolding with_first_ack with_reset_reply
 first_resets e p =
     let m : Tcb = record e { name = after_syn_acked e.sending.closed; sending = with_syn_acked e.sending p.head.seq p.head.window } in
-    holds_if (λ (t : Tcb). t.reset ≡ e.reset) (int_eq (ack_at e p) (pos 0)) (with_text_and_fin m p) (refusing e p) (λ h. text_resets m p) (λ h. refl)
+    holds_if (λ (t : Tcb). t.reset ≡ e.reset) (int_eq (ack_at e p) (pos 0)) (with_text_and_fin m p) (with_reset_reply e p) (λ h. text_resets m p) (λ h. refl)
 
 ack_resets : (e : Tcb) (p : Segment) → (check_ack e p).reset ≡ e.reset
 unfolding check_ack
@@ -549,23 +549,23 @@ ack_resets e p =
 syn_resets : (e : Tcb) (p : Segment) → (check_syn e p).reset ≡ e.reset
 unfolding check_syn
 syn_resets e p =
-    let m : Tcb = owing_if (nat_lt 0 (length_of p)) e in
-    holds_if (λ (t : Tcb). t.reset ≡ e.reset) (has_syn p) (owing_if true e) (check_ack m p) (λ is. refl) (λ none. ack_resets m p)
+    let m : Tcb = with_ack_pending_if (nat_lt 0 (length_of p)) e in
+    holds_if (λ (t : Tcb). t.reset ≡ e.reset) (has_syn p) (with_ack_pending_if true e) (check_ack m p) (λ is. refl) (λ none. ack_resets m p)
 
 rst_resets : (e : Tcb) (p : Segment) → (has_rst p && int_eq (first e p) (pos (next e.receiving))) ≡ false → (check_rst e p).reset ≡ e.reset
 unfolding check_rst
 rst_resets e p unreset =
     let at : Bool = int_eq (first e p) (pos (next e.receiving)) in
     let P : Tcb → Type 0 = λ t. t.reset ≡ e.reset in
-    holds_if P (has_rst p) (if at then killed e else owing_if true e) (check_syn e p)
-    (λ is. holds_if P at (killed e) (owing_if true e) (λ k. absurd (false≢true (sym unreset ∙ (λ i. is i && k i)))) (λ k. refl))
+    holds_if P (has_rst p) (if at then with_reset e else with_ack_pending_if true e) (check_syn e p)
+    (λ is. holds_if P at (with_reset e) (with_ack_pending_if true e) (λ k. absurd (false≢true (sym unreset ∙ (λ i. is i && k i)))) (λ k. refl))
     (λ none. syn_resets e p)
 
 others_reset : (e : Tcb) (p : Segment) → (has_rst p && int_eq (first e p) (pos (next e.receiving))) ≡ false → (in_others e p).reset ≡ e.reset
-unfolding in_others check_place waiting_again
+unfolding in_others check_sequence with_time_wait_restarted
 others_reset e p unreset =
-    let m : Tcb = waiting_again e p in
-    holds_if (λ (t : Tcb). t.reset ≡ e.reset) (goes_on m p) (check_rst m p) (owing_if (not (has_rst p)) m)
+    let m : Tcb = with_time_wait_restarted e p in
+    holds_if (λ (t : Tcb). t.reset ≡ e.reset) (goes_on m p) (check_rst m p) (with_ack_pending_if (not (has_rst p)) m)
     (λ is. rst_resets m p unreset) (λ none. refl)
 
 unreset_same : (news : News) (e : Tcb) → has_begun e.name ≡ true → resets news e ≡ false → (arrived news e).reset ≡ e.reset
@@ -593,7 +593,7 @@ reset_law news calls e begun =
     (λ h. unreset_same news e begun h ∙ or_false e.reset ∙ ap (λ b. e.reset || b) (sym h))
 
 -- from a CLOSED endpoint that has no RST to answer with nothing leaves
-pub call_answers : (call : Call) (t : Tcb) → (called call t).answer ≡ t.answer
+pub call_answers : (call : Call) (t : Tcb) → (called call t).reset_reply ≡ t.reset_reply
 call_answers (Reads n) t = refl
 call_answers (Writes bytes) t = refl
 call_answers Closes t = refl
@@ -603,6 +603,6 @@ pub silent_law : (news : News) (calls : List Call) (e : Tcb) → has_begun e.nam
 silent_law news calls e begun between h =
     let u : Tcb = before_flush news calls e in
     let closed : u.name ≡ Closed = reset_closed news calls e begun h in
-    let none : u.answer ≡ None =
-    used_keeps (λ (t : Tcb). t.answer) call_answers calls (arrived news e) ∙ ap (λ (t : Tcb). t.answer) (arrived_reset news e begun h).1 ∙ between.answer in
-    (closed, closed_sends u closed ∙ ap answer_segments none)
+    let none : u.reset_reply ≡ None =
+    used_keeps (λ (t : Tcb). t.reset_reply) call_answers calls (arrived news e) ∙ ap (λ (t : Tcb). t.reset_reply) (arrived_reset news e begun h).1 ∙ between.reset_reply in
+    (closed, closed_sends u closed ∙ ap reset_reply_segments none)

@@ -20,14 +20,14 @@ use Rattle.tcp_endpoint.specs.declared.states.StateName.TheVariants.{Closed, Lis
 use Rattle.tcp_endpoint.specs.States.{has_begun}
 use Rattle.tcp_endpoint.specs.Sending.{target, send_edge, fin_acked}
 use Rattle.tcp_endpoint.specs.Tcb.{Tcb}
-use Rattle.tcp_endpoint.specs.Leaving.{answer_segments, answer_out}
+use Rattle.tcp_endpoint.specs.Leaving.{reset_reply_segments, reset_reply_out}
 use Rattle.endpoint_laws.specs.Laws.{ProbesRightly}
 use Rattle.endpoint_laws.specs.Turn.{Call, MayUse, IsUsualNews, IsBetweenTurns, arrived, used, before_flush}
 use Rattle.endpoint_laws.specs.Standing.{SendsAt, StandsAt, MeetsLaws, IsUsedAt, EndsAt, refuses, refusals}
 use Rattle.endpoint_laws.specs.Ending.{IsNamed, IsNamedRightly, has_taken_fin, resets}
 use Rattle.endpoint_laws.proofs.Calls.{FinIsLast, IsUsed, used_is, bounded_used, last_used, probes_used}
 use Rattle.endpoint_laws.proofs.Arrivals.{Arrived, arrives}
-use Rattle.endpoint_laws.proofs.AnswersAlone.{answer_none, closed_sends}
+use Rattle.endpoint_laws.proofs.AnswersAlone.{reset_reply_none, closed_sends}
 use Rattle.endpoint_laws.proofs.EndingLaw.{IsPlaced, FollowsAt, unreset_follows}
 use Rattle.endpoint_laws.proofs.TurnEnd.{sent_at}
 use Rattle.endpoint_laws.proofs.Turns.{receives_of, sends_of, probes_by}
@@ -82,15 +82,15 @@ pub none_if : (b : Bool) (x : Segment) → b ≡ false → (if b then x ∷ [] e
 none_if true x h = absurd (false≢true (sym h))
 none_if false x h = refl
 
-no_answer : (server : Addr) (news : News) (before : Point) → syn_acked_after news before ≡ true → refusals server news before ≡ []
+no_reset_reply : (server : Addr) (news : News) (before : Point) → syn_acked_after news before ≡ true → refusals server news before ≡ []
 unfolding syn_acked_after counts
-no_answer server (Comes segment) before h =
+no_reset_reply server (Comes segment) before h =
     none_if (refuses before segment) _ (off_four (accepts before segment) (not (has_rst segment)) (not (has_syn segment)) (is_refused before segment)
     (unrefused (uses before segment) (has_rst segment) (has_syn segment) before.syn_acked (has_ack segment) (int_le (pos 0) (ack_of before.sisn segment))
     (int_lt (ack_of before.sisn segment) (pos 0)) (less_is (ack_of before.sisn segment)) h))
-no_answer server (Logged kept) before h = refl
-no_answer server Ticks before h = refl
-no_answer server Begins before h = refl
+no_reset_reply server (Logged kept) before h = refl
+no_reset_reply server Ticks before h = refl
+no_reset_reply server Begins before h = refl
 
 target_sent : (f : Bool) (sent n : ℕ) → f ≡ true → (if f then sent else n) ≡ sent
 target_sent true sent n h = refl
@@ -121,7 +121,7 @@ pub ends_law : {State : Type 0} (service : Machine State) (news : News) (calls :
     → has_begun e.name ≡ true → IsBetweenTurns e → IsNamedRightly e → StandsAt before e → IsUsualNews news e → MayUse calls (arrived news e) → resets news e ≡ false
     → has_begun (before_flush news calls e).name ≡ false → MeetsLaws service news before after → IsUsedAt service after (before_flush news calls e)
     → EndsAt after (before_flush news calls e)
-unfolding answer_out sent_after sent_at_once
+unfolding reset_reply_out sent_after sent_at_once
 ends_law service news calls before after e begun between named stands usual may unreset ended laws user =
     let m : Tcb = arrived news e in
     let u : Tcb = used calls m in
@@ -132,7 +132,7 @@ ends_law service news calls before after e begun between named stands usual may 
     ended_by u.name u.sending.syn_acked u.sending.closed u.receiving.fin (fin_acked u.sending) ended f.placed in
     let acked = and_parts u.sending.fin_sent (u.sending.una == u.sending.sent) x.acked in
     let syn_acked : syn_acked_after news before ≡ true = came.sends.syn_acked ∙ sym a.sends.syn_acked ∙ x.syn_acked in
-    let answer : u.answer ≡ None = a.answer ∙ answer_none m.answer (came.answer ∙ no_answer e.local news before syn_acked) in
+    let reset_reply : u.reset_reply ≡ None = a.reset_reply ∙ reset_reply_none m.reset_reply (came.reset_reply ∙ no_reset_reply e.local news before syn_acked) in
     let last : FinIsLast u.sending = last_used m.sending u.sending a.sends came.fin_last in
     let bounds = bounded_used calls m may came.fin_last came.bounds in
     let full : target u.sending ≡ u.sending.sent = target_sent u.sending.fin_sent u.sending.sent (u.sending.una + length u.sending.held + one_if u.sending.closed) acked.0 in
@@ -152,5 +152,5 @@ ends_law service news calls before after e begun between named stands usual may 
           + one_if ((probe ∙ none) i))
           ∙ ap (λ n. n + 0) (sent_at service after u bounds last user)
           ∙ (λ i. max u.sending.sent (min (full i) (send_edge u.sending)) + 0) ∙ max_itself u.sending.sent (send_edge u.sending);
-      silent = closed_sends u x.name_is ∙ ap answer_segments answer;
+      silent = closed_sends u x.name_is ∙ ap reset_reply_segments reset_reply;
     }

@@ -7,7 +7,7 @@ use Rattle.ft_model.specs.Sending.{is_third_duplicate}
 use Rattle.ft_model.specs.Timer.{expires}
 use Rattle.tcp_endpoint.specs.States.{has_begun}
 use Rattle.tcp_endpoint.specs.Tcb.{Tcb}
-use Rattle.tcp_endpoint.specs.Leaving.{answer_out}
+use Rattle.tcp_endpoint.specs.Leaving.{reset_reply_out}
 use Rattle.endpoint_laws.specs.Laws.{IsBounded, ProbesRightly}
 use Rattle.endpoint_laws.specs.Standing.{ReceivesAt, SendsAt, IsUsedAt, refusals}
 
@@ -26,7 +26,7 @@ pub record Flushes {State : Type 0} (service : Machine State) (news : News) (bef
   pub sends : SendsAt after u
   pub used : IsUsedAt service after u
   pub sent : before.sent ≡ u.sending.sent
-  pub again : u.again ≡ ((expires news before || is_third_duplicate news before) && waits_for_ack before after)
+  pub retransmission_due : u.retransmission_due ≡ ((expires news before || is_third_duplicate news before) && waits_for_ack before after)
   pub probe : u.probe ≡ (expires news before && not (waits_for_ack before after))
   pub third : is_third_duplicate news before ≡ true → waits_for_ack before after ≡ true
-  pub answer : answer_out u ≡ refusals u.local news before
+  pub reset_reply : reset_reply_out u ≡ refusals u.local news before

@@ -15,8 +15,8 @@ use Rattle.tcp_endpoint.specs.States.{after_close, is_closed}
 use Rattle.tcp_endpoint.specs.Receiving.{Receiving, receiving_up_to, read_out}
 use Rattle.tcp_endpoint.specs.Sending.{Sending, sending_from, bytes_end}
 use Rattle.tcp_endpoint.specs.Tcb.{Tcb, kept_limit, listening}
-use Rattle.tcp_endpoint.specs.Arrival.{received, received_in, in_listen, begun, refusing}
-use Rattle.tcp_endpoint.specs.Leaving.{announced, with_turn_ended, with_fin_out, with_probe, with_text_sent, after_full, flushed}
+use Rattle.tcp_endpoint.specs.Arrival.{received, received_in, in_listen, begun, with_reset_reply}
+use Rattle.tcp_endpoint.specs.Leaving.{with_advertised, with_turn_ended, with_fin_out, with_probe, with_text_sent, after_full, flushed}
 use Rattle.tcp_endpoint.specs.Turning.{after_tick, timer_ticked, waited}
 use Rattle.endpoint_laws.specs.Laws.{Bounds, IsBounded}
 use Rattle.endpoint_laws.specs.Turn.{Call, MayCall, MayUse, arrived, called, used, before_flush, turned}
@@ -31,10 +31,10 @@ listens_at_listen local iss limit = record {
   receiving = refl;
   sending = refl;
   written = omega arith;
-  owed = refl;
-  again = refl;
+  ack_pending = refl;
+  retransmission_due = refl;
   probe = refl;
-  answer = refl;
+  reset_reply = refl;
 }
 
 -- an endpoint that listens is within the bounds
@@ -84,8 +84,8 @@ listens_by local iss limit syn true false refused syn_acked e none r l = r
 listens_by local iss limit true false false refused syn_acked e none r l = absurd (false≢true (sym none))
 listens_by local iss limit false false false refused syn_acked e none r l = l
 
-listens_refusing : (local : Addr) (iss limit : ℕ) (e : Tcb) (p : Segment) → Listens local iss limit e → Listens local iss limit (refusing e p)
-unfolding refusing
+listens_refusing : (local : Addr) (iss limit : ℕ) (e : Tcb) (p : Segment) → Listens local iss limit e → Listens local iss limit (with_reset_reply e p)
+unfolding with_reset_reply
 listens_refusing local iss limit e p l =
     record { local_is = l.local_is; name = l.name; receiving = l.receiving; sending = l.sending; written = l.written; probe = l.probe }
 
@@ -93,7 +93,7 @@ listens_in : (local : Addr) (iss limit : ℕ) (e : Tcb) (p : Segment) → (has_s
     → Listens local iss limit (in_listen e p)
 unfolding in_listen
 listens_in local iss limit e p none l =
-    listens_by local iss limit (has_syn p) (has_ack p) (has_rst p) (refusing e p) (begun e p) e none (listens_refusing local iss limit e p l) l
+    listens_by local iss limit (has_syn p) (has_ack p) (has_rst p) (with_reset_reply e p) (begun e p) e none (listens_refusing local iss limit e p l) l
 
 -- a tick, where the timer doesn't run
 pub listening_is : (iss limit : ℕ) (e : Tcb) → IsListening iss limit e
@@ -101,13 +101,13 @@ pub listening_is : (iss limit : ℕ) (e : Tcb) → IsListening iss limit e
       name = Listen;
       receiving = receiving_up_to (kept_limit limit);
       sending = record (sending_from iss) { held = e.sending.held };
-      owed = false;
-      again = false;
+      ack_pending = false;
+      retransmission_due = false;
       probe = false;
-      answer = None;
+      reset_reply = None;
     }
 listening_is iss limit e l = λ i.
-    record e { name = l.name i; receiving = l.receiving i; sending = l.sending i; owed = l.owed i; again = l.again i; probe = l.probe i; answer = l.answer i }
+    record e { name = l.name i; receiving = l.receiving i; sending = l.sending i; ack_pending = l.ack_pending i; retransmission_due = l.retransmission_due i; probe = l.probe i; reset_reply = l.reset_reply i }
 
 listens_ticked : (iss limit : ℕ) (e : Tcb) → IsListening iss limit e → Listens e.local iss limit (after_tick e)
 unfolding after_tick timer_ticked waited
@@ -178,7 +178,7 @@ listens_used local iss limit (call ∷ calls) m may still l =
 
 -- the flush sends that RST and leaves the rest
 listens_flushed : (local : Addr) (iss limit : ℕ) (u : Tcb) → Listens local iss limit u → IsListening iss limit (flushed u) × ((flushed u).local ≡ local)
-unfolding flushed with_turn_ended announced after_full with_fin_out with_text_sent with_probe
+unfolding flushed with_turn_ended with_advertised after_full with_fin_out with_text_sent with_probe
 listens_flushed local iss limit u l =
     let still : Tcb = record u { name = Listen; receiving = receiving_up_to (kept_limit limit); sending = record (sending_from iss) { held = u.sending.held }; probe = false } in
     let same : u ≡ still = λ i. record u { name = l.name i; receiving = l.receiving i; sending = l.sending i; probe = l.probe i } in
@@ -188,10 +188,10 @@ listens_flushed local iss limit u l =
         receiving = refl;
         sending = refl;
         written = l.written;
-        owed = refl;
-        again = refl;
+        ack_pending = refl;
+        retransmission_due = refl;
         probe = refl;
-        answer = refl;
+        reset_reply = refl;
       }),
       l.local_is,
     )
@@ -220,7 +220,7 @@ in_listen_by : (e : Tcb) (syn : Segment) → is_syn syn ≡ true → in_listen e
 unfolding in_listen
 in_listen_by e syn is =
     let f = syn_facts (has_syn syn) (has_ack syn) (has_rst syn) is in
-    λ i. if f.2 i then e else (if f.1 i then refusing e syn else (if f.0 i then begun e syn else e))
+    λ i. if f.2 i then e else (if f.1 i then with_reset_reply e syn else (if f.0 i then begun e syn else e))
 
 pub begun_by : (e : Tcb) (syn : Segment) → e.name ≡ Listen → is_syn syn ≡ true → received e syn ≡ begun e syn
 unfolding received

@@ -16,38 +16,38 @@ use Rattle.tcp_endpoint.specs.States.{after_close, is_syn_sent, is_time_wait, ha
 use Rattle.tcp_endpoint.specs.Receiving.{window, receiving_up_to}
 use Rattle.tcp_endpoint.specs.Sending.{Sending, expires}
 use Rattle.tcp_endpoint.specs.Tcb.{Tcb, kept_limit, listening, connecting}
-use Rattle.tcp_endpoint.specs.Arrival.{ack_at, received, received_in, in_closed, in_listen, in_syn_sent, begun, answered, refusing, refusing_without_ack, killed}
-use Rattle.tcp_endpoint.specs.Leaving.{head_at, opening_segment, answer_segments, leaving, announced, is_timed, with_turn_ended, with_fin_out, with_probe, with_text_sent, after_full, flushed}
+use Rattle.tcp_endpoint.specs.Arrival.{ack_at, received, received_in, in_closed, in_listen, in_syn_sent, begun, answered, with_reset_reply, with_reset_reply_without_ack, with_reset}
+use Rattle.tcp_endpoint.specs.Leaving.{head_at, opening_segment, reset_reply_segments, leaving, with_advertised, is_timed, with_turn_ended, with_fin_out, with_probe, with_text_sent, after_full, flushed}
 use Rattle.tcp_endpoint.specs.Turning.{after_tick, timer_ticked, waited}
 use Rattle.endpoint_laws.specs.Laws.{ticked_interval, ticked_rest, IsTimedBy}
 use Rattle.endpoint_laws.specs.Turn.{Call, MayUse, arrived, called, used, before_flush, turned, sent_in}
 use Rattle.endpoint_laws.specs.Turn.Call.{Reads, Writes, Closes}
-use Rattle.endpoint_laws.specs.Announcing.{Announces, is_told, ReadsOnlyTaken}
+use Rattle.endpoint_laws.specs.Announcing.{Advertises, is_told, ReadsOnlyTaken}
 use Rattle.endpoint_laws.specs.Listening.{IsListening, brings_syn}
 use Rattle.endpoint_laws.specs.Connecting.{IsConnecting}
 use Rattle.endpoint_laws.specs.Unconnected.{sent_in_closed, sent_in_listen, acknowledges_syn, refused_in_syn_sent, resets_in_syn_sent, answers_in_syn_sent, state_after_syn_sent, syn_of, expires_at, interval_waiting, rest_waiting}
-use Rattle.endpoint_laws.proofs.AnswersAlone.{answer_none, closed_sends, listen_sends, syn_sent_sends}
+use Rattle.endpoint_laws.proofs.AnswersAlone.{reset_reply_none, closed_sends, listen_sends, syn_sent_sends}
 use Rattle.endpoint_laws.proofs.Listening.{begun_by, listening_is, listens_arrived, closed_by_calls}
 use Rattle.endpoint_laws.proofs.TurnLaw.{flushed_timer, ticked_law}
 use Rattle.endpoint_laws.proofs.Calls.{IsUsed, used_is}
 use Rattle.endpoint_laws.proofs.EndingLaw.{used_keeps, call_resets}
-use Rattle.endpoint_laws.proofs.Announced.{answer_used, begun_used, announces_law, again_is_told}
+use Rattle.endpoint_laws.proofs.Announced.{reset_reply_used, begun_used, advertises_law, retransmission_is_told}
 use Rattle.endpoint_laws.proofs.Connecting.{Connects, connects_at_connect, connects_arrived, connects_used, received_by, syn_leaves, still_connecting, sent_before, answered_name, refusing_name, begun_name, closed_name}
 use Rattle.ft_io.proofs.Choices.{by_cases}
 use Rattle.ft_io.proofs.Booleans.{or_false, or_true, and_true}
 
-call_agains : (call : Call) (t : Tcb) → (called call t).again ≡ t.again
-call_agains (Reads n) t = refl
-call_agains (Writes bytes) t = refl
-call_agains Closes t = refl
+call_retransmissions : (call : Call) (t : Tcb) → (called call t).retransmission_due ≡ t.retransmission_due
+call_retransmissions (Reads n) t = refl
+call_retransmissions (Writes bytes) t = refl
+call_retransmissions Closes t = refl
 
 pub call_locals : (call : Call) (t : Tcb) → (called call t).local ≡ t.local
 call_locals (Reads n) t = refl
 call_locals (Writes bytes) t = refl
 call_locals Closes t = refl
 
-again_used : (calls : List Call) (m : Tcb) → (used calls m).again ≡ m.again
-again_used calls m = used_keeps (λ (t : Tcb). t.again) call_agains calls m
+retransmission_used : (calls : List Call) (m : Tcb) → (used calls m).retransmission_due ≡ m.retransmission_due
+retransmission_used calls m = used_keeps (λ (t : Tcb). t.retransmission_due) call_retransmissions calls m
 
 -- a state from which a user who closes leads to CLOSED
 still_or_closed : (name : StateName) → after_close name ≡ Closed → (calls : List Call) (m : Tcb) → m.name ≡ name
@@ -58,11 +58,11 @@ still_or_closed name closes (Writes bytes ∷ calls) m h = still_or_closed name 
 still_or_closed name closes (Closes ∷ calls) m h = inr (closed_by_calls calls (called Closes m) (ap after_close h ∙ closes))
 
 -- CLOSED: the answer to a segment
-refused_closed : (e : Tcb) (p : Segment) (rst ack : Bool) → e.answer ≡ None
-    → answer_segments ((if rst then e else (if ack then refusing e p else refusing_without_ack e p)).answer)
+refused_closed : (e : Tcb) (p : Segment) (rst ack : Bool) → e.reset_reply ≡ None
+    → reset_reply_segments ((if rst then e else (if ack then with_reset_reply e p else with_reset_reply_without_ack e p)).reset_reply)
     ≡ (if rst then [] else (if ack then rst_at_ack e.local p ∷ [] else rst_behind e.local p ∷ []))
-unfolding refusing refusing_without_ack
-refused_closed e p true ack none = ap answer_segments none
+unfolding with_reset_reply with_reset_reply_without_ack
+refused_closed e p true ack none = ap reset_reply_segments none
 refused_closed e p false true none = refl
 refused_closed e p false false none = refl
 
@@ -84,23 +84,23 @@ lasting : Tcb → Lasting
 lasting e = (e.name, e.local, e.reset)
 
 closed_lasts : (e : Tcb) (p : Segment) → lasting (in_closed e p) ≡ lasting e
-unfolding in_closed refusing refusing_without_ack lasting
-closed_lasts e p = same_closed lasting (has_rst p) (has_ack p) e (refusing e p) (refusing_without_ack e p) refl refl
+unfolding in_closed with_reset_reply with_reset_reply_without_ack lasting
+closed_lasts e p = same_closed lasting (has_rst p) (has_ack p) e (with_reset_reply e p) (with_reset_reply_without_ack e p) refl refl
 
-closed_arrived : (news : News) (e : Tcb) → e.name ≡ Closed → e.answer ≡ None
-    → (lasting (arrived news e) ≡ lasting e) × (answer_segments (arrived news e).answer ≡ sent_in_closed e.local news)
+closed_arrived : (news : News) (e : Tcb) → e.name ≡ Closed → e.reset_reply ≡ None
+    → (lasting (arrived news e) ≡ lasting e) × (reset_reply_segments (arrived news e).reset_reply ≡ sent_in_closed e.local news)
 unfolding in_closed lasting after_tick timer_ticked waited
 closed_arrived (Comes segment) e closed none =
     let same : received e segment ≡ in_closed e segment = in_closed_at e segment closed in (
       ap lasting same ∙ closed_lasts e segment,
-      ap (λ (t : Tcb). answer_segments t.answer) same ∙ refused_closed e segment (has_rst segment) (has_ack segment) none,
+      ap (λ (t : Tcb). reset_reply_segments t.reset_reply) same ∙ refused_closed e segment (has_rst segment) (has_ack segment) none,
     )
-closed_arrived (Logged kept) e closed none = (refl, ap answer_segments none)
+closed_arrived (Logged kept) e closed none = (refl, ap reset_reply_segments none)
 closed_arrived Ticks e closed none = (
   (λ i. (if is_time_wait (closed i) && nat_lt e.wait 2 then Closed else e.name, e.local, e.reset)),
-  ap answer_segments none,
+  ap reset_reply_segments none,
 )
-closed_arrived Begins e closed none = (refl, ap answer_segments none)
+closed_arrived Begins e closed none = (refl, ap reset_reply_segments none)
 
 call_lasts : (calls : List Call) (m : Tcb) → m.name ≡ Closed → lasting (used calls m) ≡ lasting m
 unfolding lasting
@@ -110,22 +110,22 @@ call_lasts calls m closed = λ i. (
   used_keeps (λ (t : Tcb). t.reset) call_resets calls m i,
 )
 
-flushed_lasts : (u : Tcb) → (lasting (flushed u) ≡ lasting u) × ((flushed u).answer ≡ None)
-unfolding lasting flushed with_turn_ended announced after_full with_fin_out with_text_sent with_probe
+flushed_lasts : (u : Tcb) → (lasting (flushed u) ≡ lasting u) × ((flushed u).reset_reply ≡ None)
+unfolding lasting flushed with_turn_ended with_advertised after_full with_fin_out with_text_sent with_probe
 flushed_lasts u = (refl, refl)
 
-closed_before_flush : (news : News) (calls : List Call) (e : Tcb) → e.name ≡ Closed → e.answer ≡ None → (before_flush news calls e).name ≡ Closed
+closed_before_flush : (news : News) (calls : List Call) (e : Tcb) → e.name ≡ Closed → e.reset_reply ≡ None → (before_flush news calls e).name ≡ Closed
 unfolding lasting
 closed_before_flush news calls e closed none =
     closed_by_calls calls (arrived news e) (ap (λ (l : Lasting). l.0) (closed_arrived news e closed none).0 ∙ closed)
 
-pub closed_answers_law : (news : News) (calls : List Call) (e : Tcb) → e.name ≡ Closed → e.answer ≡ None → sent_in news calls e ≡ sent_in_closed e.local news
+pub closed_answers_law : (news : News) (calls : List Call) (e : Tcb) → e.name ≡ Closed → e.reset_reply ≡ None → sent_in news calls e ≡ sent_in_closed e.local news
 closed_answers_law news calls e closed none =
     closed_sends (before_flush news calls e) (closed_before_flush news calls e closed none)
-    ∙ ap answer_segments (answer_used calls (arrived news e)) ∙ (closed_arrived news e closed none).1
+    ∙ ap reset_reply_segments (reset_reply_used calls (arrived news e)) ∙ (closed_arrived news e closed none).1
 
-pub closed_stays_law : (news : News) (calls : List Call) (e : Tcb) → e.name ≡ Closed → e.answer ≡ None
-    → ((turned news calls e).name ≡ Closed) × ((turned news calls e).answer ≡ None) × ((turned news calls e).local ≡ e.local) × ((turned news calls e).reset ≡ e.reset)
+pub closed_stays_law : (news : News) (calls : List Call) (e : Tcb) → e.name ≡ Closed → e.reset_reply ≡ None
+    → ((turned news calls e).name ≡ Closed) × ((turned news calls e).reset_reply ≡ None) × ((turned news calls e).local ≡ e.local) × ((turned news calls e).reset ≡ e.reset)
 unfolding lasting
 closed_stays_law news calls e closed none =
     let u : Tcb = before_flush news calls e in
@@ -136,15 +136,15 @@ closed_stays_law news calls e closed none =
     (ap (λ (l : Lasting). l.0) all ∙ closed, (flushed_lasts u).1, ap (λ (l : Lasting). l.1) all, ap (λ (l : Lasting). l.2) all)
 
 -- LISTEN: the answer to a segment that is no SYN
-refused_listen : (e begun_one : Tcb) (p : Segment) (syn ack rst : Bool) → (syn && not ack && not rst) ≡ false → e.answer ≡ None
-    → answer_segments ((if rst then e else (if ack then refusing e p else (if syn then begun_one else e))).answer)
+refused_listen : (e begun_one : Tcb) (p : Segment) (syn ack rst : Bool) → (syn && not ack && not rst) ≡ false → e.reset_reply ≡ None
+    → reset_reply_segments ((if rst then e else (if ack then with_reset_reply e p else (if syn then begun_one else e))).reset_reply)
     ≡ (if ack && not rst then rst_at_ack e.local p ∷ [] else [])
-unfolding refusing
-refused_listen e begun_one p syn true true other none = ap answer_segments none
-refused_listen e begun_one p syn false true other none = ap answer_segments none
+unfolding with_reset_reply
+refused_listen e begun_one p syn true true other none = ap reset_reply_segments none
+refused_listen e begun_one p syn false true other none = ap reset_reply_segments none
 refused_listen e begun_one p syn true false other none = refl
 refused_listen e begun_one p true false false other none = absurd (false≢true (sym other))
-refused_listen e begun_one p false false false other none = ap answer_segments none
+refused_listen e begun_one p false false false other none = ap reset_reply_segments none
 
 same_listen : {X : Type 0} (f : Tcb → X) (syn ack rst : Bool) (e refused begun_one : Tcb) → (syn && not ack && not rst) ≡ false → f refused ≡ f e
     → f (if rst then e else (if ack then refused else (if syn then begun_one else e))) ≡ f e
@@ -161,11 +161,11 @@ abbrev Due : Type 0
 Due = Bool × Bool
 
 due : Tcb → Due
-due e = (e.again, e.reset)
+due e = (e.retransmission_due, e.reset)
 
 listen_due : (e : Tcb) (p : Segment) → (has_syn p && not (has_ack p) && not (has_rst p)) ≡ false → due (in_listen e p) ≡ due e
-unfolding in_listen refusing due
-listen_due e p other = same_listen due (has_syn p) (has_ack p) (has_rst p) e (refusing e p) (begun e p) other refl
+unfolding in_listen with_reset_reply due
+listen_due e p other = same_listen due (has_syn p) (has_ack p) (has_rst p) e (with_reset_reply e p) (begun e p) other refl
 
 listen_ticked : (iss limit : ℕ) (e : Tcb) → IsListening iss limit e → due (after_tick e) ≡ due e
 unfolding after_tick timer_ticked waited due
@@ -174,17 +174,17 @@ listen_ticked iss limit e l =
     subst P (sym (listening_is iss limit e l)) refl
 
 listen_arrived : (iss limit : ℕ) (news : News) (e : Tcb) → IsListening iss limit e → brings_syn news ≡ false
-    → (due (arrived news e) ≡ due e) × (answer_segments (arrived news e).answer ≡ sent_in_listen e.local news)
+    → (due (arrived news e) ≡ due e) × (reset_reply_segments (arrived news e).reset_reply ≡ sent_in_listen e.local news)
 unfolding in_listen after_tick timer_ticked waited
 listen_arrived iss limit (Comes segment) e l other =
     let same : received e segment ≡ in_listen e segment = in_listen_at e segment l.name in (
       ap due same ∙ listen_due e segment other,
-      ap (λ (t : Tcb). answer_segments t.answer) same
-          ∙ refused_listen e (begun e segment) segment (has_syn segment) (has_ack segment) (has_rst segment) other l.answer,
+      ap (λ (t : Tcb). reset_reply_segments t.reset_reply) same
+          ∙ refused_listen e (begun e segment) segment (has_syn segment) (has_ack segment) (has_rst segment) other l.reset_reply,
     )
-listen_arrived iss limit (Logged kept) e l other = (refl, ap answer_segments l.answer)
-listen_arrived iss limit Ticks e l other = (listen_ticked iss limit e l, ap answer_segments l.answer)
-listen_arrived iss limit Begins e l other = (refl, ap answer_segments l.answer)
+listen_arrived iss limit (Logged kept) e l other = (refl, ap reset_reply_segments l.reset_reply)
+listen_arrived iss limit Ticks e l other = (listen_ticked iss limit e l, ap reset_reply_segments l.reset_reply)
+listen_arrived iss limit Begins e l other = (refl, ap reset_reply_segments l.reset_reply)
 
 pub listen_answers_law : (iss limit : ℕ) (news : News) (calls : List Call) (e : Tcb) → IsListening iss limit e → brings_syn news ≡ false
     → sent_in news calls e ≡ sent_in_listen e.local news
@@ -193,10 +193,10 @@ listen_answers_law iss limit news calls e l other =
     let m : Tcb = arrived news e in
     let u : Tcb = used calls m in
     let came = listen_arrived iss limit news e l other in
-    let still : u.again ≡ false = again_used calls m ∙ ap (λ (d : Due). d.0) came.0 ∙ l.again in
-    let alone : leaving u ≡ answer_segments u.answer =
+    let still : u.retransmission_due ≡ false = retransmission_used calls m ∙ ap (λ (d : Due). d.0) came.0 ∙ l.retransmission_due in
+    let alone : leaving u ≡ reset_reply_segments u.reset_reply =
     ⊎_elim (λ h. listen_sends u h still) (λ h. closed_sends u h) (still_or_closed Listen refl calls m (listens_arrived iss limit news e other l).name) in
-    alone ∙ ap answer_segments (answer_used calls m) ∙ came.1
+    alone ∙ ap reset_reply_segments (reset_reply_used calls m) ∙ came.1
 
 pub listen_stays_law : (iss limit : ℕ) (news : News) (e : Tcb) → IsListening iss limit e → brings_syn news ≡ false
     → ((arrived news e).name ≡ Listen) × ((arrived news e).reset ≡ e.reset)
@@ -209,16 +209,16 @@ abbrev checked : (ack right rst syn : Bool) → (dead begun_one refused e : Tcb)
 checked ack right rst syn dead begun_one refused e =
     if ack then (if right then (if rst then dead else (if syn then begun_one else e)) else (if rst then e else refused)) else e
 
-refused_sent : (ack right rst syn : Bool) (dead begun_one e : Tcb) (p : Segment) → dead.answer ≡ None → begun_one.answer ≡ None → e.answer ≡ None
-    → answer_segments (checked ack right rst syn dead begun_one (refusing e p) e).answer
+refused_sent : (ack right rst syn : Bool) (dead begun_one e : Tcb) (p : Segment) → dead.reset_reply ≡ None → begun_one.reset_reply ≡ None → e.reset_reply ≡ None
+    → reset_reply_segments (checked ack right rst syn dead begun_one (with_reset_reply e p) e).reset_reply
     ≡ (if ack && not (ack && right) && not rst then rst_at_ack e.local p ∷ [] else [])
-unfolding refusing
-refused_sent true true true syn dead begun_one e p d b none = ap answer_segments d
-refused_sent true true false true dead begun_one e p d b none = ap answer_segments b
-refused_sent true true false false dead begun_one e p d b none = ap answer_segments none
-refused_sent true false true syn dead begun_one e p d b none = ap answer_segments none
+unfolding with_reset_reply
+refused_sent true true true syn dead begun_one e p d b none = ap reset_reply_segments d
+refused_sent true true false true dead begun_one e p d b none = ap reset_reply_segments b
+refused_sent true true false false dead begun_one e p d b none = ap reset_reply_segments none
+refused_sent true false true syn dead begun_one e p d b none = ap reset_reply_segments none
 refused_sent true false false syn dead begun_one e p d b none = refl
-refused_sent false right rst syn dead begun_one e p d b none = ap answer_segments none
+refused_sent false right rst syn dead begun_one e p d b none = ap reset_reply_segments none
 
 name_sent : (ack right rst syn : Bool) (dead begun_one refused e : Tcb) → dead.name ≡ Closed → begun_one.name ≡ Established → refused.name ≡ SynSent → e.name ≡ SynSent
     → (checked ack right rst syn dead begun_one refused e).name
@@ -259,16 +259,16 @@ half_sent true false false syn dead begun_one refused e d b r n = r
 half_sent false right rst syn dead begun_one refused e d b r n = refl
 
 -- what the answered and the refusing endpoint keep
-answered_keeps : (e : Tcb) (p : Segment) → ((answered e p).answer ≡ e.answer) × ((answered e p).again ≡ e.again) × ((answered e p).reset ≡ e.reset)
+answered_keeps : (e : Tcb) (p : Segment) → ((answered e p).reset_reply ≡ e.reset_reply) × ((answered e p).retransmission_due ≡ e.retransmission_due) × ((answered e p).reset ≡ e.reset)
 unfolding answered
 answered_keeps e p = (refl, refl, refl)
 
-refusing_keeps : (e : Tcb) (p : Segment) → ((refusing e p).again ≡ e.again) × ((refusing e p).reset ≡ e.reset) × ((refusing e p).sending ≡ e.sending)
-unfolding refusing
+refusing_keeps : (e : Tcb) (p : Segment) → ((with_reset_reply e p).retransmission_due ≡ e.retransmission_due) × ((with_reset_reply e p).reset ≡ e.reset) × ((with_reset_reply e p).sending ≡ e.sending)
+unfolding with_reset_reply
 refusing_keeps e p = (refl, refl, refl)
 
 segment_sent : (iss limit : ℕ) (e : Tcb) (p : Segment) → IsConnecting iss limit e
-    → received e p ≡ checked (has_ack p) (int_eq (ack_at e p) (pos 0)) (has_rst p) (has_syn p) (killed e) (answered e p) (refusing e p) e
+    → received e p ≡ checked (has_ack p) (int_eq (ack_at e p) (pos 0)) (has_rst p) (has_syn p) (with_reset e) (answered e p) (with_reset_reply e p) e
 unfolding in_syn_sent
 segment_sent iss limit e p c = received_by e p c.name
 
@@ -276,15 +276,15 @@ segment_sent iss limit e p c = received_by e p c.name
 right_is : (iss limit : ℕ) (e : Tcb) (p : Segment) → IsConnecting iss limit e → (has_ack p && int_eq (ack_at e p) (pos 0)) ≡ acknowledges_syn iss p
 right_is iss limit e p c = ap (λ (s : Sending). has_ack p && int_eq (ack_at (record e { sending = s }) p) (pos 0)) c.sending
 
-answer_sent : (iss limit : ℕ) (news : News) (e : Tcb) → IsConnecting iss limit e → answer_segments (arrived news e).answer ≡ refused_in_syn_sent e.local iss news
+reset_reply_sent : (iss limit : ℕ) (news : News) (e : Tcb) → IsConnecting iss limit e → reset_reply_segments (arrived news e).reset_reply ≡ refused_in_syn_sent e.local iss news
 unfolding after_tick timer_ticked waited
-answer_sent iss limit (Comes p) e c =
-    ap (λ (t : Tcb). answer_segments t.answer) (segment_sent iss limit e p c)
-    ∙ refused_sent (has_ack p) (int_eq (ack_at e p) (pos 0)) (has_rst p) (has_syn p) (killed e) (answered e p) e p c.answer ((answered_keeps e p).0 ∙ c.answer) c.answer
+reset_reply_sent iss limit (Comes p) e c =
+    ap (λ (t : Tcb). reset_reply_segments t.reset_reply) (segment_sent iss limit e p c)
+    ∙ refused_sent (has_ack p) (int_eq (ack_at e p) (pos 0)) (has_rst p) (has_syn p) (with_reset e) (answered e p) e p c.reset_reply ((answered_keeps e p).0 ∙ c.reset_reply) c.reset_reply
     ∙ ap (λ b. if has_ack p && not b && not (has_rst p) then rst_at_ack e.local p ∷ [] else []) (right_is iss limit e p c)
-answer_sent iss limit (Logged kept) e c = ap answer_segments c.answer
-answer_sent iss limit Ticks e c = ap answer_segments c.answer
-answer_sent iss limit Begins e c = ap answer_segments c.answer
+reset_reply_sent iss limit (Logged kept) e c = ap reset_reply_segments c.reset_reply
+reset_reply_sent iss limit Ticks e c = ap reset_reply_segments c.reset_reply
+reset_reply_sent iss limit Begins e c = ap reset_reply_segments c.reset_reply
 
 still_sent : (e : Tcb) → e.name ≡ SynSent → (after_tick e).name ≡ SynSent
 unfolding after_tick timer_ticked waited
@@ -298,10 +298,10 @@ syn_sent_states_law iss limit (Comes p) e c =
     let right : Bool = int_eq (ack_at e p) (pos 0) in
     let is : (ack && right) ≡ acknowledges_syn iss p = right_is iss limit e p c in (
       ap (λ (t : Tcb). t.name) (segment_sent iss limit e p c)
-          ∙ name_sent ack right (has_rst p) (has_syn p) (killed e) (answered e p) (refusing e p) e refl (answered_name e p) (refusing_name e p ∙ c.name) c.name
+          ∙ name_sent ack right (has_rst p) (has_syn p) (with_reset e) (answered e p) (with_reset_reply e p) e refl (answered_name e p) (refusing_name e p ∙ c.name) c.name
           ∙ ap (λ b. if b && has_rst p then Closed else (if b && not (has_rst p) && has_syn p then Established else SynSent)) is,
       ap (λ (t : Tcb). t.reset) (segment_sent iss limit e p c)
-          ∙ reset_sent ack right (has_rst p) (has_syn p) (killed e) (answered e p) (refusing e p) e refl (answered_keeps e p).2 (refusing_keeps e p).1
+          ∙ reset_sent ack right (has_rst p) (has_syn p) (with_reset e) (answered e p) (with_reset_reply e p) e refl (answered_keeps e p).2 (refusing_keeps e p).1
           ∙ ap (λ b. e.reset || (b && has_rst p)) is,
     )
 syn_sent_states_law iss limit (Logged kept) e c = (c.name, or_false e.reset)
@@ -309,17 +309,17 @@ syn_sent_states_law iss limit Ticks e c = (still_sent e c.name, or_false e.reset
 syn_sent_states_law iss limit Begins e c = (c.name, or_false e.reset)
 
 -- whether the SYN is due again
-again_sent : (iss limit : ℕ) (news : News) (e : Tcb) → IsConnecting iss limit e → (arrived news e).again ≡ expires_at news e.sending
+retransmission_sent : (iss limit : ℕ) (news : News) (e : Tcb) → IsConnecting iss limit e → (arrived news e).retransmission_due ≡ expires_at news e.sending
 unfolding after_tick timer_ticked waited
-again_sent iss limit (Comes p) e c =
-    ap (λ (t : Tcb). t.again) (segment_sent iss limit e p c)
-    ∙ same_sent (λ (t : Tcb). t.again) (has_ack p) (int_eq (ack_at e p) (pos 0)) (has_rst p) (has_syn p) (killed e) (answered e p) (refusing e p) e
+retransmission_sent iss limit (Comes p) e c =
+    ap (λ (t : Tcb). t.retransmission_due) (segment_sent iss limit e p c)
+    ∙ same_sent (λ (t : Tcb). t.retransmission_due) (has_ack p) (int_eq (ack_at e p) (pos 0)) (has_rst p) (has_syn p) (with_reset e) (answered e p) (with_reset_reply e p) e
     refl (answered_keeps e p).1 (refusing_keeps e p).0
-    ∙ c.again
-again_sent iss limit (Logged kept) e c = c.again
-again_sent iss limit Ticks e c =
-    (λ i. c.again i || (expires e.sending && (not (c.sending i).syn_acked || nat_lt e.sending.una e.sending.sent))) ∙ and_true (expires e.sending)
-again_sent iss limit Begins e c = c.again
+    ∙ c.retransmission_due
+retransmission_sent iss limit (Logged kept) e c = c.retransmission_due
+retransmission_sent iss limit Ticks e c =
+    (λ i. c.retransmission_due i || (expires e.sending && (not (c.sending i).syn_acked || nat_lt e.sending.una e.sending.sent))) ∙ and_true (expires e.sending)
+retransmission_sent iss limit Begins e c = c.retransmission_due
 
 -- the SYN's fields
 first_window : (limit : ℕ) → window (receiving_up_to (kept_limit limit)) ≡ min 65535 limit
@@ -368,8 +368,8 @@ sends_in : (iss limit : ℕ) (news : News) (calls : List Call) (e : Tcb) → IsC
 sends_in iss limit news calls e c may still =
     let m : Tcb = arrived news e in
     let u : Tcb = used calls m in
-    let answer : answer_segments u.answer ≡ refused_in_syn_sent e.local iss news = ap answer_segments (answer_used calls m) ∙ answer_sent iss limit news e c in
-    let again : u.again ≡ expires_at news e.sending = again_used calls m ∙ again_sent iss limit news e c in
+    let reset_reply : reset_reply_segments u.reset_reply ≡ refused_in_syn_sent e.local iss news = ap reset_reply_segments (reset_reply_used calls m) ∙ reset_reply_sent iss limit news e c in
+    let retransmission_due : u.retransmission_due ≡ expires_at news e.sending = retransmission_used calls m ∙ retransmission_sent iss limit news e c in
     let here : Connects e.local e.remote iss limit u =
     connects_used e.local e.remote iss limit calls m may still (connects_arrived iss limit news e c (sent_before calls m still)) in
     let syn : Segment = syn_of e.local e.remote iss limit in
@@ -377,11 +377,11 @@ sends_in iss limit news calls e c may still =
     segments ≡ refused_in_syn_sent e.local iss news ++ (if is_syn_sent u.name && expires_at news e.sending then syn ∷ [] else []) in
     by_cases (expires_at news e.sending)
     (λ due.
-    let none : u.answer ≡ None = answer_none u.answer (answer ∙ refused_none e.local iss news e.sending due) in
-    syn_leaves e.local e.remote iss limit u here (again ∙ due) none ∙ ap (λ x. x ∷ []) (syn_is e.local e.remote iss limit)
+    let none : u.reset_reply ≡ None = reset_reply_none u.reset_reply (reset_reply ∙ refused_none e.local iss news e.sending due) in
+    syn_leaves e.local e.remote iss limit u here (retransmission_due ∙ due) none ∙ ap (λ x. x ∷ []) (syn_is e.local e.remote iss limit)
     ∙ append_due (is_syn_sent u.name && expires_at news e.sending) syn (and_from (is_syn_sent u.name) (expires_at news e.sending) (ap is_syn_sent still) due)
     ∙ ap (λ xs. xs ++ (if is_syn_sent u.name && expires_at news e.sending then syn ∷ [] else [])) (sym (refused_none e.local iss news e.sending due)))
-    (λ none. syn_sent_sends u still (again ∙ none) ∙ answer
+    (λ none. syn_sent_sends u still (retransmission_due ∙ none) ∙ reset_reply
     ∙ append_none (refused_in_syn_sent e.local iss news) (is_syn_sent u.name && expires_at news e.sending) syn (and_right (is_syn_sent u.name) (expires_at news e.sending) none))
 
 sends_out : (iss limit : ℕ) (news : News) (calls : List Call) (e : Tcb) → IsConnecting iss limit e → (before_flush news calls e).name ≡ Closed
@@ -391,7 +391,7 @@ sends_out : (iss limit : ℕ) (news : News) (calls : List Call) (e : Tcb) → Is
 sends_out iss limit news calls e c closed =
     let m : Tcb = arrived news e in
     let u : Tcb = used calls m in
-    closed_sends u closed ∙ ap answer_segments (answer_used calls m) ∙ answer_sent iss limit news e c
+    closed_sends u closed ∙ ap reset_reply_segments (reset_reply_used calls m) ∙ reset_reply_sent iss limit news e c
     ∙ append_none (refused_in_syn_sent e.local iss news) (is_syn_sent u.name && expires_at news e.sending) (syn_of e.local e.remote iss limit)
     (and_left (is_syn_sent u.name) (expires_at news e.sending) (not_sent_name u.name closed))
 
@@ -444,7 +444,7 @@ half_arrived : (iss limit : ℕ) (e : Tcb) (p : Segment) → IsConnecting iss li
 half_arrived iss limit e p c still =
     let same = segment_sent iss limit e p c in
     ap (λ (t : Tcb). t.sending) same
-    ∙ half_sent (has_ack p) (int_eq (ack_at e p) (pos 0)) (has_rst p) (has_syn p) (killed e) (answered e p) (refusing e p) e refl (answered_name e p) (refusing_keeps e p).2
+    ∙ half_sent (has_ack p) (int_eq (ack_at e p) (pos 0)) (has_rst p) (has_syn p) (with_reset e) (answered e p) (with_reset_reply e p) e refl (answered_name e p) (refusing_keeps e p).2
     (ap (λ (t : Tcb). t.name) (sym same) ∙ still)
 
 timed_sent : (iss limit : ℕ) (news : News) (e u : Tcb) → IsConnecting iss limit e → (arrived news e).name ≡ SynSent → is_timed (after_full u) ≡ true
@@ -496,12 +496,12 @@ call_opens (Reads n) t = refl
 call_opens (Writes bytes) t = refl
 call_opens Closes t = refl
 
-begun_is_due : (e : Tcb) (p : Segment) → ((begun e p).again ≡ true) × ((begun e p).answer ≡ e.answer) × ((begun e p).sending.syn_acked ≡ e.sending.syn_acked) × ((begun e p).name ≡ SynReceived)
+begun_is_due : (e : Tcb) (p : Segment) → ((begun e p).retransmission_due ≡ true) × ((begun e p).reset_reply ≡ e.reset_reply) × ((begun e p).sending.syn_acked ≡ e.sending.syn_acked) × ((begun e p).name ≡ SynReceived)
 unfolding begun
 begun_is_due e p = (refl, refl, refl, refl)
 
 pub syn_is_told_law : (iss limit : ℕ) (syn : Segment) (calls : List Call) (e : Tcb) → IsListening iss limit e → is_syn syn ≡ true → ReadsOnlyTaken calls (received e syn)
-    → AllByRecursion (Announces (before_flush (Comes syn) calls e)) (sent_in (Comes syn) calls e) × (is_told (sent_in (Comes syn) calls e) ≡ true)
+    → AllByRecursion (Advertises (before_flush (Comes syn) calls e)) (sent_in (Comes syn) calls e) × (is_told (sent_in (Comes syn) calls e) ≡ true)
 syn_is_told_law iss limit syn calls e l is may =
     let m : Tcb = received e syn in
     let u : Tcb = used calls m in
@@ -510,7 +510,7 @@ syn_is_told_law iss limit syn calls e l is may =
     let there : has_begun u.name ≡ true = begun_used calls m (ap (λ (t : Tcb). has_begun t.name) same ∙ ap has_begun due.3) in
     let syn_unacked : u.sending.syn_acked ≡ false =
     used_keeps (λ (t : Tcb). t.sending.syn_acked) call_opens calls m ∙ ap (λ (t : Tcb). t.sending.syn_acked) same ∙ due.2 ∙ ap (λ (s : Sending). s.syn_acked) l.sending in (
-      announces_law (Comes syn) calls e l.answer may there,
-      again_is_told u there (answer_used calls m ∙ ap (λ (t : Tcb). t.answer) same ∙ due.1 ∙ l.answer)
-          (again_used calls m ∙ ap (λ (t : Tcb). t.again) same ∙ due.0) (ap (λ b. not b || nat_lt u.sending.una u.sending.sent) syn_unacked),
+      advertises_law (Comes syn) calls e l.reset_reply may there,
+      retransmission_is_told u there (reset_reply_used calls m ∙ ap (λ (t : Tcb). t.reset_reply) same ∙ due.1 ∙ l.reset_reply)
+          (retransmission_used calls m ∙ ap (λ (t : Tcb). t.retransmission_due) same ∙ due.0) (ap (λ b. not b || nat_lt u.sending.una u.sending.sent) syn_unacked),
     )

@@ -20,7 +20,7 @@ use Rattle.tcp_endpoint.specs.States.{is_closed, is_syn_sent, has_begun}
 use Rattle.tcp_endpoint.specs.Receiving.{Receiving, next, window}
 use Rattle.tcp_endpoint.specs.Sending.{Sending, is_unacknowledged, send_edge, sendable, sends_fin, resent_length, with_sent, with_fin_sent}
 use Rattle.tcp_endpoint.specs.Tcb.{Tcb}
-use Rattle.tcp_endpoint.specs.Leaving.{head_at, opening_segment, text_at, fin_at, texts, answer_out, again_segment, again_out, probes, probes_text, probes_fin, probe_out, with_probe, new_length, text_out, with_text_sent, fin_out, with_fin_out, full_out, after_full, bare_segment}
+use Rattle.tcp_endpoint.specs.Leaving.{head_at, opening_segment, text_at, fin_at, texts, reset_reply_out, retransmitted_segment, retransmission_out, probes, probes_text, probes_fin, probe_out, with_probe, new_length, text_out, with_text_sent, fin_out, with_fin_out, full_out, after_full, bare_segment}
 use Rattle.endpoint_laws.specs.Standing.{ReceivesAt, HasWrittenAll, HasFilled, refusals}
 use Rattle.endpoint_laws.proofs.TakenLaw.{if_when, window_is}
 use Rattle.endpoint_laws.proofs.StandingLaw.{next_is, room_is}
@@ -228,9 +228,9 @@ filled_again : (mss una len edge sent all : ℕ) → una + len ≤ all → sent 
     → min mss (min (min (sent - una) len) (max 1 (edge - una))) ≡ min mss (min (min sent all - una) (max 1 (edge - una)))
 filled_again mss una len edge sent all w flight = omega (arith, w, flight)
 
-again_bytes : (o c f ends : Bool) (mss una len edge sent all : ℕ) → Numbered o c f ends una len edge sent all
+retransmission_bytes : (o c f ends : Bool) (mss una len edge sent all : ℕ) → Numbered o c f ends una len edge sent all
     → min mss (min (min (sent - una) len) (max 1 (edge - una))) ≡ min mss (min (min sent all - una) (max 1 (edge - una)))
-again_bytes o c f ends mss una len edge sent all n =
+retransmission_bytes o c f ends mss una len edge sent all n =
     ⊎_elim
     (λ w. all_again f mss una len edge sent all w.written n.order (λ k. ((n.closes k).1, (n.closes k).2)))
     (λ w. filled_again mss una len edge sent all w.written (sent_within f sent una len w.unsent n.flight))
@@ -265,7 +265,7 @@ head_at_is p u t seq flags =
     ack_number p.cisn u.receiving.irs (next u.receiving) p.fetched t.receives.cisn ∙ ap (number_at p.cisn) units in
     let acked : taken_units p ≡ acknowledgement p = least_first (taken_units p) p.answered t.answered in
     let open_to : window u.receiving ≡ model.window p =
-    small_window u.receiving ∙ ap (min 65535) (sym (window_is u.receiving) ∙ sym (room_is p u t.receives)) ∙ ap (λ n. min 65535 (point.announced_edge p - n)) acked in
+    small_window u.receiving ∙ ap (min 65535) (sym (window_is u.receiving) ∙ sym (room_is p u t.receives)) ∙ ap (λ n. min 65535 (point.advertised_edge p - n)) acked in
     λ i. record {
       src = u.local.ip;
       dst = sym t.ip i;
@@ -363,16 +363,16 @@ one_when true x y xs ys p q = p refl
 one_when false x y xs ys p q = q refl
 
 -- what goes out again
-again_is : {State : Type 0} {service : Machine State} {news : News} {before after : Point} {u : Tcb} → Flushes service news before after u
-    → waits_for_ack before after ≡ true → again_segment u ∷ [] ≡ model.first_unacknowledged service u.local before after
-unfolding again_segment
-again_is {service = service} {before = before} {after = after} {u = u} f waits =
+retransmission_is : {State : Type 0} {service : Machine State} {news : News} {before after : Point} {u : Tcb} → Flushes service news before after u
+    → waits_for_ack before after ≡ true → retransmitted_segment u ∷ [] ≡ model.first_unacknowledged service u.local before after
+unfolding retransmitted_segment
+retransmission_is {service = service} {before = before} {after = after} {u = u} f waits =
     let s : Sending = u.sending in
     let all : ℕ = released service after in
     let ends : Bool = (answered_run service after).closed in
     let n : Numbered s.syn_acked s.closed s.fin_sent ends s.una (length s.held) s.edge s.sent all = numbered f s.edge (omega arith) in
-    let again_length : resent_length s ≡ model.resent_length service before after =
-    again_bytes s.syn_acked s.closed s.fin_sent ends s.mss s.una (length s.held) s.edge s.sent all n
+    let retransmission_length : resent_length s ≡ model.resent_length service before after =
+    retransmission_bytes s.syn_acked s.closed s.fin_sent ends s.mss s.una (length s.held) s.edge s.sent all n
     ∙ (λ i. min (sym f.sends.mss i) (min (min (sym f.sent i) all - sym f.sends.una i) (max 1 (sym f.sends.edge i - sym f.sends.una i)))) in
     let flies : not s.syn_acked ≡ false → nat_lt s.una s.sent ≡ true = waiting s.syn_acked (nat_lt s.una s.sent) (waits_here f waits) in
     let last : not s.syn_acked ≡ false → (length s.held == 0) ≡ (s.una == all) =
@@ -385,7 +385,7 @@ again_is {service = service} {before = before} {after = after} {u = u} f waits =
     (λ h. (λ i. fin_is f 0 (same_place s.una all (sym (last o) ∙ h)) i ∷ [])
     ∙ closed_fin service u.local after (last_is_closed s.syn_acked s.closed s.fin_sent ends s.una (length s.held) s.edge s.sent all n (flies o) h))
     (λ h. ap (λ segment. segment ∷ [])
-    (text_is f 0 after.una (resent_length s) (omega (arith, f.sends.una)) (omega arith) ∙ ap (λ m. model.text_at service u.local after after.una m) again_length))
+    (text_is f 0 after.una (resent_length s) (omega (arith, f.sends.una)) (omega arith) ∙ ap (λ m. model.text_at service u.local after after.una m) retransmission_length))
     ∙ ap (λ b. if b then fin else text) (last o ∙ ap (λ k. k == all) (sym f.sends.una)))
     ∙ ap (λ b. if not b then model.syn_ack u.local after ∷ [] else (if after.una == all then fin else text)) (sym f.sends.syn_acked)
 
@@ -443,13 +443,13 @@ fin_out_is {service = service} {before = before} {after = after} {u = u} f =
     ∙ (λ i. if nat_lt all (max (sym f.sent i) (min (all + one_if ends) (up_to i))) && nat_le (sym f.sent i) all then fin else [])
 
 -- what the endpoint's timer makes it send
-no_again : (u : Tcb) → u.again ≡ false → again_out u ≡ []
-unfolding again_out
-no_again u is = ap (λ b. if b && not (is_closed u.name) && is_unacknowledged u.sending then again_segment u ∷ [] else []) is
+no_retransmission : (u : Tcb) → u.retransmission_due ≡ false → retransmission_out u ≡ []
+unfolding retransmission_out
+no_retransmission u is = ap (λ b. if b && not (is_closed u.name) && is_unacknowledged u.sending then retransmitted_segment u ∷ [] else []) is
 
-pub once_again : (u : Tcb) → has_begun u.name ≡ true → u.again ≡ true → is_unacknowledged u.sending ≡ true → again_out u ≡ again_segment u ∷ []
-unfolding again_out
-once_again u begun is waits = λ i. if is i && not (begun_open u.name begun i) && waits i then again_segment u ∷ [] else []
+pub one_retransmission : (u : Tcb) → has_begun u.name ≡ true → u.retransmission_due ≡ true → is_unacknowledged u.sending ≡ true → retransmission_out u ≡ retransmitted_segment u ∷ []
+unfolding retransmission_out
+one_retransmission u begun is waits = λ i. if is i && not (begun_open u.name begun i) && waits i then retransmitted_segment u ∷ [] else []
 
 pub no_text_probe : (u : Tcb) → u.probe ≡ false → probes_text u ≡ false
 no_text_probe u is = ap (λ b. b && has_begun u.name && u.sending.syn_acked && not u.sending.fin_sent && nat_lt (u.sending.sent - u.sending.una) (length u.sending.held)) is
@@ -614,27 +614,27 @@ full_out_is a b c d e a' r d' e' p q s t =
     let apart : a ++ b ++ c ++ d ++ e ≡ a ++ ((b ++ c) ++ (d ++ e)) = simp append_assoc in
     apart ∙ (λ i. p i ++ (q i ++ (s i ++ t i)))
 
-again_now : {State : Type 0} {service : Machine State} {news : News} {before after : Point} {u : Tcb} → Flushes service news before after u
+retransmission_now : {State : Type 0} {service : Machine State} {news : News} {before after : Point} {u : Tcb} → Flushes service news before after u
     → (x t w : Bool) → expires news before ≡ x → sender.is_third_duplicate news before ≡ t → waits_for_ack before after ≡ w → (x || t) ≡ true → w ≡ true
-    → again_out u ≡ model.resent service u.local news before after
-again_now {service = service} {news = news} {before = before} {after = after} {u = u} f x t w expiry third wait due waits =
-    once_again u f.begun (f.again ∙ (λ i. (expiry i || third i) && wait i) ∙ (λ i. due i && waits i)) (waits_here f (wait ∙ waits)) ∙ again_is f (wait ∙ waits)
+    → retransmission_out u ≡ model.resent service u.local news before after
+retransmission_now {service = service} {news = news} {before = before} {after = after} {u = u} f x t w expiry third wait due waits =
+    one_retransmission u f.begun (f.retransmission_due ∙ (λ i. (expiry i || third i) && wait i) ∙ (λ i. due i && waits i)) (waits_here f (wait ∙ waits)) ∙ retransmission_is f (wait ∙ waits)
     ∙ (λ i. if sym due i
     then (if sym waits i then model.first_unacknowledged service u.local before after else model.probe service u.local before after)
     else [])
     ∙ sym (resent_by service u.local news before after x t w expiry third wait)
 
 -- a turn without a probe
-again_by : {State : Type 0} {service : Machine State} {news : News} {before after : Point} {u : Tcb} → Flushes service news before after u
+retransmission_by : {State : Type 0} {service : Machine State} {news : News} {before after : Point} {u : Tcb} → Flushes service news before after u
     → (x t w : Bool) → expires news before ≡ x → sender.is_third_duplicate news before ≡ t → waits_for_ack before after ≡ w → (x && not w) ≡ false
-    → again_out u ≡ model.resent service u.local news before after
-again_by {service = service} {news = news} {before = before} {after = after} {u = u} f false false w expiry third wait unprobed =
-    no_again u (f.again ∙ (λ i. (expiry i || third i) && waits_for_ack before after))
+    → retransmission_out u ≡ model.resent service u.local news before after
+retransmission_by {service = service} {news = news} {before = before} {after = after} {u = u} f false false w expiry third wait unprobed =
+    no_retransmission u (f.retransmission_due ∙ (λ i. (expiry i || third i) && waits_for_ack before after))
     ∙ sym (resent_by service u.local news before after false false w expiry third wait)
-again_by {service = service} {news = news} {before = before} {after = after} {u = u} f false true w expiry third wait unprobed =
-    again_now f false true w expiry third wait refl (sym wait ∙ f.third third)
-again_by f true t true expiry third wait unprobed = again_now f true t true expiry third wait refl refl
-again_by f true t false expiry third wait unprobed = absurd (false≢true (sym unprobed))
+retransmission_by {service = service} {news = news} {before = before} {after = after} {u = u} f false true w expiry third wait unprobed =
+    retransmission_now f false true w expiry third wait refl (sym wait ∙ f.third third)
+retransmission_by f true t true expiry third wait unprobed = retransmission_now f true t true expiry third wait refl refl
+retransmission_by f true t false expiry third wait unprobed = absurd (false≢true (sym unprobed))
 
 unprobed_is : {State : Type 0} {service : Machine State} {news : News} {before after : Point} {u : Tcb} → Flushes service news before after u
     → (x t w : Bool) → expires news before ≡ x → sender.is_third_duplicate news before ≡ t → waits_for_ack before after ≡ w → (x && not w) ≡ false
@@ -642,11 +642,11 @@ unprobed_is : {State : Type 0} {service : Machine State} {news : News} {before a
 unfolding full_out
 unprobed_is {service = service} {news = news} {before = before} {after = after} {u = u} f x t w expiry third wait unprobed_here =
     let probe : u.probe ≡ false = f.probe ∙ (λ i. expiry i && not (wait i)) ∙ unprobed_here in
-    full_out_is (answer_out u) (again_out u) (probe_out u) (text_out (with_probe u)) (fin_out (with_text_sent (with_probe u)))
+    full_out_is (reset_reply_out u) (retransmission_out u) (probe_out u) (text_out (with_probe u)) (fin_out (with_text_sent (with_probe u)))
     (refusals u.local news before) (model.resent service u.local news before after) (model.new_texts service u.local before after) (model.new_fin service u.local before after)
-    f.answer
-    (ap (λ l. again_out u ++ l) (probe_by u false false (no_text_probe u probe) (no_fin_probe u probe)) ∙ append-nil (again_out u)
-    ∙ again_by f x t w expiry third wait unprobed_here)
+    f.reset_reply
+    (ap (λ l. retransmission_out u ++ l) (probe_by u false false (no_text_probe u probe) (no_fin_probe u probe)) ∙ append-nil (retransmission_out u)
+    ∙ retransmission_by f x t w expiry third wait unprobed_here)
     (ap text_out (unprobed u probe) ∙ text_out_is f)
     (ap (λ v. fin_out (with_text_sent v)) (unprobed u probe) ∙ fin_out_is f)
 
@@ -658,15 +658,15 @@ unfolding full_out
 full_by f false t w expiry third wait = unprobed_is f false t w expiry third wait refl
 full_by f true t true expiry third wait = unprobed_is f true t true expiry third wait refl
 full_by {service = service} {news = news} {before = before} {after = after} {u = u} f true t false expiry third wait =
-    let again : u.again ≡ false = f.again ∙ (λ i. (expiry i || third i) && wait i) in
+    let retransmission_due : u.retransmission_due ≡ false = f.retransmission_due ∙ (λ i. (expiry i || third i) && wait i) in
     let probe : u.probe ≡ true = f.probe ∙ (λ i. expiry i && not (wait i)) in
     let shut : u.sending.edge ≤ u.sending.sent = f.probes.shut probe in
     let still : (with_probe u).sending.edge ≤ (with_probe u).sending.sent = shut_still u shut in
     let shut_there : after.edge ≤ before.sent = omega (arith, shut, f.sends.edge, f.sent) in
-    full_out_is (answer_out u) (again_out u) (probe_out u) (text_out (with_probe u)) (fin_out (with_text_sent (with_probe u)))
+    full_out_is (reset_reply_out u) (retransmission_out u) (probe_out u) (text_out (with_probe u)) (fin_out (with_text_sent (with_probe u)))
     (refusals u.local news before) (model.resent service u.local news before after) (model.new_texts service u.local before after) (model.new_fin service u.local before after)
-    f.answer
-    ((λ i. no_again u again i ++ probed_is f (nat_lt (u.sending.sent - u.sending.una) (length u.sending.held)) probe refl i)
+    f.reset_reply
+    ((λ i. no_retransmission u retransmission_due i ++ probed_is f (nat_lt (u.sending.sent - u.sending.una) (length u.sending.held)) probe refl i)
     ∙ sym (resent_by service u.local news before after true t false expiry third wait))
     (no_text_out (with_probe u) still ∙ sym (no_new_texts service u.local before after shut_there))
     (no_fin_out (with_probe u) still ∙ sym (no_new_fin service u.local before after shut_there))

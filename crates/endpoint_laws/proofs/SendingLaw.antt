@@ -11,11 +11,11 @@ use Rattle.seq_arith.specs.Congestion.{Congestion, with_new_data, is_third, with
 use Rattle.tcp_buffers.specs.Near.{IsNearFirst, is_ahead}
 use Rattle.tcp_buffers.proofs.NumbersTell.{between_is, same_is}
 use Rattle.tcp_endpoint.specs.States.{after_syn_acked, after_fin, after_fin_acked, has_begun}
-use Rattle.tcp_endpoint.specs.Receiving.{Receiving, taken, next, announced_edge}
+use Rattle.tcp_endpoint.specs.Receiving.{Receiving, taken, next, advertised_edge}
 use Rattle.tcp_endpoint.specs.Sending.{Sending, with_syn_acked, acknowledged, duplicated, answered_by, fin_acked, moves_edge, expires}
 use Rattle.tcp_endpoint.specs.Sending as sender
 use Rattle.tcp_endpoint.specs.Tcb.{Tcb}
-use Rattle.tcp_endpoint.specs.Arrival.{first, ack_at, owing_if, entering, with_text_and_fin, with_fin_acked, with_first_ack, is_bare, with_ack_used, with_ack, waiting_again, in_others, received, refusing}
+use Rattle.tcp_endpoint.specs.Arrival.{first, ack_at, with_ack_pending_if, entering, with_text_and_fin, with_fin_acked, with_first_ack, is_bare, with_ack_used, with_ack, with_time_wait_restarted, in_others, received, with_reset_reply}
 use Rattle.tcp_endpoint.specs.Turning.{after_tick, timer_ticked, waited}
 use Rattle.endpoint_laws.specs.Laws.{uses, counts, acknowledges, uses_window, is_duplicate, is_third_duplicate, congestion_by, congestion_ticked, IsSentBy, IsBounded, IsUsual}
 use Rattle.tcp_endpoint.proofs.Places.{near_of_usable}
@@ -42,27 +42,27 @@ later_ack_part : (e : Tcb) (p : Segment) → is_ahead e.sending.sent (ack_at e p
 unfolding with_ack with_ack_used
 later_ack_part e p sent =
     let used : Tcb = with_ack_used e p
-    in ap (λ b. (if b then owing_if true e else with_text_and_fin (with_fin_acked used) p).sending) sent
+    in ap (λ b. (if b then with_ack_pending_if true e else with_text_and_fin (with_fin_acked used) p).sending) sent
     ∙ text_part (with_fin_acked used) p
     ∙ acked_part used
 
 first_ack_part : (e : Tcb) (p : Segment)
     → (with_first_ack e p).sending ≡ (if int_eq (ack_at e p) (pos 0) then with_syn_acked e.sending p.head.seq p.head.window else e.sending)
-unfolding with_first_ack refusing
+unfolding with_first_ack with_reset_reply
 first_ack_part e p =
     let opening : Tcb = record e { name = after_syn_acked e.sending.closed; sending = with_syn_acked e.sending p.head.seq p.head.window }
-    in part_of_if (λ (t : Tcb). t.sending) (int_eq (ack_at e p) (pos 0)) (with_text_and_fin opening p) (refusing e p)
+    in part_of_if (λ (t : Tcb). t.sending) (int_eq (ack_at e p) (pos 0)) (with_text_and_fin opening p) (with_reset_reply e p)
     ∙ ap (λ x. if int_eq (ack_at e p) (pos 0) then x else e.sending) (text_part opening p)
 
 sending_aside : Aside (λ (e : Tcb). e.sending)
-unfolding waiting_again
-sending_aside = record { killed = λ e. refl; owing = λ b e. refl; waiting = λ e p. refl }
+unfolding with_time_wait_restarted
+sending_aside = record { with_reset = λ e. refl; pending = λ b e. refl; waiting = λ e p. refl }
 
 checks_use : (e : Tcb) (p : Segment) → IsBounded e → IsUsual e p
     → (in_others e p).sending
     ≡ by_checks (goes_on e p) (has_rst p) (has_syn p) (has_ack p) e.sending.syn_acked
     (int_eq (ack_at e p) (pos 0)) (answered_at e p) (with_syn_acked e.sending p.head.seq p.head.window) e.sending
-unfolding waiting_again
+unfolding with_time_wait_restarted
 checks_use e p bounded usual =
     others_part (λ (t : Tcb). t.sending) e p sending_aside ∙ if_when (goes_on e p) _ _ _ _
     (λ goes. if_when (has_rst p) _ _ _ _ (λ h. refl)
@@ -123,7 +123,7 @@ next_near r small within = next_by r.fin (taken r) r.limit small within
 window_by : (read limit len k : ℕ) → min (read + 65535) limit + k - (read + len + k) ≤ 2 ^ 16
 window_by read limit len k = omega arith
 
-pub window_short : (r : Receiving) → announced_edge r - next r ≤ 2 ^ 16
+pub window_short : (r : Receiving) → advertised_edge r - next r ≤ 2 ^ 16
 window_short r = window_by r.read r.limit (length r.unread) (if r.fin then 1 else 0)
 
 -- a segment has at most 2^16 numbers
@@ -137,7 +137,7 @@ used_of ack syn rst false acked h = absurd (false≢true (dull_end (ack && not s
 -- what counts is used by its place, and so begins near
 pub near_of_counts : (e : Tcb) (p : Segment) → IsBounded e → IsUsual e p → counts e p ≡ true → IsNearFirst (first e p)
 near_of_counts e p bounded usual does_count =
-    near_of_usable (next e.receiving) (announced_edge e.receiving - next e.receiving) (first e p) (length_of p)
+    near_of_usable (next e.receiving) (advertised_edge e.receiving - next e.receiving) (first e p) (length_of p)
     (next_near e.receiving bounded.limit bounded.taken) (window_short e.receiving) (length_short p usual.text)
     (used_of (has_ack p) (has_syn p) (has_rst p) (uses e p) (e.sending.syn_acked || int_le (pos 0) (ack_at e p)) does_count)
 
@@ -207,17 +207,17 @@ duplicate_alone false s = refl
 
 -- the endpoint with an acknowledgement used, by its congestion window and by what is due again
 abbrev pub used_with : Tcb → Segment → Congestion → Bool → Tcb
-used_with e p congestion again = record e {
+used_with e p congestion retransmission_due = record e {
   sending = record (acknowledged e.sending p.head.seq (ack_at e p) p.head.window) { congestion = congestion };
-  again = again;
+  retransmission_due = retransmission_due;
 }
 
-pub used_is : (e : Tcb) (p : Segment) → with_ack_used e p ≡ used_with e p (answered_at e p).congestion (with_ack_used e p).again
+pub used_is : (e : Tcb) (p : Segment) → with_ack_used e p ≡ used_with e p (answered_at e p).congestion (with_ack_used e p).retransmission_due
 unfolding with_ack_used answered_by
 used_is e p =
     let used : Sending = acknowledged e.sending p.head.seq (ack_at e p) p.head.window in
-    let again : Bool = (with_ack_used e p).again in
-    ap (λ s. record e { sending = s; again = again }) (duplicate_alone (sender.is_duplicate e.sending (is_bare p) (ack_at e p) p.head.window) used)
+    let retransmission_due : Bool = (with_ack_used e p).retransmission_due in
+    ap (λ s. record e { sending = s; retransmission_due = retransmission_due }) (duplicate_alone (sender.is_duplicate e.sending (is_bare p) (ack_at e p) p.head.window) used)
 
 -- .. to what the law says
 answered_congestion : (e : Tcb) (p : Segment) → IsUsual e p → counts e p ≡ true
@@ -372,52 +372,52 @@ sending_law e p begun bounded usual =
     (λ no_count. other_law e p no_count))
 
 -- what is due again
-text_again : (e : Tcb) (p : Segment) → (with_text_and_fin e p).again ≡ e.again
+text_retransmission : (e : Tcb) (p : Segment) → (with_text_and_fin e p).retransmission_due ≡ e.retransmission_due
 unfolding with_text_and_fin
-text_again e p =
+text_retransmission e p =
     let taking : Tcb = record e { receiving = segment_taken e p }
-    in part_of_if (λ (t : Tcb). t.again) (taking.receiving.fin && not e.receiving.fin) (entering (after_fin e.name) taking) taking
-    ∙ same_if (taking.receiving.fin && not e.receiving.fin) e.again
+    in part_of_if (λ (t : Tcb). t.retransmission_due) (taking.receiving.fin && not e.receiving.fin) (entering (after_fin e.name) taking) taking
+    ∙ same_if (taking.receiving.fin && not e.receiving.fin) e.retransmission_due
 
-acked_again : (e : Tcb) → (with_fin_acked e).again ≡ e.again
+acked_retransmission : (e : Tcb) → (with_fin_acked e).retransmission_due ≡ e.retransmission_due
 unfolding with_fin_acked
-acked_again e = part_of_if (λ (t : Tcb). t.again) (fin_acked e.sending) (entering (after_fin_acked e.name) e) e ∙ same_if (fin_acked e.sending) e.again
+acked_retransmission e = part_of_if (λ (t : Tcb). t.retransmission_due) (fin_acked e.sending) (entering (after_fin_acked e.name) e) e ∙ same_if (fin_acked e.sending) e.retransmission_due
 
-abbrev later_again : Tcb → Segment → Bool
-later_again e p = e.again || sender.is_third_duplicate e.sending (is_bare p) (ack_at e p) p.head.window
+abbrev later_retransmission : Tcb → Segment → Bool
+later_retransmission e p = e.retransmission_due || sender.is_third_duplicate e.sending (is_bare p) (ack_at e p) p.head.window
 
-later_ack_again : (e : Tcb) (p : Segment) → is_ahead e.sending.sent (ack_at e p) ≡ false → (with_ack e p).again ≡ later_again e p
+later_ack_retransmission : (e : Tcb) (p : Segment) → is_ahead e.sending.sent (ack_at e p) ≡ false → (with_ack e p).retransmission_due ≡ later_retransmission e p
 unfolding with_ack with_ack_used
-later_ack_again e p sent =
+later_ack_retransmission e p sent =
     let used : Tcb = with_ack_used e p
-    in ap (λ b. (if b then owing_if true e else with_text_and_fin (with_fin_acked used) p).again) sent
-    ∙ text_again (with_fin_acked used) p
-    ∙ acked_again used
+    in ap (λ b. (if b then with_ack_pending_if true e else with_text_and_fin (with_fin_acked used) p).retransmission_due) sent
+    ∙ text_retransmission (with_fin_acked used) p
+    ∙ acked_retransmission used
 
-first_ack_again : (e : Tcb) (p : Segment) → (with_first_ack e p).again ≡ e.again
-unfolding with_first_ack refusing
-first_ack_again e p =
+first_ack_retransmission : (e : Tcb) (p : Segment) → (with_first_ack e p).retransmission_due ≡ e.retransmission_due
+unfolding with_first_ack with_reset_reply
+first_ack_retransmission e p =
     let opening : Tcb = record e { name = after_syn_acked e.sending.closed; sending = with_syn_acked e.sending p.head.seq p.head.window }
-    in part_of_if (λ (t : Tcb). t.again) (int_eq (ack_at e p) (pos 0)) (with_text_and_fin opening p) (refusing e p)
-    ∙ ap (λ b. if int_eq (ack_at e p) (pos 0) then b else e.again) (text_again opening p)
-    ∙ same_if (int_eq (ack_at e p) (pos 0)) e.again
+    in part_of_if (λ (t : Tcb). t.retransmission_due) (int_eq (ack_at e p) (pos 0)) (with_text_and_fin opening p) (with_reset_reply e p)
+    ∙ ap (λ b. if int_eq (ack_at e p) (pos 0) then b else e.retransmission_due) (text_retransmission opening p)
+    ∙ same_if (int_eq (ack_at e p) (pos 0)) e.retransmission_due
 
-again_aside : Aside (λ (e : Tcb). e.again)
-unfolding waiting_again
-again_aside = record { killed = λ e. refl; owing = λ b e. refl; waiting = λ e p. refl }
+retransmission_aside : Aside (λ (e : Tcb). e.retransmission_due)
+unfolding with_time_wait_restarted
+retransmission_aside = record { with_reset = λ e. refl; pending = λ b e. refl; waiting = λ e p. refl }
 
 checks_repeat : (e : Tcb) (p : Segment) → IsBounded e → IsUsual e p
-    → (in_others e p).again
-    ≡ by_checks (goes_on e p) (has_rst p) (has_syn p) (has_ack p) e.sending.syn_acked (int_eq (ack_at e p) (pos 0)) (later_again e p) e.again e.again
-unfolding waiting_again
+    → (in_others e p).retransmission_due
+    ≡ by_checks (goes_on e p) (has_rst p) (has_syn p) (has_ack p) e.sending.syn_acked (int_eq (ack_at e p) (pos 0)) (later_retransmission e p) e.retransmission_due e.retransmission_due
+unfolding with_time_wait_restarted
 checks_repeat e p bounded usual =
-    others_part (λ (t : Tcb). t.again) e p again_aside ∙ if_when (goes_on e p) _ _ _ _
+    others_part (λ (t : Tcb). t.retransmission_due) e p retransmission_aside ∙ if_when (goes_on e p) _ _ _ _
     (λ goes. if_when (has_rst p) _ _ _ _ (λ h. refl)
     (λ no_rst. if_when (has_syn p) _ _ _ _ (λ h. refl)
     (λ no_syn. if_when (has_ack p) _ _ _ _
     (λ is_ack. if_when e.sending.syn_acked _ _ _ _
-    (λ h. later_ack_again (at_ack e p) p (sent_bool e p bounded usual is_ack))
-    (λ h. first_ack_again (at_ack e p) p ∙ sym (same_if (int_eq (ack_at e p) (pos 0)) e.again)))
+    (λ h. later_ack_retransmission (at_ack e p) p (sent_bool e p bounded usual is_ack))
+    (λ h. first_ack_retransmission (at_ack e p) p ∙ sym (same_if (int_eq (ack_at e p) (pos 0)) e.retransmission_due)))
     (λ h. refl))))
     (λ h. refl)
 
@@ -429,18 +429,18 @@ first_is_none e p bounded syn_unacked =
     let edge : Bool = nat_abs (ack_at e p) + p.head.window == s.edge in
     ap (λ b. before && b && edge) (none_above s.una s.sent (bounded.syn_unacked syn_unacked)) ∙ ap (λ b. b && edge) (and_false before)
 
-no_third : (e : Tcb) (p : Segment) → is_duplicate e p ≡ false → e.again ≡ (e.again || is_third_duplicate e p)
-no_third e p none = or_false e.again ∙ ap (λ b. e.again || (b && is_third e.sending.congestion)) (sym none)
+no_third : (e : Tcb) (p : Segment) → is_duplicate e p ≡ false → e.retransmission_due ≡ (e.retransmission_due || is_third_duplicate e p)
+no_third e p none = or_false e.retransmission_due ∙ ap (λ b. e.retransmission_due || (b && is_third e.sending.congestion)) (sym none)
 
-pub again_law : (e : Tcb) (p : Segment) → has_begun e.name ≡ true → IsBounded e → IsUsual e p → (received e p).again ≡ (e.again || is_third_duplicate e p)
+pub retransmission_law : (e : Tcb) (p : Segment) → has_begun e.name ≡ true → IsBounded e → IsUsual e p → (received e p).retransmission_due ≡ (e.retransmission_due || is_third_duplicate e p)
 unfolding received
-again_law e p begun bounded usual =
-    let goal : Bool = e.again || is_third_duplicate e p in
-    ap (λ (t : Tcb). t.again) (begun_is e.name e p begun) ∙ checks_repeat e p bounded usual
-    ∙ chosen_is e p (later_again e p) e.again e.again bounded usual
+retransmission_law e p begun bounded usual =
+    let goal : Bool = e.retransmission_due || is_third_duplicate e p in
+    ap (λ (t : Tcb). t.retransmission_due) (begun_is e.name e p begun) ∙ checks_repeat e p bounded usual
+    ∙ chosen_is e p (later_retransmission e p) e.retransmission_due e.retransmission_due bounded usual
     ∙ if_when (counts e p) _ goal _ goal
     (λ does_count. if_when e.sending.syn_acked _ goal _ goal
-    (λ h. ap (λ b. e.again || (b && is_third e.sending.congestion)) (duplicate_is e p does_count))
+    (λ h. ap (λ b. e.retransmission_due || (b && is_third e.sending.congestion)) (duplicate_is e p does_count))
     (λ h. no_third e p (first_is_none e p bounded h)) ∙ same_if e.sending.syn_acked goal)
     (λ no_count. no_third e p (uncounted_is_none e p no_count))
     ∙ same_if (counts e p) goal

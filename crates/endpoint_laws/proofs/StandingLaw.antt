@@ -20,7 +20,7 @@ use Rattle.ft_model.specs.Taken as model
 use Rattle.ft_model.specs.Sending as sender
 use Rattle.tcp_buffers.specs.Near.{IsNearFirst}
 use Rattle.tcp_endpoint.specs.States.{has_begun}
-use Rattle.tcp_endpoint.specs.Receiving.{Receiving, taken, next, receive_edge, announced_edge, came, with_came}
+use Rattle.tcp_endpoint.specs.Receiving.{Receiving, taken, next, receive_edge, advertised_edge, came, with_came}
 use Rattle.tcp_endpoint.specs.Sending.{Sending}
 use Rattle.tcp_endpoint.specs.Tcb.{Tcb}
 use Rattle.tcp_endpoint.specs.Arrival.{first, ack_at, received}
@@ -54,13 +54,13 @@ edge_is p e r =
     let moved : point.receive_edge p ≡ min (e.receiving.read + p.fetched + 65535) (2 ^ 24) = ap (λ n. min (n + 65535) (2 ^ 24)) r.read
     in moved ∙ edge_by e.receiving.read e.receiving.limit p.fetched r.limit
 
-pub announced_is : (p : Point) (e : Tcb) → ReceivesAt p e → point.announced_edge p ≡ announced_edge e.receiving + p.fetched
-announced_is p e r =
-    let moved : point.announced_edge p ≡ receive_edge e.receiving + p.fetched + one_if e.receiving.fin = λ i. edge_is p e r i + one_if (r.fin i)
+pub advertised_is : (p : Point) (e : Tcb) → ReceivesAt p e → point.advertised_edge p ≡ advertised_edge e.receiving + p.fetched
+advertised_is p e r =
+    let moved : point.advertised_edge p ≡ receive_edge e.receiving + p.fetched + one_if e.receiving.fin = λ i. edge_is p e r i + one_if (r.fin i)
     in omega (arith, moved)
 
-pub room_is : (p : Point) (e : Tcb) → ReceivesAt p e → room p ≡ announced_edge e.receiving - next e.receiving
-room_is p e r = omega (arith, announced_is p e r, next_is p e r)
+pub room_is : (p : Point) (e : Tcb) → ReceivesAt p e → room p ≡ advertised_edge e.receiving - next e.receiving
+room_is p e r = omega (arith, advertised_is p e r, next_is p e r)
 
 -- an offset counted from a stream's beginning, and from some bytes after it
 near_moves : (cisn irs number fetched : ℕ) → number < 2 ^ 32 → irs ≡ (cisn + fetched) % 2 ^ 32 → fetched ≤ 2 ^ 24 → IsNearFirst (offset_of irs number)
@@ -163,11 +163,11 @@ accepts_is p e segment m =
     let few : p.fetched ≤ 2 ^ 24 = fetched_few e.receiving.limit p.fetched r.limit in
     let moved : Moved (first_of p.cisn segment) (first e segment) p.fetched = moved_first p e segment m in
     let near : next e.receiving ≤ 2 ^ 30 + 1 = next_near e.receiving m.bounds.limit m.bounds.taken in
-    let short : announced_edge e.receiving - next e.receiving ≤ 2 ^ 16 = window_short e.receiving in
+    let short : advertised_edge e.receiving - next e.receiving ≤ 2 ^ 16 = window_short e.receiving in
     (λ i. is_acceptable_or_at_edge (next_is p e r i) (room_is p e r i) (first_of p.cisn segment) (length_of segment))
-    ∙ (λ i. acceptable_moves (next e.receiving) (announced_edge e.receiving - next e.receiving) (length_of segment) p.fetched (first_of p.cisn segment) (first e segment) moved few near
+    ∙ (λ i. acceptable_moves (next e.receiving) (advertised_edge e.receiving - next e.receiving) (length_of segment) p.fetched (first_of p.cisn segment) (first e segment) moved few near
     short (length_short segment m.usual.text) i
-    || right_edge_moves (next e.receiving) (announced_edge e.receiving - next e.receiving) (length_of segment) p.fetched (first_of p.cisn segment) (first e segment) moved few near short i)
+    || right_edge_moves (next e.receiving) (advertised_edge e.receiving - next e.receiving) (length_of segment) p.fetched (first_of p.cisn segment) (first e segment) moved few near short i)
 
 uses_is : (p : Point) (e : Tcb) (segment : Segment) → Meets p e segment → model.uses p segment ≡ uses e segment
 unfolding model.uses model.accepts
@@ -176,14 +176,14 @@ uses_is p e segment m =
     let few : p.fetched ≤ 2 ^ 24 = fetched_few e.receiving.limit p.fetched r.limit in
     let near : next e.receiving ≤ 2 ^ 30 + 1 = next_near e.receiving m.bounds.limit m.bounds.taken in
     let at_zero : is_allowed_at_zero (taken_units p) (room p) (first_of p.cisn segment)
-    ≡ is_allowed_at_zero (next e.receiving) (announced_edge e.receiving - next e.receiving) (first e segment) =
+    ≡ is_allowed_at_zero (next e.receiving) (advertised_edge e.receiving - next e.receiving) (first e segment) =
     (λ i. is_allowed_at_zero (next_is p e r i) (room_is p e r i) (first_of p.cisn segment))
-    ∙ zero_moves (next e.receiving) (announced_edge e.receiving - next e.receiving) p.fetched (first_of p.cisn segment) (first e segment) (moved_first p e segment m) few near in
+    ∙ zero_moves (next e.receiving) (advertised_edge e.receiving - next e.receiving) p.fetched (first_of p.cisn segment) (first e segment) (moved_first p e segment m) few near in
     λ i. accepts_is p e segment m i || at_zero i
 
 near_of_uses : (e : Tcb) (segment : Segment) → IsBounded e → IsUsual e segment → uses e segment ≡ true → IsNearFirst (first e segment)
 near_of_uses e segment b usual h =
-    near_of_usable (next e.receiving) (announced_edge e.receiving - next e.receiving) (first e segment) (length_of segment)
+    near_of_usable (next e.receiving) (advertised_edge e.receiving - next e.receiving) (first e segment) (length_of segment)
     (next_near e.receiving b.limit b.taken) (window_short e.receiving) (length_short segment usual.text) h
 
 pub first_is : (p : Point) (e : Tcb) (segment : Segment) → Meets p e segment → uses e segment ≡ true

@@ -11,10 +11,10 @@ use Rattle.tcp_buffers.specs.Near.{is_ahead}
 use Rattle.tcp_endpoint.specs.declared.states.StateName.{StateName}
 use Rattle.tcp_endpoint.specs.declared.states.StateName.TheVariants.{Closed, Listen, SynSent, SynReceived, Established, FinWait1, FinWait2, CloseWait, Closing, LastAck, TimeWait}
 use Rattle.tcp_endpoint.specs.States.{after_syn_acked, after_fin, after_fin_acked, has_begun}
-use Rattle.tcp_endpoint.specs.Receiving.{Receiving, next, announced_edge, window, with_segment}
+use Rattle.tcp_endpoint.specs.Receiving.{Receiving, next, advertised_edge, window, with_segment}
 use Rattle.tcp_endpoint.specs.Sending.{with_syn_acked, fin_acked}
 use Rattle.tcp_endpoint.specs.Tcb.{Tcb}
-use Rattle.tcp_endpoint.specs.Arrival.{first, ack_at, owing_if, killed, entering, with_text_and_fin, with_fin_acked, with_first_ack, with_ack_used, with_ack, check_ack, check_syn, check_rst, waiting_again, check_place, in_others, received_in, received, refusing}
+use Rattle.tcp_endpoint.specs.Arrival.{first, ack_at, with_ack_pending_if, with_reset, entering, with_text_and_fin, with_fin_acked, with_first_ack, with_ack_used, with_ack, check_ack, check_syn, check_rst, with_time_wait_restarted, check_sequence, in_others, received_in, received, with_reset_reply}
 use Rattle.tcp_endpoint.specs.Arrival as check
 use Rattle.endpoint_laws.specs.Laws.{accepts, uses, counts, taken_by, IsBounded, IsUsual}
 use Rattle.ft_io.proofs.Booleans.{and_true}
@@ -74,32 +74,32 @@ segment_taken e p = with_segment e.receiving (first e p) p.payload (has_fin p)
 
 -- a part of the endpoint that neither the state nor what is owed touches
 pub record Aside {X : Type 0} (f : Tcb → X) : Type 0 where
-  pub killed : (e : Tcb) → f (killed e) ≡ f e
-  pub owing : (b : Bool) (e : Tcb) → f (owing_if b e) ≡ f e
-  pub waiting : (e : Tcb) (p : Segment) → f (waiting_again e p) ≡ f e
+  pub with_reset : (e : Tcb) → f (with_reset e) ≡ f e
+  pub pending : (b : Bool) (e : Tcb) → f (with_ack_pending_if b e) ≡ f e
+  pub waiting : (e : Tcb) (p : Segment) → f (with_time_wait_restarted e p) ≡ f e
 
-place_part : {X : Type 0} (f : Tcb → X) (e : Tcb) (p : Segment) → Aside f → f (check_place e p) ≡ (if goes_on e p then f (check_rst e p) else f e)
-unfolding check_place
+place_part : {X : Type 0} (f : Tcb → X) (e : Tcb) (p : Segment) → Aside f → f (check_sequence e p) ≡ (if goes_on e p then f (check_rst e p) else f e)
+unfolding check_sequence
 place_part f e p aside =
-    part_of_if f (goes_on e p) (check_rst e p) (owing_if (not (has_rst p)) e)
-    ∙ ap (λ x. if goes_on e p then f (check_rst e p) else x) (aside.owing (not (has_rst p)) e)
+    part_of_if f (goes_on e p) (check_rst e p) (with_ack_pending_if (not (has_rst p)) e)
+    ∙ ap (λ x. if goes_on e p then f (check_rst e p) else x) (aside.pending (not (has_rst p)) e)
 
-reset_part : {X : Type 0} (f : Tcb → X) (e : Tcb) (b : Bool) → Aside f → f (if b then killed e else owing_if true e) ≡ f e
-reset_part f e true aside = aside.killed e
-reset_part f e false aside = aside.owing true e
+reset_part : {X : Type 0} (f : Tcb → X) (e : Tcb) (b : Bool) → Aside f → f (if b then with_reset e else with_ack_pending_if true e) ≡ f e
+reset_part f e true aside = aside.with_reset e
+reset_part f e false aside = aside.pending true e
 
 rst_part : {X : Type 0} (f : Tcb → X) (e : Tcb) (p : Segment) → Aside f → f (check_rst e p) ≡ (if has_rst p then f e else f (check_syn e p))
 unfolding check_rst
 rst_part f e p aside =
-    part_of_if f (has_rst p) (if int_eq (first e p) (pos (next e.receiving)) then killed e else owing_if true e) (check_syn e p)
+    part_of_if f (has_rst p) (if int_eq (first e p) (pos (next e.receiving)) then with_reset e else with_ack_pending_if true e) (check_syn e p)
     ∙ ap (λ x. if has_rst p then x else f (check_syn e p)) (reset_part f e (int_eq (first e p) (pos (next e.receiving))) aside)
 
 syn_part : {X : Type 0} (f : Tcb → X) (e : Tcb) (p : Segment) → Aside f
-    → f (check_syn e p) ≡ (if has_syn p then f e else f (check_ack (owing_if (nat_lt 0 (length_of p)) e) p))
+    → f (check_syn e p) ≡ (if has_syn p then f e else f (check_ack (with_ack_pending_if (nat_lt 0 (length_of p)) e) p))
 unfolding check_syn
 syn_part f e p aside =
-    part_of_if f (has_syn p) (owing_if true e) (check_ack (owing_if (nat_lt 0 (length_of p)) e) p)
-    ∙ ap (λ x. if has_syn p then x else f (check_ack (owing_if (nat_lt 0 (length_of p)) e) p)) (aside.owing true e)
+    part_of_if f (has_syn p) (with_ack_pending_if true e) (check_ack (with_ack_pending_if (nat_lt 0 (length_of p)) e) p)
+    ∙ ap (λ x. if has_syn p then x else f (check_ack (with_ack_pending_if (nat_lt 0 (length_of p)) e) p)) (aside.pending true e)
 
 ack_part : {X : Type 0} (f : Tcb → X) (e : Tcb) (p : Segment)
     → f (check_ack e p) ≡ (if has_ack p then (if e.sending.syn_acked then f (with_ack e p) else f (with_first_ack e p)) else f e)
@@ -110,16 +110,16 @@ ack_part f e p =
 
 -- the endpoint that the fifth check meets
 abbrev pub at_ack : Tcb → Segment → Tcb
-at_ack e p = owing_if (nat_lt 0 (length_of p)) (waiting_again e p)
+at_ack e p = with_ack_pending_if (nat_lt 0 (length_of p)) (with_time_wait_restarted e p)
 
 pub others_part : {X : Type 0} (f : Tcb → X) (e : Tcb) (p : Segment) → Aside f
     → f (in_others e p)
     ≡ (if goes_on e p
     then (if has_rst p then f e else (if has_syn p then f e else (if has_ack p then (if e.sending.syn_acked then f (with_ack (at_ack e p) p) else f (with_first_ack (at_ack e p) p)) else f e)))
     else f e)
-unfolding in_others waiting_again check.accepts check.is_allowed
+unfolding in_others with_time_wait_restarted check.accepts check.is_allowed
 others_part f e p aside =
-    let e0 : Tcb = waiting_again e p in
+    let e0 : Tcb = with_time_wait_restarted e p in
     place_part f e0 p aside ∙ if_when (goes_on e p) _ _ _ _
     (λ goes. rst_part f e0 p aside ∙ if_when (has_rst p) _ _ _ _
     (λ h. aside.waiting e p)
@@ -127,7 +127,7 @@ others_part f e p aside =
     (λ h. aside.waiting e p)
     (λ no_syn. ack_part f (at_ack e p) p ∙ if_when (has_ack p) _ _ _ _
     (λ h. refl)
-    (λ h. aside.owing (nat_lt 0 (length_of p)) e0 ∙ aside.waiting e p))))
+    (λ h. aside.pending (nat_lt 0 (length_of p)) e0 ∙ aside.waiting e p))))
     (λ stays. aside.waiting e p)
 
 -- the receiving half, step by step
@@ -147,26 +147,26 @@ later_ack_part : (e : Tcb) (p : Segment) → is_ahead e.sending.sent (ack_at e p
 unfolding with_ack with_ack_used
 later_ack_part e p sent =
     let used : Tcb = with_ack_used e p
-    in ap (λ b. (if b then owing_if true e else with_text_and_fin (with_fin_acked used) p).receiving) sent
+    in ap (λ b. (if b then with_ack_pending_if true e else with_text_and_fin (with_fin_acked used) p).receiving) sent
     ∙ text_part (with_fin_acked used) p
     ∙ ap (λ r. with_segment r (offset_of r.irs p.head.seq) p.payload (has_fin p)) (acked_part used)
 
 first_ack_part : (e : Tcb) (p : Segment) → (with_first_ack e p).receiving ≡ (if int_eq (ack_at e p) (pos 0) then segment_taken e p else e.receiving)
-unfolding with_first_ack refusing
+unfolding with_first_ack with_reset_reply
 first_ack_part e p =
     let opening : Tcb = record e { name = after_syn_acked e.sending.closed; sending = with_syn_acked e.sending p.head.seq p.head.window }
-    in part_of_if (λ (t : Tcb). t.receiving) (int_eq (ack_at e p) (pos 0)) (with_text_and_fin opening p) (refusing e p)
+    in part_of_if (λ (t : Tcb). t.receiving) (int_eq (ack_at e p) (pos 0)) (with_text_and_fin opening p) (with_reset_reply e p)
     ∙ ap (λ x. if int_eq (ack_at e p) (pos 0) then x else e.receiving) (text_part opening p)
 
 receiving_aside : Aside (λ (e : Tcb). e.receiving)
-unfolding waiting_again
-receiving_aside = record { killed = λ e. refl; owing = λ b e. refl; waiting = λ e p. refl }
+unfolding with_time_wait_restarted
+receiving_aside = record { with_reset = λ e. refl; pending = λ b e. refl; waiting = λ e p. refl }
 
 checks_take : (e : Tcb) (p : Segment) → IsBounded e → IsUsual e p
     → (in_others e p).receiving
     ≡ by_checks (goes_on e p) (has_rst p) (has_syn p) (has_ack p) e.sending.syn_acked
     (int_eq (ack_at e p) (pos 0)) (segment_taken e p) (segment_taken e p) e.receiving
-unfolding waiting_again
+unfolding with_time_wait_restarted
 checks_take e p bounded usual =
     others_part (λ (t : Tcb). t.receiving) e p receiving_aside ∙ if_when (goes_on e p) _ _ _ _
     (λ goes. if_when (has_rst p) _ _ _ _ (λ h. refl)
@@ -212,7 +212,7 @@ by_law a z false false true false k q x x' y same = first_by_law a z k x' y ∙ 
 by_law a z false false false o k q x x' y same = same_if (a || (z && (o || k))) y
 
 -- the window is what is announced beyond RCV.NXT
-pub window_is : (r : Receiving) → announced_edge r - next r ≡ window r
+pub window_is : (r : Receiving) → advertised_edge r - next r ≡ window r
 window_is r = grind arith
 
 -- without SYN and RST all text and the FIN count

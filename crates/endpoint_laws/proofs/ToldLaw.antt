@@ -8,74 +8,74 @@ use Rattle.seq_arith.specs.Packet.{Segment, has_syn, has_rst, has_ack}
 use Rattle.seq_arith.specs.Offset.{one_if}
 use Rattle.tcp_buffers.specs.Near.{is_ahead}
 use Rattle.tcp_endpoint.specs.States.{after_syn_acked, after_fin, after_fin_acked, is_syn_sent, has_begun}
-use Rattle.tcp_endpoint.specs.Receiving.{next, announced_edge}
+use Rattle.tcp_endpoint.specs.Receiving.{next, advertised_edge}
 use Rattle.tcp_endpoint.specs.Sending.{Sending, with_syn_acked, fin_acked, congestion_expired, target, send_edge, sendable, sends_fin, must_run, timed, expires, ticked, with_sent, with_fin_sent}
 use Rattle.tcp_endpoint.specs.Tcb.{Tcb}
-use Rattle.tcp_endpoint.specs.Arrival.{ack_at, owing_if, entering, with_text_and_fin, with_fin_acked, with_first_ack, with_ack_used, with_ack, waiting_again, received, refusing}
-use Rattle.tcp_endpoint.specs.Leaving.{or_bare, is_owed, bare_segment, full_out, leaving, probes_text, probes_fin, with_probe, with_text_sent, with_fin_out, after_full, announced, is_timed, with_turn_ended, flushed}
+use Rattle.tcp_endpoint.specs.Arrival.{ack_at, with_ack_pending_if, entering, with_text_and_fin, with_fin_acked, with_first_ack, with_ack_used, with_ack, with_time_wait_restarted, received, with_reset_reply}
+use Rattle.tcp_endpoint.specs.Leaving.{or_bare, is_ack_pending, bare_segment, full_out, leaving, probes_text, probes_fin, with_probe, with_text_sent, with_fin_out, after_full, with_advertised, is_timed, with_turn_ended, flushed}
 use Rattle.tcp_endpoint.specs.Turning.{after_tick, timer_ticked, waited, after_write}
-use Rattle.endpoint_laws.specs.Laws.{is_refused, owes, told, asks, IsBounded, IsUsual, ProbesRightly, IsShut}
+use Rattle.endpoint_laws.specs.Laws.{is_refused, needs_ack, last_advertised, asks, IsBounded, IsUsual, ProbesRightly, IsShut}
 use Rattle.endpoint_laws.proofs.TakenLaw.{part_of_if, same_if, if_when, begun_is, goes_on, Aside, at_ack, others_part, segment_taken}
-use Rattle.endpoint_laws.proofs.OwedLaw.{owed_law}
+use Rattle.endpoint_laws.proofs.OwedLaw.{ack_pending_law}
 use Rattle.endpoint_laws.proofs.Bounding.{text_facts, two_more_off, three_off, four_off}
 use Rattle.endpoint_laws.proofs.TurnLaw.{after_steps, sent_law, timed_sent, by_probe}
 use Rattle.ft_io.proofs.Booleans.{or_other}
 
 -- a turn's end sends a segment without data where one is owed
-pub leaving_by : (u : Tcb) (owed : Bool) → has_begun u.name ≡ true → u.owed ≡ owed
-    → leaving u ≡ or_bare (asks owed u) (bare_segment (after_full u)) (full_out u)
-unfolding leaving is_owed after_full with_fin_out with_text_sent with_probe
-leaving_by u owed begun is =
-    ap (λ b. or_bare (b && asks u.owed u) (bare_segment (after_full u)) (full_out u)) begun
+pub leaving_by : (u : Tcb) (ack_pending : Bool) → has_begun u.name ≡ true → u.ack_pending ≡ ack_pending
+    → leaving u ≡ or_bare (asks ack_pending u) (bare_segment (after_full u)) (full_out u)
+unfolding leaving is_ack_pending after_full with_fin_out with_text_sent with_probe
+leaving_by u ack_pending begun is =
+    ap (λ b. or_bare (b && asks u.ack_pending u) (bare_segment (after_full u)) (full_out u)) begun
     ∙ ap (λ o. or_bare (asks o u) (bare_segment (after_full u)) (full_out u)) is
 
-pub bare_law : (e u : Tcb) (p : Segment) → has_begun e.name ≡ true → has_begun u.name ≡ true → IsBounded e → IsUsual e p → e.owed ≡ false
-    → is_refused e p ≡ false → u.owed ≡ (received e p).owed
-    → leaving u ≡ or_bare (asks (owes e p) u) (bare_segment (after_full u)) (full_out u)
-bare_law e u p begun begun_after b usual none unrefused owed =
-    leaving_by u (owes e p) begun_after (owed ∙ owed_law e p begun b usual none unrefused)
+pub bare_law : (e u : Tcb) (p : Segment) → has_begun e.name ≡ true → has_begun u.name ≡ true → IsBounded e → IsUsual e p → e.ack_pending ≡ false
+    → is_refused e p ≡ false → u.ack_pending ≡ (received e p).ack_pending
+    → leaving u ≡ or_bare (asks (needs_ack e p) u) (bare_segment (after_full u)) (full_out u)
+bare_law e u p begun begun_after b usual none unrefused ack_pending =
+    leaving_by u (needs_ack e p) begun_after (ack_pending ∙ ack_pending_law e p begun b usual none unrefused)
 
 -- what is announced
-announced_by : (b : Bool) (x y m n : ℕ) → b ≡ true → ◌≡◌ {A = ℕ × ℕ} ((if b then x else m), (if b then y else n)) (x, y)
-announced_by true x y m n h = refl
-announced_by false x y m n h = absurd (false≢true h)
+advertised_by : (b : Bool) (x y m n : ℕ) → b ≡ true → ◌≡◌ {A = ℕ × ℕ} ((if b then x else m), (if b then y else n)) (x, y)
+advertised_by true x y m n h = refl
+advertised_by false x y m n h = absurd (false≢true h)
 
-pub told_by_flush : (e : Tcb) → has_begun e.name ≡ true → told (flushed e) ≡ (next e.receiving, announced_edge e.receiving)
-unfolding flushed with_turn_ended announced after_full with_fin_out with_text_sent with_probe
-told_by_flush e begun = announced_by (has_begun e.name) (next e.receiving) (announced_edge e.receiving) e.told_next e.told_edge begun
+pub told_by_flush : (e : Tcb) → has_begun e.name ≡ true → last_advertised (flushed e) ≡ (next e.receiving, advertised_edge e.receiving)
+unfolding flushed with_turn_ended with_advertised after_full with_fin_out with_text_sent with_probe
+told_by_flush e begun = advertised_by (has_begun e.name) (next e.receiving) (advertised_edge e.receiving) e.last_ack_sent e.last_advertised_edge begun
 
-text_part : (e : Tcb) (p : Segment) → told (with_text_and_fin e p) ≡ told e
+text_part : (e : Tcb) (p : Segment) → last_advertised (with_text_and_fin e p) ≡ last_advertised e
 unfolding with_text_and_fin
 text_part e p =
     let taking : Tcb = record e { receiving = segment_taken e p }
-    in part_of_if told (taking.receiving.fin && not e.receiving.fin) (entering (after_fin e.name) taking) taking
-    ∙ same_if (taking.receiving.fin && not e.receiving.fin) (told e)
+    in part_of_if last_advertised (taking.receiving.fin && not e.receiving.fin) (entering (after_fin e.name) taking) taking
+    ∙ same_if (taking.receiving.fin && not e.receiving.fin) (last_advertised e)
 
-acked_part : (e : Tcb) → told (with_fin_acked e) ≡ told e
+acked_part : (e : Tcb) → last_advertised (with_fin_acked e) ≡ last_advertised e
 unfolding with_fin_acked
-acked_part e = part_of_if told (fin_acked e.sending) (entering (after_fin_acked e.name) e) e ∙ same_if (fin_acked e.sending) (told e)
+acked_part e = part_of_if last_advertised (fin_acked e.sending) (entering (after_fin_acked e.name) e) e ∙ same_if (fin_acked e.sending) (last_advertised e)
 
-later_ack_part : (e : Tcb) (p : Segment) → told (with_ack e p) ≡ told e
+later_ack_part : (e : Tcb) (p : Segment) → last_advertised (with_ack e p) ≡ last_advertised e
 unfolding with_ack with_ack_used
 later_ack_part e p =
     let used : Tcb = with_ack_used e p in
     let beyond : Bool = is_ahead e.sending.sent (ack_at e p) in
-    part_of_if told beyond (owing_if true e) (with_text_and_fin (with_fin_acked used) p)
-    ∙ if_when beyond (told e) (told e) (told (with_text_and_fin (with_fin_acked used) p)) (told e) (λ h. refl) (λ h. text_part (with_fin_acked used) p ∙ acked_part used)
-    ∙ same_if beyond (told e)
+    part_of_if last_advertised beyond (with_ack_pending_if true e) (with_text_and_fin (with_fin_acked used) p)
+    ∙ if_when beyond (last_advertised e) (last_advertised e) (last_advertised (with_text_and_fin (with_fin_acked used) p)) (last_advertised e) (λ h. refl) (λ h. text_part (with_fin_acked used) p ∙ acked_part used)
+    ∙ same_if beyond (last_advertised e)
 
-first_ack_part : (e : Tcb) (p : Segment) → told (with_first_ack e p) ≡ told e
-unfolding with_first_ack refusing
+first_ack_part : (e : Tcb) (p : Segment) → last_advertised (with_first_ack e p) ≡ last_advertised e
+unfolding with_first_ack with_reset_reply
 first_ack_part e p =
     let opening : Tcb = record e { name = after_syn_acked e.sending.closed; sending = with_syn_acked e.sending p.head.seq p.head.window } in
     let is_syn : Bool = int_eq (ack_at e p) (pos 0) in
-    part_of_if told is_syn (with_text_and_fin opening p) (refusing e p)
-    ∙ if_when is_syn (told (with_text_and_fin opening p)) (told e) (told e) (told e) (λ h. text_part opening p) (λ h. refl)
-    ∙ same_if is_syn (told e)
+    part_of_if last_advertised is_syn (with_text_and_fin opening p) (with_reset_reply e p)
+    ∙ if_when is_syn (last_advertised (with_text_and_fin opening p)) (last_advertised e) (last_advertised e) (last_advertised e) (λ h. text_part opening p) (λ h. refl)
+    ∙ same_if is_syn (last_advertised e)
 
-told_aside : Aside told
-unfolding waiting_again
-told_aside = record { killed = λ e. refl; owing = λ b e. refl; waiting = λ e p. refl }
+told_aside : Aside last_advertised
+unfolding with_time_wait_restarted
+told_aside = record { with_reset = λ e. refl; pending = λ b e. refl; waiting = λ e p. refl }
 
 all_same : (a b c d o : Bool) (x y z : ℕ × ℕ) → x ≡ z → y ≡ z
     → (if a then (if b then z else (if c then z else (if d then (if o then x else y) else z))) else z) ≡ z
@@ -86,12 +86,12 @@ all_same true false false true false x y z p q = q
 all_same true false false false o x y z p q = refl
 all_same false b c d o x y z p q = refl
 
-pub told_by_segment : (e : Tcb) (p : Segment) → has_begun e.name ≡ true → told (received e p) ≡ told e
-unfolding received waiting_again
+pub told_by_segment : (e : Tcb) (p : Segment) → has_begun e.name ≡ true → last_advertised (received e p) ≡ last_advertised e
+unfolding received with_time_wait_restarted
 told_by_segment e p begun =
-    ap told (begun_is e.name e p begun) ∙ others_part told e p told_aside
+    ap last_advertised (begun_is e.name e p begun) ∙ others_part last_advertised e p told_aside
     ∙ all_same (goes_on e p) (has_rst p) (has_syn p) (has_ack p) e.sending.syn_acked
-    (told (with_ack (at_ack e p) p)) (told (with_first_ack (at_ack e p) p)) (told e) (later_ack_part (at_ack e p) p) (first_ack_part (at_ack e p) p)
+    (last_advertised (with_ack (at_ack e p) p)) (last_advertised (with_first_ack (at_ack e p) p)) (last_advertised e) (later_ack_part (at_ack e p) p) (first_ack_part (at_ack e p) p)
 
 -- a probe is due where the timer expires with all acknowledged
 off_right : (a : Bool) → (a && false) ≡ true → false ≡ true
@@ -255,7 +255,7 @@ shut_timed true a edge runs is stuck = started (a.rest == 0) a edge (runs refl) 
 shut_timed false a edge runs is stuck = record { edge = λ r. absurd (omega arith); waits = λ r. absurd (omega arith) }
 
 pub shut_by_flush : (e : Tcb) → has_begun e.name ≡ true → IsBounded e → ProbesRightly e → IsShut (flushed e).sending
-unfolding flushed with_turn_ended announced after_full with_fin_out with_text_sent with_probe
+unfolding flushed with_turn_ended with_advertised after_full with_fin_out with_text_sent with_probe
 shut_by_flush e begun b right =
     let s : Sending = e.sending in
     let after : Tcb = with_fin_out (with_text_sent (with_probe e)) in

@@ -11,7 +11,7 @@ use Rattle.ft_model.specs.Timer as timer
 use Rattle.tcp_endpoint.specs.States.{is_syn_sent, has_begun}
 use Rattle.tcp_endpoint.specs.Sending.{Sending, target, must_run, timed, send_edge, sendable, sends_fin, with_sent, with_fin_sent}
 use Rattle.tcp_endpoint.specs.Tcb.{Tcb}
-use Rattle.tcp_endpoint.specs.Leaving.{probes_text, probes_fin, with_probe, with_text_sent, with_fin_out, after_full, announced, is_timed, with_turn_ended, flushed}
+use Rattle.tcp_endpoint.specs.Leaving.{probes_text, probes_fin, with_probe, with_text_sent, with_fin_out, after_full, with_advertised, is_timed, with_turn_ended, flushed}
 use Rattle.endpoint_laws.specs.Laws.{IsBounded}
 use Rattle.endpoint_laws.specs.Standing.{SendsAt, HasWrittenAll, HasFilled, IsUsedAt}
 use Rattle.endpoint_laws.proofs.TurnLaw.{after_steps, by_probe, timed_sent}
@@ -49,11 +49,11 @@ unfolding after_full with_fin_out with_text_sent with_probe
 full_keeps g u k = steps_keep g (has_begun u.name) (probes_text u) (probes_fin u) u.sending k
 
 pub flush_keeps : {X : Type 0} (g : Sending → X) (u : Tcb) → IsSteady g → g (flushed u).sending ≡ g u.sending
-unfolding flushed with_turn_ended announced
+unfolding flushed with_turn_ended with_advertised
 flush_keeps g u k = timed_keeps g (is_timed (after_full u)) (after_full u).sending k ∙ full_keeps g u k
 
 pub flushed_sends : (p : Point) (u : Tcb) → SendsAt p u → SendsAt p (flushed u)
-unfolding flushed with_turn_ended announced after_full with_fin_out with_text_sent with_probe
+unfolding flushed with_turn_ended with_advertised after_full with_fin_out with_text_sent with_probe
 flushed_sends p u s =
     let syn_acked : (flushed u).sending.syn_acked ≡ u.sending.syn_acked =
     flush_keeps (λ (q : Sending). q.syn_acked) u (record { sends = λ s n. refl; ends = λ s. refl; times = λ s i r. refl }) in
@@ -141,7 +141,7 @@ ends_of p b o f c una len sent order flight h =
     )
 
 pub last_flushed : (u : Tcb) → IsBounded u → FinIsLast u.sending → FinIsLast (flushed u).sending
-unfolding flushed with_turn_ended announced after_full with_fin_out with_text_sent with_probe
+unfolding flushed with_turn_ended with_advertised after_full with_fin_out with_text_sent with_probe
 last_flushed u b last =
     let s : Sending = u.sending in
     last_timed _ (after_steps (has_begun u.name) (probes_text u) (probes_fin u) u.sending)
@@ -160,7 +160,7 @@ runs_timed true s must h = runs_if (s.rest == 0) s (must refl) h
 runs_timed false s must h = absurd (omega (arith, h))
 
 pub runs_flushed : (u : Tcb) → 1 ≤ (flushed u).sending.rest → must_run (flushed u).sending ≡ true
-unfolding flushed with_turn_ended announced
+unfolding flushed with_turn_ended with_advertised
 runs_flushed u h =
     let v : Tcb = after_full u in
     runs_timed (is_timed v) v.sending (λ r. right_true (has_begun v.name || is_syn_sent v.name) (must_run v.sending) r) h
@@ -228,7 +228,7 @@ unfolding after_full with_fin_out with_text_sent with_probe
 full_name u begun = begun
 
 pub flushed_sent : (u : Tcb) → (flushed u).sending.sent ≡ (after_full u).sending.sent
-unfolding flushed with_turn_ended announced
+unfolding flushed with_turn_ended with_advertised
 flushed_sent u = timed_sent (is_timed (after_full u)) (after_full u).sending
 
 pub runs_at : {State : Type 0} (service : Machine State) (p : Point) (u : Tcb) → has_begun u.name ≡ true → IsBounded u → FinIsLast u.sending → SendsAt p u

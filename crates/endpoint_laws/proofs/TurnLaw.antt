@@ -11,7 +11,7 @@ use Rattle.tcp_endpoint.specs.States.{has_begun}
 use Rattle.tcp_endpoint.specs.Sending.{Sending, with_syn_acked, acknowledged, congestion_expired, target, send_edge, sendable, sends_fin, ticked, timed, with_sent, with_fin_sent}
 use Rattle.tcp_endpoint.specs.Tcb.{Tcb}
 use Rattle.tcp_endpoint.specs.Arrival.{ack_at, received}
-use Rattle.tcp_endpoint.specs.Leaving.{probes, probes_text, probes_fin, with_probe, with_text_sent, with_fin_out, after_full, announced, is_timed, with_turn_ended, flushed}
+use Rattle.tcp_endpoint.specs.Leaving.{probes, probes_text, probes_fin, with_probe, with_text_sent, with_fin_out, after_full, with_advertised, is_timed, with_turn_ended, flushed}
 use Rattle.tcp_endpoint.specs.Turning.{after_tick, timer_ticked, waited}
 use Rattle.endpoint_laws.specs.Laws.{counts, IsBounded, IsUsual, ProbesRightly, sent_by_law, starts, interval_by, rest_by, ticked_interval, ticked_rest, IsTimedBy}
 use Rattle.endpoint_laws.proofs.SendingLaw.{later_by, sending_is}
@@ -163,7 +163,7 @@ steps_sent e true false is waits begun b right =
     ∙ one_more s.sent (target s) (send_edge s) e.probe is (omega (arith, right.shut is))
 
 pub sent_law : (e : Tcb) → has_begun e.name ≡ true → IsBounded e → ProbesRightly e → (flushed e).sending.sent ≡ sent_by_law e
-unfolding flushed with_turn_ended announced after_full with_fin_out with_text_sent with_probe
+unfolding flushed with_turn_ended with_advertised after_full with_fin_out with_text_sent with_probe
 sent_law e begun b right =
     timed_sent (is_timed (with_fin_out (with_text_sent (with_probe e)))) (after_steps (has_begun e.name) (probes_text e) (probes_fin e) e.sending)
     ∙ steps_sent e e.probe (nat_lt (e.sending.sent - e.sending.una) (length e.sending.held)) refl refl begun b right
@@ -209,7 +209,7 @@ steps_rest begun pt pf s =
 pub flushed_timer : (u : Tcb) (interval rest : ℕ) → u.sending.interval ≡ interval → u.sending.rest ≡ rest
     → IsTimedBy (flushed u).sending (if is_timed (after_full u) then (if rest == 0 then 1 else interval) else 1)
     (if is_timed (after_full u) then (if rest == 0 then 1 else rest) else 0)
-unfolding flushed with_turn_ended announced after_full with_fin_out with_text_sent with_probe
+unfolding flushed with_turn_ended with_advertised after_full with_fin_out with_text_sent with_probe
 flushed_timer u interval rest is_interval is_rest =
     let after : Sending = after_steps (has_begun u.name) (probes_text u) (probes_fin u) u.sending in
     let runs : Bool = is_timed (with_fin_out (with_text_sent (with_probe u))) in

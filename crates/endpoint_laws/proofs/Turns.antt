@@ -13,7 +13,7 @@ use Rattle.seq_arith.specs.Congestion.{is_third}
 use Rattle.seq_arith.specs.Offset.{one_if, text_of, fin_of}
 use Rattle.ft_model.specs.News.{News}
 use Rattle.ft_model.specs.News.News.{Comes, Logged, Ticks, Begins}
-use Rattle.ft_model.specs.Point.{Point, taken_units, announced_edge}
+use Rattle.ft_model.specs.Point.{Point, taken_units, advertised_edge}
 use Rattle.ft_model.specs.Point as point
 use Rattle.ft_model.specs.Sending.{acknowledges, acknowledged_by, window_by, syn_acked_after, acknowledged_after, is_duplicate, is_third_duplicate, sent_at_once, sent_after}
 use Rattle.ft_model.specs.Segments.{or_bare, bare_segment, resent, new_texts, new_fin}
@@ -23,17 +23,17 @@ use Rattle.tcp_endpoint.specs.Receiving.{next}
 use Rattle.tcp_endpoint.specs.Receiving as half
 use Rattle.tcp_endpoint.specs.Sending.{is_unacknowledged}
 use Rattle.tcp_endpoint.specs.Tcb.{Tcb}
-use Rattle.tcp_endpoint.specs.Leaving.{answer_out, full_out, leaving, after_full, announced, with_turn_ended, flushed}
+use Rattle.tcp_endpoint.specs.Leaving.{reset_reply_out, full_out, leaving, after_full, with_advertised, with_turn_ended, flushed}
 use Rattle.tcp_endpoint.specs.Leaving as left
-use Rattle.endpoint_laws.specs.Laws.{IsBounded, ProbesRightly, asks, told}
+use Rattle.endpoint_laws.specs.Laws.{IsBounded, ProbesRightly, asks, last_advertised}
 use Rattle.endpoint_laws.specs.Turn.{Call, MayUse, IsUsualNews, IsBetweenTurns, arrived, used, before_flush}
-use Rattle.endpoint_laws.specs.Standing.{ReceivesAt, SendsAt, StandsAt, MeetsLaws, IsUsedAt, owes_to, is_owed, refusals, segments_by_laws, LeadsTo}
+use Rattle.endpoint_laws.specs.Standing.{ReceivesAt, SendsAt, StandsAt, MeetsLaws, IsUsedAt, news_needs_ack, is_ack_pending, refusals, segments_by_laws, LeadsTo}
 use Rattle.endpoint_laws.proofs.Bounding.{bounded_by_flush}
 use Rattle.endpoint_laws.proofs.TurnLaw.{sent_law}
 use Rattle.endpoint_laws.proofs.ToldLaw.{leaving_by, told_by_flush, shut_by_flush}
-use Rattle.endpoint_laws.proofs.StandingLaw.{next_is, announced_is}
+use Rattle.endpoint_laws.proofs.StandingLaw.{next_is, advertised_is}
 use Rattle.endpoint_laws.proofs.Calls.{FinIsLast, IsUsed, used_is, bounded_used, last_used, probes_used}
-use Rattle.endpoint_laws.proofs.Arrivals.{moved, Arrived, arrives, owed_is}
+use Rattle.endpoint_laws.proofs.Arrivals.{moved, Arrived, arrives, ack_pending_is}
 use Rattle.endpoint_laws.proofs.Flushing.{Flushes, waits_for_ack}
 use Rattle.endpoint_laws.proofs.TurnEnd.{flushed_sends, last_flushed, runs_flushed, sent_at, flushed_sent, runs_at, running_at}
 use Rattle.endpoint_laws.proofs.TimerAt.{Timed, timer_at}
@@ -110,7 +110,7 @@ either_waits false false w h = refl
 
 flushes : {State : Type 0} (service : Machine State) (news : News) (before after : Point) (e m u : Tcb) → StandsAt before e → Arrived news before e m → IsUsed m u
     → IsBounded u → has_begun u.name ≡ true → MeetsLaws service news before after → IsUsedAt service after u → Flushes service news before after u
-unfolding answer_out
+unfolding reset_reply_out
 flushes service news before after e m u stands came a bounds begun laws user = record {
   begun = begun;
   bounds = bounds;
@@ -122,11 +122,11 @@ flushes service news before after e m u stands came a bounds begun laws user = r
   sends = sends_of service news before after m u came.sends a laws;
   used = user;
   sent = stands.sent ∙ sym (a.sends.sent ∙ came.sent);
-  again = a.again ∙ came.again ∙ ap (λ b. b || is_third_duplicate news before) (waits_is service news before after e stands laws (λ w. w))
+  retransmission_due = a.retransmission_due ∙ came.retransmission_due ∙ ap (λ b. b || is_third_duplicate news before) (waits_is service news before after e stands laws (λ w. w))
       ∙ either_waits (timer.expires news before) (is_third_duplicate news before) (waits_for_ack before after) (third_waits service news before after laws);
   probe = a.probe ∙ came.probe ∙ waits_is service news before after e stands laws not;
   third = third_waits service news before after laws;
-  answer = ap left.answer_segments a.answer ∙ came.answer ∙ ap (λ l. refusals l news before) (sym (a.local ∙ came.local));
+  reset_reply = ap left.reset_reply_segments a.reset_reply ∙ came.reset_reply ∙ ap (λ l. refusals l news before) (sym (a.local ∙ came.local));
 }
 
 -- what is sent in the turn
@@ -156,28 +156,28 @@ same_moves : (a b k : ℕ) → (a == b) ≡ (a + k == b + k)
 same_moves a b k = grind arith
 
 asks_is : {State : Type 0} (service : Machine State) (news : News) (before after : Point) (e m u : Tcb) → IsBetweenTurns e → StandsAt before e → Arrived news before e m
-    → IsUsed m u → MeetsLaws service news before after → ReceivesAt after u → m.owed ≡ owes_to news before → asks u.owed u ≡ is_owed news before after
-asks_is service news before after e m u between stands came a laws r owed =
-    let heard : told u ≡ (next e.receiving, half.announced_edge e.receiving) = a.told ∙ came.told ∙ between.told in
-    let units : (u.told_next == next u.receiving) ≡ (taken_units before == taken_units after) =
+    → IsUsed m u → MeetsLaws service news before after → ReceivesAt after u → m.ack_pending ≡ news_needs_ack news before → asks u.ack_pending u ≡ is_ack_pending news before after
+asks_is service news before after e m u between stands came a laws r ack_pending =
+    let heard : last_advertised u ≡ (next e.receiving, half.advertised_edge e.receiving) = a.told ∙ came.told ∙ between.told in
+    let units : (u.last_ack_sent == next u.receiving) ≡ (taken_units before == taken_units after) =
     ap (λ t. t.0 == next u.receiving) heard ∙ same_moves (next e.receiving) (next u.receiving) before.fetched
     ∙ (λ i. sym (next_is before e stands.receives) i == (next u.receiving + sym laws.same.fetched i))
     ∙ ap (λ n. taken_units before == n) (sym (next_is after u r)) in
-    let edges : (u.told_edge == half.announced_edge u.receiving) ≡ (announced_edge before == announced_edge after) =
-    ap (λ t. t.1 == half.announced_edge u.receiving) heard ∙ same_moves (half.announced_edge e.receiving) (half.announced_edge u.receiving) before.fetched
-    ∙ (λ i. sym (announced_is before e stands.receives) i == (half.announced_edge u.receiving + sym laws.same.fetched i))
-    ∙ ap (λ n. announced_edge before == n) (sym (announced_is after u r)) in
-    λ i. (a.owed ∙ owed) i || not (units i) || not (edges i)
+    let edges : (u.last_advertised_edge == half.advertised_edge u.receiving) ≡ (advertised_edge before == advertised_edge after) =
+    ap (λ t. t.1 == half.advertised_edge u.receiving) heard ∙ same_moves (half.advertised_edge e.receiving) (half.advertised_edge u.receiving) before.fetched
+    ∙ (λ i. sym (advertised_is before e stands.receives) i == (half.advertised_edge u.receiving + sym laws.same.fetched i))
+    ∙ ap (λ n. advertised_edge before == n) (sym (advertised_is after u r)) in
+    λ i. (a.ack_pending ∙ ack_pending) i || not (units i) || not (edges i)
 
 segments_are : {State : Type 0} (service : Machine State) (news : News) (before after : Point) (e m u : Tcb) → Flushes service news before after u
-    → after.sent ≡ (after_full u).sending.sent → u.local ≡ e.local → (refusals e.local news before ≡ [] → asks u.owed u ≡ is_owed news before after)
+    → after.sent ≡ (after_full u).sending.sent → u.local ≡ e.local → (refusals e.local news before ≡ [] → asks u.ack_pending u ≡ is_ack_pending news before after)
     → leaving u ≡ segments_by_laws service e.local news before after
-segments_are service news before after e m u f sent here owed =
-    leaving_by u u.owed f.begun refl
-    ∙ (λ i. or_bare (asks u.owed u) (bare_is service news before after u f sent i) (full_is service news before after u f i))
-    ∙ ap (λ l. or_bare (asks u.owed u) (bare_segment l after)
+segments_are service news before after e m u f sent here ack_pending =
+    leaving_by u u.ack_pending f.begun refl
+    ∙ (λ i. or_bare (asks u.ack_pending u) (bare_is service news before after u f sent i) (full_is service news before after u f i))
+    ∙ ap (λ l. or_bare (asks u.ack_pending u) (bare_segment l after)
     (refusals l news before ++ (resent service l news before after ++ (new_texts service l before after ++ new_fin service l before after)))) here
-    ∙ or_bare_when (asks u.owed u) (is_owed news before after) (bare_segment e.local after) (refusals e.local news before) _ owed
+    ∙ or_bare_when (asks u.ack_pending u) (is_ack_pending news before after) (bare_segment e.local after) (refusals e.local news before) _ ack_pending
 
 -- the interval is at least one tick
 some_interval : (anew expired : Bool) (n : ℕ) → 1 ≤ n → 1 ≤ (if anew then 1 else (if expired then min 64 (2 * n) else n))
@@ -191,14 +191,14 @@ interval_is_some news before after some = some_interval (timer.is_set_anew befor
 
 -- between two turns again
 pub between_again : (u : Tcb) → has_begun u.name ≡ true → IsBounded u → ProbesRightly u → FinIsLast u.sending → 1 ≤ (flushed u).sending.interval → IsBetweenTurns (flushed u)
-unfolding flushed with_turn_ended announced after_full left.with_fin_out left.with_text_sent left.with_probe
+unfolding flushed with_turn_ended with_advertised after_full left.with_fin_out left.with_text_sent left.with_probe
 between_again u begun bounds probes last interval = record {
   bounds = bounded_by_flush u bounds;
   told = told_by_flush u begun;
-  owed = refl;
-  again = refl;
+  ack_pending = refl;
+  retransmission_due = refl;
   probe = refl;
-  answer = refl;
+  reset_reply = refl;
   fin_last = last_flushed u bounds last;
   shut = shut_by_flush u begun bounds probes;
   interval = interval;
@@ -206,11 +206,11 @@ between_again u begun bounds probes last interval = record {
 }
 
 pub flushed_receives : (p : Point) (u : Tcb) → ReceivesAt p u → ReceivesAt p (flushed u)
-unfolding flushed with_turn_ended announced after_full left.with_fin_out left.with_text_sent left.with_probe
+unfolding flushed with_turn_ended with_advertised after_full left.with_fin_out left.with_text_sent left.with_probe
 flushed_receives p u r = record { cisn = r.cisn; limit = r.limit; read = r.read; long = r.long; unread = r.unread; fin = r.fin; early = r.early }
 
 pub flushed_remote : (u : Tcb) → (flushed u).remote ≡ u.remote
-unfolding flushed with_turn_ended announced after_full left.with_fin_out left.with_text_sent left.with_probe
+unfolding flushed with_turn_ended with_advertised after_full left.with_fin_out left.with_text_sent left.with_probe
 flushed_remote u = refl
 
 turn_leads : {State : Type 0} (service : Machine State) (news : News) (before after : Point) (e m u : Tcb) → has_begun e.name ≡ true → IsBetweenTurns e → StandsAt before e
@@ -249,7 +249,7 @@ turn_leads service news before after e m u begun between stands usual news_are c
       },
       segments_are service news before after e m u f sent_full (a.local ∙ came.local)
           (λ none. asks_is service news before after e m u between stands came a laws f.receives
-          (ap (λ (x : Tcb). x.owed) news_are ∙ owed_is news before e begun between stands usual none)),
+          (ap (λ (x : Tcb). x.ack_pending) news_are ∙ ack_pending_is news before e begun between stands usual none)),
     )
 
 pub leads_law : {State : Type 0} (service : Machine State) (news : News) (calls : List Call) (before after : Point) (e : Tcb)

@@ -16,8 +16,8 @@ use Rattle.tcp_endpoint.specs.States.{after_syn_acked, after_close, after_fin, a
 use Rattle.tcp_endpoint.specs.Receiving.{next, taken, with_segment}
 use Rattle.tcp_endpoint.specs.Sending.{Sending, with_syn_acked, acknowledged, fin_acked, congestion_expired, expires, ticked, timed}
 use Rattle.tcp_endpoint.specs.Tcb.{Tcb}
-use Rattle.tcp_endpoint.specs.Arrival.{first, ack_at, owing_if, killed, entering, refusing, with_text_and_fin, with_fin_acked, with_first_ack, with_ack_used, with_ack, check_ack, check_syn, check_rst, repeats_fin, waiting_again, check_place, in_others, received}
-use Rattle.tcp_endpoint.specs.Leaving.{probes_text, probes_fin, with_probe, with_text_sent, with_fin_out, after_full, announced, is_timed, with_turn_ended, flushed}
+use Rattle.tcp_endpoint.specs.Arrival.{first, ack_at, with_ack_pending_if, with_reset, entering, with_reset_reply, with_text_and_fin, with_fin_acked, with_first_ack, with_ack_used, with_ack, check_ack, check_syn, check_rst, repeats_fin, with_time_wait_restarted, check_sequence, in_others, received}
+use Rattle.tcp_endpoint.specs.Leaving.{probes_text, probes_fin, with_probe, with_text_sent, with_fin_out, after_full, with_advertised, is_timed, with_turn_ended, flushed}
 use Rattle.tcp_endpoint.specs.Turning.{after_tick, timer_ticked, waited}
 use Rattle.endpoint_laws.specs.Turn.{Call, Events, IsBetweenTurns, arrived, called, used, before_flush, turned}
 use Rattle.endpoint_laws.specs.Turn.Call.{Reads, Writes, Closes}
@@ -61,22 +61,22 @@ enters_later : (e : Tcb) (p : Segment) → Enters e → Enters (with_ack e p)
 unfolding with_ack with_ack_used
 enters_later e p h =
     let m : Tcb = with_ack_used e p in
-    holds_if Enters (is_ahead e.sending.sent (ack_at e p)) (owing_if true e) (with_text_and_fin (with_fin_acked m) p)
+    holds_if Enters (is_ahead e.sending.sent (ack_at e p)) (with_ack_pending_if true e) (with_text_and_fin (with_fin_acked m) p)
     (λ b. h) (λ b. enters_text (with_fin_acked m) p (enters_acked m h))
 
 syn_acked_outside : (closed : Bool) → is_time_wait (after_syn_acked closed) ≡ false
 syn_acked_outside true = refl
 syn_acked_outside false = refl
 
-enters_refusing : (e : Tcb) (p : Segment) → Enters e → Enters (refusing e p)
-unfolding refusing
+enters_refusing : (e : Tcb) (p : Segment) → Enters e → Enters (with_reset_reply e p)
+unfolding with_reset_reply
 enters_refusing e p h = h
 
 enters_first : (e : Tcb) (p : Segment) → Enters e → Enters (with_first_ack e p)
 unfolding with_first_ack
 enters_first e p h =
     let m : Tcb = record e { name = after_syn_acked e.sending.closed; sending = with_syn_acked e.sending p.head.seq p.head.window } in
-    holds_if Enters (int_eq (ack_at e p) (pos 0)) (with_text_and_fin m p) (refusing e p)
+    holds_if Enters (int_eq (ack_at e p) (pos 0)) (with_text_and_fin m p) (with_reset_reply e p)
     (λ b. enters_text m p (outside m (syn_acked_outside e.sending.closed))) (λ b. enters_refusing e p h)
 
 enters_ack : (e : Tcb) (p : Segment) → Enters e → Enters (check_ack e p)
@@ -88,22 +88,22 @@ enters_ack e p h =
 enters_syn : (e : Tcb) (p : Segment) → Enters e → Enters (check_syn e p)
 unfolding check_syn
 enters_syn e p h =
-    let m : Tcb = owing_if (nat_lt 0 (length_of p)) e in
-    holds_if Enters (has_syn p) (owing_if true e) (check_ack m p) (λ b. h) (λ b. enters_ack m p h)
+    let m : Tcb = with_ack_pending_if (nat_lt 0 (length_of p)) e in
+    holds_if Enters (has_syn p) (with_ack_pending_if true e) (check_ack m p) (λ b. h) (λ b. enters_ack m p h)
 
 enters_rst : (e : Tcb) (p : Segment) → Enters e → Enters (check_rst e p)
 unfolding check_rst
 enters_rst e p h =
     let at : Bool = int_eq (first e p) (pos (next e.receiving)) in
-    holds_if Enters (has_rst p) (if at then killed e else owing_if true e) (check_syn e p)
-    (λ b. holds_if Enters at (killed e) (owing_if true e) (λ k. outside (killed e) refl) (λ k. h)) (λ b. enters_syn e p h)
+    holds_if Enters (has_rst p) (if at then with_reset e else with_ack_pending_if true e) (check_syn e p)
+    (λ b. holds_if Enters at (with_reset e) (with_ack_pending_if true e) (λ k. outside (with_reset e) refl) (λ k. h)) (λ b. enters_syn e p h)
 
 enters_others : (e : Tcb) (p : Segment) → is_time_wait e.name ≡ false → Enters (in_others e p)
-unfolding in_others check_place waiting_again
+unfolding in_others check_sequence with_time_wait_restarted
 enters_others e p out =
-    let m : Tcb = waiting_again e p in
+    let m : Tcb = with_time_wait_restarted e p in
     let h : Enters m = outside m out in
-    holds_if Enters (goes_on m p) (check_rst m p) (owing_if (not (has_rst p)) m)
+    holds_if Enters (goes_on m p) (check_rst m p) (with_ack_pending_if (not (has_rst p)) m)
     (λ b. enters_rst m p h) (λ b. h)
 
 ticked_outside : (e : Tcb) → is_time_wait e.name ≡ false → Enters (after_tick e)
@@ -169,8 +169,8 @@ waits_acked wait e w =
     (λ b. record { name = stays; wait_is = still_there e (after_fin_acked e.name) w.name stays ∙ w.wait_is; syn_acked_is = w.syn_acked_is; fin = w.fin })
     (λ b. w)
 
-owing_waits : (wait : ℕ) (e : Tcb) (owed : Bool) → Waits wait e → Waits wait (record e { owed = owed })
-owing_waits wait e owed w = record { name = w.name; wait_is = w.wait_is; syn_acked_is = w.syn_acked_is; fin = w.fin }
+pending_waits : (wait : ℕ) (e : Tcb) (ack_pending : Bool) → Waits wait e → Waits wait (record e { ack_pending = ack_pending })
+pending_waits wait e ack_pending w = record { name = w.name; wait_is = w.wait_is; syn_acked_is = w.syn_acked_is; fin = w.fin }
 
 waits_used_ack : (wait : ℕ) (e : Tcb) (p : Segment) → Waits wait e → Waits wait (with_ack_used e p)
 unfolding acknowledged
@@ -182,8 +182,8 @@ unfolding with_ack
 waits_later wait e p w =
     let m : Tcb = with_ack_used e p in
     let used_up : Waits wait m = waits_used_ack wait e p w in
-    holds_if (Waits wait) (is_ahead e.sending.sent (ack_at e p)) (owing_if true e) (with_text_and_fin (with_fin_acked m) p)
-    (λ b. owing_waits wait e (e.owed || true) w) (λ b. waits_text wait (with_fin_acked m) p (waits_acked wait m used_up))
+    holds_if (Waits wait) (is_ahead e.sending.sent (ack_at e p)) (with_ack_pending_if true e) (with_text_and_fin (with_fin_acked m) p)
+    (λ b. pending_waits wait e (e.ack_pending || true) w) (λ b. waits_text wait (with_fin_acked m) p (waits_acked wait m used_up))
 
 waits_ack : (wait : ℕ) (e : Tcb) (p : Segment) → Waits wait e → Waits wait (check_ack e p)
 unfolding check_ack
@@ -195,41 +195,41 @@ waits_ack wait e p w =
 waits_syn : (wait : ℕ) (e : Tcb) (p : Segment) → Waits wait e → Waits wait (check_syn e p)
 unfolding check_syn
 waits_syn wait e p w =
-    let m : Tcb = owing_if (nat_lt 0 (length_of p)) e in
-    holds_if (Waits wait) (has_syn p) (owing_if true e) (check_ack m p)
-    (λ b. owing_waits wait e (e.owed || true) w) (λ b. waits_ack wait m p (owing_waits wait e (e.owed || nat_lt 0 (length_of p)) w))
+    let m : Tcb = with_ack_pending_if (nat_lt 0 (length_of p)) e in
+    holds_if (Waits wait) (has_syn p) (with_ack_pending_if true e) (check_ack m p)
+    (λ b. pending_waits wait e (e.ack_pending || true) w) (λ b. waits_ack wait m p (pending_waits wait e (e.ack_pending || nat_lt 0 (length_of p)) w))
 
 waits_rst : (wait : ℕ) (e : Tcb) (p : Segment) → (has_rst p && int_eq (first e p) (pos (next e.receiving))) ≡ false → Waits wait e → Waits wait (check_rst e p)
 unfolding check_rst
 waits_rst wait e p unreset w =
     let at : Bool = int_eq (first e p) (pos (next e.receiving)) in
-    holds_if (Waits wait) (has_rst p) (if at then killed e else owing_if true e) (check_syn e p)
-    (λ r. holds_if (Waits wait) at (killed e) (owing_if true e)
-    (λ k. absurd (false≢true (sym unreset ∙ (λ i. r i && k i)))) (λ k. owing_waits wait e (e.owed || true) w))
+    holds_if (Waits wait) (has_rst p) (if at then with_reset e else with_ack_pending_if true e) (check_syn e p)
+    (λ r. holds_if (Waits wait) at (with_reset e) (with_ack_pending_if true e)
+    (λ k. absurd (false≢true (sym unreset ∙ (λ i. r i && k i)))) (λ k. pending_waits wait e (e.ack_pending || true) w))
     (λ r. waits_syn wait e p w)
 
-waits_others : (wait : ℕ) (e : Tcb) (p : Segment) → (has_rst p && int_eq (first e p) (pos (next e.receiving))) ≡ false → Waits wait (waiting_again e p)
+waits_others : (wait : ℕ) (e : Tcb) (p : Segment) → (has_rst p && int_eq (first e p) (pos (next e.receiving))) ≡ false → Waits wait (with_time_wait_restarted e p)
     → Waits wait (in_others e p)
-unfolding in_others check_place waiting_again
+unfolding in_others check_sequence with_time_wait_restarted
 waits_others wait e p unreset w =
-    let m : Tcb = waiting_again e p in
-    holds_if (Waits wait) (goes_on m p) (check_rst m p) (owing_if (not (has_rst p)) m)
-    (λ b. waits_rst wait m p unreset w) (λ b. owing_waits wait m (m.owed || not (has_rst p)) w)
+    let m : Tcb = with_time_wait_restarted e p in
+    holds_if (Waits wait) (goes_on m p) (check_rst m p) (with_ack_pending_if (not (has_rst p)) m)
+    (λ b. waits_rst wait m p unreset w) (λ b. pending_waits wait m (m.ack_pending || not (has_rst p)) w)
 
 -- the peer's FIN is the unit before RCV.NXT
 same_place : (z : ℤ) (n t : ℕ) → int_eq (z +ℤ pos n) (pos t) ≡ int_eq (z +ℤ pos (n + 1)) (pos (t + 1))
 same_place z n t = grind (arith, ints)
 
-again_is : (e : Tcb) (p : Segment) → e.receiving.fin ≡ true → repeats_fin e p ≡ brings_fin_again (Comes p) e
-again_is e p fin =
+retransmission_is : (e : Tcb) (p : Segment) → e.receiving.fin ≡ true → repeats_fin e p ≡ brings_fin_again (Comes p) e
+retransmission_is e p fin =
     ap (λ b. fin_of p && b) (same_place (first e p) (length p.payload) (taken e.receiving))
     ∙ ap (λ b. fin_of p && int_eq (first e p +ℤ pos (length p.payload + 1)) (pos (taken e.receiving + one_if b))) (sym fin)
 
-waits_again : (e : Tcb) (p : Segment) (wait : ℕ) → Waits wait e → Waits (if brings_fin_again (Comes p) e then 4 else wait) (waiting_again e p)
-unfolding waiting_again
+waits_again : (e : Tcb) (p : Segment) (wait : ℕ) → Waits wait e → Waits (if brings_fin_again (Comes p) e then 4 else wait) (with_time_wait_restarted e p)
+unfolding with_time_wait_restarted
 waits_again e p wait w = record {
   name = w.name;
-  wait_is = (λ i. if is_time_wait (w.name i) && again_is e p w.fin i then 4 else w.wait_is i);
+  wait_is = (λ i. if is_time_wait (w.name i) && retransmission_is e p w.fin i then 4 else w.wait_is i);
   syn_acked_is = w.syn_acked_is;
   fin = w.fin;
 }
@@ -249,7 +249,7 @@ timed_syn_acked true s = holds_if (λ (t : Sending). t.syn_acked ≡ s.syn_acked
 timed_syn_acked false s = refl
 
 waits_flushed : (wait : ℕ) (u : Tcb) → Waits wait u → Waits wait (flushed u)
-unfolding flushed with_turn_ended announced after_full with_fin_out with_text_sent with_probe
+unfolding flushed with_turn_ended with_advertised after_full with_fin_out with_text_sent with_probe
 waits_flushed wait u w =
     let s : Sending = after_steps (has_begun u.name) (probes_text u) (probes_fin u) u.sending in
     let syn_acked_same : s.syn_acked ≡ u.sending.syn_acked =

@@ -10,8 +10,8 @@ use Rattle.endpoint_laws.specs.Turn.{Call, Events, arrived, called, before_flush
 use Rattle.endpoint_laws.specs.Turn.Call.{Reads}
 
 -- a segment that isn't a RST acknowledges all that is taken, and advertises the window
-abbrev pub Announces : Tcb → Segment → Type 0
-Announces u segment =
+abbrev pub Advertises : Tcb → Segment → Type 0
+Advertises u segment =
     has_rst segment ≡ false
     → (has_ack segment ≡ true) × (segment.head.ack ≡ number_at u.receiving.irs (next u.receiving)) × (segment.head.window ≡ window u.receiving)
 
@@ -31,6 +31,6 @@ AcknowledgesAll e [] = Unit {0}
 AcknowledgesAll e (turn ∷ turns) =
     (ReadsOnlyTaken turn.calls (arrived turn.news e)
     → has_begun (before_flush turn.news turn.calls e).name ≡ true
-    → AllByRecursion (Announces (before_flush turn.news turn.calls e)) (sent_in turn.news turn.calls e)
+    → AllByRecursion (Advertises (before_flush turn.news turn.calls e)) (sent_in turn.news turn.calls e)
     × ((next (before_flush turn.news turn.calls e).receiving ≡ next e.receiving → ⊥) → is_told (sent_in turn.news turn.calls e) ≡ true))
     × AcknowledgesAll (turned turn.news turn.calls e) turns

@@ -16,10 +16,10 @@ pub record IsConnecting (iss limit : ℕ) (e : Tcb) : Type 0 where
   pub written : length e.sending.held ≤ 2 ^ 24
   pub interval : 1 ≤ e.sending.interval
   pub runs : 1 ≤ e.sending.rest
-  pub owed : e.owed ≡ false
-  pub again : e.again ≡ false
+  pub ack_pending : e.ack_pending ≡ false
+  pub retransmission_due : e.retransmission_due ≡ false
   pub probe : e.probe ≡ false
-  pub answer : e.answer ≡ None
+  pub reset_reply : e.reset_reply ≡ None
 
 -- the number and the window of an arriving segment fit their bytes
 abbrev pub FieldsFit : News → Type 0

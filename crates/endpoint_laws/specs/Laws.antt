@@ -10,18 +10,18 @@ use Rattle.seq_arith.specs.Offset.{one_if, text_of, fin_of, length_of}
 use Rattle.seq_arith.specs.Coming.{StandsBehind}
 use Rattle.seq_arith.specs.Congestion.{Congestion, with_new_data, is_third, with_duplicate, with_expiry, IsOpen}
 use Rattle.tcp_buffers.specs.Near.{IsNearFirst}
-use Rattle.tcp_endpoint.specs.Receiving.{Receiving, taken, next, receive_edge, announced_edge, with_segment}
+use Rattle.tcp_endpoint.specs.Receiving.{Receiving, taken, next, receive_edge, advertised_edge, with_segment}
 use Rattle.tcp_endpoint.specs.Sending.{Sending, target}
 use Rattle.tcp_endpoint.specs.Tcb.{Tcb}
 use Rattle.tcp_endpoint.specs.Arrival.{first, ack_at}
 
 -- Taken: acceptable by the next number and the announced edge, or at that edge, ..
 abbrev pub accepts : Tcb → Segment → Bool
-accepts e p = is_acceptable_or_at_edge (next e.receiving) (announced_edge e.receiving - next e.receiving) (first e p) (length_of p)
+accepts e p = is_acceptable_or_at_edge (next e.receiving) (advertised_edge e.receiving - next e.receiving) (first e p) (length_of p)
 
 -- .. or at the next number while the window is zero
 abbrev pub uses : Tcb → Segment → Bool
-uses e p = is_usable (next e.receiving) (announced_edge e.receiving - next e.receiving) (first e p) (length_of p)
+uses e p = is_usable (next e.receiving) (advertised_edge e.receiving - next e.receiving) (first e p) (length_of p)
 
 -- a segment counts where it has ACK and neither SYN nor RST, is used by its place, and, where no acknowledgement has counted yet, acknowledges the SYN
 abbrev pub counts : Tcb → Segment → Bool
@@ -133,14 +133,14 @@ abbrev pub is_refused : Tcb → Segment → Bool
 is_refused e p = accepts e p && not (has_rst p) && not (has_syn p) && acknowledges_less e p
 
 -- ACK pending: among acceptable segments, a SYN, and a RST that isn't at the next number, get a challenge ACK, and a segment with a length gets an ACK
-abbrev pub owes_acceptable : Tcb → Segment → Bool
-owes_acceptable e p =
+abbrev pub needs_ack_if_acceptable : Tcb → Segment → Bool
+needs_ack_if_acceptable e p =
     if has_rst p then not (int_eq (first e p) (pos (next e.receiving)))
     else (if has_syn p then true else nat_lt 0 (length_of p))
 
 -- ACK pending: each segment that isn't acceptable gets an ACK, unless it has RST
-abbrev pub owes : Tcb → Segment → Bool
-owes e p = if accepts e p then owes_acceptable e p else not (has_rst p)
+abbrev pub needs_ack : Tcb → Segment → Bool
+needs_ack e p = if accepts e p then needs_ack_if_acceptable e p else not (has_rst p)
 
 -- Timer: it starts again where it didn't run, or where something new was acknowledged, the SYN included
 abbrev pub starts : Sending → Sending → Bool
@@ -166,12 +166,12 @@ pub record IsTimedBy (s : Sending) (ticks left : ℕ) : Type 0 where
   pub rest : s.rest ≡ left
 
 -- the acknowledgement and the edge last advertised
-abbrev pub told : Tcb → ℕ × ℕ
-told e = (e.told_next, e.told_edge)
+abbrev pub last_advertised : Tcb → ℕ × ℕ
+last_advertised e = (e.last_ack_sent, e.last_advertised_edge)
 
 -- ACK pending: a rule requires one, or the acknowledgement or the right edge differs from the one last sent
 abbrev pub asks : Bool → Tcb → Bool
-asks owed e = owed || not (e.told_next == next e.receiving) || not (e.told_edge == announced_edge e.receiving)
+asks ack_pending e = ack_pending || not (e.last_ack_sent == next e.receiving) || not (e.last_advertised_edge == advertised_edge e.receiving)
 
 -- where the timer runs with all that was sent acknowledged, something is waiting that has no room below the edge
 pub record IsShut (s : Sending) : Type 0 where

@@ -14,10 +14,10 @@ pub record IsListening (iss limit : ℕ) (e : Tcb) : Type 0 where
   pub receiving : e.receiving ≡ receiving_up_to (kept_limit limit)
   pub sending : e.sending ≡ record (sending_from iss) { held = e.sending.held }
   pub written : length e.sending.held ≤ 2 ^ 24
-  pub owed : e.owed ≡ false
-  pub again : e.again ≡ false
+  pub ack_pending : e.ack_pending ≡ false
+  pub retransmission_due : e.retransmission_due ≡ false
   pub probe : e.probe ≡ false
-  pub answer : e.answer ≡ None
+  pub reset_reply : e.reset_reply ≡ None
 
 -- whether a SYN arrives that opens a connection: one without ACK and RST
 abbrev pub brings_syn : News → Bool

@@ -9,7 +9,7 @@ use Rattle.seq_arith.specs.Number.{offset_of}
 use Rattle.seq_arith.specs.Packet.{Segment, has_syn, has_rst}
 use Rattle.seq_arith.specs.Message.{Numbers}
 use Rattle.server_trait.specs.Service.{Machine}
-use Rattle.ft_model.specs.Point.{Point, taken_units, announced_edge, answered_run, released}
+use Rattle.ft_model.specs.Point.{Point, taken_units, advertised_edge, answered_run, released}
 use Rattle.ft_model.specs.News.{News}
 use Rattle.ft_model.specs.News.News.{Comes}
 use Rattle.ft_model.specs.Network.{source_of}
@@ -18,7 +18,7 @@ use Rattle.ft_model.specs.Connection.{IsSameConnection}
 use Rattle.ft_model.specs.Taken.{accepts, taken_after, early_after, fin_after}
 use Rattle.ft_model.specs.Sending.{syn_acked_after, acknowledged_after, edge_after, wl1_after, wl2_after, congestion_after, sent_after}
 use Rattle.ft_model.specs.Timer.{interval_after, rest_after}
-use Rattle.ft_model.specs.Owed.{is_refused, owes}
+use Rattle.ft_model.specs.Owed.{is_refused, needs_ack}
 use Rattle.ft_model.specs.Refusal.{rst_at_ack}
 use Rattle.ft_model.specs.Segments.{syn_ack, bare_segment, resent, new_texts, new_fin, or_bare}
 use Rattle.tcp_endpoint.specs.declared.states.StateName.TheVariants.{Closed}
@@ -96,13 +96,13 @@ pub record MeetsLaws {State : Type 0} (service : Machine State) (news : News) (b
   pub rest : after.rest ≡ rest_after service news before after
 
 -- an ACK is pending: the segment that arrived requires one, or the acknowledgement or the right edge changes in this turn
-abbrev pub owes_to : News → Point → Bool
-owes_to (Comes segment) before = owes before segment
-owes_to _ before = false
+abbrev pub news_needs_ack : News → Point → Bool
+news_needs_ack (Comes segment) before = needs_ack before segment
+news_needs_ack _ before = false
 
-abbrev pub is_owed : News → (before after : Point) → Bool
-is_owed news before after =
-    owes_to news before || not (taken_units before == taken_units after) || not (announced_edge before == announced_edge after)
+abbrev pub is_ack_pending : News → (before after : Point) → Bool
+is_ack_pending news before after =
+    news_needs_ack news before || not (taken_units before == taken_units after) || not (advertised_edge before == advertised_edge after)
 
 -- while the SYN is unacknowledged: the RST that answers an acceptable segment which acknowledges less
 abbrev pub refuses : Point → Segment → Bool
@@ -117,7 +117,7 @@ refusals server _ before = []
 -- logged, and that it has become live or is over
 abbrev pub segments_by_laws : {State : Type 0} → Machine State → Addr → News → (before after : Point) → List Segment
 segments_by_laws service server news before after =
-    or_bare (is_owed news before after) (bare_segment server after)
+    or_bare (is_ack_pending news before after) (bare_segment server after)
     (refusals server news before ++ (resent service server news before after ++ (new_texts service server before after ++ new_fin service server before after)))
 
 -- the point of an endpoint that a SYN has opened, after these fetched bytes: the model's new connection, with its timer running

@@ -4,13 +4,13 @@ use Rattle.std.specs.Prelude.{◌≡◌, ℕ, true, false, ◌+◌, ◌-◌, ◌
 use Rattle.seq_arith.specs.Packet.{Segment}
 use Rattle.ft_model.specs.News.{News}
 use Rattle.ft_model.specs.News.News.{Comes, Ticks}
-use Rattle.tcp_endpoint.specs.Receiving.{next, announced_edge}
+use Rattle.tcp_endpoint.specs.Receiving.{next, advertised_edge}
 use Rattle.tcp_endpoint.specs.Sending.{bytes_end, must_run}
 use Rattle.tcp_endpoint.specs.Tcb.{Tcb}
 use Rattle.tcp_endpoint.specs.Arrival.{received}
 use Rattle.tcp_endpoint.specs.Leaving.{leaving, flushed}
 use Rattle.tcp_endpoint.specs.Turning.{after_tick, after_read, after_write, closing, write_room}
-use Rattle.endpoint_laws.specs.Laws.{IsBounded, IsUsual, IsShut, told}
+use Rattle.endpoint_laws.specs.Laws.{IsBounded, IsUsual, IsShut, last_advertised}
 
 abbrev pub arrived : News → Tcb → Tcb
 arrived (Comes segment) e = received e segment
@@ -68,11 +68,11 @@ IsUsualNews _ e = Unit {0}
 -- between two turns of a connection that has begun nothing is due, and all that is taken and the edge are advertised
 pub record IsBetweenTurns (e : Tcb) : Type 0 where
   pub bounds : IsBounded e
-  pub told : told e ≡ (next e.receiving, announced_edge e.receiving)
-  pub owed : e.owed ≡ false
-  pub again : e.again ≡ false
+  pub told : last_advertised e ≡ (next e.receiving, advertised_edge e.receiving)
+  pub ack_pending : e.ack_pending ≡ false
+  pub retransmission_due : e.retransmission_due ≡ false
   pub probe : e.probe ≡ false
-  pub answer : e.answer ≡ None
+  pub reset_reply : e.reset_reply ≡ None
   -- a FIN is sent after all that was written, by a user who closed
   pub fin_last : e.sending.fin_sent ≡ true → (e.sending.closed ≡ true) × (1 ≤ e.sending.sent) × (length e.sending.held ≡ e.sending.sent - 1 - e.sending.una)
   pub shut : IsShut e.sending

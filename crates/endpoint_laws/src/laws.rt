@@ -6,10 +6,10 @@ ghost use Rattle.seq_arith.specs.Packet.{Segment};
 ghost use Rattle.tcp_endpoint.specs.States.{has_begun};
 ghost use Rattle.tcp_endpoint.specs.Tcb.{Tcb, listening, connecting};
 ghost use Rattle.tcp_endpoint.specs.Arrival.{received};
-ghost use Rattle.endpoint_laws.specs.Laws.{IsBounded, IsUsual, taken_by, IsSentBy, ProbesRightly, sent_by_law, is_refused, owes, starts, interval_by, rest_by};
-ghost use Rattle.endpoint_laws.specs.Laws.{is_third_duplicate, congestion_ticked, ticked_interval, ticked_rest, IsTimedBy, told, asks, IsShut};
+ghost use Rattle.endpoint_laws.specs.Laws.{IsBounded, IsUsual, taken_by, IsSentBy, ProbesRightly, sent_by_law, is_refused, needs_ack, starts, interval_by, rest_by};
+ghost use Rattle.endpoint_laws.specs.Laws.{is_third_duplicate, congestion_ticked, ticked_interval, ticked_rest, IsTimedBy, last_advertised, asks, IsShut};
 ghost use Rattle.tcp_endpoint.specs.Sending.{IsShort};
-ghost use Rattle.tcp_endpoint.specs.Receiving.{next, announced_edge};
+ghost use Rattle.tcp_endpoint.specs.Receiving.{next, advertised_edge};
 ghost use Rattle.tcp_endpoint.specs.Leaving.{or_bare, bare_segment, full_out, leaving, after_full, is_timed, flushed};
 ghost use Rattle.tcp_endpoint.specs.Turning.{after_tick, after_read, after_write, closing};
 ghost use Rattle.tcp_endpoint.specs.declared.states.StateName.TheVariants.{Listen, SynSent};
@@ -27,7 +27,7 @@ ghost use Rattle.std.specs.List.{AllByRecursion};
 ghost use Rattle.tcp_endpoint.specs.declared.states.StateName.TheVariants.{Closed};
 ghost use Rattle.endpoint_laws.specs.Turn.{sent_in};
 ghost use Rattle.endpoint_laws.specs.Ending.{IsNamedRightly, has_taken_fin, resets, is_over};
-ghost use Rattle.endpoint_laws.specs.Announcing.{Announces, is_told, ReadsOnlyTaken, AcknowledgesAll};
+ghost use Rattle.endpoint_laws.specs.Announcing.{Advertises, is_told, ReadsOnlyTaken, AcknowledgesAll};
 ghost use Rattle.std.specs.Prelude.{◌∷◌};
 ghost use Rattle.endpoint_laws.specs.Unconnected.{syn_of};
 ghost use Rattle.endpoint_laws.specs.Turn.{used};
@@ -48,10 +48,10 @@ pub fn segments_are_acknowledged_by_law()
 {}
 
 /// At the third duplicate acknowledgement in a row the first unacknowledged segment becomes due for retransmission, and at no other segment.
-#[tactic(auto, using(crate::proofs::SendingLaw::again_law))]
+#[tactic(auto, using(crate::proofs::SendingLaw::retransmission_law))]
 pub fn third_duplicates_send_again()
     ensures { (e : Tcb) (p : Segment) → has_begun e.name ≡ true → IsBounded e → IsUsual e p
-        → (received e p).again ≡ (e.again || is_third_duplicate e p) }
+        → (received e p).retransmission_due ≡ (e.retransmission_due || is_third_duplicate e p) }
 {}
 
 /// The law Sending, at a tick: where the timer expires, what is in flight counts as lost if the peer has room for it.
@@ -134,10 +134,10 @@ pub fn turns_send_up_to_the_edge()
 {}
 
 /// When a segment makes an ACK pending. The ACK is sent if no other segment is.
-#[tactic(auto, using(crate::proofs::OwedLaw::owed_law))]
+#[tactic(auto, using(crate::proofs::OwedLaw::ack_pending_law))]
 pub fn segments_are_owed_answers_by_law()
-    ensures { (e : Tcb) (p : Segment) → has_begun e.name ≡ true → IsBounded e → IsUsual e p → e.owed ≡ false → is_refused e p ≡ false
-        → (received e p).owed ≡ owes e p }
+    ensures { (e : Tcb) (p : Segment) → has_begun e.name ≡ true → IsBounded e → IsUsual e p → e.ack_pending ≡ false → is_refused e p ≡ false
+        → (received e p).ack_pending ≡ needs_ack e p }
 {}
 
 /// The law of the timer, at the end of a turn with a segment, whatever the user does in between.
@@ -224,27 +224,27 @@ pub fn states_tell_the_peers_fin()
 
 /// The law on segments without data, at the end of a turn with a segment: one is sent exactly where an ACK is pending and no other segment is sent.
 pub fn bare_segments_go_out_where_owed()
-    ensures { (e u : Tcb) (p : Segment) → has_begun e.name ≡ true → has_begun u.name ≡ true → IsBounded e → IsUsual e p → e.owed ≡ false
-        → is_refused e p ≡ false → u.owed ≡ (received e p).owed
-        → leaving u ≡ or_bare (asks (owes e p) u) (bare_segment (after_full u)) (full_out u) }
+    ensures { (e u : Tcb) (p : Segment) → has_begun e.name ≡ true → has_begun u.name ≡ true → IsBounded e → IsUsual e p → e.ack_pending ≡ false
+        → is_refused e p ≡ false → u.ack_pending ≡ (received e p).ack_pending
+        → leaving u ≡ or_bare (asks (needs_ack e p) u) (bare_segment (after_full u)) (full_out u) }
 {}
 
 /// The same, at the end of a turn in which no segment arrived: an ACK is pending where the acknowledgement or the right edge has changed.
 pub fn bare_segments_tell_changes()
-    ensures { (u : Tcb) → has_begun u.name ≡ true → u.owed ≡ false
+    ensures { (u : Tcb) → has_begun u.name ≡ true → u.ack_pending ≡ false
         → leaving u ≡ or_bare (asks false u) (bare_segment (after_full u)) (full_out u) }
 {}
 
 /// Once a turn has ended, RCV.NXT and the window's right edge are those last sent ..
 #[tactic(auto, using(crate::proofs::ToldLaw::told_by_flush))]
 pub fn turns_announce()
-    ensures { (e : Tcb) → has_begun e.name ≡ true → told (flushed e) ≡ (next e.receiving, announced_edge e.receiving) }
+    ensures { (e : Tcb) → has_begun e.name ≡ true → last_advertised (flushed e) ≡ (next e.receiving, advertised_edge e.receiving) }
 {}
 
 /// .. and a segment doesn't change what was last advertised.
 #[tactic(auto, using(crate::proofs::ToldLaw::told_by_segment))]
 pub fn segments_announce_nothing()
-    ensures { (e : Tcb) (p : Segment) → has_begun e.name ≡ true → told (received e p) ≡ told e }
+    ensures { (e : Tcb) (p : Segment) → has_begun e.name ≡ true → last_advertised (received e p) ≡ last_advertised e }
 {}
 
 /// A probe is due only where it is right, ..
@@ -305,18 +305,18 @@ pub fn turns_keep_what_laws_ask()
 /// Every endpoint acknowledges all that it took: each segment that a connection sends once it has begun, except a RST, has ACK, acknowledges exactly what is
 /// taken, and advertises the window.
 pub fn segments_acknowledge_all_that_is_taken()
-    ensures { (news : News) (calls : List Call) (e : Tcb) → e.answer ≡ None → ReadsOnlyTaken calls (arrived news e)
-        → has_begun (before_flush news calls e).name ≡ true → AllByRecursion (Announces (before_flush news calls e)) (sent_in news calls e) }
+    ensures { (news : News) (calls : List Call) (e : Tcb) → e.reset_reply ≡ None → ReadsOnlyTaken calls (arrived news e)
+        → has_begun (before_flush news calls e).name ≡ true → AllByRecursion (Advertises (before_flush news calls e)) (sent_in news calls e) }
 {}
 
 /// And all that is taken is acknowledged at once: if more is taken in a turn, a segment is sent that isn't a RST, and so acknowledges it. The same holds if the
 /// right edge moves, unless a RST answers.
 pub fn what_is_taken_is_told()
-    ensures { (news : News) (calls : List Call) (e : Tcb) → has_begun e.name ≡ true → e.answer ≡ None
-        → told e ≡ (next e.receiving, announced_edge e.receiving) → ReadsOnlyTaken calls (arrived news e)
+    ensures { (news : News) (calls : List Call) (e : Tcb) → has_begun e.name ≡ true → e.reset_reply ≡ None
+        → last_advertised e ≡ (next e.receiving, advertised_edge e.receiving) → ReadsOnlyTaken calls (arrived news e)
         → has_begun (before_flush news calls e).name ≡ true
         → (next (before_flush news calls e).receiving ≡ next e.receiving → ⊥)
-        ⊎ (((before_flush news calls e).answer ≡ None) × (announced_edge (before_flush news calls e).receiving ≡ announced_edge e.receiving → ⊥))
+        ⊎ (((before_flush news calls e).reset_reply ≡ None) × (advertised_edge (before_flush news calls e).receiving ≡ advertised_edge e.receiving → ⊥))
         → is_told (sent_in news calls e) ≡ true }
 {}
 
@@ -356,5 +356,5 @@ pub fn answers_begin()
 pub fn answers_are_acknowledged()
     ensures { (iss limit : ℕ) (news : News) (calls : List Call) (e : Tcb) → IsConnecting iss limit e → ReadsOnlyTaken calls (arrived news e)
         → has_begun (before_flush news calls e).name ≡ true
-        → AllByRecursion (Announces (before_flush news calls e)) (sent_in news calls e) × (is_told (sent_in news calls e) ≡ true) }
+        → AllByRecursion (Advertises (before_flush news calls e)) (sent_in news calls e) × (is_told (sent_in news calls e) ≡ true) }
 {}

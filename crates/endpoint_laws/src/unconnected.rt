@@ -8,7 +8,7 @@ ghost use Rattle.ft_model.specs.News.{News};
 ghost use Rattle.ft_model.specs.News.News.{Comes};
 ghost use Rattle.ft_model.specs.Opening.{is_syn};
 ghost use Rattle.tcp_endpoint.specs.Arrival.{received};
-ghost use Rattle.endpoint_laws.specs.Announcing.{Announces, is_told, ReadsOnlyTaken};
+ghost use Rattle.endpoint_laws.specs.Announcing.{Advertises, is_told, ReadsOnlyTaken};
 ghost use Rattle.tcp_endpoint.specs.declared.states.StateName.TheVariants.{Closed, Listen, SynSent};
 ghost use Rattle.tcp_endpoint.specs.States.{is_syn_sent, has_begun};
 ghost use Rattle.tcp_endpoint.specs.Tcb.{Tcb};
@@ -21,13 +21,13 @@ ghost use Rattle.endpoint_laws.specs.Unconnected.{expires_at, interval_waiting, 
 
 /// CLOSED answers each segment except a RST with a RST, and sends nothing else.
 pub fn closed_endpoints_refuse()
-    ensures { (news : News) (calls : List Call) (e : Tcb) → e.name ≡ Closed → e.answer ≡ None → sent_in news calls e ≡ sent_in_closed e.local news }
+    ensures { (news : News) (calls : List Call) (e : Tcb) → e.name ≡ Closed → e.reset_reply ≡ None → sent_in news calls e ≡ sent_in_closed e.local news }
 {}
 
 /// It stays so, whatever arrives and whatever the user does.
 pub fn closed_endpoints_stay_closed()
-    ensures { (news : News) (calls : List Call) (e : Tcb) → e.name ≡ Closed → e.answer ≡ None
-        → ((turned news calls e).name ≡ Closed) × ((turned news calls e).answer ≡ None) × ((turned news calls e).local ≡ e.local)
+    ensures { (news : News) (calls : List Call) (e : Tcb) → e.name ≡ Closed → e.reset_reply ≡ None
+        → ((turned news calls e).name ≡ Closed) × ((turned news calls e).reset_reply ≡ None) × ((turned news calls e).local ≡ e.local)
         × ((turned news calls e).reset ≡ e.reset) }
 {}
 
@@ -48,7 +48,7 @@ pub fn listening_endpoints_wait_for_a_syn()
 pub fn syns_are_acknowledged()
     ensures { (iss limit : ℕ) (syn : Segment) (calls : List Call) (e : Tcb) → IsListening iss limit e → is_syn syn ≡ true
         → ReadsOnlyTaken calls (received e syn)
-        → AllByRecursion (Announces (before_flush (Comes syn) calls e)) (sent_in (Comes syn) calls e)
+        → AllByRecursion (Advertises (before_flush (Comes syn) calls e)) (sent_in (Comes syn) calls e)
         × (is_told (sent_in (Comes syn) calls e) ≡ true) }
 {}
 

@@ -54,7 +54,7 @@ pub record Passes (draft : Draft) (text : List ℕ) (l : Line) : Type 0 where
   pub words : List (List ℕ)
   pub k : Keyword
   pub words_are : words_of text ≡ word ∷ words
-  pub announces : keyword_of word ≡ Some k
+  pub advertises : keyword_of word ≡ Some k
   pub stands : may_stand draft k words ≡ true
   pub says : line_from draft k words ≡ Ok l
 
@@ -70,7 +70,7 @@ passes_words draft text (word ∷ words) l e f =
       words = words;
       k = at.0;
       words_are = e;
-      announces = ok_or_ok (keyword_of word) why.Word at.0 at.1;
+      advertises = ok_or_ok (keyword_of word) why.Word at.0 at.1;
       stands = placed.0;
       says = placed.1;
     }
@@ -241,7 +241,7 @@ line_kept (Begun s) text (line.Client c) h few p =
     with_client s c h (room_for_client s p.words (rw said.0 at p.stands)) kept.0 kept.1
 line_kept (Begun s) text (line.Event e) h few p =
     let said = says_event (Begun s) p.k p.words e p.says in
-    with_event s e h (room_for_event s text p.word p.words said.0 p.words_are (verb_behind p.word said.0 (rw said.1 at p.announces)) few)
+    with_event s e h (room_for_event s text p.word p.words said.0 p.words_are (verb_behind p.word said.0 (rw said.1 at p.advertises)) few)
 
 at_line_ok : (n : ℕ) (r : Result Draft LineWhy) (later : Draft) → at_line n r ≡ Ok later → r ≡ Ok later
 at_line_ok n (Ok draft) later e = cc

@@ -32,7 +32,7 @@ use Rattle.ft_model.proofs.Scripts.{HasTaken, DataFits}
 use Rattle.ft_model.proofs.Faithful.{IsKnown, PlaceFits}
 use Rattle.ft_model.proofs.Spoken.{Spoken, segments_spoken}
 use Rattle.ft_model.proofs.Spoken.Spoken.{spoken_syn, spoken_text, spoken_fin, spoken_bare}
-use Rattle.ft_model.proofs.Services.{GoesOn, reads_go_on, more_bytes, prefix_length, sum_take}
+use Rattle.ft_model.proofs.Services.{RunExtends, reads_go_on, more_bytes, prefix_length, sum_take}
 use Rattle.ft_model.proofs.Running.{HasSmallOutputs, ReadsWithin, reset_within, live_within}
 use Rattle.ft_model.proofs.StageTurns.{either_turn}
 use Rattle.ft_io.proofs.Choices.{holds_if}
@@ -89,7 +89,7 @@ take_of_prefix k xs ys p h = subst (λ l. take k l ≡ take k xs) p.1 (take-appe
 
 -- what may leave of a connection is a front of what the log's reads give
 pub released_logged : {State : Type 0} (service : Machine State) (script : Key → List ℕ) (isn : ℕ) (log : Log) (q : Point) → HasTaken (script q.key) isn q → IsKnown log q → ReadsWithin service q
-    → IsPrefix (logged_lengths q.key log) q.lengths → GoesOn (answered_run service q) (logged_run service script log q.key)
+    → IsPrefix (logged_lengths q.key log) q.lengths → RunExtends (answered_run service q) (logged_run service script log q.key)
 released_logged service script isn log q h k r front =
     let logged : List ℕ = logged_lengths q.key log in
     let count : q.reads_answered ≤ length logged = subst (λ o. q.reads_answered ≤ length (lengths_in o)) (sym k.found) k.reads in
@@ -97,10 +97,10 @@ released_logged service script isn log q h k r front =
     let low : sum (take q.reads_answered q.lengths) ≤ length q.taken = le_trans (sum_take q.reads_answered q.lengths) r.enough in
     let bytes : reference service (script q.key) (take q.reads_answered q.lengths) ≡ answered_run service q = more_bytes service q.taken (script q.key) (take q.reads_answered q.lengths) h.fronts.front low in
     let part : IsPrefix (take q.reads_answered q.lengths) logged = subst (λ l. IsPrefix l logged) (sym same) (take_first q.reads_answered logged) in
-    subst (λ x. GoesOn x (logged_run service script log q.key)) bytes (reads_go_on service (script q.key) (take q.reads_answered q.lengths) logged part)
+    subst (λ x. RunExtends x (logged_run service script log q.key)) bytes (reads_go_on service (script q.key) (take q.reads_answered q.lengths) logged part)
 
 -- a later run carries it as well
-pub carries_later : {State : Type 0} (a b : Run State) (sisn : ℕ) (segment : Segment) → GoesOn a b → CarriesOutput a sisn segment → CarriesOutput b sisn segment
+pub carries_later : {State : Type 0} (a b : Run State) (sisn : ℕ) (segment : Segment) → RunExtends a b → CarriesOutput a sisn segment → CarriesOutput b sisn segment
 carries_later a b sisn segment g c = (
   c.0,
   c.1,
@@ -128,7 +128,7 @@ empty_or : (n offset : ℕ) (output : List ℕ) → length output ≤ 2 ^ 24 →
 empty_or n offset output h = by_past n offset output (nat_lt offset (2 ^ 31)) refl h
 
 spoken_so : {State : Type 0} (service : Machine State) (server : Addr) (news : News) (p q : Point) (segment : Segment) (script : Key → List ℕ) (log : Log) → IsKnown log q
-    → length (answered_run service q).output ≤ 2 ^ 24 → GoesOn (answered_run service q) (logged_run service script log q.key)
+    → length (answered_run service q).output ≤ 2 ^ 24 → RunExtends (answered_run service q) (logged_run service script log q.key)
     → Spoken service server news p q segment → IsSpoken service script log (destination_of segment) segment
 spoken_so service server news p q segment script log k small g (spoken_syn e) =
     subst (λ s. IsSpoken service script log (destination_of s) s) (sym e) (record { entry = k.entry; found = k.found; syn = λ x. sym k.sisn; text = inr (refl, refl) })
@@ -214,7 +214,7 @@ live_runs : {State : Type 0} (service : Machine State) (server : Addr) (script o
 live_runs service server script old author isn log boot news p q sent small front datas fits r is t =
     let lengths : IsPrefix (old q.key) q.lengths = live_prefix service server old boot news p q sent r.0 t in
     let within : ReadsWithin service q = live_within service server boot news p q sent small r.1 t in
-    let goes : GoesOn (answered_run service q) (logged_run service script log q.key) =
+    let goes : RunExtends (answered_run service q) (logged_run service script log q.key) =
     released_logged service script (isn q.key) log q fits.0 fits.1 within (prefix_trans (logged_lengths q.key log) (old q.key) q.lengths (front q.key) lengths) in
     let less : length (answered_run service q).output ≤ 2 ^ 24 =
     le_trans (prefix_length (answered_run service q).output (reference service q.taken q.lengths).output

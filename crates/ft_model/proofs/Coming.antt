@@ -109,7 +109,7 @@ run_fits (Some x ∷ places) (y ∷ stream) a =
 -- the steps of a segment
 
 -- what a segment has made so far of a stream of which n bytes were taken before it
-record Fits (whole : List ℕ) (ends : Type 0) (n : ℕ) (c : Came) : Type 0 where
+record StreamFits (whole : List ℕ) (ends : Type 0) (n : ℕ) (c : Came) : Type 0 where
   added : IsPrefix c.added (drop n whole)
   held : Agrees c.early.text (drop (n + length c.added) whole)
   held_fin : IfSome c.early.fin (λ offset. ends × (offset ≡ length whole))
@@ -149,12 +149,12 @@ held_fits at new places stream s a =
 
 text_fits : (whole : List ℕ) (ends : Type 0) (n edge : ℕ) (fin : Bool) (early : Early) (first : ℤ) (text : List ℕ) (has_fin : Bool) → Says whole ends first text has_fin
     → Agrees early.text (drop n whole) → IfSome early.fin (λ offset. ends × (offset ≡ length whole)) → (fin ≡ true → ends × (n ≡ length whole))
-    → Fits whole ends n (with_text n edge first text (nothing_came early fin))
+    → StreamFits whole ends n (with_text n edge first text (nothing_came early fin))
 unfolding with_text
 text_fits whole ends n edge fin early first text has_fin says a f e =
     let new : List ℕ = new_text n edge fin early first text in
     let s : IsPrefix new (drop (ahead n first) (drop n whole)) = new_stands whole ends n edge fin early first text has_fin says in
-    holds_if (Fits whole ends n) (ahead n first == 0) _ _
+    holds_if (StreamFits whole ends n) (ahead n first == 0) _ _
     (λ t. let p : IsPrefix new (drop n whole) = subst (λ k. IsPrefix new (drop k (drop n whole))) (eqb-true _ _ t) s in
     record {
       added = p;
@@ -169,17 +169,17 @@ text_fits whole ends n edge fin early first text has_fin says a f e =
       fin = λ h. ((e h).0, no_more n ∙ (e h).1);
     })
 
-fin_fits : (whole : List ℕ) (ends : Type 0) (n edge : ℕ) (place : ℤ) (has_fin : Bool) (c : Came) → (has_fin ≡ true → ends × (nat_abs place ≡ length whole)) → Fits whole ends n c
-    → Fits whole ends n (with_fin n edge place has_fin c)
+fin_fits : (whole : List ℕ) (ends : Type 0) (n edge : ℕ) (place : ℤ) (has_fin : Bool) (c : Came) → (has_fin ≡ true → ends × (nat_abs place ≡ length whole)) → StreamFits whole ends n c
+    → StreamFits whole ends n (with_fin n edge place has_fin c)
 unfolding with_fin
 fin_fits whole ends n edge place has_fin c e f =
-    holds_if (Fits whole ends n) (has_fin && holds_fin n edge place c) _ c
+    holds_if (StreamFits whole ends n) (has_fin && holds_fin n edge place c) _ c
     (λ t. record { added = f.added; held = f.held; held_fin = e (and_parts has_fin (holds_fin n edge place c) t).0; fin = f.fin }) (λ t. f)
 
 three : (a b c : ℕ) → (a + b) + c ≡ a + (b + c)
 three a b c = omega arith
 
-run_taken : (whole : List ℕ) (ends : Type 0) (n : ℕ) (c : Came) → Fits whole ends n c → Fits whole ends n (continued c)
+run_taken : (whole : List ℕ) (ends : Type 0) (n : ℕ) (c : Came) → StreamFits whole ends n c → StreamFits whole ends n (continued c)
 unfolding continued
 run_taken whole ends n c f =
     let more : RunFits c.early.text (drop (n + length c.added) whole) = run_fits c.early.text (drop (n + length c.added) whole) f.held in
@@ -197,21 +197,21 @@ stood : (ends : Type 0) (end : ℕ) (o : Option ℕ) (whole : List ℕ) → stan
 stood ends end None whole t s = absurd (true≢false (sym t))
 stood ends end (Some offset) whole t s = (s.0, sym (eqb-true _ _ t) ∙ s.1)
 
-fin_taken : (whole : List ℕ) (ends : Type 0) (n : ℕ) (c : Came) → Fits whole ends n c → Fits whole ends n (with_fin_taken n c)
+fin_taken : (whole : List ℕ) (ends : Type 0) (n : ℕ) (c : Came) → StreamFits whole ends n c → StreamFits whole ends n (with_fin_taken n c)
 unfolding with_fin_taken
 fin_taken whole ends n c f =
-    holds_if (Fits whole ends n) (stands_at (n + length c.added) c.early.fin) _ c
+    holds_if (StreamFits whole ends n) (stands_at (n + length c.added) c.early.fin) _ c
     (λ t. record { added = f.added; held = f.held; held_fin = tt; fin = λ h. stood ends (n + length c.added) c.early.fin whole t f.held_fin }) (λ t. f)
 
 steps_fit : (whole : List ℕ) (ends : Type 0) (n edge : ℕ) (fin : Bool) (early : Early) (first : ℤ) (text : List ℕ) (has_fin : Bool) → Says whole ends first text has_fin
     → Agrees early.text (drop n whole) → IfSome early.fin (λ offset. ends × (offset ≡ length whole)) → (fin ≡ true → ends × (n ≡ length whole))
-    → Fits whole ends n (comes n edge fin early first text has_fin)
+    → StreamFits whole ends n (comes n edge fin early first text has_fin)
 unfolding comes
 steps_fit whole ends n edge fin early first text has_fin says a f e =
     let place : ℤ = first +ℤ pos (length text) in
     let one : Came = with_text n edge first text (nothing_came early fin) in
     let two : Came = with_fin n edge place has_fin one in
-    let brought : Fits whole ends n one = text_fits whole ends n edge fin early first text has_fin says a f e in
+    let brought : StreamFits whole ends n one = text_fits whole ends n edge fin early first text has_fin says a f e in
     fin_taken whole ends n (continued two) (run_taken whole ends n two (fin_fits whole ends n edge place has_fin one (fin_stands whole ends first text has_fin says) brought))
 
 -- the law Taken in one sentence: each byte that is taken or held is the stream's byte at its offset, and a FIN is taken or held only at the stream's end
@@ -221,7 +221,7 @@ pub comes_fits : (whole : List ℕ) (ends : Type 0) (taken : List ℕ) (edge : �
     (comes (length taken) edge fin early first text has_fin).early
 comes_fits whole ends taken edge fin early first text has_fin h says =
     let c : Came = comes (length taken) edge fin early first text has_fin in
-    let f : Fits whole ends (length taken) c = steps_fit whole ends (length taken) edge fin early first text has_fin says h.held h.held_fin h.fin_taken in
+    let f : StreamFits whole ends (length taken) c = steps_fit whole ends (length taken) edge fin early first text has_fin says h.held h.held_fin h.fin_taken in
     let size : length (taken ++ c.added) ≡ length taken + length c.added = length-append taken c.added in
     record {
       front = join_front taken c.added whole h.front f.added;

@@ -12,7 +12,7 @@ use Rattle.seq_arith.specs.Message.Body.{HelloMsg, ListMsg, EntryMsg, BytesMsg, 
 use Rattle.seq_arith.proofs.Shifts.{offset_of_number}
 use Rattle.server_trait.specs.Service.{Machine}
 use Rattle.ft_model.specs.Offset.{ack_of, one_if}
-use Rattle.ft_model.specs.Log.{Log, Entry, entry_of, kept_of, head_of, part_of, lens_of, opened, told, opened_answer}
+use Rattle.ft_model.specs.Log.{Log, Entry, entry_of, kept_of, head_of, part_of, lens_of, opened, answer_from, opened_answer}
 use Rattle.ft_model.specs.Network.{Packet, source_of, destination_of}
 use Rattle.ft_model.specs.Network.Packet.{To_server, To_client, To_logger, From_logger}
 use Rattle.ft_model.specs.Point.{Point, acknowledgement}
@@ -144,7 +144,7 @@ opened_fits log key (Some e) answer found t = subst (AnswerFits log) (some_is _ 
 opened_fits log key None answer found t = subst (AnswerFits log) (some_is _ _ t) tt
 
 -- what the log tells is so
-pub told_fits : (body : Body) (log : Log) (answer : Body) → told body log ≡ Some answer → AnswerFits log answer
+pub told_fits : (body : Body) (log : Log) (answer : Body) → answer_from body log ≡ Some answer → AnswerFits log answer
 told_fits HelloMsg log answer t = subst (AnswerFits log) (some_is _ _ t) tt
 told_fits (OpenMsg n) log answer t = opened_fits log n.key (entry_of n.key log) answer refl t
 told_fits (DataMsg part) log answer t =

@@ -6,7 +6,7 @@ use Rattle.ft_io.specs.declared.Key.{Key}
 use Rattle.ft_io.specs.Key.{key_eq}
 use Rattle.seq_arith.specs.Message.{EntryHead, Body}
 use Rattle.seq_arith.specs.Message.Body.{HelloMsg, SummaryMsg, ListMsg, EntryMsg, BytesMsg, PartMsg, CutsMsg, LensMsg, OpenMsg, DataMsg, StableMsg, ReadMsg, ReadsMsg, DoneMsg, EndedMsg}
-use Rattle.ft_model.specs.Log.{Log, Entry, entry_of, head_of, part_of, lens_of, on_entry, opened_answer, kept_of, told}
+use Rattle.ft_model.specs.Log.{Log, Entry, entry_of, head_of, part_of, lens_of, on_entry, opened_answer, kept_of, answer_from}
 use Rattle.ft_model.specs.Restart.{Wanted, Fetched, wanted, next_entry, lacks_read_bytes, lacks_bytes, lacks_lengths, is_fetched, fetched_by, fetched_after, all_follow, entry_in}
 use Rattle.ft_model.specs.Restart.Wanted.{An_entry, Its_bytes, Its_lengths}
 use Rattle.ft_model.specs.Growth.{IsPrefix}
@@ -57,7 +57,7 @@ opened_agrees key (Some e) entries answer t = subst (AgreesWith entries) (some_i
 opened_agrees key None entries answer t = subst (AgreesWith entries) (some_is _ _ t) tt
 
 -- what the log tells agrees with it
-pub told_agrees : (body : Body) (log : Log) (answer : Body) → told body log ≡ Some answer → AgreesWith log.entries answer
+pub told_agrees : (body : Body) (log : Log) (answer : Body) → answer_from body log ≡ Some answer → AgreesWith log.entries answer
 told_agrees HelloMsg log answer t = subst (AgreesWith log.entries) (some_is _ _ t) refl
 told_agrees (ListMsg index) log answer t =
     let o = on_some (slice_get log.entries index) (λ e. Some (EntryMsg index (head_of e))) answer t in

@@ -8,7 +8,7 @@ use Rattle.seq_arith.specs.PacketGrammar.{mss_option, packet_length}
 use Rattle.server_trait.specs.Service.{AreBytes}
 use Rattle.ft_model.specs.Offset.{first_of, ack_of}
 use Rattle.ft_model.specs.declared.phase.Phase.TheVariants as phases
-use Rattle.ft_model.specs.Client.{Client, ClientKind, Move, IsMove, seq_of, ack_number_of, flags_of, mss_of, payload_of, is_acknowledging, accepted_units, segment_of, may_announce, is_live, may_offer, suits_kind, suits_phase, suits_range, received, opened_by, arrived, used, may_use, with_ack, with_added, came, is_opening, is_open, next_of}
+use Rattle.ft_model.specs.Client.{Client, ClientKind, Move, IsMove, seq_of, ack_number_of, flags_of, mss_of, payload_of, is_acknowledging, accepted_units, segment_of, may_advertise, is_live, may_offer, suits_kind, suits_phase, suits_range, received, opened_by, arrived, used, may_use, with_ack, with_added, came, is_opening, is_open, next_of}
 use Rattle.ft_model.specs.Client.Move.{Syn, Text, Fin, Acknowledge, Rst, Refuse}
 use Rattle.ft_model.specs.Network.Packet.{To_server}
 use Rattle.ft_model.specs.World.{World}
@@ -70,13 +70,13 @@ payload_bytes c Acknowledge h = tt
 payload_bytes c Rst h = tt
 payload_bytes c (Refuse number) h = tt
 
-announced_small : (m : Move) (window : ℕ) → may_announce m window ≡ true → window < 2 ^ 16
-announced_small Rst window e = let none : window ≡ 0 = eqb-true window 0 e in omega arith
-announced_small (Refuse number) window e = let none : window ≡ 0 = eqb-true window 0 e in omega arith
-announced_small (Syn mss) window e = ltb-true window (2 ^ 16) e
-announced_small (Text from len) window e = ltb-true window (2 ^ 16) e
-announced_small Fin window e = ltb-true window (2 ^ 16) e
-announced_small Acknowledge window e = ltb-true window (2 ^ 16) e
+advertised_small : (m : Move) (window : ℕ) → may_advertise m window ≡ true → window < 2 ^ 16
+advertised_small Rst window e = let none : window ≡ 0 = eqb-true window 0 e in omega arith
+advertised_small (Refuse number) window e = let none : window ≡ 0 = eqb-true window 0 e in omega arith
+advertised_small (Syn mss) window e = ltb-true window (2 ^ 16) e
+advertised_small (Text from len) window e = ltb-true window (2 ^ 16) e
+advertised_small Fin window e = ltb-true window (2 ^ 16) e
+advertised_small Acknowledge window e = ltb-true window (2 ^ 16) e
 
 seq_small : (c : Client) (m : Move) → c.isn < 2 ^ 32 → suits_range c m ≡ true → seq_of c m < 2 ^ 32
 seq_small c (Syn mss) isn r = isn
@@ -128,7 +128,7 @@ move_formed start c later segment h isn script mv =
         seq_small c m isn parts.1,
         ack,
         flags_small m,
-        announced_small m mv.window mv.fits,
+        advertised_small m mv.window mv.fits,
         mss_small c.kind m kind.0,
         payload_bytes c m script,
         packet_small c m mv.window parts.1,

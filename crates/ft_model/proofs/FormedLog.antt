@@ -7,7 +7,7 @@ use Rattle.ft_io.specs.Key.{key_eq}
 use Rattle.seq_arith.specs.Message.{Numbers, Part, Body, Message}
 use Rattle.seq_arith.specs.Message.Body.{HelloMsg, ListMsg, EntryMsg, BytesMsg, PartMsg, CutsMsg, LensMsg, OpenMsg, DataMsg, StableMsg, ReadMsg, ReadsMsg, DoneMsg, EndedMsg}
 use Rattle.server_trait.specs.Service.{AreBytes}
-use Rattle.ft_model.specs.Log.{Log, Entry, entry_of, new_entry, opened, with_bytes, with_its_fin, with_part, may_follow, is_next_read, with_read, with_body, kept_of, head_of, part_of, lens_of, opened_answer, told}
+use Rattle.ft_model.specs.Log.{Log, Entry, entry_of, new_entry, opened, with_bytes, with_its_fin, with_part, may_follow, is_next_read, with_read, with_body, kept_of, head_of, part_of, lens_of, opened_answer, answer_from}
 use Rattle.ft_model.specs.World.{World}
 use Rattle.ft_model.proofs.Lists.{all_weaker, all_map, all_append, all_find, all_slice_get, none_is_some, some_is}
 use Rattle.ft_model.proofs.Services.{sum_append, sum_more, prefix_length}
@@ -183,7 +183,7 @@ opened_told start boot log key (Some e) answer h a found t =
 opened_told start boot log key None answer h a found t = subst (BodyFormed start boot) (some_is _ _ t) h
 
 pub told_formed : (start : World) (boot : ℕ) (body : Body) (log : Log) (answer : Body) → BodyFormed start boot body → length log.entries ≤ 64 → AllByRecursion (EntryTells start) log.entries
-    → told body log ≡ Some answer → BodyFormed start boot answer
+    → answer_from body log ≡ Some answer → BodyFormed start boot answer
 told_formed start boot HelloMsg log answer h few a t = subst (BodyFormed start boot) (some_is _ _ t) few
 told_formed start boot (ListMsg index) log answer h few a t =
     let o = on_some (slice_get log.entries index) (λ e. Some (EntryMsg index (head_of e))) answer t in
@@ -218,7 +218,7 @@ opened_acks : (key : Key) (o : Option Entry) (answer : Body) → opened_answer k
 opened_acks key (Some e) answer t = subst AckWithin (some_is _ _ t) tt
 opened_acks key None answer t = subst AckWithin (some_is _ _ t) tt
 
-pub told_acks : (body : Body) (log : Log) (answer : Body) → told body log ≡ Some answer → AckWithin answer
+pub told_acks : (body : Body) (log : Log) (answer : Body) → answer_from body log ≡ Some answer → AckWithin answer
 told_acks HelloMsg log answer t = subst AckWithin (some_is _ _ t) tt
 told_acks (ListMsg index) log answer t =
     let o = on_some (slice_get log.entries index) (λ e. Some (EntryMsg index (head_of e))) answer t in subst AckWithin (some_is _ _ o.2) tt

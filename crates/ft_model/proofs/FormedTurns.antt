@@ -91,11 +91,11 @@ InputFormed start (Message_comes message) = PacketFormed start (From_logger mess
 InputFormed start _ = Unit {0}
 
 -- where a connection stands, by the laws of what it has taken and heard
-pub record Stands (start : World) (q : Point) : Type 0 where
+pub record TakesBytes (start : World) (q : Point) : Type 0 where
   pub bytes : AreBytes q.taken
   pub short : length q.taken ≤ 2 ^ 24
 
-stands : (start : World) (log : Log) (q : Point) → StartFormed start → PlaceFits (script_of start) (isn_of start) log (Lives q) → Stands start q
+stands : (start : World) (log : Log) (q : Point) → StartFormed start → PlaceFits (script_of start) (isn_of start) log (Lives q) → TakesBytes start q
 stands start log q s f =
     let size = prefix_length q.taken (script_of start q.key) f.0.fronts.front in
     let small = s.short q.key in
@@ -154,7 +154,7 @@ news_short (Logged kept) n = omega arith
 news_short Ticks n = omega arith
 news_short Begins n = omega arith
 
-copies_formed : (start : World) (boot : ℕ) (news : News) (p q : Point) → NewsFormed news → HasClient start q.key → Stands start q → Grows p q
+copies_formed : (start : World) (boot : ℕ) (news : News) (p q : Point) → NewsFormed news → HasClient start q.key → TakesBytes start q → Grows p q
     → AllByRecursion (BodyFormed start boot) (copies news p q)
 copies_formed start boot news p q n key s more =
     all_copies (BodyFormed start boot) news p q
@@ -173,7 +173,7 @@ messages_formed start boot key index (n ∷ lengths) h a low =
     let all = low (omega arith) in
     ((h, omega (arith, all), a.0), messages_formed start boot key (index + 1) lengths h a.1 (λ some. omega (arith, all)))
 
-reads_formed : (start : World) (boot : ℕ) (news : News) (p q : Point) → PointFormed start q → Stands start q → AllByRecursion (BodyFormed start boot) (reads_told news p q)
+reads_formed : (start : World) (boot : ℕ) (news : News) (p q : Point) → PointFormed start q → TakesBytes start q → AllByRecursion (BodyFormed start boot) (reads_told news p q)
 unfolding reads_told
 reads_formed start boot news p q h s =
     let index : ℕ = first_told news p q in
@@ -218,7 +218,7 @@ live_point service start server boot news p q sent h t =
     }
 
 live_formed : {State : Type 0} (service : Machine State) (start : World) (server : Addr) (boot : ℕ) (news : News) (p q : Point) (sent : List Packet) → WritesBytes service
-    → server ≡ start.server → IsBoot boot → NewsFormed news → PointFormed start p → Stands start q → LiveTurn service server boot news p q sent
+    → server ≡ start.server → IsBoot boot → NewsFormed news → PointFormed start p → TakesBytes start q → LiveTurn service server boot news p q sent
     → PointFormed start q × AllByRecursion (PacketFormed start) sent
 live_formed service start server boot news p q sent writes at b n h s t =
     let point : PointFormed start q = live_point service start server boot news p q sent h t in
@@ -245,7 +245,7 @@ pub connection_formed : {State : Type 0} (service : Machine State) (start : Worl
     → PlaceSound start log (Lives q) × AllByRecursion (PacketFormed start) sent
 connection_formed service start log node news p q sent writes s entries at b n nf nk h t =
     let fits = connection_fits service node.server (script_of start) (isn_of start) log node.boot news p q sent s.short entries nf nk h.0 t in
-    let here : Stands start q = stands start log q s fits.0 in
+    let here : TakesBytes start q = stands start log q s fits.0 in
     let formed : PointFormed start q × AllByRecursion (PacketFormed start) sent =
     either_turn service node.server node.boot news p q sent (reset_formed start node.boot news p q sent b h.1)
     (live_formed service start node.server node.boot news p q sent writes at b n h.1 here) t in

@@ -33,7 +33,7 @@ use Rattle.ft_model.proofs.Authored.{logged_run}
 use Rattle.ft_model.proofs.AuthorOver.{HasAuthor}
 use Rattle.ft_model.proofs.AuthorWorld.{front_of}
 use Rattle.ft_model.proofs.Backed.{logged_output, BodyBacked, PacketBacked, EntryBacked}
-use Rattle.ft_model.proofs.JointMasked.{IsSound, sound_after}
+use Rattle.ft_model.proofs.JointMasked.{JointInvariant, sound_after}
 use Rattle.ft_model.proofs.Formed.{AckWithin, MessageFormed, PacketFormed, IsBoot, StartFormed, EntryFormed, NodeFormed, ClientFormed, WorldFormed}
 use Rattle.ft_model.proofs.FormedLog.{AckedWithin, LogFormed, log_formed, EntryTells, entries_tell, told_formed, told_acks}
 use Rattle.ft_model.proofs.FormedClients.{received_formed, move_formed}
@@ -210,7 +210,7 @@ output_within service script w a key =
     let one = one_at_most (logged_run service script w.log key).closed in
     omega (arith, size, small, one)
 
-entries_acked : {State : Type 0} (service : Machine State) (start w : World) → IsSound service start w → AllByRecursion AckedWithin w.log.entries
+entries_acked : {State : Type 0} (service : Machine State) (start w : World) → JointInvariant service start w → AllByRecursion AckedWithin w.log.entries
 entries_acked service start w o =
     all_weaker (EntryBacked service (script_of start) w.log) AckedWithin w.log.entries
     (λ e h. let small = output_within service (script_of start) w o.author e.key in omega (arith, h, small)) o.backed.entries

@@ -7,7 +7,7 @@ use Rattle.ft_io.specs.Key.{key_eq}
 use Rattle.seq_arith.specs.Message.{Numbers, Part, Body, Message, is_answer}
 use Rattle.seq_arith.specs.Message.Body.{HelloMsg, OpenMsg, DataMsg, ReadMsg, DoneMsg}
 use Rattle.ft_model.specs.Offset.{one_if}
-use Rattle.ft_model.specs.Log.{Entry, Log, entry_of, new_entry, opened, with_bytes, with_its_fin, with_part, is_next_read, with_read, with_body, is_hello, heard, log_after}
+use Rattle.ft_model.specs.Log.{Entry, Log, entry_of, new_entry, opened, with_bytes, with_its_fin, with_part, is_next_read, with_read, with_body, is_hello, with_message, log_after}
 use Rattle.ft_model.specs.Growth.{IsPrefix, EntryGrows, EntriesGrow, LogGrows, lengths_in, units_in, logged_lengths, logged_units}
 use Rattle.ft_model.proofs.Lists.{prefix_refl, prefix_more, prefix_trans, none_is_some, some_is, or_cases}
 use Rattle.ft_io.proofs.Choices.{holds_if}
@@ -162,7 +162,7 @@ kept_grows (ReadMsg key index n) log = record { boot = le_refl log.boot; entries
 kept_grows (DoneMsg key) log = record { boot = le_refl log.boot; entries = changed_grow key (λ e. record e { done = true }) log.entries done_grows }
 kept_grows _ log = log_refl log
 
-heard_grows : (message : Message) (log : Log) → log.boot ≤ message.boot → LogGrows log (heard message log)
+heard_grows : (message : Message) (log : Log) → log.boot ≤ message.boot → LogGrows log (with_message message log)
 heard_grows message log h =
     holds_if (LogGrows log) (is_hello message.body) _ _ (λ t. record { boot = h; entries = entries_refl log.entries })
     (λ t. holds_if (LogGrows log) (message.boot == log.boot) _ _ (λ s. kept_grows message.body log) (λ s. log_refl log))
@@ -180,7 +180,7 @@ pub old_boots_change_nothing : (log : Log) (message : Message) → message.boot 
 unfolding log_after
 old_boots_change_nothing log message h =
     let old : nat_lt message.boot log.boot ≡ true = grind (arith, h) in
-    ap (λ b. if b then log else heard message log) (or_right (is_answer message.body) (nat_lt message.boot log.boot) old)
+    ap (λ b. if b then log else with_message message log) (or_right (is_answer message.body) (nat_lt message.boot log.boot) old)
 
 later_by : (key : Key) (e f : Entry) (es fs : List Entry) (x : Entry) (b : Bool) → EntryGrows e f → key_eq e.key key ≡ b
     → (if b then Some e else find (λ y. key_eq y.key key) es) ≡ Some x
@@ -241,7 +241,7 @@ no_answer _ h = absurd (true≢false (sym h))
 pub hello_raises : (log : Log) (hello : Message) → is_hello hello.body ≡ true → hello.boot ≤ (log_after log hello).boot
 unfolding log_after
 hello_raises log hello h =
-    holds_if (λ l. hello.boot ≤ l.boot) (is_answer hello.body || nat_lt hello.boot log.boot) log (heard hello log)
+    holds_if (λ l. hello.boot ≤ l.boot) (is_answer hello.body || nat_lt hello.boot log.boot) log (with_message hello log)
     (λ t. ⊎_elim (λ a. absurd (true≢false (sym a ∙ no_answer hello.body h)))
     (λ b. let less : hello.boot < log.boot = ltb-true _ _ b in omega (arith, less)) (or_cases (is_answer hello.body) (nat_lt hello.boot log.boot) t))
     (λ t. holds_if (λ l. hello.boot ≤ l.boot) (is_hello hello.body) (record log { boot = hello.boot }) (if hello.boot == log.boot then with_body hello.body log else log)

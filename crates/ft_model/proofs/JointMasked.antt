@@ -124,7 +124,7 @@ start_sees service script w s =
     (record { front = ((logged_run service script w.log c.key).output, refl); ended = λ e. absurd (true≢false (sym e)); holds = record { held = tt; held_fin = tt }; sisn = λ o. absurd (true≢false (sym o)) })) s.clients
 
 -- all that is kept true
-pub record IsSound {State : Type 0} (service : Machine State) (start w : World) : Type 0 where
+pub record JointInvariant {State : Type 0} (service : Machine State) (start w : World) : Type 0 where
   pub fenced : IsFenced w
   pub asked : IsAsked w
   pub faithful : IsFaithful (script_of start) (isn_of start) w
@@ -133,7 +133,7 @@ pub record IsSound {State : Type 0} (service : Machine State) (start w : World) 
   pub sees : AllSee service (script_of start) w
   pub backed : IsBacked service (script_of start) w
 
-pub start_sound : {State : Type 0} (service : Machine State) (start : World) → IsStart start → IsSound service start start
+pub start_sound : {State : Type 0} (service : Machine State) (start : World) → IsStart start → JointInvariant service start start
 start_sound service start x = record {
   fenced = start_fenced start x;
   asked = start_asked start x;
@@ -145,7 +145,7 @@ start_sound service start x = record {
 }
 
 pub sound_goes_on : {State : Type 0} (service : Machine State) → HasSmallOutputs service → (start before : World) (sent : List Packet) (after : World)
-    → IsStart start → IsSound service start before → Happened service before sent after → IsSound service start after
+    → IsStart start → JointInvariant service start before → Happened service before sent after → JointInvariant service start after
 sound_goes_on service small start before sent after s o h = record {
   fenced = fenced_goes_on service before sent after o.fenced h;
   asked = asked_goes_on service before sent after o.fenced o.asked h;
@@ -156,16 +156,16 @@ sound_goes_on service small start before sent after s o h = record {
   backed = backed_goes_on service (script_of start) (isn_of start) before sent after o.asked o.faithful o.author o.sees o.backed h;
 }
 
-pub sound_after : {State : Type 0} (service : Machine State) → HasSmallOutputs service → (start : World) (trace : List Moment) → Joint service start trace → IsSound service start (world_after start trace)
+pub sound_after : {State : Type 0} (service : Machine State) → HasSmallOutputs service → (start : World) (trace : List Moment) → Joint service start trace → JointInvariant service start (world_after start trace)
 sound_after service small start trace j =
     let s : IsStart start = start_is service start trace j in
-    holds_after service (IsSound service start) start (start_sound service start) (λ before sent after o h. sound_goes_on service small start before sent after s o h) trace j
+    holds_after service (JointInvariant service start) start (start_sound service start) (λ before sent after o h. sound_goes_on service small start before sent after s o h) trace j
 
 -- each client sees the front of the uncrashed server's output
 pub sees_front : {State : Type 0} (service : Machine State) → HasSmallOutputs service → (start : World) (trace : List Moment) → Joint service start trace
     → AllByRecursion (SeesFront service (world_after start trace).log) (world_after start trace).clients
 sees_front service small start trace j =
-    let o : IsSound service start (world_after start trace) = sound_after service small start trace j in
+    let o : JointInvariant service start (world_after start trace) = sound_after service small start trace j in
     let log : Log = (world_after start trace).log in
     all_both (IsSeen service (script_of start) log) (ClientFits (script_of start) (isn_of start)) (SeesFront service log) (world_after start trace).clients
     (λ c s f. let same : logged_run service (script_of start) log c.key ≡ unfailing service log c = ap (λ l. reference service l (logged_lengths c.key log)) (sym f.0) in
@@ -178,7 +178,7 @@ sees_front service small start trace j =
 pub backed_entries : {State : Type 0} (service : Machine State) → HasSmallOutputs service → (start : World) (trace : List Moment) → Joint service start trace
     → AllByRecursion (λ e. e.acknowledged ≤ length (run_of service e).output + one_if (run_of service e).closed) (world_after start trace).log.entries
 backed_entries service small start trace j =
-    let o : IsSound service start (world_after start trace) = sound_after service small start trace j in
+    let o : JointInvariant service start (world_after start trace) = sound_after service small start trace j in
     let log : Log = (world_after start trace).log in
     all_from_get (λ e. e.acknowledged ≤ length (run_of service e).output + one_if (run_of service e).closed) log.entries
     (λ i e at. let f : EntryFits (script_of start e.key) (isn_of start e.key) e = all_slice_get (λ x. EntryFits (script_of start x.key) (isn_of start x.key) x) log.entries i e o.faithful.entries at in

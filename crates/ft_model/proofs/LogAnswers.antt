@@ -4,7 +4,7 @@ use Rattle.std.specs.List.{AllByRecursion, list_any}
 use Rattle.std.proofs.lemmas.Bool.{or_parts, or_from}
 use Rattle.seq_arith.specs.Message.{Numbers, Body, Message, is_answer}
 use Rattle.seq_arith.specs.Message.Body.{OpenMsg, DataMsg, ReadMsg, DoneMsg, StaleMsg}
-use Rattle.ft_model.specs.Log.{Log, log_after, answer_to, answer_body, told, heard, with_body, opened, new_entry, is_hello}
+use Rattle.ft_model.specs.Log.{Log, log_after, answer_to, answer_body, answer_from, with_message, with_body, opened, new_entry, is_hello}
 use Rattle.ft_model.specs.Network.{Packet}
 use Rattle.ft_model.specs.Network.Packet.{From_logger}
 use Rattle.ft_model.proofs.Lists.{none_is_some, some_is}
@@ -31,7 +31,7 @@ pub data LogWent (log : Log) (message : Message) (after : Log) : Type 0 where
 pub log_went : (log : Log) (message : Message) → LogWent log message (log_after log message)
 unfolding log_after
 log_went log message =
-    holds_if (LogWent log message) (is_answer message.body || nat_lt message.boot log.boot) log (heard message log) (λ t. ignored refl)
+    holds_if (LogWent log message) (is_answer message.body || nat_lt message.boot log.boot) log (with_message message log) (λ t. ignored refl)
     (λ t. let parts = or_parts (is_answer message.body) (nat_lt message.boot log.boot) t in
     let larger : log.boot ≤ message.boot = grind (arith, parts) in
     holds_if (LogWent log message) (is_hello message.body) _ _ (λ h. raised h larger refl)
@@ -45,12 +45,12 @@ boot_after log message after top (changed b e) l m = subst (λ x. x.boot ≤ top
 -- an answer that isn't Stale has the log's boot, and tells what the log after the message has
 abbrev pub IsAnswered : Log → Message → Body → Type 0
 IsAnswered log message body =
-    (body ≡ StaleMsg log.boot) ⊎ ((message.boot ≡ (log_after log message).boot) × (told message.body (log_after log message) ≡ Some body))
+    (body ≡ StaleMsg log.boot) ⊎ ((message.boot ≡ (log_after log message).boot) × (answer_from message.body (log_after log message) ≡ Some body))
 
 -- .. and one that is, is of a newer boot
 abbrev pub IsAnsweredSo : Log → Message → Body → Type 0
 IsAnsweredSo log message body =
-    ((body ≡ StaleMsg log.boot) × (message.boot < log.boot)) ⊎ ((message.boot ≡ (log_after log message).boot) × (told message.body (log_after log message) ≡ Some body))
+    ((body ≡ StaleMsg log.boot) × (message.boot < log.boot)) ⊎ ((message.boot ≡ (log_after log message).boot) × (answer_from message.body (log_after log message) ≡ Some body))
 
 by_hello : (log : Log) (message : Message) (b : Bool) → (b || message.boot == log.boot) ≡ true
     → message.boot ≡ (if b then record log { boot = message.boot } else (if message.boot == log.boot then with_body message.body log else log)).boot
@@ -63,12 +63,12 @@ own_boot : (log : Log) (message : Message) → (is_hello message.body || message
     → nat_lt message.boot log.boot ≡ false → message.boot ≡ (log_after log message).boot
 unfolding log_after
 own_boot log message own quiet current =
-    subst (λ b. message.boot ≡ (if b then log else heard message log).boot) (sym (or_from (is_answer message.body) (nat_lt message.boot log.boot) quiet current))
+    subst (λ b. message.boot ≡ (if b then log else with_message message log).boot) (sym (or_from (is_answer message.body) (nat_lt message.boot log.boot) quiet current))
     (by_hello log message (is_hello message.body) own)
 
 by_answer : (log : Log) (message : Message) (body : Body) (a b c : Bool) → is_answer message.body ≡ a → nat_lt message.boot log.boot ≡ b
     → (is_hello message.body || message.boot == log.boot) ≡ c
-    → (if a then None else (if b then Some (StaleMsg log.boot) else (if c then told message.body (log_after log message) else None))) ≡ Some body
+    → (if a then None else (if b then Some (StaleMsg log.boot) else (if c then answer_from message.body (log_after log message) else None))) ≡ Some body
     → IsAnsweredSo log message body
 by_answer log message body true b c p q r e = none_is_some body e
 by_answer log message body false true c p q r e = inl (sym (some_is _ _ e), ltb-true message.boot log.boot q)

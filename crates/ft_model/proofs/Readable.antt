@@ -14,7 +14,7 @@ use Rattle.ft_model.specs.World.{World, Moment, events_of}
 use Rattle.ft_model.specs.Image.{HasWires}
 use Rattle.ft_model.specs.Legal.{start_of, Legal}
 use Rattle.ft_model.specs.Report.{number_of_client}
-use Rattle.ft_model.specs.Readable.{Fits, FitsEvent, FitsSchedule, HasEnds, IsReadable, IsReadableTurn}
+use Rattle.ft_model.specs.Readable.{FitsU64, FitsEvent, FitsSchedule, HasEnds, IsReadable, IsReadableTurn}
 use Rattle.ft_model.specs.declared.schedule.Schedule.{Schedule}
 use Rattle.ft_model.proofs.Lists.{all_front}
 use Rattle.ft_model.proofs.Resumed.{length_map}
@@ -31,7 +31,7 @@ place_within at len =
 number_within : (clients : List Client) (key : Key) → number_of_client clients key ≤ length clients
 number_within clients key = place_within (position_or_len (λ c. key_eq c.key key) clients) (length clients)
 
-ends_known : (start : World) (packet : Packet) → Fits (length start.clients) → PacketFormed start packet → HasEnds start.server start.clients packet
+ends_known : (start : World) (packet : Packet) → FitsU64 (length start.clients) → PacketFormed start packet → HasEnds start.server start.clients packet
 ends_known start (To_server s) few h =
     let low = number_within start.clients (record { ip = s.head.src; port = s.head.sport }) in ((h.0.1, omega (arith, low, few)), h.1)
 ends_known start (To_client s) few h =
@@ -39,7 +39,7 @@ ends_known start (To_client s) few h =
 ends_known start (To_logger m) few h = tt
 ends_known start (From_logger m) few h = tt
 
-readable_turns : (start : World) (trace : List Moment) → Fits (length start.clients) → AllByRecursion FitsEvent (events_of trace)
+readable_turns : (start : World) (trace : List Moment) → FitsU64 (length start.clients) → AllByRecursion FitsEvent (events_of trace)
     → AllByRecursion (λ m. AllByRecursion (PacketFormed start) m.sent) trace → AllByRecursion HasWires trace → AllByRecursion (IsReadableTurn start.server start.clients) trace
 readable_turns start [] few h f w = tt
 readable_turns start (m ∷ earlier) few h f w =

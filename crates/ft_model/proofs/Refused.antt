@@ -8,7 +8,7 @@ use Rattle.ft_io.specs.Key.{key_eq}
 use Rattle.seq_arith.specs.Packet.{has_rst, has_ack}
 use Rattle.seq_arith.specs.Message.{Numbers, Body, Message, is_answer}
 use Rattle.seq_arith.specs.Message.Body.{HelloMsg, ListMsg, EntryMsg, BytesMsg, PartMsg, CutsMsg, LensMsg, OpenMsg, DataMsg, StableMsg, ReadMsg, ReadsMsg, DoneMsg, EndedMsg, FullMsg}
-use Rattle.ft_model.specs.Log.{Log, Entry, entry_of, new_entry, opened, with_part, with_read, with_body, is_hello, log_after, opened_answer, told, kept_of, head_of, part_of, lens_of}
+use Rattle.ft_model.specs.Log.{Log, Entry, entry_of, new_entry, opened, with_part, with_read, with_body, is_hello, log_after, opened_answer, answer_from, kept_of, head_of, part_of, lens_of}
 use Rattle.ft_model.specs.Network.{Packet, source_of, destination_of}
 use Rattle.ft_model.specs.Network.Packet.{To_server, To_client, To_logger, From_logger}
 use Rattle.ft_model.specs.Growth.{LogGrows}
@@ -127,7 +127,7 @@ all_done key es =
     (all_of (λ e. EndsSo key (if key_eq e.key key then as_done e else e)) es
     (λ e. holds_if (EndsSo key) (key_eq e.key key) (as_done e) e (λ t k. refl) (λ t k. absurd (true≢false (sym k ∙ t)))))
 
-ended_says : (log after : Log) (key : Key) (answer : Body) → after ≡ with_body (DoneMsg key) log → told (DoneMsg key) after ≡ Some answer → BodySays after answer
+ended_says : (log after : Log) (key : Key) (answer : Body) → after ≡ with_body (DoneMsg key) log → answer_from (DoneMsg key) after ≡ Some answer → BodySays after answer
 ended_says log after key answer c t =
     let o = on_some (entry_of key after) (λ e. Some (EndedMsg key)) answer t in
     let ends : AllByRecursion (EndsSo key) after.entries = subst (λ l. AllByRecursion (EndsSo key) l.entries) (sym c) (all_done key log.entries) in
@@ -158,7 +158,7 @@ full_says log after n None answer c f t =
     subst (BodySays after) (some_is _ _ t) (none, shut)
 
 -- what the log tells
-told_says : (body : Body) (log after : Log) (answer : Body) → (is_change body ≡ true → after ≡ with_body body log) → told body after ≡ Some answer → BodySays after answer
+told_says : (body : Body) (log after : Log) (answer : Body) → (is_change body ≡ true → after ≡ with_body body log) → answer_from body after ≡ Some answer → BodySays after answer
 told_says (OpenMsg n) log after answer c t = full_says log after n (entry_of n.key after) answer (c refl) refl t
 told_says (DoneMsg key) log after answer c t = ended_says log after key answer (c refl) t
 told_says HelloMsg log after answer c t = subst (BodySays after) (some_is _ _ t) tt

@@ -15,7 +15,7 @@ use Rattle.ft_model.specs.declared.way.Way.{Way}
 use Rattle.ft_model.specs.declared.way.Way.TheVariants.{ClientToServer, ServerToClient, ServerToLogger, LoggerToServer, HeadToTail, TailToHead}
 use Rattle.ft_model.specs.Texts.{or_dash, hex_text, list_text, behind_commas, address_text, key_text, flag_letters, flags_text, mss_text, bit_text, way_text}
 use Rattle.ft_model.specs.Report.{segment_words, name_of, numbers_words, kept_words, entry_words, part_words, field_words, message_words, content_words}
-use Rattle.ft_model.specs.Readable.{IsWord, Fits, FitsOption, FitsWay, FitsKey, IsReadable}
+use Rattle.ft_model.specs.Readable.{IsWord, FitsU64, FitsOption, FitsWay, FitsKey, IsReadable}
 use Rattle.ft_model.proofs.ReportRanges.{FitsSegment, FitsNumbers, FitsKept, FitsEntry, FitsPart, FitsBody, segment_fits, message_fits}
 use Rattle.ft_model.proofs.ReportWords.{all_append, word_decimal}
 use Rattle.ft_model.proofs.ReportParts.{or_dash_cons, list_text_nil, list_text_cons}
@@ -47,11 +47,11 @@ pub word_hex : (xs : List ℕ) → IsBytes xs → IsWord (hex_text xs)
 unfolding hex_text
 word_hex xs p = word_or_dash (encode_lower xs) (word_encoded xs p)
 
-word_commas : (xs : List ℕ) → AllByRecursion Fits xs → IsWord (behind_commas xs)
+word_commas : (xs : List ℕ) → AllByRecursion FitsU64 xs → IsWord (behind_commas xs)
 word_commas [] p = tt
 word_commas (x ∷ xs) p = (omega arith, all_append (λ c. 32 < c) (decimal x) (behind_commas xs) (word_decimal x p.0) (word_commas xs p.1))
 
-pub word_list : (xs : List ℕ) → AllByRecursion Fits xs → IsWord (list_text xs)
+pub word_list : (xs : List ℕ) → AllByRecursion FitsU64 xs → IsWord (list_text xs)
 word_list [] p = subst IsWord (sym list_text_nil) (lit (codes "-") refl)
 word_list (x ∷ xs) p =
     subst IsWord (sym (list_text_cons x xs p.0)) (all_append (λ c. 32 < c) (decimal x) (behind_commas xs) (word_decimal x p.0) (word_commas xs p.1))
@@ -186,7 +186,7 @@ words_fields (EndedMsg key) h = lit (codes "key") refl ⊕ word_key key h ⊕ tt
 words_fields (StaleMsg newer) h = lit (codes "newer") refl ⊕ word_decimal newer h ⊕ tt
 words_fields (FullMsg key) h = lit (codes "key") refl ⊕ word_key key h ⊕ tt
 
-words_message : (m : Message) → Fits m.boot → FitsBody m.body → AllByRecursion IsWord (message_words m)
+words_message : (m : Message) → FitsU64 m.boot → FitsBody m.body → AllByRecursion IsWord (message_words m)
 unfolding message_words
 words_message m boot h = word_name m.body ⊕ lit (codes "boot") refl ⊕ word_decimal m.boot boot ⊕ words_fields m.body h
 

@@ -19,7 +19,7 @@ use Rattle.ft_model.specs.Log.{Entry}
 use Rattle.ft_model.specs.World.{World, Moment}
 use Rattle.ft_model.specs.Texts.{spaced, line, address_text, key_text, hex_text, service_text, script_text, phase_text}
 use Rattle.ft_model.specs.Report.{schedule_line, schedule_lines, twin_line, header, event_lines, phase_line, client_line, client_lines, entry_line, log_line, end_line, closing_lines}
-use Rattle.ft_model.specs.Readable.{IsWord, Fits, FitsKey, FitsScript, FitsClient, FitsSchedule}
+use Rattle.ft_model.specs.Readable.{IsWord, FitsU64, FitsKey, FitsScript, FitsClient, FitsSchedule}
 use Rattle.ft_model.proofs.ReportWords.{cut, all_append, IsDigit, digits_decimal, word_decimal}
 use Rattle.ft_model.proofs.ReportParts.{address_same}
 use Rattle.ft_model.proofs.ReportContent.{lit, word_key, word_encoded}
@@ -117,7 +117,7 @@ schedule_cut n a b r s p q e =
 
 -- a text that goes on with no client's line
 abbrev pub NoClient : List ℕ → Type 0
-NoClient text = (n : ℕ) (asked : ClientLine) (more : List ℕ) → Fits n → FitsClient asked → text ≡ schedule_line n asked ++ more → ⊥
+NoClient text = (n : ℕ) (asked : ClientLine) (more : List ℕ) → FitsU64 n → FitsClient asked → text ≡ schedule_line n asked ++ more → ⊥
 
 clients_cut : (n : ℕ) (xs ys : List ClientLine) (r s : List ℕ) → AllByRecursion FitsClient xs → AllByRecursion FitsClient ys
     → n + length xs ≤ 2 ^ 64 → n + length ys ≤ 2 ^ 64 → NoClient r → NoClient s → schedule_lines n xs ++ r ≡ schedule_lines n ys ++ s → (xs ≡ ys) × (r ≡ s)
@@ -168,14 +168,14 @@ leads_key key h =
     (leads_on P (decimal (key.ip / 2 ^ 24)) _ (leads_digit (decimal (key.ip / 2 ^ 24)) (digits_decimal (key.ip / 2 ^ 24) small) (decimal_nonempty (key.ip / 2 ^ 24) small)))
 
 -- a text is cut after its number
-number_cut : (m n : ℕ) (r s : List ℕ) → Fits m → Fits n → decimal m ++ 32 ∷ r ≡ decimal n ++ 32 ∷ s → r ≡ s
+number_cut : (m n : ℕ) (r s : List ℕ) → FitsU64 m → FitsU64 n → decimal m ++ 32 ∷ r ≡ decimal n ++ 32 ∷ s → r ≡ s
 number_cut m n r s p q e =
     let same : (decimal m ≡ decimal n) × (32 ∷ r ≡ 32 ∷ s) =
     cut IsDigit (λ c. c < 48) (λ c digit other. omega arith) (decimal m) (decimal n) (32 ∷ r) (32 ∷ s) (digits_decimal m p) (digits_decimal n q) (omega arith) (omega arith) e in
     ap (drop 1) same.1
 
 -- the line of a client at the end is no client's line of the header: after the number it has a word
-phase_apart : (m n : ℕ) (phase : Phase) (accepted : List ℕ) (asked : ClientLine) (t u : List ℕ) → Fits m → Fits n → FitsClient asked
+phase_apart : (m n : ℕ) (phase : Phase) (accepted : List ℕ) (asked : ClientLine) (t u : List ℕ) → FitsU64 m → FitsU64 n → FitsClient asked
     → phase_line m phase accepted ++ t ≡ schedule_line n asked ++ u → ⊥
 unfolding phase_line schedule_line
 phase_apart m n phase accepted asked t u fm fn h e =

@@ -19,7 +19,7 @@ use Rattle.ft_model.specs.declared.way.Way.{Way}
 use Rattle.ft_model.specs.declared.way.Way.TheVariants.{ClientToServer, ServerToClient}
 use Rattle.ft_model.specs.Texts.{key_text, way_text}
 use Rattle.ft_model.specs.Report.{segment_words, name_of, numbers_words, kept_words, entry_words, part_words, field_words, message_words, content_words, packet_line, number_of_client, way_of}
-use Rattle.ft_model.specs.Readable.{Fits, FitsWay, FitsKey, IsOf, IsReadable}
+use Rattle.ft_model.specs.Readable.{FitsU64, FitsWay, FitsKey, IsOf, IsReadable}
 use Rattle.ft_model.proofs.ReportRanges.{FitsSegment, FitsNumbers, FitsKept, FitsEntry, FitsPart, FitsBody, segment_fits, message_fits}
 use Rattle.ft_model.proofs.ReportWords.{rest_same, word_decimal}
 use Rattle.ft_model.proofs.ReportParts.{hex_same, list_same, address_same, flags_same, mss_same, bit_same, way_same}
@@ -110,7 +110,7 @@ body_same (StaleMsg m) (StaleMsg n) p q e f = ap StaleMsg (decimal_injective m n
 body_same (FullMsg k) (FullMsg l) p q e f = ap FullMsg (key_same k l p q (cc))
 body_same b c p q e f = absurd (omega (arith, ap digest e))
 
-message_same : (m n : Message) → Fits m.boot → Fits n.boot → FitsBody m.body → FitsBody n.body → message_words m ≡ message_words n → m ≡ n
+message_same : (m n : Message) → FitsU64 m.boot → FitsU64 n.boot → FitsBody m.body → FitsBody n.body → message_words m ≡ message_words n → m ≡ n
 unfolding message_words
 message_same m n p q fits also e =
     let a : m.boot ≡ n.boot = decimal_injective m.boot n.boot p q (cc) in
@@ -183,7 +183,7 @@ way_fits server clients (To_client s) h = h.0.0.1
 way_fits server clients (To_logger m) h = tt
 way_fits server clients (From_logger m) h = tt
 
-pub packet_same : (server : Addr) (clients : List Client) (m n : ℕ) (p q : Packet) → Fits m → Fits n → IsReadable server clients p → IsReadable server clients q
+pub packet_same : (server : Addr) (clients : List Client) (m n : ℕ) (p q : Packet) → FitsU64 m → FitsU64 n → IsReadable server clients p → IsReadable server clients q
     → packet_line m (way_of clients p) p ≡ packet_line n (way_of clients q) q → (m ≡ n) × (p ≡ q)
 unfolding packet_line
 packet_same server clients m n p q fm fn hp hq e =

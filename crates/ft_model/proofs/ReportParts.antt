@@ -9,7 +9,7 @@ use Rattle.hex.proofs.HexLemmas.{decode_of-encode_lower}
 use Rattle.ft_model.specs.declared.way.Way.{Way}
 use Rattle.ft_model.specs.declared.way.Way.TheVariants.{ClientToServer, ServerToClient, ServerToLogger, LoggerToServer, HeadToTail, TailToHead}
 use Rattle.ft_model.specs.Texts.{or_dash, hex_text, list_text, behind_commas, address_text, flag_letters, flags_text, mss_text, bit_text, way_text}
-use Rattle.ft_model.specs.Readable.{Fits, FitsOption, FitsWay}
+use Rattle.ft_model.specs.Readable.{FitsU64, FitsOption, FitsWay}
 use Rattle.ft_model.proofs.ReportWords.{Starts, cut, IsDigit, digits_decimal}
 
 -- a decimal is cut off from what follows it, if no digit does
@@ -53,7 +53,7 @@ starts_behind : (xs : List ℕ) → Starts (λ c. c < 48) (behind_commas xs)
 starts_behind [] = tt
 starts_behind (x ∷ xs) = omega arith
 
-behind_same : (xs ys : List ℕ) → AllByRecursion Fits xs → AllByRecursion Fits ys → behind_commas xs ≡ behind_commas ys → xs ≡ ys
+behind_same : (xs ys : List ℕ) → AllByRecursion FitsU64 xs → AllByRecursion FitsU64 ys → behind_commas xs ≡ behind_commas ys → xs ≡ ys
 behind_same [] [] p q e = refl
 behind_same [] (y ∷ ys) p q e = cc
 behind_same (x ∷ xs) [] p q e = cc
@@ -66,7 +66,7 @@ or_dash_some : (d r : List ℕ) → 0 < length d → or_dash (d ++ r) ≡ d ++ r
 or_dash_some [] r some = absurd (omega arith)
 or_dash_some (x ∷ d) r some = or_dash_cons x (d ++ r)
 
-pub list_text_cons : (x : ℕ) (xs : List ℕ) → Fits x → list_text (x ∷ xs) ≡ decimal x ++ behind_commas xs
+pub list_text_cons : (x : ℕ) (xs : List ℕ) → FitsU64 x → list_text (x ∷ xs) ≡ decimal x ++ behind_commas xs
 unfolding list_text
 list_text_cons x xs below = ap or_dash (joined_behind x xs) ∙ or_dash_some (decimal x) (behind_commas xs) (decimal_nonempty x below)
 
@@ -74,7 +74,7 @@ pub list_text_nil : list_text [] ≡ 45 ∷ []
 unfolding list_text
 list_text_nil = refl
 
-pub list_same : (xs ys : List ℕ) → AllByRecursion Fits xs → AllByRecursion Fits ys → list_text xs ≡ list_text ys → xs ≡ ys
+pub list_same : (xs ys : List ℕ) → AllByRecursion FitsU64 xs → AllByRecursion FitsU64 ys → list_text xs ≡ list_text ys → xs ≡ ys
 list_same [] [] p q e = refl
 list_same [] (y ∷ ys) p q e =
     absurd (decimal_begin 45 y [] (behind_commas ys) (inl (omega arith)) q.0 (sym list_text_nil ∙ e ∙ list_text_cons y ys q.0))

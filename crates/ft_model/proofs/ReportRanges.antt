@@ -9,44 +9,44 @@ use Rattle.seq_arith.specs.Message.Body.{HelloMsg, SummaryMsg, ListMsg, EntryMsg
 use Rattle.seq_arith.specs.MessageGrammar.{fields_of, kind_of, numbers_of, behind_of, lens_of, is_sound, AllFit}
 use Rattle.server_trait.specs.Service.{AreBytes}
 use Rattle.ft_model.specs.Wire.{CanBeSent, CanBeTold}
-use Rattle.ft_model.specs.Readable.{Fits, FitsOption, FitsKey}
+use Rattle.ft_model.specs.Readable.{FitsU64, FitsOption, FitsKey}
 use Rattle.ft_model.proofs.Formed.{bytes_of_all}
 
 -- the sizes of a segment's fields
 abbrev pub FitsSegment : Segment → Type 0
-FitsSegment s = Fits s.head.seq × Fits s.head.ack × (s.head.flags < 256) × Fits s.head.window × FitsOption s.head.mss × IsBytes s.payload
+FitsSegment s = FitsU64 s.head.seq × FitsU64 s.head.ack × (s.head.flags < 256) × FitsU64 s.head.window × FitsOption s.head.mss × IsBytes s.payload
 
 abbrev pub FitsNumbers : Numbers → Type 0
-FitsNumbers n = FitsKey n.key × Fits n.cisn × Fits n.sisn × Fits n.mss
+FitsNumbers n = FitsKey n.key × FitsU64 n.cisn × FitsU64 n.sisn × FitsU64 n.mss
 
 abbrev pub FitsKept : Kept → Type 0
-FitsKept k = FitsKey k.key × Fits k.length × Fits k.reads
+FitsKept k = FitsKey k.key × FitsU64 k.length × FitsU64 k.reads
 
 abbrev pub FitsEntry : EntryHead → Type 0
-FitsEntry e = FitsKey e.key × Fits e.cisn × Fits e.sisn × Fits e.mss × Fits e.length × Fits e.reads × Fits e.acked
+FitsEntry e = FitsKey e.key × FitsU64 e.cisn × FitsU64 e.sisn × FitsU64 e.mss × FitsU64 e.length × FitsU64 e.reads × FitsU64 e.acked
 
 abbrev pub FitsPart : Part → Type 0
-FitsPart p = FitsKey p.key × Fits p.offset × Fits p.acked × IsBytes p.bytes
+FitsPart p = FitsKey p.key × FitsU64 p.offset × FitsU64 p.acked × IsBytes p.bytes
 
 -- every number of a body has at most 64 bits, every address its own size, and every byte is one
 abbrev pub FitsBody : Body → Type 0
 FitsBody HelloMsg = Unit {0}
-FitsBody (SummaryMsg count) = Fits count
-FitsBody (ListMsg index) = Fits index
-FitsBody (EntryMsg index e) = Fits index × FitsEntry e
-FitsBody (BytesMsg key offset) = FitsKey key × Fits offset
-FitsBody (PartMsg key offset bytes) = FitsKey key × Fits offset × IsBytes bytes
-FitsBody (CutsMsg key first) = FitsKey key × Fits first
-FitsBody (LensMsg key first lens) = FitsKey key × Fits first × AllByRecursion Fits lens
+FitsBody (SummaryMsg count) = FitsU64 count
+FitsBody (ListMsg index) = FitsU64 index
+FitsBody (EntryMsg index e) = FitsU64 index × FitsEntry e
+FitsBody (BytesMsg key offset) = FitsKey key × FitsU64 offset
+FitsBody (PartMsg key offset bytes) = FitsKey key × FitsU64 offset × IsBytes bytes
+FitsBody (CutsMsg key first) = FitsKey key × FitsU64 first
+FitsBody (LensMsg key first lens) = FitsKey key × FitsU64 first × AllByRecursion FitsU64 lens
 FitsBody (OpenMsg n) = FitsNumbers n
 FitsBody (OpenedMsg n) = FitsNumbers n
 FitsBody (DataMsg part) = FitsPart part
 FitsBody (StableMsg k) = FitsKept k
-FitsBody (ReadMsg key index length) = FitsKey key × Fits index × Fits length
+FitsBody (ReadMsg key index length) = FitsKey key × FitsU64 index × FitsU64 length
 FitsBody (ReadsMsg k) = FitsKept k
 FitsBody (DoneMsg key) = FitsKey key
 FitsBody (EndedMsg key) = FitsKey key
-FitsBody (StaleMsg newer) = Fits newer
+FitsBody (StaleMsg newer) = FitsU64 newer
 FitsBody (FullMsg key) = FitsKey key
 
 option_fits : (o : Option ℕ) → IfSome o (λ n. n < 2 ^ 16) → FitsOption o
@@ -57,7 +57,7 @@ pub segment_fits : (s : Segment) → CanBeSent s → FitsSegment s
 segment_fits s h =
     (omega (arith, h.0.seq), omega (arith, h.0.ack), h.0.flags, omega (arith, h.0.window), option_fits s.head.mss h.0.mss, bytes_of_all s.payload h.1)
 
-lengths_fit : (lens : List ℕ) → list_all (λ len. nat_le len 2048) lens ≡ true → AllByRecursion Fits lens
+lengths_fit : (lens : List ℕ) → list_all (λ len. nat_le len 2048) lens ≡ true → AllByRecursion FitsU64 lens
 lengths_fit [] e = tt
 lengths_fit (n ∷ lens) e =
     let parts = and_parts (nat_le n 2048) (list_all (λ len. nat_le len 2048) lens) e in
@@ -92,5 +92,5 @@ lens_sound : (m : Message) → CanBeTold m → list_all (λ len. nat_le len 2048
 unfolding is_sound
 lens_sound m h = (and_parts _ (list_all (λ len. nat_le len 2048) (lens_of m.body)) h.0.sound).1
 
-pub message_fits : (m : Message) → CanBeTold m → Fits m.boot × FitsBody m.body
+pub message_fits : (m : Message) → CanBeTold m → FitsU64 m.boot × FitsBody m.body
 message_fits m h = (omega (arith, h.0.boot), body_fits m.body h.0.numbers h.1 (lens_sound m h))

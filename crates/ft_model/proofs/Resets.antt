@@ -42,7 +42,7 @@ use Rattle.ft_model.proofs.FaithfulOver.{IsHeadOf, heads_of, script_of, isn_of, 
 use Rattle.ft_model.proofs.Seen.{IsSeen}
 use Rattle.ft_model.proofs.Acknowledged.{start_is}
 use Rattle.ft_model.proofs.Running.{HasSmallOutputs}
-use Rattle.ft_model.proofs.JointMasked.{IsSound, start_sound, sound_goes_on}
+use Rattle.ft_model.proofs.JointMasked.{JointInvariant, start_sound, sound_goes_on}
 use Rattle.ft_model.proofs.Refused.{ResetsEnded, HasCaller, resets_later, caller_later, Says, KeysGo, keys_go, says_later, answers_say}
 use Rattle.ft_model.proofs.KnownKeys.{AsksFor, Asks, PlaceEnds, StageKnows, KnowsLog, stage_hears, IsPlain, connection_plain, input_says, input_calls, IsFair, plain_fair, Goes, knows_after, serving_knows}
 use Rattle.ft_io.proofs.Choices.{holds_if}
@@ -217,13 +217,13 @@ turned_knowing service script isn w node later input sent f a fa k e brought t =
     }
 
 -- an open client has an entry
-open_logged : {State : Type 0} (service : Machine State) (start w : World) (number : ℕ) (c : Client) → IsSound service start w → client_at w.clients number ≡ Some c
+open_logged : {State : Type 0} (service : Machine State) (start w : World) (number : ℕ) (c : Client) → JointInvariant service start w → client_at w.clients number ≡ Some c
     → is_open c.phase ≡ true → has_key c.key (entry_keys w.log) ≡ true
 open_logged service start w number c o at open_ =
     let e = (client_there (IsSeen service (script_of start) w.log) w.clients number c o.sees at).sisn open_ in
     found_has_key (λ x. x.key) c.key w.log.entries e.0 e.1
 
-moved_knowing : {State : Type 0} (service : Machine State) (start w : World) (number : ℕ) (sent : List Packet) (after : World) → IsSound service start w → KnowsLog w → Moves w number sent after → KnowsLog after
+moved_knowing : {State : Type 0} (service : Machine State) (start w : World) (number : ℕ) (sent : List Packet) (after : World) → JointInvariant service start w → KnowsLog w → Moves w number sent after → KnowsLog after
 moved_knowing service start w number sent after o k m =
     let calls : HasCaller (entry_keys w.log) (To_server m.segment) =
     subst (λ x. HasCaller (entry_keys w.log) (To_server x)) (sym m.move.segment_is)
@@ -233,7 +233,7 @@ moved_knowing service start w number sent after o k m =
     (subst (AllByRecursion (ResetsEnded w.log)) (sym m.sent_is) (tt, tt)))
 
 knowing_goes_on : {State : Type 0} (service : Machine State) (start before : World) (sent : List Packet) (after : World)
-    → IsSound service start before → KnowsLog before → Happened service before sent after → KnowsLog after
+    → JointInvariant service start before → KnowsLog before → Happened service before sent after → KnowsLog after
 knowing_goes_on service start before sent after o k (log_heard message under s e) =
     subst KnowsLog (sym (e ∙ ap (λ x. record before { log = log_after before.log message; packets = before.packets ++ x }) s)) (heard_knowing before message o.fenced k under)
 knowing_goes_on service start before sent after o k (client_heard segment under s e) =
@@ -267,10 +267,10 @@ start_knowing w s = record {
 }
 
 knowing_after : {State : Type 0} (service : Machine State) → HasSmallOutputs service → (start : World) (trace : List Moment) → Joint service start trace
-    → IsSound service start (world_after start trace) × KnowsLog (world_after start trace)
+    → JointInvariant service start (world_after start trace) × KnowsLog (world_after start trace)
 knowing_after service small start trace j =
     let s : IsStart start = start_is service start trace j in
-    holds_after service (λ w. IsSound service start w × KnowsLog w) start (λ x. (start_sound service start x, start_knowing start x))
+    holds_after service (λ w. JointInvariant service start w × KnowsLog w) start (λ x. (start_sound service start x, start_knowing start x))
     (λ before sent after o h. (sound_goes_on service small start before sent after s o.0 h, knowing_goes_on service start before sent after o.0 o.1 h)) trace j
 
 none_logged : (log : Log) (key : Key) (o : Option Entry) → entry_of key log ≡ o → has_key key (entry_keys log) ≡ false → IfSome o (λ e. e.done ≡ true)

@@ -21,7 +21,7 @@ use Rattle.ft_model.proofs.Fetching.{full_front}
 use Rattle.ft_model.proofs.Coming.{Agrees, Fronts, Says, agrees_later, comes_fits}
 use Rattle.ft_model.proofs.Stands.{drop_prefix}
 use Rattle.seq_arith.proofs.Coming.{fin_stays}
-use Rattle.ft_model.proofs.Services.{GoesOn, reads_go_on}
+use Rattle.ft_model.proofs.Services.{RunExtends, reads_go_on}
 use Rattle.ft_model.proofs.Authored.{CarriesOutput, logged_run}
 use Rattle.ft_io.proofs.Choices.{holds_if}
 
@@ -57,7 +57,7 @@ fin_later : (was now : List ℕ) (b c : Bool) (o : Option ℕ) → (b ≡ true �
 fin_later was now b c None g h = tt
 fin_later was now b c (Some offset) g h = let x = g h.0 in (x.1, h.1 ∙ ap length (sym x.0))
 
-holds_later : {State : Type 0} (before after : Run State) (n : ℕ) (early : Early) → GoesOn before after → HoldsOf before n early → HoldsOf after n early
+holds_later : {State : Type 0} (before after : Run State) (n : ℕ) (early : Early) → RunExtends before after → HoldsOf before n early → HoldsOf after n early
 holds_later before after n early g h =
     let more : IsPrefix (drop n before.output) (drop n after.output) = drop_prefix n before.output after.output g.output in
     record {

@@ -9,25 +9,25 @@ use Rattle.ft_model.proofs.Lists.{prefix_refl, prefix_more, prefix_trans}
 use Rattle.ft_io.proofs.Choices.{holds_if}
 
 -- a run goes on: its output is a front of the later one's, and once closed it stays as it is
-pub record GoesOn {State : Type 0} (before after : Run State) : Type 0 where
+pub record RunExtends {State : Type 0} (before after : Run State) : Type 0 where
   pub output : IsPrefix before.output after.output
   pub closed : before.closed ≡ true → (after.output ≡ before.output) × (after.closed ≡ true)
 
-pub goes_refl : {State : Type 0} (run : Run State) → GoesOn run run
+pub goes_refl : {State : Type 0} (run : Run State) → RunExtends run run
 goes_refl run = record { output = prefix_refl run.output; closed = λ c. (refl, c) }
 
-pub goes_trans : {State : Type 0} (a b c : Run State) → GoesOn a b → GoesOn b c → GoesOn a c
+pub goes_trans : {State : Type 0} (a b c : Run State) → RunExtends a b → RunExtends b c → RunExtends a c
 goes_trans a b c p q = record {
   output = prefix_trans a.output b.output c.output p.output q.output;
   closed = λ x. let one = p.closed x in let two = q.closed one.1 in (two.0 ∙ one.0, two.1);
 }
 
-fed_goes : {State : Type 0} (service : Machine State) (run : Run State) (chunk : List ℕ) → GoesOn run (fed service run chunk)
+fed_goes : {State : Type 0} (service : Machine State) (run : Run State) (chunk : List ℕ) → RunExtends run (fed service run chunk)
 fed_goes service run chunk =
-    holds_if (GoesOn run) run.closed run (with_served run (service.after run.state chunk)) (λ t. goes_refl run)
+    holds_if (RunExtends run) run.closed run (with_served run (service.after run.state chunk)) (λ t. goes_refl run)
     (λ t. record { output = prefix_more run.output (service.after run.state chunk).output; closed = λ c. absurd (true≢false (sym c ∙ t)) })
 
-fold_goes : {State : Type 0} (service : Machine State) (run : Run State) (chunks : List (List ℕ)) → GoesOn run (fold_from service run chunks)
+fold_goes : {State : Type 0} (service : Machine State) (run : Run State) (chunks : List (List ℕ)) → RunExtends run (fold_from service run chunks)
 fold_goes service run [] = goes_refl run
 fold_goes service run (chunk ∷ chunks) =
     goes_trans run (fed service run chunk) (fold_from service (fed service run chunk) chunks) (fed_goes service run chunk) (fold_goes service (fed service run chunk) chunks)
@@ -51,10 +51,10 @@ pub more_reads : {State : Type 0} (service : Machine State) (bytes xs ys : List 
 unfolding reference
 more_reads service bytes xs ys = ap (fold_from service (begun service)) (cut_append bytes xs ys) ∙ fold_append service (begun service) (cut bytes xs) (cut (rest_of bytes xs) ys)
 
-pub reads_go_on : {State : Type 0} (service : Machine State) (bytes xs zs : List ℕ) → IsPrefix xs zs → GoesOn (reference service bytes xs) (reference service bytes zs)
+pub reads_go_on : {State : Type 0} (service : Machine State) (bytes xs zs : List ℕ) → IsPrefix xs zs → RunExtends (reference service bytes xs) (reference service bytes zs)
 reads_go_on service bytes xs zs p =
-    subst (λ l. GoesOn (reference service bytes xs) (reference service bytes l)) p.1
-    (subst (GoesOn (reference service bytes xs)) (sym (more_reads service bytes xs p.0)) (fold_goes service (reference service bytes xs) (cut (rest_of bytes xs) p.0)))
+    subst (λ l. RunExtends (reference service bytes xs) (reference service bytes l)) p.1
+    (subst (RunExtends (reference service bytes xs)) (sym (more_reads service bytes xs p.0)) (fold_goes service (reference service bytes xs) (cut (rest_of bytes xs) p.0)))
 
 pub drop_within : (n : ℕ) (xs ys : List ℕ) → n ≤ length xs → drop n (xs ++ ys) ≡ drop n xs ++ ys
 drop_within zero xs ys h = refl
@@ -86,7 +86,7 @@ prefix_length xs ys p =
     let whole : length (xs ++ p.0) ≡ length ys = ap length p.1 in
     omega (arith, more, whole)
 
-by_closed : {State : Type 0} (a b : Run State) (c : Bool) → a.closed ≡ c → GoesOn a b → length a.output + one_if c ≤ length b.output + one_if b.closed
+by_closed : {State : Type 0} (a b : Run State) (c : Bool) → a.closed ≡ c → RunExtends a b → length a.output + one_if c ≤ length b.output + one_if b.closed
 by_closed a b true e g =
     let same = g.closed e in
     let size : length b.output ≡ length a.output = ap length same.0 in
@@ -94,7 +94,7 @@ by_closed a b true e g =
     omega (arith, size, one)
 by_closed a b false e g = let low = prefix_length a.output b.output g.output in omega (arith, low)
 
-pub units_go_on : {State : Type 0} (a b : Run State) → GoesOn a b → length a.output + one_if a.closed ≤ length b.output + one_if b.closed
+pub units_go_on : {State : Type 0} (a b : Run State) → RunExtends a b → length a.output + one_if a.closed ≤ length b.output + one_if b.closed
 units_go_on a b g = by_closed a b a.closed refl g
 
 fed_small : {State : Type 0} (service : Machine State) (run : Run State) (chunk : List ℕ)

@@ -10,7 +10,7 @@ use Rattle.ft_model.specs.Offset.{first_of, text_of, fin_of, length_of}
 use Rattle.ft_model.specs.News.News.{Comes}
 use Rattle.ft_model.specs.Point.{Point, taken_units, receive_edge, HoldsBehind, room}
 use Rattle.ft_model.specs.Taken.{accepts, uses, came, counts, taken_after, fin_after}
-use Rattle.ft_model.specs.Owed.{owes}
+use Rattle.ft_model.specs.Owed.{needs_ack}
 use Rattle.ft_io.proofs.Choices.{holds_either_way}
 use Rattle.ft_io.proofs.Booleans.{or_true}
 
@@ -55,9 +55,9 @@ not_accepted next window first len shut some =
     let long : (len == 0) ≡ false = grind (arith, some) in
     rw (long, shut) refl
 
-pub shut_owes : (p : Point) (segment : Segment) → room p ≡ 0 → 0 < length_of segment → has_rst segment ≡ false → owes p segment ≡ true
-unfolding owes accepts
-shut_owes p segment shut some no_rst =
+pub shut_needs_ack : (p : Point) (segment : Segment) → room p ≡ 0 → 0 < length_of segment → has_rst segment ≡ false → needs_ack p segment ≡ true
+unfolding needs_ack accepts
+shut_needs_ack p segment shut some no_rst =
     rw (not_accepted (taken_units p) (room p) (first_of p.cisn segment) (length_of segment) shut some, no_rst) refl
 
 pub edge_accepts : (p : Point) (segment : Segment) → 0 < room p → length_of segment ≡ 0 → first_of p.cisn segment ≡ pos (taken_units p + room p) → accepts p segment ≡ true

@@ -11,7 +11,7 @@ use Rattle.seq_arith.specs.Damage.{flipped}
 use Rattle.seq_arith.specs.declared.BadPacket.{BadPacket}
 use Rattle.seq_arith.specs.declared.kinds.BadMsg.{BadMsg}
 use Rattle.server_trait.specs.Service.{Machine, WritesBytes}
-use Rattle.ft_model.specs.Client.{Client, Move, may_move, move_asked, move_of, window_of, refusal_of_move, segment_of, moved, may_announce, suits_kind, suits_phase, suits_range, received}
+use Rattle.ft_model.specs.Client.{Client, Move, may_move, move_asked, move_of, window_of, refusal_of_move, segment_of, moved, may_advertise, suits_kind, suits_phase, suits_range, received}
 use Rattle.ft_model.specs.Client.Move.{Syn, Text, Acknowledge, Rst}
 use Rattle.ft_model.specs.Client.Move.{Fin as Fin_move}
 use Rattle.ft_model.specs.Log.{log_after, answer_to}
@@ -134,13 +134,13 @@ move_may client event move asked free =
     allowed false r e = none_is_some why.State (sym e)
 
 -- and announces a window that a head can hold
-window_fits : (client : Client) (event : Event) (move : Move) → FitsEvent event → move_of event ≡ Some move → may_announce move (window_of client event) ≡ true
-window_fits client (Begin n window) move h e = subst (λ m. may_announce m window ≡ true) (some_is (Syn None) move e) (lt-ltb window (2 ^ 16) h.1)
-window_fits client (Ack n window) move h e = subst (λ m. may_announce m window ≡ true) (some_is Acknowledge move e) (lt-ltb window (2 ^ 16) h.1)
+window_fits : (client : Client) (event : Event) (move : Move) → FitsEvent event → move_of event ≡ Some move → may_advertise move (window_of client event) ≡ true
+window_fits client (Begin n window) move h e = subst (λ m. may_advertise m window ≡ true) (some_is (Syn None) move e) (lt-ltb window (2 ^ 16) h.1)
+window_fits client (Ack n window) move h e = subst (λ m. may_advertise m window ≡ true) (some_is Acknowledge move e) (lt-ltb window (2 ^ 16) h.1)
 window_fits client (Send n from len) move h e =
-    subst (λ m. may_announce m (window_of client (Send n from len)) ≡ true) (some_is (Text from len) move e) (lt-ltb _ _ (omega arith))
-window_fits client (Fin n) move h e = subst (λ m. may_announce m (window_of client (Fin n)) ≡ true) (some_is Fin_move move e) (lt-ltb _ _ (omega arith))
-window_fits client (Reset n) move h e = subst (λ m. may_announce m 0 ≡ true) (some_is Rst move e) refl
+    subst (λ m. may_advertise m (window_of client (Send n from len)) ≡ true) (some_is (Text from len) move e) (lt-ltb _ _ (omega arith))
+window_fits client (Fin n) move h e = subst (λ m. may_advertise m (window_of client (Fin n)) ≡ true) (some_is Fin_move move e) (lt-ltb _ _ (omega arith))
+window_fits client (Reset n) move h e = subst (λ m. may_advertise m 0 ≡ true) (some_is Rst move e) refl
 window_fits client (Boot boot isn) move h e = none_is_some move e
 window_fits client Crash move h e = none_is_some move e
 window_fits client Tick move h e = none_is_some move e

@@ -8,7 +8,7 @@ use Rattle.server_trait.specs.Service.{Machine}
 use Rattle.ft_model.specs.Network.{destination_of}
 use Rattle.ft_model.specs.News.{News}
 use Rattle.ft_model.specs.Point.{Point, acknowledgement, answered_run, released}
-use Rattle.ft_model.specs.Owed.{is_owed}
+use Rattle.ft_model.specs.Owed.{is_ack_pending}
 use Rattle.ft_model.specs.Segments.{new_length, texts, syn_acks, syn_ack, opens_with, fin_if_closed, first_unacknowledged, probe, probed_length, is_unacknowledged, resent, resent_length, new_texts, sends_fin, new_fin, full_segments, or_bare, bare_segment, segments_of, segment_at, text_at, fin_segment}
 use Rattle.ft_model.specs.Sending.{is_third_duplicate}
 use Rattle.ft_model.specs.Timer.{expires}
@@ -62,17 +62,17 @@ resent_spoken service server news before after =
     (λ t. probe_spoken service server news before after))
     (λ e. tt)
 
-or_bare_spoken : (P : Segment → Type 0) (owed : Bool) (bare : Segment) (segments : List Segment) → P bare → AllByRecursion P segments
-    → AllByRecursion P (or_bare owed bare segments)
-or_bare_spoken P owed bare [] b all = one_spoken P owed bare (λ t. b)
-or_bare_spoken P owed bare (segment ∷ segments) b all = all
+or_bare_spoken : (P : Segment → Type 0) (ack_pending : Bool) (bare : Segment) (segments : List Segment) → P bare → AllByRecursion P segments
+    → AllByRecursion P (or_bare ack_pending bare segments)
+or_bare_spoken P ack_pending bare [] b all = one_spoken P ack_pending bare (λ t. b)
+or_bare_spoken P ack_pending bare (segment ∷ segments) b all = all
 
 pub segments_spoken : {State : Type 0} (service : Machine State) (server : Addr) (news : News) (before after : Point)
     → AllByRecursion (Spoken service server news before after) (segments_of service server news before after)
 unfolding segments_of full_segments new_texts new_fin
 segments_spoken service server news before after =
     let P : Segment → Type 0 = Spoken service server news before after in
-    or_bare_spoken P (is_owed service news before after) (bare_segment server after) (full_segments service server news before after) (spoken_bare after.sent refl)
+    or_bare_spoken P (is_ack_pending service news before after) (bare_segment server after) (full_segments service server news before after) (spoken_bare after.sent refl)
     (all_append P (syn_acks server news before after) _ (one_spoken P (opens_with news before) (syn_ack server after) (λ t. spoken_syn refl))
     (all_append P (resent service server news before after) _ (resent_spoken service server news before after)
     (all_append P (new_texts service server before after) (new_fin service server before after)

@@ -10,10 +10,10 @@ use Rattle.ft_model.specs.Network.{Packet}
 use Rattle.ft_model.specs.Network.Packet.{To_client}
 use Rattle.ft_model.specs.News.{News}
 use Rattle.ft_model.specs.News.News.{Logged, Begins}
-use Rattle.ft_model.specs.Point.{Point, taken_units, acknowledgement, announced_edge, answered_run, released}
+use Rattle.ft_model.specs.Point.{Point, taken_units, acknowledgement, advertised_edge, answered_run, released}
 use Rattle.ft_model.specs.Answered.{answered_after}
 use Rattle.ft_model.specs.Reads.{Makes, next_read, with_read}
-use Rattle.ft_model.specs.Owed.{is_owed, asks}
+use Rattle.ft_model.specs.Owed.{is_ack_pending, asks}
 use Rattle.ft_model.specs.Segments.{window, new_length, texts, syn_acks, syn_ack, opens_with, fin_if_closed, first_unacknowledged, probe, probed_length, is_unacknowledged, resent, new_texts, sends_fin, new_fin, full_segments, or_bare, bare_segment, segments_of, text_at, fin_segment}
 use Rattle.ft_model.specs.Copy.{copies}
 use Rattle.ft_model.specs.Reads.{reads_told}
@@ -53,10 +53,10 @@ probe_tells service server before after =
     holds_either_way (AllByRecursion (TellsIn after)) (nat_lt before.sent (released service after)) (text_at service server after before.sent probed_length ∷ []) (fin_if_closed service server after)
     ((refl, refl), tt) (fin_tells service server after)
 
-or_bare_tells : (p : Point) (owed : Bool) (bare : Segment) (segments : List Segment) → TellsIn p bare → AllByRecursion (TellsIn p) segments
-    → AllByRecursion (TellsIn p) (or_bare owed bare segments)
-or_bare_tells p owed bare [] b all = one_or_none (TellsIn p) owed bare b
-or_bare_tells p owed bare (segment ∷ segments) b all = all
+or_bare_tells : (p : Point) (ack_pending : Bool) (bare : Segment) (segments : List Segment) → TellsIn p bare → AllByRecursion (TellsIn p) segments
+    → AllByRecursion (TellsIn p) (or_bare ack_pending bare segments)
+or_bare_tells p ack_pending bare [] b all = one_or_none (TellsIn p) ack_pending bare b
+or_bare_tells p ack_pending bare (segment ∷ segments) b all = all
 
 segments_tell : {State : Type 0} (service : Machine State) (server : Addr) (news : News) (before after : Point) → AllByRecursion (TellsIn after) (segments_of service server news before after)
 unfolding segments_of full_segments resent new_texts new_fin
@@ -71,7 +71,7 @@ segments_tell service server news before after =
     texts_tell service server after (new_length service before after) before.sent (new_length service before after) in
     let last : All (new_fin service server before after) =
     holds_either_way All (sends_fin service before after) (fin_if_closed service server after) [] (fin_tells service server after) tt in
-    or_bare_tells after (is_owed service news before after) (bare_segment server after) (full_segments service server news before after) (refl, refl)
+    or_bare_tells after (is_ack_pending service news before after) (bare_segment server after) (full_segments service server news before after) (refl, refl)
     (all_append (TellsIn after) (syn_acks server news before after) _ syns
     (all_append (TellsIn after) (resent service server news before after) _ again
     (all_append (TellsIn after) (new_texts service server before after) (new_fin service server before after) fresh last)))
@@ -88,17 +88,17 @@ none_sent : (segments : List Segment) (others : List Packet) → list_any is_seg
 none_sent [] others e = refl
 none_sent (segment ∷ segments) others e = absurd (true≢false e)
 
-none_owed : (owed : Bool) (bare : Segment) (segments : List Segment) → or_bare owed bare segments ≡ [] → owed ≡ false
-none_owed true bare [] e = ap (λ xs. list_any (λ x. true) xs) e
-none_owed false bare [] e = refl
-none_owed owed bare (segment ∷ segments) e = absurd (true≢false (ap (λ xs. list_any (λ x. true) xs) e))
+no_ack_pending : (ack_pending : Bool) (bare : Segment) (segments : List Segment) → or_bare ack_pending bare segments ≡ [] → ack_pending ≡ false
+no_ack_pending true bare [] e = ap (λ xs. list_any (λ x. true) xs) e
+no_ack_pending false bare [] e = refl
+no_ack_pending ack_pending bare (segment ∷ segments) e = absurd (true≢false (ap (λ xs. list_any (λ x. true) xs) e))
 
-nothing_owed : (a b c d : Bool) → (a || b || not c || not d) ≡ false → (b ≡ false) × (c ≡ true) × (d ≡ true)
-nothing_owed false false true true e = (refl, refl, refl)
-nothing_owed true _ _ _ e = absurd (true≢false e)
-nothing_owed false true _ _ e = absurd (true≢false e)
-nothing_owed false false false _ e = absurd (true≢false e)
-nothing_owed false false true false e = absurd (true≢false e)
+nothing_pending : (a b c d : Bool) → (a || b || not c || not d) ≡ false → (b ≡ false) × (c ≡ true) × (d ≡ true)
+nothing_pending false false true true e = (refl, refl, refl)
+nothing_pending true _ _ _ e = absurd (true≢false e)
+nothing_pending false true _ _ e = absurd (true≢false e)
+nothing_pending false false false _ e = absurd (true≢false e)
+nothing_pending false false true false e = absurd (true≢false e)
 
 answered_grows : (news : News) (p : Point) → p.answered ≤ answered_after news p
 unfolding answered_after
@@ -107,7 +107,7 @@ answered_grows _ p = omega arith
 
 pub told : {State : Type 0} (service : Machine State) (server : Addr) (boot : ℕ) (news : News) (before after : Point) (sent : List Packet)
     → LiveTurn service server boot news before after sent → IsTold before after sent
-unfolding segments_of is_owed
+unfolding segments_of is_ack_pending
 told service server boot news before after sent t =
     let bodies : List Body = copies news before after ++ (reads_told news before after ++ dones news before after) in
     let segments : List Segment = segments_of service server news before after in
@@ -117,14 +117,14 @@ told service server boot news before after sent t =
           (clients_tell after segments (segments_tell service server news before after)) (messages_tell boot after bodies));
       silent = λ e.
           let none : segments ≡ [] = none_sent segments (map (told_by boot) bodies) (sym (ap (list_any is_segment) t.packets) ∙ e) in
-          let quiet : is_owed service news before after ≡ false =
-          none_owed (is_owed service news before after) (bare_segment server after) (full_segments service server news before after) none in
-          let parts = nothing_owed (asks service news before) (nat_lt before.answered after.answered) (taken_units before == taken_units after) (announced_edge before == announced_edge after) quiet in
+          let quiet : is_ack_pending service news before after ≡ false =
+          no_ack_pending (is_ack_pending service news before after) (bare_segment server after) (full_segments service server news before after) none in
+          let parts = nothing_pending (asks service news before) (nat_lt before.answered after.answered) (taken_units before == taken_units after) (advertised_edge before == advertised_edge after) quiet in
           let grew : before.answered ≤ after.answered = subst (λ n. before.answered ≤ n) (sym t.answered) (answered_grows news before) in
           let fell : after.answered ≤ before.answered = grind (arith, parts) in
           let answered : after.answered ≡ before.answered = omega (arith, grew, fell) in
           let units : taken_units after ≡ taken_units before = grind (arith, parts) in
-          let edge : announced_edge after ≡ announced_edge before = grind (arith, parts) in
+          let edge : advertised_edge after ≡ advertised_edge before = grind (arith, parts) in
           let ack : acknowledgement after ≡ acknowledgement before = ap₂ min units answered in
           (ack, ap₂ (λ x y. min 65535 (x - y)) edge ack);
     }
@@ -147,7 +147,7 @@ some_sent bare (segment ∷ segments) others = refl
 
 pub begins_told : {State : Type 0} (service : Machine State) (server : Addr) (boot : ℕ) (before after : Point) (sent : List Packet)
     → LiveTurn service server boot Begins before after sent → list_any is_segment sent ≡ true
-unfolding segments_of is_owed
+unfolding segments_of is_ack_pending
 begins_told service server boot before after sent t =
     let bodies : List Body = copies Begins before after ++ (reads_told Begins before after ++ dones Begins before after) in
     ap (list_any is_segment) t.packets

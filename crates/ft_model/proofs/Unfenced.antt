@@ -5,7 +5,7 @@ use Rattle.ft_io.specs.declared.Key.{Key}
 use Rattle.seq_arith.specs.Message.{Body, Message}
 use Rattle.seq_arith.specs.Message.Body.{HelloMsg, ListMsg, EntryMsg, BytesMsg, PartMsg, CutsMsg, LensMsg, OpenMsg, DataMsg, StableMsg, ReadMsg, ReadsMsg, DoneMsg, EndedMsg, StaleMsg}
 use Rattle.server_trait.specs.Service.{Machine}
-use Rattle.ft_model.specs.Log.{Log, Entry, entry_of, head_of, part_of, lens_of, opened_answer, kept_of, told, log_after}
+use Rattle.ft_model.specs.Log.{Log, Entry, entry_of, head_of, part_of, lens_of, opened_answer, kept_of, answer_from, log_after}
 use Rattle.ft_model.specs.Network.{Packet}
 use Rattle.ft_model.specs.Network.Packet.{From_logger}
 use Rattle.ft_model.specs.Restart.{Fetched, Wanted, wanted}
@@ -41,7 +41,7 @@ opened_names boot key (Some e) answer t = subst (NamesAtMost boot) (some_is _ _ 
 opened_names boot key None answer t = subst (NamesAtMost boot) (some_is _ _ t) tt
 
 -- what the log tells of itself is no Stale
-told_names : (boot : ℕ) (body : Body) (log : Log) (answer : Body) → told body log ≡ Some answer → NamesAtMost boot answer
+told_names : (boot : ℕ) (body : Body) (log : Log) (answer : Body) → answer_from body log ≡ Some answer → NamesAtMost boot answer
 told_names boot HelloMsg log answer t = subst (NamesAtMost boot) (some_is _ _ t) tt
 told_names boot (ListMsg index) log answer t =
     let o = on_some (slice_get log.entries index) (λ e. Some (EntryMsg index (head_of e))) answer t in subst (NamesAtMost boot) (some_is _ _ o.2) tt

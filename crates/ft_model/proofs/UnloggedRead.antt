@@ -14,7 +14,7 @@ use Rattle.ft_model.specs.Node.Input.{Packet_comes, Message_comes}
 use Rattle.ft_model.specs.Lawful.{LawfulTurn, Revives}
 use Rattle.ft_model.specs.Masked.{SeesFront, Masked}
 use Rattle.ft_model.specs.World.{Joint, Happens, Delivered}
-use Rattle.ft_model.specs.Weakened.{GoesOn, IsWrongOnce}
+use Rattle.ft_model.specs.Weakened.{EachHappens, IsWrongOnce}
 use Rattle.ft_model.specs.WorkedRuns.Common.{server, hello_text, client_segment, from_client, to_client, to_log, from_log, kept_with, head_with, fetched_with, fetching, serving_at}
 use Rattle.ft_model.specs.WorkedRuns.FirstPath as path
 use Rattle.ft_model.specs.WorkedRuns.UnloggedRead as run
@@ -99,7 +99,7 @@ happens_21 : (told : Packet) → Happens meter (run.moment_20 told).world (run.m
 unfolding laws
 happens_21 told = (run.second_data, refl, (refl, refl))
 
-restart_goes_on : (told : Packet) → GoesOn meter (run.moment_12 told).world (run.restart_trace told)
+restart_goes_on : (told : Packet) → EachHappens meter (run.moment_12 told).world (run.restart_trace told)
 restart_goes_on told =
     (((((((((tt, happens_13 told), happens_14 told), happens_15 told), happens_16 told), happens_17 told), happens_18 told), happens_19 told), happens_20 told), happens_21 told)
 

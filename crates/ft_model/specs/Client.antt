@@ -172,17 +172,17 @@ abbrev pub moved : Client → Move → ℕ → Client
 moved client move window = record client { phase = phase_after client.phase move; sent = sent_after client move; edge = max client.edge (length client.accepted + window) }
 
 -- a move advertises a window that a header can hold, and a RST none
-abbrev pub may_announce : Move → ℕ → Bool
-may_announce Rst window = window == 0
-may_announce (Refuse number) window = window == 0
-may_announce _ window = nat_lt window (2 ^ 16)
+abbrev pub may_advertise : Move → ℕ → Bool
+may_advertise Rst window = window == 0
+may_advertise (Refuse number) window = window == 0
+may_advertise _ window = nat_lt window (2 ^ 16)
 
 -- a packet is a move of the client, which is then `after`
 pub record IsMove (client : Client) (segment : Segment) (after : Client) : Type 0 where
   pub move : Move
   pub window : ℕ
   pub may : may_move client move ≡ true
-  pub fits : may_announce move window ≡ true
+  pub fits : may_advertise move window ≡ true
   pub segment_is : segment ≡ segment_of client move window
   pub after_is : after ≡ moved client move window
 

@@ -13,7 +13,7 @@ use Rattle.ft_model.specs.Network.{Packet, source_of}
 use Rattle.ft_model.specs.Network.Packet.{To_client}
 use Rattle.ft_model.specs.News.News.{Begins}
 use Rattle.ft_model.specs.Connection.{told_by}
-use Rattle.ft_model.specs.Restart.{Fetched, Wanted, wanted, question, fetched_after, holding_segment, live_entry, entry_in, is_whole, point_of, IsSound}
+use Rattle.ft_model.specs.Restart.{Fetched, Wanted, wanted, question, fetched_after, holding_segment, live_entry, entry_in, is_whole, point_of, IsSoundEntry}
 use Rattle.ft_model.specs.Node.{Node, Place, Stage, Input, booted, is_for}
 use Rattle.ft_model.specs.Node.Place.{Opens, Lives, Ended}
 use Rattle.ft_model.specs.Node.Stage.{Asking, Fetching, Serving, Fenced}
@@ -163,7 +163,7 @@ IsNearInput server Tick_comes stage = Unit {0}
 -- .. and the entries that it has fetched completely are sound. An entry of which something is missing is no entry of the log yet, and one that is done isn't
 -- replayed
 abbrev pub AreSound : {State : Type 0} → Machine State → List Fetched → Type 0
-AreSound service fetched = AllByRecursion (λ f. f.head.done ≡ false → is_whole f ≡ true → IsSound service (entry_in f)) fetched
+AreSound service fetched = AllByRecursion (λ f. f.head.done ≡ false → is_whole f ≡ true → IsSoundEntry service (entry_in f)) fetched
 
 abbrev pub IsSoundInput : {State : Type 0} → Machine State → Node → Input → Stage → Type 0
 IsSoundInput service node (Message_comes message) (Fetching count fetched) = IfSome (fetched_then node message count fetched) (AreSound service)

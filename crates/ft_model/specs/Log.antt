@@ -76,12 +76,12 @@ is_hello HelloMsg = true
 is_hello _ = false
 
 -- a Hello makes its boot the log's. Any other kind counts only if it has the log's own boot
-abbrev pub heard : Message → Log → Log
-heard message log = if is_hello message.body then record log { boot = message.boot } else (if message.boot == log.boot then with_body message.body log else log)
+abbrev pub with_message : Message → Log → Log
+with_message message log = if is_hello message.body then record log { boot = message.boot } else (if message.boot == log.boot then with_body message.body log else log)
 
 -- The log after a message. A kind that only the logger sends changes nothing, nor does a smaller boot.
 unfoldable pub log_after : Log → Message → Log
-log_after log message = if is_answer message.body || nat_lt message.boot log.boot then log else heard message log
+log_after log message = if is_answer message.body || nat_lt message.boot log.boot then log else with_message message log
 
 abbrev pub numbers_of_entry : Entry → Numbers
 numbers_of_entry e = record { key = e.key; cisn = e.cisn; sisn = e.sisn; mss = e.mss }
@@ -109,23 +109,23 @@ on_entry tell (Some e) = tell e
 on_entry tell None = None
 
 -- the log's answer once it has taken a message of its own boot
-abbrev pub told : Body → Log → Option Body
-told HelloMsg log = Some (SummaryMsg (length log.entries))
-told (ListMsg index) log = on_entry (λ e. Some (EntryMsg index (head_of e))) (slice_get log.entries index)
-told (BytesMsg key offset) log = on_entry (λ e. part_of e offset) (entry_of key log)
-told (CutsMsg key first) log = on_entry (λ e. lens_of e first) (entry_of key log)
-told (OpenMsg n) log = opened_answer n.key (entry_of n.key log)
-told (DataMsg part) log = on_entry (λ e. Some (StableMsg (kept_of e))) (entry_of part.key log)
-told (ReadMsg key index n) log = on_entry (λ e. Some (ReadsMsg (kept_of e))) (entry_of key log)
-told (DoneMsg key) log = on_entry (λ e. Some (EndedMsg key)) (entry_of key log)
-told _ log = None
+abbrev pub answer_from : Body → Log → Option Body
+answer_from HelloMsg log = Some (SummaryMsg (length log.entries))
+answer_from (ListMsg index) log = on_entry (λ e. Some (EntryMsg index (head_of e))) (slice_get log.entries index)
+answer_from (BytesMsg key offset) log = on_entry (λ e. part_of e offset) (entry_of key log)
+answer_from (CutsMsg key first) log = on_entry (λ e. lens_of e first) (entry_of key log)
+answer_from (OpenMsg n) log = opened_answer n.key (entry_of n.key log)
+answer_from (DataMsg part) log = on_entry (λ e. Some (StableMsg (kept_of e))) (entry_of part.key log)
+answer_from (ReadMsg key index n) log = on_entry (λ e. Some (ReadsMsg (kept_of e))) (entry_of key log)
+answer_from (DoneMsg key) log = on_entry (λ e. Some (EndedMsg key)) (entry_of key log)
+answer_from _ log = None
 
 -- the body of the answer to a message. `log` is the log before it, and `after` the log after it
 abbrev pub answer_body : Log → Log → Message → Option Body
 answer_body log after message =
     if is_answer message.body then None
     else (if nat_lt message.boot log.boot then Some (StaleMsg log.boot)
-    else (if is_hello message.body || message.boot == log.boot then told message.body after else None))
+    else (if is_hello message.body || message.boot == log.boot then answer_from message.body after else None))
 
 -- The answer to a message, with the message's own boot.
 unfoldable pub answer_to : Log → Message → Option Message

@@ -4,7 +4,7 @@ use Rattle.seq_arith.specs.Arrival.{int_eq}
 use Rattle.seq_arith.specs.Packet.{Segment, has_syn, has_rst, has_ack}
 use Rattle.server_trait.specs.Service.{Machine}
 use Rattle.ft_model.specs.Offset.{first_of, ack_of, length_of}
-use Rattle.ft_model.specs.Point.{Point, taken_units, announced_edge, is_over}
+use Rattle.ft_model.specs.Point.{Point, taken_units, advertised_edge, is_over}
 use Rattle.ft_model.specs.News.{News}
 use Rattle.ft_model.specs.News.News.{Comes, Logged, Ticks, Begins}
 use Rattle.ft_model.specs.Taken.{accepts}
@@ -15,25 +15,25 @@ is_refused p segment = not p.syn_acked && has_ack segment && int_lt (ack_of p.si
 
 -- which acceptable segments TCP answers: a SYN, and a RST that isn't at the next number, with a challenge ACK, and a segment with a length with an ACK. A
 -- segment without length past the next number gets no answer: otherwise two ends that each miss a segment would answer each other forever
-abbrev pub owes_acceptable : Point → Segment → Bool
-owes_acceptable p segment =
+abbrev pub needs_ack_if_acceptable : Point → Segment → Bool
+needs_ack_if_acceptable p segment =
     if has_rst segment then not (int_eq (first_of p.cisn segment) (pos (taken_units p)))
     else (if has_syn segment then true
     else (if is_refused p segment then false else nat_lt 0 (length_of segment)))
 
 -- whether TCP answers a segment with an ACK. One that isn't acceptable always gets one, unless it has RST
-unfoldable pub owes : Point → Segment → Bool
-owes p segment = if accepts p segment then owes_acceptable p segment else not (has_rst segment)
+unfoldable pub needs_ack : Point → Segment → Bool
+needs_ack p segment = if accepts p segment then needs_ack_if_acceptable p segment else not (has_rst segment)
 
 -- the turn's news requires a segment: TCP answers, or the connection was over before and the segment is no RST, or the connection has become live
 abbrev pub asks : {State : Type 0} → Machine State → News → Point → Bool
-asks service (Comes segment) before = owes before segment || (is_over service before && not (has_rst segment))
+asks service (Comes segment) before = needs_ack before segment || (is_over service before && not (has_rst segment))
 asks service (Logged kept) before = false
 asks service Ticks before = false
 asks service Begins before = true
 
 -- an ACK is pending: the news requires a segment, more is known to be logged, or what TCP advertises has changed
-unfoldable pub is_owed : {State : Type 0} → Machine State → News → Point → Point → Bool
-is_owed service news before after =
+unfoldable pub is_ack_pending : {State : Type 0} → Machine State → News → Point → Point → Bool
+is_ack_pending service news before after =
     asks service news before || nat_lt before.answered after.answered || not (taken_units before == taken_units after)
-    || not (announced_edge before == announced_edge after)
+    || not (advertised_edge before == advertised_edge after)

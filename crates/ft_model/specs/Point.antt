@@ -100,12 +100,12 @@ abbrev pub HoldsBehind : Point → Type 0
 HoldsBehind p = StandsBehind (length p.taken) (receive_edge p) p.fin p.early
 
 -- the edge that TCP advertises: a FIN that is taken has used up one number
-abbrev pub announced_edge : Point → ℕ
-announced_edge p = receive_edge p + one_if p.fin
+abbrev pub advertised_edge : Point → ℕ
+advertised_edge p = receive_edge p + one_if p.fin
 
 -- RCV.WND: TCP's room
 abbrev pub room : Point → ℕ
-room p = announced_edge p - taken_units p
+room p = advertised_edge p - taken_units p
 
 -- the connection is over: both FINs are through, the client's is taken, and the server's, the unit after all output, is acknowledged
 abbrev pub is_over : {State : Type 0} → Machine State → Point → Bool

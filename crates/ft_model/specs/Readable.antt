@@ -24,16 +24,16 @@ abbrev pub IsWord : List ℕ → Type 0
 IsWord word = AllByRecursion (λ c. 32 < c) word
 
 -- a number of at most 64 bits
-abbrev pub Fits : ℕ → Type 0
-Fits n = n < 2 ^ 64
+abbrev pub FitsU64 : ℕ → Type 0
+FitsU64 n = n < 2 ^ 64
 
 abbrev pub FitsOption : Option ℕ → Type 0
 FitsOption None = Unit {0}
-FitsOption (Some n) = Fits n
+FitsOption (Some n) = FitsU64 n
 
 abbrev pub FitsWay : Way → Type 0
-FitsWay (ClientToServer n) = Fits n
-FitsWay (ServerToClient n) = Fits n
+FitsWay (ClientToServer n) = FitsU64 n
+FitsWay (ServerToClient n) = FitsU64 n
 FitsWay ServerToLogger = Unit {0}
 FitsWay LoggerToServer = Unit {0}
 FitsWay HeadToTail = Unit {0}
@@ -47,7 +47,7 @@ FitsKey key = (key.ip < 2 ^ 32) × (key.port < 2 ^ 16)
 
 -- the key is that of a client
 abbrev pub IsKnown : List Client → Key → Type 0
-IsKnown clients key = (0 < number_of_client clients key) × Fits (number_of_client clients key)
+IsKnown clients key = (0 < number_of_client clients key) × FitsU64 (number_of_client clients key)
 
 abbrev pub IsOf : Addr → Key → Type 0
 IsOf server key = (key.ip ≡ server.ip) × (key.port ≡ server.port)
@@ -65,31 +65,31 @@ IsReadable server clients packet = HasEnds server clients packet × HasWire pack
 
 -- every number of an event has at most 64 bits, and a window at most 16
 abbrev pub FitsEvent : Event → Type 0
-FitsEvent (Boot boot isn) = Fits boot × Fits isn
+FitsEvent (Boot boot isn) = FitsU64 boot × FitsU64 isn
 FitsEvent Crash = Unit {0}
 FitsEvent Tick = Unit {0}
-FitsEvent (Deliver packet) = Fits packet
-FitsEvent (Flip packet bit) = Fits packet × Fits bit
-FitsEvent (Begin client window) = Fits client × (window < 2 ^ 16)
-FitsEvent (Send client from len) = Fits client × Fits from × Fits len
-FitsEvent (Fin client) = Fits client
-FitsEvent (Ack client window) = Fits client × (window < 2 ^ 16)
-FitsEvent (Reset client) = Fits client
-FitsEvent (Stop part) = Fits part
+FitsEvent (Deliver packet) = FitsU64 packet
+FitsEvent (Flip packet bit) = FitsU64 packet × FitsU64 bit
+FitsEvent (Begin client window) = FitsU64 client × (window < 2 ^ 16)
+FitsEvent (Send client from len) = FitsU64 client × FitsU64 from × FitsU64 len
+FitsEvent (Fin client) = FitsU64 client
+FitsEvent (Ack client window) = FitsU64 client × (window < 2 ^ 16)
+FitsEvent (Reset client) = FitsU64 client
+FitsEvent (Stop part) = FitsU64 part
 
 abbrev pub FitsScript : Script → Type 0
 FitsScript (Bytes bytes) = IsBytes bytes
-FitsScript (Fill n) = Fits n
+FitsScript (Fill n) = FitsU64 n
 
 abbrev pub FitsClient : ClientLine → Type 0
-FitsClient asked = FitsKey asked.key × Fits asked.isn × FitsScript asked.script
+FitsClient asked = FitsKey asked.key × FitsU64 asked.isn × FitsScript asked.script
 
 -- a schedule whose numbers have the sizes of their types
 pub record FitsSchedule (schedule : Schedule) : Type 0 where
   pub ip : schedule.server.ip < 2 ^ 32
   pub port : schedule.server.port < 2 ^ 16
   pub clients : AllByRecursion FitsClient schedule.clients
-  pub count : Fits (length schedule.clients)
+  pub count : FitsU64 (length schedule.clients)
   pub events : AllByRecursion FitsEvent schedule.events
 
 -- a turn whose lines determine all of it

@@ -150,6 +150,6 @@ point_of service e = record (blank_point e.key e.cisn e.sisn e.mss) {
 }
 
 -- an entry is sound: a server that keeps its limits can have logged it
-pub record IsSound {State : Type 0} (service : Machine State) (e : Entry) : Type 0 where
+pub record IsSoundEntry {State : Type 0} (service : Machine State) (e : Entry) : Type 0 where
   pub output : length (run_of service e).output ≤ 2 ^ 24
   pub fin : e.fin ≡ true → length e.bytes < 2 ^ 24

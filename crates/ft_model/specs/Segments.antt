@@ -6,17 +6,17 @@ use Rattle.seq_arith.specs.declared.flags.TheConstants.{FIN, SYN, ACK}
 use Rattle.seq_arith.specs.Number.{number_at}
 use Rattle.seq_arith.specs.Packet.{Head, Segment}
 use Rattle.server_trait.specs.Service.{Machine}
-use Rattle.ft_model.specs.Point.{Point, taken_units, acknowledgement, announced_edge, answered_run, released}
+use Rattle.ft_model.specs.Point.{Point, taken_units, acknowledgement, advertised_edge, answered_run, released}
 use Rattle.ft_model.specs.News.{News}
 use Rattle.ft_model.specs.News.News.{Comes, Logged, Ticks, Begins}
 use Rattle.ft_model.specs.Opening.{is_syn}
 use Rattle.ft_model.specs.Sending.{is_third_duplicate, sent_at_once}
 use Rattle.ft_model.specs.Timer.{expires}
-use Rattle.ft_model.specs.Owed.{is_owed}
+use Rattle.ft_model.specs.Owed.{is_ack_pending}
 
 -- Window: from what is acknowledged up to the edge that TCP advertises
 abbrev pub window : Point → ℕ
-window p = min 65535 (announced_edge p - acknowledgement p)
+window p = min 65535 (advertised_edge p - acknowledgement p)
 
 -- Acknowledgement: every segment to a live key acknowledges exactly what is both taken and known to be logged
 abbrev pub head_to : Addr → Point → (seq flags : ℕ) → Option ℕ → Head
@@ -140,9 +140,9 @@ full_segments service server news before after =
 
 -- Acknowledgement: one bare segment, exactly where an ACK is pending and no other segment is sent
 abbrev pub or_bare : Bool → Segment → List Segment → List Segment
-or_bare owed bare [] = if owed then bare ∷ [] else []
-or_bare owed bare (segment ∷ segments) = segment ∷ segments
+or_bare ack_pending bare [] = if ack_pending then bare ∷ [] else []
+or_bare ack_pending bare (segment ∷ segments) = segment ∷ segments
 
 unfoldable pub segments_of : {State : Type 0} → Machine State → Addr → News → Point → Point → List Segment
 segments_of service server news before after =
-    or_bare (is_owed service news before after) (bare_segment server after) (full_segments service server news before after)
+    or_bare (is_ack_pending service news before after) (bare_segment server after) (full_segments service server news before after)

@@ -5,13 +5,13 @@ use Rattle.ft_model.specs.Network.{Packet}
 use Rattle.ft_model.specs.World.{World, Moment, world_after, Happens, Joint}
 
 -- each of these moments, newest first, happens in the world after those before it
-abbrev pub GoesOn : {State : Type 0} → Machine State → World → List Moment → Type 0
-GoesOn service before [] = Unit {0}
-GoesOn service before (moment ∷ earlier) = GoesOn service before earlier × Happens service (world_after before earlier) moment.event moment.sent moment.world
+abbrev pub EachHappens : {State : Type 0} → Machine State → World → List Moment → Type 0
+EachHappens service before [] = Unit {0}
+EachHappens service before (moment ∷ earlier) = EachHappens service before earlier × Happens service (world_after before earlier) moment.event moment.sent moment.world
 
 -- one moment doesn't happen by the laws, by which the same event has another outcome; before it and after it everything happens
 pub record IsWrongOnce {State : Type 0} (service : Machine State) (start : World) (later : List Moment) (wrong : Moment) (earlier : List Moment) : Type 0 where
   pub before : Joint service start earlier
   pub refused : Happens service (world_after start earlier) wrong.event wrong.sent wrong.world → ⊥
   pub otherwise : (sent : List Packet) × (world : World) × Happens service (world_after start earlier) wrong.event sent world
-  pub after : GoesOn service wrong.world later
+  pub after : EachHappens service wrong.world later

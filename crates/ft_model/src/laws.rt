@@ -13,7 +13,7 @@ ghost use Rattle.ft_model.specs.Told.{is_segment, IsTold};
 ghost use Rattle.ft_model.specs.Point.{Point, taken_units, HoldsBehind, room};
 ghost use Rattle.ft_model.specs.Offset.{first_of, length_of};
 ghost use Rattle.ft_model.specs.Taken.{accepts, uses, taken_after, fin_after};
-ghost use Rattle.ft_model.specs.Owed.{owes};
+ghost use Rattle.ft_model.specs.Owed.{needs_ack};
 ghost use Rattle.seq_arith.specs.Packet.{Segment, has_rst};
 ghost use Rattle.ft_model.specs.Connection.{LiveTurn};
 ghost use Rattle.ft_model.specs.Node.{Node, Input, AllCount, points_at};
@@ -77,7 +77,7 @@ pub fn new_fins_are_closed<S: Service>()
 pub fn shut_windows_pass_acknowledgements()
     ensures used { (p : Point) (segment : Segment) → room p ≡ 0 → first_of p.cisn segment ≡ pos (taken_units p) → uses p segment ≡ true }
     ensures not_taken { (p : Point) (segment : Segment) → HoldsBehind p → room p ≡ 0 → (taken_after (Comes segment) p ≡ p.taken) × (fin_after (Comes segment) p ≡ p.fin) }
-    ensures owed { (p : Point) (segment : Segment) → room p ≡ 0 → 0 < length_of segment → has_rst segment ≡ false → owes p segment ≡ true }
+    ensures ack_pending { (p : Point) (segment : Segment) → room p ≡ 0 → 0 < length_of segment → has_rst segment ≡ false → needs_ack p segment ≡ true }
 {}
 
 /// In every joint trace what a live connection holds is after what it has taken, and within the receive edge.

@@ -4,7 +4,7 @@
 ghost use Rattle.std.specs.Prelude.{◌≡◌, ◌<◌, ◌^◌, ℕ, Bool, Option, decimal, List, [], ◌∷◌, codes, None, Some, false};
 ghost use Rattle.std.specs.List.{AllByRecursion};
 ghost use Rattle.hex.specs.Hex.{IsBytes};
-ghost use Rattle.ft_model.specs.Readable.{IsReadable, FitsSchedule, IsReadableTurn, IsWord, Fits, FitsOption, FitsWay};
+ghost use Rattle.ft_model.specs.Readable.{IsReadable, FitsSchedule, IsReadableTurn, IsWord, FitsU64, FitsOption, FitsWay};
 ghost use Rattle.ft_model.specs.Texts.{line, hex_text, list_text, mss_text, bit_text, address_text, flags_text, way_text};
 ghost use Rattle.ft_io.specs.declared.Addr.{Addr};
 ghost use Rattle.seq_arith.specs.Message.Body.{HelloMsg};
@@ -75,9 +75,9 @@ pub fn words_of_a_line()
 
 /// A spelling determines its value: no two values of a kind are spelled alike.
 pub fn values_of_spellings()
-    ensures number { (m n : ℕ) → Fits m → Fits n → decimal m ≡ decimal n → m ≡ n }
+    ensures number { (m n : ℕ) → FitsU64 m → FitsU64 n → decimal m ≡ decimal n → m ≡ n }
     ensures bytes { (xs ys : List ℕ) → IsBytes xs → IsBytes ys → hex_text xs ≡ hex_text ys → xs ≡ ys }
-    ensures list { (xs ys : List ℕ) → AllByRecursion Fits xs → AllByRecursion Fits ys → list_text xs ≡ list_text ys → xs ≡ ys }
+    ensures list { (xs ys : List ℕ) → AllByRecursion FitsU64 xs → AllByRecursion FitsU64 ys → list_text xs ≡ list_text ys → xs ≡ ys }
     ensures mss { (m n : Option ℕ) → FitsOption m → FitsOption n → mss_text m ≡ mss_text n → m ≡ n }
     ensures bit { (b c : Bool) → bit_text b ≡ bit_text c → b ≡ c }
     ensures address { (ip other port door : ℕ) → ip < 2 ^ 32 → other < 2 ^ 32 → port < 2 ^ 16 → door < 2 ^ 16
@@ -88,7 +88,7 @@ pub fn values_of_spellings()
 
 /// A packet's line determines its number and the packet, for segments between a client of the schedule and the server, and for messages.
 pub fn packets_of_lines()
-    ensures { (server : Addr) (clients : List Client) (m n : ℕ) (p q : Packet) → Fits m → Fits n
+    ensures { (server : Addr) (clients : List Client) (m n : ℕ) (p q : Packet) → FitsU64 m → FitsU64 n
         → IsReadable server clients p → IsReadable server clients q
         → packet_line m (way_of clients p) p ≡ packet_line n (way_of clients q) q → (m ≡ n) × (p ≡ q) }
 {}

@@ -5,7 +5,7 @@ use Rattle.std.specs.Int.{bytes_high_first}
 use Rattle.disk.specs.declared.calls.DiskCall.{DiskCall}
 use Rattle.disk.specs.declared.calls.DiskCall.TheVariants.{Appended, Put, Cut, Synced}
 use Rattle.disk.specs.Left.{with_byte, seen_after, MayLeave, LeftBy, failed, IsFrontOf}
-use Rattle.journal.specs.Format.{magic, counted, blocks, front, Stands, at_rest, IsAtRest, sized, keeping, mending, all_kept, seen_by}
+use Rattle.journal.specs.Format.{magic, counted, blocks, front, HasBlocks, at_rest, IsAtRest, sized, keeping, mending, all_kept, seen_by}
 
 -- by how far the calls have come
 front_elim : {P : Type 0} (file : List ℕ) (Held : List ℕ → Type 0) (next : DiskCall) (calls done : List DiskCall) (left : List ℕ) → IsFrontOf (next ∷ calls) done → LeftBy file Held done left
@@ -43,13 +43,13 @@ rest_push bodies body =
 
 module _ (file : List ℕ) (Held : List ℕ → Type 0) (bodies : List (List ℕ)) (body : List ℕ) (rest : IsAtRest file Held bodies) where
   abbrev pub P : List ℕ → Type 0
-  P c = Stands bodies c ⊎ Stands (bodies ++ body ∷ []) c
+  P c = HasBlocks bodies c ⊎ HasBlocks (bodies ++ body ∷ []) c
 
   abbrev pub end : ℕ
   end = length (front bodies)
 
   -- a front that stays
-  stands_behind : (c d : List ℕ) (n : ℕ) → d ≡ at_rest bodies → take n c ≡ d → Stands bodies c
+  stands_behind : (c d : List ℕ) (n : ℕ) → d ≡ at_rest bodies → take n c ≡ d → HasBlocks bodies c
   stands_behind c d n whole same =
       (drop n c, sym (take-append-drop n c) ∙ ap (λ (l : List ℕ). l ++ drop n c) (same ∙ whole) ∙ append_assoc (front bodies) (46 ∷ []) (drop n c))
 
@@ -88,7 +88,7 @@ module _ (file : List ℕ) (Held : List ℕ → Type 0) (bodies : List (List ℕ
   pub stays : IsAtRest (seen_by file (keeping end body)) (LeftBy file Held (keeping end body)) (bodies ++ body ∷ [])
   stays = (kept_is, λ c is. is)
 
-module _ (file : List ℕ) (Held : List ℕ → Type 0) (bodies : List (List ℕ)) (stands : Stands bodies file) (only : (c : List ℕ) → Held c → c ≡ file) where
+module _ (file : List ℕ) (Held : List ℕ → Type 0) (bodies : List (List ℕ)) (stands : HasBlocks bodies file) (only : (c : List ℕ) → Held c → c ≡ file) where
   abbrev pub gate : ℕ
   gate = length (front bodies)
 
@@ -97,14 +97,14 @@ module _ (file : List ℕ) (Held : List ℕ → Type 0) (bodies : List (List ℕ
       ap (λ (l : List ℕ). take (gate + 1) l) (stands.1 ∙ sym (append_assoc (front bodies) (46 ∷ []) stands.0))
       ∙ take_at (at_rest bodies) stands.0 (gate + 1) (length-append (front bodies) (46 ∷ []))
 
-  cut : (f : _) (c : List ℕ) → MayLeave file Held (Cut (gate + 1) f) c → Stands bodies c
+  cut : (f : _) (c : List ℕ) → MayLeave file Held (Cut (gate + 1) f) c → HasBlocks bodies c
   cut f c (d, held, same) = (
     drop (gate + 1) c,
     sym (take-append-drop (gate + 1) c) ∙ ap (λ (l : List ℕ). l ++ drop (gate + 1) c) (same ∙ ap (λ (l : List ℕ). take (gate + 1) l) (only d held) ∙ cut_is)
         ∙ append_assoc (front bodies) (46 ∷ []) (drop (gate + 1) c),
   )
 
-  pub mended : (done : List DiskCall) (left : List ℕ) → IsFrontOf (mending gate) done → LeftBy file Held done left → Stands bodies left
+  pub mended : (done : List DiskCall) (left : List ℕ) → IsFrontOf (mending gate) done → LeftBy file Held done left → HasBlocks bodies left
   mended done left f l =
       front_elim file Held (Cut (gate + 1) false) (Synced false ∷ []) done left f l
       (λ held. (stands.0, only left held ∙ stands.1))
@@ -123,7 +123,7 @@ left_append file Held [] more left l = l
 left_append file Held (call ∷ calls) more left l = left_append (seen_after file call) (MayLeave file Held call) calls more left l
 
 all_stay : (file : List ℕ) (Held : List ℕ → Type 0) (bodies kept whole : List (List ℕ)) (last : List ℕ) (done : List DiskCall) (left : List ℕ) → bodies ++ kept ≡ whole → IsAtRest file Held bodies
-    → IsFrontOf (keeping (length (front whole)) last) done → LeftBy file Held (all_kept bodies kept ++ done) left → Stands whole left ⊎ Stands (whole ++ last ∷ []) left
+    → IsFrontOf (keeping (length (front whole)) last) done → LeftBy file Held (all_kept bodies kept ++ done) left → HasBlocks whole left ⊎ HasBlocks (whole ++ last ∷ []) left
 all_stay file Held bodies [] whole last done left is rest f l =
     let same : bodies ≡ whole = sym (append-nil bodies) ∙ is in
     before_or_after file Held whole last (subst (IsAtRest file Held) same rest) done left f l
@@ -134,9 +134,9 @@ all_stay file Held bodies (body ∷ kept) whole last done left is rest f l =
     (stays file Held bodies body rest) f
     (left_append file Held first (others ++ done) left (subst (λ calls. LeftBy file Held calls left) (append_assoc first others done) l))
 
-pub keeps_all : (file left : List ℕ) (bodies kept : List (List ℕ)) (last : List ℕ) (done : List DiskCall) → Stands bodies file
+pub keeps_all : (file left : List ℕ) (bodies kept : List (List ℕ)) (last : List ℕ) (done : List DiskCall) → HasBlocks bodies file
     → IsFrontOf (keeping (length (front (bodies ++ kept))) last) done → LeftBy file (λ c. c ≡ file) (mending (length (front bodies)) ++ (all_kept bodies kept ++ done)) left
-    → Stands (bodies ++ kept) left ⊎ Stands ((bodies ++ kept) ++ last ∷ []) left
+    → HasBlocks (bodies ++ kept) left ⊎ HasBlocks ((bodies ++ kept) ++ last ∷ []) left
 keeps_all file left bodies kept last done stands f l =
     let mend : List DiskCall = mending (length (front bodies)) in
     all_stay (seen_by file mend) (LeftBy file (λ c. c ≡ file) mend) bodies kept (bodies ++ kept) last done left refl (mended_rests file (λ c. c ≡ file) bodies stands (λ c is. is)) f

@@ -5,7 +5,7 @@ use Rattle.std.specs.List.{AllByRecursion}
 use Rattle.std.specs.Int.{bytes_high_first}
 use Rattle.seq_arith.specs.MessageGrammar.{number_in, number_bytes}
 use Rattle.seq_arith.proofs.MessageSpelling.{number_length, number_back}
-use Rattle.journal.specs.Format.{magic, counted, blocks, Stands, IsSmall}
+use Rattle.journal.specs.Format.{magic, counted, blocks, HasBlocks, IsSmall}
 
 same_front : (xs ys us vs : List ℕ) → length xs ≡ length ys → xs ++ us ≡ ys ++ vs → (xs ≡ ys) × (us ≡ vs)
 same_front xs ys us vs long is = (
@@ -42,7 +42,7 @@ one_reading (b ∷ bodies) (o ∷ others) s t small also is =
     let bodies_are = same_front b o (blocks bodies ++ 46 ∷ s) (blocks others ++ 46 ∷ t) (same_length (length b) (length o) small.0 also.0 lengths.0) lengths.1 in
     ap₂ (λ (x : List ℕ) (xs : List (List ℕ)). x ∷ xs) bodies_are.0 (one_reading bodies others s t small.1 also.1 bodies_are.1)
 
-pub reads_once : (file : List ℕ) (bodies others : List (List ℕ)) → AllByRecursion IsSmall bodies → AllByRecursion IsSmall others → Stands bodies file → Stands others file → bodies ≡ others
+pub reads_once : (file : List ℕ) (bodies others : List (List ℕ)) → AllByRecursion IsSmall bodies → AllByRecursion IsSmall others → HasBlocks bodies file → HasBlocks others file → bodies ≡ others
 reads_once file bodies others small also a b =
     let is : magic ++ (blocks bodies ++ 46 ∷ a.0) ≡ magic ++ (blocks others ++ 46 ∷ b.0) =
     sym (append_assoc magic (blocks bodies) (46 ∷ a.0)) ∙ sym a.1 ∙ b.1 ∙ append_assoc magic (blocks others) (46 ∷ b.0) in

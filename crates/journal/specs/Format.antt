@@ -23,8 +23,8 @@ abbrev pub front : List (List ℕ) → List ℕ
 front bodies = magic ++ blocks bodies
 
 -- a file is read as the bodies of the blocks before its closed gate
-abbrev pub Stands : List (List ℕ) → List ℕ → Type 0
-Stands bodies file = (tail : List ℕ) × (file ≡ front bodies ++ 46 ∷ tail)
+abbrev pub HasBlocks : List (List ℕ) → List ℕ → Type 0
+HasBlocks bodies file = (tail : List ℕ) × (file ≡ front bodies ++ 46 ∷ tail)
 
 -- .. with nothing after that gate
 abbrev pub at_rest : List (List ℕ) → List ℕ

@@ -15,7 +15,7 @@ use Rattle.disk.specs.declared.calls.DiskCall.{DiskCall}
 use Rattle.disk.specs.declared.calls.DeskCall.{DeskCall}
 use Rattle.disk.specs.declared.calls.DeskCall.TheVariants.{OnLink}
 use Rattle.disk.proofs.Telling.{disk_calls_of_disk}
-use Rattle.journal.specs.Format.{front, Stands, seen_by}
+use Rattle.journal.specs.Format.{front, HasBlocks, seen_by}
 use Rattle.journal.proofs.Deaths.{before_or_after, mended}
 use Rattle.kept_log.specs.Kept.{committing, end_after, with_round, HasLog}
 use Rattle.kept_log.specs.Opening.{Finds, IsWhole, cutting}
@@ -28,7 +28,7 @@ use Rattle.journal_laws.proofs.Reading.{finds_one}
 use Rattle.journal_laws.proofs.Resting.{Rests, left_on, committed, has_round, rests_on, opened_rests}
 use Rattle.journal_laws.proofs.Saying.{messages-append, handed-append, disk_calls-append, messages_of_disk, handed_of_disk, disk_calls_of_link, log-append, answers-append, said_by, said_last, said_more, log_said, handed_all}
 
-outlives : (before log : Log) (calls : List DeskCall) (left : List ℕ) (bodies : List (List ℕ)) (end : ℕ) → Stands bodies left → HasLog bodies end log → ComesBack before log calls
+outlives : (before log : Log) (calls : List DeskCall) (left : List ℕ) (bodies : List (List ℕ)) (end : ℕ) → HasBlocks bodies left → HasLog bodies end log → ComesBack before log calls
     → Outlives before calls left
 outlives before log calls left bodies end stands has back = record {
   bodies = bodies;
@@ -158,15 +158,15 @@ module _ (file : List ℕ) (Held : List ℕ → Type 0) (at : Place) (round : Ro
   after = log_behind at.log (received_in round)
 
   -- the file is as it was before the round
-  as_before : (done : List DeskCall) → handed_in done ≡ [] → Stands r.bodies left → Outlives at.log done left
+  as_before : (done : List DeskCall) → handed_in done ≡ [] → HasBlocks r.bodies left → Outlives at.log done left
   as_before done none stands = outlives at.log at.log done left r.bodies at.end stands r.has_log (unchanged at.log done none)
 
-  held : Held left → Stands r.bodies left
+  held : Held left → HasBlocks r.bodies left
   held h = ([], r.rest.1 left h ∙ r.rest.0)
 
   -- the file has the round
   with_it : (done : List DeskCall) (a k : List Message) → messages_in done ≡ said_by (received_in round) → said_by (received_in round) ≡ a ++ k → handed_in done ≡ map spelling (answers_to at.log a)
-      → Stands (with_round r.bodies body) left → Outlives at.log done left
+      → HasBlocks (with_round r.bodies body) left → Outlives at.log done left
   with_it done a k said all handed stands =
       outlives at.log after done left (with_round r.bodies body) (end_after at.end body) stands (has_round r.bodies at.end at.log (received_in round) is_round r.has_log) (record {
         answered = a;
@@ -179,7 +179,7 @@ module _ (file : List ℕ) (Held : List ℕ → Type 0) (at : Place) (round : Ro
 
   -- the commit has come so far
   committing_so_far : (body : List ℕ) (some : List DiskCall) → IsFrontOf (committing at.end body) some → LeftBy file Held some left
-      → Stands r.bodies left ⊎ Stands (with_round r.bodies body) left
+      → HasBlocks r.bodies left ⊎ HasBlocks (with_round r.bodies body) left
   committing_so_far [] [] f l = inl (held l)
   committing_so_far [] (call ∷ some) f l = absurd f
   committing_so_far (byte ∷ more) some f l =
@@ -340,7 +340,7 @@ after_opening file bodies opening start local rounds done left finds has all f l
 
 -- in the course of an opening
 in_cutting : (file tail : List ℕ) (bodies : List (List ℕ)) (done : List DiskCall) (left : List ℕ) → file ≡ front bodies ++ 46 ∷ tail → IsFrontOf (cutting (length (front bodies)) tail) done
-    → LeftBy file (λ c. c ≡ file) done left → Stands bodies left
+    → LeftBy file (λ c. c ≡ file) done left → HasBlocks bodies left
 in_cutting file [] bodies [] left is f l = ([], l ∙ is)
 in_cutting file [] bodies (call ∷ done) left is f l = absurd f
 in_cutting file (byte ∷ tail) bodies done left is f l = mended file (λ c. c ≡ file) bodies (byte ∷ tail, is) (λ c same. same) done left f l

@@ -9,7 +9,7 @@ use Rattle.ft_model.specs.Log.{Log, empty_log}
 use Rattle.ft_model.proofs.Lists.{all_weaker}
 use Rattle.logger_deaths.specs.Kept.{log_after_all}
 use Rattle.disk.specs.declared.calls.DiskCall.{DiskCall}
-use Rattle.journal.specs.Format.{magic, blocks, front, Stands, IsSmall}
+use Rattle.journal.specs.Format.{magic, blocks, front, HasBlocks, IsSmall}
 use Rattle.journal.proofs.Reading.{reads_once}
 use Rattle.kept_log.specs.Says.{Says, AllSay, AreKept, IsRound}
 use Rattle.kept_log.specs.Kept.{HasLog}
@@ -53,7 +53,7 @@ one_log bodies others end at log next same h k =
     k.log_is ∙ (ap (log_after_all empty_log) (all_say_once bodies k.messages h.messages (subst (λ b. AllSay b k.messages) same k.kept.say) h.kept.say) ∙ sym h.log_is)
 
 -- whoever opens a file that stands for blocks finds their log
-pub finds_one : (left : List ℕ) (bodies others : List (List ℕ)) (opening : List DiskCall) (end at : ℕ) (log next : Log) → Stands bodies left → HasLog bodies end log
+pub finds_one : (left : List ℕ) (bodies others : List (List ℕ)) (opening : List DiskCall) (end at : ℕ) (log next : Log) → HasBlocks bodies left → HasLog bodies end log
     → Finds left others opening → HasLog others at next → next ≡ log
 finds_one left bodies others opening end at log next stands h (inl begun) k =
     let count : length left ≡ length (front bodies) + length (46 ∷ stands.0) = ap length stands.1 ∙ length-append (front bodies) (46 ∷ stands.0) in

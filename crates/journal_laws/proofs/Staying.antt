@@ -8,7 +8,7 @@ use Rattle.ft_io.specs.Key.{key_eq}
 use Rattle.ft_io.proofs.Choices.{by_cases, if_false}
 use Rattle.seq_arith.specs.Message.{Message, Body, is_answer}
 use Rattle.seq_arith.specs.Message.Body.{OpenMsg, DataMsg, ReadMsg, DoneMsg}
-use Rattle.ft_model.specs.Log.{Log, Entry, log_after, heard, with_body, with_entry, entry_of, with_part, with_read, is_next_read, is_hello}
+use Rattle.ft_model.specs.Log.{Log, Entry, log_after, with_message, with_body, with_entry, entry_of, with_part, with_read, is_next_read, is_hello}
 use Rattle.ft_model.proofs.Asked.{entry_keys, distinct_after}
 use Rattle.ft_model.proofs.Keys.{AreDistinct, has_key}
 use Rattle.ft_model.proofs.Lists.{same_key}
@@ -61,11 +61,11 @@ pub stays : (log : Log) (message : Message) → AreDistinct (entry_keys log) →
 unfolding changes log_after
 stays log message d none =
     by_cases (is_answer message.body || nat_lt message.boot log.boot)
-    (λ t. if_true (is_answer message.body || nat_lt message.boot log.boot) log (heard message log) t)
+    (λ t. if_true (is_answer message.body || nat_lt message.boot log.boot) log (with_message message log) t)
     (λ t. let parts = or_parts (is_answer message.body) (nat_lt message.boot log.boot) t in
     let rest = and_false (not (is_answer message.body)) _ (ap not parts.0) none in
     let above : log.boot ≤ message.boot = ltb-false message.boot log.boot parts.1 in
-    if_false (is_answer message.body || nat_lt message.boot log.boot) log (heard message log) t ∙
+    if_false (is_answer message.body || nat_lt message.boot log.boot) log (with_message message log) t ∙
     by_cases (is_hello message.body)
     (λ h. let no : nat_lt log.boot message.boot ≡ false = sym (if_true (is_hello message.body) _ _ h) ∙ rest in
     let below : message.boot ≤ log.boot = ltb-false log.boot message.boot no in

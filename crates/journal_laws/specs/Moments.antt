@@ -14,7 +14,7 @@ use Rattle.disk.specs.Left.{failed}
 use Rattle.disk.specs.declared.calls.DiskCall.{DiskCall}
 use Rattle.disk.specs.declared.calls.DeskCall.{DeskCall}
 use Rattle.disk.specs.declared.calls.DeskCall.TheVariants.{OnLink, OnDisk}
-use Rattle.journal.specs.Format.{Stands}
+use Rattle.journal.specs.Format.{HasBlocks}
 use Rattle.kept_log.specs.Kept.{HasLog}
 use Rattle.kept_log.specs.Opening.{Finds}
 
@@ -79,7 +79,7 @@ pub record Outlives (before : Log) (calls : List DeskCall) (left : List ℕ) : T
   pub bodies : List (List ℕ)
   pub end : ℕ
   pub log : Log
-  pub stands : Stands bodies left
+  pub stands : HasBlocks bodies left
   pub has_log : HasLog bodies end log
   pub comes_back : ComesBack before log calls
   pub only : (others : List (List ℕ)) (opening : List DiskCall) (at : ℕ) (next : Log) → Finds left others opening → HasLog others at next → next ≡ log

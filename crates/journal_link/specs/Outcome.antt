@@ -8,9 +8,9 @@ use Rattle.journal_link.specs.Ends.{code_of, text_of}
 use Rattle.journal_link.specs.Keeping.{IsKeeper, KeeperStops}
 use Rattle.journal_link.specs.declared.role.JournalRole.{JournalRole}
 
-abbrev pub Keeps : JournalRole → Option (List ℕ) → Result (Unit {0}) JournalEnd → (old new : Option (List DeskCall)) → (out_old out_new : Option (List ℕ)) → Type 0
-Keeps role file (Ok _) old new out_old out_new = IsKeeper role file old new (Appends out_old out_new)
-Keeps role file (Err end) old new out_old out_new = KeeperStops role file old new out_old out_new end
+abbrev pub KeepsJournal : JournalRole → Option (List ℕ) → Result (Unit {0}) JournalEnd → (old new : Option (List DeskCall)) → (out_old out_new : Option (List ℕ)) → Type 0
+KeepsJournal role file (Ok _) old new out_old out_new = IsKeeper role file old new (Appends out_old out_new)
+KeepsJournal role file (Err end) old new out_old out_new = KeeperStops role file old new out_old out_new end
 
 -- the status of an end, and what is written of it to err: the complete line, or a prefix of it at status 5
 abbrev pub IsTold : Result (Unit {0}) JournalEnd → (err_old err_new : Option (List ℕ)) → (code : ℕ) → Type 0
@@ -21,7 +21,7 @@ IsTold (Err end) err_old err_new code =
 -- what was done and what is reported agree
 pub record HasKept (role : JournalRole) (file : Option (List ℕ)) (old new : Option (List DeskCall)) (out_old out_new err_old err_new : Option (List ℕ)) (code : ℕ) : Type 0 where
   pub end : Result (Unit {0}) JournalEnd
-  pub keeps : Keeps role file end old new out_old out_new
+  pub keeps : KeepsJournal role file end old new out_old out_new
   pub told : IsTold end err_old err_new code
 
 -- the statuses of such a logger

@@ -3,7 +3,7 @@ use Rattle.std.proofs.Common.{◌≡◌, ◌∙◌, ◌⊎◌, inl, inr, ℕ, �
 use Rattle.std.proofs.lemmas.List.{drop_at}
 use Rattle.disk.specs.declared.calls.DiskCall.{DiskCall}
 use Rattle.disk.specs.Left.{seen_after, MayLeave, LeftBy, IsFrontOf}
-use Rattle.journal.specs.Format.{magic, front, Stands, at_rest, IsAtRest, keeping, seen_by}
+use Rattle.journal.specs.Format.{magic, front, HasBlocks, at_rest, IsAtRest, keeping, seen_by}
 use Rattle.journal.proofs.Deaths.{before_or_after, stays, mended, mended_rests}
 use Rattle.kept_log.specs.Kept.{committing, with_round}
 use Rattle.kept_log.specs.Opening.{making, cutting, IsBegun, IsWhole, Finds}
@@ -41,23 +41,23 @@ none_done file Held [] left f l all = all l
 none_done file Held (call ∷ done) left f l all = absurd f
 
 cut_keeps : (file tail left : List ℕ) (bodies : List (List ℕ)) (done : List DiskCall) → file ≡ front bodies ++ 46 ∷ tail → IsFrontOf (cutting (length (front bodies)) tail) done
-    → LeftBy file (λ c. c ≡ file) done left → Stands bodies left
+    → LeftBy file (λ c. c ≡ file) done left → HasBlocks bodies left
 cut_keeps file [] left bodies done is f l = none_done file (λ c. c ≡ file) done left f l (λ same. ([], same ∙ is))
 cut_keeps file (byte ∷ tail) left bodies done is f l = mended file (λ c. c ≡ file) bodies (byte ∷ tail, is) (λ c held. held) done left f l
 
 pub opening_keeps : (file left : List ℕ) (bodies : List (List ℕ)) (calls done : List DiskCall) → IsWhole file bodies calls → IsFrontOf calls done → LeftBy file (λ c. c ≡ file) done left
-    → Stands bodies left
+    → HasBlocks bodies left
 opening_keeps file left bodies calls done whole f l = cut_keeps file whole.tail left bodies done whole.is (subst (λ cs. IsFrontOf cs done) whole.calls_are f) l
 
 -- one commit, and those before it
 last_keeps : (file : List ℕ) (Held : List ℕ → Type 0) (bodies : List (List ℕ)) (last : List ℕ) (done : List DiskCall) (left : List ℕ) → IsAtRest file Held bodies
-    → IsFrontOf (committing (length (front bodies)) last) done → LeftBy file Held done left → Stands bodies left ⊎ Stands (with_round bodies last) left
+    → IsFrontOf (committing (length (front bodies)) last) done → LeftBy file Held done left → HasBlocks bodies left ⊎ HasBlocks (with_round bodies last) left
 last_keeps file Held bodies [] done left rest f l = none_done file Held done left f l (λ held. inl ([], rest.1 left held ∙ rest.0))
 last_keeps file Held bodies (byte ∷ last) done left rest f l = before_or_after file Held bodies (byte ∷ last) rest done left f l
 
 rounds_keep : (file : List ℕ) (Held : List ℕ → Type 0) (bodies rounds : List (List ℕ)) (last : List ℕ) (done : List DiskCall) (left : List ℕ) → IsAtRest file Held bodies
     → IsFrontOf (committing (length (front (with_rounds bodies rounds))) last) done → LeftBy file Held (committed bodies rounds ++ done) left
-    → Stands (with_rounds bodies rounds) left ⊎ Stands (with_round (with_rounds bodies rounds) last) left
+    → HasBlocks (with_rounds bodies rounds) left ⊎ HasBlocks (with_round (with_rounds bodies rounds) last) left
 rounds_keep file Held bodies [] last done left rest f l = last_keeps file Held bodies last done left rest f l
 rounds_keep file Held bodies ([] ∷ rounds) last done left rest f l = rounds_keep file Held bodies rounds last done left rest f l
 rounds_keep file Held bodies ((byte ∷ round) ∷ rounds) last done left rest f l =
@@ -68,13 +68,13 @@ rounds_keep file Held bodies ((byte ∷ round) ∷ rounds) last done left rest f
 
 pub life_keeps : (file left : List ℕ) (bodies rounds : List (List ℕ)) (last : List ℕ) (calls done : List DiskCall) → Finds file bodies calls
     → IsFrontOf (committing (length (front (with_rounds bodies rounds))) last) done → LeftBy file (λ c. c ≡ file) (calls ++ (committed bodies rounds ++ done)) left
-    → Stands (with_rounds bodies rounds) left ⊎ Stands (with_round (with_rounds bodies rounds) last) left
+    → HasBlocks (with_rounds bodies rounds) left ⊎ HasBlocks (with_round (with_rounds bodies rounds) last) left
 life_keeps file left bodies rounds last calls done finds f l =
     rounds_keep (seen_by file calls) (LeftBy file (λ c. c ≡ file) calls) bodies rounds last done left (opened_rests file bodies calls finds) f
     (left_append file (λ c. c ≡ file) calls (committed bodies rounds ++ done) left l)
 
 -- what stands is opened
-pub stands_whole : (file : List ℕ) (bodies : List (List ℕ)) → Stands bodies file → length file ≤ length (front bodies) + 381702 → (calls : List DiskCall) × IsWhole file bodies calls
+pub stands_whole : (file : List ℕ) (bodies : List (List ℕ)) → HasBlocks bodies file → length file ≤ length (front bodies) + 381702 → (calls : List DiskCall) × IsWhole file bodies calls
 stands_whole file bodies (tail, is) few =
     let long : length file ≡ length (front bodies) + length (46 ∷ tail) = ap length is ∙ length-append (front bodies) (46 ∷ tail) in
     let torn : length tail ≤ 381701 = omega (arith, long, few) in

@@ -88,13 +88,13 @@ none_short bytes (message ∷ messages) short (first, rest, is, reads, says) =
     ]
 
 -- what says messages and is not empty begins with one, of the length that stands in it
-pub record GoesOn (bytes : List ℕ) (n : ℕ) : Type 0 where
+pub record BeginsWithMessage (bytes : List ℕ) (n : ℕ) : Type 0 where
   pub first : Message
   pub others : List Message
   pub reads : reading (take n bytes) ≡ Ok first
   pub says : Says (drop n bytes) others
 
-pub first_read : (bytes : List ℕ) (n : ℕ) (messages : List Message) → (bytes ≡ [] → ⊥) → n ≡ word_at bytes 4 → Says bytes messages → GoesOn bytes n
+pub first_read : (bytes : List ℕ) (n : ℕ) (messages : List Message) → (bytes ≡ [] → ⊥) → n ≡ word_at bytes 4 → Says bytes messages → BeginsWithMessage bytes n
 first_read bytes n [] some at says = absurd (some says)
 first_read bytes n (message ∷ messages) some at (first, rest, is, reads, says) =
     let f = first_is bytes first rest message is reads in

@@ -4,7 +4,7 @@ ghost use Rattle.std.specs.Prelude.{◌≡◌, ◌⊎◌, ◌≤◌, ◌+◌, �
 ghost use Rattle.seq_arith.specs.Message.{Message};
 ghost use Rattle.disk.specs.declared.calls.DiskCall.{DiskCall};
 ghost use Rattle.disk.specs.Left.{IsFrontOf, LeftBy};
-ghost use Rattle.journal.specs.Format.{Stands, front, at_rest};
+ghost use Rattle.journal.specs.Format.{HasBlocks, front, at_rest};
 ghost use Rattle.kept_log.specs.Says.{AreKept};
 ghost use Rattle.kept_log.specs.Kept.{committing, with_round};
 ghost use Rattle.kept_log.specs.Opening.{Finds, IsWhole, IsDamaged};
@@ -29,7 +29,7 @@ pub fn an_opening_keeps_the_blocks()
     ensures rests { (file left : List ℕ) (bodies : List (List ℕ)) (calls : List DiskCall)
         → Finds file bodies calls → LeftBy file (λ c. c ≡ file) calls left → left ≡ at_rest bodies }
     ensures any_moment { (file left : List ℕ) (bodies : List (List ℕ)) (calls done : List DiskCall)
-        → IsWhole file bodies calls → IsFrontOf calls done → LeftBy file (λ c. c ≡ file) done left → Stands bodies left }
+        → IsWhole file bodies calls → IsFrontOf calls done → LeftBy file (λ c. c ≡ file) done left → HasBlocks bodies left }
 {}
 
 /// A logger opens a file, commits rounds, and dies at any moment of one more commit. It leaves a file with the blocks that it found and all rounds that it has
@@ -38,11 +38,11 @@ pub fn a_life_keeps_its_rounds()
     ensures { (file left : List ℕ) (bodies rounds : List (List ℕ)) (last : List ℕ) (calls done : List DiskCall)
         → Finds file bodies calls → IsFrontOf (committing (length (front (with_rounds bodies rounds))) last) done
         → LeftBy file (λ c. c ≡ file) (calls ++ (committed bodies rounds ++ done)) left
-        → Stands (with_rounds bodies rounds) left ⊎ Stands (with_round (with_rounds bodies rounds) last) left }
+        → HasBlocks (with_rounds bodies rounds) left ⊎ HasBlocks (with_round (with_rounds bodies rounds) last) left }
 {}
 
 /// A file that has blocks is opened with them, if a death has left no more bytes after the closed gate than the longest block has.
 pub fn what_stands_is_opened()
-    ensures { (file : List ℕ) (bodies : List (List ℕ)) → Stands bodies file → length file ≤ length (front bodies) + 381702
+    ensures { (file : List ℕ) (bodies : List (List ℕ)) → HasBlocks bodies file → length file ≤ length (front bodies) + 381702
         → (calls : List DiskCall) × IsWhole file bodies calls }
 {}

@@ -10,7 +10,7 @@ use Rattle.ft_io.specs.Key.{key_eq}
 use Rattle.ft_io.proofs.Choices.{holds_if, if_false}
 use Rattle.seq_arith.specs.Message.{Numbers, Part, Body, Message, is_answer}
 use Rattle.seq_arith.specs.Message.Body.{HelloMsg, OpenMsg, DataMsg, ReadMsg, DoneMsg, StaleMsg}
-use Rattle.ft_model.specs.Log.{Log, Entry, new_entry, opened, with_entry, with_bytes, with_its_fin, with_part, with_read, is_next_read, with_body, is_hello, log_after, answer_to, answer_body, told}
+use Rattle.ft_model.specs.Log.{Log, Entry, new_entry, opened, with_entry, with_bytes, with_its_fin, with_part, with_read, is_next_read, with_body, is_hello, log_after, answer_to, answer_body, answer_from}
 use Rattle.ft_model.proofs.Lists.{key_is}
 use Rattle.ft_model.proofs.LogAnswers.{kept_boot, LogWent, log_went}
 use Rattle.ft_model.proofs.LogAnswers.LogWent.{ignored, raised, changed}
@@ -163,15 +163,15 @@ log_again log message = ⊎_elim (λ same. same) (λ ignored. ap (λ l. log_afte
 abbrev pub body_by : ℕ → Log → Message → Option Body
 body_by boot after message =
     if is_answer message.body then None
-    else (if nat_lt message.boot boot then Some (StaleMsg boot) else (if is_hello message.body || message.boot == boot then told message.body after else None))
+    else (if nat_lt message.boot boot then Some (StaleMsg boot) else (if is_hello message.body || message.boot == boot then answer_from message.body after else None))
 
 hello_told : (boot : ℕ) (after : Log) (message : Message) → boot ≤ message.boot → is_hello message.body ≡ true
-    → body_by boot after message ≡ (if is_answer message.body then None else told message.body after)
+    → body_by boot after message ≡ (if is_answer message.body then None else answer_from message.body after)
 hello_told boot after message le hello =
     let current : nat_lt message.boot boot ≡ false = grind (arith, nat_tests, le) in
     ap {A = Option Body} (λ o. if is_answer message.body then None else o)
-    (if_false (nat_lt message.boot boot) (Some (StaleMsg boot)) (if is_hello message.body || message.boot == boot then told message.body after else None) current
-    ∙ if_true (is_hello message.body || message.boot == boot) (told message.body after) None (ap (λ b. b || message.boot == boot) hello))
+    (if_false (nat_lt message.boot boot) (Some (StaleMsg boot)) (if is_hello message.body || message.boot == boot then answer_from message.body after else None) current
+    ∙ if_true (is_hello message.body || message.boot == boot) (answer_from message.body after) None (ap (λ b. b || message.boot == boot) hello))
 
 same_body : (log : Log) (message : Message) (after : Log) → LogWent log message after → body_by after.boot after message ≡ body_by log.boot after message
 same_body log message after (ignored e) = ap (λ (l : Log). body_by l.boot after message) e

@@ -12,7 +12,7 @@ use Rattle.ft_io.specs.Key.{key_eq}
 use Rattle.ft_io.proofs.Choices.{by_cases, same_some, if_false, holds_either_way}
 use Rattle.seq_arith.specs.Message.{Message, Body, Part, Numbers, is_answer}
 use Rattle.seq_arith.specs.Message.Body.{OpenMsg, DataMsg, ReadMsg, DoneMsg}
-use Rattle.ft_model.specs.Log.{Log, Entry, log_after, heard, with_body, with_entry, entry_of, opened, new_entry, with_bytes, with_its_fin, with_part, with_read, is_next_read, is_hello}
+use Rattle.ft_model.specs.Log.{Log, Entry, log_after, with_message, with_body, with_entry, entry_of, opened, new_entry, with_bytes, with_its_fin, with_part, with_read, is_next_read, is_hello}
 use Rattle.logger_store.specs.Changes.{part_changes, body_changes, changes}
 use Rattle.logger_store.proofs.Entries.{AreKept, changed, none_changed, one_changed, log_of}
 
@@ -182,7 +182,7 @@ boot_differs boot log larger same =
     omega (arith, ltb-true log.boot boot larger, is)
 
 heard_differs : (message : Message) (log : Log) → (if is_hello message.body then nat_lt log.boot message.boot else message.boot == log.boot && body_changes message.body log) ≡ true
-    → (nat_lt message.boot log.boot ≡ false) × (heard message log ≡ log → ⊥)
+    → (nat_lt message.boot log.boot ≡ false) × (with_message message log ≡ log → ⊥)
 heard_differs message log some =
     by_cases (is_hello message.body)
     (λ hello.
@@ -205,7 +205,7 @@ a_change_differs log message some same =
     let parts = and_parts (not (is_answer message.body)) _ some in
     let asks : is_answer message.body ≡ false = not-true (is_answer message.body) parts.0 in
     let differs = heard_differs message log parts.1 in
-    differs.1 (sym (if_false (is_answer message.body || nat_lt message.boot log.boot) log (heard message log) (or_from _ _ asks differs.0)) ∙ same)
+    differs.1 (sym (if_false (is_answer message.body || nat_lt message.boot log.boot) log (with_message message log) (or_from _ _ asks differs.0)) ∙ same)
 
 pub own_differs : (log : Log) (message : Message) → is_answer message.body ≡ false → is_hello message.body ≡ false → message.boot ≡ log.boot → body_changes message.body log ≡ true
     → log_after log message ≡ log → ⊥

@@ -7,7 +7,7 @@ use Rattle.ft_io.specs.declared.Key.{Key}
 use Rattle.ft_io.specs.Key.{key_eq}
 use Rattle.seq_arith.specs.Message.{Numbers, Body, Message, is_answer}
 use Rattle.seq_arith.specs.Message.Body.{HelloMsg, SummaryMsg, ListMsg, EntryMsg, BytesMsg, PartMsg, CutsMsg, LensMsg, OpenMsg, OpenedMsg, DataMsg, StableMsg, ReadMsg, ReadsMsg, DoneMsg, EndedMsg, StaleMsg, FullMsg}
-use Rattle.ft_model.specs.Log.{Log, Entry, log_after, answer_to, told, with_body, with_part, with_read, new_entry, with_entry, part_of, lens_of, head_of, kept_of, on_entry, opened_answer, is_hello}
+use Rattle.ft_model.specs.Log.{Log, Entry, log_after, answer_to, answer_from, with_body, with_part, with_read, new_entry, with_entry, part_of, lens_of, head_of, kept_of, on_entry, opened_answer, is_hello}
 use Rattle.ft_model.proofs.PlayableLemmas.{same_either_way}
 use Rattle.logger_store.specs.Pages.{changed_at, pages, zeroed, reads_on, took, without}
 use Rattle.logger_store.specs.Stored.{acknowledging, bytes_of, lengths_of}
@@ -266,7 +266,7 @@ more_acknowledged t log key units a =
 
 -- what is told once both logs have taken a message
 told_alike : (trims : List Trim) (body : Body) (left log : Log) → AreBoth trims left log → is_trimmed (record { log = left; trims = trims }) body ≡ false
-    → told body left ≡ told body log
+    → answer_from body left ≡ answer_from body log
 told_alike trims HelloMsg left log a past = ap (λ n. Some (SummaryMsg n)) (same_count trims left.entries log.entries a.entries)
 told_alike trims (ListMsg i) left log a past = same_at (on_entry (λ e. Some (EntryMsg i (head_of e)))) (heads_alike i) i trims left.entries log.entries a.entries
 told_alike trims (BytesMsg key offset) left log a past =
@@ -349,14 +349,14 @@ answers_alike : (t : TrimmedLog) (log : Log) (message : Message) → IsLeftOf t 
 unfolding answer_to
 answers_alike t log message a past =
     let both = both_after t.trims message t.log log (record { boot = a.boot; entries = a.entries }) in
-    let after : (is_hello message.body || message.boot == log.boot) ≡ true → told message.body (log_after t.log message) ≡ told message.body (log_after log message) =
+    let after : (is_hello message.body || message.boot == log.boot) ≡ true → answer_from message.body (log_after t.log message) ≡ answer_from message.body (log_after log message) =
     λ own. told_alike t.trims message.body (log_after t.log message) (log_after log message) both
     (same_question t message.boot message.body
     ∙ asks_nothing (is_hello message.body) (message.boot == log.boot) (is_trimmed t message.body) (hello_asks_nothing t message.body) past own) in
-    let own : (if is_hello message.body || message.boot == t.log.boot then told message.body (log_after t.log message) else None)
-    ≡ (if is_hello message.body || message.boot == log.boot then told message.body (log_after log message) else None) =
-    if_told (is_hello message.body || message.boot == t.log.boot) (is_hello message.body || message.boot == log.boot) (told message.body (log_after t.log message))
-    (told message.body (log_after log message)) (ap (λ b. is_hello message.body || message.boot == b) a.boot) after in
+    let own : (if is_hello message.body || message.boot == t.log.boot then answer_from message.body (log_after t.log message) else None)
+    ≡ (if is_hello message.body || message.boot == log.boot then answer_from message.body (log_after log message) else None) =
+    if_told (is_hello message.body || message.boot == t.log.boot) (is_hello message.body || message.boot == log.boot) (answer_from message.body (log_after t.log message))
+    (answer_from message.body (log_after log message)) (ap (λ b. is_hello message.body || message.boot == b) a.boot) after in
     ap (option_map (λ body. let m : Message = record { boot = message.boot; body = body } in m))
     (λ i. if is_answer message.body then None else (if nat_lt message.boot (a.boot i) then Some (StaleMsg (a.boot i)) else own i))
 

@@ -3,7 +3,7 @@
 ghost use Rattle.std.specs.Prelude.{[], ◌≡◌, ◌≤◌, ◌<◌, ◌^◌, ◌+◌, ℕ, Some, None, true, false, option_map, option_copied, OnOk, OnErr, IsOk, IfSome, length};
 ghost use Rattle.std.specs.Prelude.{slice_get, slice_index};
 ghost use Rattle.seq_arith.specs.Message.{is_answer};
-ghost use Rattle.ft_model.specs.Log.{Entry, Log, log_after, answer_to, empty_log, opened, with_body, told, is_hello, entry_of, with_entry};
+ghost use Rattle.ft_model.specs.Log.{Entry, Log, log_after, answer_to, empty_log, opened, with_body, answer_from, is_hello, entry_of, with_entry};
 ghost use Rattle.ft_model.specs.Log.{with_part, with_read, head_of};
 ghost use Rattle.std.specs.Prelude.{◌||◌, nat_le};
 ghost use Rattle.std.specs.List.{list_any};
@@ -400,7 +400,7 @@ impl LogStore {
     fn tell(&self, m: &Msg<'_>, out: &mut MsgOut)
         requires sendable { IsSendable m.now }
         requires empty { out.old ≡ [] }
-        ensures { out.new ≡ answer_bytes (with_boot m.now.boot (told (body_of m.now.body) self.now)) }
+        ensures { out.new ≡ answer_bytes (with_boot m.now.boot (answer_from (body_of m.now.body) self.now)) }
     {
         match m.body {
             Body::HelloMsg => out.put(&Msg {

@@ -32,7 +32,7 @@ use Rattle.net_schedule.specs.Logs.{log_in, loggers_in, log_reads, logs_hear}
 use Rattle.net_schedule.specs.declared.logs.Logs.{Logs}
 use Rattle.net_schedule.specs.declared.logs.Logs.TheVariants.{One, Two}
 use Rattle.net_schedule.specs.Premises.{Premises, ComesAs}
-use Rattle.net_schedule.specs.Standing.{Kept, WorldStands, GoesOn}
+use Rattle.net_schedule.specs.Standing.{Kept, WorldStands, ReachesNext}
 use Rattle.net_schedule.proofs.Goings.{client_hears, log_hears, nothing_happens, actors_of, one_goes}
 use Rattle.net_schedule.proofs.Peers.{keys_in, first_of, apart_distinct, at_first, by_number, changed_past}
 
@@ -90,7 +90,7 @@ module _ {State : Type 0} (service : Machine State) where
 
   -- what the only logger makes of them
   reads_log : (w w' : Kept State) (v : Seen) (r : Result Message BadMsg) → WorldStands service w v
-      → w' ≡ record w { log = (log_reads r (w.log, w.packets)).0; packets = (log_reads r (w.log, w.packets)).1 } → GoesOn service (LogReads r v) v w'
+      → w' ≡ record w { log = (log_reads r (w.log, w.packets)).0; packets = (log_reads r (w.log, w.packets)).1 } → ReachesNext service (LogReads r v) v w'
   reads_log w w' v (Ok message) st e' = log_hears service w w' v message st e'
   reads_log w w' v (Err bad) st e' = one_goes service (NothingHappens v) w w' v st (nothing_happens service w w' v (actors_of service w v st) e')
 
@@ -100,7 +100,7 @@ module _ {State : Type 0} (service : Machine State) where
 
   brings_to_log : (w w' : Kept State) (v : Seen) (packet : Packet) (bytes : List ℕ) (way : Way) (logs : Logs) → WorldStands service w v → way ≡ ServerToLogger
       → way ≡ way_along w.keys (wire_of packet) → w.log ≡ log_in logs → w.loggers ≡ loggers_in logs → w' ≡ with_logs w (logs_hear way bytes (logs, w.packets))
-      → GoesOn service (DeliveredAs service v packet bytes) v w'
+      → ReachesNext service (DeliveredAs service v packet bytes) v w'
   brings_to_log w w' v packet bytes way (Two loggers) st is along log two e' = not_two loggers w.loggers two st.single
   brings_to_log w w' v (To_logger message) bytes way (One log) st is along same two e' =
       reads_log w w' v (messages.reading bytes) st
@@ -121,7 +121,7 @@ module _ {State : Type 0} (service : Machine State) where
 
   pub brings_logger : (w w' : Kept State) (v : Seen) (packet : Packet) (bytes : List ℕ) (logs : Logs) → WorldStands service w v
       → ServerToLogger ≡ way_along w.keys (wire_of packet) → w.log ≡ log_in logs → w.loggers ≡ loggers_in logs → w' ≡ with_logs w (logs_hear ServerToLogger bytes (logs, w.packets))
-      → GoesOn service (DeliveredAs service v packet bytes) v w'
+      → ReachesNext service (DeliveredAs service v packet bytes) v w'
   brings_logger w w' v packet bytes logs st way log two e' = brings_to_log w w' v packet bytes ServerToLogger logs st refl way log two e'
 
   -- no packet of a world with one logger goes between two
@@ -176,7 +176,7 @@ module _ {State : Type 0} (service : Machine State) where
   as_whole v (To_logger message) sent after wire h = subst (λ r. LogReads r v sent after) (message_is_read message wire.0) h
   as_whole v (From_logger message) sent after wire h = subst (λ r. ServerMoves service (message_or_noise r) v sent after) (message_is_read message wire.0) h
 
-  pub goes_whole : (v : Seen) (packet : Packet) (w' : Kept State) → HasWire packet → GoesOn service (DeliveredAs service v packet (wire_of packet).bytes) v w' → GoesOn service (Delivered service v packet) v w'
+  pub goes_whole : (v : Seen) (packet : Packet) (w' : Kept State) → HasWire packet → ReachesNext service (DeliveredAs service v packet (wire_of packet).bytes) v w' → ReachesNext service (Delivered service v packet) v w'
   goes_whole v packet w' wire g = record { sent = g.sent; world = g.world; goes = as_whole v packet g.sent g.world wire g.goes; stands = g.stands; grew = g.grew }
 
   -- with a changed bit they are noise

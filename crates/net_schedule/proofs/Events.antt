@@ -24,7 +24,7 @@ use Rattle.net_schedule.specs.Actors.{ActorsStand, ActorsGoOn, ActorsAdvance}
 use Rattle.net_schedule.specs.AtNumber.{at_number}
 use Rattle.net_schedule.specs.Carried.{with_wires, way_along}
 use Rattle.net_schedule.specs.Premises.{Premises, ComesAs}
-use Rattle.net_schedule.specs.Standing.{Kept, Server, WorldStands, GoesOn, Advances, Refuses, IsForMemory}
+use Rattle.net_schedule.specs.Standing.{Kept, Server, WorldStands, ReachesNext, Advances, Refuses, IsForMemory}
 use Rattle.net_schedule.specs.declared.end.StepEnd.{StepEnd}
 use Rattle.net_schedule.specs.declared.end.StepEnd.TheVariants.{NoMemory, BadEvent, PacketLimit}
 use Rattle.net_schedule.proofs.Keeping.{Found, found, none_sent}
@@ -146,12 +146,12 @@ module _ {State : Type 0} (service : Machine State) where
   -- a packet is delivered
   pub delivers : (w w' : Kept State) (v : Seen) (n : ℕ) (way : Way) (bytes : List ℕ) → WorldStands service w v → Premises service v
       → at_number w.packets.ways n ≡ Some way → at_number w.packets.bytes n ≡ Some bytes
-      → ((packet : Packet) → way ≡ way_along w.keys (wire_of packet) → ComesAs v packet bytes → GoesOn service (DeliveredAs service v packet bytes) v w') → Advances service v (events.Deliver n) w'
+      → ((packet : Packet) → way ≡ way_along w.keys (wire_of packet) → ComesAs v packet bytes → ReachesNext service (DeliveredAs service v packet bytes) v w') → Advances service v (events.Deliver n) w'
   delivers w w' v n way bytes st p e f brings =
       let x : Found w.keys v.packets n way bytes = found w.keys w.packets v.packets n way bytes st.packets e f in
       let wire : HasWire x.packet = all_numbered HasWire v.packets n x.packet p.wires x.is in
       let came : ComesAs v x.packet bytes = subst (ComesAs v x.packet) (sym x.spells) (comes_whole service v x.packet wire (n, x.is)) in
-      let g : GoesOn service (Delivered service v x.packet) v w' = goes_whole service v x.packet w' wire (subst (λ b. GoesOn service (DeliveredAs service v x.packet b) v w') x.spells (brings x.packet x.goes came)) in
+      let g : ReachesNext service (Delivered service v x.packet) v w' = goes_whole service v x.packet w' wire (subst (λ b. ReachesNext service (DeliveredAs service v x.packet b) v w') x.spells (brings x.packet x.goes came)) in
       record {
         happens = record { sent = g.sent; world = g.world; goes = (x.packet, x.is, g.goes); stands = g.stands; grew = g.grew };
         allowed = rw x.is refl;
@@ -174,15 +174,15 @@ module _ {State : Type 0} (service : Machine State) where
   -- .. or with a changed bit
   pub flips : (w w' : Kept State) (v : Seen) (n bit : ℕ) (way : Way) (bytes : List ℕ) → WorldStands service w v → Premises service v
       → at_number w.packets.ways n ≡ Some way → at_number w.packets.bytes n ≡ Some bytes → bit < 8 * length bytes
-      → ((packet : Packet) → way ≡ way_along w.keys (wire_of packet) → ComesAs v packet (flipped bit bytes) → GoesOn service (DeliveredAs service v packet (flipped bit bytes)) v w')
+      → ((packet : Packet) → way ≡ way_along w.keys (wire_of packet) → ComesAs v packet (flipped bit bytes) → ReachesNext service (DeliveredAs service v packet (flipped bit bytes)) v w')
       → Advances service v (events.Flip n bit) w'
   flips w w' v n bit way bytes st p e f within brings =
       let x : Found w.keys v.packets n way bytes = found w.keys w.packets v.packets n way bytes st.packets e f in
       let wire : HasWire x.packet = all_numbered HasWire v.packets n x.packet p.wires x.is in
       let inside : bit < 8 * length (wire_of x.packet).bytes = subst (λ b. bit < 8 * length b) x.spells within in
       let came : ComesAs v x.packet (flipped bit bytes) = subst (λ b. ComesAs v x.packet (flipped bit b)) (sym x.spells) (comes_changed service v x.packet bit wire inside) in
-      let g : GoesOn service (DeliveredAs service v x.packet (flipped bit (wire_of x.packet).bytes)) v w' =
-      subst (λ b. GoesOn service (DeliveredAs service v x.packet (flipped bit b)) v w') x.spells (brings x.packet x.goes came) in
+      let g : ReachesNext service (DeliveredAs service v x.packet (flipped bit (wire_of x.packet).bytes)) v w' =
+      subst (λ b. ReachesNext service (DeliveredAs service v x.packet (flipped bit b)) v w') x.spells (brings x.packet x.goes came) in
       let has : nat_le (8 * length (wire_of x.packet).bytes) bit ≡ false = grind (arith, nat_tests) in
       record {
         happens = record { sent = g.sent; world = g.world; goes = (x.packet, x.is, record { wire = wire; within = inside; comes = g.goes }); stands = g.stands; grew = g.grew };

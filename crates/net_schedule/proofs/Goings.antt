@@ -22,7 +22,7 @@ use Rattle.server_node.specs.Stages.{StageStands, NodeGoes}
 use Rattle.net_schedule.specs.Actors.{ActorsStand, ActorsGoOn, ActorsAdvance}
 use Rattle.net_schedule.specs.Carried.{carried, with_wires, with_answer}
 use Rattle.net_schedule.specs.Premises.{Premises}
-use Rattle.net_schedule.specs.Standing.{Kept, Server, IsAt, NodeStands, WorldStands, GoesOn, Advances}
+use Rattle.net_schedule.specs.Standing.{Kept, Server, IsAt, NodeStands, WorldStands, ReachesNext, Advances}
 use Rattle.net_schedule.proofs.Keeping.{sent_kept, none_sent, answer_kept}
 use Rattle.net_schedule.proofs.Peers.{keys_stay}
 
@@ -147,7 +147,7 @@ module _ {State : Type 0} (service : Machine State) where
   pub actors_of : (w : Kept State) (v : Seen) → WorldStands service w v → ActorsStand service w v
   actors_of w v st = record { server = st.server; keys = st.keys; clients = st.clients; boot = st.boot; node = st.node }
 
-  pub one_goes : (Goes : List Packet → Seen → Type 0) (w w' : Kept State) (v : Seen) → WorldStands service w v → ActorsGoOn service Goes v w w' → GoesOn service Goes v w'
+  pub one_goes : (Goes : List Packet → Seen → Type 0) (w w' : Kept State) (v : Seen) → WorldStands service w v → ActorsGoOn service Goes v w w' → ReachesNext service Goes v w'
   one_goes Goes w w' v st g = record {
     sent = g.sent;
     world = g.world;
@@ -173,11 +173,11 @@ module _ {State : Type 0} (service : Machine State) where
 
   -- the only logger takes a message and answers
   pub log_hears : (w w' : Kept State) (v : Seen) (message : Message) → WorldStands service w v
-      → w' ≡ record w { log = log_after w.log message; packets = with_answer w.packets (answer_bytes (answer_to w.log message)) } → GoesOn service (LogHears message v) v w'
+      → w' ≡ record w { log = log_after w.log message; packets = with_answer w.packets (answer_bytes (answer_to w.log message)) } → ReachesNext service (LogHears message v) v w'
   log_hears w w' v message st e' =
       let answer : Option Message = answer_to v.log message in
       let sent : List Packet = option_to_list (option_map From_logger (answer_to v.log message)) in
-      subst (GoesOn service (LogHears message v) v) (sym e')
+      subst (ReachesNext service (LogHears message v) v) (sym e')
       (record {
         sent = option_to_list (option_map From_logger (answer_to v.log message));
         world = record v { log = log_after v.log message; packets = v.packets ++ option_to_list (option_map From_logger (answer_to v.log message)) };

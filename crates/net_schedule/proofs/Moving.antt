@@ -5,7 +5,7 @@ use Rattle.std.proofs.lemmas.Bool.{lt-ltb}
 use Rattle.std.proofs.lemmas.List.{take-append-le, take_all}
 use Rattle.seq_arith.specs.PacketGrammar.{spelling}
 use Rattle.server_trait.specs.Service.{Machine}
-use Rattle.ft_model.specs.Client.{Client, Move, move_asked, mover_of, move_of, window_of, may_announce, segment_of, moved}
+use Rattle.ft_model.specs.Client.{Client, Move, move_asked, mover_of, move_of, window_of, may_advertise, segment_of, moved}
 use Rattle.ft_model.specs.Client.Move.{Syn, Text, Fin, Acknowledge, Rst}
 use Rattle.ft_model.specs.Legal.{refusal, refusal_of_client}
 use Rattle.ft_model.specs.Network.{Packet}
@@ -73,19 +73,19 @@ may_if true false range k e = none_is_some why.State (sym e)
 may_if false phase range k e = absurd (cc)
 
 -- it may announce its window
-announces : (client : Client) (event : Event) (move : Move) → move_of event ≡ Some move → window_of client event < 2 ^ 16 → may_announce move (window_of client event) ≡ true
-announces client (events.Begin n window) move e h = subst (λ x. may_announce x window ≡ true) (some_is (Syn None) move e) (lt-ltb window (2 ^ 16) h)
-announces client (events.Send n from len) move e h =
-    subst (λ x. may_announce x (window_of client (events.Send n from len)) ≡ true) (some_is (Text from len) move e) (lt-ltb (window_of client (events.Send n from len)) (2 ^ 16) h)
-announces client (events.Fin n) move e h = subst (λ x. may_announce x (window_of client (events.Fin n)) ≡ true) (some_is Fin move e) (lt-ltb (window_of client (events.Fin n)) (2 ^ 16) h)
-announces client (events.Ack n window) move e h = subst (λ x. may_announce x window ≡ true) (some_is Acknowledge move e) (lt-ltb window (2 ^ 16) h)
-announces client (events.Reset n) move e h = subst (λ x. may_announce x 0 ≡ true) (some_is Rst move e) refl
-announces client (events.Boot boot isn) move e h = none_is_some move e
-announces client events.Crash move e h = none_is_some move e
-announces client events.Tick move e h = none_is_some move e
-announces client (events.Deliver n) move e h = none_is_some move e
-announces client (events.Flip n bit) move e h = none_is_some move e
-announces client (events.Stop part) move e h = none_is_some move e
+advertises : (client : Client) (event : Event) (move : Move) → move_of event ≡ Some move → window_of client event < 2 ^ 16 → may_advertise move (window_of client event) ≡ true
+advertises client (events.Begin n window) move e h = subst (λ x. may_advertise x window ≡ true) (some_is (Syn None) move e) (lt-ltb window (2 ^ 16) h)
+advertises client (events.Send n from len) move e h =
+    subst (λ x. may_advertise x (window_of client (events.Send n from len)) ≡ true) (some_is (Text from len) move e) (lt-ltb (window_of client (events.Send n from len)) (2 ^ 16) h)
+advertises client (events.Fin n) move e h = subst (λ x. may_advertise x (window_of client (events.Fin n)) ≡ true) (some_is Fin move e) (lt-ltb (window_of client (events.Fin n)) (2 ^ 16) h)
+advertises client (events.Ack n window) move e h = subst (λ x. may_advertise x window ≡ true) (some_is Acknowledge move e) (lt-ltb window (2 ^ 16) h)
+advertises client (events.Reset n) move e h = subst (λ x. may_advertise x 0 ≡ true) (some_is Rst move e) refl
+advertises client (events.Boot boot isn) move e h = none_is_some move e
+advertises client events.Crash move e h = none_is_some move e
+advertises client events.Tick move e h = none_is_some move e
+advertises client (events.Deliver n) move e h = none_is_some move e
+advertises client (events.Flip n bit) move e h = none_is_some move e
+advertises client (events.Stop part) move e h = none_is_some move e
 
 happen : {State : Type 0} (service : Machine State) (v after : Seen) (event : Event) (number : ℕ) (sent : List Packet) → mover_of event ≡ Some number → Moves v number sent after → Happens service v event sent after
 happen service v after (events.Begin n window) number sent e m = subst (λ k. Moves v k sent after) (sym (some_is n number e)) m
@@ -170,7 +170,7 @@ module _ {State : Type 0} (service : Machine State) where
                 segment = segment_of client m.move (window_of client event);
                 later = later;
                 is_there = ce;
-                move = record { move = m.move; window = window_of client event; may = may client event m.move m.asked m.allowed; fits = announces client event m.move m.asked m.fits; segment_is = refl; after_is = m.after_is };
+                move = record { move = m.move; window = window_of client event; may = may client event m.move m.asked m.allowed; fits = advertises client event m.move m.asked m.fits; segment_is = refl; after_is = m.after_is };
                 sent_is = refl;
                 after_is = refl;
               });

@@ -8,7 +8,7 @@ use Rattle.ft_model.specs.declared.event.Event.{Event}
 use Rattle.ft_model.specs.declared.way.Way.{Way}
 use Rattle.net_schedule.specs.Carried.{way_along}
 use Rattle.net_schedule.specs.Premises.{Premises, ComesAs}
-use Rattle.net_schedule.specs.Standing.{Kept, WorldStands, GoesOn, Advances, Refuses, IsForMemory}
+use Rattle.net_schedule.specs.Standing.{Kept, WorldStands, ReachesNext, Advances, Refuses, IsForMemory}
 use Rattle.net_schedule.specs.declared.end.StepEnd.{StepEnd}
 
 -- the event is allowed and happens
@@ -26,7 +26,7 @@ abbrev pub Brings : {State : Type 0} → (ℕ → Machine State) → Way → Lis
 Brings services way bytes before after =
     (v : Seen) (packet : Packet) → WorldStands (services before.kind) before v → Premises (services before.kind) v
     → way ≡ way_along before.keys (wire_of packet) → ComesAs v packet bytes
-    → GoesOn (services before.kind) (DeliveredAs (services before.kind) v packet bytes) v after
+    → ReachesNext (services before.kind) (DeliveredAs (services before.kind) v packet bytes) v after
 
 -- only a failed allocation prevents that
 abbrev pub BringsNot : {State : Type 0} → (ℕ → Machine State) → Way → List ℕ → Kept State → StepEnd → Type 0

@@ -62,7 +62,7 @@ pub record WorldStands {State : Type 0} (service : Machine State) (w : Kept Stat
   pub node : NodeStands service w.kind w.node v.node
 
 -- The world becomes a next one, with these packets sent, and the code's world is at that.
-pub record GoesOn {State : Type 0} (service : Machine State) (Goes : List Packet → Seen → Type 0) (v : Seen) (w : Kept State) : Type 0 where
+pub record ReachesNext {State : Type 0} (service : Machine State) (Goes : List Packet → Seen → Type 0) (v : Seen) (w : Kept State) : Type 0 where
   pub sent : List Packet
   pub world : Seen
   pub goes : Goes sent world
@@ -71,7 +71,7 @@ pub record GoesOn {State : Type 0} (service : Machine State) (Goes : List Packet
 
 -- An event is allowed and happens, and the clients follow the script.
 pub record Advances {State : Type 0} (service : Machine State) (v : Seen) (event : Event) (w : Kept State) : Type 0 where
-  pub happens : GoesOn service (Happens service v event) v w
+  pub happens : ReachesNext service (Happens service v event) v w
   pub allowed : refusal v event ≡ None
   pub scripted : IsScripted v event happens.sent happens.world
 

@@ -17,8 +17,8 @@ use Rattle.tcp_endpoint.specs.States.{has_begun}
 use Rattle.tcp_endpoint.specs.Receiving.{Receiving, taken, next, receive_edge, came, with_came, with_segment}
 use Rattle.tcp_endpoint.specs.Sending.{Sending, IsShort, with_syn_acked, acknowledged, is_duplicate, duplicated, answered_by, moves_edge, send_edge, sendable, expires, timed, with_sent, with_fin_sent}
 use Rattle.tcp_endpoint.specs.Tcb.{Tcb, listening, connecting}
-use Rattle.tcp_endpoint.specs.Arrival.{ack_at, first, owing_if, killed, received, received_in, in_closed, in_listen, begun, refusing, refusing_without_ack, answered, in_syn_sent, in_others, check_place, waiting_again, check_rst, check_syn, check_ack, is_bare, with_ack_used, with_ack, with_first_ack, with_fin_acked, with_text_and_fin}
-use Rattle.tcp_endpoint.specs.Leaving.{probes_text, probes_fin, with_probe, with_text_sent, new_fin, with_fin_out, after_full, announced, is_timed, with_turn_ended, flushed}
+use Rattle.tcp_endpoint.specs.Arrival.{ack_at, first, with_ack_pending_if, with_reset, received, received_in, in_closed, in_listen, begun, with_reset_reply, with_reset_reply_without_ack, answered, in_syn_sent, in_others, check_sequence, with_time_wait_restarted, check_rst, check_syn, check_ack, is_bare, with_ack_used, with_ack, with_first_ack, with_fin_acked, with_text_and_fin}
+use Rattle.tcp_endpoint.specs.Leaving.{probes_text, probes_fin, with_probe, with_text_sent, new_fin, with_fin_out, after_full, with_advertised, is_timed, with_turn_ended, flushed}
 use Rattle.tcp_endpoint.specs.Turning.{after_tick, timer_ticked, waited, after_read, after_write, closing, write_room}
 use Rattle.endpoint_laws.proofs.Bounding.{text_facts, new_within}
 use Rattle.endpoint_laws.proofs.SendingLaw.{held_field}
@@ -129,7 +129,7 @@ module _ (isn written read : ℕ) (p : Segment) where
   fin_acked_limited e h = holds_either_way Good _ _ _ h h
 
   first_ack_limited : (e : Tcb) → Good e → Good (with_first_ack e p)
-  unfolding with_first_ack refusing
+  unfolding with_first_ack with_reset_reply
   first_ack_limited e h =
       holds_either_way Good _ _ _ (text_limited _ (opened_within isn written read e.sending e.receiving p.head.seq p.head.window h)) h
 
@@ -148,33 +148,33 @@ module _ (isn written read : ℕ) (p : Segment) where
   check_syn_limited : (e : Tcb) → Good e → Good (check_syn e p)
   unfolding check_syn
   check_syn_limited e h =
-      holds_either_way Good (has_syn p) (owing_if true e) (check_ack (owing_if (nat_lt 0 (length_of p)) e) p) h (check_ack_limited (owing_if (nat_lt 0 (length_of p)) e) h)
+      holds_either_way Good (has_syn p) (with_ack_pending_if true e) (check_ack (with_ack_pending_if (nat_lt 0 (length_of p)) e) p) h (check_ack_limited (with_ack_pending_if (nat_lt 0 (length_of p)) e) h)
 
   check_rst_limited : (e : Tcb) → Good e → Good (check_rst e p)
   unfolding check_rst
   check_rst_limited e h =
-      holds_either_way Good (has_rst p) _ (check_syn e p) (holds_either_way Good (int_eq (first e p) (pos (next e.receiving))) (killed e) (owing_if true e) h h) (check_syn_limited e h)
+      holds_either_way Good (has_rst p) _ (check_syn e p) (holds_either_way Good (int_eq (first e p) (pos (next e.receiving))) (with_reset e) (with_ack_pending_if true e) h h) (check_syn_limited e h)
 
   others_limited : (e : Tcb) → Good e → Good (in_others e p)
-  unfolding in_others check_place waiting_again
+  unfolding in_others check_sequence with_time_wait_restarted
   others_limited e h = holds_either_way Good _ _ _ (check_rst_limited _ h) h
 
   closed_limited : (e : Tcb) → Good e → Good (in_closed e p)
-  unfolding in_closed refusing refusing_without_ack
-  closed_limited e h = holds_either_way Good (has_rst p) e _ h (holds_either_way Good (has_ack p) (refusing e p) (refusing_without_ack e p) h h)
+  unfolding in_closed with_reset_reply with_reset_reply_without_ack
+  closed_limited e h = holds_either_way Good (has_rst p) e _ h (holds_either_way Good (has_ack p) (with_reset_reply e p) (with_reset_reply_without_ack e p) h h)
 
   listen_limited : (e : Tcb) → Good e → Good (in_listen e p)
-  unfolding in_listen refusing begun
-  listen_limited e h = holds_either_way Good (has_rst p) e _ h (holds_either_way Good (has_ack p) (refusing e p) _ h (holds_either_way Good (has_syn p) (begun e p) e h h))
+  unfolding in_listen with_reset_reply begun
+  listen_limited e h = holds_either_way Good (has_rst p) e _ h (holds_either_way Good (has_ack p) (with_reset_reply e p) _ h (holds_either_way Good (has_syn p) (begun e p) e h h))
 
   syn_sent_limited : (e : Tcb) → Good e → Good (in_syn_sent e p)
-  unfolding in_syn_sent refusing answered
+  unfolding in_syn_sent with_reset_reply answered
   syn_sent_limited e h =
       holds_either_way Good (has_ack p) _ e
       (holds_either_way Good (int_eq (ack_at e p) (pos 0)) _ _
-      (holds_either_way Good (has_rst p) (killed e) _ h
+      (holds_either_way Good (has_rst p) (with_reset e) _ h
       (holds_either_way Good (has_syn p) (answered e p) e (opened_within isn written read e.sending e.receiving p.head.seq p.head.window h) h))
-      (holds_either_way Good (has_rst p) e (refusing e p) h h))
+      (holds_either_way Good (has_rst p) e (with_reset_reply e p) h h))
       h
 
   by_name : (name : StateName) (e : Tcb) → Good e → Good (received_in name e p)
@@ -310,7 +310,7 @@ module _ (isn written read : ℕ) where
       let limits : Sending → Type 0 = λ x. HasLimits isn written read x r in holds_either_way limits runs _ _ (holds_either_way limits (s.rest == 0) _ _ h h) h
 
   flush_limited : (e : Tcb) → IsWithin isn written read e → IsWithin isn written read (flushed e)
-  unfolding flushed with_turn_ended announced after_full
+  unfolding flushed with_turn_ended with_advertised after_full
   flush_limited e h =
       let after : Tcb = with_fin_out (with_text_sent (with_probe e)) in
       let good : IsWithin isn written read after = fin_out_limited _ (text_sent_limited _ (probe_limited e h)) in

@@ -36,7 +36,7 @@ use Rattle.node_link.specs.Telling.{TellStops}
 use Rattle.node_link.specs.ServerTurns.{is_from_logger, input_from, Sent, wires_in, address_of, second_for, sent_second, sent_as, sending, ServerTurn, turn_calls, server_calls}
 use Rattle.node_link.specs.Incarnation.{kind_in, service_of, first_of, input_in, IsFairAt, AreFair, fence_in}
 use Rattle.node_link.specs.ServerLife.{IsServer, IsCutServer, ServerStops}
-use Rattle.node_link.specs.Turning.{Standing, HasHanded, HasSent, identity_of, HasBooted, Goes, HasTurned, EndsTurn, TurnStops, Stands, StandsForKey, IsServing, HasServed, IsCutServing, ServeStops}
+use Rattle.node_link.specs.Turning.{Standing, HasHanded, HasSent, identity_of, HasBooted, Goes, HasTurned, EndsTurn, TurnStops, IsAfterTurns, StandsForKey, IsServing, HasServed, IsCutServing, ServeStops}
 use Rattle.node_link.proofs.KeyGoing.{GoesFor, begins_for, key_goes}
 use Rattle.node_link.proofs.Calls.{tells_on, tells_none, counts_on, with_both, with_none, few_calls, IsFew}
 
@@ -208,7 +208,7 @@ module _ {State : Type 0} (services : ℕ → Machine State) where
   goes_by role s input s' wires who goes = subst (λ w. Goes services (record { who = w; stage = s.stage }) input s' wires) who goes
 
   stands_on : (role : ServerRole) (turns : List ServerTurn) (turn : ServerTurn) (s s' : Standing State) → s.who ≡ identity_of role → Goes services s (input_in role turn.received) s' (wires_in turn.sent)
-      → (st : Stands services role turns s) → IsFairAt services role turn.received (node_after (first_of role) st.turns_by_law) → Stands services role (turn ∷ turns) s'
+      → (st : IsAfterTurns services role turns s) → IsFairAt services role turn.received (node_after (first_of role) st.turns_by_law) → IsAfterTurns services role (turn ∷ turns) s'
   stands_on role turns turn s s' who goes st fair =
       let here : law.Node = node_of (identity_of role) st.standing in
       let fair_here : IsFairAt services role turn.received (node_of (identity_of role) st.standing) = subst (IsFairAt services role turn.received) st.node fair in
@@ -229,9 +229,9 @@ module _ {State : Type 0} (services : ℕ → Machine State) where
       }
 
   lawful_on : (role : ServerRole) (turns : List ServerTurn) (turn : ServerTurn) (s s' : Standing State) → s.who ≡ identity_of role → Goes services s (input_in role turn.received) s' (wires_in turn.sent)
-      → (AreFair services role turns → Stands services role turns s) → AreFair services role (turn ∷ turns) → Stands services role (turn ∷ turns) s'
+      → (AreFair services role turns → IsAfterTurns services role turns s) → AreFair services role (turn ∷ turns) → IsAfterTurns services role (turn ∷ turns) s'
   lawful_on role turns turn s s' who goes stands fair =
-      let st : Stands services role turns s = stands fair.0 in
+      let st : IsAfterTurns services role turns s = stands fair.0 in
       stands_on role turns turn s s' who goes st (fair.1 st.turns_by_law st.incarnation)
 
   key_on : (role : ServerRole) (turns : List ServerTurn) (turn : ServerTurn) (s s' : Standing State) (key : Key) → s.who ≡ identity_of role
@@ -250,7 +250,7 @@ module _ {State : Type 0} (services : ℕ → Machine State) where
       → HasTurned services role.loggers s s' mid new c counts → IsServing services role (i + 1) s' old new counts
   serving_on role i s s' old mid new c counts h t =
       let calls : List LinkCall = server_calls role.loggers h.at_boot h.turns in
-      let stands : AreFair services role (t.turn ∷ h.turns) → Stands services role (t.turn ∷ h.turns) s' = lawful_on role h.turns t.turn s s' h.who t.goes h.stands in
+      let stands : AreFair services role (t.turn ∷ h.turns) → IsAfterTurns services role (t.turn ∷ h.turns) s' = lawful_on role h.turns t.turn s s' h.who t.goes h.stands in
       let keys : (key : Key) → AreFairFor (service_of services role) (first_of role) key role.loggers (t.turn ∷ h.turns) → StandsForKey services role key (t.turn ∷ h.turns) s' =
       λ key. key_on role h.turns t.turn s s' key h.who t.goes t.apart (h.each_key key) in
       let none : fence_in role t.turn.received ≡ None =

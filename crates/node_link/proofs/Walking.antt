@@ -318,11 +318,11 @@ module _ (options : List OptionName) where
       by_word None is = absurd (true_false (is_value v) (rw (clean, is) refl) e)
 
   -- after `--NAME` of an option that was used before, nothing passes
-  waiting_again : (h : Held) (before : List Use) (o : OptionName) (words : List Text) → Holds h before → option_named options (name_of o) ≡ Some o → is_used (name_of o) before ≡ true
+  with_time_wait_restarted : (h : Held) (before : List Use) (o : OptionName) (words : List Text) → Holds h before → option_named options (name_of o) ≡ Some o → is_used (name_of o) before ≡ true
       → list_any is_stray words ≡ false → Fails (faults (at_word (bare h o) (option (name_of o))) words)
   unfolding walk_fault
-  waiting_again h before o [] held known old clean = bare_fails h o known
-  waiting_again h before o (v ∷ words) held known old clean = by_value (is_value v) refl
+  with_time_wait_restarted h before o [] held known old clean = bare_fails h o known
+  with_time_wait_restarted h before o (v ∷ words) held known old clean = by_value (is_value v) refl
     where
       by_value : (t : Bool) → is_value v ≡ t → Fails (faults (at_word (bare h o) (option (name_of o))) (v ∷ words))
       by_value true e = fails_as _ _ (turn_passes (at_word (bare h o) (option (name_of o))) (at_word (with_value h o v) idle) v words (value_turn (bare h o) v o e) (value_walk h v o e known))
@@ -351,7 +351,7 @@ module _ (options : List OptionName) where
           (passes_on w (at_word (with_value h o v) idle) v words (before ++ use_of o v ∷ []) (uses_after None words) (value_turn (bare h o) v o e) (value_walk h v o e known)
           (more (at_word (with_value h o v) idle) (before ++ use_of o v ∷ []) (between (with_value h o v) _ (value_rows h before v o held known unused)))))
       by_value true e true old more = goes_as w (v ∷ words) before found _ (ap (λ x. if x then found else None) e)
-          (first_refused w (v ∷ words) before (use_of o v) (uses_after None words) (rw old (rw (among o known) refl)) (waiting_again h before o (v ∷ words) held known old clean))
+          (first_refused w (v ∷ words) before (use_of o v) (uses_after None words) (rw old (rw (among o known) refl)) (with_time_wait_restarted h before o (v ∷ words) held known old clean))
   goes (word ∷ words) _ _ _ (between h before held) clean = by_word (long_of word) refl
       (λ w before2 at. goes words w before2 None at (or_parts _ _ clean).1) (λ w before2 o at. goes words w before2 (Some (name_of o)) at (or_parts _ _ clean).1)
     where

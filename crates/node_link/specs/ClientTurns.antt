@@ -5,7 +5,7 @@ use Rattle.ft_io.specs.declared.Addr.{Addr}
 use Rattle.ft_io.specs.declared.link_call.LinkCall.{LinkCall}
 use Rattle.ft_io.specs.declared.link_call.LinkCall.TheVariants.{Handed}
 use Rattle.tcp_endpoint.specs.Leaving.{packets}
-use Rattle.peer_client.specs.Live.{LiveState, heard, ticked, unread, handed, sent_by, turned}
+use Rattle.peer_client.specs.Live.{LiveState, after_packet, ticked, unread, handed, sent_by, turned}
 use Rattle.node_link.specs.Received.{Received, datagram, silence, failure, received_as}
 
 -- what was received, and whether the sends of the flush after it fail, one by one; those past the list don't
@@ -15,7 +15,7 @@ pub record ClientTurn : Type 0 where
 
 -- bytes come, or a tick passes
 abbrev pub after_receive : LiveState → Received → LiveState
-after_receive l (datagram from bytes) = heard l bytes
+after_receive l (datagram from bytes) = after_packet l bytes
 after_receive l silence = ticked l
 after_receive l failure = ticked l
 

@@ -94,7 +94,7 @@ module _ {State : Type 0} (services : ℕ → Machine State) where
     pub unfenced : (standing : law.Stage) → fence (node_of before.who standing) (input_from loggers turn.received) ≡ None
 
   -- where the node stands after these turns, as long as the premises hold
-  pub record Stands (role : ServerRole) (turns : List ServerTurn) (s : Standing State) : Type 0 where
+  pub record IsAfterTurns (role : ServerRole) (turns : List ServerTurn) (s : Standing State) : Type 0 where
     pub turns_by_law : List Turn
     pub standing : law.Stage
     pub incarnation : IsIncarnation services role turns turns_by_law
@@ -124,7 +124,7 @@ module _ {State : Type 0} (services : ℕ → Machine State) where
     pub counts_are : counts ≡ counts_of (server_calls role.loggers at_boot turns)
     pub total : length (server_calls role.loggers at_boot turns) ≤ (count + 1) * (2 ^ 65 + 1)
     pub who : s.who ≡ identity_of role
-    pub stands : AreFair services role turns → Stands role turns s
+    pub stands : AreFair services role turns → IsAfterTurns role turns s
     pub each_key : (key : Key) → AreFairFor (service_of services role) (first_of role) key role.loggers turns → StandsForKey role key turns s
 
   -- the same, wherever the node stands

@@ -6,7 +6,7 @@ use Rattle.ft_model.specs.Point.{Point}
 use Rattle.ft_model.proofs.Services.{more_bytes, sum_take}
 use Rattle.north_wrap.specs.declared.read_record.ReadRecord.{ReadRecord}
 use Rattle.north_wrap.specs.NorthState.{NorthState, newly, answered_on, lengths_of}
-use Rattle.north_wrap.specs.Standing.{NorthStands, RunsTo, Keeps, run_after, with_answered, with_taken, IsNumbered}
+use Rattle.north_wrap.specs.Standing.{NorthStands, RunsTo, RecordsRun, run_after, with_answered, with_taken, IsNumbered}
 use Rattle.north_wrap.proofs.Logged.{still_closed}
 use Rattle.north_wrap.proofs.OneRead.{drop_drop, numbered_drop}
 
@@ -37,9 +37,9 @@ answers_stand service p given n count st =
       keeps = λ more h.
           let within : d + more ≤ length n.reads = omega (arith, h, left, low) in
           let same : (p.reads_answered + (d + more)) ≡ max p.reads_answered (min count (length p.lengths)) + more = omega (arith, sum_is) in
-          subst (λ r. Keeps r (run_after service (with_answered count p) more)) (sym (get_later n.last n.reads d more n.last (get_or (n.last ∷ n.reads) d n.last) within))
-          (subst (λ a. Keeps (get_or (n.last ∷ n.reads) (d + more) (get_or (n.last ∷ n.reads) d n.last)) (reference service p.taken (take a p.lengths))) same
-          (subst (λ r. Keeps r (run_after service p (d + more))) (get_defaults n.last n.reads (d + more) n.last (get_or (n.last ∷ n.reads) d n.last) within) (st.keeps (d + more) within)));
+          subst (λ r. RecordsRun r (run_after service (with_answered count p) more)) (sym (get_later n.last n.reads d more n.last (get_or (n.last ∷ n.reads) d n.last) within))
+          (subst (λ a. RecordsRun (get_or (n.last ∷ n.reads) (d + more) (get_or (n.last ∷ n.reads) d n.last)) (reference service p.taken (take a p.lengths))) same
+          (subst (λ r. RecordsRun r (run_after service p (d + more))) (get_defaults n.last n.reads (d + more) n.last (get_or (n.last ∷ n.reads) d n.last) within) (st.keeps (d + more) within)));
       told = lengths_drop d n.reads ∙ ap (drop d) st.told ∙ drop_drop d p.reads_answered p.lengths ∙ ap (λ a. drop a p.lengths) sum_is;
       numbered = subst (λ k. IsNumbered k (drop d n.reads)) sum_is (numbered_drop d p.reads_answered n.reads st.numbered);
       unanswered = omega (arith, st.unanswered, sum_is, left, low);
@@ -66,7 +66,7 @@ taking_stands service p given n more st =
     record {
       run = subst (λ r. RunsTo r given n.run) (sym (more_bytes service p.taken (p.taken ++ more) p.lengths (more, refl) st.enough)) st.run;
       rest = st.rest ∙ ap (drop (sum p.lengths)) (sym (take-append-le p.fetched p.taken more st.fetched));
-      keeps = λ m h. subst (Keeps (get_or (n.last ∷ n.reads) m n.last))
+      keeps = λ m h. subst (RecordsRun (get_or (n.last ∷ n.reads) m n.last))
           (sym (more_bytes service p.taken (p.taken ++ more) (take (p.reads_answered + m) p.lengths) (more, refl) (le_trans (sum_take (p.reads_answered + m) p.lengths) st.enough))) (st.keeps m h);
       told = st.told;
       numbered = st.numbered;

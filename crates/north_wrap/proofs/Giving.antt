@@ -7,13 +7,13 @@ use Rattle.ft_model.proofs.Services.{prefix_length, drop_within}
 use Rattle.north_wrap.specs.RunState.{given_count, gives}
 use Rattle.north_wrap.specs.NorthState.{NorthState, unreleased, given_north, given_socket, shut_north, shut_socket, closes}
 use Rattle.north_wrap.specs.Sockets.{Writer}
-use Rattle.north_wrap.specs.Standing.{NorthStands, Keeps, given_more, given_text, written}
+use Rattle.north_wrap.specs.Standing.{NorthStands, RecordsRun, given_more, given_text, written}
 use Rattle.north_wrap.proofs.Logged.{answered_front}
 use Rattle.north_wrap.proofs.OneRead.{drop_drop}
 
-pub last_keeps : {S : Type 0} (service : Machine S) (p : Point) (given : ℕ) (n : NorthState S) → NorthStands service p given n → Keeps n.last (answered_run service p)
+pub last_keeps : {S : Type 0} (service : Machine S) (p : Point) (given : ℕ) (n : NorthState S) → NorthStands service p given n → RecordsRun n.last (answered_run service p)
 last_keeps service p given n st = let e : p.reads_answered + 0 ≡ p.reads_answered = omega arith in
-    subst (λ a. Keeps n.last (reference service p.taken (take a p.lengths))) e (st.keeps 0 (omega arith))
+    subst (λ a. RecordsRun n.last (reference service p.taken (take a p.lengths))) e (st.keeps 0 (omega arith))
 
 pub count_is : {S : Type 0} (service : Machine S) (p : Point) (given room : ℕ) (n : NorthState S) → NorthStands service p given n → given_count room (unreleased n) n.run ≡ given_more service p room given
 count_is service p given room n st =

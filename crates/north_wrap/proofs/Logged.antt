@@ -4,12 +4,12 @@ use Rattle.std.proofs.lemmas.List.{take-append-le}
 use Rattle.server_trait.specs.Service.{Machine, reference}
 use Rattle.ft_model.specs.Point.{Point, made, released, whole_run, answered_run}
 use Rattle.ft_model.proofs.Lists.{take_first}
-use Rattle.ft_model.proofs.Services.{GoesOn, reads_go_on}
+use Rattle.ft_model.proofs.Services.{RunExtends, reads_go_on}
 use Rattle.ft_model.specs.Growth.{IsPrefix}
 use Rattle.north_wrap.specs.Standing.{with_reads}
 
 -- the answered run is a front of the whole one
-pub answered_front : {S : Type 0} (service : Machine S) (p : Point) → GoesOn (answered_run service p) (whole_run service p)
+pub answered_front : {S : Type 0} (service : Machine S) (p : Point) → RunExtends (answered_run service p) (whole_run service p)
 answered_front service p = reads_go_on service p.taken (take p.reads_answered p.lengths) p.lengths (take_first p.reads_answered p.lengths)
 
 -- where the logged run has closed, all that is made is released

@@ -7,7 +7,7 @@ use Rattle.ft_model.specs.Point.{Point, whole_run, released}
 use Rattle.ft_model.proofs.Lists.{some_is, none_is_some}
 use Rattle.north_wrap.specs.NorthState.{NorthState, Reads, next_length, is_free_to_read, length_of_next, read_on, socket_on, lengths_of}
 use Rattle.north_wrap.specs.Sockets.{Reader}
-use Rattle.north_wrap.specs.Standing.{NorthStands, HasReplayed, Keeps, read_off, off_socket, AreThere, given_more, IsNumbered}
+use Rattle.north_wrap.specs.Standing.{NorthStands, HasReplayed, RecordsRun, read_off, off_socket, AreThere, given_more, IsNumbered}
 use Rattle.ft_io.proofs.Booleans.{left_false}
 use Rattle.ft_io.proofs.Choices.{holds_if}
 
@@ -50,8 +50,8 @@ begins_here service p given n h =
       keeps = λ more low.
           let e : more ≡ 0 = omega (arith, low, none) in
           let a : length p.lengths ≤ p.reads_answered + more = omega (arith, h.answered) in
-          subst (λ l. Keeps (get_or (n.last ∷ n.reads) more n.last) (reference service p.taken l)) (sym (take_all (p.reads_answered + more) p.lengths a))
-          (subst (λ m. Keeps (get_or (n.last ∷ n.reads) m n.last) (whole_run service p)) (sym e) (record { made = h.last.0 ∙ h.run.made; closed = h.last.1 ∙ h.run.closed }));
+          subst (λ l. RecordsRun (get_or (n.last ∷ n.reads) more n.last) (reference service p.taken l)) (sym (take_all (p.reads_answered + more) p.lengths a))
+          (subst (λ m. RecordsRun (get_or (n.last ∷ n.reads) m n.last) (whole_run service p)) (sym e) (record { made = h.last.0 ∙ h.run.made; closed = h.last.1 ∙ h.run.closed }));
       told = ap lengths_of h.reads ∙ sym (drop-length p.lengths) ∙ ap (λ k. drop k p.lengths) (sym h.answered);
       numbered = subst (IsNumbered p.reads_answered) (sym h.reads) tt;
       unanswered = omega (arith, none, h.answered);

@@ -11,7 +11,7 @@ use Rattle.north_wrap.specs.declared.read_record.ReadRecord.{ReadRecord}
 use Rattle.north_wrap.specs.RunState.{RunState, run_on, served_on}
 use Rattle.north_wrap.specs.NorthState.{NorthState, chunk_of, read_on, record_of, lengths_of}
 use Rattle.north_wrap.proofs.Logged.{answered_stays, made_stays}
-use Rattle.north_wrap.specs.Standing.{NorthStands, QueueStands, RunsTo, Keeps, IsNext, IsNumbered, run_after}
+use Rattle.north_wrap.specs.Standing.{NorthStands, QueueStands, RunsTo, RecordsRun, IsNext, IsNumbered, run_after}
 use Rattle.ft_io.proofs.Choices.{holds_if}
 
 pub drop_drop : (n m : ℕ) (xs : List ℕ) → drop n (drop m xs) ≡ drop (m + n) xs
@@ -101,16 +101,16 @@ get_new last read (x ∷ reads) (suc m) d h = get_new x read reads m d (omega (a
 -- the records keep the runs after their reads
 keeps_more : {S : Type 0} (service : Machine S) (p : Point) (given : ℕ) (n : NorthState S) (run : RunState S) (k m : ℕ) → NorthStands service p given n → RunsTo (reference service p.taken (p.lengths ++ k ∷ [])) given run
     → m ≤ length n.reads + 1 → (old : Bool) → nat_le m (length n.reads) ≡ old
-    → Keeps (get_or (n.last ∷ (n.reads ++ record_of k n run ∷ [])) m n.last) (run_after service (with_read k p) m)
+    → RecordsRun (get_or (n.last ∷ (n.reads ++ record_of k n run ∷ [])) m n.last) (run_after service (with_read k p) m)
 keeps_more service p given n run k m st to h true t =
     let low : m ≤ length n.reads = grind (arith, t) in
     let within : p.reads_answered + m ≤ length p.lengths = omega (arith, low, st.unanswered) in
-    subst (λ r. Keeps r (run_after service (with_read k p) m)) (sym (get_old n.last (record_of k n run) n.reads m n.last n.last low))
-    (subst (λ l. Keeps (get_or (n.last ∷ n.reads) m n.last) (reference service p.taken l)) (sym (take-append-le (p.reads_answered + m) p.lengths (k ∷ []) within)) (st.keeps m low))
+    subst (λ r. RecordsRun r (run_after service (with_read k p) m)) (sym (get_old n.last (record_of k n run) n.reads m n.last n.last low))
+    (subst (λ l. RecordsRun (get_or (n.last ∷ n.reads) m n.last) (reference service p.taken l)) (sym (take-append-le (p.reads_answered + m) p.lengths (k ∷ []) within)) (st.keeps m low))
 keeps_more service p given n run k m st to h false t =
     let is : m ≡ length n.reads + 1 = grind (arith, t, h) in
-    subst (λ r. Keeps r (run_after service (with_read k p) m)) (sym (get_new n.last (record_of k n run) n.reads m n.last is))
-    (subst (λ l. Keeps (record_of k n run) (reference service p.taken l)) (sym (take_seam p.lengths k (p.reads_answered + m) (omega (arith, is, st.unanswered)))) (record { made = to.made; closed = to.closed }))
+    subst (λ r. RecordsRun r (run_after service (with_read k p) m)) (sym (get_new n.last (record_of k n run) n.reads m n.last is))
+    (subst (λ l. RecordsRun (record_of k n run) (reference service p.taken l)) (sym (take_seam p.lengths k (p.reads_answered + m) (omega (arith, is, st.unanswered)))) (record { made = to.made; closed = to.closed }))
 
 numbered_more : (i : ℕ) (reads : List ReadRecord) (read : ReadRecord) → IsNumbered i reads → read.index ≡ i + length reads → IsNumbered i (reads ++ read ∷ [])
 numbered_more i [] read h e = (omega (arith, e), tt)

@@ -14,7 +14,7 @@ use Rattle.north_wrap.specs.Sockets.{Reader, Writer}
 use Rattle.north_wrap.specs.NorthState.{NorthState, lengths_of}
 
 -- what a read's record stores of the service's run after it
-pub record Keeps {S : Type 0} (read : ReadRecord) (run : Run S) : Type 0 where
+pub record RecordsRun {S : Type 0} (read : ReadRecord) (run : Run S) : Type 0 where
   pub made : read.made ≡ length run.output
   pub closed : read.closed ≡ run.closed
 
@@ -44,7 +44,7 @@ messages_of key reads = map (λ read. ReadMsg key read.index read.length) reads
 pub record NorthStands {S : Type 0} (service : Machine S) (p : Point) (given : ℕ) (n : NorthState S) : Type 0 where
   pub run : RunsTo (whole_run service p) given n.run
   pub rest : n.rest ≡ drop (sum p.lengths) (take p.fetched p.taken)
-  pub keeps : (more : ℕ) → more ≤ length n.reads → Keeps (get_or (n.last ∷ n.reads) more n.last) (run_after service p more)
+  pub keeps : (more : ℕ) → more ≤ length n.reads → RecordsRun (get_or (n.last ∷ n.reads) more n.last) (run_after service p more)
   pub told : lengths_of n.reads ≡ drop p.reads_answered p.lengths
   pub numbered : IsNumbered p.reads_answered n.reads
   pub unanswered : p.reads_answered + length n.reads ≡ length p.lengths

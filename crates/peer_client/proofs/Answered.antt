@@ -14,7 +14,7 @@ use Rattle.tcp_endpoint.specs.declared.states.StateName.TheVariants.{Closed}
 use Rattle.tcp_endpoint.specs.States.{is_closed, is_time_wait}
 use Rattle.tcp_endpoint.specs.Sending.{Sending, expires}
 use Rattle.tcp_endpoint.specs.Tcb.{Tcb}
-use Rattle.tcp_endpoint.specs.Arrival.{ack_at, killed, answered, refusing, in_syn_sent, received}
+use Rattle.tcp_endpoint.specs.Arrival.{ack_at, with_reset, answered, with_reset_reply, in_syn_sent, received}
 use Rattle.tcp_endpoint.specs.Turning.{after_tick, timer_ticked, waited}
 use Rattle.ft_model.specs.Client as machine
 use Rattle.ft_model.specs.Client.{Client, is_new, is_opening, is_ended, is_open}
@@ -22,7 +22,7 @@ use Rattle.ft_model.specs.declared.phase.Phase.TheVariants as phases
 use Rattle.endpoint_laws.proofs.Connecting.{received_by}
 use Rattle.peer_client.specs.declared.live.ClientEnd.TheVariants as ends
 use Rattle.peer_client.specs.Live.{LiveState, is_of, end_of, first_end, met, ticked}
-use Rattle.peer_client.specs.Standing.{IsSame, AnswersBy, Waits, IsWaiting, Stands, IsReset, IsDue}
+use Rattle.peer_client.specs.Standing.{IsSame, AnswersBy, Waits, IsWaiting, IsConnected, IsReset, IsDue}
 use Rattle.peer_client.proofs.Leaves.{eq_of}
 use Rattle.peer_client.proofs.Comes.{both_if}
 use Rattle.peer_client.proofs.News.{ticked_sends, ticked_same}
@@ -84,7 +84,7 @@ unchanged l c h =
       nothing_taken = w.nothing_taken;
       unreset = w.unreset;
       probe = w.probe;
-      answer = subst (λ (a : Option Head). AnswersBy (record l { outcome = first_end l.outcome (end_of l.tcb) }) c a) (sym h.answer) tt;
+      reset_reply = subst (λ (a : Option Head). AnswersBy (record l { outcome = first_end l.outcome (end_of l.tcb) }) c a) (sym h.reset_reply) tt;
       edge = w.edge;
       told = w.told;
       outcome = (λ i. first_end (w.outcome i) (if w.unreset i then Some ends.Reset else (if is_time_wait (w.name i) || is_closed (w.name i) then Some ends.Closed else None)));
@@ -92,8 +92,8 @@ unchanged l c h =
 
 -- a wrong acknowledgement is refused
 refuses : (l : LiveState) (c : Client) (p : Segment) → IsWaiting l c → is_of l.local l.server p ≡ true → p.head.ack < 2 ^ 32
-    → (p.head.ack == number_at c.isn 0) ≡ false → Waits (record l { tcb = refusing l.tcb p; outcome = first_end l.outcome (end_of (refusing l.tcb p)) }) c
-unfolding refusing
+    → (p.head.ack == number_at c.isn 0) ≡ false → Waits (record l { tcb = with_reset_reply l.tcb p; outcome = first_end l.outcome (end_of (with_reset_reply l.tcb p)) }) c
+unfolding with_reset_reply
 refuses l c p h from fits wrong =
     let w : Waits l c = h.waits in
     let same : IsSame l c = w.agrees.same in
@@ -125,7 +125,7 @@ refuses l c p h from fits wrong =
       nothing_taken = w.nothing_taken;
       unreset = w.unreset;
       probe = w.probe;
-      answer = (
+      reset_reply = (
         ap is_opening h.phase,
         record {
           src = ap (λ (a : Addr). a.ip) same.local;
@@ -147,12 +147,12 @@ refuses l c p h from fits wrong =
 
 -- a RST that acknowledges the SYN
 resets : (l : LiveState) (c : Client) → IsWaiting l c
-    → IsReset (record l { tcb = killed l.tcb; outcome = first_end l.outcome (end_of (killed l.tcb)) }) (record c { phase = phases.Reset })
+    → IsReset (record l { tcb = with_reset l.tcb; outcome = first_end l.outcome (end_of (with_reset l.tcb)) }) (record c { phase = phases.Reset })
 resets l c h = record {
   phase = refl;
   name = refl;
   reset = refl;
-  answer = h.answer;
+  reset_reply = h.reset_reply;
   outcome = ap (λ o. first_end o (Some ends.Reset)) h.waits.outcome;
   heard = record { count = h.waits.agrees.hears.count; rest = h.waits.agrees.hears.rest };
 }
@@ -167,7 +167,7 @@ size_most None = omega arith
 size_most (Some mss) = omega arith
 
 opens : (l : LiveState) (c : Client) (p : Segment) → IsWaiting l c
-    → Stands (record l { tcb = answered l.tcb p; outcome = first_end l.outcome (end_of (answered l.tcb p)) }) (record c { phase = phases.Established; sisn = p.head.seq })
+    → IsConnected (record l { tcb = answered l.tcb p; outcome = first_end l.outcome (end_of (answered l.tcb p)) }) (record c { phase = phases.Established; sisn = p.head.seq })
 unfolding answered
 opens l c p h =
     let w : Waits l c = h.waits in
@@ -220,7 +220,7 @@ opens l c p h =
       named = (refl, w.closed, fin);
       over = λ k. absurd (false≢true (sym k));
       unreset = w.unreset;
-      answer = h.answer;
+      reset_reply = h.reset_reply;
       edge = w.edge;
       told = inl refl;
       outcome = (λ i. first_end (w.outcome i) (if w.unreset i then Some ends.Reset else None));
@@ -236,11 +236,11 @@ syn_sent_comes l c p h from fits =
     let zero : Bool = int_eq (ack_at e p) (pos 0) in
     let right : Bool = p.head.ack == number_at c.isn 0 in
     let same : zero ≡ right = (λ i. int_eq (ack_of (sym h.waits.agrees.same.isn i) p) (pos 0)) ∙ zero_at c.isn p.head.ack fits in
-    let good : Tcb = if has_rst p then killed e else (if has_syn p then answered e p else e) in
-    let bad : Tcb = if has_rst p then e else refusing e p in
+    let good : Tcb = if has_rst p then with_reset e else (if has_syn p then answered e p else e) in
+    let bad : Tcb = if has_rst p then e else with_reset_reply e p in
     let good_client : Client = if has_rst p then record c { phase = phases.Reset } else (if has_syn p then record c { phase = phases.Established; sisn = p.head.seq } else c) in
     by_ack R (has_ack p) zero right same good bad e good_client c (inl (unchanged l c h))
-    (both_if R (has_rst p) (has_rst p) (killed e) _ (record c { phase = phases.Reset }) _ refl (λ k. inr (inr (resets l c h)))
+    (both_if R (has_rst p) (has_rst p) (with_reset e) _ (record c { phase = phases.Reset }) _ refl (λ k. inr (inr (resets l c h)))
     (λ k. both_if R (has_syn p) (has_syn p) (answered e p) e (record c { phase = phases.Established; sisn = p.head.seq }) c refl (λ q. inr (inl (opens l c p h)))
     (λ q. inl (unchanged l c h))))
     (λ wrong. refused (has_rst p) wrong)
@@ -254,7 +254,7 @@ syn_sent_comes l c p h from fits =
     by_ack R false zero right same good bad e d c none on off = none
 
     refused : (rst : Bool) → (p.head.ack == number_at c.isn 0) ≡ false
-        → IsDue (record l { tcb = if rst then l.tcb else refusing l.tcb p; outcome = first_end l.outcome (end_of (if rst then l.tcb else refusing l.tcb p)) }) c
+        → IsDue (record l { tcb = if rst then l.tcb else with_reset_reply l.tcb p; outcome = first_end l.outcome (end_of (if rst then l.tcb else with_reset_reply l.tcb p)) }) c
     refused true wrong = inl (unchanged l c h)
     refused false wrong = inl (refuses l c p h from fits wrong)
 
@@ -303,7 +303,7 @@ tick_waits l c h =
       nothing_taken = w.nothing_taken;
       unreset = w.unreset;
       probe = (λ i. w.probe i || (expires s && not (not (w.syn_acked i) || nat_lt s.una s.sent))) ∙ off_by_syn_acked (expires s) (nat_lt s.una s.sent);
-      answer = subst (λ (a : Option Head). AnswersBy (ticked l) c a) (sym h.answer) tt;
+      reset_reply = subst (λ (a : Option Head). AnswersBy (ticked l) c a) (sym h.reset_reply) tt;
       edge = w.edge;
       told = w.told;
       outcome = w.outcome;

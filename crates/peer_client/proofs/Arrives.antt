@@ -14,7 +14,7 @@ use Rattle.tcp_endpoint.specs.States.{after_fin, after_fin_acked}
 use Rattle.tcp_endpoint.specs.Receiving.{Receiving, next, taken, window, receive_edge, with_segment}
 use Rattle.tcp_endpoint.specs.Sending.{Sending, acknowledged, is_duplicate, is_third_duplicate, duplicated, answered_by, fin_acked}
 use Rattle.tcp_endpoint.specs.Tcb.{Tcb}
-use Rattle.tcp_endpoint.specs.Arrival.{first, ack_at, owing_if, killed, entering, with_text_and_fin, with_fin_acked, with_first_ack, is_bare, with_ack_used, with_ack, check_ack, check_syn, check_rst, waiting_again, accepts, is_allowed, check_place, in_others}
+use Rattle.tcp_endpoint.specs.Arrival.{first, ack_at, with_ack_pending_if, with_reset, entering, with_text_and_fin, with_fin_acked, with_first_ack, is_bare, with_ack_used, with_ack, check_ack, check_syn, check_rst, with_time_wait_restarted, accepts, is_allowed, check_sequence, in_others}
 use Rattle.ft_model.specs.Client as machine
 use Rattle.ft_model.specs.Client.{Client, is_live, is_open, is_ended, holds, next_of, room_of}
 use Rattle.ft_model.specs.Client.ClientKind.{Live}
@@ -26,15 +26,15 @@ use Rattle.ft_io.proofs.Choices.{holds_if}
 use Rattle.endpoint_laws.proofs.EndingLaw.{acceptable_at}
 
 -- an endpoint and the machine after some of the checks, with those before them
-pub record Keeps (e : Tcb) (c : Client) (written : ℕ) (t : Tcb) (d : Client) : Type 0 where
+pub record AfterChecks (e : Tcb) (c : Client) (written : ℕ) (t : Tcb) (d : Client) : Type 0 where
   pub local : t.local ≡ e.local
   pub remote : t.remote ≡ e.remote
   pub iss : t.sending.iss ≡ e.sending.iss
   pub syn_acked : t.sending.syn_acked ≡ e.sending.syn_acked
   pub reset : t.reset ≡ e.reset
-  pub answer : t.answer ≡ e.answer
-  pub told_next : t.told_next ≡ e.told_next
-  pub told_edge : t.told_edge ≡ e.told_edge
+  pub reset_reply : t.reset_reply ≡ e.reset_reply
+  pub last_ack_sent : t.last_ack_sent ≡ e.last_ack_sent
+  pub last_advertised_edge : t.last_advertised_edge ≡ e.last_advertised_edge
   pub read : t.receiving.read ≡ e.receiving.read
   pub limit : t.receiving.limit ≡ e.receiving.limit
   pub grows : taken e.receiving ≤ taken t.receiving
@@ -54,17 +54,17 @@ pub record Before (e : Tcb) (c : Client) (written : ℕ) : Type 0 where
   pub syn_acked : e.sending.syn_acked ≡ true
   pub kind : c.kind ≡ Live
 
-kept : (e : Tcb) (c : Client) (written : ℕ) (name : StateName) (owed : Bool) (wait : ℕ) → Before e c written
-    → Keeps e c written (record e { name = name; owed = owed; wait = wait }) c
-kept e c written name owed wait b = record {
+kept : (e : Tcb) (c : Client) (written : ℕ) (name : StateName) (ack_pending : Bool) (wait : ℕ) → Before e c written
+    → AfterChecks e c written (record e { name = name; ack_pending = ack_pending; wait = wait }) c
+kept e c written name ack_pending wait b = record {
   local = refl;
   remote = refl;
   iss = refl;
   syn_acked = refl;
   reset = refl;
-  answer = refl;
-  told_next = refl;
-  told_edge = refl;
+  reset_reply = refl;
+  last_ack_sent = refl;
+  last_advertised_edge = refl;
   read = refl;
   limit = refl;
   grows = omega arith;
@@ -84,20 +84,20 @@ answered_is s bare seq room ack =
     (duplicated (acknowledged s seq ack room)) (acknowledged s seq ack room) (λ _. refl) (λ _. refl)
 
 -- an acknowledgement that isn't beyond, whether it is a duplicate or not, and whatever goes out again for it
-acknowledged_kept : (e : Tcb) (c : Client) (written : ℕ) (name : StateName) (owed again : Bool) (wait seq room : ℕ) (ack : ℤ) (after : Congestion)
+acknowledged_kept : (e : Tcb) (c : Client) (written : ℕ) (name : StateName) (ack_pending retransmission_due : Bool) (wait seq room : ℕ) (ack : ℤ) (after : Congestion)
     → Before e c written → int_lt (pos e.sending.sent) ack ≡ false
-    → Keeps e c written (record e { name = name; owed = owed; again = again; wait = wait; sending = record (acknowledged e.sending seq ack room) { congestion = after } })
+    → AfterChecks e c written (record e { name = name; ack_pending = ack_pending; retransmission_due = retransmission_due; wait = wait; sending = record (acknowledged e.sending seq ack room) { congestion = after } })
     (machine.with_ack c ack)
 unfolding acknowledged
-acknowledged_kept e c written name owed again wait seq room ack after b sent = record {
+acknowledged_kept e c written name ack_pending retransmission_due wait seq room ack after b sent = record {
   local = refl;
   remote = refl;
   iss = refl;
   syn_acked = refl;
   reset = refl;
-  answer = refl;
-  told_next = refl;
-  told_edge = refl;
+  reset_reply = refl;
+  last_ack_sent = refl;
+  last_advertised_edge = refl;
   read = refl;
   limit = refl;
   grows = omega arith;
@@ -118,13 +118,13 @@ acknowledged_kept e c written name owed again wait seq room ack after b sent = r
   phase = b.phase;
 }
 
-ack_kept : (e : Tcb) (c : Client) (written : ℕ) (name : StateName) (owed again bare : Bool) (wait seq room : ℕ) (ack : ℤ) → Before e c written
+ack_kept : (e : Tcb) (c : Client) (written : ℕ) (name : StateName) (ack_pending retransmission_due bare : Bool) (wait seq room : ℕ) (ack : ℤ) → Before e c written
     → int_lt (pos e.sending.sent) ack ≡ false
-    → Keeps e c written (record e { name = name; owed = owed; again = again; wait = wait; sending = answered_by e.sending bare seq ack room }) (machine.with_ack c ack)
-ack_kept e c written name owed again bare wait seq room ack b sent =
-    subst (λ (s : Sending). Keeps e c written (record e { name = name; owed = owed; again = again; wait = wait; sending = s }) (machine.with_ack c ack))
+    → AfterChecks e c written (record e { name = name; ack_pending = ack_pending; retransmission_due = retransmission_due; wait = wait; sending = answered_by e.sending bare seq ack room }) (machine.with_ack c ack)
+ack_kept e c written name ack_pending retransmission_due bare wait seq room ack b sent =
+    subst (λ (s : Sending). AfterChecks e c written (record e { name = name; ack_pending = ack_pending; retransmission_due = retransmission_due; wait = wait; sending = s }) (machine.with_ack c ack))
     (answered_is e.sending bare seq room ack)
-    (acknowledged_kept e c written name owed again wait seq room ack (answered_by e.sending bare seq ack room).congestion b sent)
+    (acknowledged_kept e c written name ack_pending retransmission_due wait seq room ack (answered_by e.sending bare seq ack room).congestion b sent)
 
 -- text and FIN
 sends_heard : (s : Sending) (written : ℕ) (d d' : Client) → d' ≡ record d { phase = d'.phase; accepted = d'.accepted; early = d'.early } → Sends s written d → Sends s written d'
@@ -144,17 +144,17 @@ sends_heard s written d d' same h =
       most = h.most;
     })
 
-heard_kept : (e : Tcb) (c : Client) (written : ℕ) (x : Tcb) (d d' : Client) (r : Receiving) (name : StateName) (owed : Bool) (wait : ℕ) → Keeps e c written x d
-    → Heard x.receiving d r d' → Keeps e c written (record x { receiving = r; name = name; owed = owed; wait = wait }) d'
-heard_kept e c written x d d' r name owed wait k h = record {
+heard_kept : (e : Tcb) (c : Client) (written : ℕ) (x : Tcb) (d d' : Client) (r : Receiving) (name : StateName) (ack_pending : Bool) (wait : ℕ) → AfterChecks e c written x d
+    → Heard x.receiving d r d' → AfterChecks e c written (record x { receiving = r; name = name; ack_pending = ack_pending; wait = wait }) d'
+heard_kept e c written x d d' r name ack_pending wait k h = record {
   local = k.local;
   remote = k.remote;
   iss = k.iss;
   syn_acked = k.syn_acked;
   reset = k.reset;
-  answer = k.answer;
-  told_next = k.told_next;
-  told_edge = k.told_edge;
+  reset_reply = k.reset_reply;
+  last_ack_sent = k.last_ack_sent;
+  last_advertised_edge = k.last_advertised_edge;
   read = h.read ∙ k.read;
   limit = h.limit ∙ k.limit;
   grows = omega (arith, k.grows, h.grows);
@@ -168,8 +168,8 @@ heard_kept e c written x d d' r name owed wait k h = record {
 }
 
 text_kept : (e : Tcb) (c : Client) (written : ℕ) (x : Tcb) (d : Client) (p : Segment) → has_syn p ≡ false → has_rst p ≡ false → d.kind ≡ Live → d.edge ≡ receive_edge x.receiving
-    → Keeps e c written x d
-    → Keeps e c written (with_text_and_fin x p) (machine.with_added d (machine.came d p))
+    → AfterChecks e c written x d
+    → AfterChecks e c written (with_text_and_fin x p) (machine.with_added d (machine.came d p))
 unfolding with_text_and_fin
 text_kept e c written x d p syn rst kind edge k =
     let z : ℤ = first x p in
@@ -182,37 +182,37 @@ text_kept e c written x d p syn rst kind edge k =
     let h : Heard x.receiving d r d' =
     subst (λ (y : Client). Heard x.receiving d r y) args (segment_heard x.receiving d z p.payload (has_fin p) k.hears kind k.phase edge) in
     let taking : Tcb = record x { receiving = r } in
-    holds_if (λ (t : Tcb). Keeps e c written t d') (r.fin && not x.receiving.fin) (entering (after_fin x.name) taking) taking
-    (λ _. heard_kept e c written x d d' r (after_fin x.name) x.owed (entering (after_fin x.name) taking).wait k h)
-    (λ _. heard_kept e c written x d d' r x.name x.owed x.wait k h)
+    holds_if (λ (t : Tcb). AfterChecks e c written t d') (r.fin && not x.receiving.fin) (entering (after_fin x.name) taking) taking
+    (λ _. heard_kept e c written x d d' r (after_fin x.name) x.ack_pending (entering (after_fin x.name) taking).wait k h)
+    (λ _. heard_kept e c written x d d' r x.name x.ack_pending x.wait k h)
 
 -- fifth check
 pub few_sent : (s : Sending) (written : ℕ) (c : Client) (b : Bool) → s.fin_sent ≡ b → Sends s written c → s.sent ≤ 2 ^ 24 + 1
 few_sent s written c true k h = omega (arith, (h.ended k).1, h.within, h.script)
 few_sent s written c false k h = omega (arith, h.text k, h.within, h.script)
 
-acked_kept : (e : Tcb) (c : Client) (written : ℕ) (e1 : Tcb) (owed : Bool) (wait : ℕ) (p : Segment) → e1 ≡ record e { owed = owed; wait = wait } → has_syn p ≡ false → has_rst p ≡ false
-    → (pos 0 -ℤ pos (2 ^ 30)) ≤ℤ ack_of c.isn p → Before e c written → Keeps e c written (with_ack e1 p) (machine.used c p)
+acked_kept : (e : Tcb) (c : Client) (written : ℕ) (e1 : Tcb) (ack_pending : Bool) (wait : ℕ) (p : Segment) → e1 ≡ record e { ack_pending = ack_pending; wait = wait } → has_syn p ≡ false → has_rst p ≡ false
+    → (pos 0 -ℤ pos (2 ^ 30)) ≤ℤ ack_of c.isn p → Before e c written → AfterChecks e c written (with_ack e1 p) (machine.used c p)
 unfolding with_ack with_ack_used with_fin_acked
-acked_kept e c written e1 owed wait p is syn rst near b =
+acked_kept e c written e1 ack_pending wait p is syn rst near b =
     let near_at : (pos 0 -ℤ pos (2 ^ 30)) ≤ℤ ack_at e p = subst (λ n. (pos 0 -ℤ pos (2 ^ 30)) ≤ℤ ack_of n p) (sym b.iss) near in
-    let e2 : Tcb = record e { owed = owed; wait = wait } in
-    let again : Bool = e.again || is_third_duplicate e.sending (is_bare p) (ack_at e p) p.head.window in
-    let m : Tcb = record e2 { sending = answered_by e.sending (is_bare p) p.head.seq (ack_at e p) p.head.window; again = again } in
+    let e2 : Tcb = record e { ack_pending = ack_pending; wait = wait } in
+    let retransmission_due : Bool = e.retransmission_due || is_third_duplicate e.sending (is_bare p) (ack_at e p) p.head.window in
+    let m : Tcb = record e2 { sending = answered_by e.sending (is_bare p) p.head.seq (ack_at e p) p.head.window; retransmission_due = retransmission_due } in
     let few : e.sending.sent ≤ 2 ^ 24 + 1 = few_sent e.sending written c e.sending.fin_sent refl b.sends in
     let later : ℕ → Client = λ n. machine.with_added (machine.with_ack c (ack_of n p)) (machine.came c p) in
-    subst (λ (t : Tcb). Keeps e c written (with_ack t p) (machine.used c p)) (sym is)
-    (both_if (λ (t : Tcb) (d : Client). Keeps e c written t d) (is_ahead e.sending.sent (ack_at e p)) (int_lt (pos c.sent) (ack_of c.isn p)) (owing_if true e2) _ c (later c.isn)
+    subst (λ (t : Tcb). AfterChecks e c written (with_ack t p) (machine.used c p)) (sym is)
+    (both_if (λ (t : Tcb) (d : Client). AfterChecks e c written t d) (is_ahead e.sending.sent (ack_at e p)) (int_lt (pos c.sent) (ack_of c.isn p)) (with_ack_pending_if true e2) _ c (later c.isn)
     (ahead_is e.sending.sent (ack_at e p) few near_at ∙ (λ i. int_lt (pos (sym b.sends.sent i)) (ack_of (b.iss i) p)))
-    (λ k. kept e c written e.name (owed || true) wait b)
+    (λ k. kept e c written e.name (ack_pending || true) wait b)
     (λ k.
     let within : int_lt (pos e.sending.sent) (ack_at e p) ≡ false = sym (ahead_is e.sending.sent (ack_at e p) few near_at) ∙ k in
-    subst (λ n. Keeps e c written (with_text_and_fin (if fin_acked m.sending then entering (after_fin_acked m.name) m else m) p) (later n)) b.iss
-    (holds_if (λ (x : Tcb). Keeps e c written (with_text_and_fin x p) (later e.sending.iss)) (fin_acked m.sending) (entering (after_fin_acked m.name) m) m
+    subst (λ n. AfterChecks e c written (with_text_and_fin (if fin_acked m.sending then entering (after_fin_acked m.name) m else m) p) (later n)) b.iss
+    (holds_if (λ (x : Tcb). AfterChecks e c written (with_text_and_fin x p) (later e.sending.iss)) (fin_acked m.sending) (entering (after_fin_acked m.name) m) m
     (λ q. text_kept e c written (entering (after_fin_acked m.name) m) (machine.with_ack c (ack_at e p)) p syn rst b.kind b.edge
-    (ack_kept e c written (after_fin_acked e.name) owed again (is_bare p) (entering (after_fin_acked m.name) m).wait p.head.seq p.head.window (ack_at e p) b within))
+    (ack_kept e c written (after_fin_acked e.name) ack_pending retransmission_due (is_bare p) (entering (after_fin_acked m.name) m).wait p.head.seq p.head.window (ack_at e p) b within))
     (λ q. text_kept e c written m (machine.with_ack c (ack_at e p)) p syn rst b.kind b.edge
-    (ack_kept e c written e.name owed again (is_bare p) wait p.head.seq p.head.window (ack_at e p) b within)))))
+    (ack_kept e c written e.name ack_pending retransmission_due (is_bare p) wait p.head.seq p.head.window (ack_at e p) b within)))))
 
 -- a SYN and a segment without ACK change nothing of this
 syn_or_ack : (P : Tcb → Client → Type 0) (syn ack : Bool) (a x y : Tcb) (c u : Client) → P a c → P y c → (syn ≡ false → ack ≡ true → P x u)
@@ -243,32 +243,32 @@ at_alike : (e : Tcb) (c : Client) (written : ℕ) (p : Segment) → Before e c w
 at_alike e c written p b = λ i. int_eq (first_of (sym b.hears.sisn i) p) (pos (sym b.hears.count i + one_if (sym b.hears.fin i)))
 
 pub others_kept : (e : Tcb) (c : Client) (written : ℕ) (p : Segment) → (has_rst p && int_eq (first e p) (pos (next e.receiving))) ≡ false
-    → (has_ack p ≡ true → (pos 0 -ℤ pos (2 ^ 30)) ≤ℤ ack_of c.isn p) → Before e c written → Keeps e c written (in_others e p) (machine.arrived c p)
-unfolding in_others check_place check_rst check_syn check_ack waiting_again
+    → (has_ack p ≡ true → (pos 0 -ℤ pos (2 ^ 30)) ≤ℤ ack_of c.isn p) → Before e c written → AfterChecks e c written (in_others e p) (machine.arrived c p)
+unfolding in_others check_sequence check_rst check_syn check_ack with_time_wait_restarted
 others_kept e c written p unreset near b =
-    let P : Tcb → Client → Type 0 = λ t d. Keeps e c written t d in
-    let e0 : Tcb = waiting_again e p in
+    let P : Tcb → Client → Type 0 = λ t d. AfterChecks e c written t d in
+    let e0 : Tcb = with_time_wait_restarted e p in
     let takes : Bool = nat_lt 0 (length_of p) in
-    both_if P (accepts e0 p || is_allowed e0 p) (machine.may_use c p) (check_rst e0 p) (owing_if (not (has_rst p)) e0) _ c
+    both_if P (accepts e0 p || is_allowed e0 p) (machine.may_use c p) (check_rst e0 p) (with_ack_pending_if (not (has_rst p)) e0) _ c
     (looks_further e0 p b.syn_acked ∙ used_alike e c written p b)
     (λ used. both_if P (has_rst p) (has_rst p) _ (check_syn e0 p) _ _ refl
-    (λ rst. both_if P (int_eq (first e p) (pos (next e.receiving))) (int_eq (first_of c.sisn p) (pos (next_of c))) (killed e0) (owing_if true e0) (record c { phase = Reset }) c
+    (λ rst. both_if P (int_eq (first e p) (pos (next e.receiving))) (int_eq (first_of c.sisn p) (pos (next_of c))) (with_reset e0) (with_ack_pending_if true e0) (record c { phase = Reset }) c
     (at_alike e c written p b)
     (λ k. absurd (false≢true (sym unreset ∙ (λ i. rst i && k i))))
-    (λ k. kept e c written e.name (e.owed || true) e0.wait b))
-    (λ rst. syn_or_ack P (has_syn p) (has_ack p) (owing_if true e0) _ (owing_if takes e0) c (machine.used c p)
-    (kept e c written e.name (e.owed || true) e0.wait b)
-    (kept e c written e.name (e.owed || takes) e0.wait b)
-    (λ syn ack. holds_if (λ (t : Tcb). P t (machine.used c p)) e.sending.syn_acked (with_ack (owing_if takes e0) p) (with_first_ack (owing_if takes e0) p)
-    (λ k. acked_kept e c written (owing_if takes e0) (e.owed || takes) e0.wait p refl syn rst (near ack) b)
+    (λ k. kept e c written e.name (e.ack_pending || true) e0.wait b))
+    (λ rst. syn_or_ack P (has_syn p) (has_ack p) (with_ack_pending_if true e0) _ (with_ack_pending_if takes e0) c (machine.used c p)
+    (kept e c written e.name (e.ack_pending || true) e0.wait b)
+    (kept e c written e.name (e.ack_pending || takes) e0.wait b)
+    (λ syn ack. holds_if (λ (t : Tcb). P t (machine.used c p)) e.sending.syn_acked (with_ack (with_ack_pending_if takes e0) p) (with_first_ack (with_ack_pending_if takes e0) p)
+    (λ k. acked_kept e c written (with_ack_pending_if takes e0) (e.ack_pending || takes) e0.wait p refl syn rst (near ack) b)
     (λ k. absurd (false≢true (sym k ∙ b.syn_acked))))))
-    (λ unused. kept e c written e.name (e.owed || not (has_rst p)) e0.wait b)
+    (λ unused. kept e c written e.name (e.ack_pending || not (has_rst p)) e0.wait b)
 
 -- a RST at exactly the next number
 pub record Resets (e : Tcb) (c : Client) (t : Tcb) (d : Client) : Type 0 where
   pub name : t.name ≡ Closed
   pub reset : t.reset ≡ true
-  pub answer : t.answer ≡ e.answer
+  pub reset_reply : t.reset_reply ≡ e.reset_reply
   pub phase : d.phase ≡ Reset
   pub receiving : t.receiving ≡ e.receiving
   pub accepted : d.accepted ≡ c.accepted
@@ -278,24 +278,24 @@ rst_length p h = ap (λ b. if b then 0 else (if has_syn p then 1 else length p.p
 
 pub others_reset : (e : Tcb) (c : Client) (written : ℕ) (p : Segment) → (has_rst p && int_eq (first e p) (pos (next e.receiving))) ≡ true → Before e c written
     → Resets e c (in_others e p) (machine.arrived c p)
-unfolding in_others check_place check_rst waiting_again
+unfolding in_others check_sequence check_rst with_time_wait_restarted
 others_reset e c written p resets b =
     let P : Tcb → Client → Type 0 = λ t d. Resets e c t d in
     let rst : has_rst p ≡ true = left_true (has_rst p) (int_eq (first e p) (pos (next e.receiving))) resets in
     let at : int_eq (first e p) (pos (next e.receiving)) ≡ true = right_true (has_rst p) (int_eq (first e p) (pos (next e.receiving))) resets in
-    let e0 : Tcb = waiting_again e p in
+    let e0 : Tcb = with_time_wait_restarted e p in
     let n : ℕ = next e.receiving in
     let w : ℕ = window e.receiving in
     let z : ℤ = first e p in
     let in_window : is_acceptable n w z (length_of p) ≡ true = ap (is_acceptable n w z) (rst_length p rst) ∙ acceptable_at n w z at in
     let used : used_by e p ≡ true = λ i. (in_window i || is_at_right_edge n w z (length_of p)) || is_allowed_at_zero n w z in
-    let e0 : Tcb = waiting_again e p in
-    both_if P (accepts e0 p || is_allowed e0 p) (machine.may_use c p) (check_rst e0 p) (owing_if (not (has_rst p)) e0) _ c
+    let e0 : Tcb = with_time_wait_restarted e p in
+    both_if P (accepts e0 p || is_allowed e0 p) (machine.may_use c p) (check_rst e0 p) (with_ack_pending_if (not (has_rst p)) e0) _ c
     (looks_further e0 p b.syn_acked ∙ used_alike e c written p b)
     (λ used. both_if P (has_rst p) (has_rst p) _ (check_syn e0 p) _ _ refl
-    (λ k. both_if P (int_eq (first e p) (pos (next e.receiving))) (int_eq (first_of c.sisn p) (pos (next_of c))) (killed e0) (owing_if true e0) (record c { phase = Reset }) c
+    (λ k. both_if P (int_eq (first e p) (pos (next e.receiving))) (int_eq (first_of c.sisn p) (pos (next_of c))) (with_reset e0) (with_ack_pending_if true e0) (record c { phase = Reset }) c
     (at_alike e c written p b)
-    (λ q. record { name = refl; reset = refl; answer = refl; phase = refl; receiving = refl; accepted = refl })
+    (λ q. record { name = refl; reset = refl; reset_reply = refl; phase = refl; receiving = refl; accepted = refl })
     (λ q. absurd (false≢true (sym q ∙ at))))
     (λ k. absurd (false≢true (sym k ∙ rst))))
     (λ k. absurd (false≢true (sym k ∙ looks_further e0 p b.syn_acked ∙ used)))

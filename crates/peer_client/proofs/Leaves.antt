@@ -5,10 +5,10 @@ use Rattle.std.proofs.lemmas.Bool.{false≢true}
 use Rattle.seq_arith.specs.Packet.{Segment}
 use Rattle.seq_arith.specs.Offset.{one_if}
 use Rattle.tcp_endpoint.specs.States.{is_closed, has_begun}
-use Rattle.tcp_endpoint.specs.Receiving.{next, taken, receive_edge, announced_edge}
+use Rattle.tcp_endpoint.specs.Receiving.{next, taken, receive_edge, advertised_edge}
 use Rattle.tcp_endpoint.specs.Sending.{Sending, in_flight, is_unacknowledged, send_edge, sends_fin, resent_length, with_sent, with_fin_sent}
 use Rattle.tcp_endpoint.specs.Tcb.{Tcb}
-use Rattle.tcp_endpoint.specs.Leaving.{segment_at, text_at, fin_at, texts, answer_segments, answer_out, again_out, again_segment, opening_segment, probes, probes_text, probes_fin, probe_out, with_probe, new_length, text_out, with_text_sent, new_fin, fin_out, with_fin_out, full_out, after_full, is_owed, bare_segment, or_bare, leaving}
+use Rattle.tcp_endpoint.specs.Leaving.{segment_at, text_at, fin_at, texts, reset_reply_segments, reset_reply_out, retransmission_out, retransmitted_segment, opening_segment, probes, probes_text, probes_fin, probe_out, with_probe, new_length, text_out, with_text_sent, new_fin, fin_out, with_fin_out, full_out, after_full, is_ack_pending, bare_segment, or_bare, leaving}
 use Rattle.segment_codec.specs.declared.Head.{Head}
 use Rattle.ft_model.specs.Client.{Client, IsMove}
 use Rattle.peer_client.specs.Standing.{AreMoves, Told}
@@ -49,7 +49,7 @@ pub record Flushes (u : Tcb) (c : Client) (written edge : ℕ) : Type 0 where
   pub least : 64 ≤ u.sending.mss
   pub most : u.sending.mss ≤ 1460
   pub shut : u.sending.closed ≡ true → written ≡ length c.script
-  pub answer : u.answer ≡ None
+  pub reset_reply : u.reset_reply ≡ None
 
 held_length : (u : Tcb) (c : Client) (written edge : ℕ) → Speaks u c written edge → length u.sending.held ≡ written - u.sending.una
 held_length u c written edge h =
@@ -70,18 +70,18 @@ stays : (u : Tcb) (c : Client) (written edge s x : ℕ) (f : Bool) → IsWithin 
 stays u c written edge s x f w = record { sent = s; fin = f; is = refl; within = w; more = omega arith; goes = goes_none c edge s x }
 
 -- what goes out again
-again_goes : (u : Tcb) (c : Client) (written edge x : ℕ) → Flushes u c written edge → IsWithin u c written u.sending.sent u.sending.fin_sent → x ≤ edge
-    → Goes c edge u.sending.sent x (again_out u) u.sending.sent
-unfolding again_out again_segment
-again_goes u c written edge x h w low =
+retransmission_goes : (u : Tcb) (c : Client) (written edge x : ℕ) → Flushes u c written edge → IsWithin u c written u.sending.sent u.sending.fin_sent → x ≤ edge
+    → Goes c edge u.sending.sent x (retransmission_out u) u.sending.sent
+unfolding retransmission_out retransmitted_segment
+retransmission_goes u c written edge x h w low =
     let q : Sending = u.sending in
     let P : List Segment → Type 0 = λ xs. Goes c edge q.sent x xs q.sent in
     let O : Segment → Type 0 = λ g. Goes c edge q.sent x (g ∷ []) q.sent in
     let held : length q.held ≡ written - q.una = held_length u c written edge h.speaks in
-    holds_if P (u.again && not (is_closed u.name) && is_unacknowledged q) _ []
+    holds_if P (u.retransmission_due && not (is_closed u.name) && is_unacknowledged q) _ []
     (λ due.
     let unacked : q.una < q.sent =
-    lt_of q.una q.sent (or_other (not q.syn_acked) (nat_lt q.una q.sent) (ap not h.syn_acked) (right_true (u.again && not (is_closed u.name)) (is_unacknowledged q) due)) in
+    lt_of q.una q.sent (or_other (not q.syn_acked) (nat_lt q.una q.sent) (ap not h.syn_acked) (right_true (u.retransmission_due && not (is_closed u.name)) (is_unacknowledged q) due)) in
     holds_if O (not q.syn_acked) (opening_segment u) _
     (λ k. absurd (false≢true (sym (ap not h.syn_acked) ∙ k)))
     (λ k. holds_if O (length q.held == 0) (fin_at u 0) (text_at u 0 (resent_length q))
@@ -251,38 +251,38 @@ same_edge before now true false told edge less stays_taken units edges = absurd 
 same_edge before now false true told edge less stays_taken units edges = absurd (omega (arith, less, units))
 same_edge before now false false told edge less stays_taken units edges = omega (arith, edges)
 
-none_owed : (b owed same_next same_told : Bool) → b ≡ true → (b && (owed || not same_next || not same_told)) ≡ false
-    → (owed ≡ false) × ((same_next ≡ true) × (same_told ≡ true))
-none_owed true true n t begun h = absurd (false≢true (sym h))
-none_owed true false true true begun h = (refl, (refl, refl))
-none_owed true false true false begun h = absurd (false≢true (sym h))
-none_owed true false false t begun h = absurd (false≢true (sym h))
-none_owed false owed n t begun h = absurd (false≢true begun)
+no_ack_pending : (b ack_pending same_next same_told : Bool) → b ≡ true → (b && (ack_pending || not same_next || not same_told)) ≡ false
+    → (ack_pending ≡ false) × ((same_next ≡ true) × (same_told ≡ true))
+no_ack_pending true true n t begun h = absurd (false≢true (sym h))
+no_ack_pending true false true true begun h = (refl, (refl, refl))
+no_ack_pending true false true false begun h = absurd (false≢true (sym h))
+no_ack_pending true false false t begun h = absurd (false≢true (sym h))
+no_ack_pending false ack_pending n t begun h = absurd (false≢true begun)
 
-pub edge_told : (u : Tcb) (c : Client) → has_begun u.name ≡ true → (u.owed ≡ true) ⊎ Told u c → is_owed u ≡ false → c.edge ≡ receive_edge u.receiving
-unfolding is_owed
-edge_told u c begun (inl owed) none =
-    absurd (false≢true (sym (none_owed (has_begun u.name) u.owed (u.told_next == next u.receiving) (u.told_edge == announced_edge u.receiving) begun none).0 ∙ owed))
+pub edge_told : (u : Tcb) (c : Client) → has_begun u.name ≡ true → (u.ack_pending ≡ true) ⊎ Told u c → is_ack_pending u ≡ false → c.edge ≡ receive_edge u.receiving
+unfolding is_ack_pending
+edge_told u c begun (inl ack_pending) none =
+    absurd (false≢true (sym (no_ack_pending (has_begun u.name) u.ack_pending (u.last_ack_sent == next u.receiving) (u.last_advertised_edge == advertised_edge u.receiving) begun none).0 ∙ ack_pending))
 edge_told u c begun (inr t) none =
-    let k = none_owed (has_begun u.name) u.owed (u.told_next == next u.receiving) (u.told_edge == announced_edge u.receiving) begun none in
+    let k = no_ack_pending (has_begun u.name) u.ack_pending (u.last_ack_sent == next u.receiving) (u.last_advertised_edge == advertised_edge u.receiving) begun none in
     same_edge t.bytes (taken u.receiving) t.fin u.receiving.fin c.edge (receive_edge u.receiving) t.bytes_taken t.fin_taken
-    (sym t.next_is ∙ eq_of u.told_next (next u.receiving) k.1.0)
-    (sym t.edge_is ∙ eq_of u.told_edge (announced_edge u.receiving) k.1.1)
+    (sym t.next_is ∙ eq_of u.last_ack_sent (next u.receiving) k.1.0)
+    (sym t.edge_is ∙ eq_of u.last_advertised_edge (advertised_edge u.receiving) k.1.1)
 
-edge_told_at : (u : Tcb) (c : Client) (s : ℕ) (f : Bool) → has_begun u.name ≡ true → (u.owed ≡ true) ⊎ Told u c → is_owed (at u s f) ≡ false
+edge_told_at : (u : Tcb) (c : Client) (s : ℕ) (f : Bool) → has_begun u.name ≡ true → (u.ack_pending ≡ true) ⊎ Told u c → is_ack_pending (at u s f) ≡ false
     → c.edge ≡ receive_edge u.receiving
-edge_told_at u c s f begun (inl owed) none = edge_told (at u s f) c begun (inl owed) none
+edge_told_at u c s f begun (inl ack_pending) none = edge_told (at u s f) c begun (inl ack_pending) none
 edge_told_at u c s f begun (inr t) none =
     edge_told (at u s f) c begun
     (inr (record { bytes = t.bytes; fin = t.fin; next_is = t.next_is; edge_is = t.edge_is; bytes_taken = t.bytes_taken; fin_taken = t.fin_taken })) none
 
 -- a segment without data, where no other leaves
-finish : (c : Client) (edge s x after : ℕ) (owed : Bool) (bare : Segment) (xs : List Segment) → Goes c edge s x xs after
-    → IsMove (grown c after x) bare (grown c after edge) → (owed ≡ false → x ≡ edge) → AreMoves (grown c s x) (or_bare owed bare xs) (grown c after edge)
+finish : (c : Client) (edge s x after : ℕ) (ack_pending : Bool) (bare : Segment) (xs : List Segment) → Goes c edge s x xs after
+    → IsMove (grown c after x) bare (grown c after edge) → (ack_pending ≡ false → x ≡ edge) → AreMoves (grown c s x) (or_bare ack_pending bare xs) (grown c after edge)
 finish c edge s x after true bare [] goes move tells =
     subst (λ (q : Client). AreMoves q (bare ∷ []) (grown c after edge)) goes (grown c after edge, move, refl)
 finish c edge s x after false bare [] goes move tells = (λ i. grown c after (sym (tells refl) i)) ∙ goes
-finish c edge s x after owed bare (a ∷ xs) goes move tells = goes
+finish c edge s x after ack_pending bare (a ∷ xs) goes move tells = goes
 
 -- the end of the turn
 pub record Left (u : Tcb) (c : Client) (written edge : ℕ) : Type 0 where
@@ -293,25 +293,25 @@ pub record Left (u : Tcb) (c : Client) (written edge : ℕ) : Type 0 where
   pub more : u.sending.sent ≤ sent
   pub moves : AreMoves c (leaving u) (grown c sent edge)
 
-answer_goes : (u : Tcb) (c : Client) (edge s x : ℕ) → u.answer ≡ None → Goes c edge s x (answer_out u) s
-unfolding answer_out
-answer_goes u c edge s x none = subst (λ (a : Option Head). Goes c edge s x (answer_segments a) s) (sym none) refl
+reset_reply_goes : (u : Tcb) (c : Client) (edge s x : ℕ) → u.reset_reply ≡ None → Goes c edge s x (reset_reply_out u) s
+unfolding reset_reply_out
+reset_reply_goes u c edge s x none = subst (λ (a : Option Head). Goes c edge s x (reset_reply_segments a) s) (sym none) refl
 
 pub leaves : (u : Tcb) (c : Client) (written edge : ℕ) → has_begun u.name ≡ true → Flushes u c written edge
     → IsWithin u c written u.sending.sent u.sending.fin_sent → c.sent ≡ u.sending.sent → c.edge ≤ edge → receive_edge u.receiving ≡ edge
-    → (u.owed ≡ true) ⊎ Told u c → Left u c written edge
+    → (u.ack_pending ≡ true) ⊎ Told u c → Left u c written edge
 unfolding leaving full_out after_full bare_segment
 leaves u c written edge begun h w sent low is_edge told =
     let s : ℕ = u.sending.sent in
     let x : ℕ = c.edge in
-    let a : List Segment = answer_out u in
-    let b : List Segment = again_out u in
+    let a : List Segment = reset_reply_out u in
+    let b : List Segment = retransmission_out u in
     let d : List Segment = probe_out u in
     let xa : ℕ = edge_after a edge x in
     let xb : ℕ = edge_after (a ++ b) edge x in
     let xd : ℕ = edge_after (a ++ b ++ d) edge x in
     let to_again : Goes c edge s x (a ++ b) s =
-    goes_on c edge s x s s a b (answer_goes u c edge s x h.answer) (again_goes u c written edge xa h w (edge_low a edge x low)) in
+    goes_on c edge s x s s a b (reset_reply_goes u c edge s x h.reset_reply) (retransmission_goes u c written edge xa h w (edge_low a edge x low)) in
     let p : Steps u c written edge s xb d (with_probe u) = probe_steps u c written edge xb h w (edge_low (a ++ b) edge x low) in
     let to_probe : Goes c edge s x (a ++ b ++ d) p.sent = goes_on c edge s x s p.sent (a ++ b) d to_again p.goes in
     let T : Tcb → Type 0 = λ v. Steps u c written edge p.sent xd (text_out v) (with_text_sent v) in
@@ -326,9 +326,9 @@ leaves u c written edge begun h w sent low is_edge told =
     let g : List Segment = fin_out (with_text_sent (with_probe u)) in
     let to_fin : Goes c edge s x (a ++ b ++ d ++ e ++ g) f.sent = goes_on c edge s x t.sent f.sent (a ++ b ++ d ++ e) g to_text f.goes in
     let last : Tcb = with_fin_out (with_text_sent (with_probe u)) in
-    let B : Tcb → Type 0 = λ v. AreMoves (grown c s x) (or_bare (is_owed v) (segment_at v (in_flight v.sending) 16 []) (a ++ b ++ d ++ e ++ g)) (grown c f.sent edge) in
+    let B : Tcb → Type 0 = λ v. AreMoves (grown c s x) (or_bare (is_ack_pending v) (segment_at v (in_flight v.sending) 16 []) (a ++ b ++ d ++ e ++ g)) (grown c f.sent edge) in
     let whole : B last = subst B (sym f.is)
-    (finish c edge s x f.sent (is_owed (at u f.sent f.fin)) (segment_at (at u f.sent f.fin) (f.sent - u.sending.una) 16 []) (a ++ b ++ d ++ e ++ g) to_fin
+    (finish c edge s x f.sent (is_ack_pending (at u f.sent f.fin)) (segment_at (at u f.sent f.fin) (f.sent - u.sending.una) 16 []) (a ++ b ++ d ++ e ++ g) to_fin
     (bare_move (at u f.sent f.fin) c written edge (speaks_at u c written edge f.sent f.fin h.speaks) (f.sent - u.sending.una) f.sent x (omega (arith, f.within.order)) low)
     (λ none. edge_told_at u c f.sent f.fin begun told none ∙ is_edge)) in
     record {

@@ -14,7 +14,7 @@ use Rattle.ft_model.specs.declared.phase.Phase.{Phase}
 use Rattle.ft_model.specs.declared.phase.Phase.TheVariants as phases
 use Rattle.peer_client.specs.declared.live.ClientEnd.TheVariants as ends
 use Rattle.peer_client.specs.Live.{LiveState, end_of}
-use Rattle.peer_client.specs.Standing.{Stands, Sends, is_reset, outcome_of}
+use Rattle.peer_client.specs.Standing.{IsConnected, Sends, is_reset, outcome_of}
 use Rattle.ft_io.proofs.Booleans.{left_true, right_true}
 
 placed_from : (name : StateName) (o c f a : Bool) → IsNamed name o c f a → o ≡ true → (has_begun name ≡ false → (name ≡ Closed) × (c ≡ true) × ((f && a) ≡ true))
@@ -45,7 +45,7 @@ over_from LastAck o c f a h none = absurd (false≢true (sym none))
 over_from TimeWait o c f a h none = absurd (false≢true (sym none))
 
 -- the two forms in which the state is told
-pub follows_of : (l : LiveState) (c : Client) → Stands l c → FollowsAt l.tcb
+pub follows_of : (l : LiveState) (c : Client) → IsConnected l c → FollowsAt l.tcb
 follows_of l c h =
     let s : Sending = l.tcb.sending in
     record {

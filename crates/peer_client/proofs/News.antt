@@ -21,9 +21,9 @@ use Rattle.endpoint_laws.proofs.TakenLaw.{begun_is}
 use Rattle.endpoint_laws.proofs.EndingLaw.{FollowsAt, named_at, received_follows, tick_follows}
 use Rattle.peer_client.specs.declared.live.ClientEnd.TheVariants as ends
 use Rattle.peer_client.specs.Live.{LiveState, end_of, first_end, met, ticked}
-use Rattle.peer_client.specs.Standing.{IsSame, Hears, Sends, Told, Stands, IsStanding, HasHeard, IsReset, is_reset}
+use Rattle.peer_client.specs.Standing.{IsSame, Hears, Sends, Told, IsConnected, IsStanding, HasHeard, IsReset, is_reset}
 use Rattle.peer_client.proofs.Named.{follows_of, over_at, ends_alike}
-use Rattle.peer_client.proofs.Arrives.{Before, Keeps, Resets, others_kept, others_reset}
+use Rattle.peer_client.proofs.Arrives.{Before, AfterChecks, Resets, others_kept, others_reset}
 use Rattle.ft_io.proofs.Choices.{holds_if}
 
 not_opening : (phase : Phase) → is_open phase ≡ true → is_opening phase ≡ false
@@ -50,15 +50,15 @@ others_is : (e : Tcb) (p : Segment) → has_begun e.name ≡ true → received e
 unfolding received
 others_is e p begun = begun_is e.name e p begun
 
-edge_kept : (e : Tcb) (c : Client) (written : ℕ) (t : Tcb) (d : Client) → Keeps e c written t d → c.edge ≡ receive_edge e.receiving → d.edge ≡ receive_edge t.receiving
+edge_kept : (e : Tcb) (c : Client) (written : ℕ) (t : Tcb) (d : Client) → AfterChecks e c written t d → c.edge ≡ receive_edge e.receiving → d.edge ≡ receive_edge t.receiving
 edge_kept e c written t d k edge = ap (λ (x : Client). x.edge) k.same ∙ edge ∙ (λ i. min (sym k.read i + 65535) (sym k.limit i))
 
-told_kept : (e : Tcb) (c : Client) (written : ℕ) (t : Tcb) (d : Client) → Keeps e c written t d → Told e c → Told t d
+told_kept : (e : Tcb) (c : Client) (written : ℕ) (t : Tcb) (d : Client) → AfterChecks e c written t d → Told e c → Told t d
 told_kept e c written t d k h = record {
   bytes = h.bytes;
   fin = h.fin;
-  next_is = k.told_next ∙ h.next_is;
-  edge_is = k.told_edge ∙ h.edge_is ∙ ap (λ (x : Client). x.edge + one_if h.fin) (sym k.same);
+  next_is = k.last_ack_sent ∙ h.next_is;
+  edge_is = k.last_advertised_edge ∙ h.edge_is ∙ ap (λ (x : Client). x.edge + one_if h.fin) (sym k.same);
   bytes_taken = omega (arith, h.bytes_taken, k.grows);
   fin_taken = λ f. k.fin (h.fin_taken f);
 }
@@ -74,8 +74,8 @@ before_of l c h = record {
   kind = h.stands.agrees.same.kind;
 }
 
-kept_stands : (l : LiveState) (c : Client) (t : Tcb) (d : Client) → IsStanding l c → l.outcome ≡ None → Keeps l.tcb c l.written t d → FollowsAt t
-    → Stands (record l { tcb = t; outcome = first_end l.outcome (end_of t) }) d
+kept_stands : (l : LiveState) (c : Client) (t : Tcb) (d : Client) → IsStanding l c → l.outcome ≡ None → AfterChecks l.tcb c l.written t d → FollowsAt t
+    → IsConnected (record l { tcb = t; outcome = first_end l.outcome (end_of t) }) d
 kept_stands l c t d h none k follows =
     let same : IsSame l c = h.stands.agrees.same in
     record {
@@ -98,7 +98,7 @@ kept_stands l c t d h none k follows =
       named = named_at t follows;
       over = over_at t follows;
       unreset = k.reset ∙ h.stands.unreset;
-      answer = k.answer ∙ h.stands.answer;
+      reset_reply = k.reset_reply ∙ h.stands.reset_reply;
       edge = omega (arith, edge_kept l.tcb c l.written t d k h.edge);
       told = inr (told_kept l.tcb c l.written t d k h.told);
       outcome = ap (λ o. first_end o (end_of t)) none
@@ -111,32 +111,32 @@ heard_still r r' c d same accepted h = subst (λ (q : Receiving). HasHeard q d) 
   rest = ap (drop r.read) accepted ∙ h.rest;
 })
 
-reset_due : (l : LiveState) (e t : Tcb) (c d : Client) → l.outcome ≡ None → e.answer ≡ None → Hears e.receiving c → Resets e c t d
+reset_due : (l : LiveState) (e t : Tcb) (c d : Client) → l.outcome ≡ None → e.reset_reply ≡ None → Hears e.receiving c → Resets e c t d
     → IsReset (record l { tcb = t; outcome = first_end l.outcome (end_of t) }) d
-reset_due l e t c d none answer h r = record {
+reset_due l e t c d none reset_reply h r = record {
   phase = r.phase;
   name = r.name;
   reset = r.reset;
-  answer = r.answer ∙ answer;
+  reset_reply = r.reset_reply ∙ reset_reply;
   outcome = ap (λ o. first_end o (end_of t)) none ∙ ap (λ b. if b then Some ends.Reset else (if is_time_wait t.name || is_closed t.name then Some ends.Closed else None)) r.reset;
   heard = heard_still e.receiving t.receiving c d r.receiving r.accepted h;
 }
 
 -- a segment comes
 pub segment_comes : (l : LiveState) (c : Client) (p : Segment) → IsStanding l c → l.outcome ≡ None
-    → (has_ack p ≡ true → (pos 0 -ℤ pos (2 ^ 30)) ≤ℤ ack_of c.isn p) → Stands (met l p) (machine.received c p) ⊎ IsReset (met l p) (machine.received c p)
+    → (has_ack p ≡ true → (pos 0 -ℤ pos (2 ^ 30)) ≤ℤ ack_of c.isn p) → IsConnected (met l p) (machine.received c p) ⊎ IsReset (met l p) (machine.received c p)
 segment_comes l c p h none near =
     let e : Tcb = l.tcb in
     let b : Before e c l.written = before_of l c h in
-    let R : Tcb → Client → Type 0 = λ t d. Stands (record l { tcb = t; outcome = first_end l.outcome (end_of t) }) d
+    let R : Tcb → Client → Type 0 = λ t d. IsConnected (record l { tcb = t; outcome = first_end l.outcome (end_of t) }) d
     ⊎ IsReset (record l { tcb = t; outcome = first_end l.outcome (end_of t) }) d in
     subst (λ (d : Client). R (received e p) d) (sym (arrived_is c p h.stands.phase))
     (subst (λ (t : Tcb). R t (machine.arrived c p)) (sym (others_is e p h.begun)) (by_rst (has_rst p && int_eq (first e p) (pos (next e.receiving))) refl))
   where
     by_rst : (resets : Bool) → (has_rst p && int_eq (first l.tcb p) (pos (next l.tcb.receiving))) ≡ resets
-        → Stands (record l { tcb = in_others l.tcb p; outcome = first_end l.outcome (end_of (in_others l.tcb p)) }) (machine.arrived c p)
+        → IsConnected (record l { tcb = in_others l.tcb p; outcome = first_end l.outcome (end_of (in_others l.tcb p)) }) (machine.arrived c p)
         ⊎ IsReset (record l { tcb = in_others l.tcb p; outcome = first_end l.outcome (end_of (in_others l.tcb p)) }) (machine.arrived c p)
-    by_rst true is = inr (reset_due l l.tcb (in_others l.tcb p) c (machine.arrived c p) none h.stands.answer h.stands.agrees.hears (others_reset l.tcb c l.written p is (before_of l c h)))
+    by_rst true is = inr (reset_due l l.tcb (in_others l.tcb p) c (machine.arrived c p) none h.stands.reset_reply h.stands.agrees.hears (others_reset l.tcb c l.written p is (before_of l c h)))
     by_rst false is =
         inl (kept_stands l c (in_others l.tcb p) (machine.arrived c p) h none (others_kept l.tcb c l.written p is near (before_of l c h))
         (subst (λ (t : Tcb). FollowsAt t) (others_is l.tcb p h.begun) (received_follows l.tcb p h.begun is (follows_of l c h.stands))))
@@ -175,7 +175,7 @@ pub ticked_same : {X : Type 0} (g : Sending → X)
     → g (half.ticked s) ≡ g s
 ticked_same g steady s = by_tick (λ (t : Sending). g t ≡ g s) s (λ after interval rest. steady after interval rest s)
 
-pub tick_passes : (l : LiveState) (c : Client) → IsStanding l c → Stands (ticked l) c
+pub tick_passes : (l : LiveState) (c : Client) → IsStanding l c → IsConnected (ticked l) c
 unfolding after_tick timer_ticked waited
 tick_passes l c h =
     let same : IsSame l c = h.stands.agrees.same in
@@ -201,7 +201,7 @@ tick_passes l c h =
       named = named_at t follows;
       over = over_at t follows;
       unreset = h.stands.unreset;
-      answer = h.stands.answer;
+      reset_reply = h.stands.reset_reply;
       edge = h.stands.edge;
       told = inr (record {
         bytes = h.told.bytes;

@@ -13,7 +13,7 @@ use Rattle.tcp_endpoint.specs.Receiving.{Receiving, window, receive_edge, read_o
 use Rattle.tcp_endpoint.specs.Sending.{Sending}
 use Rattle.tcp_endpoint.specs.Tcb.{Tcb, connecting, listening}
 use Rattle.tcp_endpoint.specs.Turning.{closing, write_room}
-use Rattle.tcp_endpoint.specs.Leaving.{head_at, opening_segment, again_out, again_segment, answer_out, answer_segments, probe_out, with_probe, text_out, texts, with_text_sent, fin_out, with_fin_out, full_out, after_full, is_owed, leaving, is_timed, announced, with_turn_ended, flushed}
+use Rattle.tcp_endpoint.specs.Leaving.{head_at, opening_segment, retransmission_out, retransmitted_segment, reset_reply_out, reset_reply_segments, probe_out, with_probe, text_out, texts, with_text_sent, fin_out, with_fin_out, full_out, after_full, is_ack_pending, leaving, is_timed, with_advertised, with_turn_ended, flushed}
 use Rattle.ft_model.specs.Client.{Client, IsMove, new_client, is_new, is_opening, is_ended, is_live}
 use Rattle.ft_model.specs.Client.ClientKind.{Live}
 use Rattle.ft_model.specs.Client.Move.{Syn, Refuse}
@@ -66,7 +66,7 @@ starts local server isn script short = record {
   nothing_taken = refl;
   unreset = refl;
   probe = refl;
-  answer = tt;
+  reset_reply = tt;
   edge = omega arith;
   told = λ k. absurd (false≢true (ap is_opening k));
   outcome = refl;
@@ -109,13 +109,13 @@ supplied_waits l c h =
       nothing_taken = omega (arith, h.nothing_taken, length-drop n l.tcb.receiving.unread, none);
       unreset = h.unreset;
       probe = h.probe;
-      answer = answers_still l (supplied (given_up l)) c l.tcb.answer refl refl h.answer;
+      reset_reply = answers_still l (supplied (given_up l)) c l.tcb.reset_reply refl refl h.reset_reply;
       edge = omega (arith, h.edge, edge);
       told = λ k. h.told k ∙ sym edge;
       outcome = h.outcome;
     }
   where
-    answers_still : (l m : LiveState) (c : Client) (answer : Option Head) → l.local ≡ m.local → l.server ≡ m.server → AnswersBy l c answer → AnswersBy m c answer
+    answers_still : (l m : LiveState) (c : Client) (reset_reply : Option Head) → l.local ≡ m.local → l.server ≡ m.server → AnswersBy l c reset_reply → AnswersBy m c reset_reply
     answers_still l m c None a b h = tt
     answers_still l m c (Some head) a b h = (
       h.0,
@@ -141,20 +141,20 @@ still_open l c h =
 
 -- an endpoint in SYN-SENT, by what is due
 abbrev syn_sent : Tcb → Bool → Option Head → Tcb
-syn_sent u again answer = record u { name = SynSent; again = again; probe = false; answer = answer; sending = record u.sending { syn_acked = false } }
+syn_sent u retransmission_due reset_reply = record u { name = SynSent; retransmission_due = retransmission_due; probe = false; reset_reply = reset_reply; sending = record u.sending { syn_acked = false } }
 
 abbrev syn_if : Bool → Tcb → List Segment
-syn_if again u = if again then opening_segment u ∷ [] else []
+syn_if retransmission_due u = if retransmission_due then opening_segment u ∷ [] else []
 
-syn_sent_leaves : (u : Tcb) (again : Bool) (answer : Option Head)
-    → leaving (syn_sent u again answer) ≡ answer_segments answer ++ syn_if again (syn_sent u again answer)
-unfolding leaving full_out answer_out again_out again_segment probe_out with_probe text_out texts with_text_sent fin_out is_owed after_full with_fin_out
+syn_sent_leaves : (u : Tcb) (retransmission_due : Bool) (reset_reply : Option Head)
+    → leaving (syn_sent u retransmission_due reset_reply) ≡ reset_reply_segments reset_reply ++ syn_if retransmission_due (syn_sent u retransmission_due reset_reply)
+unfolding leaving full_out reset_reply_out retransmission_out retransmitted_segment probe_out with_probe text_out texts with_text_sent fin_out is_ack_pending after_full with_fin_out
 syn_sent_leaves u true None = refl
 syn_sent_leaves u false None = refl
 syn_sent_leaves u true (Some head) = refl
 syn_sent_leaves u false (Some head) = refl
 
-syn_sent_is : (l : LiveState) (c : Client) → Waits l c → l.tcb ≡ syn_sent l.tcb l.tcb.again l.tcb.answer
+syn_sent_is : (l : LiveState) (c : Client) → Waits l c → l.tcb ≡ syn_sent l.tcb l.tcb.retransmission_due l.tcb.reset_reply
 syn_sent_is l c h = λ i. record l.tcb { name = h.name i; probe = h.probe i; sending = record l.tcb.sending { syn_acked = h.syn_acked i } }
 
 -- the refusal is a move
@@ -198,7 +198,7 @@ may_begin : (phase : Phase) → (phase ≡ phases.New) ⊎ (phase ≡ phases.Ope
 may_begin phase (inl h) = ap (λ p. is_new p || is_opening p) h
 may_begin phase (inr h) = ap (λ p. is_new p || is_opening p) h
 
-syn_move : (l : LiveState) (c : Client) → Waits l c → IsMove c (opening_segment (syn_sent l.tcb true l.tcb.answer)) (opened_at c (receive_edge l.tcb.receiving))
+syn_move : (l : LiveState) (c : Client) → Waits l c → IsMove c (opening_segment (syn_sent l.tcb true l.tcb.reset_reply)) (opened_at c (receive_edge l.tcb.receiving))
 unfolding opening_segment head_at
 syn_move l c h =
     let r : Receiving = l.tcb.receiving in
@@ -230,7 +230,7 @@ syn_move l c h =
     below_is n h = grind arith
 
 -- what answers and the SYN, one after another
-answered_moves : (l : LiveState) (c : Client) (answer : Option Head) → Waits l c → AnswersBy l c answer → AreMoves c (answer_segments answer) c
+answered_moves : (l : LiveState) (c : Client) (reset_reply : Option Head) → Waits l c → AnswersBy l c reset_reply → AreMoves c (reset_reply_segments reset_reply) c
 answered_moves l c None h a = refl
 answered_moves l c (Some head) h a = (c, refuse_move l c head h a.0 a.1, refl)
 
@@ -238,8 +238,8 @@ opening_is : (phase : Phase) → (phase ≡ phases.New) ⊎ (phase ≡ phases.Op
 opening_is phase (inl h) never = absurd (never h)
 opening_is phase (inr h) never = h
 
-syn_moves : (l : LiveState) (c : Client) (again : Bool) → l.tcb.again ≡ again → Waits l c
-    → AreMoves c (syn_if again (syn_sent l.tcb again l.tcb.answer)) (opened_at c (receive_edge l.tcb.receiving))
+syn_moves : (l : LiveState) (c : Client) (retransmission_due : Bool) → l.tcb.retransmission_due ≡ retransmission_due → Waits l c
+    → AreMoves c (syn_if retransmission_due (syn_sent l.tcb retransmission_due l.tcb.reset_reply)) (opened_at c (receive_edge l.tcb.receiving))
 syn_moves l c true is h = (opened_at c (receive_edge l.tcb.receiving), syn_move l c h, refl)
 syn_moves l c false is h =
     let phase : c.phase ≡ phases.Opening = opening_is c.phase h.phase (λ k. false≢true (sym is ∙ h.due k)) in
@@ -249,26 +249,26 @@ syn_moves l c false is h =
 waits_leave : (m : LiveState) (c : Client) → Waits m c → AreMoves c (leaving m.tcb) (opened_at c (receive_edge m.tcb.receiving))
 waits_leave m c h =
     let d : Client = opened_at c (receive_edge m.tcb.receiving) in
-    let out : leaving m.tcb ≡ answer_segments m.tcb.answer ++ syn_if m.tcb.again (syn_sent m.tcb m.tcb.again m.tcb.answer) =
-    ap leaving (syn_sent_is m c h) ∙ syn_sent_leaves m.tcb m.tcb.again m.tcb.answer in
+    let out : leaving m.tcb ≡ reset_reply_segments m.tcb.reset_reply ++ syn_if m.tcb.retransmission_due (syn_sent m.tcb m.tcb.retransmission_due m.tcb.reset_reply) =
+    ap leaving (syn_sent_is m c h) ∙ syn_sent_leaves m.tcb m.tcb.retransmission_due m.tcb.reset_reply in
     subst (λ (xs : List Segment). AreMoves c xs d) (sym out)
-    (moves_on c c d (answer_segments m.tcb.answer) (syn_if m.tcb.again (syn_sent m.tcb m.tcb.again m.tcb.answer)) (answered_moves m c m.tcb.answer h h.answer)
-    (syn_moves m c m.tcb.again refl h))
+    (moves_on c c d (reset_reply_segments m.tcb.reset_reply) (syn_if m.tcb.retransmission_due (syn_sent m.tcb m.tcb.retransmission_due m.tcb.reset_reply)) (answered_moves m c m.tcb.reset_reply h h.reset_reply)
+    (syn_moves m c m.tcb.retransmission_due refl h))
 
 -- and how it stands then
-syn_sent_flushed : (u : Tcb) (again : Bool) (answer : Option Head)
-    → flushed (syn_sent u again answer) ≡ with_turn_ended (record (syn_sent u again answer) { sending = record u.sending { syn_acked = false; sent = u.sending.sent + 0 } })
+syn_sent_flushed : (u : Tcb) (retransmission_due : Bool) (reset_reply : Option Head)
+    → flushed (syn_sent u retransmission_due reset_reply) ≡ with_turn_ended (record (syn_sent u retransmission_due reset_reply) { sending = record u.sending { syn_acked = false; sent = u.sending.sent + 0 } })
 unfolding flushed after_full with_fin_out with_text_sent with_probe
-syn_sent_flushed u again answer = refl
+syn_sent_flushed u retransmission_due reset_reply = refl
 
 turn_ended_waits : (m : LiveState) (c : Client) → Waits m c
-    → IsWaiting (record m { tcb = with_turn_ended (record (syn_sent m.tcb m.tcb.again m.tcb.answer) { sending = record m.tcb.sending { syn_acked = false; sent = m.tcb.sending.sent + 0 } }) })
+    → IsWaiting (record m { tcb = with_turn_ended (record (syn_sent m.tcb m.tcb.retransmission_due m.tcb.reset_reply) { sending = record m.tcb.sending { syn_acked = false; sent = m.tcb.sending.sent + 0 } }) })
     (opened_at c (receive_edge m.tcb.receiving))
-unfolding with_turn_ended announced
+unfolding with_turn_ended with_advertised
 turn_ended_waits m c h =
     let d : Client = opened_at c (receive_edge m.tcb.receiving) in
     let q : Sending = record m.tcb.sending { syn_acked = false; sent = m.tcb.sending.sent + 0 } in
-    let t : Tcb = record (syn_sent m.tcb m.tcb.again m.tcb.answer) { sending = q } in
+    let t : Tcb = record (syn_sent m.tcb m.tcb.retransmission_due m.tcb.reset_reply) { sending = q } in
     let runs : Bool = is_timed t in
     let s = h.agrees.sends in
     let sends : Sends q m.written d = record {
@@ -320,14 +320,14 @@ turn_ended_waits m c h =
         nothing_taken = h.nothing_taken;
         unreset = h.unreset;
         probe = refl;
-        answer = tt;
+        reset_reply = tt;
         edge = omega arith;
         told = λ k. refl;
         outcome = h.outcome;
       };
       phase = refl;
-      again = refl;
-      answer = refl;
+      retransmission_due = refl;
+      reset_reply = refl;
     }
   where
     unended : (phase : Phase) → (phase ≡ phases.New) ⊎ (phase ≡ phases.Opening) → false ≡ is_ended phase
@@ -345,8 +345,8 @@ waits_end l c h =
     let w : Waits m c = supplied_waits l c h in
     let d : Client = opened_at c (receive_edge m.tcb.receiving) in
     let stays : before_flush l ≡ m = still_open l c w in
-    let after : flushed m.tcb ≡ with_turn_ended (record (syn_sent m.tcb m.tcb.again m.tcb.answer) { sending = record m.tcb.sending { syn_acked = false; sent = m.tcb.sending.sent + 0 } }) =
-    ap flushed (syn_sent_is m c w) ∙ syn_sent_flushed m.tcb m.tcb.again m.tcb.answer in
+    let after : flushed m.tcb ≡ with_turn_ended (record (syn_sent m.tcb m.tcb.retransmission_due m.tcb.reset_reply) { sending = record m.tcb.sending { syn_acked = false; sent = m.tcb.sending.sent + 0 } }) =
+    ap flushed (syn_sent_is m c w) ∙ syn_sent_flushed m.tcb m.tcb.retransmission_due m.tcb.reset_reply in
     record {
       later = d;
       moves = subst (λ (x : LiveState). AreMoves c (leaving x.tcb) d) (sym stays) (waits_leave m c w);

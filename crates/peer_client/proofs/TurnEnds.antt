@@ -7,10 +7,10 @@ use Rattle.seq_arith.specs.Coming.{StandsBehind}
 use Rattle.seq_arith.specs.Offset.{one_if}
 use Rattle.seq_arith.proofs.Coming.{behind_up}
 use Rattle.tcp_endpoint.specs.States.{has_begun}
-use Rattle.tcp_endpoint.specs.Receiving.{Receiving, next, taken, receive_edge, announced_edge, read_out}
+use Rattle.tcp_endpoint.specs.Receiving.{Receiving, next, taken, receive_edge, advertised_edge, read_out}
 use Rattle.tcp_endpoint.specs.Sending.{Sending, timed}
 use Rattle.tcp_endpoint.specs.Tcb.{Tcb}
-use Rattle.tcp_endpoint.specs.Leaving.{answer_segments, is_timed, announced, with_turn_ended, flushed}
+use Rattle.tcp_endpoint.specs.Leaving.{reset_reply_segments, is_timed, with_advertised, with_turn_ended, flushed}
 use Rattle.tcp_endpoint.specs.Turning.{closing, write_room}
 use Rattle.ft_model.specs.Client.{Client, is_open}
 use Rattle.endpoint_laws.specs.Turn.{Call, used}
@@ -18,7 +18,7 @@ use Rattle.endpoint_laws.specs.Turn.Call.{Reads, Writes, Closes}
 use Rattle.endpoint_laws.proofs.EndingLaw.{FollowsAt, used_follows, flush_follows, named_at}
 use Rattle.endpoint_laws.proofs.AnswersAlone.{closed_sends}
 use Rattle.peer_client.specs.Live.{LiveState, given_up, next_part, supplied, closes, shut, before_flush, sent_by, turned}
-use Rattle.peer_client.specs.Standing.{AreMoves, IsSame, Hears, Sends, Told, Stands, IsStanding}
+use Rattle.peer_client.specs.Standing.{AreMoves, IsSame, Hears, Sends, Told, IsConnected, IsStanding}
 use Rattle.peer_client.proofs.Spoken.{grown, Speaks}
 use Rattle.peer_client.proofs.Leaves.{at, IsWithin, Flushes, Left, leaves}
 use Rattle.peer_client.proofs.Named.{follows_of, over_at}
@@ -144,14 +144,14 @@ pub record Ready (l : LiveState) (c : Client) (u : Tcb) (written : ℕ) : Type 0
   pub syn_acked : u.sending.syn_acked ≡ true
   pub hears : Hears u.receiving c
   pub sends : Sends u.sending written c
-  pub answer : u.answer ≡ None
+  pub reset_reply : u.reset_reply ≡ None
   pub unreset : u.reset ≡ false
   pub edge : c.edge ≤ receive_edge u.receiving
-  pub told : (u.owed ≡ true) ⊎ Told u c
+  pub told : (u.ack_pending ≡ true) ⊎ Told u c
 
-told_read : (u : Tcb) (c : Client) (n : ℕ) → n ≤ length u.receiving.unread → (u.owed ≡ true) ⊎ Told u c
-    → (u.owed ≡ true) ⊎ Told (record u { receiving = read_out u.receiving n }) c
-told_read u c n few (inl owed) = inl owed
+told_read : (u : Tcb) (c : Client) (n : ℕ) → n ≤ length u.receiving.unread → (u.ack_pending ≡ true) ⊎ Told u c
+    → (u.ack_pending ≡ true) ⊎ Told (record u { receiving = read_out u.receiving n }) c
+told_read u c n few (inl ack_pending) = inl ack_pending
 told_read u c n few (inr t) = inr (record {
   bytes = t.bytes;
   fin = t.fin;
@@ -161,10 +161,10 @@ told_read u c n few (inr t) = inr (record {
   fin_taken = t.fin_taken;
 })
 
-told_as : (u v : Tcb) (c : Client) → v.owed ≡ u.owed → v.told_next ≡ u.told_next → v.told_edge ≡ u.told_edge → v.receiving ≡ u.receiving
-    → (u.owed ≡ true) ⊎ Told u c → (v.owed ≡ true) ⊎ Told v c
-told_as u v c owed next edge receiving (inl h) = inl (owed ∙ h)
-told_as u v c owed next edge receiving (inr t) = inr (record {
+told_as : (u v : Tcb) (c : Client) → v.ack_pending ≡ u.ack_pending → v.last_ack_sent ≡ u.last_ack_sent → v.last_advertised_edge ≡ u.last_advertised_edge → v.receiving ≡ u.receiving
+    → (u.ack_pending ≡ true) ⊎ Told u c → (v.ack_pending ≡ true) ⊎ Told v c
+told_as u v c ack_pending next edge receiving (inl h) = inl (ack_pending ∙ h)
+told_as u v c ack_pending next edge receiving (inr t) = inr (record {
   bytes = t.bytes;
   fin = t.fin;
   next_is = next ∙ t.next_is;
@@ -173,7 +173,7 @@ told_as u v c owed next edge receiving (inr t) = inr (record {
   fin_taken = λ k. ap (λ (r : Receiving). r.fin) receiving ∙ t.fin_taken k;
 })
 
-ready_supplied : (l : LiveState) (c : Client) → Stands l c → Ready l c (supplied (given_up l)).tcb (supplied (given_up l)).written
+ready_supplied : (l : LiveState) (c : Client) → IsConnected l c → Ready l c (supplied (given_up l)).tcb (supplied (given_up l)).written
 ready_supplied l c h =
     let n : ℕ = min l.seen (length l.tcb.receiving.unread) in
     let few : n ≤ length l.tcb.receiving.unread = omega arith in
@@ -189,7 +189,7 @@ ready_supplied l c h =
       syn_acked = h.syn_acked;
       hears = read_hears l.tcb.receiving c n few h.agrees.hears;
       sends = subst S h.agrees.same.script (write_sends u.sending l.written room c full h.agrees.sends);
-      answer = h.answer;
+      reset_reply = h.reset_reply;
       unreset = h.unreset;
       edge = omega (arith, h.edge, read_edge l.tcb.receiving n);
       told = told_as u (supplied (given_up l)).tcb c refl refl refl refl (told_read l.tcb c n few h.told);
@@ -206,14 +206,14 @@ ready_shut l c m script h =
       hears = h.hears;
       sends = close_sends m.tcb.sending m.written c
           (omega (arith, h.sends.within, le_of (length m.script) m.written (right_true (has_begun m.tcb.name) (nat_le (length m.script) m.written) k), ap length script)) h.sends;
-      answer = h.answer;
+      reset_reply = h.reset_reply;
       unreset = h.unreset;
       edge = h.edge;
       told = told_as m.tcb (closing m.tcb) c refl refl refl refl h.told;
     })
     (λ k. h)
 
-pub ready : (l : LiveState) (c : Client) → Stands l c → Ready l c (before_flush l).tcb (before_flush l).written
+pub ready : (l : LiveState) (c : Client) → IsConnected l c → Ready l c (before_flush l).tcb (before_flush l).written
 ready l c h = ready_shut l c (supplied (given_up l)) (sym h.agrees.same.script) (ready_supplied l c h)
 
 -- the timer changes nothing else
@@ -298,26 +298,26 @@ pub record Turned (l : LiveState) (c : Client) : Type 0 where
   pub moves : AreMoves c (sent_by l) later
   pub standing : IsStanding (turned l) later
 
-pub follows_before : (l : LiveState) (c : Client) → Stands l c → FollowsAt (before_flush l).tcb
+pub follows_before : (l : LiveState) (c : Client) → IsConnected l c → FollowsAt (before_flush l).tcb
 follows_before l c h = subst FollowsAt (calls_are l) (used_follows (calls_of l) l.tcb (follows_of l c h))
 
 begun_told : (u : Tcb) (sent : ℕ) (fin : Bool) (c : Client) → has_begun u.name ≡ true
     → Told (with_turn_ended (at u sent fin)) (grown c sent (receive_edge u.receiving))
-unfolding with_turn_ended announced
+unfolding with_turn_ended with_advertised
 begun_told u sent fin c begun = record {
   bytes = taken u.receiving;
   fin = u.receiving.fin;
-  next_is = ap (λ b. if b then next u.receiving else u.told_next) begun;
-  edge_is = ap (λ b. if b then announced_edge u.receiving else u.told_edge) begun;
+  next_is = ap (λ b. if b then next u.receiving else u.last_ack_sent) begun;
+  edge_is = ap (λ b. if b then advertised_edge u.receiving else u.last_advertised_edge) begun;
   bytes_taken = omega arith;
   fin_taken = λ k. k;
 }
 
-turn_ended_stands : (l : LiveState) (c : Client) (sent : ℕ) (fin : Bool) → Stands l c → has_begun (before_flush l).tcb.name ≡ true
+turn_ended_stands : (l : LiveState) (c : Client) (sent : ℕ) (fin : Bool) → IsConnected l c → has_begun (before_flush l).tcb.name ≡ true
     → IsWithin (before_flush l).tcb c (before_flush l).written sent fin → (before_flush l).tcb.sending.sent ≤ sent
     → FollowsAt (with_turn_ended (at (before_flush l).tcb sent fin))
     → IsStanding (record (before_flush l) { tcb = with_turn_ended (at (before_flush l).tcb sent fin) }) (grown c sent (receive_edge (before_flush l).tcb.receiving))
-unfolding with_turn_ended announced
+unfolding with_turn_ended with_advertised
 turn_ended_stands l c sent fin h begun w more follows =
     let u : Tcb = (before_flush l).tcb in
     let edge : ℕ = receive_edge u.receiving in
@@ -346,7 +346,7 @@ turn_ended_stands l c sent fin h begun w more follows =
         named = named_at t follows;
         over = over_at t follows;
         unreset = r.unreset;
-        answer = refl;
+        reset_reply = refl;
         edge = omega arith;
         told = inr (begun_told u sent fin c begun);
         outcome = h.outcome;
@@ -356,7 +356,7 @@ turn_ended_stands l c sent fin h begun w more follows =
       told = begun_told u sent fin c begun;
     }
 
-pub turn_ends : (l : LiveState) (c : Client) → Stands l c → has_begun (before_flush l).tcb.name ≡ true → Turned l c
+pub turn_ends : (l : LiveState) (c : Client) → IsConnected l c → has_begun (before_flush l).tcb.name ≡ true → Turned l c
 unfolding flushed
 turn_ends l c h begun =
     let u : Tcb = (before_flush l).tcb in
@@ -369,7 +369,7 @@ turn_ends l c h begun =
       least = r.sends.least;
       most = r.sends.most;
       shut = r.sends.shut;
-      answer = r.answer;
+      reset_reply = r.reset_reply;
     } in
     let within : IsWithin u c w u.sending.sent u.sending.fin_sent = record { order = r.sends.order; text = r.sends.text; ended = r.sends.ended } in
     let left : Left u c w edge = leaves u c w edge begun f within r.sends.sent r.edge refl r.told in
@@ -383,7 +383,7 @@ turn_ends l c h begun =
     }
 
 -- in CLOSED nothing leaves
-pub closed_leaves : (l : LiveState) (c : Client) → Stands l c → has_begun (before_flush l).tcb.name ≡ false → sent_by l ≡ []
+pub closed_leaves : (l : LiveState) (c : Client) → IsConnected l c → has_begun (before_flush l).tcb.name ≡ false → sent_by l ≡ []
 closed_leaves l c h none =
     let u : Tcb = (before_flush l).tcb in
-    closed_sends u (over_at u (follows_before l c h) none).0 ∙ ap answer_segments (ready l c h).answer
+    closed_sends u (over_at u (follows_before l c h) none).0 ∙ ap reset_reply_segments (ready l c h).reset_reply

@@ -11,7 +11,7 @@ use Rattle.tcp_endpoint.specs.Receiving.{Receiving, read_out}
 use Rattle.tcp_endpoint.specs.Sending.{IsShort}
 use Rattle.tcp_endpoint.specs.Tcb.{Tcb}
 use Rattle.tcp_endpoint.specs.Turning.{closing}
-use Rattle.tcp_endpoint.specs.Leaving.{answer_segments, with_probe, with_text_sent, with_fin_out, after_full, announced, with_turn_ended, flushed}
+use Rattle.tcp_endpoint.specs.Leaving.{reset_reply_segments, with_probe, with_text_sent, with_fin_out, after_full, with_advertised, with_turn_ended, flushed}
 use Rattle.ft_model.specs.Client as machine
 use Rattle.ft_model.specs.Client.{Client, is_ended}
 use Rattle.endpoint_laws.proofs.AnswersAlone.{closed_sends}
@@ -19,7 +19,7 @@ use Rattle.ft_model.specs.declared.phase.Phase.TheVariants as phases
 use Rattle.peer_client.specs.declared.live.ClientEnd.{ClientEnd}
 use Rattle.peer_client.specs.declared.live.ClientEnd.TheVariants as ends
 use Rattle.peer_client.specs.Live.{LiveState, is_of, met, hearing, ticked, unread, handed, given_up, supplied, closes, before_flush, sent_by, turned}
-use Rattle.peer_client.specs.Standing.{AreMoves, IsSame, AnswersBy, Waits, Stands, Hears, HasHeard, IsReset, IsBetween, IsDue, is_for_client, AcksNear, AckFits, Moves, outcome_of, is_reset, receiving, handed_out}
+use Rattle.peer_client.specs.Standing.{AreMoves, IsSame, AnswersBy, Waits, IsConnected, Hears, HasHeard, IsReset, IsBetween, IsDue, is_for_client, AcksNear, AckFits, Moves, outcome_of, is_reset, receiving, handed_out}
 use Rattle.peer_client.proofs.Named.{over_at, acked_at}
 use Rattle.peer_client.proofs.Arrives.{few_sent}
 use Rattle.peer_client.proofs.TurnEnds.{ready, turn_ends, closed_leaves, follows_before}
@@ -83,7 +83,7 @@ read_heard r c n few h = record {
 }
 
 turned_heard : (l : LiveState) (c : Client) → HasHeard l.tcb.receiving c → HasHeard (turned l).tcb.receiving c
-unfolding flushed with_turn_ended announced after_full with_fin_out with_text_sent with_probe
+unfolding flushed with_turn_ended with_advertised after_full with_fin_out with_text_sent with_probe
 turned_heard l c h =
     let m : LiveState = supplied (given_up l) in
     holds_if (λ (t : Tcb). HasHeard t.receiving c) (closes m) (closing m.tcb) m.tcb
@@ -93,7 +93,7 @@ turned_heard l c h =
 heard_from : (r : Receiving) (c : Client) → Hears r c → HasHeard r c
 heard_from r c h = record { count = h.count; rest = h.rest }
 
-stands_ends : (l : LiveState) (c : Client) → Stands l c → (begun : Bool) → has_begun (before_flush l).tcb.name ≡ begun → Moves (turned l) (sent_by l) c
+stands_ends : (l : LiveState) (c : Client) → IsConnected l c → (begun : Bool) → has_begun (before_flush l).tcb.name ≡ begun → Moves (turned l) (sent_by l) c
 stands_ends l c h true begun =
     let t = turn_ends l c h begun in
     record {
@@ -121,9 +121,9 @@ reset_ends l c h =
     let m : LiveState = supplied (given_up l) in
     let name : (before_flush l).tcb.name ≡ Closed =
     holds_if (λ (t : Tcb). t.name ≡ Closed) (closes m) (closing m.tcb) m.tcb (λ k. ap after_close h.name) (λ k. h.name) in
-    let answer : (before_flush l).tcb.answer ≡ None =
-    holds_if (λ (t : Tcb). t.answer ≡ None) (closes m) (closing m.tcb) m.tcb (λ k. h.answer) (λ k. h.answer) in
-    let nothing : sent_by l ≡ [] = closed_sends (before_flush l).tcb name ∙ ap answer_segments answer in
+    let reset_reply : (before_flush l).tcb.reset_reply ≡ None =
+    holds_if (λ (t : Tcb). t.reset_reply ≡ None) (closes m) (closing m.tcb) m.tcb (λ k. h.reset_reply) (λ k. h.reset_reply) in
+    let nothing : sent_by l ≡ [] = closed_sends (before_flush l).tcb name ∙ ap reset_reply_segments reset_reply in
     record {
       later = c;
       moves = subst (λ (xs : List Segment). AreMoves c xs c) (sym nothing) refl;
@@ -158,7 +158,7 @@ unread_is l c h = unread_heard l c (heard_of l c h)
 same_seen : (l : LiveState) (c : Client) (n : ℕ) → IsSame l c → IsSame (record l { seen = n }) c
 same_seen l c n h = record { kind = h.kind; ip = h.ip; port = h.port; server = h.server; script = h.script; isn = h.isn; local = h.local; remote = h.remote }
 
-answers_seen : (l : LiveState) (c : Client) (n : ℕ) (answer : Option Head) → AnswersBy l c answer → AnswersBy (record l { seen = n }) c answer
+answers_seen : (l : LiveState) (c : Client) (n : ℕ) (reset_reply : Option Head) → AnswersBy l c reset_reply → AnswersBy (record l { seen = n }) c reset_reply
 answers_seen l c n None h = tt
 answers_seen l c n (Some head) h = (
   h.0,
@@ -188,13 +188,13 @@ waits_seen l c n h = record {
   nothing_taken = h.nothing_taken;
   unreset = h.unreset;
   probe = h.probe;
-  answer = answers_seen l c n l.tcb.answer h.answer;
+  reset_reply = answers_seen l c n l.tcb.reset_reply h.reset_reply;
   edge = h.edge;
   told = h.told;
   outcome = h.outcome;
 }
 
-stands_seen : (l : LiveState) (c : Client) (n : ℕ) → Stands l c → Stands (record l { seen = n }) c
+stands_seen : (l : LiveState) (c : Client) (n : ℕ) → IsConnected l c → IsConnected (record l { seen = n }) c
 stands_seen l c n h = record {
   agrees = record { same = same_seen l c n h.agrees.same; hears = h.agrees.hears; sends = h.agrees.sends };
   syn_acked = h.syn_acked;
@@ -202,7 +202,7 @@ stands_seen l c n h = record {
   named = h.named;
   over = h.over;
   unreset = h.unreset;
-  answer = h.answer;
+  reset_reply = h.reset_reply;
   edge = h.edge;
   told = h.told;
   outcome = h.outcome;
@@ -212,10 +212,10 @@ pub due_handed : (l : LiveState) (c : Client) (n : ℕ) → IsDue l c → IsDue 
 due_handed l c n (inl h) = inl (waits_seen l c (l.seen + n) h)
 due_handed l c n (inr (inl h)) = inr (inl (stands_seen l c (l.seen + n) h))
 due_handed l c n (inr (inr h)) =
-    inr (inr (record { phase = h.phase; name = h.name; reset = h.reset; answer = h.answer; outcome = h.outcome; heard = h.heard }))
+    inr (inr (record { phase = h.phase; name = h.name; reset = h.reset; reset_reply = h.reset_reply; outcome = h.outcome; heard = h.heard }))
 
 pub between_handed : (l : LiveState) (c : Client) (n : ℕ) → IsBetween l c → IsBetween (handed l n) c
-between_handed l c n (inl h) = inl (record { waits = waits_seen l c (l.seen + n) h.waits; phase = h.phase; again = h.again; answer = h.answer })
+between_handed l c n (inl h) = inl (record { waits = waits_seen l c (l.seen + n) h.waits; phase = h.phase; retransmission_due = h.retransmission_due; reset_reply = h.reset_reply })
 between_handed l c n (inr h) = inr (record { stands = stands_seen l c (l.seen + n) h.stands; begun = h.begun; edge = h.edge; told = h.told })
 
 -- the outcome is the machine's

@@ -56,8 +56,8 @@ abbrev pub hearing : LiveState → Result Segment BadPacket → LiveState
 hearing l (Ok segment) = if is_of l.local l.server segment then met l segment else l
 hearing l (Err bad) = l
 
-abbrev pub heard : LiveState → List ℕ → LiveState
-heard l bytes = hearing l (reading bytes)
+abbrev pub after_packet : LiveState → List ℕ → LiveState
+after_packet l bytes = hearing l (reading bytes)
 
 abbrev pub ticked : LiveState → LiveState
 ticked l = record l { tcb = after_tick l.tcb }

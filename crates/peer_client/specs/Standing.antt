@@ -101,14 +101,14 @@ pub record Waits (l : LiveState) (c : Client) : Type 0 where
   pub agrees : Agrees l c
   pub name : l.tcb.name ≡ names.SynSent
   pub phase : (c.phase ≡ phases.New) ⊎ (c.phase ≡ phases.Opening)
-  pub due : c.phase ≡ phases.New → l.tcb.again ≡ true
+  pub due : c.phase ≡ phases.New → l.tcb.retransmission_due ≡ true
   pub syn_acked : l.tcb.sending.syn_acked ≡ false
   pub closed : l.tcb.sending.closed ≡ false
   pub nothing_sent : l.tcb.sending.sent ≡ 0
   pub nothing_taken : taken l.tcb.receiving ≡ 0
   pub unreset : l.tcb.reset ≡ false
   pub probe : l.tcb.probe ≡ false
-  pub answer : AnswersBy l c l.tcb.answer
+  pub reset_reply : AnswersBy l c l.tcb.reset_reply
   pub edge : c.edge ≤ receive_edge l.tcb.receiving
   pub told : c.phase ≡ phases.Opening → c.edge ≡ receive_edge l.tcb.receiving
   pub outcome : l.outcome ≡ None
@@ -117,22 +117,22 @@ pub record Waits (l : LiveState) (c : Client) : Type 0 where
 pub record Told (e : Tcb) (c : Client) : Type 0 where
   pub bytes : ℕ
   pub fin : Bool
-  pub next_is : e.told_next ≡ bytes + one_if fin
-  pub edge_is : e.told_edge ≡ c.edge + one_if fin
+  pub next_is : e.last_ack_sent ≡ bytes + one_if fin
+  pub edge_is : e.last_advertised_edge ≡ c.edge + one_if fin
   pub bytes_taken : bytes ≤ taken e.receiving
   pub fin_taken : fin ≡ true → e.receiving.fin ≡ true
 
 -- the connection is established, or the FINs of both sides are through
-pub record Stands (l : LiveState) (c : Client) : Type 0 where
+pub record IsConnected (l : LiveState) (c : Client) : Type 0 where
   pub agrees : Agrees l c
   pub syn_acked : l.tcb.sending.syn_acked ≡ true
   pub phase : is_open c.phase ≡ true
   pub named : IsNamedRightly l.tcb
   pub over : has_begun l.tcb.name ≡ false → (l.tcb.name ≡ names.Closed) × (l.tcb.sending.closed ≡ true) × (is_over l.tcb ≡ true)
   pub unreset : l.tcb.reset ≡ false
-  pub answer : l.tcb.answer ≡ None
+  pub reset_reply : l.tcb.reset_reply ≡ None
   pub edge : c.edge ≤ receive_edge l.tcb.receiving
-  pub told : (l.tcb.owed ≡ true) ⊎ Told l.tcb c
+  pub told : (l.tcb.ack_pending ≡ true) ⊎ Told l.tcb c
   pub outcome : l.outcome ≡ outcome_of c
 
 -- what was accepted and not handed out is what the caller may still have
@@ -145,7 +145,7 @@ pub record IsReset (l : LiveState) (c : Client) : Type 0 where
   pub phase : c.phase ≡ phases.Reset
   pub name : l.tcb.name ≡ names.Closed
   pub reset : l.tcb.reset ≡ true
-  pub answer : l.tcb.answer ≡ None
+  pub reset_reply : l.tcb.reset_reply ≡ None
   pub outcome : l.outcome ≡ Some ends.Reset
   pub heard : HasHeard l.tcb.receiving c
 
@@ -153,11 +153,11 @@ pub record IsReset (l : LiveState) (c : Client) : Type 0 where
 pub record IsWaiting (l : LiveState) (c : Client) : Type 0 where
   pub waits : Waits l c
   pub phase : c.phase ≡ phases.Opening
-  pub again : l.tcb.again ≡ false
-  pub answer : l.tcb.answer ≡ None
+  pub retransmission_due : l.tcb.retransmission_due ≡ false
+  pub reset_reply : l.tcb.reset_reply ≡ None
 
 pub record IsStanding (l : LiveState) (c : Client) : Type 0 where
-  pub stands : Stands l c
+  pub stands : IsConnected l c
   pub begun : has_begun l.tcb.name ≡ true
   pub edge : c.edge ≡ receive_edge l.tcb.receiving
   pub told : Told l.tcb c
@@ -167,7 +167,7 @@ IsBetween l c = IsWaiting l c ⊎ IsStanding l c
 
 -- within a turn, until its flush
 abbrev pub IsDue : LiveState → Client → Type 0
-IsDue l c = Waits l c ⊎ (Stands l c ⊎ IsReset l c)
+IsDue l c = Waits l c ⊎ (IsConnected l c ⊎ IsReset l c)
 
 -- a packet of the client's own connection
 abbrev pub is_for_client : Client → Segment → Bool

@@ -7,7 +7,7 @@ ghost use Rattle.tcp_endpoint.specs.Packets.{AreReadable};
 ghost use Rattle.tcp_endpoint.specs.Sending.{IsShort};
 ghost use Rattle.tcp_endpoint.specs.States.{has_begun as begun_lem};
 ghost use Rattle.tcp_endpoint.specs.Turning.{after_read};
-ghost use Rattle.peer_client.specs.Live.{new_live, is_of, end_of, first_end, met, heard, ticked, unread, handed, given_up, supplied, closes as closes_lem};
+ghost use Rattle.peer_client.specs.Live.{new_live, is_of, end_of, first_end, met, after_packet, ticked, unread, handed, given_up, supplied, closes as closes_lem};
 ghost use Rattle.peer_client.specs.Live.{shut as shut_lem, before_flush, sent_by, turned};
 ghost use Rattle.peer_client.specs.Standing.{IsBetween, IsDue, AcksNear, AckFits, receiving, Moves, HasHeard, handed_out, outcome_of};
 ghost use Rattle.seq_arith.specs.PacketGrammar.{reading};
@@ -104,7 +104,7 @@ impl LiveClient {
 
     /// A datagram arrives. Bytes that are no packet from the server to this client are dropped.
     pub fn on_packet(&mut self, bytes: &[u8])
-        ensures state { IsShort self.old.tcb.sending → self.new ≡ heard self.old bytes.now }
+        ensures state { IsShort self.old.tcb.sending → self.new ≡ after_packet self.old bytes.now }
         // The client machine receives what the client does ..
         ensures beside { (c : Client) → IsBetween self.old c → self.old.outcome ≡ None → AcksNear c (reading bytes.now)
             → IsDue self.new (receiving self.old c (reading bytes.now)) }
@@ -117,7 +117,7 @@ impl LiveClient {
     }
 
     fn hear(&mut self, bytes: &[u8])
-        ensures state { IsShort self.old.tcb.sending → self.new ≡ heard self.old bytes.now }
+        ensures state { IsShort self.old.tcb.sending → self.new ≡ after_packet self.old bytes.now }
         ensures fits { AckFits (reading bytes.now) }
         ensures stays { IsSome self.old.outcome → self.new.outcome ≡ self.old.outcome }
     {

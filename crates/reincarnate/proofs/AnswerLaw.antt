@@ -14,7 +14,7 @@ use Rattle.reincarnate.specs.declared.lack.Lack.{Lack}
 use Rattle.reincarnate.specs.declared.lack.Lack.TheVariants as lack
 use Rattle.reincarnate.specs.Cutting.{cuts_of, cuts_through}
 use Rattle.reincarnate.specs.Progress.{EntryState, lacks, asked_for, asks_bytes, asks_lengths, with_bytes, with_lengths, cuts_with}
-use Rattle.reincarnate.specs.Asking.{FetchingState, entries_of, asked_of, asked, or_else, entry_known, head_fits, with_head, with_newest, part_on, lens_on, answered, heard}
+use Rattle.reincarnate.specs.Asking.{FetchingState, entries_of, asked_of, asked, or_else, entry_known, head_fits, with_head, with_newest, part_on, lens_on, answered, after_answer}
 use Rattle.reincarnate.specs.Standing.{StandsFor, StandFor, StandsFetching, AreWhole, AnswerLeads, fetched_then}
 use Rattle.reincarnate.proofs.EntryLaw.{lack_of, lacks_is, wanted_when, wanted_is, nothing_lacks, head_stands, bytes_stand, lengths_stand, cuts_are, follow_within}
 
@@ -274,10 +274,10 @@ done_so service (Some more) (Some s) fits old new l m = (m.0, subst (StandsFetch
 
 -- the whole law of an answer
 pub answers_lead : {S : Type 0} (started : ℕ → S) (after : S → List ℕ → Served S) (s : FetchingState S) (fetched : List Fetched) (message : Message) (fits : Bool) (new : FetchingState S)
-    → StandsFetching (machine (started s.kind) after) fetched s → MatchOption (heard started after message s) ((fits ≡ false) × (new ≡ s)) (λ x. (fits ≡ true) × (new ≡ x))
+    → StandsFetching (machine (started s.kind) after) fetched s → MatchOption (after_answer started after message s) ((fits ≡ false) × (new ≡ s)) (λ x. (fits ≡ true) × (new ≡ x))
     → AnswerLeads (machine (started s.kind) after) (fetched_then s.boot s.count message fetched) fits s new
 answers_lead started after s fetched message fits new st m =
-    done_so (machine (started s.kind) after) (fetched_then s.boot s.count message fetched) (heard started after message s) fits s new
+    done_so (machine (started s.kind) after) (fetched_then s.boot s.count message fetched) (after_answer started after message s) fits s new
     (by_boot (machine (started s.kind) after) (message.boot == s.boot) (fetched_after (wanted s.count fetched) message.body fetched) (answered started after s message.body)
     (by_newest started after s.boot s.kind s.count s.newest s.earlier fetched message.body st)) m
 

@@ -7,7 +7,7 @@ use Rattle.seq_arith.specs.Number.{distance, number_at}
 use Rattle.seq_arith.specs.Offset.{one_if}
 use Rattle.server_trait.specs.Service.{Machine}
 use Rattle.ft_model.specs.Log.{Entry}
-use Rattle.ft_model.specs.Restart.{point_of, resumed_at, run_of, IsSound}
+use Rattle.ft_model.specs.Restart.{point_of, resumed_at, run_of, IsSoundEntry}
 use Rattle.south_wrap.specs.Standing.{south_at}
 use Rattle.north_wrap.specs.Standing.{HasReplayed}
 use Rattle.connection_laws.specs.Splicing.{GoesOnFrom, delta_from, spliced}
@@ -21,10 +21,10 @@ use Rattle.wrapped_conn.specs.Standing.{StandsBefore}
 use Rattle.wrapped_conn.proofs.NumbersAt.{has_fin_is, logged_at}
 use Rattle.reincarnate.specs.Progress.{ReplayedState, IsSegmentSize}
 use Rattle.reincarnate.specs.Standing.{IsReplayed}
-use Rattle.reincarnate.specs.Joining.{SplicedState, goes_on_at, has_end, south_from, north_from, spliced_from, Fits, IsSpliced}
+use Rattle.reincarnate.specs.Joining.{SplicedState, goes_on_at, has_end, south_from, north_from, spliced_from, EntryNumbersFit, IsSpliced}
 use Rattle.wrapped_conn.proofs.Joining.{spliced_local}
 
-goes_on : {S : Type 0} (service : Machine S) (e : Entry) (r : ReplayedState S) (i : ℕ) → Fits r i → IsReplayed service e r → IsSound service e → GoesOnFrom service e i
+goes_on : {S : Type 0} (service : Machine S) (e : Entry) (r : ReplayedState S) (i : ℕ) → EntryNumbersFit r i → IsReplayed service e r → IsSoundEntry service e → GoesOnFrom service e i
 goes_on service e r i f re sound =
     let mss : r.head.mss ≡ e.mss = ap (λ h. h.mss) re.head in
     let bytes : r.head.length ≡ length e.bytes = ap (λ h. h.length) re.head in
@@ -40,7 +40,7 @@ goes_on service e r i f re sound =
       i_fits = f.i_fits;
     }
 
-goes_on_is : {S : Type 0} (service : Machine S) (e : Entry) (r : ReplayedState S) → IsReplayed service e r → IsSound service e → goes_on_at r ≡ resumed_at service e
+goes_on_is : {S : Type 0} (service : Machine S) (e : Entry) (r : ReplayedState S) → IsReplayed service e r → IsSoundEntry service e → goes_on_at r ≡ resumed_at service e
 goes_on_is service e r re sound = let run = re.run sound.output in λ j. min (re.head j).acked (run.made j)
 
 -- a sound entry has room for its FIN
@@ -48,10 +48,10 @@ room_for : (fin : Bool) (n : ℕ) → (fin ≡ true → n < 2 ^ 24) → (fin && 
 room_for false n h = refl
 room_for true n h = let few = h refl in grind (arith, few)
 
-has_end_is : {S : Type 0} (service : Machine S) (e : Entry) (r : ReplayedState S) → IsReplayed service e r → IsSound service e → has_end r.head ≡ e.fin
+has_end_is : {S : Type 0} (service : Machine S) (e : Entry) (r : ReplayedState S) → IsReplayed service e r → IsSoundEntry service e → has_end r.head ≡ e.fin
 has_end_is service e r re sound = ap has_end re.head ∙ room_for e.fin (length e.bytes) sound.fin
 
-replayed : {S : Type 0} (service : Machine S) (e : Entry) (r : ReplayedState S) → IsReplayed service e r → IsSound service e
+replayed : {S : Type 0} (service : Machine S) (e : Entry) (r : ReplayedState S) → IsReplayed service e r → IsSoundEntry service e
     → HasReplayed service (point_of service e) (resumed_at service e) (north_from r)
 replayed service e r re sound =
     let run = re.run sound.output in
@@ -75,7 +75,7 @@ replayed service e r re sound =
       shut = refl;
     }
 
-south_is : {S : Type 0} (service : Machine S) (e : Entry) (r : ReplayedState S) (i : ℕ) → IsReplayed service e r → IsSound service e
+south_is : {S : Type 0} (service : Machine S) (e : Entry) (r : ReplayedState S) (i : ℕ) → IsReplayed service e r → IsSoundEntry service e
     → south_from i r ≡ south_at (delta_from service e i) (point_of service e)
 south_is service e r i re sound =
     let u = goes_on_is service e r re sound in
@@ -92,7 +92,7 @@ south_is service e r i re sound =
       sent = u j;
     }
 
-pub splice_stands : {S : Type 0} (service : Machine S) (local : Addr) (boot : ℕ) (e : Entry) (r : ReplayedState S) (i : ℕ) → Fits r i → IsReplayed service e r → IsSound service e
+pub splice_stands : {S : Type 0} (service : Machine S) (local : Addr) (boot : ℕ) (e : Entry) (r : ReplayedState S) (i : ℕ) → EntryNumbersFit r i → IsReplayed service e r → IsSoundEntry service e
     → IsSpliced service e i (spliced_from boot local i r)
 splice_stands service local boot e r i f re sound =
     let g = goes_on service e r i f re sound in

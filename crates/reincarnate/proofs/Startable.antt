@@ -26,7 +26,7 @@ use Rattle.wrapped_conn.specs.Sound.{has_peer, IsSoundTcp, IsSound}
 use Rattle.wrapped_conn.proofs.NumbersAt.{has_fin_is}
 use Rattle.reincarnate.specs.Cutting.{HaveBytes}
 use Rattle.reincarnate.specs.Progress.{ReplayedState, IsSegmentSize}
-use Rattle.reincarnate.specs.Joining.{SplicedState, conn_of, goes_on_at, has_end, spliced_from, Fits}
+use Rattle.reincarnate.specs.Joining.{SplicedState, conn_of, goes_on_at, has_end, spliced_from, EntryNumbersFit}
 use Rattle.reincarnate.proofs.Forging.{idle}
 use Rattle.reincarnate.proofs.Joined.{less_fin}
 use Rattle.ft_io.proofs.Booleans.{false_by}
@@ -160,7 +160,7 @@ below false room n is h = absurd (false≢true h)
 below true false n is h = absurd (false≢true h)
 below true true n is h = grind (arith, is)
 
-pub spliced_sound : {S : Type 0} (boot : ℕ) (local : Addr) (i : ℕ) (r : ReplayedState S) → 1 ≤ boot → Fits r i → HaveBytes r.cuts → r.cuts.sum + length r.replay.held ≡ r.head.length
+pub spliced_sound : {S : Type 0} (boot : ℕ) (local : Addr) (i : ℕ) (r : ReplayedState S) → 1 ≤ boot → EntryNumbersFit r i → HaveBytes r.cuts → r.cuts.sum + length r.replay.held ≡ r.head.length
     → r.replay.made ≤ 2 ^ 24 → length r.replay.pending ≤ r.replay.made → IsSound (conn_of (spliced_from boot local i r))
 spliced_sound boot local i r live f have whole made pending =
     let s : SplicedState _ = spliced_from boot local i r in

@@ -72,5 +72,5 @@ answered started after s (LensMsg key first lens) = option_map (with_newest s) (
 answered started after s _ = None
 
 -- an answer to another boot doesn't fit
-abbrev pub heard : {S : Type 0} → (ℕ → S) → (S → List ℕ → Served S) → Message → FetchingState S → Option (FetchingState S)
-heard started after message s = if message.boot == s.boot then answered started after s message.body else None
+abbrev pub after_answer : {S : Type 0} → (ℕ → S) → (S → List ℕ → Served S) → Message → FetchingState S → Option (FetchingState S)
+after_answer started after message s = if message.boot == s.boot then answered started after s message.body else None

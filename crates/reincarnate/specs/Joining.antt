@@ -66,7 +66,7 @@ pub record IsSpliced {S : Type 0} (service : Machine S) (e : Entry) (i : ℕ) (s
   pub parts : PartsStand service (resumed_at service e) i (delta_from service e i) (resumed_at service e) (point_of service e) s.north s.endpoint
 
 -- the numbers of an entry and an initial number are within their ranges
-pub record Fits {S : Type 0} (r : ReplayedState S) (i : ℕ) : Type 0 where
+pub record EntryNumbersFit {S : Type 0} (r : ReplayedState S) (i : ℕ) : Type 0 where
   pub stream : r.head.length ≤ 2 ^ 24
   pub segments : IsSegmentSize r.head.mss
   pub sisn : r.head.sisn < 2 ^ 32

@@ -12,7 +12,7 @@ ghost use Rattle.logger_wire.specs.Value.{body_of, message_of, IsSendable};
 ghost use Rattle.logger_store.specs.Stored.{head_value};
 ghost use Rattle.reincarnate.specs.Progress.{AreReady, IsSegmentSize};
 ghost use Rattle.reincarnate.specs.Asking.{IsAskable, begun_fetching, entries_of, asked_of, asked_entry, asked, entry_known, head_fits, with_head, with_newest};
-ghost use Rattle.reincarnate.specs.Asking.{part_on, lens_on, answered, heard};
+ghost use Rattle.reincarnate.specs.Asking.{part_on, lens_on, answered, after_answer};
 ghost use Rattle.reincarnate.specs.Standing.{StandsFetching, StandsWhole, AnswerLeads, fetched_then, held_of};
 
 use crate::entries::Entries;
@@ -170,7 +170,7 @@ impl<S: Service> Fetching<S> {
     /// Takes an answer, if it fits the question, and returns whether it does. After `NoMemory` it may only be dropped.
     pub fn on_answer(&mut self, alloc: Global, m: &Msg<'_>) -> Result<bool, NoMemory>
         requires { IsSendable m.now }
-        ensures value { IfOk result (λ fits. MatchOption (heard S.started S.after (message_of m.now) self.old)
+        ensures value { IfOk result (λ fits. MatchOption (after_answer S.started S.after (message_of m.now) self.old)
             ((fits ≡ false) × (self.new ≡ self.old)) (λ s. (fits ≡ true) × (self.new ≡ s))) }
         ensures law { IfOk result (λ fits. (fetched : List Fetched) → StandsFetching (machine (S.started self.old.kind) S.after) fetched self.old
             → AnswerLeads (machine (S.started self.old.kind) S.after)
@@ -181,7 +181,7 @@ impl<S: Service> Fetching<S> {
 
     fn hear(&mut self, alloc: Global, m: &Msg<'_>) -> Result<bool, NoMemory>
         requires { IsSendable m.now }
-        ensures value { IfOk result (λ fits. MatchOption (heard S.started S.after (message_of m.now) self.old)
+        ensures value { IfOk result (λ fits. MatchOption (after_answer S.started S.after (message_of m.now) self.old)
             ((fits ≡ false) × (self.new ≡ self.old)) (λ s. (fits ≡ true) × (self.new ≡ s))) }
     {
         if m.boot != self.boot {

@@ -3,10 +3,10 @@
 ghost use Rattle.std.specs.Prelude.{◌≡◌, ◌+◌, ◌^◌, ◌<◌, ◌≤◌, length, min, IfOk, IfErr};
 ghost use Rattle.server_trait.specs.Service.{machine};
 ghost use Rattle.ft_model.specs.Log.{Entry};
-ghost use Rattle.ft_model.specs.Restart.{IsSound};
+ghost use Rattle.ft_model.specs.Restart.{IsSoundEntry};
 ghost use Rattle.south_wrap.specs.SouthState.{resumed_south};
 ghost use Rattle.reincarnate.specs.Standing.{IsReplayed};
-ghost use Rattle.reincarnate.specs.Joining.{has_end, spliced_from, Fits, IsSpliced};
+ghost use Rattle.reincarnate.specs.Joining.{has_end, spliced_from, EntryNumbersFit, IsSpliced};
 ghost use Rattle.reincarnate.specs.Cutting.{HaveBytes};
 ghost use Rattle.logger_store.specs.Stored.{head_value};
 ghost use Rattle.reincarnate.specs.Progress.{IsSegmentSize};
@@ -84,7 +84,7 @@ impl<S: Service> Replayed<S> {
         requires { 1 ≤ boot }
         ensures value { IfOk result (λ s. s ≡ spliced_from boot local isn.0 self) }
         ensures lost { IfErr result (λ e. e.stage ≡ Stage.Replayed) }
-        ensures law { IfOk result (λ s. (fresh : S) (e : Entry) → IsReplayed (machine fresh S.after) e self → IsSound (machine fresh S.after) e
+        ensures law { IfOk result (λ s. (fresh : S) (e : Entry) → IsReplayed (machine fresh S.after) e self → IsSoundEntry (machine fresh S.after) e
             → IsSpliced (machine fresh S.after) e isn.0 s) }
     {
         self.join(alloc, boot, local, isn)
@@ -94,7 +94,7 @@ impl<S: Service> Replayed<S> {
         requires { 1 ≤ boot }
         ensures value { IfOk result (λ s. s ≡ spliced_from boot local isn.0 self) }
         ensures lost { IfErr result (λ e. e.stage ≡ Stage.Replayed) }
-        ensures fits { Fits self isn.0 }
+        ensures fits { EntryNumbersFit self isn.0 }
     {
         let Replayed { head, cuts, replay } = self;
         let south = south_behind(&head, cuts, replay.made(), isn);

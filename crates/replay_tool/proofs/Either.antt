@@ -24,7 +24,7 @@ use Rattle.net_schedule.specs.declared.end.StepEnd.{StepEnd}
 use Rattle.net_schedule.specs.declared.end.StepEnd.TheVariants.{NoMemory, BadEvent, PacketLimit}
 use Rattle.net_schedule.specs.declared.step_out.StepOut.{StepOut}
 use Rattle.schedule_text.specs.Bytes.{content_in}
-use Rattle.replay_tool.specs.Standing.{Stands, IsStanding, PlaysOne, StopsAt}
+use Rattle.replay_tool.specs.Standing.{IsTraceEnd, IsStanding, PlaysOne, StopsAt}
 use Rattle.replay_tool.specs.Traces.{traces_of, traces}
 use Rattle.replay_tool.proofs.OneLog as one
 use Rattle.replay_tool.proofs.TwoLoggers as two
@@ -37,7 +37,7 @@ pub as_many : (twin : Bool) (schedule : Schedule) (events : List Event) (trace :
 as_many true schedule events trace l = two.as_many schedule events trace l
 as_many false schedule events trace l = one.as_many schedule events trace l
 
-pub legal_of : (twin : Bool) (schedule : Schedule) (events : List Event) (trace : List (traces_of twin).Turn) (w : Kept AnyService) → Stands twin schedule events trace w
+pub legal_of : (twin : Bool) (schedule : Schedule) (events : List Event) (trace : List (traces_of twin).Turn) (w : Kept AnyService) → IsTraceEnd twin schedule events trace w
     → (traces_of twin).IsLegal schedule events trace
 legal_of true schedule events trace w s = s.legal
 legal_of false schedule events trace w s = s.legal
@@ -56,12 +56,12 @@ none_legal true schedule start = record { joint = record { start = start; pair =
 none_legal false schedule start = record { joint = start; events_are = refl; allowed = tt }
 
 pub stands_first : (twin : Bool) (schedule : Schedule) (w : Kept AnyService) → (twin ≡ false → StandsAfter any_machine schedule [] [] w) → (twin ≡ true → TwinStandsAfter any_machine schedule [] [] w)
-    → Stands twin schedule [] [] w
+    → IsTraceEnd twin schedule [] [] w
 stands_first true schedule w f g = g refl
 stands_first false schedule w f g = f refl
 
 -- there are as many clients as keys
-as_many_keys : (twin : Bool) (schedule : Schedule) (events : List Event) (trace : List (traces_of twin).Turn) (w : Kept AnyService) → Stands twin schedule events trace w → length w.keys ≡ length w.clients
+as_many_keys : (twin : Bool) (schedule : Schedule) (events : List Event) (trace : List (traces_of twin).Turn) (w : Kept AnyService) → IsTraceEnd twin schedule events trace w → length w.keys ≡ length w.clients
 as_many_keys true schedule events trace w s = ap length s.stands.actors.keys ∙ length-map _ (λ c. c.key) ∙ ap length (sym s.stands.actors.clients)
 as_many_keys false schedule events trace w s = ap length s.stands.keys ∙ length-map _ (λ c. c.key) ∙ ap length (sym s.stands.clients)
 
@@ -69,7 +69,7 @@ pub few_clients : (w : Kept AnyService) → IsStanding w → length w.keys ≤ 1
 few_clients w i few = subst (λ n. n ≤ 16) (as_many_keys i.schedule.twin i.schedule i.events i.trace w i.stands) few
 
 -- the end of a report
-pub closes : (twin : Bool) (schedule : Schedule) (events : List Event) (trace : List (traces_of twin).Turn) (w : Kept AnyService) → Stands twin schedule events trace w
+pub closes : (twin : Bool) (schedule : Schedule) (events : List Event) (trace : List (traces_of twin).Turn) (w : Kept AnyService) → IsTraceEnd twin schedule events trace w
     → (traces_of twin).report schedule trace ≡ header schedule ++ ((traces_of twin).lines schedule trace
     ++ (client_lines 1 w.clients ++ (flat_map log_line w.log.entries ++ end_line (length trace))))
 closes true schedule events trace w s = two.closes schedule events trace w s
@@ -86,7 +86,7 @@ KeepsParcels = (schedule : Schedule) (events : List Event) (trace : List TwinMom
 pub plays_one : KeepsSent → KeepsParcels → (event : Event) (answer : StepOut) (w w' : Kept AnyService)
     → ((schedule : Schedule) (events : List Event) (trace : List Moment) → StandsAfter any_machine schedule events trace w → Steps any_machine schedule events trace event answer w')
     → ((schedule : Schedule) (events : List Event) (trace : List TwinMoment) → TwinStandsAfter any_machine schedule events trace w → TwinSteps any_machine schedule events trace event answer w')
-    → (twin : Bool) (schedule : Schedule) (events : List Event) (trace : List (traces_of twin).Turn) → Stands twin schedule events trace w → PlaysOne twin schedule events trace event answer w'
+    → (twin : Bool) (schedule : Schedule) (events : List Event) (trace : List (traces_of twin).Turn) → IsTraceEnd twin schedule events trace w → PlaysOne twin schedule events trace event answer w'
 plays_one keeps parcels event answer w w' done twin_done true schedule events trace s =
     let d : TwinSteps any_machine schedule events trace event answer w' = twin_done schedule events trace s in
     record {
@@ -124,13 +124,13 @@ stops_two schedule events trace event w' PacketLimit e = record { moment = e.0.m
 pub stops_at : (event : Event) (w w' : Kept AnyService) (end : StepEnd)
     → ((schedule : Schedule) (events : List Event) (trace : List Moment) → StandsAfter any_machine schedule events trace w → EndsStep any_machine schedule events trace event w' end)
     → ((schedule : Schedule) (events : List Event) (trace : List TwinMoment) → TwinStandsAfter any_machine schedule events trace w → TwinEndsStep any_machine schedule events trace event w' end)
-    → (twin : Bool) (schedule : Schedule) (events : List Event) (trace : List (traces_of twin).Turn) → Stands twin schedule events trace w → StopsAt twin schedule events trace event end
+    → (twin : Bool) (schedule : Schedule) (events : List Event) (trace : List (traces_of twin).Turn) → IsTraceEnd twin schedule events trace w → StopsAt twin schedule events trace event end
 stops_at event w w' end ends twin_ends true schedule events trace s = stops_two schedule events trace event w' end (twin_ends schedule events trace s)
 stops_at event w w' end ends twin_ends false schedule events trace s = stops_one schedule events trace event w' end (ends schedule events trace s)
 
 -- what is stored can be read
 can_be_read : KeepsSent → KeepsParcels → (n : ℕ) (way : Way) (bytes : List ℕ) (twin : Bool) (schedule : Schedule) (events : List Event) (trace : List (traces_of twin).Turn) (w : Kept AnyService)
-    → Stands twin schedule events trace w → at_number w.packets.ways n ≡ Some way → at_number w.packets.bytes n ≡ Some bytes → IsSome (content_in way bytes)
+    → IsTraceEnd twin schedule events trace w → at_number w.packets.ways n ≡ Some way → at_number w.packets.bytes n ≡ Some bytes → IsSome (content_in way bytes)
 can_be_read keeps parcels n way bytes true schedule events trace w s e f = two.can_be_read schedule trace w.packets n way bytes (parcels schedule events trace w s) e f
 can_be_read keeps parcels n way bytes false schedule events trace w s e f = one.can_be_read schedule trace w.packets n way bytes (keeps schedule events trace w s) e f
 

@@ -23,7 +23,7 @@ use Rattle.net_schedule.specs.Standing.{Kept}
 use Rattle.ft_io.specs.Faults.{Rose}
 use Rattle.replay_tool.specs.Ends.{end_of_read, CountsFaults}
 use Rattle.replay_tool.specs.OnItsWay.{IsOnItsWay, IsFrontOf, Wrote, WroteFront, Holds}
-use Rattle.replay_tool.specs.Standing.{Stands}
+use Rattle.replay_tool.specs.Standing.{IsTraceEnd}
 use Rattle.replay_tool.specs.Traces.{traces}
 use Rattle.replay_tool.specs.Played.{IsPlayedTo, lines_so_far, NoneIsAllowed, Spells, ReportsAll, ReportsTill, ReportsToLimit, ReportsFront}
 use Rattle.replay_tool.specs.Playing.{Plays, Reaches, StandsAt, StopsPlaying, HoldsAtEnd, EndsPlaying}
@@ -48,7 +48,7 @@ none_played safe schedule legal = record { events = []; trace = []; split = refl
 header_alone : (schedule : Schedule) → lines_so_far schedule [] ≡ header schedule
 header_alone schedule = ap (λ l. header schedule ++ l) (no_lines schedule.twin schedule) ∙ append-nil (header schedule)
 
-pub begins : AreSafe → (schedule : Schedule) (w : Kept AnyService) (old : Option (List ℕ)) (held : List ℕ) → Stands schedule.twin schedule [] [] w → held ≡ header schedule
+pub begins : AreSafe → (schedule : Schedule) (w : Kept AnyService) (old : Option (List ℕ)) (held : List ℕ) → IsTraceEnd schedule.twin schedule [] [] w → held ≡ header schedule
     → Plays schedule schedule.events w old old held
 begins safe schedule w old held s is = record {
   played = none_played safe schedule (legal_of schedule.twin schedule [] [] w s);

@@ -11,7 +11,7 @@ use Rattle.net_schedule.specs.declared.step_out.StepOut.{StepOut}
 use Rattle.replay_tool.specs.Ends.{end_of_step}
 use Rattle.replay_tool.specs.OnItsWay.{IsOnItsWay, Wrote, WroteFront, Holds}
 use Rattle.replay_tool.specs.Played.{IsPlayedTo, lines_so_far, ReportsFront, ReportsToLimit}
-use Rattle.replay_tool.specs.Standing.{Stands, IsStanding, PlaysOne, Exceeds, StopsAt}
+use Rattle.replay_tool.specs.Standing.{IsTraceEnd, IsStanding, PlaysOne, Exceeds, StopsAt}
 use Rattle.replay_tool.specs.Stored.{stored_lines}
 use Rattle.replay_tool.specs.Traces.{traces}
 use Rattle.replay_tool.specs.Playing.{Plays, Reaches, StopsPlaying, piece}
@@ -88,6 +88,6 @@ step_ends schedule others event n w w' old now held NoMemory r at e keeps = hold
 step_ends schedule others event n w w' old now held (BadEvent why) r at e keeps =
     let p : Plays schedule (event ∷ others) w old now held = r.plays in
     let back : Plays schedule (event ∷ others) w' old now held =
-    record { played = p.played; stands = subst (Stands schedule.twin schedule p.played.events p.played.trace) (sym keeps) p.stands; text = p.text } in
+    record { played = p.played; stands = subst (IsTraceEnd schedule.twin schedule p.played.events p.played.trace) (sym keeps) p.stands; text = p.text } in
     record { event = event; others = others; reaches = record { plays = back; held_back = r.held_back }; number_is = at; refused = e }
 step_ends schedule others event n w w' old now held PacketLimit r at e keeps = holds_to_limit schedule others event w old now held r.plays e

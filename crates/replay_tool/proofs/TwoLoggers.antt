@@ -14,7 +14,7 @@ use Rattle.ft_model.specs.Schedule.{clients_of, kind_of}
 use Rattle.ft_model.specs.declared.event.Event.{Event}
 use Rattle.ft_model.specs.declared.schedule.Schedule.{Schedule}
 use Rattle.ft_model.specs.declared.way.Way.{Way}
-use Rattle.twin_laws.specs.Twin.{Request, Between, bytes_of, told, asked, forwarded_as}
+use Rattle.twin_laws.specs.Twin.{Request, Between, bytes_of, from_other_logger, asked, forwarded_as}
 use Rattle.twin_laws.specs.Twin.Between.{Forward, Got}
 use Rattle.twin_laws.specs.Twin.Comes.{Tells}
 use Rattle.twin_laws.specs.TwinLegal.{IsTwinLegalFor, twin_start, twin_events_of, event_of, twin_packets_sent, bytes_of_parcel}
@@ -60,7 +60,7 @@ said_by number request (Err why) e = absurd (cc)
 
 between_is_read : (between : Between) → IsRead between → content_in (way_of_between between) (bytes_of between) ≡ Some (between_words between)
 between_is_read (Forward number request) r =
-    ap told_words r.0 ∙ said_by number request (messages.reading request.bytes) (sym (ap told r.0) ∙ r.1)
+    ap told_words r.0 ∙ said_by number request (messages.reading request.bytes) (sym (ap from_other_logger r.0) ∙ r.1)
 between_is_read (Got number) r = ap told_words r.0
 
 -- what is stored of a parcel is read as the parcel

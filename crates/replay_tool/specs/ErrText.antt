@@ -37,8 +37,8 @@ limit_word Events = codes "events"
 limit_word Packets = codes "packets"
 
 -- the program's name, a text, and the end of the line
-unfoldable pub told : List ℕ → List ℕ
-told text = codes "ftreplay: " ++ (text ++ 10 ∷ [])
+unfoldable pub error_line : List ℕ → List ℕ
+error_line text = codes "ftreplay: " ++ (text ++ 10 ∷ [])
 
 -- a name with its number, and a word
 unfoldable pub numbered : List ℕ → ℕ → List ℕ → List ℕ
@@ -56,4 +56,4 @@ cause_text (TooLong what) = codes "too long: " ++ limit_word what
 
 abbrev pub text_of : RunEnd → List ℕ
 text_of WriteFault = []
-text_of end = told (cause_text end)
+text_of end = error_line (cause_text end)

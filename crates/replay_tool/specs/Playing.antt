@@ -7,7 +7,7 @@ use Rattle.net_schedule.specs.Standing.{Kept}
 use Rattle.sample_servers.specs.declared.any_service.AnyService.{AnyService}
 use Rattle.replay_tool.specs.OnItsWay.{IsOnItsWay, Wrote, Holds}
 use Rattle.replay_tool.specs.Played.{IsPlayedTo, lines_so_far, ReportsTill, ReportsToLimit, ReportsFront}
-use Rattle.replay_tool.specs.Standing.{Stands}
+use Rattle.replay_tool.specs.Standing.{IsTraceEnd}
 use Rattle.replay_tool.specs.Traces.{traces}
 use Rattle.replay_tool.specs.declared.status.TooMuch.TheVariants.{Packets}
 use Rattle.replay_tool.specs.declared.status.RunEnd.{RunEnd}
@@ -20,7 +20,7 @@ piece = 65536
 -- All events but these are played: the world is at that point, and the lines so far are being written to the sink, which had taken `old`.
 pub record Plays (schedule : Schedule) (others : List Event) (w : Kept AnyService) (old now : Option (List ℕ)) (held : List ℕ) : Type 0 where
   pub played : IsPlayedTo schedule others
-  pub stands : Stands schedule.twin schedule played.events played.trace w
+  pub stands : IsTraceEnd schedule.twin schedule played.events played.trace w
   pub text : IsOnItsWay old now held (lines_so_far schedule played.trace)
 
 -- .. and less than a piece of them is held back. So while the next event is played, at most that and the event's own lines are held back

@@ -15,22 +15,22 @@ use Rattle.replay_tool.specs.Stored.{stored_lines}
 use Rattle.replay_tool.specs.Traces.{traces_of}
 
 -- at the end of a legal trace of a schedule
-abbrev pub Stands : (twin : Bool) → Schedule → List Event → List (traces_of twin).Turn → Kept AnyService → Type 0
-Stands true schedule events trace w = TwinStandsAfter any_machine schedule events trace w
-Stands false schedule events trace w = StandsAfter any_machine schedule events trace w
+abbrev pub IsTraceEnd : (twin : Bool) → Schedule → List Event → List (traces_of twin).Turn → Kept AnyService → Type 0
+IsTraceEnd true schedule events trace w = TwinStandsAfter any_machine schedule events trace w
+IsTraceEnd false schedule events trace w = StandsAfter any_machine schedule events trace w
 
 -- .. of some schedule
 pub record IsStanding (w : Kept AnyService) : Type 0 where
   pub schedule : Schedule
   pub events : List Event
   pub trace : List (traces_of schedule.twin).Turn
-  pub stands : Stands schedule.twin schedule events trace w
+  pub stands : IsTraceEnd schedule.twin schedule events trace w
 
 -- one event more is played, and its lines are the event's own and those of the packets that were stored with it
 pub record PlaysOne (twin : Bool) (schedule : Schedule) (events : List Event) (trace : List (traces_of twin).Turn) (event : Event) (answer : StepOut)
     (w : Kept AnyService) : Type 0 where
   pub moment : (traces_of twin).Turn
-  pub stands : Stands twin schedule (events ++ event ∷ []) (moment ∷ trace) w
+  pub stands : IsTraceEnd twin schedule (events ++ event ∷ []) (moment ∷ trace) w
   pub within : (traces_of twin).sent schedule (moment ∷ trace) ≤ 200000
   pub lines : (traces_of twin).lines schedule (moment ∷ trace)
       ≡ (traces_of twin).lines schedule trace ++ (event_line (length events + 1) event ++ stored_lines w.packets answer.first answer.count)

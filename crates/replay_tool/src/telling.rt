@@ -5,7 +5,7 @@ ghost use Rattle.std.specs.Io.KnownBytes.{Appends};
 ghost use Rattle.ft_io.specs.Faults.{Rose};
 ghost use Rattle.replay_tool.specs.OnItsWay.{WroteFront, CountsFailed};
 ghost use Rattle.replay_tool.specs.Ends.{code_of};
-ghost use Rattle.replay_tool.specs.ErrText.{line_word as line_lem, event_word as event_lem, limit_word as limit_lem, numbered, told, cause_text, text_of};
+ghost use Rattle.replay_tool.specs.ErrText.{line_word as line_lem, event_word as event_lem, limit_word as limit_lem, numbered, error_line, cause_text, text_of};
 
 use crate::status::{RunEnd, Status, TooMuch};
 use ft_io::{Failed, Sink, write_all};
@@ -118,10 +118,10 @@ fn write_line<E: Sink>(err: &mut E, end: RunEnd) -> Result<(), Failed>
 }
 
 /// The text of an end, on a line of its own.
-#[tactic(auto, using(crate::proofs::Fronts::then_whole, crate::proofs::Fronts::then_front, crate::proofs::Fronts::front_then), unfolding(crate::specs::ErrText::told))]
+#[tactic(auto, using(crate::proofs::Fronts::then_whole, crate::proofs::Fronts::then_front, crate::proofs::Fronts::front_then), unfolding(crate::specs::ErrText::error_line))]
 fn write_end<E: Sink>(err: &mut E, end: RunEnd) -> Result<(), Failed>
-    ensures whole { OnOk result (Appends (E.taken err.old) (E.taken err.new) (told (cause_text end))) }
-    ensures front { OnErr result (WroteFront (E.taken err.old) (E.taken err.new) (told (cause_text end))) }
+    ensures whole { OnOk result (Appends (E.taken err.old) (E.taken err.new) (error_line (cause_text end))) }
+    ensures front { OnErr result (WroteFront (E.taken err.old) (E.taken err.new) (error_line (cause_text end))) }
     ensures fault { CountsFailed (E.fault_count err.old) (E.fault_count err.new) result }
 {
     write_text(err, b"ftreplay: ")?;

@@ -15,7 +15,7 @@ use Rattle.seq_arith.specs.Generator.{stepped}
 use Rattle.seed_run.specs.Draws.{draw}
 use Rattle.seed_run.specs.Events.{Drawn, server_event, risky_event, delivery, text_start, text_event, progress, acknowledgement, client_event, server_of, next_event_in}
 use Rattle.seed_run.proofs.Boots.{HasNextBoot}
-use Rattle.seed_run.proofs.Clients.{Keeps}
+use Rattle.seed_run.proofs.Clients.{ClientInvariant}
 use Rattle.ft_io.proofs.Choices.{holds_if}
 use Rattle.ft_model.proofs.FaithfulOver.{client_there}
 
@@ -125,18 +125,18 @@ acknowledgement_allowed w state number c e =
     holds_if (IsAllowed w) (is_open c.phase) (record { event = events.Ack number 65535; state = state }) (server_event state (server_of w))
     (λ t. (made w number c Acknowledge e t refl, tt)) (λ t. server_allowed w state)
 
-client_allowed : (w : World) (die state number : ℕ) (o : Option Client) → client_at w.clients number ≡ o → AllByRecursion Keeps w.clients
+client_allowed : (w : World) (die state number : ℕ) (o : Option Client) → client_at w.clients number ≡ o → AllByRecursion ClientInvariant w.clients
     → IsAllowed w (client_event die state number o (server_of w))
 client_allowed w die state number None e k = server_allowed w state
 client_allowed w die state number (Some c) e k =
-    let keeps : Keeps c = client_there Keeps w.clients number c k e in
+    let keeps : ClientInvariant c = client_there ClientInvariant w.clients number c k e in
     holds_if (IsAllowed w) (nat_lt die 11 || is_new c.phase || is_opening c.phase) (progress state number c (server_of w)) (acknowledgement state number c (server_of w))
     (λ t. progress_allowed w state number c e keeps.within.0) (λ t. acknowledgement_allowed w state number c e)
 
 some_packets : (n : ℕ) → (n == 0) ≡ false → 0 < n
 some_packets n e = grind (arith, nat_tests, e)
 
-pub allowed : (w : World) (state : ℕ) → AllByRecursion Keeps w.clients → IsAllowed w (next_event_in state w)
+pub allowed : (w : World) (state : ℕ) → AllByRecursion ClientInvariant w.clients → IsAllowed w (next_event_in state w)
 allowed w state k =
     let later : ℕ = stepped (stepped state) in
     let number : ℕ = 1 + draw (stepped state) % length w.clients in

@@ -78,11 +78,11 @@ move_within c (Refuse number) window e h = h
 abbrev pub total_of : Key → ℕ
 total_of key = 1000 * (key.ip - 3221225984)
 
-pub record Keeps (c : Client) : Type 0 where
+pub record ClientInvariant (c : Client) : Type 0 where
   pub total : length c.script ≡ total_of c.key
   pub within : IsWithin c
 
-heard_keeps : (c : Client) (segment : Segment) → Keeps c → Keeps (received c segment)
+heard_keeps : (c : Client) (segment : Segment) → ClientInvariant c → ClientInvariant (received c segment)
 heard_keeps c segment k =
     let s = received_same c segment in
     record { total = ap length s.script ∙ (k.total ∙ ap total_of (sym s.key)); within = received_within c segment k.within }
@@ -90,13 +90,13 @@ heard_keeps c segment k =
 may_range : (c : Client) (move : Move) → may_move c move ≡ true → suits_range c move ≡ true
 may_range c move e = (and_parts (suits_kind c.kind move && suits_phase c move) (suits_range c move) e).1
 
-move_keeps : (c later : Client) (segment : Segment) → IsMove c segment later → Keeps c → Keeps later
+move_keeps : (c later : Client) (segment : Segment) → IsMove c segment later → ClientInvariant c → ClientInvariant later
 move_keeps c later segment m k =
-    subst Keeps (sym m.after_is) (record { total = k.total; within = move_within c m.move m.window (may_range c m.move m.may) k.within })
+    subst ClientInvariant (sym m.after_is) (record { total = k.total; within = move_within c m.move m.window (may_range c m.move m.may) k.within })
 
 -- what holds of the clients of a run
 pub record AllKeep (start w : World) : Type 0 where
-  pub keeps : AllByRecursion Keeps w.clients
+  pub keeps : AllByRecursion ClientInvariant w.clients
   pub keys : map (λ c. c.key) w.clients ≡ map (λ c. c.key) start.clients
 
 head_key : (key : Key) (change : Client → Client) (c : Client) → (key_eq c.key key ≡ true → (change c).key ≡ c.key) → (if key_eq c.key key then change c else c).key ≡ c.key
@@ -110,13 +110,13 @@ keys_stay key change (c ∷ cs) keeps =
 
 all_stay : (start before after : World) → after.clients ≡ before.clients → AllKeep start before → AllKeep start after
 all_stay start before after e k =
-    record { keeps = subst (AllByRecursion Keeps) (sym e) k.keeps; keys = ap (λ cs. map (λ c. c.key) cs) e ∙ k.keys }
+    record { keeps = subst (AllByRecursion ClientInvariant) (sym e) k.keeps; keys = ap (λ cs. map (λ c. c.key) cs) e ∙ k.keys }
 
 all_change : (start before after : World) (key : Key) (change : Client → Client) → after.clients ≡ with_client key change before.clients
-    → ((c : Client) → c.key ≡ key → Keeps c → Keeps (change c)) → ((c : Client) → c.key ≡ key → (change c).key ≡ c.key)
+    → ((c : Client) → c.key ≡ key → ClientInvariant c → ClientInvariant (change c)) → ((c : Client) → c.key ≡ key → (change c).key ≡ c.key)
     → AllKeep start before → AllKeep start after
 all_change start before after key change e keeps name k = record {
-  keeps = subst (AllByRecursion Keeps) (sym e) (clients_fit Keeps key change before.clients keeps k.keeps);
+  keeps = subst (AllByRecursion ClientInvariant) (sym e) (clients_fit ClientInvariant key change before.clients keeps k.keeps);
   keys = ap (λ cs. map (λ c. c.key) cs) e ∙ (keys_stay key change before.clients (λ c t. name c (same_key c.key key t)) ∙ k.keys);
 }
 
@@ -127,27 +127,27 @@ all_step service start before sent after k (client_heard segment under t e) =
     (λ c name h. heard_keeps c segment h) (λ c name. (received_same c segment).key) k
 all_step service start before sent after k (client_moved number m) =
     let name : m.later.key ≡ m.client.key = ap (λ c. c.key) m.move.after_is in
-    let mover : Keeps m.client = client_there Keeps before.clients number m.client k.keeps m.is_there in
+    let mover : ClientInvariant m.client = client_there ClientInvariant before.clients number m.client k.keeps m.is_there in
     all_change start before after m.client.key (λ _. m.later) (ap (λ w. w.clients) m.after_is)
     (λ c is h. move_keeps m.client m.later m.segment m.move mover) (λ c is. name ∙ sym is) k
 all_step service start before sent after k (server_turned input node later brought is turn e) = all_stay start before after (ap (λ w. w.clients) e) k
 all_step service start before sent after k (server_booted boot isn is_down larger t e) = all_stay start before after (ap (λ w. w.clients) e) k
 all_step service start before sent after k (server_down t e) = all_stay start before after (ap (λ w. w.clients) e) k
 
-pub all_keep : {State : Type 0} (service : Machine State) (start : World) (trace : List Moment) → AllByRecursion Keeps start.clients → Joint service start trace
+pub all_keep : {State : Type 0} (service : Machine State) (start : World) (trace : List Moment) → AllByRecursion ClientInvariant start.clients → Joint service start trace
     → AllKeep start (world_after start trace)
 all_keep service start trace first j =
     holds_after service (AllKeep start) start (λ s. record { keeps = first; keys = refl }) (λ before sent after k h. all_step service start before sent after k h) trace j
 
 -- the clients with which a generated run starts
-new_keeps : (state i : ℕ) → Keeps (client_of server_address (client_line state i))
+new_keeps : (state i : ℕ) → ClientInvariant (client_of server_address (client_line state i))
 new_keeps state i = record { total = length_letters (1000 * i) ∙ ap (λ k. 1000 * k) (omega arith); within = (omega arith, omega arith) }
 
-lines_keep : (state n : ℕ) → AllByRecursion (λ line. Keeps (client_of server_address line)) (client_lines state n)
+lines_keep : (state n : ℕ) → AllByRecursion (λ line. ClientInvariant (client_of server_address line)) (client_lines state n)
 lines_keep state zero = tt
 lines_keep state (suc n) =
-    all_append (λ line. Keeps (client_of server_address line)) (client_lines state n) (client_line (after_draws state n) (n + 1) ∷ []) (lines_keep state n)
+    all_append (λ line. ClientInvariant (client_of server_address line)) (client_lines state n) (client_line (after_draws state n) (n + 1) ∷ []) (lines_keep state n)
     (new_keeps (after_draws state n) (n + 1), tt)
 
-pub start_keeps : (state n : ℕ) → AllByRecursion Keeps (clients_of server_address (client_lines state n))
-start_keeps state n = all_map Keeps (client_of server_address) (client_lines state n) (lines_keep state n)
+pub start_keeps : (state n : ℕ) → AllByRecursion ClientInvariant (clients_of server_address (client_lines state n))
+start_keeps state n = all_map ClientInvariant (client_of server_address) (client_lines state n) (lines_keep state n)

@@ -15,7 +15,7 @@ use Rattle.seed_run.specs.Summary.{count_events, is_boot, is_crash}
 use Rattle.seed_run.specs.Runs.{start_of_run, StandsBehind}
 use Rattle.seed_run.specs.declared.asked.Asked.{Asked}
 use Rattle.seed_run.specs.declared.progress.Progress.{Progress}
-use Rattle.seed_run.proofs.Clients.{Keeps, AllKeep}
+use Rattle.seed_run.proofs.Clients.{ClientInvariant, AllKeep}
 use Rattle.seed_run.proofs.Starting.{count_lines}
 use Rattle.seed_run.proofs.Stepping.{world_of, clients_keep}
 use Rattle.seq_arith.proofs.Units.{one_at_most}
@@ -64,7 +64,7 @@ key_of_place (d ∷ cs) zero c e = ap (λ x. Some x.key) (some_is d c e)
 key_of_place (d ∷ cs) (suc n) c e = key_of_place cs n c e
 
 -- client n has 1000 * n bytes to send
-total_at : (cs : List Client) (n : ℕ) (c : Client) → AreInRow 1 (keys_in cs) → client_at cs n ≡ Some c → Keeps c → length c.script ≡ 1000 * n
+total_at : (cs : List Client) (n : ℕ) (c : Client) → AreInRow 1 (keys_in cs) → client_at cs n ≡ Some c → ClientInvariant c → length c.script ≡ 1000 * n
 total_at cs zero c row e k = none_is_some c e
 total_at cs (suc n) c row e k =
     let at : c.key.ip ≡ 3221225984 + (1 + n) = row_at 1 (keys_in cs) n c.key row (key_of_place cs n c e) in
@@ -76,7 +76,7 @@ totals asked n w p s number c e =
     let v : World = world_of asked s.trace in
     let keeps : AllKeep (start_of_run asked) (world_of asked s.trace) = clients_keep asked n w p s in
     let there : client_at v.clients number ≡ Some c = ap (λ cs. client_at cs number) (sym s.stands.stands.clients) ∙ e in
-    total_at v.clients number c (subst (AreInRow 1) (sym keeps.keys) (lines_in_row asked.seed asked.clients)) there (client_there Keeps v.clients number c keeps.keeps there)
+    total_at v.clients number c (subst (AreInRow 1) (sym keeps.keys) (lines_in_row asked.seed asked.clients)) there (client_there ClientInvariant v.clients number c keeps.keeps there)
 
 pub client_count : (asked : Asked) (n : ℕ) (w : Kept AnyService) (p : Progress) → StandsBehind asked n w p → asked.clients ≡ length w.clients
 client_count asked n w p s =

@@ -23,21 +23,21 @@ unfolding stepped
 small_draw state = let h : (state * 6364136223846793005 + 1442695040888963407) % 2 ^ 64 < 2 ^ 64 = mod-lt _ (lit< tt) in omega (arith, h)
 
 -- a client that starts is one that a schedule can have
-pub record Fits (line : ClientLine) : Type 0 where
+pub record LineFits (line : ClientLine) : Type 0 where
   pub short : length (bytes_of line.script) ≤ 2 ^ 24
   pub number : line.isn < 2 ^ 32
   pub sizes : FitsClient line
 
-line_fits : (state i : ℕ) → i ≤ 16 → Fits (client_line state i)
+line_fits : (state i : ℕ) → i ≤ 16 → LineFits (client_line state i)
 line_fits state i h =
     let length_is : length (letters (1000 * i)) ≡ 1000 * i = length_letters (1000 * i) in
     let small : draw state < 2 ^ 31 = small_draw state in
     record { short = omega (arith, h, length_is); number = omega (arith, small); sizes = ((omega (arith, h), lit< tt), omega (arith, small), omega (arith, h)) }
 
-lines_fit : (state n : ℕ) → n ≤ 16 → AllByRecursion Fits (client_lines state n)
+lines_fit : (state n : ℕ) → n ≤ 16 → AllByRecursion LineFits (client_lines state n)
 lines_fit state zero h = tt
 lines_fit state (suc n) h =
-    all_append Fits (client_lines state n) (client_line (after_draws state n) (n + 1) ∷ []) (lines_fit state n (omega (arith, h)))
+    all_append LineFits (client_lines state n) (client_line (after_draws state n) (n + 1) ∷ []) (lines_fit state n (omega (arith, h)))
     (line_fits (after_draws state n) (n + 1) (omega (arith, h)), tt)
 
 abbrev are_apart_at : ℕ → ℕ → Type 0
@@ -65,12 +65,12 @@ apart state (suc (suc (suc (suc (suc (suc (suc (suc (suc (suc (suc (suc (suc (su
 
 pub can_be_played : (seed n : ℕ) → n ≤ 16 → IsPlayable (schedule_of seed n [])
 can_be_played seed n h =
-    let fit : AllByRecursion Fits (client_lines seed n) = lines_fit seed n h in
+    let fit : AllByRecursion LineFits (client_lines seed n) = lines_fit seed n h in
     record {
       server = (lit< tt, lit< tt);
-      short = All-from_recursion (λ line. length (bytes_of line.script) ≤ 2 ^ 24) (client_lines seed n) (all_weaker Fits _ (client_lines seed n) (λ line f. f.short) fit);
-      numbers = all_weaker Fits _ (client_lines seed n) (λ line f. f.number) fit;
-      sizes = all_weaker Fits _ (client_lines seed n) (λ line f. f.sizes) fit;
+      short = All-from_recursion (λ line. length (bytes_of line.script) ≤ 2 ^ 24) (client_lines seed n) (all_weaker LineFits _ (client_lines seed n) (λ line f. f.short) fit);
+      numbers = all_weaker LineFits _ (client_lines seed n) (λ line f. f.number) fit;
+      sizes = all_weaker LineFits _ (client_lines seed n) (λ line f. f.sizes) fit;
       apart = apart seed n h;
       events = tt;
     }

@@ -31,7 +31,7 @@ use Rattle.wrapped_conn.proofs.Hearing.{hears, starts}
 use Rattle.wrapped_conn.proofs.Joining.{new_starts}
 use Rattle.wrapped_conn.proofs.Receiving.{receives}
 use Rattle.wrapped_conn.proofs.Ticking.{ticks}
-use Rattle.server_node.specs.Conn.{Begins, Stands, IsSound, IsOurs, Acts}
+use Rattle.server_node.specs.Conn.{Begins, IsOursAt, IsSound, IsOurs, Acts}
 use Rattle.server_node.specs.Hearing.{logged_in}
 use Rattle.server_node.proofs.Came.{fits, text_fits}
 use Rattle.server_node.proofs.Turned.{IsTyped, acts}
@@ -101,9 +101,9 @@ ours service server boot news p c now segments messages own l =
     subst (λ a. Leads service a boot news p now segments messages) own.local (subst (λ b. Leads service c.local b news p now segments messages) own.incarnation l)
 
 pub tick_acts : {S : Type 0} (service : Machine S) (server : Addr) (boot : ℕ) (p : Point) (c now : ConnState S) (segments messages : List (List ℕ))
-    → IsTyped server boot p.key segments messages → IsSound c → IsSound now → TicksOn c now segments messages → Stands service server boot c p
+    → IsTyped server boot p.key segments messages → IsSound c → IsSound now → TicksOn c now segments messages → IsOursAt service server boot c p
     → Acts service server boot Ticks p now segments messages
-unfolding Stands IsSound
+unfolding IsOursAt IsSound
 tick_acts service server boot p c now segments messages typed s s_now r st =
     let same = ticks_same c now segments messages r in
     acts service server boot Ticks p now segments messages typed tt st.1.size (counts_standing service c p p.reset st.0.parts) s_now (same.local ∙ st.1.local) (same.boot ∙ st.1.incarnation)
@@ -111,9 +111,9 @@ tick_acts service server boot p c now segments messages typed s s_now r st =
 
 pub segment_acts : {S : Type 0} (service : Machine S) (server : Addr) (boot : ℕ) (p : Point) (c now : ConnState S) (bytes : List ℕ) (segment : Segment) (segments messages : List (List ℕ))
     → ((i : ℕ) → slice_index bytes i < 256) → IsTyped server boot p.key segments messages → IsSound c → IsSound now
-    → IfOk (reading bytes) (λ came. Receives service.after came c now segments messages) → reading bytes ≡ Ok segment → IsNear p.cisn p.sisn segment → Stands service server boot c p
+    → IfOk (reading bytes) (λ came. Receives service.after came c now segments messages) → reading bytes ≡ Ok segment → IsNear p.cisn p.sisn segment → IsOursAt service server boot c p
     → Acts service server boot (Comes segment) p now segments messages
-unfolding Stands IsSound
+unfolding IsOursAt IsSound
 segment_acts service server boot p c now bytes segment segments messages small typed s s_now told reads near st =
     let r : Receives service.after segment c now segments messages = subst (λ read. IfOk read (λ came. Receives service.after came c now segments messages)) reads told in
     let same = receives_same service segment c now segments messages r in
@@ -132,8 +132,8 @@ heard_in service _ kept c now segments messages e r = none_is_some kept e
 
 pub message_acts : {S : Type 0} (service : Machine S) (server : Addr) (boot : ℕ) (p : Point) (c now : ConnState S) (said : Said) (kept : Kept) (segments messages : List (List ℕ))
     → IsTyped server boot p.key segments messages → IsSound c → IsSound now → logged_in (body_of said) ≡ Some kept → IsTold service.after said c now segments messages
-    → Stands service server boot c p → Acts service server boot (Logged kept) p now segments messages
-unfolding Stands IsSound
+    → IsOursAt service server boot c p → Acts service server boot (Logged kept) p now segments messages
+unfolding IsOursAt IsSound
 message_acts service server boot p c now said kept segments messages typed s s_now says told st =
     let r = heard_in service said kept c now segments messages says told in
     let same = hears_same service kept c now segments messages r in

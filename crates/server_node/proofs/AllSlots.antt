@@ -16,13 +16,13 @@ use Rattle.server_node.specs.declared.slot.Slot.{Slot}
 use Rattle.server_node.specs.declared.slot.Slot.TheVariants as slot
 use Rattle.ft_model.proofs.Lists.{all_append}
 use Rattle.ft_model.specs.Wire.{Wire, wire_of, HasWire}
-use Rattle.server_node.specs.Conn.{Stands, ConnGoes}
+use Rattle.server_node.specs.Conn.{IsOursAt, ConnGoes}
 use Rattle.server_node.specs.Slots.{SlotStands, AllStand, SlotGoes, AllSlotsGo, FirstGo}
 
 -- a live connection's tick is its slot's
 pub live_ticks : {S : Type 0} (service : Machine S) (node : Node) (key : Key) (place : Place) (c now : ConnState S) (old new : List Wire)
     → SlotStands service node key (slot.Live c) place
-    → ((p : Point) → p.key ≡ key → Stands service node.server node.boot c p → ConnGoes service node.server node.boot Ticks p now old new)
+    → ((p : Point) → p.key ≡ key → IsOursAt service node.server node.boot c p → ConnGoes service node.server node.boot Ticks p now old new)
     → SlotGoes service node Tick_comes key place (slot.Live now) old new
 live_ticks service node key (Lives p) c now old new st h =
     let g = h p st.0 st.1 in record {

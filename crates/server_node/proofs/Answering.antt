@@ -11,7 +11,7 @@ use Rattle.ft_model.specs.Restart.{Fetched, Wanted, wanted, is_fetched, fetched_
 use Rattle.ft_model.specs.Restart.Wanted.{An_entry, Its_bytes, Its_lengths}
 use Rattle.ft_model.specs.Node.{Node}
 use Rattle.ft_model.specs.Lawful.{fetched_then}
-use Rattle.reincarnate.specs.Asking.{FetchingState, entry_known, entries_of, heard, answered, head_fits, with_head, with_newest, part_on, lens_on}
+use Rattle.reincarnate.specs.Asking.{FetchingState, entry_known, entries_of, after_answer, answered, head_fits, with_head, with_newest, part_on, lens_on}
 use Rattle.reincarnate.specs.Progress.{EntryState}
 use Rattle.server_node.specs.declared.identity.Identity.{Identity}
 use Rattle.server_node.specs.Restarting.{AreDistinct, FetchingStands, IsOwn}
@@ -62,7 +62,7 @@ body_same started after (PartMsg key offset bytes) s = newest_same s (part_on af
 body_same started after (LensMsg key first lens) s = newest_same s (lens_on after key first lens s.newest)
 body_same started after _ s = tt
 
-heard_same : {S : Type 0} (started : ℕ → S) (after : S → List ℕ → Served S) (message : Message) (s : FetchingState S) → IfSome (heard started after message s) (IsSame s)
+heard_same : {S : Type 0} (started : ℕ → S) (after : S → List ℕ → Served S) (message : Message) (s : FetchingState S) → IfSome (after_answer started after message s) (IsSame s)
 heard_same started after message s = go (message.boot == s.boot)
   where
     go : (b : Bool) → IfSome (if b then answered started after s message.body else None) (IsSame s)
@@ -70,8 +70,8 @@ heard_same started after message s = go (message.boot == s.boot)
     go false = tt
 
 pub answer_same : {S : Type 0} (started : ℕ → S) (after : S → List ℕ → Served S) (message : Message) (s t : FetchingState S) (fits : Bool)
-    → MatchOption (heard started after message s) ((fits ≡ false) × (t ≡ s)) (λ x. (fits ≡ true) × (t ≡ x)) → IsSame s t
-answer_same {S} started after message s t fits = go (heard started after message s) (heard_same started after message s)
+    → MatchOption (after_answer started after message s) ((fits ≡ false) × (t ≡ s)) (λ x. (fits ≡ true) × (t ≡ x)) → IsSame s t
+answer_same {S} started after message s t fits = go (after_answer started after message s) (heard_same started after message s)
   where
     go : (o : Option (FetchingState S)) → IfSome o (IsSame s) → MatchOption o ((fits ≡ false) × (t ≡ s)) (λ x. (fits ≡ true) × (t ≡ x)) → IsSame s t
     go None h (unfit, is) = subst (IsSame s) (sym is) (record { boot = refl; kind = refl; so_many = refl })

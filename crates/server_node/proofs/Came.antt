@@ -7,7 +7,7 @@ use Rattle.seq_arith.specs.PacketGrammar.{reading, payload_at, head_in, segment_
 use Rattle.segment_codec.proofs.Accepting.{packet_is_short, start_is_there}
 use Rattle.ft_model.specs.Offset.{IsNear}
 use Rattle.ft_model.specs.Point.{Point}
-use Rattle.connection_laws.specs.Turning.{Fits}
+use Rattle.connection_laws.specs.Turning.{SegmentFits}
 use Rattle.server_node.proofs.Turned.{packet_is}
 
 long_low : (bytes : List ℕ) (at : ℕ) → ((i : ℕ) → slice_index bytes i < 256) → long_at bytes at < 2 ^ 32
@@ -31,7 +31,7 @@ text_fits bytes segment reads =
     let short : length (drop (payload_at bytes) bytes) ≤ 1460 = omega (arith, size, long, start.0) in
     subst (λ xs. length xs ≤ 1460) (ap (λ (s : Segment). s.payload) (packet_is bytes segment reads)) short
 
-pub fits : (p : Point) (bytes : List ℕ) (segment : Segment) → ((i : ℕ) → slice_index bytes i < 256) → reading bytes ≡ Ok segment → IsNear p.cisn p.sisn segment → Fits p segment
+pub fits : (p : Point) (bytes : List ℕ) (segment : Segment) → ((i : ℕ) → slice_index bytes i < 256) → reading bytes ≡ Ok segment → IsNear p.cisn p.sisn segment → SegmentFits p segment
 unfolding segment_in head_in
 fits p bytes segment small reads near =
     let is = packet_is bytes segment reads in

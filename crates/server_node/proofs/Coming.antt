@@ -20,7 +20,7 @@ use Rattle.ft_model.specs.Wire.{Wire}
 use Rattle.wrapped_conn.specs.ConnState.{ConnState}
 use Rattle.server_node.specs.declared.slot.Slot.TheVariants as slot
 use Rattle.server_node.specs.declared.slot.Opening.{Opening}
-use Rattle.server_node.specs.Conn.{Stands, ConnGoes}
+use Rattle.server_node.specs.Conn.{IsOursAt, ConnGoes}
 use Rattle.server_node.specs.Refusing.{AreSent}
 use Rattle.server_node.specs.Slots.{SlotStands, SlotGoes}
 use Rattle.server_node.proofs.OneKey.{place_meets}
@@ -42,7 +42,7 @@ module _ {S : Type 0} (service : Machine S) (node : Node) (segment : Segment) (m
 
   -- a live connection's turn is its slot's
   pub live_comes : (place : Place) (c now : ConnState S) (old new : List Wire) → IsNearTo node.server segment place → SlotStands service node (source_of segment) (slot.Live c) place
-      → ((p : Point) → IsNear p.cisn p.sisn segment → p.key ≡ source_of segment → Stands service node.server node.boot c p → ConnGoes service node.server node.boot (Comes segment) p now old new)
+      → ((p : Point) → IsNear p.cisn p.sisn segment → p.key ≡ source_of segment → IsOursAt service node.server node.boot c p → ConnGoes service node.server node.boot (Comes segment) p now old new)
       → SlotGoes service node (Packet_comes segment) (source_of segment) place (slot.Live now) old new
   live_comes (Lives p) c now old new near st h =
       let g = h p (near mine (itself p.key st.0)) st.0 st.1 in record {

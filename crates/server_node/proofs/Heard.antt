@@ -17,7 +17,7 @@ use Rattle.wrapped_conn.specs.ConnState.{ConnState}
 use Rattle.server_node.specs.declared.slot.Slot.{Slot}
 use Rattle.server_node.specs.declared.slot.Slot.TheVariants as slot
 use Rattle.server_node.specs.declared.slot.Opening.{Opening}
-use Rattle.server_node.specs.Conn.{Stands, ConnGoes}
+use Rattle.server_node.specs.Conn.{IsOursAt, ConnGoes}
 use Rattle.server_node.specs.Hearing.{logged_in}
 use Rattle.server_node.specs.Slots.{SlotStands, SlotGoes}
 use Rattle.server_node.proofs.OneKey.{place_meets, place_key}
@@ -64,7 +64,7 @@ module _ {S : Type 0} (service : Machine S) (node : Node) (message : Message) (b
   -- a live connection's turn is its slot's
   pub live_hears : (key : Key) (kept : Kept) → logged_in message.body ≡ Some kept → kept.key ≡ key → (place : Place) (c now : ConnState S) (old new : List Wire)
       → SlotStands service node key (slot.Live c) place
-      → ((p : Point) → p.key ≡ key → Stands service node.server node.boot c p → ConnGoes service node.server node.boot (Logged kept) p now old new)
+      → ((p : Point) → p.key ≡ key → IsOursAt service node.server node.boot c p → ConnGoes service node.server node.boot (Logged kept) p now old new)
       → SlotGoes service node (Message_comes message) key place (slot.Live now) old new
   live_hears key kept says from (Lives p) c now old new st h =
       let g = h p st.0 st.1 in

@@ -24,7 +24,7 @@ use Rattle.wrapped_conn.proofs.Receiving.{parts_live}
 use Rattle.server_node.specs.declared.identity.Identity.{Identity}
 use Rattle.server_node.specs.declared.slot.Slot.{Slot}
 use Rattle.server_node.specs.declared.slot.Slot.TheVariants as slot
-use Rattle.server_node.specs.Conn.{Stands, IsSound}
+use Rattle.server_node.specs.Conn.{IsOursAt, IsSound}
 use Rattle.server_node.specs.Lending.{conn_in}
 use Rattle.server_node.specs.Slots.{IsSoundSlot}
 use Rattle.server_node.specs.LentConn.{BeginsBehind, TcpTells, TellsItsPoint}
@@ -67,8 +67,8 @@ made_is : {S : Type 0} (service : Machine S) (c : ConnState S) (p : Point) (b : 
 made_is service c p true st = st.north.run.made
 made_is service c p false st = st.parts.stand.north.run.made
 
-pub tells_its_point : {S : Type 0} (service : Machine S) (server : Addr) (boot : ℕ) (p : Point) (c : ConnState S) → sound.IsSound c → Stands service server boot c p → TellsItsPoint service p c
-unfolding Stands
+pub tells_its_point : {S : Type 0} (service : Machine S) (server : Addr) (boot : ℕ) (p : Point) (c : ConnState S) → sound.IsSound c → IsOursAt service server boot c p → TellsItsPoint service p c
+unfolding IsOursAt
 tells_its_point service server boot p c s st = record {
   numbers = tells service p c s st.0;
   south = st.0.keeps.south;

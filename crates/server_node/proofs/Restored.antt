@@ -13,7 +13,7 @@ use Rattle.ft_model.specs.Node.{Node}
 use Rattle.ft_model.specs.Node.Place.{Lives, Ended}
 use Rattle.ft_model.specs.Node.Input.{Tick_comes}
 use Rattle.ft_model.specs.Opening.{initial_number}
-use Rattle.ft_model.specs.Restart.{Fetched, is_fetched, is_whole, entry_in, point_of, IsSound}
+use Rattle.ft_model.specs.Restart.{Fetched, is_fetched, is_whole, entry_in, point_of, IsSoundEntry}
 use Rattle.ft_model.specs.Lawful.{Revives, restored, all_restored, restored_count, AreSound}
 use Rattle.ft_model.specs.Wire.{Wire}
 use Rattle.reincarnate.specs.declared.entries.Restored.{Restored}
@@ -167,7 +167,7 @@ distinct_at [] f fetched d = d.0
 distinct_at (x ∷ front) f fetched d = distinct_at front f fetched d.1
 
 pub sound_at : {S : Type 0} (service : Machine S) (front : List Fetched) (f : Fetched) (fetched : List Fetched) → AreSound service (front ++ f ∷ fetched)
-    → f.head.done ≡ false → is_whole f ≡ true → IsSound service (entry_in f)
+    → f.head.done ≡ false → is_whole f ≡ true → IsSoundEntry service (entry_in f)
 sound_at service [] f fetched sound = sound.0
 sound_at service (x ∷ front) f fetched sound = sound_at service front f fetched sound.1
 

@@ -9,7 +9,7 @@ use Rattle.server_trait.specs.Service.{Machine}
 use Rattle.ft_model.specs.Lawful.{restored}
 use Rattle.ft_model.specs.Node.{Node}
 use Rattle.ft_model.specs.Node.Place.{Lives, Ended}
-use Rattle.ft_model.specs.Restart.{Fetched, IsSound, entry_in, is_fetched, point_of}
+use Rattle.ft_model.specs.Restart.{Fetched, IsSoundEntry, entry_in, is_fetched, point_of}
 use Rattle.ft_model.specs.Wire.{Wire}
 use Rattle.ft_model.proofs.Keys.{key_eq_turns}
 use Rattle.ft_model.proofs.Lists.{or_left, same_key, key_is, all_append, all_both, all_weaker}
@@ -117,7 +117,7 @@ module _ {S : Type 0} (service : Machine S) (node : Node) where
   -- .. and one that isn't
   pub live_alone : (f : Fetched) (fetched : List Fetched) (key : Key) (before after : Serving S) (now : Slot S) (old mid new : List Wire) → f.head.done ≡ false → key ≡ f.head.key
       → is_fetched f.head.key fetched ≡ false → RestoredAlone service node fetched before old mid → IsOnlyFor key mid new
-      → (IsSound service (entry_in f) → SlotRevives service node f.head.key (Lives (point_of service (entry_in f))) now mid new)
+      → (IsSoundEntry service (entry_in f) → SlotRevives service node f.head.key (Lives (point_of service (entry_in f))) now mid new)
       → (lookup (key_eq key) before.slots.entries ≡ None → after.slots.entries ≡ before.slots.entries ++ (key, now) ∷ [])
       → RestoredAlone service node (f ∷ fetched) after old new
   live_alone f fetched key before after now old mid new live is fresh r p revives added =

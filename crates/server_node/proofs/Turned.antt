@@ -38,7 +38,7 @@ use Rattle.wrapped_conn.specs.Telling.{AreTellable}
 use Rattle.wrapped_conn.proofs.Lending.{tells}
 use Rattle.wrapped_conn.proofs.Sendable.{FitsKey}
 use Rattle.wrapped_conn.proofs.Small.{taken_small}
-use Rattle.server_node.specs.Conn.{Stands, Acts, ConnGoes}
+use Rattle.server_node.specs.Conn.{IsOursAt, Acts, ConnGoes}
 use Rattle.server_node.specs.Sending.{message_to_logger, wires_of}
 use Rattle.server_node.proofs.Written.{IsInRange, IsWritten, IsBoot, IsShort, AreLow, live_written, reset_written}
 use Rattle.seq_arith.proofs.Units.{one_at_most}
@@ -171,7 +171,7 @@ all_written service server boot news p q sent false a up short r few low t =
 pub acts : {S : Type 0} (service : Machine S) (server : Addr) (boot : ℕ) (news : News) (p : Point) (now : ConnState S) (segments messages : List (List ℕ))
     → IsTyped server boot p.key segments messages → IsShort news → p.mss ≤ 1460 → p.reads_answered ≤ length p.lengths → sound.IsSound now → now.local ≡ server → now.boot ≡ boot
     → Leads service server boot news p now segments messages → Acts service server boot news p now segments messages
-unfolding Stands Goes
+unfolding IsOursAt Goes
 acts service server boot news p now segments messages typed short size few s local up l =
     let q : Point = l.after in
     let b : Bool = reset_after news p in

@@ -33,7 +33,7 @@ use Rattle.wrapped_conn.specs.Beginning.{first_conn}
 use Rattle.wrapped_conn.specs.ConnState.{ConnState}
 use Rattle.wrapped_conn.specs.Numbers.{una_units, resets}
 use Rattle.wrapped_conn.specs.Telling as told
-use Rattle.wrapped_conn.specs.Turning.{Starts, Receives, IsTold, Ticks as TicksOn, new_reads, heard, counted, ticked}
+use Rattle.wrapped_conn.specs.Turning.{Starts, Receives, IsTold, Ticks as TicksOn, new_reads, with_logged, counted, ticked}
 use Rattle.wrapped_conn.proofs.Sendable.{FitsKey}
 use Rattle.server_node.specs.declared.identity.Identity.{Identity}
 use Rattle.server_node.specs.Conn.{IsSound, Belongs}
@@ -214,9 +214,9 @@ receives_own service segment c now segments messages r =
 
 pub told_own : {S : Type 0} (after : S → List ℕ → Served S) (said : Said) (c now : ConnState S) (segments messages : List (List ℕ)) → IsTold after said c now segments messages → TellsOwn c messages
 told_own after (said.StableMsg key len fin reads) c now segments messages r =
-    either c.reset r (λ k. record { bodies = []; are = k.told; own = tt }) (λ k. goes_own [] (new_reads (heard len (is_set fin) reads c) now) c messages tt k.told)
+    either c.reset r (λ k. record { bodies = []; are = k.told; own = tt }) (λ k. goes_own [] (new_reads (with_logged len (is_set fin) reads c) now) c messages tt k.told)
 told_own after (said.ReadsMsg key len fin reads) c now segments messages r =
-    either c.reset r (λ k. record { bodies = []; are = k.told; own = tt }) (λ k. goes_own [] (new_reads (heard len (is_set fin) reads c) now) c messages tt k.told)
+    either c.reset r (λ k. record { bodies = []; are = k.told; own = tt }) (λ k. goes_own [] (new_reads (with_logged len (is_set fin) reads c) now) c messages tt k.told)
 told_own after (said.EndedMsg key) c now segments messages r = record { bodies = []; are = r.told; own = tt }
 told_own after _ c now segments messages r = record { bodies = []; are = r.told; own = tt }
 

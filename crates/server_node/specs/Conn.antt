@@ -1,4 +1,4 @@
--- A connection, as far as the node needs it. `Begins`, `Stands` and `IsSound` are opaque to the node.
+-- A connection, as far as the node needs it. `Begins`, `IsOursAt` and `IsSound` are opaque to the node.
 use Rattle.std.specs.Prelude.{◌≡◌, ◌≤◌, ℕ, List, ◌++◌, map}
 use Rattle.std.specs.List.{AllByRecursion, AllByRecursion-prop}
 use Rattle.std.proofs.Math.Nat.{ℕ_set}
@@ -30,8 +30,8 @@ unfoldable pub Begins : {S : Type 0} → Machine S → Addr → (boot : ℕ) →
 Begins service server boot c p = StandsBefore service c p × IsOurs server boot c p
 
 -- .. and after each turn it stands at one
-unfoldable pub Stands : {S : Type 0} → Machine S → Addr → (boot : ℕ) → ConnState S → Point → Type 0
-Stands service server boot c p = StandsConn service c p × IsOurs server boot c p
+unfoldable pub IsOursAt : {S : Type 0} → Machine S → Addr → (boot : ℕ) → ConnState S → Point → Type 0
+IsOursAt service server boot c p = StandsConn service c p × IsOurs server boot c p
 
 -- what its calls ask of it, whatever came
 unfoldable pub IsSound : {S : Type 0} → ConnState S → Type 0
@@ -64,7 +64,7 @@ Belongs-prop who key c = λ a b i. record {
 pub record Acts {S : Type 0} (service : Machine S) (server : Addr) (boot : ℕ) (news : News) (p : Point) (c : ConnState S) (segments messages : List (List ℕ)) : Type 0 where
   pub after : Point
   pub packets : List Packet
-  pub stands : Stands service server boot c after
+  pub stands : IsOursAt service server boot c after
   pub key : after.key ≡ p.key
   pub turn : ConnectionTurn service server boot news p after packets
   pub wires : wires_of p.key segments messages ≡ map wire_of packets
@@ -74,7 +74,7 @@ pub record Acts {S : Type 0} (service : Machine S) (server : Addr) (boot : ℕ) 
 pub record ConnGoes {S : Type 0} (service : Machine S) (server : Addr) (boot : ℕ) (news : News) (p : Point) (c : ConnState S) (old new : List Wire) : Type 0 where
   pub after : Point
   pub packets : List Packet
-  pub stands : Stands service server boot c after
+  pub stands : IsOursAt service server boot c after
   pub key : after.key ≡ p.key
   pub turn : ConnectionTurn service server boot news p after packets
   pub wires : new ≡ old ++ map wire_of packets

@@ -8,7 +8,7 @@ use Rattle.ft_model.specs.Node.Stage.{Serving}
 use Rattle.wrapped_conn.specs.ConnState.{ConnState}
 use Rattle.server_node.specs.declared.slot.Slot.{Slot}
 use Rattle.server_node.specs.declared.slot.Slot.TheVariants as slot
-use Rattle.server_node.specs.Conn.{Stands}
+use Rattle.server_node.specs.Conn.{IsOursAt}
 
 abbrev pub conn_in : {S : Type 0} → Option (Slot S) → Option (ConnState S)
 conn_in (Some (slot.Live c)) = Some c
@@ -21,7 +21,7 @@ place_in key _ = None
 
 -- a connection at its point, exactly where the key's place is live
 abbrev pub IsConnAt : {S : Type 0} → Machine S → Node → Option (ConnState S) → Option Place → Type 0
-IsConnAt service node (Some c) (Some (Lives p)) = Stands service node.server node.boot c p
+IsConnAt service node (Some c) (Some (Lives p)) = IsOursAt service node.server node.boot c p
 IsConnAt service node None (Some (Lives p)) = ⊥
 IsConnAt service node None _ = Unit {0}
 IsConnAt service node (Some c) _ = ⊥

@@ -8,7 +8,7 @@ use Rattle.ft_model.specs.Lawful.{Revives, restored, asked, count_told, fetched_
 use Rattle.ft_model.specs.Network.{Packet}
 use Rattle.ft_model.specs.Node.{Node, Place, Input}
 use Rattle.ft_model.specs.Node.Input.{Packet_comes, Message_comes, Noise_comes, Tick_comes}
-use Rattle.ft_model.specs.Restart.{Fetched, Wanted, IsSound, entry_in, is_fetched, wanted}
+use Rattle.ft_model.specs.Restart.{Fetched, Wanted, IsSoundEntry, entry_in, is_fetched, wanted}
 use Rattle.ft_model.specs.Wire.{Wire, wire_of, HasWire}
 use Rattle.reincarnate.specs.Asking.{FetchingState}
 use Rattle.server_node.specs.declared.serving.Serving.{Serving}
@@ -22,7 +22,7 @@ use Rattle.server_node.specs.Whose.{of_key, IsFor}
 
 -- an entry that is done, or sound
 abbrev pub IsRestorable : {S : Type 0} → Machine S → Fetched → Type 0
-IsRestorable service f = f.head.done ≡ false → IsSound service (entry_in f)
+IsRestorable service f = f.head.done ≡ false → IsSoundEntry service (entry_in f)
 
 -- its key's first turn, from the place of the entry: its slot stands at the place after it, and of what is sent the key's packets are those of the law
 pub record KeyRevives {S : Type 0} (service : Machine S) (node : Node) (f : Fetched) (now : Option (Slot S)) (sent : List Wire) : Type 0 where

@@ -11,7 +11,7 @@ ghost use Rattle.wrapped_conn.specs.Sound.{IsSound};
 ghost use Rattle.server_node.specs.declared.serving.Serving.{Serving};
 ghost use Rattle.server_node.specs.declared.stage.Stage.{Stage};
 ghost use Rattle.server_node.specs.Alone.{slot_of, slot_in, StandsFor};
-ghost use Rattle.server_node.specs.Conn.{Stands};
+ghost use Rattle.server_node.specs.Conn.{IsOursAt};
 ghost use Rattle.server_node.specs.Lending.{place_in};
 ghost use Rattle.server_node.specs.LentConn.{TellsItsPoint};
 ghost use Rattle.server_node.specs.Runs.{Turned, AreTurns, AreNearFor, RunsAlone};
@@ -22,7 +22,7 @@ use server_trait::Service;
 /// A connection that a node lends shows its point: `inside` returns the point's numbers, the south wrapper's delta and stable number and the north wrapper's
 /// counts agree with it, and until the connection is over or reset its TCP is neither CLOSED nor reset, and its numbers are the point's, each less delta.
 pub fn lent_connections_tell_their_point<S: Service>()
-    ensures { (fresh : S) (server : Addr) (boot : ℕ) (p : Point) (c : ConnState S) → IsSound c → Stands (machine fresh S.after) server boot c p
+    ensures { (fresh : S) (server : Addr) (boot : ℕ) (p : Point) (c : ConnState S) → IsSound c → IsOursAt (machine fresh S.after) server boot c p
         → TellsItsPoint (machine fresh S.after) p c }
 {}
 

@@ -11,7 +11,7 @@ ghost use Rattle.ft_model.specs.News.News.{Begins as Becomes_live, Comes, Logged
 ghost use Rattle.ft_model.specs.Offset.{IsNear};
 ghost use Rattle.ft_model.specs.Opening.{point_opened};
 ghost use Rattle.ft_model.specs.Node.{Stage};
-ghost use Rattle.server_node.specs.Conn.{Begins, Stands, Belongs, ConnGoes};
+ghost use Rattle.server_node.specs.Conn.{Begins, IsOursAt, Belongs, ConnGoes};
 ghost use Rattle.server_node.specs.Hearing.{logged_in};
 ghost use Rattle.server_node.specs.Slots.{numbers_of};
 ghost use Rattle.server_node.specs.Whose.{IsOnlyFor};
@@ -94,7 +94,7 @@ pub(crate) fn tick_live<S: Service>(
     sent: &mut Outgoing,
 ) -> Result<(), NoMemory>
     requires { Belongs who key conn.old }
-    ensures turn { OnOk result ((stage : Stage) (p : Point) → p.key ≡ key → Stands (machine (S.started who.kind) S.after) who.local who.boot conn.old p
+    ensures turn { OnOk result ((stage : Stage) (p : Point) → p.key ≡ key → IsOursAt (machine (S.started who.kind) S.after) who.local who.boot conn.old p
         → ConnGoes (machine (S.started who.kind) S.after) who.local who.boot Ticks p conn.new sent.old.items sent.new.items) }
     ensures alone { OnOk result (IsOnlyFor key sent.old.items sent.new.items) }
     ensures sound { OnOk result (Belongs who key conn.new) }
@@ -118,7 +118,7 @@ pub(crate) fn give_live<S: Service>(
     requires sound { Belongs who key conn.old }
     requires accepted { IsOk (reading packet.old) }
     ensures turn { OnOk result ((stage : Stage) (p : Point) (segment : Segment) → reading packet.old ≡ Ok segment → IsNear p.cisn p.sisn segment → p.key ≡ key
-        → Stands (machine (S.started who.kind) S.after) who.local who.boot conn.old p
+        → IsOursAt (machine (S.started who.kind) S.after) who.local who.boot conn.old p
         → ConnGoes (machine (S.started who.kind) S.after) who.local who.boot (Comes segment) p conn.new sent.old.items sent.new.items) }
     ensures alone { OnOk result (IsOnlyFor key sent.old.items sent.new.items) }
     ensures sound { OnOk result (Belongs who key conn.new) }
@@ -143,7 +143,7 @@ pub(crate) fn tell_live<S: Service>(
     requires sound { Belongs who key conn.old }
     requires sendable { IsSendable m.now }
     ensures turn { OnOk result ((p : Point) (kept : Kept) → m.now.boot ≡ who.boot → logged_in (message_of m.now).body ≡ Some kept → kept.key ≡ key → p.key ≡ key
-        → Stands (machine (S.started who.kind) S.after) who.local who.boot conn.old p
+        → IsOursAt (machine (S.started who.kind) S.after) who.local who.boot conn.old p
         → ConnGoes (machine (S.started who.kind) S.after) who.local who.boot (Logged kept) p conn.new sent.old.items sent.new.items) }
     ensures alone { OnOk result (IsOnlyFor key sent.old.items sent.new.items) }
     ensures sound { OnOk result (Belongs who key conn.new) }

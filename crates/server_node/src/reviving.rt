@@ -6,7 +6,7 @@ ghost use Rattle.ft_io.specs.Key.{key_eq};
 ghost use Rattle.server_trait.specs.Service.{machine};
 ghost use Rattle.reincarnate.specs.Standing.{IsReplayed, RestoredIs, StandsWhole};
 ghost use Rattle.ft_model.specs.Log.{Entry};
-ghost use Rattle.ft_model.specs.Restart.{Fetched, IsSound as IsSoundEntry, entry_in, is_fetched, point_of};
+ghost use Rattle.ft_model.specs.Restart.{Fetched, IsSoundEntry, entry_in, is_fetched, point_of};
 ghost use Rattle.ft_model.specs.Node.{Stage as Standing};
 ghost use Rattle.ft_model.specs.Node.Place.{Lives};
 ghost use Rattle.ft_model.specs.Lawful.{AreSound};

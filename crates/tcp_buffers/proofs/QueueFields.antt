@@ -9,7 +9,7 @@ use Rattle.ft_io.proofs.Choices.{by_cases}
 use Rattle.tcp_buffers.specs.declared.early_runs.Run.{Run}
 use Rattle.seq_arith.specs.Early.{laid, run_count, front_run, behind_front_run, holds_some, held_with}
 use Rattle.tcp_buffers.specs.Queue.{Queue, fitting, left_over, added_by, pushed}
-use Rattle.tcp_buffers.specs.Runs.{Keeps, is_held, marked, AreApart, reach, covered, grown_to, runs_past, shifted, written}
+use Rattle.tcp_buffers.specs.Runs.{QueueInvariant, is_held, marked, AreApart, reach, covered, grown_to, runs_past, shifted, written}
 use Rattle.tcp_buffers.proofs.Written.{drop_written, length_written, long_written, no_items, take_written, written_end, written_front}
 use Rattle.tcp_buffers.proofs.Marked.{drop_marked, holds_last, last_held, marked_length, reach_up, run_count_is, some_run}
 use Rattle.tcp_buffers.proofs.Covered.{apart_covered, hold_count, hold_is, reach_covered}
@@ -29,7 +29,7 @@ drop_along xs ys g h =
     let whole : g ≡ length xs + (g - length xs) = omega (arith, h) in
     ap (λ k. drop k (xs ++ ys)) whole ∙ drop-append-add xs ys (g - length xs)
 
-pub push_is : (items bytes : List ℕ) (n : ℕ) (runs : List Run) → Keeps items n runs
+pub push_is : (items bytes : List ℕ) (n : ℕ) (runs : List Run) → QueueInvariant items n runs
     → let fits : List ℕ = take (65535 - n) bytes in
     (shown (written n fits items) (n + grown_to (length fits) runs) (shifted (grown_to (length fits) runs) (runs_past (length fits) runs)) ≡ pushed bytes (shown items n runs))
     × (grown_to (length fits) runs ≡ length (added_by bytes (shown items n runs)))
@@ -72,9 +72,9 @@ ap₃ f p q r = λ i. f (p i) (q i) (r i)
 pub record Pushed (items bytes : List ℕ) (n : ℕ) (runs : List Run) (after : List ℕ) (grown : ℕ) (left : List Run) : Type 0 where
   pub view : shown after (n + grown) left ≡ pushed bytes (shown items n runs)
   pub count : grown ≡ length (added_by bytes (shown items n runs))
-  pub keeps : Keeps after (n + grown) left
+  pub keeps : QueueInvariant after (n + grown) left
 
-pub pushed_so : (items bytes fits after : List ℕ) (n grown : ℕ) (runs left : List Run) → Keeps items n runs → fits ≡ take (65535 - n) bytes
+pub pushed_so : (items bytes fits after : List ℕ) (n grown : ℕ) (runs left : List Run) → QueueInvariant items n runs → fits ≡ take (65535 - n) bytes
     → after ≡ written n fits items → grown ≡ grown_to (length fits) runs → left ≡ shifted (grown_to (length fits) runs) (runs_past (length fits) runs)
     → Pushed items bytes n runs after grown left
 pushed_so items bytes fits after n grown runs left k f a g l =
@@ -109,9 +109,9 @@ pushed_so items bytes fits after n grown runs left k f a g l =
 -- a hold
 pub record Holds (items bytes : List ℕ) (at n : ℕ) (runs : List Run) (after : List ℕ) (more : List Run) : Type 0 where
   pub view : shown after n more ≡ record (shown items n runs) { early = laid at bytes (marked 0 runs (drop n items)) }
-  pub keeps : Keeps after n more
+  pub keeps : QueueInvariant after n more
 
-pub held_so : (items bytes after : List ℕ) (at n : ℕ) (runs more : List Run) → Keeps items n runs → 0 < at → 0 < length bytes → n + at + length bytes ≤ 65535
+pub held_so : (items bytes after : List ℕ) (at n : ℕ) (runs more : List Run) → QueueInvariant items n runs → 0 < at → 0 < length bytes → n + at + length bytes ≤ 65535
     → after ≡ written (n + at) bytes items → more ≡ covered runs at (at + length bytes) → Holds items bytes at n runs after more
 held_so items bytes after at n runs more k ahead some fit a m =
     let size : length (drop n items) ≡ length items - n = length-drop n items in
@@ -131,9 +131,9 @@ held_so items bytes after at n runs more k ahead some fit a m =
     }
 
 -- an empty queue, and one in which nothing is held
-pub empty_keeps : (items : List ℕ) (runs : List Run) → items ≡ [] → runs ≡ [] → Keeps items 0 runs
+pub empty_keeps : (items : List ℕ) (runs : List Run) → items ≡ [] → runs ≡ [] → QueueInvariant items 0 runs
 unfolding reach
-empty_keeps items runs e r = subst (λ l. Keeps l 0 runs) (sym e) (subst (Keeps [] 0) (sym r) (record { within = omega arith; most = omega arith; apart = tt; ends = omega arith }))
+empty_keeps items runs e r = subst (λ l. QueueInvariant l 0 runs) (sym e) (subst (QueueInvariant [] 0) (sym r) (record { within = omega arith; most = omega arith; apart = tt; ends = omega arith }))
 
 pub empty_shown : (items : List ℕ) (runs : List Run) → items ≡ [] → shown items 0 runs ≡ record { unread = []; early = [] }
 unfolding marked
@@ -144,19 +144,19 @@ unfolding reach
 no_run place [] a h = refl
 no_run place (r ∷ runs) a h = absurd (omega (arith, reach_up r.end runs a.2, a.0, a.1, h))
 
-pub nothing_held : (items : List ℕ) (n : ℕ) (runs : List Run) → Keeps items n runs → length (marked 0 runs (drop n items)) ≡ 0 → (runs ≡ []) × (n ≡ length items)
+pub nothing_held : (items : List ℕ) (n : ℕ) (runs : List Run) → QueueInvariant items n runs → length (marked 0 runs (drop n items)) ≡ 0 → (runs ≡ []) × (n ≡ length items)
 nothing_held items n runs k none =
     let size : length (drop n items) ≡ length items - n = length-drop n items in
     let short : length (drop n items) ≡ 0 = sym (marked_length 0 runs (drop n items)) ∙ none in
     (no_run 0 runs k.apart (omega (arith, size, short, k.ends)), omega (arith, size, short, k.within))
 
-pub held_none : (items : List ℕ) (n : ℕ) (runs : List Run) → Keeps items n runs → length runs ≡ 0 → length (marked 0 runs (drop n items)) ≡ 0
+pub held_none : (items : List ℕ) (n : ℕ) (runs : List Run) → QueueInvariant items n runs → length runs ≡ 0 → length (marked 0 runs (drop n items)) ≡ 0
 unfolding reach
 held_none items n [] k none = marked_length 0 [] (drop n items) ∙ length-drop n items ∙ omega (arith, k.ends)
 held_none items n (r ∷ runs) k none = absurd (omega (arith, none))
 
 -- appending, where nothing is held
-pub appended_so : (items bytes after : List ℕ) (n count : ℕ) (runs : List Run) → Keeps items n runs → length (marked 0 runs (drop n items)) ≡ 0
+pub appended_so : (items bytes after : List ℕ) (n count : ℕ) (runs : List Run) → QueueInvariant items n runs → length (marked 0 runs (drop n items)) ≡ 0
     → count ≡ min (length bytes) (65535 - length items) → after ≡ items ++ take count bytes → Pushed items bytes n runs after count runs
 unfolding grown_to runs_past shifted
 appended_so items bytes after n count runs k none c a =
@@ -178,7 +178,7 @@ read_shown items n m runs h w =
       early = marked 0 runs ((drop-drop (n - m) m items ∙ ap (λ k. drop k items) whole) i);
     }
 
-pub run_count_shown : (items : List ℕ) (n : ℕ) (runs : List Run) → Keeps items n runs → run_count (marked 0 runs (drop n items)) ≡ length runs
+pub run_count_shown : (items : List ℕ) (n : ℕ) (runs : List Run) → QueueInvariant items n runs → run_count (marked 0 runs (drop n items)) ≡ length runs
 run_count_shown items n runs k = run_count_is runs (drop n items) k.apart (omega (arith, length-drop n items, k.ends, k.within))
 
 pub none_laid : (at : ℕ) (held : List (Option ℕ)) → laid at [] held ≡ held
@@ -193,11 +193,11 @@ pub not_held_by : (at : ℕ) (new : List ℕ) (held : List (Option ℕ)) → nat
 unfolding held_with
 not_held_by at new held t = ap (λ b. if b then laid at new held else held) t
 
-pub hold_counts : (items bytes : List ℕ) (at n : ℕ) (runs : List Run) → Keeps items n runs → 0 < at → 0 < length bytes
+pub hold_counts : (items bytes : List ℕ) (at n : ℕ) (runs : List Run) → QueueInvariant items n runs → 0 < at → 0 < length bytes
     → length (covered runs at (at + length bytes)) ≡ run_count (laid at bytes (marked 0 runs (drop n items)))
 hold_counts items bytes at n runs k ahead some = hold_count at bytes (drop n items) runs ahead some k.apart (omega (arith, length-drop n items, k.ends))
 
-pub gap_filled : (items bytes after : List ℕ) (n fitting grown : ℕ) (runs left : List Run) → Keeps items n runs → fitting ≡ min (length bytes) (65535 - n)
+pub gap_filled : (items bytes after : List ℕ) (n fitting grown : ℕ) (runs left : List Run) → QueueInvariant items n runs → fitting ≡ min (length bytes) (65535 - n)
     → after ≡ written n (take fitting bytes) items → grown ≡ grown_to fitting runs → left ≡ shifted (grown_to fitting runs) (runs_past fitting runs) → Pushed items bytes n runs after grown left
 gap_filled items bytes after n fitting grown runs left k f a g l =
     let size : fitting ≡ length (take fitting bytes) = omega (arith, length-take fitting bytes, f) in
@@ -223,7 +223,7 @@ peek_is items out new n from most count w m c e =
     ap (λ l. l ++ drop most out) (e ∙ ap (λ l. take count (drop from items) ++ l) gone ∙ append-nil (take count (drop from items)))
     ∙ (λ i. sym all i ++ drop (sym same i) out)
 
-pub held_up_to : (items : List ℕ) (n : ℕ) (runs : List Run) (k : ℕ) → Keeps items n runs → holds_some (drop k (marked 0 runs (drop n items))) ≡ nat_lt k (length items - n)
+pub held_up_to : (items : List ℕ) (n : ℕ) (runs : List Run) (k : ℕ) → QueueInvariant items n runs → holds_some (drop k (marked 0 runs (drop n items))) ≡ nat_lt k (length items - n)
 unfolding holds_some marked
 held_up_to items n runs k keeps =
     let area : List ℕ = drop n items in

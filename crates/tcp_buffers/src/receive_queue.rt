@@ -29,13 +29,13 @@ pub struct RecvQueue {
 impl Model for RecvQueue {
     ghost use Rattle.std.specs.Prelude.{◌≡◌, take, drop};
     ghost use Rattle.tcp_buffers.specs.Queue.{Queue};
-    ghost use Rattle.tcp_buffers.specs.Runs.{Keeps, marked};
+    ghost use Rattle.tcp_buffers.specs.Runs.{QueueInvariant, marked};
 
     ghost Value = { Queue };
 
     ghost view = { λ q. record { unread = take q.in_order q.bytes.items; early = marked 0 q.early (drop q.in_order q.bytes.items) } };
 
-    ghost invariant = { λ q. (q.bytes.capacity ≡ 65535) × Keeps q.bytes.items q.in_order q.early };
+    ghost invariant = { λ q. (q.bytes.capacity ≡ 65535) × QueueInvariant q.bytes.items q.in_order q.early };
 }
 
 impl RecvQueue {

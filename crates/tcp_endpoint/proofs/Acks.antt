@@ -13,7 +13,7 @@ use Rattle.tcp_buffers.specs.declared.send_state.SendState.{SendState}
 use Rattle.tcp_buffers.specs.SendNumbers.{acks_new, acks_beyond, kind_of, una_by, interval_by, left_by, is_window_used, edge_of, congestion_of, congestion_by, segment_of, IsUsed}
 use Rattle.tcp_buffers.specs.Near.{is_ahead}
 use Rattle.tcp_buffers.proofs.NumbersTell.{ahead_is, WasSent, sent_by, from_is, up_to_is, new_is}
-use Rattle.tcp_endpoint.specs.Sending.{Sending, own, told_by, moves_edge, acknowledged, units_of, was_sent, repeats, is_duplicate, duplicated, answered_by, NumbersFit, IsShort}
+use Rattle.tcp_endpoint.specs.Sending.{Sending, own, sending_of, moves_edge, acknowledged, units_of, was_sent, repeats, is_duplicate, duplicated, answered_by, NumbersFit, IsShort}
 use Rattle.std.proofs.lemmas.Bool.{false≢true}
 use Rattle.ft_io.proofs.Booleans.{left_true, and_when, second_of_three, first_of_three}
 
@@ -85,10 +85,10 @@ duplicate_by s true z window repeated is = is
 duplicate_by s false z window repeated is = refl
 
 pub duplicate_is : (iss : ℕ) (n : SendState) (seq ack window : ℕ) (syn_acked : Bool) (held : List ℕ) (closed fin_sent bare : Bool)
-    → NumbersFit n seq ack → window < 2 ^ 16 → IsShort (told_by iss syn_acked n held closed fin_sent)
-    → (bare && repeats n ack window) ≡ is_duplicate (told_by iss syn_acked n held closed fin_sent) bare (offset_of iss ack) window
+    → NumbersFit n seq ack → window < 2 ^ 16 → IsShort (sending_of iss syn_acked n held closed fin_sent)
+    → (bare && repeats n ack window) ≡ is_duplicate (sending_of iss syn_acked n held closed fin_sent) bare (offset_of iss ack) window
 duplicate_is iss n seq ack window syn_acked held closed fin_sent bare fits small short =
-    duplicate_by (told_by iss syn_acked n held closed fin_sent) bare (offset_of iss ack) window (repeats n ack window)
+    duplicate_by (sending_of iss syn_acked n held closed fin_sent) bare (offset_of iss ack) window (repeats n ack window)
     (repeated_is iss n seq ack window fits small (omega (arith, short.sent)))
 
 -- a conjunction whose later parts are only looked at where the first holds
@@ -97,8 +97,8 @@ guarded true b b' c c' d e same_b same_c = λ i. true && same_b refl i && (d || 
 guarded false b b' c c' d e same_b same_c = refl
 
 window_test : (iss : ℕ) (n : SendState) (seq ack : ℕ) (syn_acked : Bool) (held : List ℕ) (closed fin_sent : Bool) → NumbersFit n seq ack
-    → IsShort (told_by iss syn_acked n held closed fin_sent) → WasSent (own iss n.una.0 + distance n.nxt.0 n.una.0) (offset_of iss ack)
-    → is_window_used n seq ack ≡ moves_edge (told_by iss syn_acked n held closed fin_sent) seq (offset_of iss ack)
+    → IsShort (sending_of iss syn_acked n held closed fin_sent) → WasSent (own iss n.una.0 + distance n.nxt.0 n.una.0) (offset_of iss ack)
+    → is_window_used n seq ack ≡ moves_edge (sending_of iss syn_acked n held closed fin_sent) seq (offset_of iss ack)
 window_test iss n seq ack syn_acked held closed fin_sent fits short was =
     let u : ℕ = own iss n.una.0 in
     let s : ℕ = u + distance n.nxt.0 n.una.0 in
@@ -213,10 +213,10 @@ same_sender s s' iss syn_acked una sent edge wl1 wl2 held closed fin_sent mss co
 
 -- what an acknowledgement that isn't beyond SND.NXT makes of the numbers is what it makes of the offsets
 pub acknowledged_is : (iss : ℕ) (n n' : SendState) (seq ack window : ℕ) (syn_acked : Bool) (held : List ℕ) (closed fin_sent : Bool)
-    → NumbersFit n seq ack → window < 2 ^ 16 → IsShort (told_by iss syn_acked n held closed fin_sent)
+    → NumbersFit n seq ack → window < 2 ^ 16 → IsShort (sending_of iss syn_acked n held closed fin_sent)
     → segment_of n ≡ n.mss → IsUsed n n' seq ack window → acks_beyond n.nxt.0 ack ≡ false
-    → told_by iss syn_acked n' (drop (min (units_of (kind_of n.una.0 n.nxt.0 ack)) (length held)) held) closed fin_sent
-    ≡ acknowledged (told_by iss syn_acked n held closed fin_sent) seq (offset_of iss ack) window
+    → sending_of iss syn_acked n' (drop (min (units_of (kind_of n.una.0 n.nxt.0 ack)) (length held)) held) closed fin_sent
+    ≡ acknowledged (sending_of iss syn_acked n held closed fin_sent) seq (offset_of iss ack) window
 unfolding acknowledged
 acknowledged_is iss n n' seq ack window syn_acked held closed fin_sent fits small short large used is_sent =
     let u : ℕ = own iss n.una.0 in
@@ -224,7 +224,7 @@ acknowledged_is iss n n' seq ack window syn_acked held closed fin_sent fits smal
     let z : ℤ = offset_of iss ack in
     let b : Bool = is_new_ack u s z in
     let was : is_ahead s z ≡ false = sym (ahead_test iss n.una.0 n.nxt.0 ack fits.una fits.nxt fits.ack short.sent) ∙ is_sent in
-    let before : Sending = told_by iss syn_acked n held closed fin_sent in
+    let before : Sending = sending_of iss syn_acked n held closed fin_sent in
     let d : ℕ = distance ack n.una.0 in
     let is_new : acks_new n.una.0 n.nxt.0 ack ≡ b = new_test iss n.una.0 n.nxt.0 ack fits.una fits.nxt fits.ack short.sent was in
     let kind : kind_of n.una.0 n.nxt.0 ack ≡ kind_by b d = kind_is n.una.0 n.nxt.0 ack b is_sent is_new in
@@ -267,28 +267,28 @@ choose b false x y z is on off = off is
 
 -- what Sender::on_ack answers, ..
 pub sent_is : (iss : ℕ) (n : SendState) (seq ack : ℕ) (syn_acked : Bool) (held : List ℕ) (closed fin_sent : Bool) (kind : AckKind)
-    → NumbersFit n seq ack → IsShort (told_by iss syn_acked n held closed fin_sent)
+    → NumbersFit n seq ack → IsShort (sending_of iss syn_acked n held closed fin_sent)
     → kind ≡ kind_of n.una.0 n.nxt.0 ack
-    → was_sent kind ≡ not (is_ahead (told_by iss syn_acked n held closed fin_sent).sent (offset_of iss ack))
+    → was_sent kind ≡ not (is_ahead (sending_of iss syn_acked n held closed fin_sent).sent (offset_of iss ack))
 sent_is iss n seq ack syn_acked held closed fin_sent kind fits short is =
     ap was_sent is ∙ kind_sent (acks_beyond n.nxt.0 ack) (acks_new n.una.0 n.nxt.0 ack) (distance ack n.una.0)
     ∙ ap not (ahead_test iss n.una.0 n.nxt.0 ack fits.una fits.nxt fits.ack short.sent)
 
 -- .. and what it makes of the sender
 pub used_is : (iss : ℕ) (n n' : SendState) (seq ack window : ℕ) (syn_acked : Bool) (held held' : List ℕ) (closed fin_sent : Bool) (kind : AckKind)
-    → NumbersFit n seq ack → window < 2 ^ 16 → IsShort (told_by iss syn_acked n held closed fin_sent) → segment_of n ≡ n.mss
+    → NumbersFit n seq ack → window < 2 ^ 16 → IsShort (sending_of iss syn_acked n held closed fin_sent) → segment_of n ≡ n.mss
     → kind ≡ kind_of n.una.0 n.nxt.0 ack → IsUsed n n' seq ack window → (kind ≡ Beyond → n' ≡ n)
     → held' ≡ drop (min (units_of kind) (length held)) held
-    → told_by iss syn_acked n' held' closed fin_sent
-    ≡ (if is_ahead (told_by iss syn_acked n held closed fin_sent).sent (offset_of iss ack)
-    then told_by iss syn_acked n held closed fin_sent
-    else acknowledged (told_by iss syn_acked n held closed fin_sent) seq (offset_of iss ack) window)
+    → sending_of iss syn_acked n' held' closed fin_sent
+    ≡ (if is_ahead (sending_of iss syn_acked n held closed fin_sent).sent (offset_of iss ack)
+    then sending_of iss syn_acked n held closed fin_sent
+    else acknowledged (sending_of iss syn_acked n held closed fin_sent) seq (offset_of iss ack) window)
 used_is iss n n' seq ack window syn_acked held held' closed fin_sent kind fits small short large is used unused held_is =
-    let as_held : List ℕ → Sending = λ q. told_by iss syn_acked n' q closed fin_sent in
+    let as_held : List ℕ → Sending = λ q. sending_of iss syn_acked n' q closed fin_sent in
     choose (acks_beyond n.nxt.0 ack) _ _ _ _ (ahead_test iss n.una.0 n.nxt.0 ack fits.una fits.nxt fits.ack short.sent)
     (λ h. let beyond : kind ≡ Beyond = is ∙ rw h refl in
     ap as_held (held_is ∙ ap (λ k. drop (min (units_of k) (length held)) held) beyond ∙ drop_min 0 held)
-    ∙ ap (λ m. told_by iss syn_acked m held closed fin_sent) (unused beyond))
+    ∙ ap (λ m. sending_of iss syn_acked m held closed fin_sent) (unused beyond))
     (λ h. ap as_held (held_is ∙ ap (λ k. drop (min (units_of k) (length held)) held) is)
     ∙ acknowledged_is iss n n' seq ack window syn_acked held closed fin_sent fits small short large used h)
 

@@ -8,7 +8,7 @@ use Rattle.seq_arith.specs.Arrival.{below}
 use Rattle.seq_arith.specs.Early.{laid, held_with, front_run, behind_front_run, holds_some}
 use Rattle.seq_arith.specs.Coming.{Early, Came, StandsBehind, nothing_came, bounded_by, text_edge, ahead, new_text, with_text, holds_fin, continued, stands_at, with_fin_taken, comes}
 use Rattle.tcp_buffers.specs.Queue.{Queue, empty_queue, added_by, pushed}
-use Rattle.tcp_endpoint.specs.Receiving.{Receiving, Keeps, taken, receive_edge, came, with_came, with_segment}
+use Rattle.tcp_endpoint.specs.Receiving.{Receiving, ReceiverInvariant, taken, receive_edge, came, with_came, with_segment}
 use Rattle.seq_arith.proofs.Coming.{behind_gap, behind_within, stays_behind, comes_bare, nothing_behind}
 use Rattle.tcp_endpoint.proofs.Steps.{text_step, fin_step, fin_then, in_steps, step_adds_none, not_held, held_at, was_none, text_alone, is_taken, isnt_taken}
 
@@ -115,7 +115,7 @@ without_held_fin r first text q is e stands =
 
 -- what stays true of a receiver's fields, by what contracts see
 abbrev pub KeepsOf : Receiving → Type 0
-KeepsOf r = Keeps r.read (record { unread = r.unread; early = r.early.text }) r.fin r.early.fin r.limit
+KeepsOf r = ReceiverInvariant r.read (record { unread = r.unread; early = r.early.text }) r.fin r.early.fin r.limit
 
 up_to_edge : (r : Receiving) → KeepsOf r → taken r ≤ receive_edge r
 up_to_edge r k = omega (arith, k.within, k.queued)
@@ -137,9 +137,9 @@ keeps_with r first text has_fin k =
 keeps_by : (r s : Receiving) → r ≡ s → KeepsOf s → KeepsOf r
 keeps_by r s e k = subst KeepsOf (sym e) k
 
-pub keeps_none : (q : Queue) (limit : ℕ) → q ≡ empty_queue → limit ≤ 2 ^ 30 → Keeps 0 q false None limit
+pub keeps_none : (q : Queue) (limit : ℕ) → q ≡ empty_queue → limit ≤ 2 ^ 30 → ReceiverInvariant 0 q false None limit
 keeps_none q limit e near =
-    subst (λ k. Keeps 0 k false None limit) (sym e) (record { within = omega arith; queued = omega arith; near = near; behind = nothing_behind 0 (min 65535 limit) false (omega arith) })
+    subst (λ k. ReceiverInvariant 0 k false None limit) (sym e) (record { within = omega arith; queued = omega arith; near = near; behind = nothing_behind 0 (min 65535 limit) false (omega arith) })
 
 -- a FIN after no text
 fin_alone : (n edge : ℕ) (fin : Bool) (early : Early) (place : ℤ) (has_fin : Bool) → StandsBehind n edge fin early

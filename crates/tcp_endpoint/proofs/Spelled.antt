@@ -8,7 +8,7 @@ use Rattle.seq_arith.specs.PacketGrammar.{mss_option, packet_length, spelling}
 use Rattle.seq_arith.proofs.Spelling.{size}
 use Rattle.tcp_endpoint.specs.Packets.{byte_count, IsReadable, AreReadable}
 use Rattle.tcp_endpoint.specs.Tcb.{Tcb}
-use Rattle.tcp_endpoint.specs.Leaving.{text_at, texts, answer_out, again_out, probe_out, with_probe, text_out, with_text_sent, fin_out, full_out, after_full, is_owed, bare_segment, leaving, packets, or_bare}
+use Rattle.tcp_endpoint.specs.Leaving.{text_at, texts, reset_reply_out, retransmission_out, probe_out, with_probe, text_out, with_text_sent, fin_out, full_out, after_full, is_ack_pending, bare_segment, leaving, packets, or_bare}
 
 pub byte_count_push : (ps : List (List ℕ)) (p : List ℕ) → byte_count (ps ++ p ∷ []) ≡ byte_count ps + length p
 byte_count_push [] p = omega arith
@@ -36,11 +36,11 @@ packets_append xs ys = map-append spelling xs ys
 pub packets_of_five : (a b c d f : List Segment) → packets (a ++ b ++ c ++ d ++ f) ≡ packets a ++ packets b ++ packets c ++ packets d ++ packets f
 packets_of_five a b c d f = simp packets_append
 
-pub packets_or : (owed : Bool) (bare : Segment) (full : List Segment) → packets (or_bare owed bare full) ≡ or_bare owed (spelling bare) (packets full)
+pub packets_or : (ack_pending : Bool) (bare : Segment) (full : List Segment) → packets (or_bare ack_pending bare full) ≡ or_bare ack_pending (spelling bare) (packets full)
 unfolding packets
 packets_or true bare [] = refl
 packets_or false bare [] = refl
-packets_or owed bare (segment ∷ segments) = refl
+packets_or ack_pending bare (segment ∷ segments) = refl
 
 -- a piece of text is not longer than what is left, and not empty
 piece_some : (mss left : ℕ) → 0 < mss → 0 < left → 0 < min left mss
@@ -84,14 +84,14 @@ texts_end (suc k) e place = refl
 
 -- what the steps of a flush put out is what leaves
 pub leaving_is : (e : Tcb)
-    → or_bare (is_owed (after_full e)) (spelling (bare_segment (after_full e)))
-    (packets (answer_out e) ++ packets (again_out e) ++ packets (probe_out e) ++ packets (text_out (with_probe e)) ++ packets (fin_out (with_text_sent (with_probe e))))
+    → or_bare (is_ack_pending (after_full e)) (spelling (bare_segment (after_full e)))
+    (packets (reset_reply_out e) ++ packets (retransmission_out e) ++ packets (probe_out e) ++ packets (text_out (with_probe e)) ++ packets (fin_out (with_text_sent (with_probe e))))
     ≡ packets (leaving e)
 unfolding leaving full_out
 leaving_is e =
-    ap (or_bare (is_owed (after_full e)) (spelling (bare_segment (after_full e))))
-    (sym (packets_of_five (answer_out e) (again_out e) (probe_out e) (text_out (with_probe e)) (fin_out (with_text_sent (with_probe e)))))
-    ∙ sym (packets_or (is_owed (after_full e)) (bare_segment (after_full e)) (full_out e))
+    ap (or_bare (is_ack_pending (after_full e)) (spelling (bare_segment (after_full e))))
+    (sym (packets_of_five (reset_reply_out e) (retransmission_out e) (probe_out e) (text_out (with_probe e)) (fin_out (with_text_sent (with_probe e)))))
+    ∙ sym (packets_or (is_ack_pending (after_full e)) (bare_segment (after_full e)) (full_out e))
 
 pub packets_none : packets [] ≡ []
 unfolding packets
@@ -131,31 +131,31 @@ all_readable [] ys h g = g
 all_readable (x ∷ xs) ys h g = (h.0, all_readable xs ys h.1 g)
 
 -- a segment without data goes out alone
-pub bare_readable : (bare : Segment) (owed : Bool) (full : List Segment) → IsReadable bare → AreReadable full → AreReadable (or_bare owed bare full)
+pub bare_readable : (bare : Segment) (ack_pending : Bool) (full : List Segment) → IsReadable bare → AreReadable full → AreReadable (or_bare ack_pending bare full)
 bare_readable bare true [] first all = (first, tt)
 bare_readable bare false [] first all = tt
-bare_readable bare owed (segment ∷ segments) first all = all
+bare_readable bare ack_pending (segment ∷ segments) first all = all
 
 -- or not at all, where it isn't owed or another goes out
-pub unsent_readable : (bare : Segment) (owed : Bool) (full : List Segment) → ((length (packets full) == 0) && owed) ≡ false → AreReadable full → AreReadable (or_bare owed bare full)
+pub unsent_readable : (bare : Segment) (ack_pending : Bool) (full : List Segment) → ((length (packets full) == 0) && ack_pending) ≡ false → AreReadable full → AreReadable (or_bare ack_pending bare full)
 unfolding packets
 unsent_readable bare true [] none all = absurd (false≢true (sym none))
 unsent_readable bare false [] none all = tt
-unsent_readable bare owed (segment ∷ segments) none all = all
+unsent_readable bare ack_pending (segment ∷ segments) none all = all
 
-pub full_readable : (e : Tcb) → AreReadable (answer_out e) → AreReadable (again_out e) → AreReadable (probe_out e) → AreReadable (text_out (with_probe e))
+pub full_readable : (e : Tcb) → AreReadable (reset_reply_out e) → AreReadable (retransmission_out e) → AreReadable (probe_out e) → AreReadable (text_out (with_probe e))
     → AreReadable (fin_out (with_text_sent (with_probe e))) → AreReadable (full_out e)
 unfolding full_out
-full_readable e answer again probe text fin =
-    all_readable (answer_out e ++ again_out e ++ probe_out e ++ text_out (with_probe e)) (fin_out (with_text_sent (with_probe e)))
-    (all_readable (answer_out e ++ again_out e ++ probe_out e) (text_out (with_probe e))
-    (all_readable (answer_out e ++ again_out e) (probe_out e) (all_readable (answer_out e) (again_out e) answer again) probe) text) fin
+full_readable e reset_reply retransmission_due probe text fin =
+    all_readable (reset_reply_out e ++ retransmission_out e ++ probe_out e ++ text_out (with_probe e)) (fin_out (with_text_sent (with_probe e)))
+    (all_readable (reset_reply_out e ++ retransmission_out e ++ probe_out e) (text_out (with_probe e))
+    (all_readable (reset_reply_out e ++ retransmission_out e) (probe_out e) (all_readable (reset_reply_out e) (retransmission_out e) reset_reply retransmission_due) probe) text) fin
 
 pub packets_full : (e : Tcb)
-    → packets (answer_out e) ++ packets (again_out e) ++ packets (probe_out e) ++ packets (text_out (with_probe e)) ++ packets (fin_out (with_text_sent (with_probe e))) ≡ packets (full_out e)
+    → packets (reset_reply_out e) ++ packets (retransmission_out e) ++ packets (probe_out e) ++ packets (text_out (with_probe e)) ++ packets (fin_out (with_text_sent (with_probe e))) ≡ packets (full_out e)
 unfolding full_out
-packets_full e = sym (packets_of_five (answer_out e) (again_out e) (probe_out e) (text_out (with_probe e)) (fin_out (with_text_sent (with_probe e))))
+packets_full e = sym (packets_of_five (reset_reply_out e) (retransmission_out e) (probe_out e) (text_out (with_probe e)) (fin_out (with_text_sent (with_probe e))))
 
-pub leaving_readable : (e after : Tcb) → after ≡ after_full e → AreReadable (or_bare (is_owed after) (bare_segment after) (full_out e)) → AreReadable (leaving e)
+pub leaving_readable : (e after : Tcb) → after ≡ after_full e → AreReadable (or_bare (is_ack_pending after) (bare_segment after) (full_out e)) → AreReadable (leaving e)
 unfolding leaving
-leaving_readable e after is h = subst (λ (f : Tcb). AreReadable (or_bare (is_owed f) (bare_segment f) (full_out e))) is h
+leaving_readable e after is h = subst (λ (f : Tcb). AreReadable (or_bare (is_ack_pending f) (bare_segment f) (full_out e))) is h

@@ -39,20 +39,20 @@ rst e p seq ack flags = record {
 }
 
 -- <SEQ=SEG.ACK><CTL=RST>
-unfoldable pub refusing : Tcb → Segment → Tcb
-refusing e p = record e { answer = Some (rst e p p.head.ack 0 4) }
+unfoldable pub with_reset_reply : Tcb → Segment → Tcb
+with_reset_reply e p = record e { reset_reply = Some (rst e p p.head.ack 0 4) }
 
 -- <SEQ=0><ACK=SEG.SEQ+SEG.LEN><CTL=RST,ACK>
-unfoldable pub refusing_without_ack : Tcb → Segment → Tcb
-refusing_without_ack e p = record e { answer = Some (rst e p 0 ((p.head.seq + length_of p) % 2 ^ 32) 20) }
+unfoldable pub with_reset_reply_without_ack : Tcb → Segment → Tcb
+with_reset_reply_without_ack e p = record e { reset_reply = Some (rst e p 0 ((p.head.seq + length_of p) % 2 ^ 32) 20) }
 
 -- an ACK becomes pending
-abbrev pub owing_if : Bool → Tcb → Tcb
-owing_if b e = record e { owed = e.owed || b }
+abbrev pub with_ack_pending_if : Bool → Tcb → Tcb
+with_ack_pending_if b e = record e { ack_pending = e.ack_pending || b }
 
 -- the connection is reset
-abbrev pub killed : Tcb → Tcb
-killed e = record e { name = Closed; reset = true }
+abbrev pub with_reset : Tcb → Tcb
+with_reset e = record e { name = Closed; reset = true }
 
 -- enters a state. TIME-WAIT lasts four ticks
 abbrev pub entering : StateName → Tcb → Tcb
@@ -60,7 +60,7 @@ entering name e = record e { name = name; wait = if is_time_wait name && not (is
 
 -- 3.10.7.1: CLOSED
 unfoldable pub in_closed : Tcb → Segment → Tcb
-in_closed e p = if has_rst p then e else (if has_ack p then refusing e p else refusing_without_ack e p)
+in_closed e p = if has_rst p then e else (if has_ack p then with_reset_reply e p else with_reset_reply_without_ack e p)
 
 -- 3.10.7.2: LISTEN. A SYN opens a connection, and its SYN-ACK becomes due
 unfoldable pub begun : Tcb → Segment → Tcb
@@ -69,11 +69,11 @@ begun e p = record e {
   name = SynReceived;
   receiving = record e.receiving { irs = p.head.seq };
   sending = with_segment_size (segment_size p.head.mss) e.sending;
-  again = true;
+  retransmission_due = true;
 }
 
 unfoldable pub in_listen : Tcb → Segment → Tcb
-in_listen e p = if has_rst p then e else (if has_ack p then refusing e p else (if has_syn p then begun e p else e))
+in_listen e p = if has_rst p then e else (if has_ack p then with_reset_reply e p else (if has_syn p then begun e p else e))
 
 -- 3.10.7.3: SYN-SENT. Only the SYN has been sent, so exactly one number acknowledges it
 unfoldable pub answered : Tcb → Segment → Tcb
@@ -81,15 +81,15 @@ answered e p = record e {
   name = Established;
   receiving = record e.receiving { irs = p.head.seq };
   sending = with_syn_acked (with_segment_size (segment_size p.head.mss) e.sending) p.head.seq p.head.window;
-  owed = true;
+  ack_pending = true;
 }
 
 unfoldable pub in_syn_sent : Tcb → Segment → Tcb
 in_syn_sent e p =
     if has_ack p
     then (if int_eq (ack_at e p) (pos 0)
-    then (if has_rst p then killed e else (if has_syn p then answered e p else e))
-    else (if has_rst p then e else refusing e p))
+    then (if has_rst p then with_reset e else (if has_syn p then answered e p else e))
+    else (if has_rst p then e else with_reset_reply e p))
     else e
 
 -- 3.10.7.4, seventh and eighth check: text and FIN are taken, or held
@@ -107,7 +107,7 @@ unfoldable pub with_first_ack : Tcb → Segment → Tcb
 with_first_ack e p =
     if int_eq (ack_at e p) (pos 0)
     then with_text_and_fin (record e { name = after_syn_acked e.sending.closed; sending = with_syn_acked e.sending p.head.seq p.head.window }) p
-    else refusing e p
+    else with_reset_reply e p
 
 -- whether the segment has neither text nor FIN
 abbrev pub is_bare : Segment → Bool
@@ -117,13 +117,13 @@ is_bare p = length p.payload == 0 && not (has_fin p)
 unfoldable pub with_ack_used : Tcb → Segment → Tcb
 with_ack_used e p = record e {
   sending = answered_by e.sending (is_bare p) p.head.seq (ack_at e p) p.head.window;
-  again = e.again || is_third_duplicate e.sending (is_bare p) (ack_at e p) p.head.window;
+  retransmission_due = e.retransmission_due || is_third_duplicate e.sending (is_bare p) (ack_at e p) p.head.window;
 }
 
 -- fifth check, in the other states: an acknowledgement ahead of SND.NXT makes an ACK pending, and nothing of its segment is used
 unfoldable pub with_ack : Tcb → Segment → Tcb
 with_ack e p =
-    if is_ahead e.sending.sent (ack_at e p) then owing_if true e else with_text_and_fin (with_fin_acked (with_ack_used e p)) p
+    if is_ahead e.sending.sent (ack_at e p) then with_ack_pending_if true e else with_text_and_fin (with_fin_acked (with_ack_used e p)) p
 
 -- fifth check. Until our SYN is acknowledged, the state is SYN-RECEIVED
 unfoldable pub check_ack : Tcb → Segment → Tcb
@@ -131,19 +131,19 @@ check_ack e p = if has_ack p then (if e.sending.syn_acked then with_ack e p else
 
 -- fourth check: a SYN gets a challenge ACK. A segment with SEG.LEN above 0 makes an ACK pending
 unfoldable pub check_syn : Tcb → Segment → Tcb
-check_syn e p = if has_syn p then owing_if true e else check_ack (owing_if (nat_lt 0 (length_of p)) e) p
+check_syn e p = if has_syn p then with_ack_pending_if true e else check_ack (with_ack_pending_if (nat_lt 0 (length_of p)) e) p
 
 -- second check: a RST at RCV.NXT resets the connection. Any other that passed the first check gets a challenge ACK
 unfoldable pub check_rst : Tcb → Segment → Tcb
-check_rst e p = if has_rst p then (if int_eq (first e p) (pos (next e.receiving)) then killed e else owing_if true e) else check_syn e p
+check_rst e p = if has_rst p then (if int_eq (first e p) (pos (next e.receiving)) then with_reset e else with_ack_pending_if true e) else check_syn e p
 
 -- whether the segment repeats the peer's FIN: its FIN comes right after the bytes taken
 abbrev pub repeats_fin : Tcb → Segment → Bool
 repeats_fin e p = fin_of p && int_eq (first e p +ℤ pos (length p.payload)) (pos (taken e.receiving))
 
 -- a repeated FIN restarts TIME-WAIT
-unfoldable pub waiting_again : Tcb → Segment → Tcb
-waiting_again e p = record e { wait = if is_time_wait e.name && repeats_fin e p then 4 else e.wait }
+unfoldable pub with_time_wait_restarted : Tcb → Segment → Tcb
+with_time_wait_restarted e p = record e { wait = if is_time_wait e.name && repeats_fin e p then 4 else e.wait }
 
 -- acceptable by the four cases, or at the right edge
 unfoldable pub accepts : Tcb → Segment → Bool
@@ -155,12 +155,12 @@ unfoldable pub is_allowed : Tcb → Segment → Bool
 is_allowed e p = is_allowed_at_zero (next e.receiving) (window e.receiving) (first e p) && (e.sending.syn_acked || int_eq (ack_at e p) (pos 0))
 
 -- first check: a segment that is neither acceptable nor allowed makes an ACK pending, unless it is a RST
-unfoldable pub check_place : Tcb → Segment → Tcb
-check_place e p = if accepts e p || is_allowed e p then check_rst e p else owing_if (not (has_rst p)) e
+unfoldable pub check_sequence : Tcb → Segment → Tcb
+check_sequence e p = if accepts e p || is_allowed e p then check_rst e p else with_ack_pending_if (not (has_rst p)) e
 
 -- 3.10.7.4: SYN-RECEIVED and the synchronized states
 unfoldable pub in_others : Tcb → Segment → Tcb
-in_others e p = check_place (waiting_again e p) p
+in_others e p = check_sequence (with_time_wait_restarted e p) p
 
 abbrev pub received_in : StateName → Tcb → Segment → Tcb
 received_in Closed e p = in_closed e p

@@ -6,7 +6,7 @@ use Rattle.seq_arith.specs.PacketGrammar.{spelling}
 use Rattle.segment_codec.specs.Value.{said}
 use Rattle.segment_codec.specs.declared.Head as codec
 use Rattle.tcp_endpoint.specs.States.{is_closed, is_syn_sent, has_begun}
-use Rattle.tcp_endpoint.specs.Receiving.{next, window, announced_edge}
+use Rattle.tcp_endpoint.specs.Receiving.{next, window, advertised_edge}
 use Rattle.tcp_endpoint.specs.Sending.{in_flight, is_unacknowledged, must_run, timed, sendable, sends_fin, resent_length, with_sent, with_fin_sent}
 use Rattle.tcp_endpoint.specs.Tcb.{Tcb}
 
@@ -52,21 +52,21 @@ texts (suc k) e place left =
     else []
 
 -- the RST in answer
-abbrev pub answer_segments : Option codec.Head → List Segment
-answer_segments None = []
-answer_segments (Some head) = record { head = said head; payload = [] } ∷ []
+abbrev pub reset_reply_segments : Option codec.Head → List Segment
+reset_reply_segments None = []
+reset_reply_segments (Some head) = record { head = said head; payload = [] } ∷ []
 
-unfoldable pub answer_out : Tcb → List Segment
-answer_out e = answer_segments e.answer
+unfoldable pub reset_reply_out : Tcb → List Segment
+reset_reply_out e = reset_reply_segments e.reset_reply
 
 -- the first unacknowledged segment: the SYN or SYN-ACK, then text, and the FIN once all bytes are acknowledged
-unfoldable pub again_segment : Tcb → Segment
-again_segment e =
+unfoldable pub retransmitted_segment : Tcb → Segment
+retransmitted_segment e =
     if not e.sending.syn_acked then opening_segment e
     else (if length e.sending.held == 0 then fin_at e 0 else text_at e 0 (resent_length e.sending))
 
-unfoldable pub again_out : Tcb → List Segment
-again_out e = if e.again && not (is_closed e.name) && is_unacknowledged e.sending then again_segment e ∷ [] else []
+unfoldable pub retransmission_out : Tcb → List Segment
+retransmission_out e = if e.retransmission_due && not (is_closed e.name) && is_unacknowledged e.sending then retransmitted_segment e ∷ [] else []
 
 -- a probe is sent at SND.NXT: one byte, or the FIN where no byte is waiting
 abbrev pub probes : Tcb → Bool
@@ -109,14 +109,14 @@ with_fin_out e = record e { sending = if new_fin e then with_fin_sent e.sending 
 
 -- all but a segment without data
 unfoldable pub full_out : Tcb → List Segment
-full_out e = answer_out e ++ again_out e ++ probe_out e ++ text_out (with_probe e) ++ fin_out (with_text_sent (with_probe e))
+full_out e = reset_reply_out e ++ retransmission_out e ++ probe_out e ++ text_out (with_probe e) ++ fin_out (with_text_sent (with_probe e))
 
 unfoldable pub after_full : Tcb → Tcb
 after_full e = with_fin_out (with_text_sent (with_probe e))
 
 -- an ACK is pending: a check requires it, or RCV.NXT or the right edge has changed since it was last sent
-unfoldable pub is_owed : Tcb → Bool
-is_owed e = has_begun e.name && (e.owed || not (e.told_next == next e.receiving) || not (e.told_edge == announced_edge e.receiving))
+unfoldable pub is_ack_pending : Tcb → Bool
+is_ack_pending e = has_begun e.name && (e.ack_pending || not (e.last_ack_sent == next e.receiving) || not (e.last_advertised_edge == advertised_edge e.receiving))
 
 -- the segment without data, at SND.NXT
 unfoldable pub bare_segment : Tcb → Segment
@@ -124,22 +124,22 @@ bare_segment e = segment_at e (in_flight e.sending) 16 []
 
 -- the list; or only `bare`, where the list is empty and an ACK is pending. The lists are of segments or of packets
 abbrev pub or_bare : {A : Type 0} → Bool → A → List A → List A
-or_bare owed bare [] = if owed then bare ∷ [] else []
-or_bare owed bare (first ∷ others) = first ∷ others
+or_bare ack_pending bare [] = if ack_pending then bare ∷ [] else []
+or_bare ack_pending bare (first ∷ others) = first ∷ others
 
 -- what is sent, in order: a segment without data only where no other is sent
 unfoldable pub leaving : Tcb → List Segment
-leaving e = or_bare (is_owed (after_full e)) (bare_segment (after_full e)) (full_out e)
+leaving e = or_bare (is_ack_pending (after_full e)) (bare_segment (after_full e)) (full_out e)
 
 -- notes what every segment of a connection that has begun advertises, and that nothing is due any more
-unfoldable pub announced : Tcb → Tcb
-announced e = record e {
-  told_next = if has_begun e.name then next e.receiving else e.told_next;
-  told_edge = if has_begun e.name then announced_edge e.receiving else e.told_edge;
-  owed = false;
-  again = false;
+unfoldable pub with_advertised : Tcb → Tcb
+with_advertised e = record e {
+  last_ack_sent = if has_begun e.name then next e.receiving else e.last_ack_sent;
+  last_advertised_edge = if has_begun e.name then advertised_edge e.receiving else e.last_advertised_edge;
+  ack_pending = false;
+  retransmission_due = false;
   probe = false;
-  answer = None;
+  reset_reply = None;
 }
 
 -- the timer runs where it must, unless the state is CLOSED or LISTEN
@@ -147,7 +147,7 @@ abbrev pub is_timed : Tcb → Bool
 is_timed e = (has_begun e.name || is_syn_sent e.name) && must_run e.sending
 
 unfoldable pub with_turn_ended : Tcb → Tcb
-with_turn_ended e = record (announced e) { sending = timed (is_timed e) e.sending }
+with_turn_ended e = record (with_advertised e) { sending = timed (is_timed e) e.sending }
 
 unfoldable pub flushed : Tcb → Tcb
 flushed e = with_turn_ended (after_full e)

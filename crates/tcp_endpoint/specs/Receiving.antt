@@ -26,8 +26,8 @@ abbrev pub receive_edge : Receiving → ℕ
 receive_edge r = min (r.read + 65535) r.limit
 
 -- the edge that is advertised: a FIN that is taken has used up one number
-abbrev pub announced_edge : Receiving → ℕ
-announced_edge r = receive_edge r + one_if r.fin
+abbrev pub advertised_edge : Receiving → ℕ
+advertised_edge r = receive_edge r + one_if r.fin
 
 -- RCV.WND
 abbrev pub window : Receiving → ℕ
@@ -53,7 +53,7 @@ abbrev pub read_out : Receiving → ℕ → Receiving
 read_out r n = record r { read = r.read + n; unread = drop n r.unread }
 
 -- the invariant of a receiver's fields
-pub record Keeps (read : ℕ) (queue : Queue) (fin : Bool) (held_fin : Option ℕ) (limit : ℕ) : Type 0 where
+pub record ReceiverInvariant (read : ℕ) (queue : Queue) (fin : Bool) (held_fin : Option ℕ) (limit : ℕ) : Type 0 where
   pub within : read + length queue.unread ≤ limit
   pub queued : length queue.unread ≤ 65535
   pub near : limit ≤ 2 ^ 30

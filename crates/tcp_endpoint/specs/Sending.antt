@@ -165,8 +165,8 @@ abbrev pub own : ℕ → ℕ → ℕ
 own iss number = distance number ((iss + 1) % 2 ^ 32)
 
 -- what the sender's numbers mean in offsets
-abbrev pub told_by : (iss : ℕ) (syn_acked : Bool) → SendState → List ℕ → (closed fin_sent : Bool) → Sending
-told_by iss syn_acked n held closed fin_sent = record {
+abbrev pub sending_of : (iss : ℕ) (syn_acked : Bool) → SendState → List ℕ → (closed fin_sent : Bool) → Sending
+sending_of iss syn_acked n held closed fin_sent = record {
   iss = iss;
   syn_acked = syn_acked;
   una = own iss n.una.0;
@@ -184,7 +184,7 @@ told_by iss syn_acked n held closed fin_sent = record {
 }
 
 -- the invariant of a sender's fields: no more is in flight than the held bytes and the FIN
-pub record Holds (n : SendState) (held : List ℕ) (fin_sent : Bool) : Type 0 where
+pub record SenderInvariant (n : SendState) (held : List ℕ) (fin_sent : Bool) : Type 0 where
   pub flight : distance n.nxt.0 n.una.0 ≤ length held + one_if fin_sent
   pub queued : length held ≤ 65535
   pub least : 64 ≤ n.mss

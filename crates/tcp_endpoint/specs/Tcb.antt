@@ -15,12 +15,12 @@ pub record Tcb : Type 0 where
   pub receiving : Receiving  -- the peer's stream: IRS, RCV.NXT, RCV.WND
   pub sending : Sending  -- the own stream: ISS, SND.UNA, SND.NXT, SND.WND
   pub wait : ℕ  -- the ticks that TIME-WAIT still lasts
-  pub told_next : ℕ  -- the acknowledgement last sent, ..
-  pub told_edge : ℕ  -- .. and the edge last announced
-  pub owed : Bool  -- of this turn: a segment without data is owed,
-  pub again : Bool  -- the first segment that is unacknowledged goes out again,
-  pub probe : Bool  -- a probe goes out,
-  pub answer : Option Head  -- and this RST answers
+  pub last_ack_sent : ℕ  -- the acknowledgement last sent, ..
+  pub last_advertised_edge : ℕ  -- .. and the edge last advertised
+  pub ack_pending : Bool  -- of this turn: an ACK is pending,
+  pub retransmission_due : Bool  -- the first unacknowledged segment is due: the SYN or SYN-ACK, or a retransmission,
+  pub probe : Bool  -- a zero-window probe is due,
+  pub reset_reply : Option Head  -- and the RST in reply
 
 -- the largest right edge of an endpoint's receive window, as an offset: the limit that the caller gives, and at most 2^30
 abbrev pub kept_limit : ℕ → ℕ
@@ -36,14 +36,14 @@ listening local iss limit = record {
   receiving = receiving_up_to (kept_limit limit);
   sending = sending_from iss;
   wait = 0;
-  told_next = 0;
-  told_edge = 0;
-  owed = false;
-  again = false;
+  last_ack_sent = 0;
+  last_advertised_edge = 0;
+  ack_pending = false;
+  retransmission_due = false;
   probe = false;
-  answer = None;
+  reset_reply = None;
 }
 
 -- an active open: the SYN is due
 unfoldable pub connecting : Addr → Addr → ℕ → ℕ → Tcb
-connecting local remote iss limit = record (listening local iss limit) { remote = remote; name = SynSent; again = true }
+connecting local remote iss limit = record (listening local iss limit) { remote = remote; name = SynSent; retransmission_due = true }

@@ -11,7 +11,7 @@ use Rattle.tcp_endpoint.specs.Tcb.{Tcb}
 unfoldable pub timer_ticked : Tcb → Tcb
 timer_ticked e = record e {
   sending = ticked e.sending;
-  again = e.again || (expires e.sending && is_unacknowledged e.sending);
+  retransmission_due = e.retransmission_due || (expires e.sending && is_unacknowledged e.sending);
   probe = e.probe || (expires e.sending && not (is_unacknowledged e.sending));
 }
 

@@ -7,9 +7,9 @@ ghost use Rattle.seq_arith.specs.Offset.{length_of};
 ghost use Rattle.std.specs.Bool.{OnTrue};
 ghost use Rattle.tcp_buffers.specs.Near.{is_ahead, IsNearFirst};
 ghost use Rattle.tcp_endpoint.specs.Sending.{IsShort};
-ghost use Rattle.tcp_endpoint.specs.Arrival.{first, ack_at, refusing, refusing_without_ack, owing_if, killed, entering, in_closed, begun, in_listen, answered};
+ghost use Rattle.tcp_endpoint.specs.Arrival.{first, ack_at, with_reset_reply, with_reset_reply_without_ack, with_ack_pending_if, with_reset, entering, in_closed, begun, in_listen, answered};
 ghost use Rattle.tcp_endpoint.specs.Arrival.{in_syn_sent, with_text_and_fin, with_fin_acked, with_first_ack, is_bare, with_ack_used, with_ack, check_ack, check_syn, check_rst};
-ghost use Rattle.tcp_endpoint.specs.Arrival.{waiting_again, is_allowed, check_place, in_others, received, within_ip};
+ghost use Rattle.tcp_endpoint.specs.Arrival.{with_time_wait_restarted, is_allowed, check_sequence, in_others, received, within_ip};
 
 use crate::endpoint::Endpoint;
 use crate::sender::AckUse;
@@ -105,11 +105,11 @@ impl Endpoint {
     }
 
     /// Answers with a RST at SEG.ACK.
-    #[tactic(auto, unfolding(crate::specs::Arrival::refusing))]
-    fn refuse(&mut self, p: PacketRef<'_>)
-        ensures { self.new ≡ refusing self.old (segment_of p.entry) }
+    #[tactic(auto, unfolding(crate::specs::Arrival::with_reset_reply))]
+    fn reply_reset(&mut self, p: PacketRef<'_>)
+        ensures { self.new ≡ with_reset_reply self.old (segment_of p.entry) }
     {
-        self.answer = Some(Head {
+        self.reset_reply = Some(Head {
             src: self.local.ip,
             dst: p.head.src,
             sport: self.local.port,
@@ -123,12 +123,12 @@ impl Endpoint {
     }
 
     /// Answers a segment without ACK with a RST at number 0 that acknowledges it.
-    #[tactic(auto, unfolding(crate::specs::Arrival::refusing_without_ack))]
-    fn refuse_without_ack(&mut self, p: PacketRef<'_>)
+    #[tactic(auto, unfolding(crate::specs::Arrival::with_reset_reply_without_ack))]
+    fn reply_reset_without_ack(&mut self, p: PacketRef<'_>)
         requires { length p.payload.now ≤ 65535 }
-        ensures { self.new ≡ refusing_without_ack self.old (segment_of p.entry) }
+        ensures { self.new ≡ with_reset_reply_without_ack self.old (segment_of p.entry) }
     {
-        self.answer = Some(Head {
+        self.reset_reply = Some(Head {
             src: self.local.ip,
             dst: p.head.src,
             sport: self.local.port,
@@ -151,9 +151,9 @@ impl Endpoint {
             return;
         }
         if has_ack(p) {
-            self.refuse(p);
+            self.reply_reset(p);
         } else {
-            self.refuse_without_ack(p);
+            self.reply_reset_without_ack(p);
         }
     }
 
@@ -169,7 +169,7 @@ impl Endpoint {
         self.name = StateName::SynReceived;
         self.receiver.begin(p.head.seq);
         self.sender.begin(p.head.mss);
-        self.again = true;
+        self.retransmission_due = true;
     }
 
     /// LISTEN (RFC 9293, 3.10.7.2).
@@ -181,7 +181,7 @@ impl Endpoint {
             return;
         }
         if has_ack(p) {
-            self.refuse(p);
+            self.reply_reset(p);
         } else if has_syn(p) {
             self.begin(p);
         }
@@ -196,7 +196,7 @@ impl Endpoint {
         self.receiver.begin(p.head.seq);
         self.sender.begin(p.head.mss);
         self.sender.open(p.head.seq, p.head.window);
-        self.owed = true;
+        self.ack_pending = true;
     }
 
     /// SYN-SENT (RFC 9293, 3.10.7.3).
@@ -209,20 +209,20 @@ impl Endpoint {
         }
         if !self.sender.acks_syn(p.head.ack) {
             if !has_rst(p) {
-                self.refuse(p);
+                self.reply_reset(p);
             }
             return;
         }
         if has_rst(p) {
-            self.kill();
+            self.reset_connection();
         } else if has_syn(p) {
             self.answered(p);
         }
     }
 
     /// The connection is reset.
-    fn kill(&mut self)
-        ensures { self.new ≡ killed self.old }
+    fn reset_connection(&mut self)
+        ensures { self.new ≡ with_reset self.old }
     {
         self.name = StateName::Closed;
         self.reset = true;
@@ -239,23 +239,23 @@ impl Endpoint {
     }
 
     /// Makes an ACK pending, if it is due.
-    fn owe(&mut self, is_owed: bool)
-        ensures { self.new ≡ owing_if is_owed self.old }
+    fn make_ack_pending(&mut self, is_ack_pending: bool)
+        ensures { self.new ≡ with_ack_pending_if is_ack_pending self.old }
     {
-        self.owed = self.owed || is_owed;
+        self.ack_pending = self.ack_pending || is_ack_pending;
     }
 
     /// RFC 9293, 3.10.7.4, first check: a segment that is neither acceptable nor allowed makes an ACK pending, unless it is a RST.
-    #[tactic(auto, unfolding(crate::specs::Arrival::accepts, crate::specs::Arrival::check_place, crate::specs::Arrival::in_others, crate::specs::Arrival::waiting_again))]
+    #[tactic(auto, unfolding(crate::specs::Arrival::accepts, crate::specs::Arrival::check_sequence, crate::specs::Arrival::in_others, crate::specs::Arrival::with_time_wait_restarted))]
     fn in_others(&mut self, p: PacketRef<'_>)
         requires { length p.payload.now ≤ 65535 }
         ensures { IsShort self.old.sending → self.new ≡ in_others self.old (segment_of p.entry) }
     {
-        self.wait_again(p);
+        self.restart_time_wait(p);
         if self.receiver.accepts(p.head.seq, length_of(p)) || self.is_allowed(p) {
             self.check_rst(p);
         } else {
-            self.owe(!has_rst(p));
+            self.make_ack_pending(!has_rst(p));
         }
     }
 
@@ -271,10 +271,10 @@ impl Endpoint {
     }
 
     /// A repeated FIN of the peer restarts TIME-WAIT.
-    #[tactic(auto, unfolding(crate::specs::Arrival::waiting_again))]
-    fn wait_again(&mut self, p: PacketRef<'_>)
+    #[tactic(auto, unfolding(crate::specs::Arrival::with_time_wait_restarted))]
+    fn restart_time_wait(&mut self, p: PacketRef<'_>)
         requires { length p.payload.now ≤ 65535 }
-        ensures { self.new ≡ waiting_again self.old (segment_of p.entry) }
+        ensures { self.new ≡ with_time_wait_restarted self.old (segment_of p.entry) }
     {
         let is_fin = has_fin(p) && !has_syn(p) && !has_rst(p);
         if self.name.is_time_wait()
@@ -295,9 +295,9 @@ impl Endpoint {
         if !has_rst(p) {
             self.check_syn(p);
         } else if self.receiver.is_next(p.head.seq) {
-            self.kill();
+            self.reset_connection();
         } else {
-            self.owe(true);
+            self.make_ack_pending(true);
         }
     }
 
@@ -309,10 +309,10 @@ impl Endpoint {
         ensures { IsShort self.old.sending → self.new ≡ check_syn self.old (segment_of p.entry) }
     {
         if has_syn(p) {
-            self.owe(true);
+            self.make_ack_pending(true);
             return;
         }
-        self.owe(length_of(p) > 0);
+        self.make_ack_pending(length_of(p) > 0);
         self.check_ack(p);
     }
 
@@ -341,7 +341,7 @@ impl Endpoint {
         ensures { self.new ≡ with_first_ack self.old (segment_of p.entry) }
     {
         if !self.sender.acks_syn(p.head.ack) {
-            self.refuse(p);
+            self.reply_reset(p);
             return;
         }
         self.name = StateName::after_syn_acked(self.sender.is_closed());
@@ -360,7 +360,7 @@ impl Endpoint {
             self.note_fin_acked();
             self.take_text_and_fin(p);
         } else {
-            self.owe(true);
+            self.make_ack_pending(true);
         }
     }
 
@@ -380,7 +380,7 @@ impl Endpoint {
             AckUse::Ahead => false,
             AckUse::Used => true,
             AckUse::Third => {
-                self.again = true;
+                self.retransmission_due = true;
                 true
             }
         }

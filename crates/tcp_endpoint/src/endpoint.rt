@@ -33,17 +33,17 @@ pub struct Endpoint {
     /// The ticks left in TIME-WAIT.
     pub(crate) wait: u8,
     /// The acknowledgement last sent, as an offset in the peer's stream.
-    pub(crate) told_next: u32,
+    pub(crate) last_ack_sent: u32,
     /// The edge last advertised, as such an offset.
-    pub(crate) told_edge: u32,
+    pub(crate) last_advertised_edge: u32,
     /// Whether an ACK is pending in this turn.
-    pub(crate) owed: bool,
+    pub(crate) ack_pending: bool,
     /// Whether the first unacknowledged segment is due in this turn: the SYN or SYN-ACK, or a retransmission.
-    pub(crate) again: bool,
+    pub(crate) retransmission_due: bool,
     /// Whether a probe is due in this turn.
     pub(crate) probe: bool,
     /// The RST in answer that is due in this turn.
-    pub(crate) answer: Option<Head>,
+    pub(crate) reset_reply: Option<Head>,
 }
 
 impl Model for Endpoint {
@@ -59,12 +59,12 @@ impl Model for Endpoint {
       receiving = e.receiver;
       sending = e.sender;
       wait = e.wait;
-      told_next = e.told_next;
-      told_edge = e.told_edge;
-      owed = e.owed;
-      again = e.again;
+      last_ack_sent = e.last_ack_sent;
+      last_advertised_edge = e.last_advertised_edge;
+      ack_pending = e.ack_pending;
+      retransmission_due = e.retransmission_due;
       probe = e.probe;
-      answer = e.answer;
+      reset_reply = e.reset_reply;
     } };
 }
 
@@ -84,12 +84,12 @@ impl Endpoint {
             receiver: Receiver::new(queue, limit),
             sender: Sender::new(isn, held),
             wait: 0,
-            told_next: 0,
-            told_edge: 0,
-            owed: false,
-            again: false,
+            last_ack_sent: 0,
+            last_advertised_edge: 0,
+            ack_pending: false,
+            retransmission_due: false,
             probe: false,
-            answer: None,
+            reset_reply: None,
         })
     }
 
@@ -107,7 +107,7 @@ impl Endpoint {
         let mut endpoint = Endpoint::listen(alloc, local, isn, limit)?;
         endpoint.remote = remote;
         endpoint.name = StateName::SynSent;
-        endpoint.again = true;
+        endpoint.retransmission_due = true;
         Ok(endpoint)
     }
 

@@ -8,8 +8,8 @@ ghost use Rattle.segment_codec.specs.Value.{said};
 ghost use Rattle.segment_codec.specs.Written.{segment_with};
 ghost use Rattle.tcp_endpoint.specs.Packets.{byte_count, IsReadable, AreReadable};
 ghost use Rattle.tcp_endpoint.specs.Sending.{in_flight};
-ghost use Rattle.tcp_endpoint.specs.Leaving.{head_at, opening_segment, text_at, fin_at, texts, answer_out, again_out, probe_out, with_probe, text_out};
-ghost use Rattle.tcp_endpoint.specs.Leaving.{with_text_sent, new_length, fin_out, with_fin_out, is_owed, bare_segment, leaving, announced, is_timed};
+ghost use Rattle.tcp_endpoint.specs.Leaving.{head_at, opening_segment, text_at, fin_at, texts, reset_reply_out, retransmission_out, probe_out, with_probe, text_out};
+ghost use Rattle.tcp_endpoint.specs.Leaving.{with_text_sent, new_length, fin_out, with_fin_out, is_ack_pending, bare_segment, leaving, with_advertised, is_timed};
 ghost use Rattle.tcp_endpoint.specs.Leaving.{with_turn_ended, flushed, packets, or_bare};
 
 use crate::endpoint::Endpoint;
@@ -28,12 +28,12 @@ impl Endpoint {
         ensures bytes { byte_count out.new ≤ 110000 }
         ensures readable { AreReadable (leaving self.old) }
     {
-        self.send_answer(out);
-        self.send_again(out);
+        self.send_reset_reply(out);
+        self.retransmit(out);
         self.send_probe(out);
         self.send_text(out);
         self.send_fin(out);
-        self.send_owed(out);
+        self.send_pending_ack(out);
         self.end_turn();
     }
 
@@ -77,15 +77,15 @@ impl Endpoint {
     }
 
     /// Sends the RST in answer, where one is due.
-    #[tactic(auto, using(crate::proofs::Spelled::options_short, crate::proofs::Spelled::packets_one, crate::proofs::Spelled::packets_none), unfolding(crate::specs::Leaving::answer_out))]
-    fn send_answer(&self, out: &mut Outbox)
+    #[tactic(auto, using(crate::proofs::Spelled::options_short, crate::proofs::Spelled::packets_one, crate::proofs::Spelled::packets_none), unfolding(crate::specs::Leaving::reset_reply_out))]
+    fn send_reset_reply(&self, out: &mut Outbox)
         requires { out.old ≡ [] }
-        ensures sent { out.new ≡ packets (answer_out self.now) }
+        ensures sent { out.new ≡ packets (reset_reply_out self.now) }
         ensures count { length out.new ≤ 1 }
         ensures bytes { byte_count out.new ≤ 44 }
-        ensures readable { AreReadable (answer_out self.now) }
+        ensures readable { AreReadable (reset_reply_out self.now) }
     {
-        if let Some(head) = self.answer {
+        if let Some(head) = self.reset_reply {
             out.push_segment(&head, &[], &[]);
         }
     }
@@ -122,16 +122,16 @@ impl Endpoint {
     }
 
     /// Sends the first unacknowledged segment, where it is due.
-    #[tactic(auto, using(crate::proofs::Spelled::options_short, crate::proofs::Spelled::packets_one, crate::proofs::Spelled::nothing_more), unfolding(crate::specs::Leaving::again_out, crate::specs::Leaving::again_segment))]
-    fn send_again(&self, out: &mut Outbox)
+    #[tactic(auto, using(crate::proofs::Spelled::options_short, crate::proofs::Spelled::packets_one, crate::proofs::Spelled::nothing_more), unfolding(crate::specs::Leaving::retransmission_out, crate::specs::Leaving::retransmitted_segment))]
+    fn retransmit(&self, out: &mut Outbox)
         requires count { length out.old ≤ 1 }
         requires bytes { byte_count out.old ≤ 44 }
-        ensures sent { out.new ≡ out.old ++ packets (again_out self.now) }
+        ensures sent { out.new ≡ out.old ++ packets (retransmission_out self.now) }
         ensures count { length out.new ≤ length out.old + 1 }
         ensures bytes { byte_count out.new ≤ byte_count out.old + 1500 }
-        ensures readable { AreReadable (again_out self.now) }
+        ensures readable { AreReadable (retransmission_out self.now) }
     {
-        if !self.again || self.name.is_closed() || !self.sender.is_unacknowledged() {
+        if !self.retransmission_due || self.name.is_closed() || !self.sender.is_unacknowledged() {
             return;
         }
         if !self.sender.is_syn_acked() {
@@ -238,33 +238,33 @@ impl Endpoint {
     }
 
     /// Whether an ACK is pending.
-    #[tactic(auto, unfolding(crate::specs::Leaving::is_owed))]
-    fn is_owed(&self) -> bool
-        ensures { result ≡ is_owed self.now }
+    #[tactic(auto, unfolding(crate::specs::Leaving::is_ack_pending))]
+    fn is_ack_pending(&self) -> bool
+        ensures { result ≡ is_ack_pending self.now }
     {
         self.name.has_begun()
-            && (self.owed
-                || self.told_next != self.receiver.next()
-                || self.told_edge != self.receiver.announced_edge())
+            && (self.ack_pending
+                || self.last_ack_sent != self.receiver.next()
+                || self.last_advertised_edge != self.receiver.advertised_edge())
     }
 
     /// Whether the segment without data is sent: an ACK is pending, and no other segment is sent.
     fn sends_bare(&self, out: &Outbox) -> bool
-        ensures { result ≡ ((length out.now == 0) && is_owed self.now) }
+        ensures { result ≡ ((length out.now == 0) && is_ack_pending self.now) }
     {
-        out.is_empty() && self.is_owed()
+        out.is_empty() && self.is_ack_pending()
     }
 
     /// Sends the segment without data, if an ACK is pending and no other segment is sent.
     #[tactic(auto, unfolding(crate::specs::Leaving::bare_segment))]
-    fn send_owed(&self, out: &mut Outbox)
+    fn send_pending_ack(&self, out: &mut Outbox)
         requires count { length out.old ≤ 1028 }
         requires bytes { byte_count out.old ≤ 108120 }
-        ensures sent { out.new ≡ or_bare (is_owed self.now) (spelling (bare_segment self.now)) out.old }
+        ensures sent { out.new ≡ or_bare (is_ack_pending self.now) (spelling (bare_segment self.now)) out.old }
         ensures count { length out.new ≤ length out.old + 1 }
         ensures bytes { byte_count out.new ≤ byte_count out.old + 40 }
         ensures readable { (full : List Segment) → out.old ≡ packets full → AreReadable full
-            → AreReadable (or_bare (is_owed self.now) (bare_segment self.now) full) }
+            → AreReadable (or_bare (is_ack_pending self.now) (bare_segment self.now) full) }
     {
         if self.sends_bare(out) {
             let seq = self.sender.number_behind(self.sender.in_flight());
@@ -273,18 +273,18 @@ impl Endpoint {
     }
 
     /// Notes what was advertised, and that nothing is due any more.
-    #[tactic(auto, unfolding(crate::specs::Leaving::announced))]
-    fn note_announced(&mut self)
-        ensures { self.new ≡ announced self.old }
+    #[tactic(auto, unfolding(crate::specs::Leaving::with_advertised))]
+    fn note_advertised(&mut self)
+        ensures { self.new ≡ with_advertised self.old }
     {
         if self.name.has_begun() {
-            self.told_next = self.receiver.next();
-            self.told_edge = self.receiver.announced_edge();
+            self.last_ack_sent = self.receiver.next();
+            self.last_advertised_edge = self.receiver.advertised_edge();
         }
-        self.owed = false;
-        self.again = false;
+        self.ack_pending = false;
+        self.retransmission_due = false;
         self.probe = false;
-        self.answer = None;
+        self.reset_reply = None;
     }
 
     /// Whether the timer runs.
@@ -295,11 +295,11 @@ impl Endpoint {
     }
 
     /// Ends the turn.
-    #[tactic(auto, unfolding(crate::specs::Leaving::with_turn_ended, crate::specs::Leaving::announced))]
+    #[tactic(auto, unfolding(crate::specs::Leaving::with_turn_ended, crate::specs::Leaving::with_advertised))]
     fn end_turn(&mut self)
         ensures { self.new ≡ with_turn_ended self.old }
     {
-        self.note_announced();
+        self.note_advertised();
         let runs = self.is_timed();
         self.sender.set_timer(runs);
     }

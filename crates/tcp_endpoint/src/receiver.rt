@@ -9,7 +9,7 @@ ghost use Rattle.seq_arith.specs.Coming.{StandsBehind, nothing_came, ahead, text
 ghost use Rattle.tcp_buffers.specs.Near.{IsNearFirst};
 ghost use Rattle.tcp_buffers.specs.Queue.{empty_queue, pushed};
 ghost use Rattle.seq_arith.specs.Early.{held_with};
-ghost use Rattle.tcp_endpoint.specs.Receiving.{taken, next, receive_edge, announced_edge, window, receiving_up_to, with_segment, read_out};
+ghost use Rattle.tcp_endpoint.specs.Receiving.{taken, next, receive_edge, advertised_edge, window, receiving_up_to, with_segment, read_out};
 ghost use Rattle.tcp_endpoint.specs.Tcb.{kept_limit};
 
 use seq_arith::Seq;
@@ -37,7 +37,7 @@ pub(crate) struct Receiver {
 }
 
 impl Model for Receiver {
-    ghost use Rattle.tcp_endpoint.specs.Receiving.{Receiving, Keeps};
+    ghost use Rattle.tcp_endpoint.specs.Receiving.{Receiving, ReceiverInvariant};
 
     ghost Value = { Receiving };
 
@@ -50,7 +50,7 @@ impl Model for Receiver {
       limit = r.limit;
     } };
 
-    ghost invariant = { λ r. Keeps r.read r.queue r.fin r.held_fin r.limit };
+    ghost invariant = { λ r. ReceiverInvariant r.read r.queue r.fin r.held_fin r.limit };
 }
 
 impl Receiver {
@@ -89,8 +89,8 @@ impl Receiver {
         ensures number { number.0 < 2 ^ 32 }
         ensures next { next self.now ≤ 2 ^ 30 + 1 }
         ensures within { taken self.now ≤ receive_edge self.now }
-        ensures edge { next self.now + window self.now ≡ announced_edge self.now }
-        ensures far { announced_edge self.now ≤ 2 ^ 30 + 1 }
+        ensures edge { next self.now + window self.now ≡ advertised_edge self.now }
+        ensures far { advertised_edge self.now ≤ 2 ^ 30 + 1 }
         ensures room { window self.now ≤ 65535 }
         ensures behind { StandsBehind (taken self.now) (receive_edge self.now) self.now.fin self.now.early }
     {
@@ -121,8 +121,8 @@ impl Receiver {
     }
 
     /// The edge that is advertised.
-    pub(crate) fn announced_edge(&self) -> u32
-        ensures { result ≡ announced_edge self.now }
+    pub(crate) fn advertised_edge(&self) -> u32
+        ensures { result ≡ advertised_edge self.now }
     {
         self.receive_edge() + u32::from(self.fin)
     }
@@ -187,15 +187,15 @@ impl Receiver {
 
     /// The number of the advertised edge.
     fn edge_number(&self) -> Seq
-        ensures { result.0 ≡ number_at self.now.irs (announced_edge self.now) }
+        ensures { result.0 ≡ number_at self.now.irs (advertised_edge self.now) }
     {
-        self.irs.add(1).add(self.announced_edge())
+        self.irs.add(1).add(self.advertised_edge())
     }
 
     /// Whether this is that number.
     #[tactic(auto, using(crate::proofs::Places::is_next))]
     fn is_edge(&self, seq: Seq) -> bool
-        ensures { result ≡ int_eq (offset_of self.now.irs seq.0) (pos (announced_edge self.now)) }
+        ensures { result ≡ int_eq (offset_of self.now.irs seq.0) (pos (advertised_edge self.now)) }
     {
         self.ranges(seq);
         seq == self.edge_number()

@@ -45,13 +45,13 @@ pub(crate) struct Sender {
 }
 
 impl Model for Sender {
-    ghost use Rattle.tcp_endpoint.specs.Sending.{Sending, told_by, Holds};
+    ghost use Rattle.tcp_endpoint.specs.Sending.{Sending, sending_of, SenderInvariant};
 
     ghost Value = { Sending };
 
-    ghost view = { λ s. told_by s.iss.0 s.syn_acked s.numbers s.held s.closed s.fin_sent };
+    ghost view = { λ s. sending_of s.iss.0 s.syn_acked s.numbers s.held s.closed s.fin_sent };
 
-    ghost invariant = { λ s. Holds s.numbers s.held s.fin_sent };
+    ghost invariant = { λ s. SenderInvariant s.numbers s.held s.fin_sent };
 }
 
 impl Sender {

@@ -24,7 +24,7 @@ impl Endpoint {
     {
         let is_outstanding = self.sender.is_unacknowledged();
         let expires = self.sender.tick();
-        self.again = self.again || (expires && is_outstanding);
+        self.retransmission_due = self.retransmission_due || (expires && is_outstanding);
         self.probe = self.probe || (expires && !is_outstanding);
     }
 

@@ -2,7 +2,7 @@
 use Rattle.std.proofs.Common.{◌≡◌, ℕ, ◌<◌, ◌^◌, refl, List, [], ◌∷◌, ◌++◌, length, arith}
 use Rattle.std.specs.List.{AllByRecursion}
 use native.Mathlib.Bridge.{IsLe}
-use Rattle.ft_model.specs.Restart.{IsSound}
+use Rattle.ft_model.specs.Restart.{IsSoundEntry}
 use Rattle.ft_model.specs.World.{Happens}
 use Rattle.ft_model.specs.Weakened.{IsWrongOnce}
 use Rattle.ft_model.specs.WorkedRuns.Common.{echo}
@@ -13,7 +13,7 @@ use Rattle.trace_laws.specs.LateFin as row
 use Rattle.trace_laws.proofs.FarPacket.{small}
 use Rattle.trace_laws.proofs.Sound.{logged_sound}
 
-pub not_sound : (bytes : List ℕ) → length bytes ≡ 2 ^ 24 → AllByRecursion (IsSound echo) (row.wrong bytes).world.log.entries → ⊥
+pub not_sound : (bytes : List ℕ) → length bytes ≡ 2 ^ 24 → AllByRecursion (IsSoundEntry echo) (row.wrong bytes).world.log.entries → ⊥
 not_sound bytes whole s = let low : length bytes < 2 ^ 24 = s.0.fin refl in omega (arith, low, whole)
 
 lawful : Happens echo path.moment_10.world (path.moment_6).event (path.packet_5 ∷ []) (record path.moment_10.world { packets = path.moment_10.world.packets ++ path.packet_5 ∷ [] })

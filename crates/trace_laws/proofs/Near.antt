@@ -193,7 +193,7 @@ move_near service script isn w c move window a s f within may = (
   λ k. let o = open_move c move may window k in ack_near service script w c a s o.0 (segment_of c move window) refl o.1,
 )
 
-moved_near : {State : Type 0} (service : Machine State) (start w : World) (number : ℕ) (sent : List Packet) (after : World) → masked.IsSound service start w → SendsNear (isn_of start) w
+moved_near : {State : Type 0} (service : Machine State) (start w : World) (number : ℕ) (sent : List Packet) (after : World) → masked.JointInvariant service start w → SendsNear (isn_of start) w
     → Moves w number sent after → SendsNear (isn_of start) after
 moved_near service start w number sent after o n m =
     let c : Client = m.client in
@@ -212,7 +212,7 @@ moved_near service start w number sent after o n m =
 more_near : (isn : Key → ℕ) (w : World) (sent : List Packet) → SendsNear isn w → AllByRecursion (PacketNear isn w.log) sent → AllByRecursion (PacketNear isn w.log) (w.packets ++ sent)
 more_near isn w sent n a = all_append (PacketNear isn w.log) w.packets sent n.packets a
 
-pub near_goes_on : {State : Type 0} (service : Machine State) (start before : World) (sent : List Packet) (after : World) → masked.IsSound service start before → SendsNear (isn_of start) before
+pub near_goes_on : {State : Type 0} (service : Machine State) (start before : World) (sent : List Packet) (after : World) → masked.JointInvariant service start before → SendsNear (isn_of start) before
     → Happened service before sent after → SendsNear (isn_of start) after
 near_goes_on service start before sent after o n (log_heard message under s e) =
     let isn : Key → ℕ = isn_of start in
@@ -251,7 +251,7 @@ start_near isn w s = record {
 }
 
 abbrev pub KeptNear : {State : Type 0} → Machine State → World → World → Type 0
-KeptNear service start w = masked.IsSound service start w × SendsNear (isn_of start) w
+KeptNear service start w = masked.JointInvariant service start w × SendsNear (isn_of start) w
 
 pub near_after : {State : Type 0} (service : Machine State) → HasSmallOutputs service → (start : World) (trace : List Moment) → Joint service start trace → KeptNear service start (world_after start trace)
 near_after service small start trace j =

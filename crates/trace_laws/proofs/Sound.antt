@@ -6,7 +6,7 @@ use Rattle.seq_arith.specs.Message.{Message}
 use Rattle.server_trait.specs.Service.{Machine, reference}
 use Rattle.ft_model.specs.Growth.{IsPrefix}
 use Rattle.ft_model.specs.Log.{Entry}
-use Rattle.ft_model.specs.Restart.{Fetched, lacks_bytes, lacks_lengths, wanted, fetched_after, IsSound}
+use Rattle.ft_model.specs.Restart.{Fetched, lacks_bytes, lacks_lengths, wanted, fetched_after, IsSoundEntry}
 use Rattle.ft_model.specs.Node.{Node, Stage, Input}
 use Rattle.ft_model.specs.Node.Stage.{Fetching}
 use Rattle.ft_model.specs.Node.Input.{Message_comes}
@@ -32,7 +32,7 @@ use Rattle.ft_model.proofs.Unfenced.{if_some}
 
 -- all that is kept true, and where FINs stand
 abbrev pub Kept : {State : Type 0} → Machine State → World → World → Type 0
-Kept service start w = masked.IsSound service start w × FinsBelow (script_of start) w
+Kept service start w = masked.JointInvariant service start w × FinsBelow (script_of start) w
 
 pub kept_after : {State : Type 0} (service : Machine State) → HasSmallOutputs service → (start : World) (trace : List Moment) → Joint service start trace → Kept service start (world_after start trace)
 kept_after service small start trace j =
@@ -45,31 +45,31 @@ kept_after service small start trace j =
 
 -- an entry of one author, whose whole run is short
 entry_sound : {State : Type 0} (service : Machine State) (script author : Key → List ℕ) (isn : ℕ) (e : Entry) → ((key : Key) → length (reference service (script key) (author key)).output ≤ 2 ^ 24)
-    → EntryFits (script e.key) isn e → EntryOf author e → EntryBelow script e → IsSound service e
+    → EntryFits (script e.key) isn e → EntryOf author e → EntryBelow script e → IsSoundEntry service e
 entry_sound service script author isn e short f g b = record {
   output = subst (λ r. length r.output ≤ 2 ^ 24) (more_bytes service e.bytes (script e.key) e.lengths f.front g.1)
       (le_trans (prefix_length _ _ (reads_go_on service (script e.key) e.lengths (author e.key) g.0).output) (short e.key));
   fin = λ k. let low : length (script e.key) < 2 ^ 24 = b k in let all : length e.bytes ≡ length (script e.key) = f.fin k in omega (arith, low, all);
 }
 
-pub entries_sound : {State : Type 0} (service : Machine State) (start w : World) → Kept service start w → AllByRecursion (IsSound service) w.log.entries
+pub entries_sound : {State : Type 0} (service : Machine State) (start w : World) → Kept service start w → AllByRecursion (IsSoundEntry service) w.log.entries
 entries_sound service start w k =
-    all_from_get (IsSound service) w.log.entries
+    all_from_get (IsSoundEntry service) w.log.entries
     (λ i e at. entry_sound service (script_of start) k.0.author.author (isn_of start e.key) e k.0.author.short
     (all_slice_get (λ x. EntryFits (script_of start x.key) (isn_of start x.key) x) w.log.entries i e k.0.faithful.entries at)
     (all_slice_get (EntryOf k.0.author.author) w.log.entries i e k.0.author.entries at)
     (all_slice_get (EntryBelow (script_of start)) w.log.entries i e k.1.entries at))
 
 pub logged_sound : {State : Type 0} (service : Machine State) → HasSmallOutputs service → (start : World) (trace : List Moment) → Joint service start trace
-    → AllByRecursion (IsSound service) (world_after start trace).log.entries
+    → AllByRecursion (IsSoundEntry service) (world_after start trace).log.entries
 logged_sound service small start trace j = entries_sound service start (world_after start trace) (kept_after service small start trace j)
 
 -- what is fetched of a log whose entries are sound
-fronts_sound : {State : Type 0} (service : Machine State) (entries : List Entry) (fetched : List Fetched) → AllByRecursion (IsSound service) entries → AreFetched entries fetched
+fronts_sound : {State : Type 0} (service : Machine State) (entries : List Entry) (fetched : List Fetched) → AllByRecursion (IsSoundEntry service) entries → AreFetched entries fetched
     → AllByRecursion (IsSoundFront service) fetched
 fronts_sound service entries [] s a = tt
 fronts_sound service entries (f ∷ earlier) s a = (
-  record { entry = a.0; head = a.2.head; bytes = a.2.bytes; lengths = a.2.lengths; sound = all_slice_get (IsSound service) entries (length earlier) a.0 s a.1 },
+  record { entry = a.0; head = a.2.head; bytes = a.2.bytes; lengths = a.2.lengths; sound = all_slice_get (IsSoundEntry service) entries (length earlier) a.0 s a.1 },
   fronts_sound service entries earlier s a.4,
 )
 
@@ -78,14 +78,14 @@ not_either false false w = (refl, refl)
 not_either false true w = absurd (true≢false (sym w))
 not_either true b w = absurd (true≢false (sym w))
 
-wholes_sound : {State : Type 0} (service : Machine State) (entries : List Entry) (fetched : List Fetched) → AllByRecursion (IsSound service) entries → AreFetched entries fetched
+wholes_sound : {State : Type 0} (service : Machine State) (entries : List Entry) (fetched : List Fetched) → AllByRecursion (IsSoundEntry service) entries → AreFetched entries fetched
     → AreSound service fetched
 wholes_sound service entries [] s a = tt
 wholes_sound service entries (f ∷ earlier) s a =
     let e : Entry = a.0 in
     let front : IsFront f e = a.2 in
-    let sound : IsSound service e = all_slice_get (IsSound service) entries (length earlier) e s a.1 in (
-      λ live whole. subst (IsSound service) (sym (whole_is f e front (sym (ap (λ h. h.done) front.head) ∙ live) (not_either (lacks_lengths f) (lacks_bytes f) whole))) sound,
+    let sound : IsSoundEntry service e = all_slice_get (IsSoundEntry service) entries (length earlier) e s a.1 in (
+      λ live whole. subst (IsSoundEntry service) (sym (whole_is f e front (sym (ap (λ h. h.done) front.head) ∙ live) (not_either (lacks_lengths f) (lacks_bytes f) whole))) sound,
       wholes_sound service entries earlier s a.4,
     )
 

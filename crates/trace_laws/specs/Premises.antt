@@ -6,7 +6,7 @@ use Rattle.ft_model.specs.Client.{Move}
 use Rattle.ft_model.specs.Client.Move.{Syn, Text, Fin, Acknowledge, Rst, Refuse}
 use Rattle.ft_model.specs.Growth.{IsPrefix}
 use Rattle.ft_model.specs.Log.{Entry, head_of}
-use Rattle.ft_model.specs.Restart.{Fetched, IsSound}
+use Rattle.ft_model.specs.Restart.{Fetched, IsSoundEntry}
 use Rattle.ft_model.specs.Node.{Node, Stage, Input}
 use Rattle.ft_model.specs.Node.Stage.{Asking, Fetching, Serving, Fenced}
 use Rattle.ft_model.specs.Node.Input.{Packet_comes, Message_comes, Noise_comes, Tick_comes}
@@ -19,7 +19,7 @@ pub record IsSoundFront {State : Type 0} (service : Machine State) (f : Fetched)
   pub head : f.head ≡ head_of entry
   pub bytes : IsPrefix f.bytes entry.bytes
   pub lengths : IsPrefix f.lengths entry.lengths
-  pub sound : IsSound service entry
+  pub sound : IsSoundEntry service entry
 
 -- so is all that a fetching server has after this input
 abbrev pub HasSoundFronts : {State : Type 0} → Machine State → Node → Input → Stage → Type 0

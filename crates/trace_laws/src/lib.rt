@@ -13,7 +13,7 @@ ghost use Rattle.ft_model.specs.Network.{Packet};
 ghost use Rattle.ft_model.specs.Network.Packet.{To_server};
 ghost use Rattle.ft_model.specs.News.{News};
 ghost use Rattle.ft_model.specs.Point.{Point, target, answered_run, whole_run};
-ghost use Rattle.ft_model.specs.Restart.{Fetched, IsSound};
+ghost use Rattle.ft_model.specs.Restart.{Fetched, IsSoundEntry};
 ghost use Rattle.ft_model.specs.Sending.{send_edge};
 ghost use Rattle.ft_model.specs.Node.{Node, Stage, Input, is_for};
 ghost use Rattle.ft_model.specs.Lawful.{AreNear, IsNearInput, IsSoundInput, fence};
@@ -33,7 +33,7 @@ use server_trait::Service;
 /// Every entry of the log is sound: the run over its reads has at most 2^24 bytes of output, and a FIN is below 2^24.
 pub fn logged_entries_are_sound<S: Service>()
     ensures { (kind : ℕ) (start : World) (trace : List Moment) → Joint (machine (S.started kind) S.after) start trace
-        → AllByRecursion (IsSound (machine (S.started kind) S.after)) (world_after start trace).log.entries }
+        → AllByRecursion (IsSoundEntry (machine (S.started kind) S.after)) (world_after start trace).log.entries }
 {}
 
 /// Whatever arrives at a server that fetches, each entry that it then has completely, and will restore, is sound. What it has of any other entry is the prefix
@@ -112,5 +112,5 @@ pub fn far_packets_are_refused()
 /// The log must keep its limits: in a trace with one moment in which it keeps a FIN after 2^24 bytes, an entry isn't sound.
 pub fn late_fins_are_refused()
     ensures wrong_once { (bytes : List ℕ) → length bytes ≡ 2 ^ 24 → IsWrongOnce echo FirstPath.start [] (LateFin.wrong bytes) FirstPath.opening_trace }
-    ensures not_sound { (bytes : List ℕ) → length bytes ≡ 2 ^ 24 → AllByRecursion (IsSound echo) (LateFin.wrong bytes).world.log.entries → ⊥ }
+    ensures not_sound { (bytes : List ℕ) → length bytes ≡ 2 ^ 24 → AllByRecursion (IsSoundEntry echo) (LateFin.wrong bytes).world.log.entries → ⊥ }
 {}

@@ -14,7 +14,7 @@ use Rattle.seq_arith.specs.TwinGrammar as twins
 use Rattle.seq_arith.proofs.MessageSpelling.{bounded, room}
 use Rattle.seq_arith.proofs.Refused.{goes_on}
 use Rattle.seq_arith.proofs.TwinSpelling.{twin_is_read}
-use Rattle.twin_laws.specs.Twin.{Request, told, asked, forwarded_as, datagram_of, bytes_of}
+use Rattle.twin_laws.specs.Twin.{Request, from_other_logger, asked, forwarded_as, datagram_of, bytes_of}
 use Rattle.twin_laws.specs.Twin.Between.{Forward, Got}
 use Rattle.twin_laws.specs.Twin.Comes.{Tells}
 use Rattle.twin_laws.specs.TwinWorld.{CanBeSent}
@@ -82,8 +82,8 @@ unfolding bytes_of
 got_is_sent number some few = twin_is_read (datagram_of (Got number)) (got_spells number some few)
 
 pub forward_is_read : (number : ℕ) (r : Request) → messages.reading r.bytes ≡ Ok r.message → is_answer r.message.body ≡ false → 1 ≤ number → number < 2 ^ 64
-    → told (twins.reading (bytes_of (Forward number r))) ≡ Tells (Forward number r)
-forward_is_read number r is asking some few = ap told (forward_is_sent number r is asking some few) ∙ says number r is
+    → from_other_logger (twins.reading (bytes_of (Forward number r))) ≡ Tells (Forward number r)
+forward_is_read number r is asking some few = ap from_other_logger (forward_is_sent number r is asking some few) ∙ says number r is
 
-pub got_is_read : (number : ℕ) → 1 ≤ number → number < 2 ^ 64 → told (twins.reading (bytes_of (Got number))) ≡ Tells (Got number)
-got_is_read number some few = ap told (got_is_sent number some few)
+pub got_is_read : (number : ℕ) → 1 ≤ number → number < 2 ^ 64 → from_other_logger (twins.reading (bytes_of (Got number))) ≡ Tells (Got number)
+got_is_read number some few = ap from_other_logger (got_is_sent number some few)

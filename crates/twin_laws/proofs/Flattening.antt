@@ -14,7 +14,7 @@ use Rattle.ft_model.specs.declared.event.Event.{Event}
 use Rattle.ft_model.specs.declared.event.Event.TheVariants.{Boot, Crash, Tick, Deliver, Flip, Begin, Send, Fin, Ack, Reset}
 use Rattle.ft_model.specs.declared.event.Event.TheVariants as events
 use Rattle.ft_model.proofs.Lists.{all_append, all_slice_get, none_is_some}
-use Rattle.twin_laws.specs.Twin.{Request, Between, Comes, Head, Tail, Does, head_does, tail_does, with_taken, waiting, head_paired, head_alone, tail_alone, tail_applies, nothing, has_room, confirmed_to, sends_waiting, applies_next, confirms_again, told, asked, datagram_of, bytes_of}
+use Rattle.twin_laws.specs.Twin.{Request, Between, Comes, Head, Tail, Does, head_does, tail_does, with_taken, waiting, head_paired, head_alone, tail_alone, tail_applies, nothing, has_room, confirmed_to, sends_waiting, applies_next, confirms_again, from_other_logger, asked, datagram_of, bytes_of}
 use Rattle.twin_laws.specs.Twin.Between.{Forward, Got}
 use Rattle.twin_laws.specs.Twin.Comes.{Asks, Tells, Is_noise}
 use Rattle.twin_laws.specs.Pair.{Pair, head_has, tail_has, stopped_by, log_over}
@@ -26,7 +26,7 @@ use Rattle.ft_model.specs.declared.event.Event.TheVariants as events
 use Rattle.twin_laws.specs.TwinWorld.TwinEvent.{Usual, Stop}
 use Rattle.twin_laws.specs.Flat.{Flat, flat, flat_step, kept_as, kept_alone, left_out, asked_flat, forwarded_flat, delivered_flat, flipped_flat, stopped_flat, delivered_to_log, both, outside, numbers_of, number_at, new_number}
 use Rattle.twin_laws.proofs.Folds.{log_append}
-use Rattle.twin_laws.proofs.Steps.{Stands, start, pair_of, IsForwarded, IsGotten, asks_head, asks_tail, head_passes, tail_passes, got, forward, stops, still_forwarded, numbered_are}
+use Rattle.twin_laws.proofs.Steps.{PairInvariant, start, pair_of, IsForwarded, IsGotten, asks_head, asks_tail, head_passes, tail_passes, got, forward, stops, still_forwarded, numbered_are}
 use Rattle.twin_laws.proofs.Numbering.{Named, named_more, named_append, numbered_anew, named_at, TakenBy, taken_more, taken_append, taken_at, taken_rest, outside_of, none_outside}
 use Rattle.twin_laws.proofs.Elsewhere.{with_packets, server_elsewhere, client_elsewhere, happens_elsewhere, flip_elsewhere_server, flip_elsewhere_client, flip_elsewhere_message, NamesNone}
 use Rattle.twin_laws.proofs.Noise.{flipped_is_noise, asked_nothing}
@@ -45,7 +45,7 @@ IsTrueOf p (Inside (Got k)) = IsGotten p.tail.applied (Got k)
 pub record Flattens {State : Type 0} (service : Machine State) (first w : TwinWorld) (f : Flat) : Type 0 where
   pub joint : Joint service (seen first []) f.trace
   pub world : world_after (seen first []) f.trace ≡ seen w f.packets
-  pub pair : Stands w.pair
+  pub pair : PairInvariant w.pair
   pub named : Named f.packets w.parcels f.numbers
   pub taken : TakenBy f.packets f.origins w.pair.head.taken
   pub parcels : AllByRecursion (IsTrueOf w.pair) w.parcels
@@ -56,7 +56,7 @@ moment_of event sent after = record { event = event; sent = sent; world = after 
 -- a turn that stays
 stay : {State : Type 0} (service : Machine State) (first before after : TwinWorld) (name : TwinEvent) (event : Event) (sent : List Parcel) (f : Flat)
     → Flattens service first before f → Happens service (seen before f.packets) event (outside sent) (seen after (f.packets ++ outside sent))
-    → Stands after.pair → after.parcels ≡ before.parcels ++ sent → after.pair.head.taken ≡ before.pair.head.taken
+    → PairInvariant after.pair → after.parcels ≡ before.parcels ++ sent → after.pair.head.taken ≡ before.pair.head.taken
     → AllByRecursion (IsTrueOf after.pair) (before.parcels ++ sent) → Flattens service first after (kept_as event (moment_of name sent after) f)
 stay service first before after name event sent f s h stands parcels taken are = record {
   joint = (s.joint, subst (λ u. Happens service u event (outside sent) (seen after (f.packets ++ outside sent))) (sym s.world) h);
@@ -74,7 +74,7 @@ with_pair before pair sent = record before { pair = pair; parcels = before.parce
 
 -- a turn that is left out
 pub leave : {State : Type 0} (service : Machine State) (first before : TwinWorld) (pair : Pair) (name : TwinEvent) (sent : List Parcel) (f : Flat) (origins : List ℕ)
-    → Flattens service first before f → serving pair ≡ serving before.pair → outside sent ≡ [] → Stands pair
+    → Flattens service first before f → serving pair ≡ serving before.pair → outside sent ≡ [] → PairInvariant pair
     → TakenBy f.packets origins pair.head.taken → AllByRecursion (IsTrueOf pair) (before.parcels ++ sent)
     → Flattens service first (with_pair before pair sent) (record (left_out (moment_of name sent (with_pair before pair sent)) f) { origins = origins })
 leave service first before pair name sent f origins s same none stands taken are = record {
@@ -119,7 +119,7 @@ usual service first before after event sent f n s e =
     let h : Happens service (seen before f.packets) event e.0 (seen after (f.packets ++ e.0)) = happens_elsewhere service event (seen before []) f.packets e.0 (seen after e.0) n e.2 in
     stay service first before after (Usual event) event sent f s
     (subst (λ ps. Happens service (seen before f.packets) event ps (seen after (f.packets ++ ps))) (sym same) h)
-    (subst Stands (sym e.3) s.pair) e.4 (ap (λ p. p.head.taken) e.3)
+    (subst PairInvariant (sym e.3) s.pair) e.4 (ap (λ p. p.head.taken) e.3)
     (subst (λ p. AllByRecursion (IsTrueOf p) (before.parcels ++ sent)) (sym e.3)
     (all_append (IsTrueOf before.pair) before.parcels sent s.parcels (subst (AllByRecursion (IsTrueOf before.pair)) (sym e.1) (outside_true before.pair e.0))))
 
@@ -136,14 +136,14 @@ comes service first before after number packet sent f moves at s e =
       named_at f.packets before.parcels f.numbers number packet s.named at,
       subst (λ ps. Delivered service (seen before f.packets) packet ps (seen after (f.packets ++ ps))) (sym same) d,
     )
-    (subst Stands (sym e.3) s.pair) e.4 (ap (λ p. p.head.taken) e.3)
+    (subst PairInvariant (sym e.3) s.pair) e.4 (ap (λ p. p.head.taken) e.3)
     (subst (λ p. AllByRecursion (IsTrueOf p) (before.parcels ++ sent)) (sym e.3)
     (all_append (IsTrueOf before.pair) before.parcels sent s.parcels (subst (AllByRecursion (IsTrueOf before.pair)) (sym e.1) (outside_true before.pair e.0))))
 
 -- a logger's turn by which the serving log takes a message
 pub serves : {State : Type 0} (service : Machine State) (first before : TwinWorld) (pair : Pair) (name : TwinEvent) (q : ℕ) (r : Request) (sent : List Parcel) (f : Flat)
     → Flattens service first before f → packet_at f.packets q ≡ Some (To_logger r.message) → serving pair ≡ log_after (serving before.pair) r.message
-    → outside sent ≡ option_to_list (option_map From_logger (answer_to (serving before.pair) r.message)) → Stands pair → pair.head.taken ≡ before.pair.head.taken
+    → outside sent ≡ option_to_list (option_map From_logger (answer_to (serving before.pair) r.message)) → PairInvariant pair → pair.head.taken ≡ before.pair.head.taken
     → AllByRecursion (IsTrueOf pair) (before.parcels ++ sent)
     → Flattens service first (with_pair before pair sent) (kept_as (Deliver q) (moment_of name sent (with_pair before pair sent)) f)
 serves service first before pair name q r sent f s at log answer stands taken are =
@@ -205,7 +205,7 @@ paired_asked : {State : Type 0} (service : Machine State) (first before : TwinWo
     → let d : Does Head = if alone then head_alone r head
     else (if answer then nothing head else sends_waiting (if room then with_taken r head else head)) in
     let now : Pair = record p { head = d.next; from_head = fh ++ d.to_other; answers = answers ++ d.to_server } in
-    Stands now
+    PairInvariant now
     → let g : Flat = left_out (moment_of name (sent_by d) (with_pair w now (sent_by d))) f in
     Flattens service first (with_pair w now (sent_by d)) (if not answer && room then record g { origins = f.origins ++ q ∷ [] } else g)
 paired_asked service first before head tail fh ft answers given name q r f true answer room al s at stands = absurd (true≢false al)
@@ -260,7 +260,7 @@ asks service first before false false head tail fh ft answers given n r sent aft
 
 -- nothing but the histories of a pair changes
 unmoved : {State : Type 0} (service : Machine State) (first w : TwinWorld) (now : Pair) (name : TwinEvent) (f : Flat) → Flattens service first w f
-    → serving now ≡ serving w.pair → now.head.taken ≡ w.pair.head.taken → now.tail.applied ≡ w.pair.tail.applied → Stands now
+    → serving now ≡ serving w.pair → now.head.taken ≡ w.pair.head.taken → now.tail.applied ≡ w.pair.tail.applied → PairInvariant now
     → Flattens service first (with_pair w now []) (left_out (moment_of name [] (with_pair w now [])) f)
 unmoved service first w now name f s same taken applied stands =
     leave service first w now name [] f f.origins s same refl stands (subst (TakenBy f.packets f.origins) (sym taken) s.taken)
@@ -297,7 +297,7 @@ paired_forward : {State : Type 0} (service : Machine State) (first before : Twin
     else (if next then applies_next r tail
     else (if had then confirms_again tail else nothing tail)) in
     let now : Pair = record p { tail = d.next; from_tail = ft ++ d.to_other; answers = answers ++ d.to_server } in
-    Stands now
+    PairInvariant now
     → let moment : TwinMoment = moment_of name (sent_by d) (with_pair w now (sent_by d)) in
     Flattens service first (with_pair w now (sent_by d))
     (if next then kept_as (Deliver (number_at f.origins tail.applied)) moment f else left_out moment f)
@@ -458,7 +458,7 @@ flips service first before after number bit packet sent f moves at s e =
       named_at f.packets before.parcels f.numbers number packet s.named at,
       subst (λ ps. Flipped service (seen before f.packets) packet bit ps (seen after (f.packets ++ ps))) (sym same) d,
     )
-    (subst Stands (sym e.3) s.pair) e.4 (ap (λ p. p.head.taken) e.3)
+    (subst PairInvariant (sym e.3) s.pair) e.4 (ap (λ p. p.head.taken) e.3)
     (subst (λ p. AllByRecursion (IsTrueOf p) (before.parcels ++ sent)) (sym e.3)
     (all_append (IsTrueOf before.pair) before.parcels sent s.parcels (subst (AllByRecursion (IsTrueOf before.pair)) (sym e.1) (outside_true before.pair e.0))))
 
@@ -499,7 +499,7 @@ tail_noise_left service first w name f s =
 
 -- .. and a flip of a message to a logger that is alone stays, as noise
 noise_stays : {State : Type 0} (service : Machine State) (first w : TwinWorld) (now : Pair) (name : TwinEvent) (q bit : ℕ) (m : Message) (f : Flat) → Flattens service first w f
-    → packet_at f.packets q ≡ Some (To_logger m) → CanBeTold m → bit < 8 * length (messages.spelling m) → serving now ≡ serving w.pair → now.head.taken ≡ w.pair.head.taken → now.tail.applied ≡ w.pair.tail.applied → Stands now
+    → packet_at f.packets q ≡ Some (To_logger m) → CanBeTold m → bit < 8 * length (messages.spelling m) → serving now ≡ serving w.pair → now.head.taken ≡ w.pair.head.taken → now.tail.applied ≡ w.pair.tail.applied → PairInvariant now
     → Flattens service first (with_pair w now []) (kept_as (Flip q bit) (moment_of name [] (with_pair w now [])) f)
 noise_stays service first w now name q bit m f s at wire within same taken applied stands =
     let before : World = seen w f.packets in
@@ -571,10 +571,10 @@ parcel_flipped service first before after n bit (Outside (To_client segment)) se
 parcel_flipped service first before after n bit (Outside (From_logger m)) sent f at s h =
     flips service first before after n bit (From_logger m) sent f (λ w ps out u d. flip_elsewhere_message service m bit w ps out u d) at s h
 parcel_flipped service first before after n bit (Inside (Forward k m)) sent f at s h =
-    tail_flip service first before after (Usual (Flip n bit)) (told (twins.reading (flipped bit (bytes_of (Forward k m))))) sent f
+    tail_flip service first before after (Usual (Flip n bit)) (from_other_logger (twins.reading (flipped bit (bytes_of (Forward k m))))) sent f
     (flipped_is_noise bit (bytes_of (Forward k m)) (datagram_of (Forward k m)) h.0 h.1) s h.2
 parcel_flipped service first before after n bit (Inside (Got k)) sent f at s h =
-    head_flip service first before after (Usual (Flip n bit)) (told (twins.reading (flipped bit (bytes_of (Got k))))) sent f
+    head_flip service first before after (Usual (Flip n bit)) (from_other_logger (twins.reading (flipped bit (bytes_of (Got k))))) sent f
     (flipped_is_noise bit (bytes_of (Got k)) (datagram_of (Got k)) h.0 h.1) s h.2
 
 true_parcel : (w : TwinWorld) (n : ℕ) (x : Parcel) → parcel_at w.parcels n ≡ Some x → AllByRecursion (IsTrueOf w.pair) w.parcels → IsTrueOf w.pair x
@@ -611,7 +611,7 @@ pub flattens : {State : Type 0} (service : Machine State) (first : TwinWorld) (t
 flattens service first [] j = record {
   joint = j.start;
   world = refl;
-  pair = subst Stands (sym j.pair) start;
+  pair = subst PairInvariant (sym j.pair) start;
   named = subst (λ xs. Named [] xs []) (sym j.parcels) tt;
   taken = subst (λ p. TakenBy [] [] p.head.taken) (sym j.pair) tt;
   parcels = subst (AllByRecursion (IsTrueOf first.pair)) (sym j.parcels) tt;

@@ -8,10 +8,10 @@ use Rattle.seq_arith.specs.Message.{Message}
 use Rattle.seq_arith.specs.TwinDatagram.{TwinDatagram}
 use Rattle.seq_arith.specs.TwinGrammar.{reading}
 use Rattle.seq_arith.proofs.Flipped.{flipped_twin_is_refused}
-use Rattle.twin_laws.specs.Twin.{told, asked}
+use Rattle.twin_laws.specs.Twin.{from_other_logger, asked}
 use Rattle.twin_laws.specs.Twin.Comes.{Is_noise}
 
-pub told_nothing : (r : Result TwinDatagram BadTwin) → IsErr r → told r ≡ Is_noise
+pub told_nothing : (r : Result TwinDatagram BadTwin) → IsErr r → from_other_logger r ≡ Is_noise
 told_nothing (Err why) refused = refl
 told_nothing (Ok datagram) refused = absurd (true≢false (sym refused))
 
@@ -19,5 +19,5 @@ pub asked_nothing : (bytes : List ℕ) (r : Result Message BadMsg) → IsErr r �
 asked_nothing bytes (Err why) refused = refl
 asked_nothing bytes (Ok message) refused = absurd (true≢false (sym refused))
 
-pub flipped_is_noise : (bit : ℕ) (bytes : List ℕ) (datagram : TwinDatagram) → reading bytes ≡ Ok datagram → bit < 8 * length bytes → told (reading (flipped bit bytes)) ≡ Is_noise
+pub flipped_is_noise : (bit : ℕ) (bytes : List ℕ) (datagram : TwinDatagram) → reading bytes ≡ Ok datagram → bit < 8 * length bytes → from_other_logger (reading (flipped bit bytes)) ≡ Is_noise
 flipped_is_noise bit bytes datagram is within = told_nothing (reading (flipped bit bytes)) (flipped_twin_is_refused bit bytes datagram is within)

@@ -16,7 +16,7 @@ use Rattle.ft_model.proofs.Lists.{some_is, none_is_some}
 use Rattle.ft_model.proofs.OneTrace.{happens_once}
 use Rattle.twin_laws.specs.declared.part.Part.{Part}
 use Rattle.twin_laws.specs.declared.part.Part.TheVariants as parts
-use Rattle.twin_laws.specs.Twin.{Comes, told, bytes_of}
+use Rattle.twin_laws.specs.Twin.{Comes, from_other_logger, bytes_of}
 use Rattle.twin_laws.specs.Twin.Comes.{Asks, Tells}
 use Rattle.twin_laws.specs.Twin.Between.{Forward, Got}
 use Rattle.twin_laws.specs.Flat.{outside}
@@ -111,8 +111,8 @@ module _ {State : Type 0} (service : Machine State) where
       elsewhere_once (λ v. Flipped service v (From_logger message) bit) alone before w x s t
       (λ ps qs a b c d. changed_once (From_logger message) bit (seen before []) (seen w ps) (seen x qs) ps qs
       (flip_elsewhere_message service message bit (seen before []) alone ps (seen w ps) c) (flip_elsewhere_message service message bit (seen before []) alone qs (seen x qs) d)) p q
-  flip_once (Inside (Forward number request)) bit before w x s t p q = tail_once (told (twins.reading (flipped bit (bytes_of (Forward number request))))) before w x s t p.2 q.2
-  flip_once (Inside (Got number)) bit before w x s t p q = head_once (told (twins.reading (flipped bit (bytes_of (Got number))))) before w x s t p.2 q.2
+  flip_once (Inside (Forward number request)) bit before w x s t p q = tail_once (from_other_logger (twins.reading (flipped bit (bytes_of (Forward number request))))) before w x s t p.2 q.2
+  flip_once (Inside (Got number)) bit before w x s t p q = head_once (from_other_logger (twins.reading (flipped bit (bytes_of (Got number))))) before w x s t p.2 q.2
 
   -- a script says what is sent outside
   scripted_as : (event : Event) (before w : TwinWorld) (s : List Parcel) (ps : List Packet) → s ≡ map Outside ps → IsScripted (seen before []) event (outside s) (seen w [])

@@ -25,7 +25,7 @@ abbrev pub IsGotten : ℕ → Between → Type 0
 IsGotten n (Forward k r) = ⊥
 IsGotten n (Got k) = k ≤ n
 
-pub record Stands (p : Pair) : Type 0 where
+pub record PairInvariant (p : Pair) : Type 0 where
   pub holds : Holds p.head_stopped p.tail_stopped p.head.taken p.head.confirmed p.tail.applied p.head.log p.tail.log p.answers p.given
   pub forwards : AllByRecursion (IsForwarded p.head.taken) p.from_head
   pub gots : AllByRecursion (IsGotten p.tail.applied) p.from_tail
@@ -34,7 +34,7 @@ pub record Stands (p : Pair) : Type 0 where
   pub one : (p.head_stopped && p.tail_stopped) ≡ false
   pub none : p.head_stopped ≡ false → p.tail_stopped ≡ false → p.given ≡ []
 
-pub acts : (p : Pair) → Stands p → ActsAsOne p
+pub acts : (p : Pair) → PairInvariant p → ActsAsOne p
 acts p s = record {
   confirmed = s.holds.confirmed;
   applied = s.holds.applied;
@@ -45,7 +45,7 @@ acts p s = record {
   none = s.none;
 }
 
-pub start : Stands new_pair
+pub start : PairInvariant new_pair
 start = record {
   holds = record { confirmed = le_refl 0; applied = le_refl 0; tail_is = refl; head_is = refl; answers_are = refl };
   forwards = tt;
@@ -67,15 +67,15 @@ with_head p given d = record p { head = d.next; from_head = p.from_head ++ d.to_
 abbrev pub with_tail : Pair → List Request → Does Tail → Pair
 with_tail p given d = record p { tail = d.next; from_tail = p.from_tail ++ d.to_other; answers = p.answers ++ d.to_server; given = given }
 
-quiet_head : (p : Pair) → Stands p → Stands (with_head p p.given (nothing p.head))
+quiet_head : (p : Pair) → PairInvariant p → PairInvariant (with_head p p.given (nothing p.head))
 quiet_head p s =
-    subst (λ f. Stands (record p { from_head = f; answers = p.answers ++ [] })) (sym (append-nil p.from_head))
-    (subst (λ a. Stands (record p { answers = a })) (sym (append-nil p.answers)) s)
+    subst (λ f. PairInvariant (record p { from_head = f; answers = p.answers ++ [] })) (sym (append-nil p.from_head))
+    (subst (λ a. PairInvariant (record p { answers = a })) (sym (append-nil p.answers)) s)
 
-quiet_tail : (p : Pair) → Stands p → Stands (with_tail p p.given (nothing p.tail))
+quiet_tail : (p : Pair) → PairInvariant p → PairInvariant (with_tail p p.given (nothing p.tail))
 quiet_tail p s =
-    subst (λ f. Stands (record p { from_tail = f; answers = p.answers ++ [] })) (sym (append-nil p.from_tail))
-    (subst (λ a. Stands (record p { answers = a })) (sym (append-nil p.answers)) s)
+    subst (λ f. PairInvariant (record p { from_tail = f; answers = p.answers ++ [] })) (sym (append-nil p.from_tail))
+    (subst (λ a. PairInvariant (record p { answers = a })) (sym (append-nil p.answers)) s)
 
 -- the head takes a message in a pair
 pub slice_more : {A : Type 0} (xs : List A) (y : A) (i : ℕ) (x : A) → slice_get xs i ≡ Some x → slice_get (xs ++ y ∷ []) i ≡ Some x
@@ -87,7 +87,7 @@ pub still_forwarded : (taken : List Request) (r : Request) (b : Between) → IsF
 still_forwarded taken r (Forward k x) f = (f.0, f.1, slice_more taken r f.0 x f.2)
 still_forwarded taken r (Got k) f = f
 
-takes : (p : Pair) (r : Request) → p.head_stopped ≡ false → p.tail_stopped ≡ false → Stands p → Stands (record p { head = with_taken r p.head })
+takes : (p : Pair) (r : Request) → p.head_stopped ≡ false → p.tail_stopped ≡ false → PairInvariant p → PairInvariant (record p { head = with_taken r p.head })
 takes p r hs ts s =
     let at : Holds false false p.head.taken p.head.confirmed p.tail.applied p.head.log p.tail.log p.answers p.given =
     subst (λ b. Holds b false p.head.taken p.head.confirmed p.tail.applied p.head.log p.tail.log p.answers p.given) hs
@@ -133,19 +133,19 @@ numbered_are taken (r ∷ rest) n e =
     let next : n + 1 ≡ suc n = omega arith in
     ((n, refl, first_waits taken n r rest e), numbered_are taken rest (n + 1) (ap (λ k. drop k taken) next ∙ others_wait taken n r rest e))
 
-waiting_sent : (p : Pair) → Stands p → Stands (record p { from_head = p.from_head ++ waiting p.head; answers = p.answers ++ [] })
+waiting_sent : (p : Pair) → PairInvariant p → PairInvariant (record p { from_head = p.from_head ++ waiting p.head; answers = p.answers ++ [] })
 waiting_sent p s =
     let all : AllByRecursion (IsForwarded p.head.taken) (p.from_head ++ waiting p.head) =
     all_append (IsForwarded p.head.taken) p.from_head (waiting p.head) s.forwards (numbered_are p.head.taken (drop p.head.confirmed p.head.taken) p.head.confirmed refl) in
-    let now : Stands (record p { from_head = p.from_head ++ waiting p.head }) =
+    let now : PairInvariant (record p { from_head = p.from_head ++ waiting p.head }) =
     record { holds = s.holds; forwards = all; gots = s.gots; head_alone = s.head_alone; tail_alone = s.tail_alone; one = s.one; none = s.none } in
-    subst (λ a. Stands (record p { from_head = p.from_head ++ waiting p.head; answers = a })) (sym (append-nil p.answers)) now
+    subst (λ a. PairInvariant (record p { from_head = p.from_head ++ waiting p.head; answers = a })) (sym (append-nil p.answers)) now
 
 abbrev pub HeadStands : Pair → List Request → Does Head → Type 0
-HeadStands p given d = Stands (with_head p given d)
+HeadStands p given d = PairInvariant (with_head p given d)
 
 pub asks_head : (hs ts : Bool) (head : Head) (tail : Tail) (fh ft : List Between) (answers : List Message) (given : List Request) (r : Request)
-    → Stands (pair_of hs ts head tail fh ft answers given) → Stands (head_has (Asks r) (pair_of hs ts head tail fh ft answers given))
+    → PairInvariant (pair_of hs ts head tail fh ft answers given) → PairInvariant (head_has (Asks r) (pair_of hs ts head tail fh ft answers given))
 asks_head true ts head tail fh ft answers given r s = s
 asks_head false true head tail fh ft answers given r s =
     let p : Pair = pair_of false true head tail fh ft answers given in
@@ -172,22 +172,22 @@ asks_head false false head tail fh ft answers given r s =
 
 -- what the head doesn't act on
 pub head_passes : (hs ts : Bool) (head : Head) (tail : Tail) (fh ft : List Between) (answers : List Message) (given : List Request)
-    → Stands (pair_of hs ts head tail fh ft answers given) → Stands (head_has Is_noise (pair_of hs ts head tail fh ft answers given))
+    → PairInvariant (pair_of hs ts head tail fh ft answers given) → PairInvariant (head_has Is_noise (pair_of hs ts head tail fh ft answers given))
 head_passes true ts head tail fh ft answers given s = s
 head_passes false true head tail fh ft answers given s =
-    subst (λ g. Stands (with_head (pair_of false true head tail fh ft answers given) g (nothing head))) (sym (append-nil given))
+    subst (λ g. PairInvariant (with_head (pair_of false true head tail fh ft answers given) g (nothing head))) (sym (append-nil given))
     (quiet_head (pair_of false true head tail fh ft answers given) s)
 head_passes false false head tail fh ft answers given s = quiet_head (pair_of false false head tail fh ft answers given) s
 
 pub tail_passes : (hs ts : Bool) (head : Head) (tail : Tail) (fh ft : List Between) (answers : List Message) (given : List Request)
-    → Stands (pair_of hs ts head tail fh ft answers given) → Stands (tail_has Is_noise (pair_of hs ts head tail fh ft answers given))
+    → PairInvariant (pair_of hs ts head tail fh ft answers given) → PairInvariant (tail_has Is_noise (pair_of hs ts head tail fh ft answers given))
 tail_passes hs true head tail fh ft answers given s = s
 tail_passes true false head tail fh ft answers given s =
-    subst (λ g. Stands (with_tail (pair_of true false head tail fh ft answers given) g (nothing tail))) (sym (append-nil given))
+    subst (λ g. PairInvariant (with_tail (pair_of true false head tail fh ft answers given) g (nothing tail))) (sym (append-nil given))
     (quiet_tail (pair_of true false head tail fh ft answers given) s)
 tail_passes false false head tail fh ft answers given s = quiet_tail (pair_of false false head tail fh ft answers given) s
 
-got_confirms : (p : Pair) (k : ℕ) → k ≤ p.tail.applied → p.head_stopped ≡ false → p.tail_stopped ≡ false → Stands p → Stands (record p { head = record p.head { confirmed = k } })
+got_confirms : (p : Pair) (k : ℕ) → k ≤ p.tail.applied → p.head_stopped ≡ false → p.tail_stopped ≡ false → PairInvariant p → PairInvariant (record p { head = record p.head { confirmed = k } })
 got_confirms p k few hs ts s = record {
   holds = record { confirmed = few; applied = s.holds.applied; tail_is = s.holds.tail_is; head_is = s.holds.head_is; answers_are = s.holds.answers_are };
   forwards = s.forwards;
@@ -199,7 +199,7 @@ got_confirms p k few hs ts s = record {
 }
 
 pub got : (hs ts : Bool) (head : Head) (tail : Tail) (fh ft : List Between) (answers : List Message) (given : List Request) (k : ℕ) → k ≤ tail.applied
-    → Stands (pair_of hs ts head tail fh ft answers given) → Stands (head_has (Tells (Got k)) (pair_of hs ts head tail fh ft answers given))
+    → PairInvariant (pair_of hs ts head tail fh ft answers given) → PairInvariant (head_has (Tells (Got k)) (pair_of hs ts head tail fh ft answers given))
 got true ts head tail fh ft answers given k few s = s
 got false true head tail fh ft answers given k few s =
     let p : Pair = pair_of false true head tail fh ft answers given in
@@ -214,14 +214,14 @@ got false false head tail fh ft answers given k few s =
     (λ rises. quiet_head (record p { head = record head { confirmed = k } }) (got_confirms p k few refl refl s))
     (λ stays. quiet_head p s))
 
-pub other_tells_head : (p : Pair) (o : Option Between) → ((b : Between) → o ≡ Some b → IsGotten p.tail.applied b) → Stands p → Stands (head_has (told_by o) p)
+pub other_tells_head : (p : Pair) (o : Option Between) → ((b : Between) → o ≡ Some b → IsGotten p.tail.applied b) → PairInvariant p → PairInvariant (head_has (told_by o) p)
 other_tells_head p None f s = head_passes p.head_stopped p.tail_stopped p.head p.tail p.from_head p.from_tail p.answers p.given s
 other_tells_head p (Some (Got k)) f s = got p.head_stopped p.tail_stopped p.head p.tail p.from_head p.from_tail p.answers p.given k (f (Got k) refl) s
 other_tells_head p (Some (Forward k r)) f s = absurd (f (Forward k r) refl)
 
 -- the tail applies what the head forwarded next
-next_applied : (p : Pair) (k : ℕ) (r : Request) → p.head_stopped ≡ false → p.tail_stopped ≡ false → k ≡ p.tail.applied + 1 → IsForwarded p.head.taken (Forward k r) → Stands p
-    → Stands (with_tail p p.given (applies_next r p.tail))
+next_applied : (p : Pair) (k : ℕ) (r : Request) → p.head_stopped ≡ false → p.tail_stopped ≡ false → k ≡ p.tail.applied + 1 → IsForwarded p.head.taken (Forward k r) → PairInvariant p
+    → PairInvariant (with_tail p p.given (applies_next r p.tail))
 next_applied p k r hs ts e f s =
     let at : Holds false false p.head.taken p.head.confirmed p.tail.applied p.head.log p.tail.log p.answers p.given =
     subst (λ b. Holds b false p.head.taken p.head.confirmed p.tail.applied p.head.log p.tail.log p.answers p.given) hs
@@ -247,9 +247,9 @@ next_applied p k r hs ts e f s =
     still_gotten n (Forward k r) g = g
     still_gotten n (Got k) g = omega (arith, g)
 
-tells_again : (p : Pair) → Stands p → Stands (with_tail p p.given (confirms_again p.tail))
+tells_again : (p : Pair) → PairInvariant p → PairInvariant (with_tail p p.given (confirms_again p.tail))
 tells_again p s =
-    subst (λ a. Stands (record p { from_tail = p.from_tail ++ Got p.tail.applied ∷ []; answers = a })) (sym (append-nil p.answers))
+    subst (λ a. PairInvariant (record p { from_tail = p.from_tail ++ Got p.tail.applied ∷ []; answers = a })) (sym (append-nil p.answers))
     (record {
       holds = s.holds;
       forwards = s.forwards;
@@ -261,10 +261,10 @@ tells_again p s =
     })
 
 abbrev pub TailStands : Pair → List Request → Does Tail → Type 0
-TailStands p given d = Stands (with_tail p given d)
+TailStands p given d = PairInvariant (with_tail p given d)
 
 pub forward : (hs ts : Bool) (head : Head) (tail : Tail) (fh ft : List Between) (answers : List Message) (given : List Request) (k : ℕ) (r : Request) → IsForwarded head.taken (Forward k r)
-    → Stands (pair_of hs ts head tail fh ft answers given) → Stands (tail_has (Tells (Forward k r)) (pair_of hs ts head tail fh ft answers given))
+    → PairInvariant (pair_of hs ts head tail fh ft answers given) → PairInvariant (tail_has (Tells (Forward k r)) (pair_of hs ts head tail fh ft answers given))
 forward hs true head tail fh ft answers given k r f s = s
 forward true false head tail fh ft answers given k r f s =
     let p : Pair = pair_of true false head tail fh ft answers given in
@@ -282,13 +282,13 @@ forward false false head tail fh ft answers given k r f s =
     (λ other. holds_if (TailStands p given) (nat_le k tail.applied) (confirms_again tail) (nothing tail)
     (λ had. tells_again p s) (λ gap. quiet_tail p s)))
 
-other_tells_tail : (p : Pair) (o : Option Between) → ((b : Between) → o ≡ Some b → IsForwarded p.head.taken b) → Stands p → Stands (tail_has (told_by o) p)
+other_tells_tail : (p : Pair) (o : Option Between) → ((b : Between) → o ≡ Some b → IsForwarded p.head.taken b) → PairInvariant p → PairInvariant (tail_has (told_by o) p)
 other_tells_tail p None f s = tail_passes p.head_stopped p.tail_stopped p.head p.tail p.from_head p.from_tail p.answers p.given s
 other_tells_tail p (Some (Forward k r)) f s = forward p.head_stopped p.tail_stopped p.head p.tail p.from_head p.from_tail p.answers p.given k r (f (Forward k r) refl) s
 other_tells_tail p (Some (Got k)) f s = absurd (f (Got k) refl)
 
 pub asks_tail : (hs ts : Bool) (head : Head) (tail : Tail) (fh ft : List Between) (answers : List Message) (given : List Request) (r : Request)
-    → Stands (pair_of hs ts head tail fh ft answers given) → Stands (tail_has (Asks r) (pair_of hs ts head tail fh ft answers given))
+    → PairInvariant (pair_of hs ts head tail fh ft answers given) → PairInvariant (tail_has (Asks r) (pair_of hs ts head tail fh ft answers given))
 asks_tail hs true head tail fh ft answers given r s = s
 asks_tail true false head tail fh ft answers given r s =
     let p : Pair = pair_of true false head tail fh ft answers given in
@@ -309,7 +309,7 @@ asks_tail false false head tail fh ft answers given r s =
     (λ alone. absurd (true≢false (sym alone ∙ s.tail_alone))) (λ paired. quiet_tail p s)
 
 pub stops : (hs ts : Bool) (head : Head) (tail : Tail) (fh ft : List Between) (answers : List Message) (given : List Request) (part : Part)
-    → Stands (pair_of hs ts head tail fh ft answers given) → Stands (pair_after (pair_of hs ts head tail fh ft answers given) (Stops part))
+    → PairInvariant (pair_of hs ts head tail fh ft answers given) → PairInvariant (pair_after (pair_of hs ts head tail fh ft answers given) (Stops part))
 stops true ts head tail fh ft answers given part s = s
 stops false true head tail fh ft answers given part s = s
 stops false false head tail fh ft answers given parts.Head s = record {
@@ -331,7 +331,7 @@ stops false false head tail fh ft answers given parts.Tail s = record {
   none = λ h t. absurd (true≢false t);
 }
 
-stands_on : (p : Pair) (d : Delivery) → Stands p → Stands (pair_after p d)
+stands_on : (p : Pair) (d : Delivery) → PairInvariant p → PairInvariant (pair_after p d)
 stands_on p (Server_asks parts.Head r) s = asks_head p.head_stopped p.tail_stopped p.head p.tail p.from_head p.from_tail p.answers p.given r s
 stands_on p (Server_asks parts.Tail r) s = asks_tail p.head_stopped p.tail_stopped p.head p.tail p.from_head p.from_tail p.answers p.given r s
 stands_on p (Other_tells parts.Head place) s =
@@ -342,6 +342,6 @@ stands_on p (Noise_comes_to parts.Head) s = head_passes p.head_stopped p.tail_st
 stands_on p (Noise_comes_to parts.Tail) s = tail_passes p.head_stopped p.tail_stopped p.head p.tail p.from_head p.from_tail p.answers p.given s
 stands_on p (Stops part) s = stops p.head_stopped p.tail_stopped p.head p.tail p.from_head p.from_tail p.answers p.given part s
 
-pub stands_over : (p : Pair) (ds : List Delivery) → Stands p → Stands (pair_over p ds)
+pub stands_over : (p : Pair) (ds : List Delivery) → PairInvariant p → PairInvariant (pair_over p ds)
 stands_over p [] s = s
 stands_over p (d ∷ ds) s = stands_over (pair_after p d) ds (stands_on p d s)

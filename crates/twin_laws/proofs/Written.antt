@@ -21,7 +21,7 @@ use Rattle.ft_model.proofs.Happened.{message_bit_changed}
 use Rattle.ft_model.proofs.Lists.{all_append, all_map, all_of, all_slice_get, none_is_some}
 use Rattle.twin_laws.specs.declared.part.Part.{Part}
 use Rattle.twin_laws.specs.declared.part.Part.TheVariants as parts
-use Rattle.twin_laws.specs.Twin.{Request, Between, Comes, Head, Tail, Does, nothing, has_room, with_taken, head_takes, numbered, sends_waiting, head_paired, head_alone, confirmed_to, head_does, tail_alone, applies_next, confirms_again, tail_applies, tail_does, told, asked, bytes_of, datagram_of}
+use Rattle.twin_laws.specs.Twin.{Request, Between, Comes, Head, Tail, Does, nothing, has_room, with_taken, head_takes, numbered, sends_waiting, head_paired, head_alone, confirmed_to, head_does, tail_alone, applies_next, confirms_again, tail_applies, tail_does, from_other_logger, asked, bytes_of, datagram_of}
 use Rattle.twin_laws.specs.Twin.Between.{Forward, Got}
 use Rattle.twin_laws.specs.Twin.Comes.{Asks, Tells, Is_noise}
 use Rattle.twin_laws.specs.Pair.{Pair, IsPaired, head_has, tail_has, stopped_by}
@@ -188,10 +188,10 @@ module _ {State : Type 0} (service : Machine State) where
   by_flip before after (Outside (To_client s)) bit sent g h = by_others (λ w. Flipped service w (To_client s) bit) before after sent g h
   by_flip before after (Outside (From_logger m)) bit sent g h = by_others (λ w. Flipped service w (From_logger m) bit) before after sent g h
   by_flip before after (Inside (Forward number r)) bit sent g h =
-      by_tail (told (twins.reading (flipped bit (bytes_of (Forward number r))))) before after sent
+      by_tail (from_other_logger (twins.reading (flipped bit (bytes_of (Forward number r))))) before after sent
       (noise_good _ (flipped_is_noise bit (bytes_of (Forward number r)) (datagram_of (Forward number r)) h.0 h.1)) g h.2
   by_flip before after (Inside (Got number)) bit sent g h =
-      by_head (told (twins.reading (flipped bit (bytes_of (Got number))))) before after sent
+      by_head (from_other_logger (twins.reading (flipped bit (bytes_of (Got number))))) before after sent
       (noise_good _ (flipped_is_noise bit (bytes_of (Got number)) (datagram_of (Got number)) h.0 h.1)) g h.2
 
   true_at : (w : TwinWorld) (n : ℕ) (x : Parcel) → parcel_at w.parcels n ≡ Some x → AllByRecursion (IsTrueOf w.pair) w.parcels → IsTrueOf w.pair x

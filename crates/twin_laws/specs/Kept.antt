@@ -11,7 +11,7 @@ use Rattle.twin_laws.specs.declared.part.Part.{Part}
 use Rattle.twin_laws.specs.declared.part.Part.TheVariants as parts
 use Rattle.twin_laws.specs.declared.part.Side.{Side}
 use Rattle.twin_laws.specs.declared.part.Side.TheVariants as sides
-use Rattle.twin_laws.specs.Twin.{Request, Between, Comes, Head, Tail, Does, may_take, asked, told, bytes_of}
+use Rattle.twin_laws.specs.Twin.{Request, Between, Comes, Head, Tail, Does, may_take, asked, from_other_logger, bytes_of}
 use Rattle.twin_laws.specs.Twin.Between.{Forward, Got}
 use Rattle.twin_laws.specs.Twin.Comes.{Asks, Tells}
 
@@ -40,7 +40,7 @@ kept_tail tail = record { part = parts.Tail; alone = tail.alone; log = tail.log;
 -- what arrives as bytes from a side
 abbrev pub comes_from : Side → List ℕ → Comes
 comes_from sides.Server bytes = asked bytes (messages.reading bytes)
-comes_from sides.Other bytes = told (twins.reading bytes)
+comes_from sides.Other bytes = from_other_logger (twins.reading bytes)
 
 -- the next state, and the datagrams that are sent, in order, each with its side
 pub record KeptDoes : Type 0 where

@@ -131,10 +131,10 @@ abbrev pub forwarded_as : ℕ → Comes → Comes
 forwarded_as number (Asks request) = Tells (Forward number request)
 forwarded_as number _ = Is_noise
 
-abbrev pub told : Result TwinDatagram BadTwin → Comes
-told (Ok (datagrams.Forward number bytes)) = forwarded_as number (asked bytes (messages.reading bytes))
-told (Ok (datagrams.Got number)) = Tells (Got number)
-told _ = Is_noise
+abbrev pub from_other_logger : Result TwinDatagram BadTwin → Comes
+from_other_logger (Ok (datagrams.Forward number bytes)) = forwarded_as number (asked bytes (messages.reading bytes))
+from_other_logger (Ok (datagrams.Got number)) = Tells (Got number)
+from_other_logger _ = Is_noise
 
 -- the datagram that is sent, and its bytes. A forwarded message has the bytes in which it arrived
 abbrev pub datagram_of : Between → TwinDatagram

@@ -17,7 +17,7 @@ use Rattle.ft_model.specs.World.{World, Delivered, Flipped, Happens, IsStart}
 use Rattle.ft_model.specs.declared.event.Event.{Event}
 use Rattle.ft_model.specs.declared.event.Event.TheVariants.{Deliver, Flip}
 use Rattle.twin_laws.specs.declared.part.Part.{Part}
-use Rattle.twin_laws.specs.Twin.{Request, Between, Comes, Does, head_does, tail_does, told, asked, datagram_of, bytes_of}
+use Rattle.twin_laws.specs.Twin.{Request, Between, Comes, Does, head_does, tail_does, from_other_logger, asked, datagram_of, bytes_of}
 use Rattle.twin_laws.specs.Twin.Between.{Forward, Got}
 use Rattle.twin_laws.specs.Twin.Comes.{Asks, Tells}
 use Rattle.twin_laws.specs.Pair.{Pair, new_pair, head_has, tail_has, stopped_by}
@@ -96,7 +96,7 @@ CanBeSent between = twins.reading (bytes_of between) ≡ Ok (datagram_of between
 -- a datagram between the loggers arrives with one bit changed. It is one of its bits
 abbrev pub ChangedFor : Between → ℕ → (Comes → TwinWorld → List Parcel → TwinWorld → Type 0) → TwinWorld → List Parcel → TwinWorld → Type 0
 ChangedFor between bit Has before sent after =
-    CanBeSent between × (bit < 8 * length (bytes_of between)) × Has (told (twins.reading (flipped bit (bytes_of between)))) before sent after
+    CanBeSent between × (bit < 8 * length (bytes_of between)) × Has (from_other_logger (twins.reading (flipped bit (bytes_of between)))) before sent after
 
 -- a parcel reaches its addressee with one bit changed
 abbrev pub ParcelFlipped : {State : Type 0} → Machine State → Parcel → ℕ → TwinWorld → List Parcel → TwinWorld → Type 0

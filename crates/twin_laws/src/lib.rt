@@ -20,7 +20,7 @@ ghost use Rattle.ft_model.specs.declared.schedule.Schedule.{Schedule};
 ghost use Rattle.twin_laws.specs.Flat.{flat};
 ghost use Rattle.twin_laws.specs.Pair.{Delivery, ActsAsOne, IsPaired, pair_over, new_pair};
 ghost use Rattle.twin_laws.specs.Kept.{kept_head, kept_tail, kept_does, comes_from, in_bytes};
-ghost use Rattle.twin_laws.specs.Twin.{Request, Head, Tail, head_does, tail_does, told, bytes_of};
+ghost use Rattle.twin_laws.specs.Twin.{Request, Head, Tail, head_does, tail_does, from_other_logger, bytes_of};
 ghost use Rattle.twin_laws.specs.Twin.Between.{Forward, Got};
 ghost use Rattle.twin_laws.specs.Twin.Comes.{Tells, Is_noise};
 ghost use Rattle.twin_laws.specs.TwinLegal.{IsTwinLegalFor, twin_start};
@@ -82,7 +82,7 @@ pub fn flat_traces_show_all<S: Service>()
 /// A datagram between the loggers with one bit changed is noise where it arrives.
 pub fn flipped_datagrams_are_noise()
     ensures { (bit : ℕ) (bytes : List ℕ) (datagram : TwinDatagram) → reading bytes ≡ Ok datagram → bit < 8 * length bytes
-        → told (reading (flipped bit bytes)) ≡ Is_noise }
+        → from_other_logger (reading (flipped bit bytes)) ≡ Is_noise }
 {}
 
 /// What a program stores of a head or a tail does, given any bytes from either side, what the definition does.
@@ -96,8 +96,8 @@ pub fn kept_loggers_do_as_defined()
 /// What one logger sends to the other is read as what was sent.
 pub fn what_is_sent_is_read()
     ensures forward { (number : ℕ) (request : Request) → message_reading request.bytes ≡ Ok request.message → is_answer request.message.body ≡ false
-        → 1 ≤ number → number < 2 ^ 64 → told (reading (bytes_of (Forward number request))) ≡ Tells (Forward number request) }
-    ensures got { (number : ℕ) → 1 ≤ number → number < 2 ^ 64 → told (reading (bytes_of (Got number))) ≡ Tells (Got number) }
+        → 1 ≤ number → number < 2 ^ 64 → from_other_logger (reading (bytes_of (Forward number request))) ≡ Tells (Forward number request) }
+    ensures got { (number : ℕ) → 1 ≤ number → number < 2 ^ 64 → from_other_logger (reading (bytes_of (Got number))) ≡ Tells (Got number) }
 {}
 
 /// A worked run: the head forwards the server's Hello and the tail answers it. Flat, it is the boot and one delivery.

@@ -10,7 +10,7 @@ use Rattle.seq_arith.specs.TwinDatagram.{TwinDatagram}
 use Rattle.seq_arith.specs.TwinDatagram.{TwinDatagram as datagrams}
 use Rattle.twin_laws.specs.declared.part.Part.{Part}
 use Rattle.twin_laws.specs.declared.part.Part.TheVariants as parts
-use Rattle.twin_laws.specs.Twin.{Comes, told, asked, forwarded_as}
+use Rattle.twin_laws.specs.Twin.{Comes, from_other_logger, asked, forwarded_as}
 use Rattle.twin_laws.specs.Twin.Comes.{Asks, Tells, Is_noise}
 use Rattle.twin_laws.specs.Kept.{Kept, kept_alone_does, paired_does, sends_nothing}
 
@@ -25,7 +25,7 @@ forwarded_alone number (Tells between) kept = refl
 forwarded_alone number Is_noise kept = refl
 
 -- a logger that is alone passes over all that the other sent
-pub told_alone : (r : Result TwinDatagram BadTwin) (kept : Kept) → kept_alone_does (told r) kept ≡ sends_nothing kept
+pub told_alone : (r : Result TwinDatagram BadTwin) (kept : Kept) → kept_alone_does (from_other_logger r) kept ≡ sends_nothing kept
 told_alone (Ok (datagrams.Forward number bytes)) kept = forwarded_alone number (asked bytes (messages.reading bytes)) kept
 told_alone (Ok (datagrams.Got number)) kept = refl
 told_alone (Ok datagrams.Alone) kept = refl

@@ -4,7 +4,7 @@ ghost use Rattle.std.specs.Prelude.{[], ◌∷◌, ◌++◌, ◌≡◌, ◌≤�
 ghost use Rattle.seq_arith.specs.MessageGrammar.{reading};
 ghost use Rattle.seq_arith.specs.TwinGrammar.{reading as twin_reading};
 ghost use Rattle.logger_wire.specs.Value.{message_of, IsSendable};
-ghost use Rattle.twin_laws.specs.Twin.{asked, forwarded_as, told};
+ghost use Rattle.twin_laws.specs.Twin.{asked, forwarded_as, from_other_logger};
 ghost use Rattle.twin_laws.specs.Twin.Between.{Got};
 ghost use Rattle.twin_laws.specs.Twin.Comes.{Tells};
 ghost use Rattle.twin_laws.specs.Kept.{kept_does, paired_does, new_kept, left_alone, serves_alone, kept_head_asked, kept_tail_told, keeps_request, keeps_too, has_kept_room, kept_confirmed, sends_kept, sent_to_other, applies_kept};
@@ -149,8 +149,8 @@ impl TwinLog {
     #[tactic(auto, using(crate::proofs::Cases::noise_in_pair, crate::proofs::Cases::some_number))]
     fn on_told(&mut self, alloc: Global, bytes: &[u8], out: &mut TwinOut) -> Result<(), NoMemory>
         requires empty { out.old ≡ [] }
-        ensures next { OnOk result (self.new ≡ (paired_does self.old.part (told (twin_reading bytes.now)) self.old).next) }
-        ensures sent { OnOk result (out.new ≡ (paired_does self.old.part (told (twin_reading bytes.now)) self.old).sent) }
+        ensures next { OnOk result (self.new ≡ (paired_does self.old.part (from_other_logger (twin_reading bytes.now)) self.old).next) }
+        ensures sent { OnOk result (out.new ≡ (paired_does self.old.part (from_other_logger (twin_reading bytes.now)) self.old).sent) }
         ensures refused { OnErr result (self.new ≡ self.old) }
         ensures empty { OnErr result (out.new ≡ []) }
     {

@@ -12,7 +12,7 @@ use Rattle.tcp_endpoint.specs.States.{after_syn_acked, after_fin, after_fin_acke
 use Rattle.tcp_endpoint.specs.Receiving.{Receiving, next, window, with_segment}
 use Rattle.tcp_endpoint.specs.Sending.{Sending, with_syn_acked, acknowledged, is_duplicate, is_third_duplicate, duplicated, answered_by, fin_acked}
 use Rattle.tcp_endpoint.specs.Tcb.{Tcb}
-use Rattle.tcp_endpoint.specs.Arrival.{first, ack_at, received, received_in, in_closed, in_others, waiting_again, accepts, is_allowed, check_place, check_rst, check_syn, check_ack, is_bare, with_ack_used, with_ack, with_first_ack, with_fin_acked, with_text_and_fin, entering, owing_if, killed, refusing, refusing_without_ack}
+use Rattle.tcp_endpoint.specs.Arrival.{first, ack_at, received, received_in, in_closed, in_others, with_time_wait_restarted, accepts, is_allowed, check_sequence, check_rst, check_syn, check_ack, is_bare, with_ack_used, with_ack, with_first_ack, with_fin_acked, with_text_and_fin, entering, with_ack_pending_if, with_reset, with_reset_reply, with_reset_reply_without_ack}
 use Rattle.tcp_endpoint.proofs.Places.{near_of_usable}
 use Rattle.endpoint_laws.proofs.SendingLaw.{next_near, window_short, length_short}
 use Rattle.endpoint_laws.proofs.TakenLaw.{window_is}
@@ -21,7 +21,7 @@ use Rattle.wrapped_conn.proofs.Kept.{GoesOnFrom, TakesOn, stays, goes_if, goes_w
 use Rattle.endpoint_laws.proofs.Bounding.{other_bounds}
 
 -- the fields of a segment fit their bytes
-pub record Fits (p : Segment) : Type 0 where
+pub record HasFieldsInRange (p : Segment) : Type 0 where
   pub seq : p.head.seq < 2 ^ 32
   pub window : p.head.window ≤ 65535
   pub text : length p.payload ≤ 65535
@@ -73,10 +73,10 @@ no_fin true true h k = absurd (false≢true (sym k))
 no_fin true false h k = absurd (false≢true (h refl))
 no_fin false c h k = refl
 
-owes : (e t : Tcb) (b : Bool) → GoesOnFrom e t → GoesOnFrom e (owing_if b t)
-owes e t b g = record { sound = record { bounds = g.sound.bounds; buffered = g.sound.buffered; begun = g.sound.begun; fin_last = g.sound.fin_last }; read = g.read; limit = g.limit; more = g.more; iss = g.iss; closed = g.closed; sent = g.sent; held = g.held }
+needs_ack : (e t : Tcb) (b : Bool) → GoesOnFrom e t → GoesOnFrom e (with_ack_pending_if b t)
+needs_ack e t b g = record { sound = record { bounds = g.sound.bounds; buffered = g.sound.buffered; begun = g.sound.begun; fin_last = g.sound.fin_last }; read = g.read; limit = g.limit; more = g.more; iss = g.iss; closed = g.closed; sent = g.sent; held = g.held }
 
-later_used : (e : Tcb) (p : Segment) → IsSoundTcp e → Fits p → IsNearFirst (first e p) → e.sending.syn_acked ≡ true
+later_used : (e : Tcb) (p : Segment) → IsSoundTcp e → HasFieldsInRange p → IsNearFirst (first e p) → e.sending.syn_acked ≡ true
     → GoesOnFrom e (record e { sending = acknowledged e.sending p.head.seq (ack_at e p) p.head.window })
 later_used e p s fits near is_syn_acked =
     let held = held_stays e.sending p.head.seq p.head.window (ack_at e p) s.bounds.order in
@@ -98,9 +98,9 @@ later_used e p s fits near is_syn_acked =
     }
 
 -- a duplicate is counted, and may make something due again
-counts_again : (e : Tcb) (used : Sending) (duplicate again : Bool) → GoesOnFrom e (record e { sending = used })
-    → GoesOnFrom e (record e { sending = if duplicate then duplicated used else used; again = again })
-counts_again e used true again g = record {
+counts_again : (e : Tcb) (used : Sending) (duplicate retransmission_due : Bool) → GoesOnFrom e (record e { sending = used })
+    → GoesOnFrom e (record e { sending = if duplicate then duplicated used else used; retransmission_due = retransmission_due })
+counts_again e used true retransmission_due g = record {
   sound = record { bounds = duplicated_bounds e.receiving used g.sound.bounds; buffered = g.sound.buffered; begun = g.sound.begun; fin_last = g.sound.fin_last };
   read = refl;
   limit = refl;
@@ -110,7 +110,7 @@ counts_again e used true again g = record {
   sent = g.sent;
   held = g.held;
 }
-counts_again e used false again g = record {
+counts_again e used false retransmission_due g = record {
   sound = record { bounds = g.sound.bounds; buffered = g.sound.buffered; begun = g.sound.begun; fin_last = g.sound.fin_last };
   read = refl;
   limit = refl;
@@ -121,27 +121,27 @@ counts_again e used false again g = record {
   held = g.held;
 }
 
-ack_goes : (e : Tcb) (p : Segment) → IsSoundTcp e → Fits p → IsNearFirst (first e p) → e.sending.syn_acked ≡ true → GoesOnFrom e (with_ack_used e p)
+ack_goes : (e : Tcb) (p : Segment) → IsSoundTcp e → HasFieldsInRange p → IsNearFirst (first e p) → e.sending.syn_acked ≡ true → GoesOnFrom e (with_ack_used e p)
 unfolding with_ack_used answered_by
 ack_goes e p s fits near is_syn_acked =
     counts_again e (acknowledged e.sending p.head.seq (ack_at e p) p.head.window) (is_duplicate e.sending (is_bare p) (ack_at e p) p.head.window)
-    (e.again || is_third_duplicate e.sending (is_bare p) (ack_at e p) p.head.window) (later_used e p s fits near is_syn_acked)
+    (e.retransmission_due || is_third_duplicate e.sending (is_bare p) (ack_at e p) p.head.window) (later_used e p s fits near is_syn_acked)
 
-later_goes : (e : Tcb) (p : Segment) → IsSoundTcp e → Fits p → IsNearFirst (first e p) → e.sending.syn_acked ≡ true → GoesOnFrom e (with_ack e p)
+later_goes : (e : Tcb) (p : Segment) → IsSoundTcp e → HasFieldsInRange p → IsNearFirst (first e p) → e.sending.syn_acked ≡ true → GoesOnFrom e (with_ack e p)
 unfolding with_ack
 later_goes e p s fits near is_syn_acked =
     let used : Tcb = with_ack_used e p in
-    goes_if (is_ahead e.sending.sent (ack_at e p)) e _ _ (owes e e true (stays e s)) (text_goes e (with_fin_acked used) p (acked_goes e used (ack_goes e p s fits near is_syn_acked)))
+    goes_if (is_ahead e.sending.sent (ack_at e p)) e _ _ (needs_ack e e true (stays e s)) (text_goes e (with_fin_acked used) p (acked_goes e used (ack_goes e p s fits near is_syn_acked)))
 
-refuses : (e : Tcb) (p : Segment) → IsSoundTcp e → GoesOnFrom e (refusing e p)
-unfolding refusing
+refuses : (e : Tcb) (p : Segment) → IsSoundTcp e → GoesOnFrom e (with_reset_reply e p)
+unfolding with_reset_reply
 refuses e p s = let g = stays e s in record { sound = record { bounds = s.bounds; buffered = s.buffered; begun = s.begun; fin_last = s.fin_last }; read = refl; limit = refl; more = g.more; iss = refl; closed = refl; sent = g.sent; held = g.held }
 
-refuses_bare : (e : Tcb) (p : Segment) → IsSoundTcp e → GoesOnFrom e (refusing_without_ack e p)
-unfolding refusing_without_ack
+refuses_bare : (e : Tcb) (p : Segment) → IsSoundTcp e → GoesOnFrom e (with_reset_reply_without_ack e p)
+unfolding with_reset_reply_without_ack
 refuses_bare e p s = let g = stays e s in record { sound = record { bounds = s.bounds; buffered = s.buffered; begun = s.begun; fin_last = s.fin_last }; read = refl; limit = refl; more = g.more; iss = refl; closed = refl; sent = g.sent; held = g.held }
 
-first_goes : (e : Tcb) (p : Segment) → IsSoundTcp e → Fits p → IsNearFirst (first e p) → e.sending.syn_acked ≡ false → GoesOnFrom e (with_first_ack e p)
+first_goes : (e : Tcb) (p : Segment) → IsSoundTcp e → HasFieldsInRange p → IsNearFirst (first e p) → e.sending.syn_acked ≡ false → GoesOnFrom e (with_first_ack e p)
 unfolding with_first_ack
 first_goes e p s fits near syn_unacked =
     let opening : Tcb = record e { name = after_syn_acked e.sending.closed; sending = with_syn_acked e.sending p.head.seq p.head.window } in
@@ -162,8 +162,8 @@ first_goes e p s fits near syn_unacked =
     } in
     goes_if (int_eq (ack_at e p) (pos 0)) e _ _ (text_goes e opening p goes) (refuses e p s)
 
-from_owing : (e : Tcb) (b : Bool) (t : Tcb) → GoesOnFrom (owing_if b e) t → GoesOnFrom e t
-from_owing e b t g = record { sound = g.sound; read = g.read; limit = g.limit; more = g.more; iss = g.iss; closed = g.closed; sent = g.sent; held = g.held }
+from_pending : (e : Tcb) (b : Bool) (t : Tcb) → GoesOnFrom (with_ack_pending_if b e) t → GoesOnFrom e t
+from_pending e b t g = record { sound = g.sound; read = g.read; limit = g.limit; more = g.more; iss = g.iss; closed = g.closed; sent = g.sent; held = g.held }
 
 -- a segment that is looked at further begins near to the window
 one_of : (a z b : Bool) → (a || (z && b)) ≡ true → (a || z) ≡ true
@@ -171,7 +171,7 @@ one_of true z b h = refl
 one_of false true b h = refl
 one_of false false b h = h
 
-near_of_looked : (e : Tcb) (p : Segment) → IsSoundTcp e → Fits p → (accepts e p || is_allowed e p) ≡ true → IsNearFirst (first e p)
+near_of_looked : (e : Tcb) (p : Segment) → IsSoundTcp e → HasFieldsInRange p → (accepts e p || is_allowed e p) ≡ true → IsNearFirst (first e p)
 unfolding accepts is_allowed
 near_of_looked e p s fits h =
     near_of_usable (next e.receiving) (window e.receiving) (first e p) (length_of p) (next_near e.receiving s.bounds.limit s.bounds.taken)
@@ -180,39 +180,39 @@ near_of_looked e p s fits h =
     (e.sending.syn_acked || int_eq (ack_at e p) (pos 0)) h)
 
 -- the checks in their order, of such a segment
-checked : (e : Tcb) (p : Segment) → IsSoundTcp e → Fits p → IsNearFirst (first e p) → GoesOnFrom e (check_rst e p)
+checked : (e : Tcb) (p : Segment) → IsSoundTcp e → HasFieldsInRange p → IsNearFirst (first e p) → GoesOnFrom e (check_rst e p)
 unfolding check_rst check_syn check_ack
 checked e p s fits near =
     let g : GoesOnFrom e e = stays e s in
-    let owing : Tcb = owing_if (nat_lt 0 (length_of p)) e in
-    let sound : IsSoundTcp owing = record { bounds = s.bounds; buffered = s.buffered; begun = s.begun; fin_last = s.fin_last } in
+    let pending : Tcb = with_ack_pending_if (nat_lt 0 (length_of p)) e in
+    let sound : IsSoundTcp pending = record { bounds = s.bounds; buffered = s.buffered; begun = s.begun; fin_last = s.fin_last } in
     goes_if (has_rst p) e _ _
-    (goes_if (int_eq (first e p) (pos (next e.receiving))) e _ _ (closes e s) (owes e e true g))
-    (goes_if (has_syn p) e _ _ (owes e e true g)
+    (goes_if (int_eq (first e p) (pos (next e.receiving))) e _ _ (closes e s) (needs_ack e e true g))
+    (goes_if (has_syn p) e _ _ (needs_ack e e true g)
     (goes_if (has_ack p) e _ _
-    (goes_when e.sending.syn_acked e _ _ (λ h. from_owing e _ _ (later_goes owing p sound fits near h)) (λ h. from_owing e _ _ (first_goes owing p sound fits near h)))
-    (owes e e _ g)))
+    (goes_when e.sending.syn_acked e _ _ (λ h. from_pending e _ _ (later_goes pending p sound fits near h)) (λ h. from_pending e _ _ (first_goes pending p sound fits near h)))
+    (needs_ack e e _ g)))
   where
-    closes : (x : Tcb) → IsSoundTcp x → GoesOnFrom x (killed x)
+    closes : (x : Tcb) → IsSoundTcp x → GoesOnFrom x (with_reset x)
     closes x s = let g = stays x s in record { sound = record { bounds = s.bounds; buffered = s.buffered; begun = refl; fin_last = s.fin_last }; read = refl; limit = refl; more = g.more; iss = refl; closed = refl; sent = g.sent; held = g.held }
 
-from_waiting : (e : Tcb) (p : Segment) (t : Tcb) → GoesOnFrom (waiting_again e p) t → GoesOnFrom e t
-unfolding waiting_again
+from_waiting : (e : Tcb) (p : Segment) (t : Tcb) → GoesOnFrom (with_time_wait_restarted e p) t → GoesOnFrom e t
+unfolding with_time_wait_restarted
 from_waiting e p t g = record { sound = g.sound; read = g.read; limit = g.limit; more = g.more; iss = g.iss; closed = g.closed; sent = g.sent; held = g.held }
 
-others_go : (e : Tcb) (p : Segment) → IsSoundTcp e → Fits p → GoesOnFrom e (in_others e p)
-unfolding in_others check_place waiting_again
+others_go : (e : Tcb) (p : Segment) → IsSoundTcp e → HasFieldsInRange p → GoesOnFrom e (in_others e p)
+unfolding in_others check_sequence with_time_wait_restarted
 others_go e p s fits =
-    let x : Tcb = waiting_again e p in
+    let x : Tcb = with_time_wait_restarted e p in
     let sound : IsSoundTcp x = record { bounds = s.bounds; buffered = s.buffered; begun = s.begun; fin_last = s.fin_last } in
     goes_when (accepts x p || is_allowed x p) e _ _ (λ h. from_waiting e p _ (checked x p sound fits (near_of_looked x p sound fits h)))
-    (λ h. from_waiting e p _ (owes x x (not (has_rst p)) (stays x sound)))
+    (λ h. from_waiting e p _ (needs_ack x x (not (has_rst p)) (stays x sound)))
 
 closed_goes : (e : Tcb) (p : Segment) → IsSoundTcp e → GoesOnFrom e (in_closed e p)
 unfolding in_closed
 closed_goes e p s = goes_if (has_rst p) e _ _ (stays e s) (goes_if (has_ack p) e _ _ (refuses e p s) (refuses_bare e p s))
 
-goes_by : (name : StateName) (e : Tcb) (p : Segment) → has_peer name ≡ true → IsSoundTcp e → Fits p → GoesOnFrom e (received_in name e p)
+goes_by : (name : StateName) (e : Tcb) (p : Segment) → has_peer name ≡ true → IsSoundTcp e → HasFieldsInRange p → GoesOnFrom e (received_in name e p)
 goes_by Closed e p h s fits = closed_goes e p s
 goes_by Listen e p h s fits = absurd (false≢true h)
 goes_by SynSent e p h s fits = absurd (false≢true h)
@@ -225,6 +225,6 @@ goes_by Closing e p h s fits = others_go e p s fits
 goes_by LastAck e p h s fits = others_go e p s fits
 goes_by TimeWait e p h s fits = others_go e p s fits
 
-pub segment_goes : (e : Tcb) (p : Segment) → IsSoundTcp e → Fits p → GoesOnFrom e (received e p)
+pub segment_goes : (e : Tcb) (p : Segment) → IsSoundTcp e → HasFieldsInRange p → GoesOnFrom e (received e p)
 unfolding received
 segment_goes e p s fits = goes_by e.name e p s.begun s fits

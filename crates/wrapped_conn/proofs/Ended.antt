@@ -43,7 +43,7 @@ use Rattle.connection_laws.proofs.Telling.{parts_tell}
 use Rattle.wrapped_conn.specs.declared.stage.Before.{Before}
 use Rattle.wrapped_conn.specs.ConnState.{ConnState}
 use Rattle.wrapped_conn.specs.Numbers.{sent_units, outer_sent}
-use Rattle.wrapped_conn.specs.Leaving.{passed, syn_ack, bare, is_owed, leaves, turn_ended, with_endpoint_flushed}
+use Rattle.wrapped_conn.specs.Leaving.{passed, syn_ack, bare, is_ack_pending, leaves, turn_ended, with_endpoint_flushed}
 use Rattle.wrapped_conn.specs.Telling.{spelled, is_done}
 use Rattle.wrapped_conn.specs.Turning.{served, tcp_used}
 use Rattle.wrapped_conn.specs.Calls.{calls_of}
@@ -129,18 +129,18 @@ pub bare_is : {S : Type 0} (server : Addr) (delta : ℕ) (q : Point) (c : ConnSt
 unfolding bare
 bare_is server delta q c local key south sent = λ j. own (local j) (key j) (south j) (sent j) 16 None
 
-same_or : (owed : Bool) (b : Segment) (xs : List Segment) → or_bare owed b xs ≡ segments.or_bare owed b xs
-same_or owed b [] = refl
-same_or owed b (x ∷ xs) = refl
+same_or : (ack_pending : Bool) (b : Segment) (xs : List Segment) → or_bare ack_pending b xs ≡ segments.or_bare ack_pending b xs
+same_or ack_pending b [] = refl
+same_or ack_pending b (x ∷ xs) = refl
 
 -- all that leaves
 pub leaves_is : {S : Type 0} (service : Machine S) (server : Addr) (delta : ℕ) (news : News) (p q : Point) (t : Tcb) (c : ConnState S) (before : Before) (again : Bool)
     → c.local ≡ server → c.key ≡ q.key → c.south ≡ south_at delta q → outer_sent c ≡ number_at q.sisn q.sent
-    → is_owed before c ≡ adds service news p q t → again ≡ repeats news p
+    → is_ack_pending before c ≡ adds service news p q t → again ≡ repeats news p
     → leaves before again c (leaving t) ≡ leaves_with service server delta news p q t
-leaves_is service server delta news p q t c before again local key south sent owed repeated =
-    same_or (is_owed before c) (bare c) (passed c.south (leaving t) ++ (if again then syn_ack c ∷ [] else []))
-    ∙ (λ j. segments.or_bare (owed j) (bare_is server delta q c local key south sent j)
+leaves_is service server delta news p q t c before again local key south sent ack_pending repeated =
+    same_or (is_ack_pending before c) (bare c) (passed c.south (leaving t) ++ (if again then syn_ack c ∷ [] else []))
+    ∙ (λ j. segments.or_bare (ack_pending j) (bare_is server delta q c local key south sent j)
     (passed (south j) (leaving t) ++ (if repeated j then syn_ack_is server delta q c local key south j ∷ [] else [])))
 
 -- messages of a boot
@@ -211,14 +211,14 @@ pub carries_on : {S : Type 0} (service : Machine S) (u i : ℕ) (news : News) (p
     → HasNews news p c → is_tick news ≡ false → reset_after news p ≡ false → n.run.made ≤ 2 ^ 24
     → (k : PartsTurn service c.local c.boot u i c.south.delta news p (lengths_of reads) n (tcp_used c reads))
     → (older : List ReadRecord) → n.reads ≡ older ++ reads
-    → (PartsTell service c.south.delta k.after n (flushed (tcp_used c reads)) → is_owed before (turn_ended (served n reads c)) ≡ adds service news p k.after (tcp_used c reads))
+    → (PartsTell service c.south.delta k.after n (flushed (tcp_used c reads)) → is_ack_pending before (turn_ended (served n reads c)) ≡ adds service news p k.after (tcp_used c reads))
     → again ≡ repeats news p
     → copied ≡ model.copies news p k.after
     → out ≡ packets (leaves before again (turn_ended (served n reads c)) (leaving (tcp_used c reads)))
     → messages ≡ spelled c.boot (copied ++ messages_of c.key reads)
     → Leads service c.local c.boot news p (turn_ended (served n reads c)) out messages
 unfolding end_ticks_after
-carries_on service u i news p c n reads before again copied out messages h off unreset few k older told owed repeated copy goes_out says =
+carries_on service u i news p c n reads before again copied out messages h off unreset few k older told ack_pending repeated copy goes_out says =
     let q : Point = k.after in
     let l = k.goes in
     let t : Tcb = tcp_used c reads in
@@ -228,7 +228,7 @@ carries_on service u i news p c n reads before again copied out messages h off u
     let south : new.south ≡ south_at c.south.delta q = south_ends service c.local c.boot news p q _ n reads c h l tell north.read few in
     let key : c.key ≡ q.key = h.key ∙ sym l.same.key in
     let leave : leaves before again new (leaving t) ≡ segments_of service c.local news p q =
-    leaves_is service c.local c.south.delta news p q t new before again refl key south tell.sent_outside (owed tell) repeated ∙ k.segments in
+    leaves_is service c.local c.south.delta news p q t new before again refl key south tell.sent_outside (ack_pending tell) repeated ∙ k.segments in
     let numbered : IsNumbered (length p.lengths) reads = numbered_new q.reads_answered older reads n.reads p.lengths q.lengths north.numbered told north.unanswered k.lengths in
     let read : messages_of c.key reads ≡ reads_told news p q = new_reads_told news p q c.key reads off key k.lengths numbered in
     let none : dones_by_law news p q ≡ [] = no_dones news p q off l.reset in

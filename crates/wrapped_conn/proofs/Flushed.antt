@@ -9,7 +9,7 @@ use Rattle.tcp_endpoint.specs.declared.states.StateName.TheVariants.{Closed}
 use Rattle.tcp_endpoint.specs.Receiving.{Receiving}
 use Rattle.tcp_endpoint.specs.Sending.{Sending, timed, ticked, expires, with_sent, with_fin_sent}
 use Rattle.tcp_endpoint.specs.Tcb.{Tcb}
-use Rattle.tcp_endpoint.specs.Leaving.{flushed, with_turn_ended, announced, is_timed, after_full, with_probe, with_text_sent, with_fin_out, probes_text, probes_fin, new_fin, new_length}
+use Rattle.tcp_endpoint.specs.Leaving.{flushed, with_turn_ended, with_advertised, is_timed, after_full, with_probe, with_text_sent, with_fin_out, probes_text, probes_fin, new_fin, new_length}
 use Rattle.tcp_endpoint.specs.Turning.{after_tick, timer_ticked, waited}
 use Rattle.endpoint_laws.proofs.Bounding.{bounded_by_flush, bounded_by_tick}
 use Rattle.wrapped_conn.specs.ConnState.{ConnState}
@@ -79,7 +79,7 @@ timed_leaves runs s =
     (λ h. record { iss = refl; una = refl; held = refl; closed = refl; sent = omega arith; fin_last = λ f. f })
 
 flush_leaves : (e : Tcb) → Leaves e.sending (flushed e).sending
-unfolding flushed with_turn_ended announced after_full
+unfolding flushed with_turn_ended with_advertised after_full
 flush_leaves e =
     let p : Tcb = with_probe e in
     let t : Tcb = with_text_sent p in
@@ -91,7 +91,7 @@ flush_leaves e =
     text_of_probe e = text_leaves (with_probe e)
 
 flush_name : (e : Tcb) → ((flushed e).name ≡ e.name) × ((flushed e).receiving ≡ e.receiving)
-unfolding flushed with_turn_ended announced after_full with_probe with_text_sent with_fin_out
+unfolding flushed with_turn_ended with_advertised after_full with_probe with_text_sent with_fin_out
 flush_name e = (refl, refl)
 
 pub flush_goes : (e : Tcb) → IsSoundTcp e → GoesOnFrom e (flushed e)

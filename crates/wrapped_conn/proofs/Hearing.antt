@@ -10,8 +10,8 @@ use Rattle.ft_model.specs.Answered.{answered_after}
 use Rattle.ft_model.specs.Ending.{reset_after, dones as dones_by_law}
 use Rattle.ft_model.specs.News.{News}
 use Rattle.ft_model.specs.News.News.{Logged, Begins}
-use Rattle.ft_model.specs.Owed.{is_owed as is_owed_by_law}
-use Rattle.ft_model.specs.Point.{Point, taken_units, announced_edge}
+use Rattle.ft_model.specs.Owed.{is_ack_pending as is_ack_pending_by_law}
+use Rattle.ft_model.specs.Point.{Point, taken_units, advertised_edge}
 use Rattle.ft_model.specs.Sending.{acknowledged_after}
 use Rattle.ft_model.specs.Taken.{taken_after, fin_after}
 use Rattle.north_wrap.specs.declared.read_record.ReadRecord.{ReadRecord}
@@ -21,7 +21,7 @@ use Rattle.tcp_endpoint.specs.Leaving.{leaving, flushed, packets}
 use Rattle.tcp_endpoint.specs.States.{is_closed}
 use Rattle.tcp_endpoint.specs.Tcb.{Tcb}
 use Rattle.endpoint_laws.proofs.EndingLaw.{flushed_name}
-use Rattle.connection_laws.specs.Standing.{PartsTurn, adds, heard as heard_north}
+use Rattle.connection_laws.specs.Standing.{PartsTurn, adds, north_after_news as heard_north}
 use Rattle.connection_laws.specs.Telling.{PartsTell}
 use Rattle.connection_laws.proofs.Telling.{parts_tell}
 use Rattle.connection_laws.proofs.Together.{turns_together}
@@ -29,9 +29,9 @@ use Rattle.wrapped_conn.specs.ConnState.{ConnState}
 use Rattle.connection_laws.specs.Feeding.{tcp_reader, tcp_writer}
 use Rattle.wrapped_conn.specs.Numbers.{una_units}
 use Rattle.wrapped_conn.specs.Arriving.{before_other}
-use Rattle.wrapped_conn.specs.Leaving.{is_owed, leaves, turn_ended}
+use Rattle.wrapped_conn.specs.Leaving.{is_ack_pending, leaves, turn_ended}
 use Rattle.wrapped_conn.specs.Telling.{spelled}
-use Rattle.wrapped_conn.specs.Turning.{GoesOn, Rests, Hears, Starts, heard, is_news, served, tcp_used, new_reads}
+use Rattle.wrapped_conn.specs.Turning.{CompletesTurn, Rests, Hears, Starts, with_logged, is_news, served, tcp_used, new_reads}
 use Rattle.wrapped_conn.specs.Sound.{IsSound}
 use Rattle.wrapped_conn.specs.Standing.{Keeps, TcpTells, StandsLive, StandsReset, Stands, StandsBefore, Leads}
 use Rattle.wrapped_conn.proofs.Ended.{HasNews, carries_on}
@@ -41,26 +41,26 @@ use Rattle.wrapped_conn.proofs.Receiving.{off_differs, parts_live, parts_reset}
 use Rattle.wrapped_conn.proofs.Resetting.{reset_point, resets_on}
 use Rattle.ft_io.proofs.Choices.{by_cases}
 
-owed_more : (r closed taken e : Bool) → (closed ≡ true → taken ≡ false) → (r || (closed && (false || e))) ≡ ((false || r) || (closed && (((false || r) || taken) || e)))
-owed_more true closed taken e h = refl
-owed_more false false taken e h = refl
-owed_more false true taken e h = ap (λ b. b || e) (sym (h refl))
+ack_pending_more : (r closed taken e : Bool) → (closed ≡ true → taken ≡ false) → (r || (closed && (false || e))) ≡ ((false || r) || (closed && (((false || r) || taken) || e)))
+ack_pending_more true closed taken e h = refl
+ack_pending_more false false taken e h = refl
+ack_pending_more false true taken e h = ap (λ b. b || e) (sym (h refl))
 
 raises : (answered units : ℕ) → nat_lt answered units ≡ nat_lt answered (max answered units)
 raises answered units = grind arith
 
 abbrev told : {S : Type 0} → Kept → ConnState S → ConnState S
-told kept c = heard kept.length kept.fin kept.reads c
+told kept c = with_logged kept.length kept.fin kept.reads c
 
-owed_is : {S : Type 0} (service : Machine S) (p q : Point) (t : Tcb) (c new : ConnState S) (kept : Kept) → NumbersAt service p c → NumbersAt service q new
+ack_pending_is : {S : Type 0} (service : Machine S) (p q : Point) (t : Tcb) (c new : ConnState S) (kept : Kept) → NumbersAt service p c → NumbersAt service q new
     → new.endpoint.name ≡ t.name → c.south.answered ≡ p.answered → q.answered ≡ max p.answered (kept.length + one_if kept.fin) → (is_closed t.name ≡ true → (p.syn_acked ≡ true) × (taken_units q ≡ taken_units p))
-    → is_owed (before_other (is_news kept.length kept.fin c) (told kept c)) new ≡ adds service (Logged kept) p q t
-unfolding is_owed_by_law answered_on
-owed_is service p q t c new kept n m name answered after closed =
+    → is_ack_pending (before_other (is_news kept.length kept.fin c) (told kept c)) new ≡ adds service (Logged kept) p q t
+unfolding is_ack_pending_by_law answered_on
+ack_pending_is service p q t c new kept n m name answered after closed =
     let more : is_news kept.length kept.fin c ≡ nat_lt p.answered q.answered =
     (λ j. nat_lt (answered j) (kept.length + one_if kept.fin)) ∙ raises p.answered (kept.length + one_if kept.fin) ∙ (λ j. nat_lt p.answered (sym after j)) in
     (λ j. more j || (is_closed (name j) && (false || not (n.edge j == m.edge j))))
-    ∙ owed_more (nat_lt p.answered q.answered) (is_closed t.name) (not (taken_units p == taken_units q)) (not (announced_edge p == announced_edge q)) (λ h. off_differs (taken_units p) (taken_units q) (sym (closed h).1))
+    ∙ ack_pending_more (nat_lt p.answered q.answered) (is_closed t.name) (not (taken_units p == taken_units q)) (not (advertised_edge p == advertised_edge q)) (λ h. off_differs (taken_units p) (taken_units q) (sym (closed h).1))
 
 has_heard : {S : Type 0} (service : Machine S) (p : Point) (c : ConnState S) (kept : Kept) → Keeps p c → c.endpoint.local ≡ c.local → p.reset ≡ false → HasNews (Logged kept) p (told kept c)
 unfolding answered_after taken_after fin_after acknowledged_after
@@ -76,7 +76,7 @@ has_heard service p c kept keeps local unreset = record {
 }
 
 live_turn : {S : Type 0} (service : Machine S) (p : Point) (c new : ConnState S) (kept : Kept) (out messages : List (List ℕ)) → IsSound c → IsSound new → Keeps p c → StandsLive service p c
-    → p.reset ≡ false → GoesOn service.after (before_other (is_news kept.length kept.fin c) (told kept c)) false [] (told kept c) new out messages
+    → p.reset ≡ false → CompletesTurn service.after (before_other (is_news kept.length kept.fin c) (told kept c)) false [] (told kept c) new out messages
     → Leads service c.local c.boot (Logged kept) p new out messages
 unfolding answered_after acknowledged_after reset_after
 live_turn service p c new kept out messages sound sound_new keeps live unreset k =
@@ -94,14 +94,14 @@ live_turn service p c new kept out messages sound sound_new keeps live unreset k
     let here : PartsTurn service c.local c.boot live.u live.i c.south.delta news p (lengths_of reads) new.north t =
     subst (λ a. PartsTurn service a c.boot live.u live.i c.south.delta news p (lengths_of reads) new.north t) live.local turn in
     let q : Point = here.after in
-    let owed : PartsTell service c.south.delta q new.north (flushed t) → is_owed (before_other (is_news kept.length kept.fin c) there) (turn_ended (served new.north reads there)) ≡ adds service news p q t = λ after.
-    owed_is service p q t c (turn_ended (served new.north reads there)) kept (numbers_at service c.south.delta p c tell keeps.fetched stand.north.read)
+    let ack_pending : PartsTell service c.south.delta q new.north (flushed t) → is_ack_pending (before_other (is_news kept.length kept.fin c) there) (turn_ended (served new.north reads there)) ≡ adds service news p q t = λ after.
+    ack_pending_is service p q t c (turn_ended (served new.north reads there)) kept (numbers_at service c.south.delta p c tell keeps.fetched stand.north.read)
     (numbers_at service c.south.delta q (turn_ended (served new.north reads there)) after (keeps.fetched ∙ sym here.goes.same.fetched) here.rest.stand.north.read) (flushed_name t)
     (ap (λ (s : SouthState). s.answered) keeps.south) here.goes.answered here.closed in
     let goes_out = subst (λ (n : ConnState _). out ≡ packets (leaves (before_other (is_news kept.length kept.fin c) there) false n (leaving t))) k.state k.goes_out in
     let leads : Leads service c.local c.boot news p (turn_ended (served new.north reads there)) out messages =
     carries_on service live.u live.i news p there new.north reads (before_other (is_news kept.length kept.fin c) there) false [] out messages (has_heard service p c kept keeps live.local unreset) refl unreset
-    sound_new.parts.made here there.north.reads k.north.told owed refl (sym (none_of_logged kept p q)) goes_out k.told in
+    sound_new.parts.made here there.north.reads k.north.told ack_pending refl (sym (none_of_logged kept p q)) goes_out k.told in
     subst (λ n. Leads service c.local c.boot news p n out messages) (sym k.state) leads
 
 rests_turn : {S : Type 0} (service : Machine S) (p : Point) (c new : ConnState S) (kept : Kept) (out messages : List (List ℕ)) → Keeps p c → StandsReset service p c → p.reset ≡ true
@@ -129,10 +129,10 @@ hears service p c new kept out messages sound sound_new st r =
     by_cases c.reset
     (λ on. let is_reset : p.reset ≡ true = sym st.keeps.reset ∙ on in rests_turn service p c new kept out messages st.keeps (parts_reset service c p st is_reset) is_reset
     (subst (λ b. MatchBool b (Rests (told kept c) new out messages)
-    (GoesOn service.after (before_other (is_news kept.length kept.fin c) (told kept c)) false [] (told kept c) new out messages)) on r))
+    (CompletesTurn service.after (before_other (is_news kept.length kept.fin c) (told kept c)) false [] (told kept c) new out messages)) on r))
     (λ off. let unreset : p.reset ≡ false = sym st.keeps.reset ∙ off in live_turn service p c new kept out messages sound sound_new st.keeps (parts_live service c p st unreset) unreset
     (subst (λ b. MatchBool b (Rests (told kept c) new out messages)
-    (GoesOn service.after (before_other (is_news kept.length kept.fin c) (told kept c)) false [] (told kept c) new out messages)) off r))
+    (CompletesTurn service.after (before_other (is_news kept.length kept.fin c) (told kept c)) false [] (told kept c) new out messages)) off r))
 
 -- it becomes live
 has_begun : {S : Type 0} (p : Point) (c : ConnState S) → Keeps p c → c.endpoint.local ≡ c.local → p.reset ≡ false → HasNews Begins p c
@@ -151,7 +151,7 @@ has_begun p c keeps local unreset = record {
 pub begins_with : {S : Type 0} (service : Machine S) (u i : ℕ) (p : Point) (c new : ConnState S) (out messages : List (List ℕ)) → Keeps p c → c.endpoint.local ≡ c.local → p.reset ≡ false
     → new.north.run.made ≤ 2 ^ 24
     → PartsTurn service c.local c.boot u i c.south.delta Begins p (lengths_of (new_reads c new)) new.north (tcp_used c (new_reads c new))
-    → GoesOn service.after (before_other true c) false [] c new out messages → Leads service c.local c.boot Begins p new out messages
+    → CompletesTurn service.after (before_other true c) false [] c new out messages → Leads service c.local c.boot Begins p new out messages
 unfolding reset_after
 begins_with service u i p c new out messages keeps local unreset made here k =
     let reads : List ReadRecord = new_reads c new in

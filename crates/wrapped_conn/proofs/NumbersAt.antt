@@ -4,7 +4,7 @@ use Rattle.std.specs.Prelude.{◌||◌}
 use Rattle.seq_arith.specs.Number.{number_at, distance}
 use Rattle.seq_arith.specs.Offset.{one_if}
 use Rattle.server_trait.specs.Service.{Machine}
-use Rattle.ft_model.specs.Point.{Point, taken_units, announced_edge, is_over as is_over_by_law}
+use Rattle.ft_model.specs.Point.{Point, taken_units, advertised_edge, is_over as is_over_by_law}
 use Rattle.ft_model.specs.News.{News}
 use Rattle.ft_model.specs.Sending.{acknowledged_after}
 use Rattle.tcp_endpoint.specs.declared.states.StateName.{StateName}
@@ -15,7 +15,7 @@ use Rattle.endpoint_laws.specs.Ending.{has_taken_fin}
 use Rattle.connection_laws.specs.Telling.{PartsTell, NewsTell, units_before, raised_by}
 use Rattle.wrapped_conn.specs.ConnState.{ConnState}
 use Rattle.wrapped_conn.specs.Standing.{TcpTells}
-use Rattle.wrapped_conn.specs.Numbers.{has_fin, is_over, bytes_taken, units_taken, announced, una_units, logged_units, outer_sent}
+use Rattle.wrapped_conn.specs.Numbers.{has_fin, is_over, bytes_taken, units_taken, advertised, una_units, logged_units, outer_sent}
 use Rattle.wrapped_conn.proofs.Ended.{few_units, units_of}
 
 pub has_fin_is : (name : StateName) → has_fin name ≡ (has_taken_fin name || is_closed name)
@@ -48,7 +48,7 @@ pub record NumbersAt {S : Type 0} (service : Machine S) (p : Point) (c : ConnSta
   pub bytes : bytes_taken c ≡ length p.taken
   pub fin : has_fin c.endpoint.name ≡ p.fin
   pub units : units_taken c ≡ taken_units p
-  pub edge : announced c ≡ announced_edge p
+  pub edge : advertised c ≡ advertised_edge p
   pub over : is_over c.endpoint.name ≡ is_over_by_law service p
 
 pub numbers_at : {S : Type 0} (service : Machine S) (delta : ℕ) (p : Point) (c : ConnState S) → PartsTell service delta p c.north c.endpoint → c.fetched ≡ p.fetched → c.north.read ≡ sum p.lengths

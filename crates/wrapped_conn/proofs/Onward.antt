@@ -13,16 +13,16 @@ use Rattle.wrapped_conn.specs.declared.stage.Before.{Before}
 use Rattle.wrapped_conn.specs.ConnState.{ConnState}
 use Rattle.wrapped_conn.specs.Numbers.{una_units}
 use Rattle.connection_laws.specs.Feeding.{tcp_reader, tcp_writer}
-use Rattle.wrapped_conn.specs.Leaving.{turn_ended, passed, syn_ack, bare, is_owed, leaves}
+use Rattle.wrapped_conn.specs.Leaving.{turn_ended, passed, syn_ack, bare, is_ack_pending, leaves}
 use Rattle.wrapped_conn.specs.Telling.{spelled}
-use Rattle.wrapped_conn.specs.Turning.{tcp_used, served, new_reads, GoesOn}
+use Rattle.wrapped_conn.specs.Turning.{tcp_used, served, new_reads, CompletesTurn}
 use Rattle.ft_model.proofs.Resumed.{map_append}
 
-bare_packets : (owed : Bool) (segment : Segment) (segments : List Segment) → or_bare owed (spelling segment) (packets segments) ≡ packets (or_bare owed segment segments)
+bare_packets : (ack_pending : Bool) (segment : Segment) (segments : List Segment) → or_bare ack_pending (spelling segment) (packets segments) ≡ packets (or_bare ack_pending segment segments)
 unfolding packets
 bare_packets true segment [] = refl
 bare_packets false segment [] = refl
-bare_packets owed segment (first ∷ segments) = refl
+bare_packets ack_pending segment (first ∷ segments) = refl
 
 with_syn_ack : (repeats : Bool) (segment : Segment) (segments : List Segment)
     → (if repeats then packets segments ++ spelling segment ∷ [] else packets segments) ≡ packets (segments ++ (if repeats then segment ∷ [] else []))
@@ -30,26 +30,26 @@ unfolding packets
 with_syn_ack true segment segments = sym (map_append spelling segments (segment ∷ []))
 with_syn_ack false segment segments = ap packets (sym (append-nil segments))
 
-pub goes_on : {S : Type 0} (after : S → List ℕ → Served S) (before : Before) (repeats owed : Bool) (copied : List Body) (old mid new : ConnState S) (north : NorthState S) (news : List ReadRecord)
+pub goes_on : {S : Type 0} (after : S → List ℕ → Served S) (before : Before) (repeats ack_pending : Bool) (copied : List Body) (old mid new : ConnState S) (north : NorthState S) (news : List ReadRecord)
     (out with_opening whole told told_on : List (List ℕ)) → Turns after tcp_reader tcp_writer (una_units old) old.north old.endpoint news north (tcp_used old news) → mid ≡ served north news old
     → new ≡ turn_ended mid → out ≡ packets (passed (turn_ended mid).south (leaving mid.endpoint))
-    → with_opening ≡ (if repeats then out ++ spelling (syn_ack new) ∷ [] else out) → owed ≡ is_owed before new → whole ≡ or_bare owed (spelling (bare new)) with_opening
+    → with_opening ≡ (if repeats then out ++ spelling (syn_ack new) ∷ [] else out) → ack_pending ≡ is_ack_pending before new → whole ≡ or_bare ack_pending (spelling (bare new)) with_opening
     → told ≡ spelled old.boot copied → told_on ≡ told ++ spelled new.boot (messages_of new.key news)
-    → GoesOn after before repeats copied old new whole told_on
-goes_on {S} after before repeats owed copied old mid new north news out with_opening whole told told_on turn mid_is new_is out_is opening_is owed_is whole_is told_is on_is =
+    → CompletesTurn after before repeats copied old new whole told_on
+goes_on {S} after before repeats ack_pending copied old mid new north news out with_opening whole told told_on turn mid_is new_is out_is opening_is ack_pending_is whole_is told_is on_is =
     let q : ConnState S = turn_ended (served north news old) in
     let is : new ≡ q = new_is ∙ ap turn_ended mid_is in
     let reads : new_reads old q ≡ news = ap (drop (length old.north.reads)) turn.told ∙ drop-append_seam old.north.reads news in
     let sent : List Segment = leaving (tcp_used old news) in
     let out_q : out ≡ packets (passed q.south sent) = out_is ∙ ap (λ (m : ConnState S). packets (passed (turn_ended m).south (leaving m.endpoint))) mid_is in
     let all : whole ≡ packets (leaves before repeats q sent) =
-    whole_is ∙ (λ j. or_bare (owed_is j) (spelling (bare new)) (opening_is j))
-    ∙ (λ j. or_bare (is_owed before (is j)) (spelling (bare (is j))) (if repeats then out_q j ++ spelling (syn_ack (is j)) ∷ [] else out_q j))
-    ∙ ap (or_bare (is_owed before q) (spelling (bare q))) (with_syn_ack repeats (syn_ack q) (passed q.south sent))
-    ∙ bare_packets (is_owed before q) (bare q) (passed q.south sent ++ (if repeats then syn_ack q ∷ [] else [])) in
+    whole_is ∙ (λ j. or_bare (ack_pending_is j) (spelling (bare new)) (opening_is j))
+    ∙ (λ j. or_bare (is_ack_pending before (is j)) (spelling (bare (is j))) (if repeats then out_q j ++ spelling (syn_ack (is j)) ∷ [] else out_q j))
+    ∙ ap (or_bare (is_ack_pending before q) (spelling (bare q))) (with_syn_ack repeats (syn_ack q) (passed q.south sent))
+    ∙ bare_packets (is_ack_pending before q) (bare q) (passed q.south sent ++ (if repeats then syn_ack q ∷ [] else [])) in
     let messages : told_on ≡ spelled old.boot (copied ++ messages_of old.key news) =
     on_is ∙ (λ j. told_is j ++ spelled (is j).boot (messages_of (is j).key news)) ∙ sym (map_append _ copied (messages_of old.key news)) in
-    subst (λ x. GoesOn after before repeats copied old x whole told_on) (sym is) (record {
+    subst (λ x. CompletesTurn after before repeats copied old x whole told_on) (sym is) (record {
       north = subst (λ r. Turns after tcp_reader tcp_writer (una_units old) old.north old.endpoint r north (tcp_used old r)) (sym reads) turn;
       state = ap (λ r. turn_ended (served north r old)) (sym reads);
       goes_out = all ∙ ap (λ r. packets (leaves before repeats q (leaving (tcp_used old r)))) (sym reads);

@@ -6,19 +6,19 @@ use Rattle.seq_arith.specs.Arrival.{int_eq, is_acceptable_or_at_edge}
 use Rattle.seq_arith.specs.Offset.{first_of, ack_of, length_of}
 use Rattle.seq_arith.specs.Packet.{Segment, has_rst, has_syn, has_ack}
 use Rattle.server_trait.specs.Service.{Machine}
-use Rattle.ft_model.specs.Owed.{is_refused, owes as owes_by_law}
-use Rattle.ft_model.specs.Point.{Point, taken_units, announced_edge}
+use Rattle.ft_model.specs.Owed.{is_refused, needs_ack as needs_ack_by_law}
+use Rattle.ft_model.specs.Point.{Point, taken_units, advertised_edge}
 use Rattle.ft_model.specs.Taken.{accepts as accepts_by_law}
 use Rattle.wrapped_conn.specs.ConnState.{ConnState}
-use Rattle.wrapped_conn.specs.Numbers.{owes}
+use Rattle.wrapped_conn.specs.Numbers.{needs_ack}
 use Rattle.wrapped_conn.proofs.NumbersAt.{NumbersAt}
 
-pub owed_same : (a o other e closed more taken : Bool) → more ≡ false → (closed ≡ true → taken ≡ false) → (closed ≡ true → o ≡ other)
+pub ack_pending_same : (a o other e closed more taken : Bool) → more ≡ false → (closed ≡ true → taken ≡ false) → (closed ≡ true → o ≡ other)
     → (a || (closed && (o || e))) ≡ ((a || more) || (closed && ((((other || a) || more) || taken) || e)))
-owed_same a o other e closed true taken none t s = absurd (false≢true (sym none))
-owed_same true o other e closed false taken none t s = refl
-owed_same false o other e false false taken none t s = refl
-owed_same false o other e true false taken none t s = (λ j. s refl j || e) ∙ without other taken e (t refl)
+ack_pending_same a o other e closed true taken none t s = absurd (false≢true (sym none))
+ack_pending_same true o other e closed false taken none t s = refl
+ack_pending_same false o other e false false taken none t s = refl
+ack_pending_same false o other e true false taken none t s = (λ j. s refl j || e) ∙ without other taken e (t refl)
   where
     without : (other taken e : Bool) → taken ≡ false → (other || e) ≡ ((((other || false) || false) || taken) || e)
     without other true e h = absurd (false≢true (sym h))
@@ -32,21 +32,21 @@ acceptable false true text false place h = refl
 acceptable false false text false place h = refl
 
 -- the answer that a connection owes by its numbers
-abbrev owes_at : (units edge : ℕ) → (first : ℤ) → Segment → Bool
-owes_at units edge first segment =
+abbrev needs_ack_at : (units edge : ℕ) → (first : ℤ) → Segment → Bool
+needs_ack_at units edge first segment =
     if is_acceptable_or_at_edge units (edge - units) first (length_of segment)
     then (if has_rst segment then not (int_eq first (pos units))
     else (has_syn segment || nat_lt 0 (length_of segment)))
     else not (has_rst segment)
 
-by_law : (p : Point) (segment : Segment) → p.syn_acked ≡ true → owes_at (taken_units p) (announced_edge p) (first_of p.cisn segment) segment ≡ owes_by_law p segment
-unfolding owes_by_law accepts_by_law
+by_law : (p : Point) (segment : Segment) → p.syn_acked ≡ true → needs_ack_at (taken_units p) (advertised_edge p) (first_of p.cisn segment) segment ≡ needs_ack_by_law p segment
+unfolding needs_ack_by_law accepts_by_law
 by_law p segment syn_acked =
     let off : is_refused p segment ≡ false = λ j. not (syn_acked j) && has_ack segment && int_lt (ack_of p.sisn segment) (pos 0) in
-    λ j. if is_acceptable_or_at_edge (taken_units p) (announced_edge p - taken_units p) (first_of p.cisn segment) (length_of segment)
+    λ j. if is_acceptable_or_at_edge (taken_units p) (advertised_edge p - taken_units p) (first_of p.cisn segment) (length_of segment)
     then acceptable (has_rst segment) (has_syn segment) (nat_lt 0 (length_of segment)) (is_refused p segment) (not (int_eq (first_of p.cisn segment) (pos (taken_units p)))) off j
     else not (has_rst segment)
 
-pub owes_is : {S : Type 0} (service : Machine S) (p : Point) (c : ConnState S) (segment : Segment) → NumbersAt service p c → c.south.cisn ≡ p.cisn → p.syn_acked ≡ true → owes c segment ≡ owes_by_law p segment
-unfolding owes
-owes_is service p c segment n cisn syn_acked = (λ j. owes_at (n.units j) (n.edge j) (first_of (cisn j) segment) segment) ∙ by_law p segment syn_acked
+pub needs_ack_is : {S : Type 0} (service : Machine S) (p : Point) (c : ConnState S) (segment : Segment) → NumbersAt service p c → c.south.cisn ≡ p.cisn → p.syn_acked ≡ true → needs_ack c segment ≡ needs_ack_by_law p segment
+unfolding needs_ack
+needs_ack_is service p c segment n cisn syn_acked = (λ j. needs_ack_at (n.units j) (n.edge j) (first_of (cisn j) segment) segment) ∙ by_law p segment syn_acked

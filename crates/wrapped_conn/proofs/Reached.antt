@@ -13,7 +13,7 @@ use Rattle.tcp_endpoint.specs.Tcb.{Tcb}
 use Rattle.wrapped_conn.specs.ConnState.{ConnState}
 use Rattle.wrapped_conn.specs.Arriving.{reached}
 use Rattle.wrapped_conn.specs.Sound.{IsSound}
-use Rattle.wrapped_conn.proofs.Arrives.{Fits, segment_goes}
+use Rattle.wrapped_conn.proofs.Arrives.{HasFieldsInRange, segment_goes}
 use Rattle.wrapped_conn.proofs.SoundAgain.{sound_with}
 use Rattle.ft_io.proofs.Choices.{if_false}
 
@@ -45,7 +45,7 @@ reached_by c (Ok segment) south seen t kept pass read is =
     let e : t ≡ received c.endpoint (inward c.south segment) = is ∙ ap (received c.endpoint) same in
     (λ j. record c { south = kept j; endpoint = e j }) ∙ sym (if_false (repeats_syn c.south segment) c (record c { endpoint = received c.endpoint (inward c.south segment) }) off)
 
-pub sound_received : {S : Type 0} (c : ConnState S) (south : SouthState) (segment : Segment) (t : Tcb) → IsSound c → Fits segment → south ≡ c.south → t ≡ received c.endpoint segment
+pub sound_received : {S : Type 0} (c : ConnState S) (south : SouthState) (segment : Segment) (t : Tcb) → IsSound c → HasFieldsInRange segment → south ≡ c.south → t ≡ received c.endpoint segment
     → IsSound (record c { south = south; endpoint = t })
 sound_received c south segment t s fits kept is =
     subst (λ x. IsSound (record c { south = x; endpoint = t })) (sym kept)

@@ -12,8 +12,8 @@ use Rattle.ft_model.specs.Copy.{copies as copies_by_law}
 use Rattle.ft_model.specs.Ending.{reset_after, dones as dones_by_law}
 use Rattle.ft_model.specs.News.{News}
 use Rattle.ft_model.specs.News.News.{Comes, Begins}
-use Rattle.ft_model.specs.Owed.{is_owed as is_owed_by_law, owes as owes_by_law}
-use Rattle.ft_model.specs.Point.{Point, taken_units, announced_edge, is_over}
+use Rattle.ft_model.specs.Owed.{is_ack_pending as is_ack_pending_by_law, needs_ack as needs_ack_by_law}
+use Rattle.ft_model.specs.Point.{Point, taken_units, advertised_edge, is_over}
 use Rattle.ft_model.specs.Sending.{acknowledged_after}
 use Rattle.north_wrap.specs.declared.read_record.ReadRecord.{ReadRecord}
 use Rattle.north_wrap.specs.NorthState.{lengths_of, Turns as NorthTurns}
@@ -34,17 +34,17 @@ use Rattle.connection_laws.proofs.Together.{turns_together}
 use Rattle.endpoint_laws.proofs.EndingLaw.{flushed_name}
 use Rattle.wrapped_conn.specs.ConnState.{ConnState}
 use Rattle.connection_laws.specs.Feeding.{tcp_reader, tcp_writer}
-use Rattle.wrapped_conn.specs.Numbers.{una_units, resets, owes}
+use Rattle.wrapped_conn.specs.Numbers.{una_units, resets, needs_ack}
 use Rattle.wrapped_conn.specs.Arriving.{arrived, reached, noted, before_segment}
-use Rattle.wrapped_conn.specs.Leaving.{is_owed, leaves, turn_ended}
+use Rattle.wrapped_conn.specs.Leaving.{is_ack_pending, leaves, turn_ended}
 use Rattle.wrapped_conn.specs.Telling.{copies, spelled}
-use Rattle.wrapped_conn.specs.Turning.{GoesOn, Rests, TellsDone, Receives, served, tcp_used, new_reads}
+use Rattle.wrapped_conn.specs.Turning.{CompletesTurn, Rests, TellsDone, Receives, served, tcp_used, new_reads}
 use Rattle.wrapped_conn.specs.Sound.{IsSound}
 use Rattle.wrapped_conn.specs.Standing.{Keeps, TcpTells, StandsLive, StandsReset, Stands, Leads}
 use Rattle.wrapped_conn.proofs.Locals.{received_local}
 use Rattle.wrapped_conn.proofs.Ended.{HasNews, carries_on}
 use Rattle.wrapped_conn.proofs.NumbersAt.{NumbersAt, numbers_at, has_fin_is, una_is, news_una_is, tcp_tells, logged_is}
-use Rattle.wrapped_conn.proofs.Owing.{owed_same, owes_is}
+use Rattle.wrapped_conn.proofs.Owing.{ack_pending_same, needs_ack_is}
 use Rattle.wrapped_conn.proofs.Copies.{copies_is}
 use Rattle.wrapped_conn.proofs.Resetting.{reset_point, resets_on, dones_are, still_unanswered}
 use Rattle.ft_io.proofs.Choices.{by_cases}
@@ -105,19 +105,19 @@ pub off_differs : (a b : ℕ) → a ≡ b → not (a == b) ≡ false
 off_differs a b h = grind (arith, h)
 
 -- what the connection adds is what the law adds
-owed_is : {S : Type 0} (service : Machine S) (p q : Point) (t : Tcb) (c new : ConnState S) (segment : Segment) → NumbersAt service p c → NumbersAt service q new → c.south.cisn ≡ p.cisn
+ack_pending_is : {S : Type 0} (service : Machine S) (p q : Point) (t : Tcb) (c new : ConnState S) (segment : Segment) → NumbersAt service p c → NumbersAt service q new → c.south.cisn ≡ p.cisn
     → new.endpoint.name ≡ t.name → q.answered ≡ p.answered → (is_closed t.name ≡ true → (p.syn_acked ≡ true) × (taken_units q ≡ taken_units p))
-    → is_owed (before_segment c segment) new ≡ adds service (Comes segment) p q t
-unfolding is_owed_by_law
-owed_is service p q t c new segment n m cisn name answered closed =
-    (λ j. (n.over j && not (has_rst segment)) || (is_closed (name j) && (owes c segment || not (n.edge j == m.edge j))))
-    ∙ owed_same (is_over service p && not (has_rst segment)) (owes c segment) (owes_by_law p segment) (not (announced_edge p == announced_edge q)) (is_closed t.name) (nat_lt p.answered q.answered)
-    (not (taken_units p == taken_units q)) (same_answered p.answered q.answered answered) (λ h. off_differs (taken_units p) (taken_units q) (sym (closed h).1)) (λ h. owes_is service p c segment n cisn (closed h).0)
+    → is_ack_pending (before_segment c segment) new ≡ adds service (Comes segment) p q t
+unfolding is_ack_pending_by_law
+ack_pending_is service p q t c new segment n m cisn name answered closed =
+    (λ j. (n.over j && not (has_rst segment)) || (is_closed (name j) && (needs_ack c segment || not (n.edge j == m.edge j))))
+    ∙ ack_pending_same (is_over service p && not (has_rst segment)) (needs_ack c segment) (needs_ack_by_law p segment) (not (advertised_edge p == advertised_edge q)) (is_closed t.name) (nat_lt p.answered q.answered)
+    (not (taken_units p == taken_units q)) (same_answered p.answered q.answered answered) (λ h. off_differs (taken_units p) (taken_units q) (sym (closed h).1)) (λ h. needs_ack_is service p c segment n cisn (closed h).0)
 
 -- a segment that doesn't reset it
 live_turn : {S : Type 0} (service : Machine S) (p : Point) (c new : ConnState S) (segment : Segment) (out messages : List (List ℕ)) → IsSound c → IsSound new → Keeps p c → StandsLive service p c
     → p.reset ≡ false → reset_after (Comes segment) p ≡ false → NewsFit p (Comes segment)
-    → GoesOn service.after (before_segment c segment) (repeats_syn c.south segment) (copies (before_segment c segment) segment (come segment p c)) (come segment p c) new out messages
+    → CompletesTurn service.after (before_segment c segment) (repeats_syn c.south segment) (copies (before_segment c segment) segment (come segment p c)) (come segment p c) new out messages
     → Leads service c.local c.boot (Comes segment) p new out messages
 unfolding answered_after
 live_turn service p c new segment out messages sound sound_new keeps live unreset off fits k =
@@ -160,13 +160,13 @@ live_turn service p c new segment out messages sound sound_new keeps live unrese
       unread = (λ j. drop (max (keeps.fetched j) c.north.read) (here.goes.taken j)) ∙ told.unread;
       behind = omega arith;
     }) in
-    let owed : PartsTell service c.south.delta q new.north (flushed t) → is_owed (before_segment c segment) (turn_ended (served new.north reads there)) ≡ adds service news p q t = λ tell.
-    owed_is service p q t c (turn_ended (served new.north reads there)) segment numbers
+    let ack_pending : PartsTell service c.south.delta q new.north (flushed t) → is_ack_pending (before_segment c segment) (turn_ended (served new.north reads there)) ≡ adds service news p q t = λ tell.
+    ack_pending_is service p q t c (turn_ended (served new.north reads there)) segment numbers
     (numbers_at service c.south.delta q (turn_ended (served new.north reads there)) tell (keeps.fetched ∙ sym here.goes.same.fetched) here.rest.stand.north.read) cisn (flushed_name t) answered here.closed in
     let goes_out = subst (λ (n : ConnState _). out ≡ packets (leaves (before_segment c segment) (repeats_syn c.south segment) n (leaving t))) k.state k.goes_out in
     let leads : Leads service c.local c.boot news p (turn_ended (served new.north reads there)) out messages =
     carries_on service live.u live.i news p there new.north reads (before_segment c segment) (repeats_syn c.south segment) (copies (before_segment c segment) segment there) out messages h refl off sound_new.parts.made here
-    there.north.reads k.north.told owed (λ j. repeats_syn (keeps.south j) segment) copy goes_out k.told in
+    there.north.reads k.north.told ack_pending (λ j. repeats_syn (keeps.south j) segment) copy goes_out k.told in
     subst (λ n. Leads service c.local c.boot news p n out messages) (sym k.state) leads
 
 -- one that resets it
@@ -230,7 +230,7 @@ receives service p c new segment out messages sound sound_new st fits r =
     (λ on. let off_p : p.reset ≡ true = sym keeps.reset ∙ on in rests_turn service p c new segment out messages keeps (parts_reset service c p st off_p) off_p
     (subst (λ b. MatchBool b (Rests c new out messages)
     (MatchBool (resets c segment) (TellsDone (record c { reset = true }) new out messages)
-    (GoesOn service.after (before_segment c segment) (repeats_syn c.south segment) (copies (before_segment c segment) segment (arrived segment c)) (arrived segment c) new out messages))) on r))
+    (CompletesTurn service.after (before_segment c segment) (repeats_syn c.south segment) (copies (before_segment c segment) segment (arrived segment c)) (arrived segment c) new out messages))) on r))
     (λ off. let unreset : p.reset ≡ false = sym keeps.reset ∙ off in
     let live : StandsLive service p c = parts_live service c p st unreset in
     let tell : PartsTell service c.south.delta p c.north c.endpoint = parts_tell service live.u live.i c.south.delta live.given p c.north c.endpoint live.parts.stand in
@@ -238,12 +238,12 @@ receives service p c new segment out messages sound sound_new st fits r =
     let same : reset_after (Comes segment) p ≡ resets c segment = reset_is service p c segment numbers (ap (λ (s : SouthState). s.cisn) keeps.south) unreset in
     let later = subst (λ b. MatchBool b (Rests c new out messages)
     (MatchBool (resets c segment) (TellsDone (record c { reset = true }) new out messages)
-    (GoesOn service.after (before_segment c segment) (repeats_syn c.south segment) (copies (before_segment c segment) segment (arrived segment c)) (arrived segment c) new out messages))) off r in
+    (CompletesTurn service.after (before_segment c segment) (repeats_syn c.south segment) (copies (before_segment c segment) segment (arrived segment c)) (arrived segment c) new out messages))) off r in
     by_cases (resets c segment)
     (λ on. reset_turn service p c new segment out messages sound keeps live unreset (same ∙ on)
     (subst (λ b. MatchBool b (TellsDone (record c { reset = true }) new out messages)
-    (GoesOn service.after (before_segment c segment) (repeats_syn c.south segment) (copies (before_segment c segment) segment (arrived segment c)) (arrived segment c) new out messages)) on later))
+    (CompletesTurn service.after (before_segment c segment) (repeats_syn c.south segment) (copies (before_segment c segment) segment (arrived segment c)) (arrived segment c) new out messages)) on later))
     (λ none. live_turn service p c new segment out messages sound sound_new keeps live unreset (same ∙ none) fits
-    (subst (λ x. GoesOn service.after (before_segment c segment) (repeats_syn c.south segment) (copies (before_segment c segment) segment x) x new out messages) (come_is segment p c keeps.south)
+    (subst (λ x. CompletesTurn service.after (before_segment c segment) (repeats_syn c.south segment) (copies (before_segment c segment) segment x) x new out messages) (come_is segment p c keeps.south)
     (subst (λ b. MatchBool b (TellsDone (record c { reset = true }) new out messages)
-    (GoesOn service.after (before_segment c segment) (repeats_syn c.south segment) (copies (before_segment c segment) segment (arrived segment c)) (arrived segment c) new out messages)) none later))))
+    (CompletesTurn service.after (before_segment c segment) (repeats_syn c.south segment) (copies (before_segment c segment) segment (arrived segment c)) (arrived segment c) new out messages)) none later))))

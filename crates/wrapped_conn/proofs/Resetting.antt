@@ -12,7 +12,7 @@ use Rattle.ft_model.specs.News.{News}
 use Rattle.ft_model.specs.Point.{Point}
 use Rattle.north_wrap.specs.NorthState.{NorthState}
 use Rattle.north_wrap.specs.Standing.{NorthStands}
-use Rattle.connection_laws.specs.Standing.{heard}
+use Rattle.connection_laws.specs.Standing.{north_after_news}
 use Rattle.connection_laws.proofs.Joining.{reset_hears}
 use Rattle.tcp_endpoint.specs.Leaving.{packets}
 use Rattle.wrapped_conn.specs.declared.stage.ConnStage.{ConnStage}
@@ -27,13 +27,13 @@ abbrev pub reset_point : News → Point → Point
 reset_point news p = record p { answered = answered_after news p; reads_answered = reads_answered_after news p; reset = true }
 
 pub resets_on : {S : Type 0} (service : Machine S) (server : Addr) (boot given : ℕ) (news : News) (p : Point) (n : NorthState S) (new : ConnState S) (out messages : List (List ℕ))
-    → reset_after news p ≡ true → NorthStands service p given n → new.north ≡ heard news n → Keeps (reset_point news p) new → TcpTells (reset_point news p) new
+    → reset_after news p ≡ true → NorthStands service p given n → new.north ≡ north_after_news news n → Keeps (reset_point news p) new → TcpTells (reset_point news p) new
     → out ≡ [] → messages ≡ spelled boot (dones_by_law news p (reset_point news p)) → Leads service server boot news p new out messages
 unfolding packets
 resets_on service server boot given news p n new out messages is_reset north hears keeps tells silent told =
     let q : Point = reset_point news p in
     let turn : ResetTurn boot news p q (map (told_by boot) (dones_by_law news p q)) = record { point = refl; packets = refl } in
-    let stands : NorthStands service q given (heard news n) = reset_hears service boot news p q given n (map (told_by boot) (dones_by_law news p q)) north turn in
+    let stands : NorthStands service q given (north_after_news news n) = reset_hears service boot news p q given n (map (told_by boot) (dones_by_law news p q)) north turn in
     record {
       after = q;
       sent = map (told_by boot) (dones_by_law news p q);

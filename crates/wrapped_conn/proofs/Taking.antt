@@ -12,7 +12,7 @@ use Rattle.wrapped_conn.specs.declared.stage.Before.{Before}
 use Rattle.wrapped_conn.specs.ConnState.{ConnState}
 use Rattle.wrapped_conn.specs.Arriving.{arrived, before_segment}
 use Rattle.wrapped_conn.specs.Telling.{copies, spelled}
-use Rattle.wrapped_conn.specs.Turning.{GoesOn}
+use Rattle.wrapped_conn.specs.Turning.{CompletesTurn}
 use Rattle.wrapped_conn.proofs.Copied.{of_read, same_boot}
 
 -- what is copied of it
@@ -30,8 +30,8 @@ told_now old mid before bytes told ok arrive said =
 
 pub takes : {S : Type 0} (after : S → List ℕ → Served S) (old mid new : ConnState S) (before : Before) (repeats : Bool) (bytes : List ℕ) (out told : List (List ℕ)) → IsOk (reading bytes)
     → IfOk (reading bytes) (λ segment. before ≡ before_segment old segment) → IfOk (reading bytes) (λ segment. repeats ≡ repeats_syn old.south segment)
-    → IfOk (reading bytes) (λ segment. mid ≡ arrived segment old) → GoesOn after before repeats (copied_now old before bytes) mid new out told
-    → IfOk (reading bytes) (λ segment. GoesOn after (before_segment old segment) (repeats_syn old.south segment) (copies (before_segment old segment) segment (arrived segment old)) (arrived segment old) new out told)
+    → IfOk (reading bytes) (λ segment. mid ≡ arrived segment old) → CompletesTurn after before repeats (copied_now old before bytes) mid new out told
+    → IfOk (reading bytes) (λ segment. CompletesTurn after (before_segment old segment) (repeats_syn old.south segment) (copies (before_segment old segment) segment (arrived segment old)) (arrived segment old) new out told)
 takes after old mid new before repeats bytes out told ok known again arrive goes =
     let seg : Segment = segment_in bytes in
     let is : reading bytes ≡ Ok seg = is_read bytes ok in
@@ -39,6 +39,6 @@ takes after old mid new before repeats bytes out told ok known again arrive goes
     let r : repeats ≡ repeats_syn old.south seg = IfOk-at_ok (λ x. repeats ≡ repeats_syn old.south x) is again in
     let m : mid ≡ arrived seg old = IfOk-at_ok (λ x. mid ≡ arrived x old) is arrive in
     of_read bytes _ ok
-    (subst (λ x. GoesOn after x (repeats_syn old.south seg) (copies x seg (arrived seg old)) (arrived seg old) new out told) b
-    (subst (λ x. GoesOn after before x (copied_now old before bytes) (arrived seg old) new out told) r
-    (subst (λ x. GoesOn after before repeats (copied_now old before bytes) x new out told) m goes)))
+    (subst (λ x. CompletesTurn after x (repeats_syn old.south seg) (copies x seg (arrived seg old)) (arrived seg old) new out told) b
+    (subst (λ x. CompletesTurn after before x (copied_now old before bytes) (arrived seg old) new out told) r
+    (subst (λ x. CompletesTurn after before repeats (copied_now old before bytes) x new out told) m goes)))

@@ -9,7 +9,7 @@ use Rattle.tcp_endpoint.specs.States.{is_closed}
 use Rattle.tcp_endpoint.specs.Leaving.{flushed, or_bare}
 use Rattle.wrapped_conn.specs.declared.stage.Before.{Before}
 use Rattle.wrapped_conn.specs.ConnState.{ConnState}
-use Rattle.wrapped_conn.specs.Numbers.{announced, outer_sent, sent_units}
+use Rattle.wrapped_conn.specs.Numbers.{advertised, outer_sent, sent_units}
 
 -- what TCP sends is passed to the client. A RST, which is sent alone, isn't
 abbrev pub passed : SouthState → List Segment → List Segment
@@ -48,10 +48,10 @@ bare c = own_segment c (outer_sent c) 16 None
 
 -- an ACK is pending that TCP doesn't send: TCP doesn't know that more is answered, or that the connection was over or has become live; and a TCP that is CLOSED
 -- sends none
-abbrev pub is_owed : {S : Type 0} → Before → ConnState S → Bool
-is_owed before c = before.asks || (is_closed c.endpoint.name && (before.owes || not (before.edge == announced c)))
+abbrev pub is_ack_pending : {S : Type 0} → Before → ConnState S → Bool
+is_ack_pending before c = before.asks || (is_closed c.endpoint.name && (before.needs_ack || not (before.edge == advertised c)))
 
 -- all segments that a turn sends, where TCP sends these
 abbrev pub leaves : {S : Type 0} → Before → (repeats : Bool) → ConnState S → List Segment → List Segment
 leaves before repeats c segments =
-    or_bare (is_owed before c) (bare c) (passed c.south segments ++ (if repeats then syn_ack c ∷ [] else []))
+    or_bare (is_ack_pending before c) (bare c) (passed c.south segments ++ (if repeats then syn_ack c ∷ [] else []))

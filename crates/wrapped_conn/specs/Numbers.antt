@@ -38,8 +38,8 @@ abbrev pub units_taken : {S : Type 0} → ConnState S → ℕ
 units_taken c = bytes_taken c + one_if (has_fin c.endpoint.name)
 
 -- the right edge that TCP advertises, as an offset
-abbrev pub announced : {S : Type 0} → ConnState S → ℕ
-announced c = min (fetched_or_read c + 65535) (2 ^ 24) + one_if (has_fin c.endpoint.name)
+abbrev pub advertised : {S : Type 0} → ConnState S → ℕ
+advertised c = min (fetched_or_read c + 65535) (2 ^ 24) + one_if (has_fin c.endpoint.name)
 
 -- the units of output that the client has acknowledged, 0 until the SYN is; a stream has at most 2^24 bytes and a FIN
 abbrev pub una_units : {S : Type 0} → ConnState S → ℕ
@@ -62,14 +62,14 @@ resets c segment = has_rst segment && int_eq (first_of c.south.cisn segment) (po
 
 -- RFC 9293, 3.10.7.4, first check: acceptable, or at the right edge
 abbrev pub accepts : {S : Type 0} → ConnState S → Segment → Bool
-accepts c segment = is_acceptable_or_at_edge (units_taken c) (announced c - units_taken c) (first_of c.south.cisn segment) (length_of segment)
+accepts c segment = is_acceptable_or_at_edge (units_taken c) (advertised c - units_taken c) (first_of c.south.cisn segment) (length_of segment)
 
 -- acceptable segments that make an ACK pending: a SYN, and a RST that isn't at the next number, get a challenge ACK, and a segment with a length an ACK ..
-abbrev pub owes_acceptable : {S : Type 0} → ConnState S → Segment → Bool
-owes_acceptable c segment =
+abbrev pub needs_ack_if_acceptable : {S : Type 0} → ConnState S → Segment → Bool
+needs_ack_if_acceptable c segment =
     if has_rst segment then not (int_eq (first_of c.south.cisn segment) (pos (units_taken c)))
     else (has_syn segment || nat_lt 0 (length_of segment))
 
 -- .. and every segment that isn't acceptable does, unless it has RST
-unfoldable pub owes : {S : Type 0} → ConnState S → Segment → Bool
-owes c segment = if accepts c segment then owes_acceptable c segment else not (has_rst segment)
+unfoldable pub needs_ack : {S : Type 0} → ConnState S → Segment → Bool
+needs_ack c segment = if accepts c segment then needs_ack_if_acceptable c segment else not (has_rst segment)

@@ -40,7 +40,7 @@ abbrev pub new_reads : {S : Type 0} → (old new : ConnState S) → List ReadRec
 new_reads old new = drop (length old.north.reads) new.north.reads
 
 -- the rest of a turn, once its news has arrived: the north wrapper's turn, the end of TCP's, and what is sent
-pub record GoesOn {S : Type 0} (after : S → List ℕ → Served S) (before : Before) (repeats : Bool) (copied : List Body) (old new : ConnState S) (segments messages : List (List ℕ)) : Type 0 where
+pub record CompletesTurn {S : Type 0} (after : S → List ℕ → Served S) (before : Before) (repeats : Bool) (copied : List Body) (old new : ConnState S) (segments messages : List (List ℕ)) : Type 0 where
   pub north : Turns after tcp_reader tcp_writer (una_units old) old.north old.endpoint (new_reads old new) new.north (tcp_used old (new_reads old new))
   pub state : new ≡ turn_ended (served new.north (new_reads old new) old)
   pub goes_out : segments ≡ packets (leaves before repeats new (leaving (tcp_used old (new_reads old new))))
@@ -60,26 +60,26 @@ pub record TellsDone {S : Type 0} (old new : ConnState S) (segments messages : L
 
 -- it becomes live
 abbrev pub Starts : {S : Type 0} → (S → List ℕ → Served S) → (old new : ConnState S) → (segments messages : List (List ℕ)) → Type 0
-Starts after old new segments messages = GoesOn after (before_other true old) false [] old new segments messages
+Starts after old new segments messages = CompletesTurn after (before_other true old) false [] old new segments messages
 
 -- a segment arrives
 abbrev pub Receives : {S : Type 0} → (S → List ℕ → Served S) → Segment → (old new : ConnState S) → (segments messages : List (List ℕ)) → Type 0
 Receives after segment old new segments messages =
     MatchBool old.reset (Rests old new segments messages)
     (MatchBool (resets old segment) (TellsDone (record old { reset = true }) new segments messages)
-    (GoesOn after (before_segment old segment) (repeats_syn old.south segment) (copies (before_segment old segment) segment (arrived segment old)) (arrived segment old) new segments messages))
+    (CompletesTurn after (before_segment old segment) (repeats_syn old.south segment) (copies (before_segment old segment) segment (arrived segment old)) (arrived segment old) new segments messages))
 
 -- the logger has answered that it has this much of the connection
-abbrev pub heard : {S : Type 0} → (length : ℕ) → (fin : Bool) → (reads : ℕ) → ConnState S → ConnState S
-heard length fin reads c = record c { south = with_stable (length + one_if fin) c.south; north = answered_on reads c.north }
+abbrev pub with_logged : {S : Type 0} → (length : ℕ) → (fin : Bool) → (reads : ℕ) → ConnState S → ConnState S
+with_logged length fin reads c = record c { south = with_stable (length + one_if fin) c.south; north = answered_on reads c.north }
 
 abbrev pub is_news : {S : Type 0} → (length : ℕ) → (fin : Bool) → ConnState S → Bool
 is_news length fin c = nat_lt c.south.answered (length + one_if fin)
 
 abbrev pub Hears : {S : Type 0} → (S → List ℕ → Served S) → (length : ℕ) → (fin : Bool) → (reads : ℕ) → (old new : ConnState S) → (segments messages : List (List ℕ)) → Type 0
 Hears after length fin reads old new segments messages =
-    MatchBool old.reset (Rests (heard length fin reads old) new segments messages)
-    (GoesOn after (before_other (is_news length fin old) (heard length fin reads old)) false [] (heard length fin reads old) new segments messages)
+    MatchBool old.reset (Rests (with_logged length fin reads old) new segments messages)
+    (CompletesTurn after (before_other (is_news length fin old) (with_logged length fin reads old)) false [] (with_logged length fin reads old) new segments messages)
 
 -- a message arrives
 abbrev pub IsTold : {S : Type 0} → (S → List ℕ → Served S) → Said → (old new : ConnState S) → (segments messages : List (List ℕ)) → Type 0

@@ -7,7 +7,7 @@ ghost use Rattle.seq_arith.specs.PacketGrammar.{reading, spelling, mss_option};
 ghost use Rattle.segment_codec.specs.Value.{said};
 ghost use Rattle.tcp_endpoint.specs.Leaving.{leaving, packets, or_bare};
 ghost use Rattle.tcp_endpoint.specs.Packets.{AreReadable, byte_count};
-ghost use Rattle.wrapped_conn.specs.Leaving.{passed, turn_ended, own_segment, syn_ack, bare, is_owed};
+ghost use Rattle.wrapped_conn.specs.Leaving.{passed, turn_ended, own_segment, syn_ack, bare, is_ack_pending};
 ghost use Rattle.wrapped_conn.specs.Sound.{IsSound};
 
 use crate::conn::Conn;
@@ -81,10 +81,10 @@ impl<S: Service> Conn<S> {
 
     /// Sends a segment without data, if an ACK is pending and no other segment is sent.
     #[tactic(auto, unfolding(crate::specs::Leaving::bare))]
-    pub(crate) fn send_bare(&self, owed: bool, out: &mut Outbox)
-        ensures { out.new ≡ or_bare owed (spelling (bare self.now)) out.old }
+    pub(crate) fn send_bare(&self, ack_pending: bool, out: &mut Outbox)
+        ensures { out.new ≡ or_bare ack_pending (spelling (bare self.now)) out.old }
     {
-        if !owed || !out.is_empty() {
+        if !ack_pending || !out.is_empty() {
             return;
         }
         let mut packet = [0u8; BARE];
@@ -94,11 +94,11 @@ impl<S: Service> Conn<S> {
 
     /// Whether an ACK is pending that its TCP doesn't send: TCP doesn't know that more is answered, or that the connection was over or has become live; and a
     /// TCP that is CLOSED sends none.
-    pub(crate) fn is_owed(&self, before: Before) -> bool
+    pub(crate) fn is_ack_pending(&self, before: Before) -> bool
         requires { IsSound self.now }
-        ensures { result ≡ is_owed before self.now }
+        ensures { result ≡ is_ack_pending before self.now }
     {
-        before.asks || (self.is_closed() && (before.owes || before.edge != self.edge()))
+        before.asks || (self.is_closed() && (before.needs_ack || before.edge != self.edge()))
     }
 }
 

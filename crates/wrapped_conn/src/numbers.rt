@@ -7,8 +7,8 @@ ghost use Rattle.seq_arith.specs.Offset.{length_of as length_of_lem, text_of};
 ghost use Rattle.segment_codec.specs.Value.{segment_of, said};
 ghost use Rattle.ft_model.specs.Copy.{from_start};
 ghost use Rattle.tcp_endpoint.specs.States.{is_closed};
-ghost use Rattle.wrapped_conn.specs.Numbers.{has_fin as has_fin_lem, is_over as is_over_lem, fetched_or_read, bytes_taken, units_taken, announced, una_units, outer_sent};
-ghost use Rattle.wrapped_conn.specs.Numbers.{sent_units, logged_units, resets, owes};
+ghost use Rattle.wrapped_conn.specs.Numbers.{has_fin as has_fin_lem, is_over as is_over_lem, fetched_or_read, bytes_taken, units_taken, advertised, una_units, outer_sent};
+ghost use Rattle.wrapped_conn.specs.Numbers.{sent_units, logged_units, resets, needs_ack};
 ghost use Rattle.wrapped_conn.specs.Telling.{end_of};
 ghost use Rattle.wrapped_conn.specs.Sound.{IsSound};
 
@@ -87,7 +87,7 @@ impl<S: Service> Conn<S> {
     #[tactic(auto, using(crate::proofs::Small::taken_small))]
     pub(crate) fn edge(&self) -> u32
         requires { IsSound self.now }
-        ensures value { result ≡ announced self.now }
+        ensures value { result ≡ advertised self.now }
         ensures most { result ≤ 2 ^ 24 + 1 }
     {
         (self.fetched_or_read() + BUFFER).min(STREAM) + u32::from(self.has_fin())
@@ -149,11 +149,11 @@ impl<S: Service> Conn<S> {
     }
 
     /// Whether a segment makes an ACK pending by TCP's rules (RFC 9293, 3.10.7.4), once the SYN is acknowledged.
-    #[tactic(auto, unfolding(crate::specs::Numbers::owes))]
-    pub(crate) fn owes(&self, segment: &PacketRef<'_>) -> bool
+    #[tactic(auto, unfolding(crate::specs::Numbers::needs_ack))]
+    pub(crate) fn needs_ack(&self, segment: &PacketRef<'_>) -> bool
         requires sound { IsSound self.now }
         requires short { length segment.now.payload.now ≤ 1460 }
-        ensures { result ≡ owes self.now (segment_of segment.now) }
+        ensures { result ≡ needs_ack self.now (segment_of segment.now) }
     {
         let head = &segment.head;
         let first = self.place_of(head);

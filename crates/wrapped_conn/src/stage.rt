@@ -25,5 +25,5 @@ pub(crate) struct Before {
     /// Whether an ACK is pending of which its TCP doesn't know.
     pub asks: bool,
     /// Whether one is pending by TCP's rules.
-    pub owes: bool,
+    pub needs_ack: bool,
 }

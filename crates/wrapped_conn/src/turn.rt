@@ -15,7 +15,7 @@ ghost use Rattle.wrapped_conn.specs.Leaving.{passed};
 ghost use Rattle.wrapped_conn.specs.Numbers.{una_units};
 ghost use Rattle.connection_laws.specs.Feeding.{tcp_reader, tcp_writer};
 ghost use Rattle.wrapped_conn.specs.Arriving.{arrived, reached, noted, before_segment, before_other};
-ghost use Rattle.wrapped_conn.specs.Turning.{served, tcp_used, GoesOn, Starts, Receives, Hears, heard, is_news, IsTold, Ticks, ticked, counted};
+ghost use Rattle.wrapped_conn.specs.Turning.{served, tcp_used, CompletesTurn, Starts, Receives, Hears, with_logged, is_news, IsTold, Ticks, ticked, counted};
 ghost use Rattle.wrapped_conn.specs.Telling.{spelled, copies, AreShort, AreTellable};
 ghost use Rattle.wrapped_conn.specs.Sound.{IsSound};
 
@@ -83,7 +83,7 @@ impl<S: Service> Conn<S> {
         requires no_segment { out.old.segments ≡ [] }
         requires no_message { out.old.messages ≡ [] }
         ensures turn { OnOk result (IfOk (reading packet.old)
-            (λ segment. GoesOn S.after (before_segment self.old segment) (repeats_syn self.old.south segment)
+            (λ segment. CompletesTurn S.after (before_segment self.old segment) (repeats_syn self.old.south segment)
             (copies (before_segment self.old segment) segment (arrived segment self.old)) (arrived segment self.old) self.new out.new.segments out.new.messages)) }
         ensures sound { OnOk result (IsSound self.new) }
     {
@@ -106,7 +106,7 @@ impl<S: Service> Conn<S> {
             una: self.una(),
             edge: self.edge(),
             asks: self.is_over() && !has(segment.head.flags, RST),
-            owes: self.owes(&segment),
+            needs_ack: self.needs_ack(&segment),
         }
     }
 
@@ -121,7 +121,7 @@ impl<S: Service> Conn<S> {
             una: self.una(),
             edge: self.edge(),
             asks,
-            owes: false,
+            needs_ack: false,
         }
     }
 
@@ -206,14 +206,14 @@ impl<S: Service> Conn<S> {
         requires few { length out.old.messages ≤ 46 }
         requires short { AreShort out.old.messages }
         ensures turn { (copied : List Told) → out.old.messages ≡ spelled self.old.boot copied
-            → OnOk result (GoesOn S.after before repeats copied self.old self.new out.new.segments out.new.messages) }
+            → OnOk result (CompletesTurn S.after before repeats copied self.old self.new out.new.segments out.new.messages) }
         ensures sound { OnOk result (IsSound self.new) }
     {
         let mut news = ReadRecords::new();
         self.serve(alloc, &mut news)?;
         self.flush(&mut out.segments);
         self.send_syn_ack(repeats, &mut out.segments);
-        self.send_bare(self.is_owed(before), &mut out.segments);
+        self.send_bare(self.is_ack_pending(before), &mut out.segments);
         self.tell_reads(&news, &mut out.messages);
         Ok(())
     }
@@ -276,7 +276,7 @@ impl<S: Service> Conn<S> {
     fn note_logged(&mut self, length: u32, fin: bool, reads: u32) -> bool
         requires sound { IsSound self.old }
         requires most { length ≤ 2 ^ 24 }
-        ensures state { self.new ≡ heard length fin reads self.old }
+        ensures state { self.new ≡ with_logged length fin reads self.old }
         ensures news { result ≡ is_news length fin self.old }
         ensures sound { IsSound self.new }
     {

@@ -1,5 +1,5 @@
-use Rattle.endpoint_laws.proofs.Announced.{announces_law}
+use Rattle.endpoint_laws.proofs.Announced.{advertises_law}
 use Rattle.endpoint_laws.proofs.laws.segments_acknowledge_all_that_is_taken.Goals as goal
 
 pub returns : goal.returns
-returns c = λ news calls e none may begun. announces_law news calls e none may begun
+returns c = λ news calls e none may begun. advertises_law news calls e none may begun

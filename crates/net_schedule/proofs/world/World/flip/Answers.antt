@@ -6,7 +6,7 @@ use Rattle.server_trait.specs.Service.{machine}
 use Rattle.ft_model.specs.World.{DeliveredAs}
 use Rattle.net_schedule.specs.Keeping.{kept}
 use Rattle.net_schedule.specs.Premises.{ComesAs}
-use Rattle.net_schedule.specs.Standing.{GoesOn}
+use Rattle.net_schedule.specs.Standing.{ReachesNext}
 use Rattle.net_schedule.proofs.Events.{flips, flips_end, refuses_no_packet, refuses_bit}
 use Rattle.net_schedule.proofs.Keeping.{no_way, no_bytes}
 use Rattle.net_schedule.proofs.Parcels.{no_parcel_way, no_parcel_bytes}
@@ -40,7 +40,7 @@ returns-clause-done g c =
     on_ok_weaker c.bring-done.result
     (λ so v st p. flips service (kept c.args.self.now) (kept c.bring-done.new.self) v c.args.number c.args.bit c.in-Some.way bytes st p
     (sym c.way.ensures ∙ c.in-Some.is) (sym c.in-Some-bytes.ensures) within
-    (λ packet goes came. subst (λ b. GoesOn service (DeliveredAs service v packet b) v (kept c.bring-done.new.self)) is (so v packet st p goes (subst (ComesAs v packet) (sym is) came))))
+    (λ packet goes came. subst (λ b. ReachesNext service (DeliveredAs service v packet b) v (kept c.bring-done.new.self)) is (so v packet st p goes (subst (ComesAs v packet) (sym is) came))))
     c.bring-done.ensures.done
 
 pub returns-clause-ends : goal.returns-clause-ends

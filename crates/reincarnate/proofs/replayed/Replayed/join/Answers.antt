@@ -3,7 +3,7 @@ use Rattle.logger_store.specs.Stored.{head_value}
 use Rattle.south_wrap.specs.SouthState.{resumed_south}
 use Rattle.wrapped_conn.specs.Sound.{IsSound}
 use Rattle.reincarnate.specs.Progress.{ReplayedState}
-use Rattle.reincarnate.specs.Joining.{SplicedState, conn_of, has_end, south_from, spliced_from, Fits}
+use Rattle.reincarnate.specs.Joining.{SplicedState, conn_of, has_end, south_from, spliced_from, EntryNumbersFit}
 use Rattle.reincarnate.proofs.Startable.{spliced_sound}
 use Rattle.reincarnate.proofs.replayed.Replayed.join.Goals as goal
 
@@ -12,7 +12,7 @@ invariant_of-result g c =
     let h = c.self.inside.head in
     let r : ReplayedState _ = record { head = head_value h; cuts = c.self.inside.cuts; replay = c.self.inside.replay } in
     let numbers = c.south_behind-south.ensures.numbers in
-    let fits : Fits r c.args.isn.0 = record { stream = c.self.invariant.0; segments = c.self.invariant.1; sisn = numbers.0; i_fits = numbers.1 } in
+    let fits : EntryNumbersFit r c.args.isn.0 = record { stream = c.self.invariant.0; segments = c.self.invariant.1; sisn = numbers.0; i_fits = numbers.1 } in
     let south : c.south_behind-south.result ≡ south_from c.args.isn.0 r =
     c.south_behind-south.ensures.value ∙ ap (λ m. record (resumed_south h.cisn h.sisn h.length (has_end (head_value h)) (min h.acked m) c.args.isn.0) { read = c.self.inside.cuts.sum }) c.made.ensures.value in
     let is : spliced_from c.args.boot c.args.local c.args.isn.0 r
