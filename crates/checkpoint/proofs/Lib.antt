@@ -1,2 +1,2 @@
 pub mod Read
-pub mod Assembled
+pub mod OneSpelling

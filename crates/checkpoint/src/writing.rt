@@ -5,7 +5,7 @@ ghost use Rattle.seq_arith.specs.Checksum.{checksum};
 ghost use Rattle.seq_arith.specs.MessageGrammar.{key_and, numbers_bytes};
 ghost use Rattle.seq_arith.specs.MarkGrammar.{kind_number, kind_of, marking, behind_header, message_length, spelling, reading, IsSpellable};
 ghost use Rattle.checkpoint.specs.Value.{body_of, message_of};
-ghost use Rattle.checkpoint.specs.Written.{header_of, sealed};
+ghost use Rattle.checkpoint.specs.Spelling.{header_of, sealed};
 
 use crate::{HEADER, MAGIC, MarkBody, MarkMsg, VERSION};
 use byteorder::{BigEndian, ByteOrder};
@@ -126,7 +126,7 @@ fn checksum_of_parts(header: &[u8], numbers: &[u8], state: &[u8]) -> u16
 }
 
 /// The header of a message of a kind with this length, checksum and boot number.
-#[tactic(auto, unfolding(crate::specs::Written::header_of, seq_arith::specs::MessageGrammar::number_bytes, seq_arith::specs::Bytes::two))]
+#[tactic(auto, unfolding(crate::specs::Spelling::header_of, seq_arith::specs::MessageGrammar::number_bytes, seq_arith::specs::Bytes::two))]
 fn header(kind: MarkKind, len: u16, check: u16, boot: u64) -> [u8; HEADER]
     ensures { result ≡ header_of kind len check boot }
 {

@@ -16,9 +16,9 @@ use Rattle.ft_model.specs.Sending.{syn_acked_after, acknowledged_after, edge_aft
 use Rattle.ft_model.specs.Timer.{probes, expires}
 use Rattle.ft_model.specs.Connection.{LiveTurn}
 use Rattle.connection_laws.specs.Inside.{GoesOn}
-use Rattle.south_wrap.specs.Patching.{inward}
-use Rattle.south_wrap.specs.Standing.{south_at}
-use Rattle.connection_laws.specs.Turning.{SegmentFits, NewsFit}
+use Rattle.south_wrap.specs.Translation.{inward}
+use Rattle.south_wrap.specs.SouthPoint.{south_at}
+use Rattle.connection_laws.specs.Turn.{SegmentFits, NewsFit}
 use Rattle.connection_laws.proofs.Lowered.{Lowers, lowers, moves, used_by}
 use Rattle.connection_laws.proofs.Meets.{Moves, stays_inside, unacknowledged, minus_none}
 use Rattle.ft_io.proofs.Booleans.{middle_false}

@@ -11,35 +11,35 @@ use Rattle.ft_model.specs.News.{News}
 use Rattle.ft_model.specs.Taken.{taken_after}
 use Rattle.ft_model.specs.Sending.{acknowledged_after}
 use Rattle.ft_model.proofs.Services.{RunExtends, reads_go_on, more_bytes, prefix_length, sum_take}
-use Rattle.tcp_endpoint.specs.Receiving.{taken}
-use Rattle.tcp_endpoint.specs.Sending.{Sending, bytes_end}
+use Rattle.tcp_endpoint.specs.ReceiveHalf.{taken}
+use Rattle.tcp_endpoint.specs.SendHalf.{Sending, bytes_end}
 use Rattle.tcp_endpoint.specs.Tcb.{Tcb}
-use Rattle.tcp_endpoint.specs.Leaving.{flushed}
-use Rattle.tcp_endpoint.specs.Turning.{after_read, after_write, closing, write_room, is_ended}
+use Rattle.tcp_endpoint.specs.Output.{flushed}
+use Rattle.tcp_endpoint.specs.UserCalls.{after_read, after_write, closing, write_room, is_ended}
 use Rattle.endpoint_laws.specs.Laws.{IsBounded}
 use Rattle.endpoint_laws.specs.Turn.{Call, MayUse, IsUsualNews, arrived, used}
 use Rattle.endpoint_laws.specs.Turn.Call.{Reads}
-use Rattle.endpoint_laws.specs.Standing.{ReceivesAt, IsUsedAt, HasWrittenAll, HasFilled}
+use Rattle.endpoint_laws.specs.Refinement.{ReceivesAt, IsUsedAt, HasWrittenAll, HasFilled}
 use Rattle.endpoint_laws.proofs.Calls.{FinIsLast, IsUsed, used_is, bounded_used}
 use Rattle.endpoint_laws.proofs.Arrivals.{Arrived, arrives}
 use Rattle.endpoint_laws.proofs.EndingLaw.{reset_law, used_keeps, call_resets}
 use Rattle.endpoint_laws.proofs.TurnEnd.{flush_keeps}
 use Rattle.north_wrap.specs.declared.read_record.ReadRecord.{ReadRecord}
 use Rattle.north_wrap.specs.NorthState.{NorthState, lengths_of}
-use Rattle.north_wrap.specs.Standing.{NorthStands, NorthTurn, HoldsUpTo, HoldingLaws, given_more, given_text, written, read_off, off_socket, AreThere, with_reads, is_all_given}
+use Rattle.north_wrap.specs.Refinement.{NorthStands, NorthTurn, HoldsUpTo, HoldingLaws, given_more, given_text, written, read_off, off_socket, AreThere, with_reads, is_all_given}
 use Rattle.north_wrap.proofs.Holding.{holding_laws}
 use Rattle.north_wrap.proofs.Logged.{answered_front, answered_stays, all_released}
 use Rattle.connection_laws.specs.Inside.{swallowing, inside}
-use Rattle.connection_laws.specs.Passing.{news_inside}
-use Rattle.connection_laws.specs.Turning.{StandsInside}
-use Rattle.connection_laws.specs.Feeding.{tcp_reader, tcp_writer, Feeds, north_calls, before_reads, TurnsNorth, given_after, FedBy, FedInside}
+use Rattle.connection_laws.specs.Traffic.{news_inside}
+use Rattle.connection_laws.specs.Turn.{StandsInside}
+use Rattle.connection_laws.specs.OutputFeed.{tcp_reader, tcp_writer, Feeds, north_calls, before_reads, TurnsNorth, given_after, FedBy, FedInside}
 use Rattle.connection_laws.proofs.Swallowed.{inside_runs, inside_released}
 use Rattle.connection_laws.proofs.Whole.{usual_news, above}
 use Rattle.connection_laws.proofs.Outliving.{front_goes_on, reads_rise}
 use Rattle.connection_laws.proofs.Meets.{laws_inside}
 use Rattle.connection_laws.proofs.Again.{stays}
-use Rattle.connection_laws.proofs.Ending.{unreset, flushed_reset}
-use Rattle.connection_laws.proofs.Keeping.{KeepsOutput, news_keep, end_kept}
+use Rattle.connection_laws.proofs.TcpEnd.{unreset, flushed_reset}
+use Rattle.connection_laws.proofs.SendBuffer.{KeepsOutput, news_keep, end_kept}
 use Rattle.connection_laws.proofs.Flushed.{end_flushed}
 use Rattle.ft_model.proofs.Running.{taken_grows}
 

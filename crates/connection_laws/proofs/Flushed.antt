@@ -4,9 +4,9 @@ use Rattle.std.specs.Prelude.{◌==◌, ◌&&◌, nat_lt, if◌then◌else◌}
 use Rattle.std.proofs.lemmas.Bool.{false≢true}
 use Rattle.seq_arith.specs.Offset.{one_if}
 use Rattle.tcp_endpoint.specs.States.{has_begun}
-use Rattle.tcp_endpoint.specs.Sending.{Sending, bytes_end, timed, send_edge, sendable, sends_fin, with_sent, with_fin_sent}
+use Rattle.tcp_endpoint.specs.SendHalf.{Sending, bytes_end, timed, send_edge, sendable, sends_fin, with_sent, with_fin_sent}
 use Rattle.tcp_endpoint.specs.Tcb.{Tcb}
-use Rattle.tcp_endpoint.specs.Leaving.{probes_text, probes_fin, with_probe, with_text_sent, with_fin_out, after_full, with_advertised, with_turn_ended, flushed}
+use Rattle.tcp_endpoint.specs.Output.{probes_text, probes_fin, with_probe, with_text_sent, with_fin_out, after_full, with_advertised, with_turn_ended, flushed}
 use Rattle.endpoint_laws.specs.Laws.{IsBounded}
 use Rattle.endpoint_laws.proofs.TurnLaw.{after_steps}
 use Rattle.ft_io.proofs.Booleans.{left_true, right_true}

@@ -15,10 +15,10 @@ use Rattle.ft_model.specs.News.News.{Comes}
 use Rattle.ft_model.specs.Taken.{uses, counts, came, taken_after, early_after, fin_after}
 use Rattle.ft_model.specs.Sending.{syn_acked_after, acknowledged_after, edge_after, wl1_after, wl2_after, is_duplicate, congestion_after, flight, sent_at_once, sent_after, acknowledged_by, window_by}
 use Rattle.ft_model.specs.Timer.{must_run, interval_after, rest_after}
-use Rattle.endpoint_laws.specs.Standing.{MeetsLaws}
+use Rattle.endpoint_laws.specs.Refinement.{MeetsLaws}
 use Rattle.connection_laws.proofs.Swallowed.{drop_none}
 use Rattle.ft_io.proofs.Booleans.{or_true, and_true, middle_false}
-use Rattle.endpoint_laws.proofs.Beginning.{none_more}
+use Rattle.endpoint_laws.proofs.FirstPoint.{none_more}
 
 -- a service that writes nothing
 abbrev pub silent : Machine ℕ

@@ -11,13 +11,13 @@ use Rattle.ft_model.specs.News.News.{Comes, Logged, Ticks, Begins}
 use Rattle.ft_model.specs.Point.{Point}
 use Rattle.ft_model.specs.Taken.{taken_after}
 use Rattle.tcp_endpoint.specs.Tcb.{Tcb}
-use Rattle.tcp_endpoint.specs.Turning.{is_ended}
+use Rattle.tcp_endpoint.specs.UserCalls.{is_ended}
 use Rattle.north_wrap.specs.NorthState.{NorthState, answered_on}
 use Rattle.north_wrap.specs.Sockets.{SocketLaws}
-use Rattle.north_wrap.specs.Standing.{NorthStands, SocketStands, with_taken, with_answered}
-use Rattle.north_wrap.proofs.Answering.{answers_stand, taking_stands}
-use Rattle.connection_laws.specs.Feeding.{tcp_reader, tcp_writer}
-use Rattle.connection_laws.specs.Standing.{north_after_news}
+use Rattle.north_wrap.specs.Refinement.{NorthStands, SocketStands, with_taken, with_answered}
+use Rattle.north_wrap.proofs.PointAfter.{answers_stand, taking_stands}
+use Rattle.connection_laws.specs.OutputFeed.{tcp_reader, tcp_writer}
+use Rattle.connection_laws.specs.Parts.{north_after_news}
 use Rattle.ft_model.proofs.Running.{taken_grows}
 
 -- TCP is a socket by its laws

@@ -13,9 +13,9 @@ use Rattle.ft_model.specs.Sending.{is_third_duplicate, sent_at_once}
 use Rattle.ft_model.specs.Timer.{expires}
 use Rattle.ft_model.specs.Segments.{window, segment_at, syn_ack, text_at, fin_segment, fin_if_closed, bare_segment, texts, resent_length, first_unacknowledged, probe, resent, new_length, new_texts, new_fin, or_bare}
 use Rattle.connection_laws.specs.Inside.{swallowing, inside}
-use Rattle.connection_laws.specs.Passing.{passed}
-use Rattle.south_wrap.specs.Patching.{outward}
-use Rattle.south_wrap.specs.Standing.{south_at}
+use Rattle.connection_laws.specs.Traffic.{passed}
+use Rattle.south_wrap.specs.Translation.{outward}
+use Rattle.south_wrap.specs.SouthPoint.{south_at}
 use Rattle.connection_laws.proofs.Meets.{lt_less, once_less}
 use Rattle.connection_laws.proofs.Swallowed.{inside_runs, inside_target, inside_released}
 use Rattle.ft_io.proofs.Booleans.{not_true, left_false, right_false}

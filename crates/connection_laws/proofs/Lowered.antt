@@ -10,9 +10,9 @@ use Rattle.seq_arith.proofs.Shifts.{gap_from, offset_shift, offset_of_number}
 use Rattle.ft_model.specs.Offset.{ack_of}
 use Rattle.ft_model.specs.Point.{Point}
 use Rattle.connection_laws.specs.Inside.{GoesOn}
-use Rattle.south_wrap.specs.Patching.{inward}
+use Rattle.south_wrap.specs.Translation.{inward}
 use Rattle.south_wrap.specs.SouthState.{is_high}
-use Rattle.south_wrap.specs.Standing.{south_at}
+use Rattle.south_wrap.specs.SouthPoint.{south_at}
 use Rattle.ft_io.proofs.Booleans.{and_false}
 use Rattle.ft_io.proofs.Choices.{if_false}
 

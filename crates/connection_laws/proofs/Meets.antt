@@ -19,11 +19,11 @@ use Rattle.ft_model.specs.Timer.{must_run, interval_after, rest_after, is_tick, 
 use Rattle.ft_model.specs.Segments.{repeats_syn}
 use Rattle.ft_model.specs.Connection.{LiveTurn}
 use Rattle.connection_laws.specs.Inside.{swallowing, inside, GoesOn}
-use Rattle.connection_laws.specs.Passing.{news_inside}
-use Rattle.south_wrap.specs.Patching.{inward}
-use Rattle.south_wrap.specs.Standing.{south_at}
-use Rattle.endpoint_laws.specs.Standing.{MeetsLaws}
-use Rattle.connection_laws.specs.Turning.{SegmentFits, NewsFit}
+use Rattle.connection_laws.specs.Traffic.{news_inside}
+use Rattle.south_wrap.specs.Translation.{inward}
+use Rattle.south_wrap.specs.SouthPoint.{south_at}
+use Rattle.endpoint_laws.specs.Refinement.{MeetsLaws}
+use Rattle.connection_laws.specs.Turn.{SegmentFits, NewsFit}
 use Rattle.connection_laws.proofs.Swallowed.{inside_target}
 use Rattle.connection_laws.proofs.Lowered.{Lowers, lowers, moves, una_inside, moves_inside, edge_inside, wl2_inside, counts_inside}
 use Rattle.connection_laws.proofs.Duplicates.{duplicates, duplicates_inside, flight_inside, congestion_inside}

@@ -8,8 +8,8 @@ use Rattle.tcp_endpoint.specs.declared.states.StateName.{StateName}
 use Rattle.tcp_endpoint.specs.declared.states.StateName.TheVariants.{Closed, Listen, SynSent, SynReceived, Established, FinWait1, FinWait2, CloseWait, Closing, LastAck, TimeWait}
 use Rattle.tcp_endpoint.specs.States.{has_begun, is_listen}
 use Rattle.tcp_endpoint.specs.Tcb.{Tcb}
-use Rattle.tcp_endpoint.specs.Turning.{sent_number}
-use Rattle.connection_laws.specs.Turning.{StandsInside}
+use Rattle.tcp_endpoint.specs.UserCalls.{sent_number}
+use Rattle.connection_laws.specs.Turn.{StandsInside}
 
 listens_not : (name : StateName) → has_begun name ≡ true → is_listen name ≡ false
 listens_not Closed h = refl

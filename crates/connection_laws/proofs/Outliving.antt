@@ -25,17 +25,17 @@ use Rattle.ft_model.specs.Connection.{LiveTurn}
 use Rattle.ft_model.proofs.Services.{RunExtends, reads_go_on}
 use Rattle.tcp_endpoint.specs.declared.states.StateName.TheVariants.{Closed}
 use Rattle.tcp_endpoint.specs.Arrival.{received, received_in, in_closed, with_reset_reply, with_reset_reply_without_ack}
-use Rattle.tcp_endpoint.specs.Receiving.{Receiving}
-use Rattle.tcp_endpoint.specs.Receiving as receiver
-use Rattle.tcp_endpoint.specs.Sending.{Sending}
-use Rattle.tcp_endpoint.specs.Sending as sending
+use Rattle.tcp_endpoint.specs.ReceiveHalf.{Receiving}
+use Rattle.tcp_endpoint.specs.ReceiveHalf as receiver
+use Rattle.tcp_endpoint.specs.SendHalf.{Sending}
+use Rattle.tcp_endpoint.specs.SendHalf as sending
 use Rattle.tcp_endpoint.specs.Tcb.{Tcb}
-use Rattle.tcp_endpoint.specs.Turning.{after_tick, timer_ticked, waited}
+use Rattle.tcp_endpoint.specs.UserCalls.{after_tick, timer_ticked, waited}
 use Rattle.endpoint_laws.specs.Laws.{IsBounded, Bounds}
 use Rattle.endpoint_laws.specs.Turn.{Call, arrived, used}
 use Rattle.endpoint_laws.specs.Unconnected.{sent_in_closed}
 use Rattle.tcp_endpoint.specs.States.{has_begun}
-use Rattle.tcp_endpoint.specs.Leaving.{flushed, with_turn_ended, with_advertised, after_full, with_fin_out, with_text_sent, with_probe, probes, probes_text, probes_fin}
+use Rattle.tcp_endpoint.specs.Output.{flushed, with_turn_ended, with_advertised, after_full, with_fin_out, with_text_sent, with_probe, probes, probes_text, probes_fin}
 use Rattle.endpoint_laws.proofs.TurnLaw.{after_steps, timed_sent}
 use Rattle.endpoint_laws.proofs.EndingLaw.{flushed_name}
 use Rattle.endpoint_laws.proofs.NoConnection.{closed_stays_law, closed_answers_law, same_closed}
@@ -43,16 +43,16 @@ use Rattle.endpoint_laws.proofs.Bounding.{bounded_by_flush, bounded_by_tick}
 use Rattle.endpoint_laws.proofs.TurnEnd.{flush_keeps, last_flushed}
 use Rattle.endpoint_laws.proofs.Turns.{flushed_receives}
 use Rattle.ft_model.specs.Refusal.{rst_at_ack, rst_behind}
-use Rattle.south_wrap.specs.Patching.{outward}
-use Rattle.south_wrap.specs.Standing.{south_at}
-use Rattle.connection_laws.specs.Passing.{news_inside, passed}
-use Rattle.endpoint_laws.specs.Standing.{ReceivesAt}
+use Rattle.south_wrap.specs.Translation.{outward}
+use Rattle.south_wrap.specs.SouthPoint.{south_at}
+use Rattle.connection_laws.specs.Traffic.{news_inside, passed}
+use Rattle.endpoint_laws.specs.Refinement.{ReceivesAt}
 use Rattle.endpoint_laws.proofs.Calls.{FinIsLast, IsUsed, used_is, bounded_used, last_used}
-use Rattle.connection_laws.specs.Closing.{StandsClosed, ReadsOn, GoesOnClosed}
-use Rattle.connection_laws.proofs.Keeping.{KeepsOutput, kept_same, kept_ticked}
+use Rattle.connection_laws.specs.ClosedTcp.{StandsClosed, ReadsOn, GoesOnClosed}
+use Rattle.connection_laws.proofs.SendBuffer.{KeepsOutput, kept_same, kept_ticked}
 use Rattle.connection_laws.proofs.Quiet.{no_third, quiet_sends}
 use Rattle.connection_laws.proofs.Forged.{plus_none, either}
-use Rattle.connection_laws.proofs.Held.{behind_at}
+use Rattle.connection_laws.proofs.Reassembly.{behind_at}
 
 -- a front goes on where the list does
 pub front_goes_on : (a b : ℕ) (xs ys : List ℕ) → a ≤ b → IsPrefix (take a xs) (take b (xs ++ ys))

@@ -7,11 +7,11 @@ use Rattle.ft_model.specs.Point.{Point, is_over, released}
 use Rattle.tcp_endpoint.specs.declared.states.StateName.{StateName}
 use Rattle.tcp_endpoint.specs.declared.states.StateName.TheVariants.{Closed, Listen, SynSent, SynReceived, Established, FinWait1, FinWait2, CloseWait, Closing, LastAck, TimeWait}
 use Rattle.tcp_endpoint.specs.States.{has_begun, is_time_wait}
-use Rattle.tcp_endpoint.specs.Sending.{Sending, fin_acked}
+use Rattle.tcp_endpoint.specs.SendHalf.{Sending, fin_acked}
 use Rattle.tcp_endpoint.specs.Tcb.{Tcb}
-use Rattle.endpoint_laws.specs.Ending.{IsNamed, IsNamedRightly}
-use Rattle.connection_laws.specs.Turning.{StandsInside}
-use Rattle.connection_laws.specs.Feeding.{Feeds}
+use Rattle.endpoint_laws.specs.ConnectionEnd.{IsNamed, IsNamedRightly}
+use Rattle.connection_laws.specs.Turn.{StandsInside}
+use Rattle.connection_laws.specs.OutputFeed.{Feeds}
 
 -- all output and the FIN after it are acknowledged where TCP's FIN is
 acked_is : (f : Bool) (u una sent len may given : ℕ) → (if f then sent - 1 else una + len) + u ≡ given → given ≤ may → (f ≡ true → given ≡ may) → (f ≡ true → 1 ≤ sent)

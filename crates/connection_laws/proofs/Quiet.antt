@@ -10,11 +10,11 @@ use Rattle.ft_model.specs.Point.{Point, released}
 use Rattle.ft_model.specs.News.{News}
 use Rattle.ft_model.specs.News.News.{Comes, Logged, Ticks, Begins}
 use Rattle.ft_model.specs.Offset.{text_of, fin_of}
-use Rattle.ft_model.specs.Owed.{is_ack_pending}
+use Rattle.ft_model.specs.PendingAck.{is_ack_pending}
 use Rattle.ft_model.specs.Sending.{acknowledges, acknowledged_by, window_by, acknowledged_after, is_duplicate, is_third_duplicate, sent_at_once}
 use Rattle.ft_model.specs.Timer.{expires}
 use Rattle.ft_model.specs.Segments.{syn_ack, opens_with, full_segments, segments_of, resent, new_texts, new_fin, new_length, texts, bare_segment, or_bare, fin_if_closed, is_unacknowledged, first_unacknowledged, probe}
-use Rattle.connection_laws.specs.Closing.{SendsAlone}
+use Rattle.connection_laws.specs.ClosedTcp.{SendsAlone}
 
 pub record IsQuiet {State : Type 0} (service : Machine State) (news : News) (p q : Point) : Type 0 where
   pub opens : opens_with news p ≡ false

@@ -16,8 +16,8 @@ use Rattle.ft_model.specs.News.News.{Comes, Logged, Ticks, Begins}
 use Rattle.ft_model.specs.Network.{Packet}
 use Rattle.ft_model.specs.Answered.{answered_after}
 use Rattle.ft_model.specs.Taken.{accepts, uses, counts, taken_after, fin_after}
-use Rattle.ft_model.specs.Owed.{is_refused, needs_ack, asks}
-use Rattle.ft_model.specs.Owed as outer
+use Rattle.ft_model.specs.PendingAck.{is_refused, needs_ack, asks}
+use Rattle.ft_model.specs.PendingAck as outer
 use Rattle.ft_model.specs.Reads.{Makes, MakesReads, next_read, next_length, may_read}
 use Rattle.ft_model.specs.Sending.{edge_after, is_third_duplicate, sent_at_once, syn_acked_after}
 use Rattle.ft_model.specs.Segments.{texts, new_length, fin_if_closed}
@@ -26,11 +26,11 @@ use Rattle.ft_model.specs.Opening.{is_syn}
 use Rattle.ft_model.specs.Segments.{syn_ack, repeats_syn, opens_with, full_segments, segments_of, or_bare, bare_segment, resent, new_texts, new_fin, is_unacknowledged, first_unacknowledged, probe}
 use Rattle.ft_model.specs.Connection.{LiveTurn}
 use Rattle.connection_laws.specs.Inside.{swallowing, inside, GoesOn}
-use Rattle.connection_laws.specs.Passing.{news_inside, passed, asks_besides, needs_ack_besides, leaves}
-use Rattle.south_wrap.specs.Patching.{inward}
-use Rattle.south_wrap.specs.Standing.{south_at}
-use Rattle.endpoint_laws.specs.Standing.{MeetsLaws, news_needs_ack, is_ack_pending, refuses, refusals, segments_by_laws}
-use Rattle.connection_laws.specs.Turning.{Turns, SegmentFits}
+use Rattle.connection_laws.specs.Traffic.{news_inside, passed, asks_besides, needs_ack_besides, leaves}
+use Rattle.south_wrap.specs.Translation.{inward}
+use Rattle.south_wrap.specs.SouthPoint.{south_at}
+use Rattle.endpoint_laws.specs.Refinement.{MeetsLaws, news_needs_ack, is_ack_pending, refuses, refusals, segments_by_laws}
+use Rattle.connection_laws.specs.Turn.{Turns, SegmentFits}
 use Rattle.connection_laws.proofs.Lowered.{Lowers, lowers}
 use Rattle.connection_laws.proofs.Meets.{Moves, moves_inside_all, stays_inside, laws_inside, minus_none}
 use Rattle.connection_laws.proofs.Leaving.{Sends, full, passed_is, or_besides}

@@ -8,7 +8,7 @@ use Rattle.ft_io.specs.declared.Key.{Key}
 use Rattle.seq_arith.specs.Number.{number_at}
 use Rattle.seq_arith.specs.Arrival.{int_eq}
 use Rattle.seq_arith.specs.Congestion.{initial_congestion}
-use Rattle.tcp_endpoint.specs.Receiving.{next}
+use Rattle.tcp_endpoint.specs.ReceiveHalf.{next}
 use Rattle.seq_arith.specs.Packet.{Segment}
 use Rattle.seq_arith.proofs.Shifts.{offset_of_number}
 use Rattle.server_trait.specs.Service.{Machine}
@@ -18,34 +18,34 @@ use Rattle.ft_model.specs.Point.{Point, answered_run}
 use Rattle.ft_model.specs.News.News.{Comes}
 use Rattle.ft_model.specs.Restart.{point_of, resumed_at}
 use Rattle.tcp_endpoint.specs.States.{has_begun}
-use Rattle.tcp_endpoint.specs.Sending.{Sending}
+use Rattle.tcp_endpoint.specs.SendHalf.{Sending}
 use Rattle.tcp_endpoint.specs.Tcb.{Tcb, listening}
 use Rattle.tcp_endpoint.specs.Arrival.{received, begun}
 use Rattle.endpoint_laws.specs.Laws.{IsUsual, IsSentBy}
 use Rattle.endpoint_laws.specs.Turn.{IsBetweenTurns, turned}
-use Rattle.endpoint_laws.specs.Ending.{IsNamedRightly}
-use Rattle.endpoint_laws.specs.Standing.{StandsAt, IsUsedAt, LeadsTo, BeginsAt, numbers_with, point_begun}
+use Rattle.endpoint_laws.specs.ConnectionEnd.{IsNamedRightly}
+use Rattle.endpoint_laws.specs.Refinement.{StandsAt, IsUsedAt, LeadsTo, BeginsAt, numbers_with, point_begun}
 use Rattle.endpoint_laws.proofs.SendingLaw.{sending_law}
 use Rattle.endpoint_laws.proofs.Arrivals.{Arrived, arrives}
 use Rattle.endpoint_laws.proofs.EndingLaw.{named_law, ending_law, begun_named_law, flushed_name}
 use Rattle.endpoint_laws.proofs.TurnEnd.{flush_keeps}
 use Rattle.endpoint_laws.proofs.Turns.{leads_law}
 use Rattle.endpoint_laws.proofs.Listening.{listens_at_listen, begun_by}
-use Rattle.endpoint_laws.proofs.Beginning.{begins_law}
+use Rattle.endpoint_laws.proofs.FirstPoint.{begins_law}
 use Rattle.connection_laws.specs.Inside.{inside}
 use Rattle.std.proofs.lemmas.List.{take_all}
 use Rattle.server_trait.specs.Service.{reference}
 use Rattle.ft_model.specs.Restart.{run_of}
 use Rattle.north_wrap.specs.NorthState.{NorthState}
-use Rattle.north_wrap.specs.Standing.{HasReplayed}
+use Rattle.north_wrap.specs.Refinement.{HasReplayed}
 use Rattle.north_wrap.proofs.Offline.{begins_here}
 use Rattle.endpoint_laws.proofs.EndingLaw.{reset_law}
 use Rattle.connection_laws.specs.Inside.{GoesOn}
-use Rattle.connection_laws.specs.Feeding.{Feeds}
-use Rattle.connection_laws.specs.Standing.{PartsStand}
-use Rattle.connection_laws.specs.Splicing.{delta_from}
-use Rattle.connection_laws.proofs.Ending.{flushed_reset}
-use Rattle.connection_laws.specs.Splicing.{GoesOnFrom, StandsAtEntry, forged_syn, forged_ack, forged_fin, connected, spliced}
+use Rattle.connection_laws.specs.OutputFeed.{Feeds}
+use Rattle.connection_laws.specs.Parts.{PartsStand}
+use Rattle.connection_laws.specs.Splice.{delta_from}
+use Rattle.connection_laws.proofs.TcpEnd.{flushed_reset}
+use Rattle.connection_laws.specs.Splice.{GoesOnFrom, StandsAtEntry, forged_syn, forged_ack, forged_fin, connected, spliced}
 use Rattle.connection_laws.proofs.Forged.{silent, IsForged, IsFresh, after_forged, forged_laws, run_is}
 use Rattle.ft_io.proofs.Choices.{by_cases}
 use Rattle.ft_io.proofs.Booleans.{false_by}

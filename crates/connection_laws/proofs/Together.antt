@@ -9,11 +9,11 @@ use Rattle.seq_arith.specs.Offset.{one_if}
 use Rattle.server_trait.specs.Service.{Machine, reference}
 use Rattle.ft_model.specs.Answered.{answered_after, reads_answered_after}
 use Rattle.ft_model.specs.Connection.{LiveTurn, sent_by}
-use Rattle.ft_model.specs.Ending.{reset_after, end_ticks_after}
+use Rattle.ft_model.specs.ResetAndEnd.{reset_after, end_ticks_after}
 use Rattle.ft_model.specs.Network.{Packet}
 use Rattle.ft_model.specs.News.{News}
 use Rattle.ft_model.specs.News.News.{Comes, Logged, Ticks, Begins}
-use Rattle.ft_model.specs.Owed.{is_ack_pending, needs_ack}
+use Rattle.ft_model.specs.PendingAck.{is_ack_pending, needs_ack}
 use Rattle.ft_model.specs.Point.{Point, taken_units, advertised_edge, answered_run, released, target, made, is_over, HoldsBehind}
 use Rattle.ft_model.specs.Reads.{Makes, next_read, next_length, may_read}
 use Rattle.ft_model.specs.Segments.{opens_with, repeats_syn, syn_ack, bare_segment, or_bare, segments_of, full_segments, resent, new_texts, new_fin, new_length, texts, fin_if_closed, is_unacknowledged, first_unacknowledged, probe}
@@ -23,12 +23,12 @@ use Rattle.ft_model.specs.Timer.{interval_after, rest_after, must_run, probes}
 use Rattle.ft_model.proofs.Settled.{settled}
 use Rattle.ft_model.proofs.TurnTells.{settled_reads}
 use Rattle.tcp_endpoint.specs.declared.states.StateName.TheVariants.{Closed}
-use Rattle.tcp_endpoint.specs.Leaving.{leaving, flushed}
-use Rattle.tcp_endpoint.specs.Receiving as receiver
+use Rattle.tcp_endpoint.specs.Output.{leaving, flushed}
+use Rattle.tcp_endpoint.specs.ReceiveHalf as receiver
 use Rattle.tcp_endpoint.specs.States.{has_begun, is_closed}
-use Rattle.tcp_endpoint.specs.Sending.{Sending, bytes_end, expires, congestion_expired}
+use Rattle.tcp_endpoint.specs.SendHalf.{Sending, bytes_end, expires, congestion_expired}
 use Rattle.tcp_endpoint.specs.Tcb.{Tcb}
-use Rattle.tcp_endpoint.specs.Turning.{after_tick, timer_ticked, waited, write_room, is_ended}
+use Rattle.tcp_endpoint.specs.UserCalls.{after_tick, timer_ticked, waited, write_room, is_ended}
 use Rattle.endpoint_laws.specs.Laws.{IsBounded}
 use Rattle.endpoint_laws.specs.Turn.{Call, IsUsualNews, arrived, before_flush}
 use Rattle.endpoint_laws.proofs.Calls.{FinIsLast}
@@ -37,24 +37,24 @@ use Rattle.endpoint_laws.proofs.TurnEnd.{flush_keeps}
 use Rattle.endpoint_laws.proofs.EndingLaw.{named_law, reset_law, flushed_name}
 use Rattle.north_wrap.specs.declared.read_record.ReadRecord.{ReadRecord}
 use Rattle.north_wrap.specs.NorthState.{NorthState, lengths_of, Turns as NorthTurns}
-use Rattle.north_wrap.specs.Standing.{NorthStands, SocketStands, NorthTurn, given_more, given_text, off_socket, is_all_given}
+use Rattle.north_wrap.specs.Refinement.{NorthStands, SocketStands, NorthTurn, given_more, given_text, off_socket, is_all_given}
 use Rattle.north_wrap.proofs.WholeTurn.{whole_turn}
 use Rattle.north_wrap.proofs.Logged.{answered_front}
 use Rattle.ft_model.proofs.Services.{RunExtends, goes_refl, prefix_length}
 use Rattle.connection_laws.specs.Inside.{inside}
-use Rattle.connection_laws.specs.Passing.{news_inside, passed, needs_ack_besides, leaves}
-use Rattle.connection_laws.specs.Turning.{NewsFit, IsLater, TurnsInside}
-use Rattle.connection_laws.specs.Closing.{StandsClosed, EndsInside, GoesOnClosed}
-use Rattle.connection_laws.specs.Feeding.{tcp_reader, tcp_writer, Feeds, north_calls, FedBy}
-use Rattle.connection_laws.specs.Standing.{StandsOpen, PartsStand, PartsRest, PartsTurn, north_after_news, repeats, adds, leaves_with}
+use Rattle.connection_laws.specs.Traffic.{news_inside, passed, needs_ack_besides, leaves}
+use Rattle.connection_laws.specs.Turn.{NewsFit, IsLater, TurnsInside}
+use Rattle.connection_laws.specs.ClosedTcp.{StandsClosed, EndsInside, GoesOnClosed}
+use Rattle.connection_laws.specs.OutputFeed.{tcp_reader, tcp_writer, Feeds, north_calls, FedBy}
+use Rattle.connection_laws.specs.Parts.{StandsOpen, PartsStand, PartsRest, PartsTurn, north_after_news, repeats, adds, leaves_with}
 use Rattle.connection_laws.proofs.Meets.{Moves, moves_inside_all, stays_inside, nothing_counts, is_syn_has, minus_none}
 use Rattle.connection_laws.proofs.Sent.{less_itself, nothing_new, same_lengths, syn_at, units_none}
 use Rattle.connection_laws.proofs.Whole.{usual_news, turns_inside}
 use Rattle.connection_laws.proofs.Outliving.{IsStill, still, outlives, opens_not, reads_rise, taken_stays, fin_stays}
-use Rattle.connection_laws.proofs.Ending.{unreset, flushed_reset, ends_inside, opens_not as opens_by_end}
-use Rattle.connection_laws.proofs.Keeping.{KeepsOutput, news_keep}
+use Rattle.connection_laws.proofs.TcpEnd.{unreset, flushed_reset, ends_inside, opens_not as opens_by_end}
+use Rattle.connection_laws.proofs.SendBuffer.{KeepsOutput, news_keep}
 use Rattle.connection_laws.proofs.Fed.{reading, answered_goes, fed_later, fed_arrived, fed_flushed, full_flushed, used_inside, from_start, north_calls_feed}
-use Rattle.connection_laws.proofs.Held.{behind_at}
+use Rattle.connection_laws.proofs.Reassembly.{behind_at}
 use Rattle.connection_laws.proofs.Joining.{socket_laws, hears, heard_shut, socket_stands}
 use Rattle.endpoint_laws.proofs.SegmentsLaw.{begun_open}
 use Rattle.ft_io.proofs.Booleans.{second_of_three}

@@ -7,11 +7,11 @@ use Rattle.ft_model.specs.Offset.{ack_of}
 use Rattle.ft_model.specs.Point.{Point}
 use Rattle.tcp_endpoint.specs.Tcb.{Tcb}
 use Rattle.endpoint_laws.specs.Laws.{IsUsual}
-use Rattle.endpoint_laws.specs.Standing.{StandsAt}
+use Rattle.endpoint_laws.specs.Refinement.{StandsAt}
 use Rattle.connection_laws.specs.Inside.{inside, GoesOn}
-use Rattle.south_wrap.specs.Patching.{inward}
+use Rattle.south_wrap.specs.Translation.{inward}
 use Rattle.south_wrap.specs.SouthState.{is_high}
-use Rattle.south_wrap.specs.Standing.{south_at}
+use Rattle.south_wrap.specs.SouthPoint.{south_at}
 use Rattle.connection_laws.proofs.Lowered.{Lowers, lowers}
 
 most : (u sent : ℕ) (ack inner : ℤ) → Lowers u sent ack inner → inner ≤ℤ pos (sent - u)

@@ -13,14 +13,14 @@ use Rattle.ft_model.specs.Sending.{acknowledged_after}
 use Rattle.tcp_endpoint.specs.States.{has_begun}
 use Rattle.tcp_endpoint.specs.Tcb.{Tcb}
 use Rattle.endpoint_laws.specs.Turn.{Call, IsUsualNews, before_flush, turned}
-use Rattle.tcp_endpoint.specs.Leaving.{flushed, with_turn_ended, with_advertised, after_full, with_fin_out, with_text_sent, with_probe}
-use Rattle.endpoint_laws.specs.Standing.{StandsAt, LeadsTo}
+use Rattle.tcp_endpoint.specs.Output.{flushed, with_turn_ended, with_advertised, after_full, with_fin_out, with_text_sent, with_probe}
+use Rattle.endpoint_laws.specs.Refinement.{StandsAt, LeadsTo}
 use Rattle.endpoint_laws.proofs.Turns.{leads_law}
 use Rattle.connection_laws.specs.Inside.{swallowing, inside, GoesOn}
-use Rattle.connection_laws.specs.Passing.{news_inside, passed, leaves}
-use Rattle.south_wrap.specs.Patching.{inward}
-use Rattle.south_wrap.specs.Standing.{south_at}
-use Rattle.connection_laws.specs.Turning.{SegmentFits, NewsFit, Turns, StandsInside, UsesInside, TurnsInside}
+use Rattle.connection_laws.specs.Traffic.{news_inside, passed, leaves}
+use Rattle.south_wrap.specs.Translation.{inward}
+use Rattle.south_wrap.specs.SouthPoint.{south_at}
+use Rattle.connection_laws.specs.Turn.{SegmentFits, NewsFit, Turns, StandsInside, UsesInside, TurnsInside}
 use Rattle.connection_laws.proofs.Meets.{laws_inside}
 use Rattle.connection_laws.proofs.Sent.{sent_is}
 use Rattle.connection_laws.proofs.Again.{stays, goes_on_again}

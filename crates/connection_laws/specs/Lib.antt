@@ -1,9 +1,9 @@
 pub mod Inside
-pub mod Passing
-pub mod Turning
-pub mod Splicing
-pub mod Beginning
-pub mod Closing
-pub mod Feeding
-pub mod Standing
-pub mod Telling
+pub mod Traffic
+pub mod Turn
+pub mod Splice
+pub mod FirstSyn
+pub mod ClosedTcp
+pub mod OutputFeed
+pub mod Parts
+pub mod PointNumbers

@@ -8,8 +8,8 @@ use Rattle.disk.specs.declared.calls.DiskCall.TheVariants.{Appended, Put, Cut, S
 use Rattle.disk.specs.declared.calls.DeskCall.{DeskCall}
 use Rattle.disk.specs.declared.calls.DeskCall.TheVariants.{OnLink, OnDisk}
 use Rattle.disk.specs.declared.death.Death.{Death}
-use Rattle.disk.specs.Left.{with_byte, seen_after, MayLeave, LeftBy}
-use Rattle.disk.specs.Told.{disk_calls}
+use Rattle.disk.specs.Remains.{with_byte, seen_after, MayLeave, LeftBy}
+use Rattle.disk.specs.CallRecord.{disk_calls}
 use Rattle.disk.specs.Death.{held_after, remains, left_of}
 
 with_byte_length : (at byte : ℕ) (file : List ℕ) → length (with_byte at byte file) ≡ min at (length file) + (1 + (length file - (at + 1)))

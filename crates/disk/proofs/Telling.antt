@@ -3,7 +3,7 @@ use Rattle.std.proofs.Common.{◌≡◌, ◌∙◌, ap, refl, Option, None, Some
 use Rattle.ft_io.specs.Told.{Tells}
 use Rattle.disk.specs.declared.calls.DiskCall.{DiskCall}
 use Rattle.disk.specs.declared.calls.DeskCall.TheVariants.{OnDisk}
-use Rattle.disk.specs.Told.{on_disk, disk_calls}
+use Rattle.disk.specs.CallRecord.{on_disk, disk_calls}
 
 pub tells_on : {A : Type 0} (old mid new : Option (List A)) (xs ys : List A) → Tells old mid xs → Tells mid new ys → Tells old new (xs ++ ys)
 tells_on None None None xs ys a b = tt

@@ -5,7 +5,7 @@ use Rattle.disk.specs.declared.calls.DiskCall.TheVariants.{Appended, Put, Cut, S
 use Rattle.disk.specs.declared.calls.DeskCall.{DeskCall}
 use Rattle.disk.specs.declared.calls.DeskCall.TheVariants.{OnLink, OnDisk}
 use Rattle.disk.specs.declared.death.Death.{Death}
-use Rattle.disk.specs.Left.{with_byte, seen_after}
+use Rattle.disk.specs.Remains.{with_byte, seen_after}
 
 -- What is on the disk after a call, where `file` is what a read gave before the call and `held` is what was on the disk. Of an append that comes after all that
 -- a read gave, a prefix is on the disk; of one after a torn end, nothing is. A byte that was put is there or not. A cut is done. A sync that failed did

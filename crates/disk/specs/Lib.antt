@@ -1,7 +1,7 @@
-pub mod Beside
+pub mod Counts
 pub mod Death
 pub mod HostDesk
-pub mod Left
+pub mod Remains
 pub mod MemDesk
 pub mod MemDisk
-pub mod Told
+pub mod CallRecord

@@ -4,7 +4,7 @@ use Rattle.std.specs.declared.option.Option.{Option}
 use Rattle.ft_io.specs.Faults.{raised}
 use Rattle.ft_io.specs.NumberedCalls.{Calls, no_call, after_call}
 use Rattle.disk.specs.declared.calls.DeskCall.{DeskCall}
-use Rattle.disk.specs.Told.{told_if}
+use Rattle.disk.specs.CallRecord.{told_if}
 
 -- a file in memory, as its callers see it
 pub record DiskState : Type 0 where

@@ -1,7 +1,7 @@
 //! What a death leaves of a file in memory, by a choice of how much of the unsynced changes is on the disk.
 
 ghost use Rattle.std.specs.Prelude.{◌≡◌, OnOk, IfOk, take};
-ghost use Rattle.disk.specs.Left.{with_byte, seen_after};
+ghost use Rattle.disk.specs.Remains.{with_byte, seen_after};
 ghost use Rattle.disk.specs.Death.{held_after, remains};
 
 use crate::{DeskCall, DiskCall};

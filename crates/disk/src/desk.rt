@@ -5,7 +5,7 @@ ghost use Rattle.std.specs.declared.option.Option.{Option};
 ghost use Rattle.ft_io.specs.Faults.{Rose};
 ghost use Rattle.ft_io.specs.Told.{Tells};
 ghost use Rattle.ft_io.specs.Link.{bind_told, send_told, recv_told, HasAtMost};
-ghost use Rattle.disk.specs.Told.{on_link};
+ghost use Rattle.disk.specs.CallRecord.{on_link};
 
 use crate::{Disk, ShelfEnd};
 use ft_io::{Addr, Failed, Heard};

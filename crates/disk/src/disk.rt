@@ -5,7 +5,7 @@ ghost use Rattle.std.specs.declared.option.Option.{Option};
 ghost use Rattle.std.specs.Io.KnownBytes.{ReadConsumes, IsAtEnd};
 ghost use Rattle.ft_io.specs.Faults.{Rose};
 ghost use Rattle.ft_io.specs.Told.{Tells};
-ghost use Rattle.disk.specs.Beside.{Beside};
+ghost use Rattle.disk.specs.Counts.{Beside};
 ghost use Rattle.disk.specs.declared.calls.DeskCall.{DeskCall};
 ghost use Rattle.disk.specs.declared.calls.DeskCall.TheVariants.{OnDisk};
 ghost use Rattle.disk.specs.declared.calls.DiskCall.TheVariants.{Appended, Put, Cut, Synced};

@@ -3,7 +3,7 @@
 
 ghost use Rattle.std.specs.Prelude.{◌≡◌, ◌≤◌, None, IfOk, OnOk, OnErr, length};
 ghost use Rattle.ft_io.specs.Faults.{Rose};
-ghost use Rattle.disk.specs.Beside.{nothing};
+ghost use Rattle.disk.specs.Counts.{nothing};
 
 use crate::{Disk, ShelfEnd};
 use ft_io::Failed;

@@ -11,8 +11,8 @@ ghost use Rattle.ft_io.specs.MemLink.{BindFails};
 ghost use Rattle.ft_io.specs.NumberedCalls.{IsNextListed};
 ghost use Rattle.ft_io.specs.Told.{Tells};
 ghost use Rattle.disk.specs.Death.{left_of};
-ghost use Rattle.disk.specs.Left.{LeftBy};
-ghost use Rattle.disk.specs.Told.{on_link, disk_calls};
+ghost use Rattle.disk.specs.Remains.{LeftBy};
+ghost use Rattle.disk.specs.CallRecord.{on_link, disk_calls};
 ghost use Rattle.disk.specs.MemDesk.{fresh_desk, told_of, file_of, noted, starved, IsStarved};
 
 use crate::numbered::NumberedCalls;

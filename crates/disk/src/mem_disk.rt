@@ -7,12 +7,12 @@ ghost use Rattle.std.specs.Io.KnownBytes.{ReadConsumes, IsAtEnd};
 ghost use Rattle.ft_io.specs.Faults.{Rose};
 ghost use Rattle.ft_io.specs.NumberedCalls.{IsNextListed};
 ghost use Rattle.ft_io.specs.Told.{Tells};
-ghost use Rattle.disk.specs.Beside.{nothing};
+ghost use Rattle.disk.specs.Counts.{nothing};
 ghost use Rattle.disk.specs.declared.calls.DeskCall.TheVariants.{OnDisk};
 ghost use Rattle.disk.specs.declared.calls.DiskCall.TheVariants.{Appended, Put, Cut, Synced};
 ghost use Rattle.disk.specs.Death.{left_of};
-ghost use Rattle.disk.specs.Left.{LeftBy};
-ghost use Rattle.disk.specs.Told.{disk_calls};
+ghost use Rattle.disk.specs.Remains.{LeftBy};
+ghost use Rattle.disk.specs.CallRecord.{disk_calls};
 ghost use Rattle.disk.specs.MemDisk.{fresh_disk, told_of, noted, starved, failed, changing, made_anew};
 
 use crate::death::left_behind;

@@ -10,15 +10,15 @@ use Rattle.segment_codec.specs.declared.Head.{Head}
 use Rattle.ft_model.specs.News.{News}
 use Rattle.ft_model.specs.News.News.{Comes, Logged, Ticks, Begins}
 use Rattle.tcp_endpoint.specs.States.{is_closed, is_syn_sent, has_begun}
-use Rattle.tcp_endpoint.specs.Receiving.{next, window, advertised_edge}
-use Rattle.tcp_endpoint.specs.Sending.{in_flight, is_unacknowledged}
+use Rattle.tcp_endpoint.specs.ReceiveHalf.{next, window, advertised_edge}
+use Rattle.tcp_endpoint.specs.SendHalf.{in_flight, is_unacknowledged}
 use Rattle.tcp_endpoint.specs.Tcb.{Tcb, listening, connecting}
-use Rattle.tcp_endpoint.specs.Leaving.{or_bare, head_at, opening_segment, text_at, fin_at, texts, reset_reply_segments, reset_reply_out, retransmitted_segment, retransmission_out, probes_text, probes_fin, probe_out, with_probe, new_length, text_out, with_text_sent, new_fin, fin_out, with_fin_out, full_out, after_full, is_ack_pending, bare_segment, leaving, with_advertised, with_turn_ended, flushed}
-use Rattle.tcp_endpoint.specs.Turning.{after_tick, timer_ticked, waited}
+use Rattle.tcp_endpoint.specs.Output.{or_bare, head_at, opening_segment, text_at, fin_at, texts, reset_reply_segments, reset_reply_out, retransmitted_segment, retransmission_out, probes_text, probes_fin, probe_out, with_probe, new_length, text_out, with_text_sent, new_fin, fin_out, with_fin_out, full_out, after_full, is_ack_pending, bare_segment, leaving, with_advertised, with_turn_ended, flushed}
+use Rattle.tcp_endpoint.specs.UserCalls.{after_tick, timer_ticked, waited}
 use Rattle.endpoint_laws.specs.Laws.{last_advertised, asks}
 use Rattle.endpoint_laws.specs.Turn.{Call, Events, arrived, called, used, before_flush, turned, sent_in}
 use Rattle.endpoint_laws.specs.Turn.Call.{Reads, Writes, Closes}
-use Rattle.endpoint_laws.specs.Announcing.{Advertises, is_told, ReadsOnlyTaken, AcknowledgesAll}
+use Rattle.endpoint_laws.specs.Advertisement.{Advertises, is_told, ReadsOnlyTaken, AcknowledgesAll}
 use Rattle.endpoint_laws.proofs.AnswersAlone.{is_empty}
 use Rattle.endpoint_laws.proofs.SegmentsLaw.{begun_answers, one_retransmission}
 use Rattle.endpoint_laws.proofs.ToldLaw.{leaving_by, told_by_segment, told_by_flush}

@@ -5,7 +5,7 @@ use Rattle.seq_arith.specs.Packet.{Segment}
 use Rattle.segment_codec.specs.declared.Head.{Head}
 use Rattle.tcp_endpoint.specs.declared.states.StateName.TheVariants.{Closed, Listen, SynSent}
 use Rattle.tcp_endpoint.specs.Tcb.{Tcb}
-use Rattle.tcp_endpoint.specs.Leaving.{reset_reply_segments, reset_reply_out, retransmission_out, probe_out, with_probe, text_out, texts, with_text_sent, fin_out, with_fin_out, full_out, after_full, is_ack_pending, leaving}
+use Rattle.tcp_endpoint.specs.Output.{reset_reply_segments, reset_reply_out, retransmission_out, probe_out, with_probe, text_out, texts, with_text_sent, fin_out, with_fin_out, full_out, after_full, is_ack_pending, leaving}
 
 reset_reply_alone : (u : Tcb) (retransmission_due probe : Bool) (reset_reply : Option Head)
     → leaving (record u { name = Closed; retransmission_due = retransmission_due; probe = probe; reset_reply = reset_reply }) ≡ reset_reply_segments reset_reply

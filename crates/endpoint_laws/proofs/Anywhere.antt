@@ -9,10 +9,10 @@ use Rattle.seq_arith.specs.Number.{offset_of}
 use Rattle.ft_model.specs.Point.{Point, blank_point}
 use Rattle.ft_model.specs.News.{News}
 use Rattle.tcp_endpoint.specs.States.{has_begun}
-use Rattle.tcp_endpoint.specs.Receiving.{Receiving}
+use Rattle.tcp_endpoint.specs.ReceiveHalf.{Receiving}
 use Rattle.tcp_endpoint.specs.Tcb.{Tcb}
 use Rattle.endpoint_laws.specs.Turn.{Call, MayUse, IsUsualNews, IsBetweenTurns, arrived, before_flush, turned}
-use Rattle.endpoint_laws.specs.Standing.{StandsAt}
+use Rattle.endpoint_laws.specs.Refinement.{StandsAt}
 use Rattle.endpoint_laws.proofs.Points.{points_law}
 use Rattle.endpoint_laws.proofs.Turns.{leads_law}
 

@@ -14,24 +14,24 @@ use Rattle.ft_model.specs.News.News.{Comes, Logged, Ticks, Begins}
 use Rattle.ft_model.specs.Taken.{taken_after, early_after, fin_after}
 use Rattle.ft_model.specs.Sending.{syn_acked_after, acknowledged_after, edge_after, wl1_after, wl2_after, is_third_duplicate, congestion_after}
 use Rattle.ft_model.specs.Timer as timer
-use Rattle.ft_model.specs.Owed as rule
+use Rattle.ft_model.specs.PendingAck as rule
 use Rattle.tcp_endpoint.specs.States.{has_begun}
-use Rattle.tcp_endpoint.specs.Receiving.{next}
-use Rattle.tcp_endpoint.specs.Sending.{Sending, with_syn_acked, acknowledged, congestion_expired, target, is_unacknowledged, expires, ticked}
+use Rattle.tcp_endpoint.specs.ReceiveHalf.{next}
+use Rattle.tcp_endpoint.specs.SendHalf.{Sending, with_syn_acked, acknowledged, congestion_expired, target, is_unacknowledged, expires, ticked}
 use Rattle.tcp_endpoint.specs.Tcb.{Tcb}
 use Rattle.tcp_endpoint.specs.Arrival.{first, ack_at, rst, received, with_reset_reply}
-use Rattle.tcp_endpoint.specs.Leaving.{reset_reply_segments, reset_reply_out}
-use Rattle.tcp_endpoint.specs.Turning.{after_tick, timer_ticked, waited}
+use Rattle.tcp_endpoint.specs.Output.{reset_reply_segments, reset_reply_out}
+use Rattle.tcp_endpoint.specs.UserCalls.{after_tick, timer_ticked, waited}
 use Rattle.endpoint_laws.specs.Laws.{accepts, counts, acknowledges, congestion_ticked, acknowledges_less, is_refused, needs_ack, IsSentBy, IsBounded, IsUsual, ProbesRightly, last_advertised}
 use Rattle.endpoint_laws.specs.Turn.{IsUsualNews, IsBetweenTurns, arrived}
-use Rattle.endpoint_laws.specs.Standing.{ReceivesAt, SendsAt, StandsAt, news_needs_ack, refuses, refusals}
+use Rattle.endpoint_laws.specs.Refinement.{ReceivesAt, SendsAt, StandsAt, news_needs_ack, refuses, refusals}
 use Rattle.endpoint_laws.proofs.TakenLaw.{part_of_if, same_if, if_when}
 use Rattle.endpoint_laws.proofs.SendingLaw.{later_by, used_by, sending_is, sending_law, retransmission_law}
 use Rattle.endpoint_laws.proofs.SendingLaw as sending
 use Rattle.endpoint_laws.proofs.Bounding.{bounded_by_segment, bounded_by_tick}
 use Rattle.endpoint_laws.proofs.OwedLaw.{ack_pending_law}
 use Rattle.endpoint_laws.proofs.ToldLaw.{told_by_segment, probed_by_tick}
-use Rattle.endpoint_laws.proofs.Answering.{Beside, IsApart, apart_beside, beside_is, reset_reply_is}
+use Rattle.endpoint_laws.proofs.ResetReply.{Beside, IsApart, apart_beside, beside_is, reset_reply_is}
 use Rattle.endpoint_laws.proofs.Calls.{FinIsLast}
 use Rattle.endpoint_laws.proofs.StandingLaw.{Meets, next_is, accepts_is, first_is, ack_is, third_is, received_receives, received_sends}
 use Rattle.ft_io.proofs.Booleans.{false_or, or_false}

@@ -16,12 +16,12 @@ use Rattle.tcp_buffers.specs.Near.{IsNearFirst}
 use Rattle.tcp_endpoint.specs.declared.states.StateName.{StateName}
 use Rattle.tcp_endpoint.specs.declared.states.StateName.TheVariants.{Listen, SynSent}
 use Rattle.tcp_endpoint.specs.States.{has_begun}
-use Rattle.tcp_endpoint.specs.Receiving.{Receiving, taken, receive_edge, came, with_came, with_segment, read_out}
-use Rattle.tcp_endpoint.specs.Sending.{Sending, with_segment_size, with_syn_acked, acknowledged, moves_edge, send_edge, sendable, expires, is_lost, ticked, timed, with_sent, with_fin_sent, IsShort}
+use Rattle.tcp_endpoint.specs.ReceiveHalf.{Receiving, taken, receive_edge, came, with_came, with_segment, read_out}
+use Rattle.tcp_endpoint.specs.SendHalf.{Sending, with_segment_size, with_syn_acked, acknowledged, moves_edge, send_edge, sendable, expires, is_lost, ticked, timed, with_sent, with_fin_sent, IsShort}
 use Rattle.tcp_endpoint.specs.Tcb.{Tcb, listening, connecting}
 use Rattle.tcp_endpoint.specs.Arrival.{first, ack_at, received, received_in, in_listen, begun, with_reset_reply, answered, in_syn_sent}
-use Rattle.tcp_endpoint.specs.Leaving.{probes_text, probes_fin, with_probe, with_text_sent, new_fin, with_fin_out, after_full, with_advertised, is_timed, with_turn_ended, flushed}
-use Rattle.tcp_endpoint.specs.Turning.{after_tick, timer_ticked, waited, after_read, after_write}
+use Rattle.tcp_endpoint.specs.Output.{probes_text, probes_fin, with_probe, with_text_sent, new_fin, with_fin_out, after_full, with_advertised, is_timed, with_turn_ended, flushed}
+use Rattle.tcp_endpoint.specs.UserCalls.{after_tick, timer_ticked, waited, after_read, after_write}
 use Rattle.endpoint_laws.specs.Laws.{counts, acknowledges, is_duplicate, congestion_by, taken_by, Bounds, IsBounded, IsUsual}
 use Rattle.endpoint_laws.proofs.TakenLaw.{taken_law}
 use Rattle.endpoint_laws.proofs.SendingLaw.{sending_is, held_field, near_of_counts}

@@ -6,8 +6,8 @@ use Rattle.seq_arith.specs.Offset.{one_if}
 use Rattle.tcp_endpoint.specs.declared.states.StateName.{StateName}
 use Rattle.tcp_endpoint.specs.declared.states.StateName.TheVariants.{Closed, Listen, SynSent, SynReceived, Established, FinWait1, FinWait2, CloseWait, Closing, LastAck, TimeWait}
 use Rattle.tcp_endpoint.specs.States.{after_close, has_begun}
-use Rattle.tcp_endpoint.specs.Receiving.{taken}
-use Rattle.tcp_endpoint.specs.Sending.{Sending, target, must_run}
+use Rattle.tcp_endpoint.specs.ReceiveHalf.{taken}
+use Rattle.tcp_endpoint.specs.SendHalf.{Sending, target, must_run}
 use Rattle.tcp_endpoint.specs.Tcb.{Tcb}
 use Rattle.endpoint_laws.specs.Laws.{IsBounded, ProbesRightly, IsShut, last_advertised}
 use Rattle.endpoint_laws.specs.Turn.{Call, called, used, MayCall, MayUse}

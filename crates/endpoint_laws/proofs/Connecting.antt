@@ -15,18 +15,18 @@ use Rattle.ft_model.specs.News.News.{Comes, Logged, Ticks, Begins}
 use Rattle.tcp_endpoint.specs.declared.states.StateName.{StateName}
 use Rattle.tcp_endpoint.specs.declared.states.StateName.TheVariants.{Closed, Listen, SynSent, SynReceived, Established, FinWait1, FinWait2, CloseWait, Closing, LastAck, TimeWait}
 use Rattle.tcp_endpoint.specs.States.{after_close, is_closed, is_time_wait, has_begun}
-use Rattle.tcp_endpoint.specs.Receiving.{Receiving, receiving_up_to, read_out}
-use Rattle.tcp_endpoint.specs.Sending.{Sending, sending_from, bytes_end, congestion_expired, expires, ticked, timed}
+use Rattle.tcp_endpoint.specs.ReceiveHalf.{Receiving, receiving_up_to, read_out}
+use Rattle.tcp_endpoint.specs.SendHalf.{Sending, sending_from, bytes_end, congestion_expired, expires, ticked, timed}
 use Rattle.tcp_endpoint.specs.Tcb.{Tcb, kept_limit, listening, connecting}
 use Rattle.tcp_endpoint.specs.Arrival.{ack_at, received, received_in, in_syn_sent, answered, with_reset_reply, with_reset}
-use Rattle.tcp_endpoint.specs.Leaving.{head_at, opening_segment, retransmitted_segment, reset_reply_out, retransmission_out, probe_out, text_out, texts, fin_out, full_out, is_ack_pending, leaving, with_advertised, with_turn_ended, with_fin_out, with_probe, with_text_sent, after_full, is_timed, flushed}
-use Rattle.tcp_endpoint.specs.Turning.{after_tick, timer_ticked, waited}
+use Rattle.tcp_endpoint.specs.Output.{head_at, opening_segment, retransmitted_segment, reset_reply_out, retransmission_out, probe_out, text_out, texts, fin_out, full_out, is_ack_pending, leaving, with_advertised, with_turn_ended, with_fin_out, with_probe, with_text_sent, after_full, is_timed, flushed}
+use Rattle.tcp_endpoint.specs.UserCalls.{after_tick, timer_ticked, waited}
 use Rattle.endpoint_laws.specs.Laws.{Bounds, IsBounded, asks}
 use Rattle.endpoint_laws.specs.Turn.{Call, MayCall, MayUse, IsBetweenTurns, arrived, called, used, before_flush, turned, sent_in}
 use Rattle.endpoint_laws.specs.Turn.Call.{Reads, Writes, Closes}
-use Rattle.endpoint_laws.specs.Ending.{IsNamedRightly}
-use Rattle.endpoint_laws.specs.Announcing.{Advertises, is_told, ReadsOnlyTaken}
-use Rattle.endpoint_laws.specs.Connecting.{IsConnecting, FieldsFit}
+use Rattle.endpoint_laws.specs.ConnectionEnd.{IsNamedRightly}
+use Rattle.endpoint_laws.specs.Advertisement.{Advertises, is_told, ReadsOnlyTaken}
+use Rattle.endpoint_laws.specs.ActiveOpen.{IsConnecting, FieldsFit}
 use Rattle.endpoint_laws.proofs.Bounding.{bounded_in_syn_sent}
 use Rattle.endpoint_laws.proofs.Calls.{FinIsLast, IsUsed, used_is, bounded_used}
 use Rattle.endpoint_laws.proofs.Arrivals.{no_probe}

@@ -14,17 +14,17 @@ use Rattle.tcp_buffers.specs.Near.{is_ahead}
 use Rattle.tcp_endpoint.specs.declared.states.StateName.{StateName}
 use Rattle.tcp_endpoint.specs.declared.states.StateName.TheVariants.{Closed, Listen, SynSent, SynReceived, Established, FinWait1, FinWait2, CloseWait, Closing, LastAck, TimeWait}
 use Rattle.tcp_endpoint.specs.States.{after_syn_acked, after_close, after_fin, after_fin_acked, is_time_wait, has_begun}
-use Rattle.tcp_endpoint.specs.Receiving.{Receiving, next, taken, receive_edge, window, with_came, with_segment}
-use Rattle.tcp_endpoint.specs.Sending.{Sending, with_syn_acked, acknowledged, fin_acked, congestion_expired, send_edge, sendable, sends_fin, timed, expires, with_sent, with_fin_sent}
+use Rattle.tcp_endpoint.specs.ReceiveHalf.{Receiving, next, taken, receive_edge, window, with_came, with_segment}
+use Rattle.tcp_endpoint.specs.SendHalf.{Sending, with_syn_acked, acknowledged, fin_acked, congestion_expired, send_edge, sendable, sends_fin, timed, expires, with_sent, with_fin_sent}
 use Rattle.tcp_endpoint.specs.Tcb.{Tcb}
 use Rattle.tcp_endpoint.specs.Arrival.{first, ack_at, with_ack_pending_if, with_reset, entering, with_reset_reply, begun, with_text_and_fin, with_fin_acked, with_first_ack, with_ack_used, with_ack, check_ack, check_syn, check_rst, with_time_wait_restarted, check_sequence, in_others, received}
 use Rattle.tcp_endpoint.specs.Arrival as check
-use Rattle.tcp_endpoint.specs.Leaving.{probes_text, probes_fin, with_probe, with_text_sent, with_fin_out, after_full, with_advertised, with_turn_ended, flushed, reset_reply_segments}
-use Rattle.tcp_endpoint.specs.Turning.{after_tick, timer_ticked, waited}
+use Rattle.tcp_endpoint.specs.Output.{probes_text, probes_fin, with_probe, with_text_sent, with_fin_out, after_full, with_advertised, with_turn_ended, flushed, reset_reply_segments}
+use Rattle.tcp_endpoint.specs.UserCalls.{after_tick, timer_ticked, waited}
 use Rattle.endpoint_laws.specs.Turn.{Call, called, used, IsBetweenTurns, arrived, before_flush, turned, sent_in}
 use Rattle.endpoint_laws.specs.Turn.Call.{Reads, Writes, Closes}
-use Rattle.endpoint_laws.specs.Ending.{IsNamed, IsNamedRightly, resets, is_over}
-use Rattle.endpoint_laws.specs.Listening.{IsListening}
+use Rattle.endpoint_laws.specs.ConnectionEnd.{IsNamed, IsNamedRightly, resets, is_over}
+use Rattle.endpoint_laws.specs.PassiveOpen.{IsListening}
 use Rattle.endpoint_laws.proofs.TakenLaw.{begun_is, goes_on}
 use Rattle.endpoint_laws.proofs.Listening.{begun_by, closed_by_calls}
 use Rattle.endpoint_laws.proofs.SendingLaw.{answered_at, used_with, used_is}

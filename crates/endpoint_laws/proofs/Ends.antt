@@ -12,19 +12,19 @@ use Rattle.ft_model.specs.Point as point
 use Rattle.ft_model.specs.News.{News}
 use Rattle.ft_model.specs.News.News.{Comes, Logged, Ticks, Begins}
 use Rattle.ft_model.specs.Taken.{accepts, uses, counts}
-use Rattle.ft_model.specs.Owed.{is_refused}
+use Rattle.ft_model.specs.PendingAck.{is_refused}
 use Rattle.ft_model.specs.Sending.{syn_acked_after, sent_at_once, sent_after}
 use Rattle.ft_model.specs.Timer as timer
 use Rattle.tcp_endpoint.specs.declared.states.StateName.{StateName}
 use Rattle.tcp_endpoint.specs.declared.states.StateName.TheVariants.{Closed, Listen, SynSent, SynReceived, Established, FinWait1, FinWait2, CloseWait, Closing, LastAck, TimeWait}
 use Rattle.tcp_endpoint.specs.States.{has_begun}
-use Rattle.tcp_endpoint.specs.Sending.{target, send_edge, fin_acked}
+use Rattle.tcp_endpoint.specs.SendHalf.{target, send_edge, fin_acked}
 use Rattle.tcp_endpoint.specs.Tcb.{Tcb}
-use Rattle.tcp_endpoint.specs.Leaving.{reset_reply_segments, reset_reply_out}
+use Rattle.tcp_endpoint.specs.Output.{reset_reply_segments, reset_reply_out}
 use Rattle.endpoint_laws.specs.Laws.{ProbesRightly}
 use Rattle.endpoint_laws.specs.Turn.{Call, MayUse, IsUsualNews, IsBetweenTurns, arrived, used, before_flush}
-use Rattle.endpoint_laws.specs.Standing.{SendsAt, StandsAt, MeetsLaws, IsUsedAt, EndsAt, refuses, refusals}
-use Rattle.endpoint_laws.specs.Ending.{IsNamed, IsNamedRightly, has_taken_fin, resets}
+use Rattle.endpoint_laws.specs.Refinement.{SendsAt, StandsAt, MeetsLaws, IsUsedAt, EndsAt, refuses, refusals}
+use Rattle.endpoint_laws.specs.ConnectionEnd.{IsNamed, IsNamedRightly, has_taken_fin, resets}
 use Rattle.endpoint_laws.proofs.Calls.{FinIsLast, IsUsed, used_is, bounded_used, last_used, probes_used}
 use Rattle.endpoint_laws.proofs.Arrivals.{Arrived, arrives}
 use Rattle.endpoint_laws.proofs.AnswersAlone.{reset_reply_none, closed_sends}

@@ -7,9 +7,9 @@ use Rattle.ft_model.specs.Sending.{is_third_duplicate}
 use Rattle.ft_model.specs.Timer.{expires}
 use Rattle.tcp_endpoint.specs.States.{has_begun}
 use Rattle.tcp_endpoint.specs.Tcb.{Tcb}
-use Rattle.tcp_endpoint.specs.Leaving.{reset_reply_out}
+use Rattle.tcp_endpoint.specs.Output.{reset_reply_out}
 use Rattle.endpoint_laws.specs.Laws.{IsBounded, ProbesRightly}
-use Rattle.endpoint_laws.specs.Standing.{ReceivesAt, SendsAt, IsUsedAt, refusals}
+use Rattle.endpoint_laws.specs.Refinement.{ReceivesAt, SendsAt, IsUsedAt, refusals}
 
 -- what was sent before is unacknowledged after: the SYN, text or the FIN
 abbrev pub waits_for_ack : (before after : Point) → Bool

@@ -7,7 +7,7 @@ pub mod OwedLaw
 pub mod StandingLaw
 pub mod ToldLaw
 pub mod Flushing
-pub mod Answering
+pub mod ResetReply
 pub mod Calls
 pub mod Arrivals
 pub mod TurnEnd
@@ -16,7 +16,7 @@ pub mod TimerAt
 pub mod Turns
 pub mod Points
 pub mod Listening
-pub mod Beginning
+pub mod FirstPoint
 pub mod EndingLaw
 pub mod Ends
 pub mod Rsts

@@ -12,16 +12,16 @@ use Rattle.ft_model.specs.Opening.{is_syn}
 use Rattle.tcp_endpoint.specs.declared.states.StateName.{StateName}
 use Rattle.tcp_endpoint.specs.declared.states.StateName.TheVariants.{Closed, Listen}
 use Rattle.tcp_endpoint.specs.States.{after_close, is_closed}
-use Rattle.tcp_endpoint.specs.Receiving.{Receiving, receiving_up_to, read_out}
-use Rattle.tcp_endpoint.specs.Sending.{Sending, sending_from, bytes_end}
+use Rattle.tcp_endpoint.specs.ReceiveHalf.{Receiving, receiving_up_to, read_out}
+use Rattle.tcp_endpoint.specs.SendHalf.{Sending, sending_from, bytes_end}
 use Rattle.tcp_endpoint.specs.Tcb.{Tcb, kept_limit, listening}
 use Rattle.tcp_endpoint.specs.Arrival.{received, received_in, in_listen, begun, with_reset_reply}
-use Rattle.tcp_endpoint.specs.Leaving.{with_advertised, with_turn_ended, with_fin_out, with_probe, with_text_sent, after_full, flushed}
-use Rattle.tcp_endpoint.specs.Turning.{after_tick, timer_ticked, waited}
+use Rattle.tcp_endpoint.specs.Output.{with_advertised, with_turn_ended, with_fin_out, with_probe, with_text_sent, after_full, flushed}
+use Rattle.tcp_endpoint.specs.UserCalls.{after_tick, timer_ticked, waited}
 use Rattle.endpoint_laws.specs.Laws.{Bounds, IsBounded}
 use Rattle.endpoint_laws.specs.Turn.{Call, MayCall, MayUse, arrived, called, used, before_flush, turned}
 use Rattle.endpoint_laws.specs.Turn.Call.{Reads, Writes, Closes}
-use Rattle.endpoint_laws.specs.Listening.{IsListening, brings_syn}
+use Rattle.endpoint_laws.specs.PassiveOpen.{IsListening, brings_syn}
 
 -- a passive open listens
 pub listens_at_listen : (local : Addr) (iss limit : ℕ) → IsListening iss limit (listening local iss limit)

@@ -13,18 +13,18 @@ use Rattle.ft_model.specs.Refusal.{rst_at_ack, rst_behind}
 use Rattle.tcp_endpoint.specs.declared.states.StateName.{StateName}
 use Rattle.tcp_endpoint.specs.declared.states.StateName.TheVariants.{Closed, Listen, SynSent, SynReceived, Established}
 use Rattle.tcp_endpoint.specs.States.{after_close, is_syn_sent, is_time_wait, has_begun}
-use Rattle.tcp_endpoint.specs.Receiving.{window, receiving_up_to}
-use Rattle.tcp_endpoint.specs.Sending.{Sending, expires}
+use Rattle.tcp_endpoint.specs.ReceiveHalf.{window, receiving_up_to}
+use Rattle.tcp_endpoint.specs.SendHalf.{Sending, expires}
 use Rattle.tcp_endpoint.specs.Tcb.{Tcb, kept_limit, listening, connecting}
 use Rattle.tcp_endpoint.specs.Arrival.{ack_at, received, received_in, in_closed, in_listen, in_syn_sent, begun, answered, with_reset_reply, with_reset_reply_without_ack, with_reset}
-use Rattle.tcp_endpoint.specs.Leaving.{head_at, opening_segment, reset_reply_segments, leaving, with_advertised, is_timed, with_turn_ended, with_fin_out, with_probe, with_text_sent, after_full, flushed}
-use Rattle.tcp_endpoint.specs.Turning.{after_tick, timer_ticked, waited}
+use Rattle.tcp_endpoint.specs.Output.{head_at, opening_segment, reset_reply_segments, leaving, with_advertised, is_timed, with_turn_ended, with_fin_out, with_probe, with_text_sent, after_full, flushed}
+use Rattle.tcp_endpoint.specs.UserCalls.{after_tick, timer_ticked, waited}
 use Rattle.endpoint_laws.specs.Laws.{ticked_interval, ticked_rest, IsTimedBy}
 use Rattle.endpoint_laws.specs.Turn.{Call, MayUse, arrived, called, used, before_flush, turned, sent_in}
 use Rattle.endpoint_laws.specs.Turn.Call.{Reads, Writes, Closes}
-use Rattle.endpoint_laws.specs.Announcing.{Advertises, is_told, ReadsOnlyTaken}
-use Rattle.endpoint_laws.specs.Listening.{IsListening, brings_syn}
-use Rattle.endpoint_laws.specs.Connecting.{IsConnecting}
+use Rattle.endpoint_laws.specs.Advertisement.{Advertises, is_told, ReadsOnlyTaken}
+use Rattle.endpoint_laws.specs.PassiveOpen.{IsListening, brings_syn}
+use Rattle.endpoint_laws.specs.ActiveOpen.{IsConnecting}
 use Rattle.endpoint_laws.specs.Unconnected.{sent_in_closed, sent_in_listen, acknowledges_syn, refused_in_syn_sent, resets_in_syn_sent, answers_in_syn_sent, state_after_syn_sent, syn_of, expires_at, interval_waiting, rest_waiting}
 use Rattle.endpoint_laws.proofs.AnswersAlone.{reset_reply_none, closed_sends, listen_sends, syn_sent_sends}
 use Rattle.endpoint_laws.proofs.Listening.{begun_by, listening_is, listens_arrived, closed_by_calls}

@@ -8,8 +8,8 @@ use Rattle.seq_arith.specs.Packet.{Segment, has_syn, has_rst, has_ack}
 use Rattle.seq_arith.specs.Offset.{length_of}
 use Rattle.tcp_buffers.specs.Near.{is_ahead}
 use Rattle.tcp_endpoint.specs.States.{after_syn_acked, after_fin, after_fin_acked, has_begun}
-use Rattle.tcp_endpoint.specs.Receiving.{next, window}
-use Rattle.tcp_endpoint.specs.Sending.{with_syn_acked, fin_acked}
+use Rattle.tcp_endpoint.specs.ReceiveHalf.{next, window}
+use Rattle.tcp_endpoint.specs.SendHalf.{with_syn_acked, fin_acked}
 use Rattle.tcp_endpoint.specs.Tcb.{Tcb}
 use Rattle.tcp_endpoint.specs.Arrival.{first, ack_at, with_ack_pending_if, with_reset, entering, with_text_and_fin, with_fin_acked, with_first_ack, with_ack_used, with_ack, check_ack, check_syn, check_rst, with_time_wait_restarted, check_sequence, in_others, received, with_reset_reply}
 use Rattle.tcp_endpoint.specs.Arrival as check

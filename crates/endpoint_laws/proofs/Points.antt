@@ -11,10 +11,10 @@ use Rattle.ft_model.specs.News.{News}
 use Rattle.ft_model.specs.Sending.{sent_at_once, sent_after}
 use Rattle.ft_model.specs.Timer.{must_run, interval_after, rest_after}
 use Rattle.tcp_endpoint.specs.States.{has_begun}
-use Rattle.tcp_endpoint.specs.Sending.{Sending, bytes_end}
+use Rattle.tcp_endpoint.specs.SendHalf.{Sending, bytes_end}
 use Rattle.tcp_endpoint.specs.Tcb.{Tcb}
 use Rattle.endpoint_laws.specs.Turn.{Call, MayUse, IsUsualNews, IsBetweenTurns, arrived, used, before_flush}
-use Rattle.endpoint_laws.specs.Standing.{StandsAt, MeetsLaws, IsUsedAt}
+use Rattle.endpoint_laws.specs.Refinement.{StandsAt, MeetsLaws, IsUsedAt}
 use Rattle.endpoint_laws.proofs.Calls.{FinIsLast, IsUsed, used_is, last_used}
 use Rattle.endpoint_laws.proofs.Arrivals.{moved, Arrived, arrives}
 

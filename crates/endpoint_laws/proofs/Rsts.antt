@@ -12,15 +12,15 @@ use Rattle.ft_model.specs.News.News.{Comes, Logged, Ticks, Begins}
 use Rattle.tcp_endpoint.specs.declared.states.StateName.{StateName}
 use Rattle.tcp_endpoint.specs.declared.states.StateName.TheVariants.{Closed, Listen, SynSent, SynReceived, Established, FinWait1, FinWait2, CloseWait, Closing, LastAck, TimeWait}
 use Rattle.tcp_endpoint.specs.States.{after_syn_acked, has_begun}
-use Rattle.tcp_endpoint.specs.Receiving.{next}
-use Rattle.tcp_endpoint.specs.Sending.{with_syn_acked}
+use Rattle.tcp_endpoint.specs.ReceiveHalf.{next}
+use Rattle.tcp_endpoint.specs.SendHalf.{with_syn_acked}
 use Rattle.tcp_endpoint.specs.Tcb.{Tcb}
 use Rattle.tcp_endpoint.specs.Arrival.{first, ack_at, with_ack_pending_if, with_reset, with_reset_reply, with_reset_reply_without_ack, begun, answered, in_closed, in_listen, in_syn_sent, with_text_and_fin, with_first_ack, with_ack, check_ack, check_syn, check_rst, with_time_wait_restarted, check_sequence, in_others, received_in, received}
-use Rattle.tcp_endpoint.specs.Leaving.{reset_reply_segments}
-use Rattle.tcp_endpoint.specs.Turning.{after_tick, timer_ticked, waited}
+use Rattle.tcp_endpoint.specs.Output.{reset_reply_segments}
+use Rattle.tcp_endpoint.specs.UserCalls.{after_tick, timer_ticked, waited}
 use Rattle.endpoint_laws.specs.Turn.{arrived}
 use Rattle.endpoint_laws.proofs.TakenLaw.{goes_on}
-use Rattle.endpoint_laws.proofs.Answering.{Beside, apart_beside, reset_reply_apart, later_part}
+use Rattle.endpoint_laws.proofs.ResetReply.{Beside, apart_beside, reset_reply_apart, later_part}
 use Rattle.ft_io.proofs.Choices.{holds_if}
 
 abbrev pub IsRst : Option Head → Type 0

@@ -17,11 +17,11 @@ use Rattle.ft_model.specs.Segments as model
 use Rattle.tcp_endpoint.specs.declared.states.StateName.{StateName}
 use Rattle.tcp_endpoint.specs.declared.states.StateName.TheVariants.{Closed, Listen, SynSent, SynReceived, Established, FinWait1, FinWait2, CloseWait, Closing, LastAck, TimeWait}
 use Rattle.tcp_endpoint.specs.States.{is_closed, is_syn_sent, has_begun}
-use Rattle.tcp_endpoint.specs.Receiving.{Receiving, next, window}
-use Rattle.tcp_endpoint.specs.Sending.{Sending, is_unacknowledged, send_edge, sendable, sends_fin, resent_length, with_sent, with_fin_sent}
+use Rattle.tcp_endpoint.specs.ReceiveHalf.{Receiving, next, window}
+use Rattle.tcp_endpoint.specs.SendHalf.{Sending, is_unacknowledged, send_edge, sendable, sends_fin, resent_length, with_sent, with_fin_sent}
 use Rattle.tcp_endpoint.specs.Tcb.{Tcb}
-use Rattle.tcp_endpoint.specs.Leaving.{head_at, opening_segment, text_at, fin_at, texts, reset_reply_out, retransmitted_segment, retransmission_out, probes, probes_text, probes_fin, probe_out, with_probe, new_length, text_out, with_text_sent, fin_out, with_fin_out, full_out, after_full, bare_segment}
-use Rattle.endpoint_laws.specs.Standing.{ReceivesAt, HasWrittenAll, HasFilled, refusals}
+use Rattle.tcp_endpoint.specs.Output.{head_at, opening_segment, text_at, fin_at, texts, reset_reply_out, retransmitted_segment, retransmission_out, probes, probes_text, probes_fin, probe_out, with_probe, new_length, text_out, with_text_sent, fin_out, with_fin_out, full_out, after_full, bare_segment}
+use Rattle.endpoint_laws.specs.Refinement.{ReceivesAt, HasWrittenAll, HasFilled, refusals}
 use Rattle.endpoint_laws.proofs.TakenLaw.{if_when, window_is}
 use Rattle.endpoint_laws.proofs.StandingLaw.{next_is, room_is}
 use Rattle.endpoint_laws.proofs.TurnLaw.{after_steps, fin_unsent, waits_fin, probing, nothing_held}

@@ -11,12 +11,12 @@ use Rattle.seq_arith.specs.Congestion.{Congestion, with_new_data, is_third, with
 use Rattle.tcp_buffers.specs.Near.{IsNearFirst, is_ahead}
 use Rattle.tcp_buffers.proofs.NumbersTell.{between_is, same_is}
 use Rattle.tcp_endpoint.specs.States.{after_syn_acked, after_fin, after_fin_acked, has_begun}
-use Rattle.tcp_endpoint.specs.Receiving.{Receiving, taken, next, advertised_edge}
-use Rattle.tcp_endpoint.specs.Sending.{Sending, with_syn_acked, acknowledged, duplicated, answered_by, fin_acked, moves_edge, expires}
-use Rattle.tcp_endpoint.specs.Sending as sender
+use Rattle.tcp_endpoint.specs.ReceiveHalf.{Receiving, taken, next, advertised_edge}
+use Rattle.tcp_endpoint.specs.SendHalf.{Sending, with_syn_acked, acknowledged, duplicated, answered_by, fin_acked, moves_edge, expires}
+use Rattle.tcp_endpoint.specs.SendHalf as sender
 use Rattle.tcp_endpoint.specs.Tcb.{Tcb}
 use Rattle.tcp_endpoint.specs.Arrival.{first, ack_at, with_ack_pending_if, entering, with_text_and_fin, with_fin_acked, with_first_ack, is_bare, with_ack_used, with_ack, with_time_wait_restarted, in_others, received, with_reset_reply}
-use Rattle.tcp_endpoint.specs.Turning.{after_tick, timer_ticked, waited}
+use Rattle.tcp_endpoint.specs.UserCalls.{after_tick, timer_ticked, waited}
 use Rattle.endpoint_laws.specs.Laws.{uses, counts, acknowledges, uses_window, is_duplicate, is_third_duplicate, congestion_by, congestion_ticked, IsSentBy, IsBounded, IsUsual}
 use Rattle.tcp_endpoint.proofs.Places.{near_of_usable}
 use Rattle.endpoint_laws.proofs.TakenLaw.{part_of_if, same_if, if_when, by_checks, begun_is, Aside, at_ack, goes_on, others_part, segment_taken, sent_bool, few_sent, counts_plain, text_whole, fin_whole, chosen_is, dull, dull_more, dull_most}

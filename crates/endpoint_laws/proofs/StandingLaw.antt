@@ -20,12 +20,12 @@ use Rattle.ft_model.specs.Taken as model
 use Rattle.ft_model.specs.Sending as sender
 use Rattle.tcp_buffers.specs.Near.{IsNearFirst}
 use Rattle.tcp_endpoint.specs.States.{has_begun}
-use Rattle.tcp_endpoint.specs.Receiving.{Receiving, taken, next, receive_edge, advertised_edge, came, with_came}
-use Rattle.tcp_endpoint.specs.Sending.{Sending}
+use Rattle.tcp_endpoint.specs.ReceiveHalf.{Receiving, taken, next, receive_edge, advertised_edge, came, with_came}
+use Rattle.tcp_endpoint.specs.SendHalf.{Sending}
 use Rattle.tcp_endpoint.specs.Tcb.{Tcb}
 use Rattle.tcp_endpoint.specs.Arrival.{first, ack_at, received}
 use Rattle.endpoint_laws.specs.Laws.{accepts, uses, counts, taken_by, acknowledges, uses_window, is_duplicate, is_third_duplicate, congestion_by, IsSentBy, IsBounded, IsUsual}
-use Rattle.endpoint_laws.specs.Standing.{ReceivesAt, SendsAt}
+use Rattle.endpoint_laws.specs.Refinement.{ReceivesAt, SendsAt}
 use Rattle.tcp_endpoint.proofs.Places.{near_of_usable}
 use Rattle.endpoint_laws.proofs.TakenLaw.{part_of_if, if_when, taken_law}
 use Rattle.endpoint_laws.proofs.Bounding.{taken_within}

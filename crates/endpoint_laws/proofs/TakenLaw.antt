@@ -11,8 +11,8 @@ use Rattle.tcp_buffers.specs.Near.{is_ahead}
 use Rattle.tcp_endpoint.specs.declared.states.StateName.{StateName}
 use Rattle.tcp_endpoint.specs.declared.states.StateName.TheVariants.{Closed, Listen, SynSent, SynReceived, Established, FinWait1, FinWait2, CloseWait, Closing, LastAck, TimeWait}
 use Rattle.tcp_endpoint.specs.States.{after_syn_acked, after_fin, after_fin_acked, has_begun}
-use Rattle.tcp_endpoint.specs.Receiving.{Receiving, next, advertised_edge, window, with_segment}
-use Rattle.tcp_endpoint.specs.Sending.{with_syn_acked, fin_acked}
+use Rattle.tcp_endpoint.specs.ReceiveHalf.{Receiving, next, advertised_edge, window, with_segment}
+use Rattle.tcp_endpoint.specs.SendHalf.{with_syn_acked, fin_acked}
 use Rattle.tcp_endpoint.specs.Tcb.{Tcb}
 use Rattle.tcp_endpoint.specs.Arrival.{first, ack_at, with_ack_pending_if, with_reset, entering, with_text_and_fin, with_fin_acked, with_first_ack, with_ack_used, with_ack, check_ack, check_syn, check_rst, with_time_wait_restarted, check_sequence, in_others, received_in, received, with_reset_reply}
 use Rattle.tcp_endpoint.specs.Arrival as check

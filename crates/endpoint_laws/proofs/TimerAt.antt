@@ -10,14 +10,14 @@ use Rattle.ft_model.specs.News.News.{Comes, Logged, Ticks, Begins}
 use Rattle.ft_model.specs.Sending.{syn_acked_after, acknowledged_after}
 use Rattle.ft_model.specs.Timer as timer
 use Rattle.tcp_endpoint.specs.States.{has_begun}
-use Rattle.tcp_endpoint.specs.Sending.{Sending, target, must_run}
+use Rattle.tcp_endpoint.specs.SendHalf.{Sending, target, must_run}
 use Rattle.tcp_endpoint.specs.Tcb.{Tcb}
 use Rattle.tcp_endpoint.specs.Arrival.{received}
-use Rattle.tcp_endpoint.specs.Leaving.{after_full, is_timed, flushed}
-use Rattle.tcp_endpoint.specs.Turning.{after_tick}
+use Rattle.tcp_endpoint.specs.Output.{after_full, is_timed, flushed}
+use Rattle.tcp_endpoint.specs.UserCalls.{after_tick}
 use Rattle.endpoint_laws.specs.Laws.{starts, IsTimedBy}
 use Rattle.endpoint_laws.specs.Turn.{IsUsualNews, IsBetweenTurns, arrived}
-use Rattle.endpoint_laws.specs.Standing.{StandsAt, MeetsLaws}
+use Rattle.endpoint_laws.specs.Refinement.{StandsAt, MeetsLaws}
 use Rattle.endpoint_laws.proofs.TurnLaw.{flushed_timer, timer_law, ticked_law}
 use Rattle.endpoint_laws.proofs.Calls.{IsUsed, runs_used}
 use Rattle.endpoint_laws.proofs.Arrivals.{Arrived}

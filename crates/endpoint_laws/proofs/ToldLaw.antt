@@ -8,12 +8,12 @@ use Rattle.seq_arith.specs.Packet.{Segment, has_syn, has_rst, has_ack}
 use Rattle.seq_arith.specs.Offset.{one_if}
 use Rattle.tcp_buffers.specs.Near.{is_ahead}
 use Rattle.tcp_endpoint.specs.States.{after_syn_acked, after_fin, after_fin_acked, is_syn_sent, has_begun}
-use Rattle.tcp_endpoint.specs.Receiving.{next, advertised_edge}
-use Rattle.tcp_endpoint.specs.Sending.{Sending, with_syn_acked, fin_acked, congestion_expired, target, send_edge, sendable, sends_fin, must_run, timed, expires, ticked, with_sent, with_fin_sent}
+use Rattle.tcp_endpoint.specs.ReceiveHalf.{next, advertised_edge}
+use Rattle.tcp_endpoint.specs.SendHalf.{Sending, with_syn_acked, fin_acked, congestion_expired, target, send_edge, sendable, sends_fin, must_run, timed, expires, ticked, with_sent, with_fin_sent}
 use Rattle.tcp_endpoint.specs.Tcb.{Tcb}
 use Rattle.tcp_endpoint.specs.Arrival.{ack_at, with_ack_pending_if, entering, with_text_and_fin, with_fin_acked, with_first_ack, with_ack_used, with_ack, with_time_wait_restarted, received, with_reset_reply}
-use Rattle.tcp_endpoint.specs.Leaving.{or_bare, is_ack_pending, bare_segment, full_out, leaving, probes_text, probes_fin, with_probe, with_text_sent, with_fin_out, after_full, with_advertised, is_timed, with_turn_ended, flushed}
-use Rattle.tcp_endpoint.specs.Turning.{after_tick, timer_ticked, waited, after_write}
+use Rattle.tcp_endpoint.specs.Output.{or_bare, is_ack_pending, bare_segment, full_out, leaving, probes_text, probes_fin, with_probe, with_text_sent, with_fin_out, after_full, with_advertised, is_timed, with_turn_ended, flushed}
+use Rattle.tcp_endpoint.specs.UserCalls.{after_tick, timer_ticked, waited, after_write}
 use Rattle.endpoint_laws.specs.Laws.{is_refused, needs_ack, last_advertised, asks, IsBounded, IsUsual, ProbesRightly, IsShut}
 use Rattle.endpoint_laws.proofs.TakenLaw.{part_of_if, same_if, if_when, begun_is, goes_on, Aside, at_ack, others_part, segment_taken}
 use Rattle.endpoint_laws.proofs.OwedLaw.{ack_pending_law}

@@ -9,11 +9,11 @@ use Rattle.ft_model.specs.Point.{Point}
 use Rattle.ft_model.specs.Point as point
 use Rattle.ft_model.specs.Timer as timer
 use Rattle.tcp_endpoint.specs.States.{is_syn_sent, has_begun}
-use Rattle.tcp_endpoint.specs.Sending.{Sending, target, must_run, timed, send_edge, sendable, sends_fin, with_sent, with_fin_sent}
+use Rattle.tcp_endpoint.specs.SendHalf.{Sending, target, must_run, timed, send_edge, sendable, sends_fin, with_sent, with_fin_sent}
 use Rattle.tcp_endpoint.specs.Tcb.{Tcb}
-use Rattle.tcp_endpoint.specs.Leaving.{probes_text, probes_fin, with_probe, with_text_sent, with_fin_out, after_full, with_advertised, is_timed, with_turn_ended, flushed}
+use Rattle.tcp_endpoint.specs.Output.{probes_text, probes_fin, with_probe, with_text_sent, with_fin_out, after_full, with_advertised, is_timed, with_turn_ended, flushed}
 use Rattle.endpoint_laws.specs.Laws.{IsBounded}
-use Rattle.endpoint_laws.specs.Standing.{SendsAt, HasWrittenAll, HasFilled, IsUsedAt}
+use Rattle.endpoint_laws.specs.Refinement.{SendsAt, HasWrittenAll, HasFilled, IsUsedAt}
 use Rattle.endpoint_laws.proofs.TurnLaw.{after_steps, by_probe, timed_sent}
 use Rattle.endpoint_laws.proofs.ToldLaw.{after_probe}
 use Rattle.endpoint_laws.proofs.Calls.{FinIsLast}

@@ -8,11 +8,11 @@ use Rattle.seq_arith.specs.Congestion.{Congestion}
 use Rattle.seq_arith.specs.Packet.{Segment}
 use Rattle.seq_arith.specs.Offset.{one_if}
 use Rattle.tcp_endpoint.specs.States.{has_begun}
-use Rattle.tcp_endpoint.specs.Sending.{Sending, with_syn_acked, acknowledged, congestion_expired, target, send_edge, sendable, sends_fin, ticked, timed, with_sent, with_fin_sent}
+use Rattle.tcp_endpoint.specs.SendHalf.{Sending, with_syn_acked, acknowledged, congestion_expired, target, send_edge, sendable, sends_fin, ticked, timed, with_sent, with_fin_sent}
 use Rattle.tcp_endpoint.specs.Tcb.{Tcb}
 use Rattle.tcp_endpoint.specs.Arrival.{ack_at, received}
-use Rattle.tcp_endpoint.specs.Leaving.{probes, probes_text, probes_fin, with_probe, with_text_sent, with_fin_out, after_full, with_advertised, is_timed, with_turn_ended, flushed}
-use Rattle.tcp_endpoint.specs.Turning.{after_tick, timer_ticked, waited}
+use Rattle.tcp_endpoint.specs.Output.{probes, probes_text, probes_fin, with_probe, with_text_sent, with_fin_out, after_full, with_advertised, is_timed, with_turn_ended, flushed}
+use Rattle.tcp_endpoint.specs.UserCalls.{after_tick, timer_ticked, waited}
 use Rattle.endpoint_laws.specs.Laws.{counts, IsBounded, IsUsual, ProbesRightly, sent_by_law, starts, interval_by, rest_by, ticked_interval, ticked_rest, IsTimedBy}
 use Rattle.endpoint_laws.proofs.SendingLaw.{later_by, sending_is}
 

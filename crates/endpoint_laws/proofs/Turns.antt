@@ -19,15 +19,15 @@ use Rattle.ft_model.specs.Sending.{acknowledges, acknowledged_by, window_by, syn
 use Rattle.ft_model.specs.Segments.{or_bare, bare_segment, resent, new_texts, new_fin}
 use Rattle.ft_model.specs.Timer as timer
 use Rattle.tcp_endpoint.specs.States.{has_begun}
-use Rattle.tcp_endpoint.specs.Receiving.{next}
-use Rattle.tcp_endpoint.specs.Receiving as half
-use Rattle.tcp_endpoint.specs.Sending.{is_unacknowledged}
+use Rattle.tcp_endpoint.specs.ReceiveHalf.{next}
+use Rattle.tcp_endpoint.specs.ReceiveHalf as half
+use Rattle.tcp_endpoint.specs.SendHalf.{is_unacknowledged}
 use Rattle.tcp_endpoint.specs.Tcb.{Tcb}
-use Rattle.tcp_endpoint.specs.Leaving.{reset_reply_out, full_out, leaving, after_full, with_advertised, with_turn_ended, flushed}
-use Rattle.tcp_endpoint.specs.Leaving as left
+use Rattle.tcp_endpoint.specs.Output.{reset_reply_out, full_out, leaving, after_full, with_advertised, with_turn_ended, flushed}
+use Rattle.tcp_endpoint.specs.Output as left
 use Rattle.endpoint_laws.specs.Laws.{IsBounded, ProbesRightly, asks, last_advertised}
 use Rattle.endpoint_laws.specs.Turn.{Call, MayUse, IsUsualNews, IsBetweenTurns, arrived, used, before_flush}
-use Rattle.endpoint_laws.specs.Standing.{ReceivesAt, SendsAt, StandsAt, MeetsLaws, IsUsedAt, news_needs_ack, is_ack_pending, refusals, segments_by_laws, LeadsTo}
+use Rattle.endpoint_laws.specs.Refinement.{ReceivesAt, SendsAt, StandsAt, MeetsLaws, IsUsedAt, news_needs_ack, is_ack_pending, refusals, segments_by_laws, LeadsTo}
 use Rattle.endpoint_laws.proofs.Bounding.{bounded_by_flush}
 use Rattle.endpoint_laws.proofs.TurnLaw.{sent_law}
 use Rattle.endpoint_laws.proofs.ToldLaw.{leaving_by, told_by_flush, shut_by_flush}

@@ -13,16 +13,16 @@ use Rattle.tcp_buffers.specs.Near.{is_ahead}
 use Rattle.tcp_endpoint.specs.declared.states.StateName.{StateName}
 use Rattle.tcp_endpoint.specs.declared.states.StateName.TheVariants.{Closed, Listen, SynSent, SynReceived, Established, FinWait1, FinWait2, CloseWait, Closing, LastAck, TimeWait}
 use Rattle.tcp_endpoint.specs.States.{after_syn_acked, after_close, after_fin, after_fin_acked, is_time_wait, has_begun}
-use Rattle.tcp_endpoint.specs.Receiving.{next, taken, with_segment}
-use Rattle.tcp_endpoint.specs.Sending.{Sending, with_syn_acked, acknowledged, fin_acked, congestion_expired, expires, ticked, timed}
+use Rattle.tcp_endpoint.specs.ReceiveHalf.{next, taken, with_segment}
+use Rattle.tcp_endpoint.specs.SendHalf.{Sending, with_syn_acked, acknowledged, fin_acked, congestion_expired, expires, ticked, timed}
 use Rattle.tcp_endpoint.specs.Tcb.{Tcb}
 use Rattle.tcp_endpoint.specs.Arrival.{first, ack_at, with_ack_pending_if, with_reset, entering, with_reset_reply, with_text_and_fin, with_fin_acked, with_first_ack, with_ack_used, with_ack, check_ack, check_syn, check_rst, repeats_fin, with_time_wait_restarted, check_sequence, in_others, received}
-use Rattle.tcp_endpoint.specs.Leaving.{probes_text, probes_fin, with_probe, with_text_sent, with_fin_out, after_full, with_advertised, is_timed, with_turn_ended, flushed}
-use Rattle.tcp_endpoint.specs.Turning.{after_tick, timer_ticked, waited}
+use Rattle.tcp_endpoint.specs.Output.{probes_text, probes_fin, with_probe, with_text_sent, with_fin_out, after_full, with_advertised, is_timed, with_turn_ended, flushed}
+use Rattle.tcp_endpoint.specs.UserCalls.{after_tick, timer_ticked, waited}
 use Rattle.endpoint_laws.specs.Turn.{Call, Events, IsBetweenTurns, arrived, called, used, before_flush, turned}
 use Rattle.endpoint_laws.specs.Turn.Call.{Reads, Writes, Closes}
-use Rattle.endpoint_laws.specs.Ending.{IsNamedRightly, resets}
-use Rattle.endpoint_laws.specs.Waiting.{time_wait_ticks, brings_fin_again, ticks_after, WaitsOut}
+use Rattle.endpoint_laws.specs.ConnectionEnd.{IsNamedRightly, resets}
+use Rattle.endpoint_laws.specs.TimeWait.{time_wait_ticks, brings_fin_again, ticks_after, WaitsOut}
 use Rattle.endpoint_laws.proofs.TakenLaw.{begun_is, goes_on}
 use Rattle.endpoint_laws.proofs.SendingLaw.{used_is}
 use Rattle.endpoint_laws.proofs.TurnLaw.{after_steps}

@@ -10,8 +10,8 @@ use Rattle.seq_arith.specs.Offset.{one_if, text_of, fin_of, length_of}
 use Rattle.seq_arith.specs.Coming.{StandsBehind}
 use Rattle.seq_arith.specs.Congestion.{Congestion, with_new_data, is_third, with_duplicate, with_expiry, IsOpen}
 use Rattle.tcp_buffers.specs.Near.{IsNearFirst}
-use Rattle.tcp_endpoint.specs.Receiving.{Receiving, taken, next, receive_edge, advertised_edge, with_segment}
-use Rattle.tcp_endpoint.specs.Sending.{Sending, target}
+use Rattle.tcp_endpoint.specs.ReceiveHalf.{Receiving, taken, next, receive_edge, advertised_edge, with_segment}
+use Rattle.tcp_endpoint.specs.SendHalf.{Sending, target}
 use Rattle.tcp_endpoint.specs.Tcb.{Tcb}
 use Rattle.tcp_endpoint.specs.Arrival.{first, ack_at}
 

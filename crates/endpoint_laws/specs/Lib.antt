@@ -1,9 +1,9 @@
 pub mod Laws
 pub mod Turn
-pub mod Listening
-pub mod Ending
-pub mod Standing
-pub mod Announcing
-pub mod Connecting
+pub mod PassiveOpen
+pub mod ConnectionEnd
+pub mod Refinement
+pub mod Advertisement
+pub mod ActiveOpen
 pub mod Unconnected
-pub mod Waiting
+pub mod TimeWait

@@ -4,12 +4,12 @@ use Rattle.std.specs.Prelude.{◌≡◌, ℕ, true, false, ◌+◌, ◌-◌, ◌
 use Rattle.seq_arith.specs.Packet.{Segment}
 use Rattle.ft_model.specs.News.{News}
 use Rattle.ft_model.specs.News.News.{Comes, Ticks}
-use Rattle.tcp_endpoint.specs.Receiving.{next, advertised_edge}
-use Rattle.tcp_endpoint.specs.Sending.{bytes_end, must_run}
+use Rattle.tcp_endpoint.specs.ReceiveHalf.{next, advertised_edge}
+use Rattle.tcp_endpoint.specs.SendHalf.{bytes_end, must_run}
 use Rattle.tcp_endpoint.specs.Tcb.{Tcb}
 use Rattle.tcp_endpoint.specs.Arrival.{received}
-use Rattle.tcp_endpoint.specs.Leaving.{leaving, flushed}
-use Rattle.tcp_endpoint.specs.Turning.{after_tick, after_read, after_write, closing, write_room}
+use Rattle.tcp_endpoint.specs.Output.{leaving, flushed}
+use Rattle.tcp_endpoint.specs.UserCalls.{after_tick, after_read, after_write, closing, write_room}
 use Rattle.endpoint_laws.specs.Laws.{IsBounded, IsUsual, IsShut, last_advertised}
 
 abbrev pub arrived : News → Tcb → Tcb

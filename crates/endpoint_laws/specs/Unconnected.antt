@@ -9,7 +9,7 @@ use Rattle.ft_model.specs.News.News.{Comes, Ticks}
 use Rattle.ft_model.specs.Refusal.{rst_at_ack, as_listen, as_closed}
 use Rattle.tcp_endpoint.specs.declared.states.StateName.{StateName}
 use Rattle.tcp_endpoint.specs.declared.states.StateName.TheVariants.{Closed, SynSent, Established}
-use Rattle.tcp_endpoint.specs.Sending.{Sending}
+use Rattle.tcp_endpoint.specs.SendHalf.{Sending}
 use Rattle.endpoint_laws.specs.Laws.{ticked_interval, ticked_rest}
 
 -- 3.10.7.1: CLOSED answers each segment except a RST with a RST

@@ -5,8 +5,8 @@ ghost use Rattle.ft_model.specs.News.{News};
 ghost use Rattle.tcp_endpoint.specs.States.{is_time_wait, has_begun};
 ghost use Rattle.tcp_endpoint.specs.Tcb.{Tcb};
 ghost use Rattle.endpoint_laws.specs.Turn.{Call, Events, IsBetweenTurns, before_flush, turned};
-ghost use Rattle.endpoint_laws.specs.Ending.{IsNamedRightly};
-ghost use Rattle.endpoint_laws.specs.Waiting.{WaitsOut};
+ghost use Rattle.endpoint_laws.specs.ConnectionEnd.{IsNamedRightly};
+ghost use Rattle.endpoint_laws.specs.TimeWait.{WaitsOut};
 
 /// From the turn in which it enters TIME-WAIT an endpoint stays there until the fourth tick, counted again from each turn in which the peer repeats its FIN.
 /// Then it is CLOSED. This holds whatever else arrives, except a RST at exactly the next number, and whatever the user does.

@@ -8,14 +8,14 @@ ghost use Rattle.ft_model.specs.News.{News};
 ghost use Rattle.ft_model.specs.News.News.{Comes};
 ghost use Rattle.ft_model.specs.Opening.{is_syn};
 ghost use Rattle.tcp_endpoint.specs.Arrival.{received};
-ghost use Rattle.endpoint_laws.specs.Announcing.{Advertises, is_told, ReadsOnlyTaken};
+ghost use Rattle.endpoint_laws.specs.Advertisement.{Advertises, is_told, ReadsOnlyTaken};
 ghost use Rattle.tcp_endpoint.specs.declared.states.StateName.TheVariants.{Closed, Listen, SynSent};
 ghost use Rattle.tcp_endpoint.specs.States.{is_syn_sent, has_begun};
 ghost use Rattle.tcp_endpoint.specs.Tcb.{Tcb};
 ghost use Rattle.endpoint_laws.specs.Laws.{IsTimedBy};
 ghost use Rattle.endpoint_laws.specs.Turn.{Call, MayUse, arrived, before_flush, turned, sent_in};
-ghost use Rattle.endpoint_laws.specs.Listening.{IsListening, brings_syn};
-ghost use Rattle.endpoint_laws.specs.Connecting.{IsConnecting};
+ghost use Rattle.endpoint_laws.specs.PassiveOpen.{IsListening, brings_syn};
+ghost use Rattle.endpoint_laws.specs.ActiveOpen.{IsConnecting};
 ghost use Rattle.endpoint_laws.specs.Unconnected.{sent_in_closed, sent_in_listen, refused_in_syn_sent, resets_in_syn_sent, state_after_syn_sent, syn_of};
 ghost use Rattle.endpoint_laws.specs.Unconnected.{expires_at, interval_waiting, rest_waiting};
 

@@ -12,7 +12,7 @@ use Rattle.ft_model.specs.Restart.{Fetched, wanted, point_of}
 use Rattle.ft_model.specs.Node.{Node, Place, Stage}
 use Rattle.ft_model.specs.Node.Place.{Opens, Lives, Ended}
 use Rattle.ft_model.specs.Node.Stage.{Serving}
-use Rattle.ft_model.specs.Serving.{AllGo}
+use Rattle.ft_model.specs.ServingTurn.{AllGo}
 use Rattle.ft_model.specs.Lawful.{Revives, all_restored}
 use Rattle.ft_model.specs.Growth.{IsPrefix}
 use Rattle.ft_model.specs.World.{World}

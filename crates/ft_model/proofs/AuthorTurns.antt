@@ -19,7 +19,7 @@ use Rattle.ft_model.specs.Refusal.{as_listen, as_closed, rst_at_ack, rst_behind,
 use Rattle.ft_model.specs.Node.{Node, Place, Input, is_for, pending_count}
 use Rattle.ft_model.specs.Node.Place.{Opens, Lives, Ended}
 use Rattle.ft_model.specs.Node.Input.{Packet_comes, Message_comes, Noise_comes, Tick_comes}
-use Rattle.ft_model.specs.Serving.{AllGo, newcomers, refusals, is_strange, ServingTurn}
+use Rattle.ft_model.specs.ServingTurn.{AllGo, newcomers, refusals, is_strange, ServingTurn}
 use Rattle.ft_model.specs.Lawful.{asked}
 use Rattle.ft_model.specs.Growth.{IsPrefix}
 use Rattle.ft_model.proofs.Lists.{or_left, all_append, all_find, found_passes, all_slice_get, same_key, none_is_some, some_is, or_cases}
@@ -32,7 +32,7 @@ use Rattle.server_trait.specs.Service.{reference}
 use Rattle.ft_model.specs.Connection.{ConnectionTurn, told_by}
 use Rattle.ft_model.specs.Copy.{copies}
 use Rattle.ft_model.specs.Node.{key_of, place_at, is_known}
-use Rattle.ft_model.specs.Serving.{PlaceTurn, is_asked, opens_at}
+use Rattle.ft_model.specs.ServingTurn.{PlaceTurn, is_asked, opens_at}
 use Rattle.ft_model.specs.Growth.{logged_lengths}
 use Rattle.ft_model.proofs.PlaceTurns.{place_went}
 use Rattle.ft_model.proofs.StageTurns.{either_turn}

@@ -20,7 +20,7 @@ use Rattle.ft_model.specs.Opening.{point_opened}
 use Rattle.ft_model.specs.Segments.{text_at, fin_segment, segments_of}
 use Rattle.ft_model.specs.Copy.{copies}
 use Rattle.ft_model.specs.Reads.{reads_told, read_messages, first_told}
-use Rattle.ft_model.specs.Ending.{dones, tells_done}
+use Rattle.ft_model.specs.ResetAndEnd.{dones, tells_done}
 use Rattle.ft_model.specs.Connection.{ResetTurn, LiveTurn, ConnectionTurn, told_by}
 use Rattle.ft_model.specs.Restart.{point_of}
 use Rattle.ft_model.specs.Node.{Place}

@@ -24,7 +24,7 @@ use Rattle.ft_model.specs.Sending.{acknowledges, acknowledged_by, acknowledged_a
 use Rattle.ft_model.specs.Segments.{segments_of}
 use Rattle.ft_model.specs.Copy.{copies}
 use Rattle.ft_model.specs.Reads.{reads_told, read_messages, first_told}
-use Rattle.ft_model.specs.Ending.{dones, tells_done}
+use Rattle.ft_model.specs.ResetAndEnd.{dones, tells_done}
 use Rattle.ft_model.specs.Connection.{ConnectionTurn, told_by}
 use Rattle.ft_model.specs.Node.{Place, Stage}
 use Rattle.ft_model.specs.Node.Place.{Opens, Lives, Ended}

@@ -27,7 +27,7 @@ use Rattle.ft_model.specs.Node.{Node, Place, Stage, Input, booted, pending_count
 use Rattle.ft_model.specs.Node.Place.{Opens, Lives, Ended}
 use Rattle.ft_model.specs.Node.Stage.{Asking, Fetching, Serving, Fenced}
 use Rattle.ft_model.specs.Node.Input.{Packet_comes, Message_comes, Noise_comes, Tick_comes}
-use Rattle.ft_model.specs.Serving.{newcomers, is_strange}
+use Rattle.ft_model.specs.ServingTurn.{newcomers, is_strange}
 use Rattle.ft_model.specs.Lawful.{Revives, all_restored, asked}
 use Rattle.ft_model.specs.Growth.{LogGrows, logged_lengths}
 use Rattle.ft_model.specs.Masked.{is_restarting}

@@ -4,7 +4,7 @@ use Rattle.ft_model.specs.News.News.{Comes, Begins}
 use Rattle.ft_model.specs.Opening.{point_opened}
 use Rattle.ft_model.specs.Node.{booted}
 use Rattle.ft_model.specs.Node.Place.{Opens, Lives}
-use Rattle.ft_model.specs.Serving.{PlaceTurn}
+use Rattle.ft_model.specs.ServingTurn.{PlaceTurn}
 use Rattle.ft_model.specs.Lawful.{Lawful, hello}
 use Rattle.ft_model.specs.WorkedRuns.Common.{echo, server, numbers, IsUnlawful}
 use Rattle.ft_model.specs.WorkedRuns.FirstPath.{begun_point}

@@ -11,7 +11,7 @@ use Rattle.seq_arith.proofs.MessageSpelling.{spelled_length}
 use Rattle.ft_model.specs.Growth.{IsPrefix}
 use Rattle.ft_model.specs.Wire.{CanBeTold}
 use Rattle.ft_model.specs.World.{Happens, Flipped}
-use Rattle.ft_model.specs.Weakened.{IsWrongOnce}
+use Rattle.ft_model.specs.WeakerLaw.{IsWrongOnce}
 use Rattle.ft_model.specs.WorkedRuns.Common.{echo, part_with, hello_text}
 use Rattle.ft_model.specs.WorkedRuns.FirstPath as path
 use Rattle.ft_model.specs.WorkedRuns.ChangedBit as run

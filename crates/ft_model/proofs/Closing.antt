@@ -6,7 +6,7 @@ use Rattle.ft_model.specs.Restart.{point_of, entry_in}
 use Rattle.ft_model.specs.Node.{Node, booted}
 use Rattle.ft_model.specs.Node.Place.{Opens, Lives}
 use Rattle.ft_model.specs.Lawful.{LawfulTurn, Lawful, Revives, Turn, hello}
-use Rattle.ft_model.specs.Serving.{PlaceTurn}
+use Rattle.ft_model.specs.ServingTurn.{PlaceTurn}
 use Rattle.ft_model.specs.WorkedRuns.Common.{echo, server, numbers, kept_with, fetched_with}
 use Rattle.ft_model.specs.WorkedRuns.Closing as run
 use Rattle.ft_model.proofs.Turns.{laws, alone, goes, serves}

@@ -15,7 +15,7 @@ use Rattle.ft_model.specs.Taken.{end_of}
 use Rattle.ft_model.specs.Growth.{IsPrefix}
 use Rattle.ft_model.specs.Copy.{from_start, copy_start, copied_text, copies_fin, una_part, copied_part, own_data, further_start, further_text, takes_held_fin, datas, further_data, or_una, copies}
 use Rattle.ft_model.proofs.Lists.{or_cases, all_append, take_first, prefix_refl}
-use Rattle.ft_model.proofs.Coming.{int_same}
+use Rattle.ft_model.proofs.StreamAgreement.{int_same}
 use Rattle.ft_io.proofs.Choices.{holds_if}
 
 -- the text that the news bring

@@ -11,7 +11,7 @@ use Rattle.ft_model.specs.Node.{Node, Place, Stage, Input, key_of, is_known, is_
 use Rattle.ft_model.specs.Node.Place.{Opens, Lives, Ended}
 use Rattle.ft_model.specs.Node.Stage.{Asking, Fetching, Serving, Fenced}
 use Rattle.ft_model.specs.Node.Input.{Packet_comes, Message_comes, Noise_comes, Tick_comes}
-use Rattle.ft_model.specs.Serving.{PlaceTurn, AllGo, newcomers, is_strange}
+use Rattle.ft_model.specs.ServingTurn.{PlaceTurn, AllGo, newcomers, is_strange}
 use Rattle.ft_model.specs.Growth.{IsPrefix}
 use Rattle.ft_model.specs.Lawful.{all_restored}
 use Rattle.ft_model.specs.Masked.{is_restarting}

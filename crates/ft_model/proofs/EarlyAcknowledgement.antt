@@ -10,7 +10,7 @@ use Rattle.ft_model.specs.Growth.{logged_units}
 use Rattle.ft_model.specs.Log.{log_after}
 use Rattle.ft_model.specs.Masked.{Masked}
 use Rattle.ft_model.specs.World.{Happens}
-use Rattle.ft_model.specs.Weakened.{IsWrongOnce}
+use Rattle.ft_model.specs.WeakerLaw.{IsWrongOnce}
 use Rattle.ft_model.specs.WorkedRuns.Common.{echo, key, to_log}
 use Rattle.ft_model.specs.WorkedRuns.FirstPath as path
 use Rattle.ft_model.specs.WorkedRuns.EarlyAcknowledgement as run

@@ -21,7 +21,7 @@ use Rattle.ft_model.specs.News.News.{Logged}
 use Rattle.ft_model.specs.Answered.{answered_after, reads_answered_after}
 use Rattle.ft_model.specs.Copy.{copies}
 use Rattle.ft_model.specs.Reads.{reads_told, read_messages, first_told}
-use Rattle.ft_model.specs.Ending.{dones, tells_done}
+use Rattle.ft_model.specs.ResetAndEnd.{dones, tells_done}
 use Rattle.ft_model.specs.Segments.{segments_of}
 use Rattle.ft_model.specs.Connection.{ResetTurn, LiveTurn, ConnectionTurn, told_by}
 use Rattle.ft_model.specs.Node.{Place, Stage}

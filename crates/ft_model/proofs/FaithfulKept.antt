@@ -28,7 +28,7 @@ use Rattle.ft_model.specs.Node.{Node, Place, Stage, Input, pending_count}
 use Rattle.ft_model.specs.Node.Place.{Opens, Lives}
 use Rattle.ft_model.specs.Node.Stage.{Asking, Fetching, Serving, Fenced}
 use Rattle.ft_model.specs.Node.Input.{Packet_comes, Message_comes, Noise_comes, Tick_comes}
-use Rattle.ft_model.specs.Serving.{newcomers, refusals, is_strange}
+use Rattle.ft_model.specs.ServingTurn.{newcomers, refusals, is_strange}
 use Rattle.ft_model.specs.Lawful.{asked}
 use Rattle.ft_model.specs.Growth.{LogGrows}
 use Rattle.ft_model.specs.World.{World, with_client}

@@ -17,7 +17,7 @@ use Rattle.ft_model.specs.Connection.{ConnectionTurn, told_by}
 use Rattle.ft_model.specs.Segments.{segments_of}
 use Rattle.ft_model.specs.Copy.{copies}
 use Rattle.ft_model.specs.Reads.{reads_told}
-use Rattle.ft_model.specs.Ending.{dones}
+use Rattle.ft_model.specs.ResetAndEnd.{dones}
 use Rattle.ft_model.specs.Restart.{Fetched, Wanted, wanted, live_entry, holding_segment}
 use Rattle.ft_model.specs.Restart.Wanted.{An_entry, Its_bytes, Its_lengths}
 use Rattle.ft_model.specs.Refusal.{as_listen, rst_at_ack}
@@ -25,7 +25,7 @@ use Rattle.ft_model.specs.Node.{Node, Place, Stage, Input, booted, is_for}
 use Rattle.ft_model.specs.Node.Place.{Opens, Lives, Ended}
 use Rattle.ft_model.specs.Node.Stage.{Asking, Fetching, Serving, Fenced}
 use Rattle.ft_model.specs.Node.Input.{Packet_comes, Message_comes, Noise_comes, Tick_comes}
-use Rattle.ft_model.specs.Serving.{refusals, is_strange}
+use Rattle.ft_model.specs.ServingTurn.{refusals, is_strange}
 use Rattle.ft_model.specs.Lawful.{Revives, LawfulTurn, all_restored, hello, asked, held}
 use Rattle.ft_model.specs.Masked.{is_restarting}
 use Rattle.ft_model.specs.World.{World, IsStart}

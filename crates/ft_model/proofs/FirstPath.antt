@@ -12,7 +12,7 @@ use Rattle.ft_model.specs.Node.Input.{Packet_comes, Message_comes}
 use Rattle.ft_model.specs.Node.{booted}
 use Rattle.ft_model.specs.Node.Stage.{Serving}
 use Rattle.ft_model.specs.Node.Place.{Opens, Lives}
-use Rattle.ft_model.specs.Serving.{PlaceTurn}
+use Rattle.ft_model.specs.ServingTurn.{PlaceTurn}
 use Rattle.ft_model.specs.Lawful.{LawfulTurn}
 use Rattle.ft_model.specs.Client.Move.{Syn, Text, Acknowledge}
 use Rattle.ft_model.specs.World.{Joint, Happens, IsStart}

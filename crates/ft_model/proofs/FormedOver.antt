@@ -15,7 +15,7 @@ use Rattle.ft_model.specs.Node.Place.{Opens, Lives, Ended}
 use Rattle.ft_model.specs.Node.Stage.{Asking, Fetching, Serving, Fenced}
 use Rattle.ft_model.specs.Node.Input.{Packet_comes, Message_comes, Noise_comes, Tick_comes}
 use Rattle.ft_model.specs.Lawful.{Revives, all_restored, asked, held}
-use Rattle.ft_model.specs.Serving.{newcomers}
+use Rattle.ft_model.specs.ServingTurn.{newcomers}
 use Rattle.ft_model.specs.Masked.{is_restarting}
 use Rattle.ft_model.specs.World.{World}
 use Rattle.ft_model.proofs.Lists.{all_weaker, all_both, all_find, all_slice_get, none_is_some, some_is}

@@ -18,7 +18,7 @@ use Rattle.ft_model.specs.News.{News}
 use Rattle.ft_model.specs.News.News.{Comes, Logged, Ticks, Begins}
 use Rattle.ft_model.specs.Reads.{next_length, may_read, next_read, with_read, Makes, read_messages, first_told, reads_told}
 use Rattle.ft_model.specs.Copy.{copies}
-use Rattle.ft_model.specs.Ending.{dones, tells_done}
+use Rattle.ft_model.specs.ResetAndEnd.{dones, tells_done}
 use Rattle.ft_model.specs.Segments.{segments_of}
 use Rattle.ft_model.specs.Opening.{is_syn, numbers_for, segment_size, point_opened}
 use Rattle.ft_model.specs.Refusal.{rst_at_ack, rst_behind, as_listen, as_closed, full_rst}
@@ -26,7 +26,7 @@ use Rattle.ft_model.specs.Connection.{ResetTurn, LiveTurn, ConnectionTurn, told_
 use Rattle.ft_model.specs.Node.{Node, Place, Input, pending_count}
 use Rattle.ft_model.specs.Node.Place.{Opens, Lives}
 use Rattle.ft_model.specs.Node.Input.{Packet_comes, Message_comes, Noise_comes, Tick_comes}
-use Rattle.ft_model.specs.Serving.{newcomers, refusals, is_strange}
+use Rattle.ft_model.specs.ServingTurn.{newcomers, refusals, is_strange}
 use Rattle.ft_model.specs.World.{World}
 use Rattle.ft_model.proofs.Lists.{all_weaker, all_map, all_append, none_is_some, some_is}
 use Rattle.ft_model.proofs.Services.{sum_append, prefix_length}

@@ -18,7 +18,7 @@ use Rattle.ft_model.specs.Point.{Point}
 use Rattle.ft_model.specs.News.{News}
 use Rattle.ft_model.specs.Copy.{copies}
 use Rattle.ft_model.specs.Reads.{reads_told, read_messages, first_told}
-use Rattle.ft_model.specs.Ending.{dones, tells_done}
+use Rattle.ft_model.specs.ResetAndEnd.{dones, tells_done}
 use Rattle.ft_model.specs.Segments.{segments_of}
 use Rattle.ft_model.specs.Connection.{ConnectionTurn, told_by}
 use Rattle.ft_model.specs.Opening.{is_syn, numbers_for}
@@ -27,7 +27,7 @@ use Rattle.ft_model.specs.Node.{Node, Place, Stage, Input, key_of, is_for, is_kn
 use Rattle.ft_model.specs.Node.Place.{Opens, Lives, Ended}
 use Rattle.ft_model.specs.Node.Stage.{Asking, Fetching, Serving, Fenced}
 use Rattle.ft_model.specs.Node.Input.{Packet_comes, Message_comes, Noise_comes, Tick_comes}
-use Rattle.ft_model.specs.Serving.{PlaceTurn, AllGo, newcomers, refusals, is_strange, opens_at, ServingTurn}
+use Rattle.ft_model.specs.ServingTurn.{PlaceTurn, AllGo, newcomers, refusals, is_strange, opens_at, ServingTurn}
 use Rattle.ft_model.specs.Lawful.{asked}
 use Rattle.ft_model.specs.World.{World}
 use Rattle.ft_model.proofs.Lists.{or_left, all_both, all_weaker, all_map, all_append, same_key, key_is, or_cases}

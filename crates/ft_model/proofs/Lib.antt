@@ -42,7 +42,7 @@ pub mod Asked
 pub mod Resumed
 pub mod Exact
 pub mod Stands
-pub mod Coming
+pub mod StreamAgreement
 pub mod Copied
 pub mod RightEdge
 pub mod BeyondNext
@@ -56,7 +56,7 @@ pub mod Faithful
 pub mod FaithfulKept
 pub mod FaithfulOver
 pub mod Acknowledged
-pub mod Held
+pub mod Reassembly
 pub mod Distinct
 pub mod Refused
 pub mod KnownKeys

@@ -8,7 +8,7 @@ use Rattle.ft_model.specs.Point.{Point}
 use Rattle.ft_model.specs.Reads.{Makes, next_read, with_read}
 use Rattle.ft_model.specs.Timer.{interval_after, rest_after, must_run}
 use Rattle.ft_model.specs.Sending.{sent_at_once, sent_after}
-use Rattle.ft_model.specs.Ending.{end_ticks_after}
+use Rattle.ft_model.specs.ResetAndEnd.{end_ticks_after}
 use Rattle.ft_model.specs.Connection.{LiveTurn, sent_by}
 use Rattle.ft_model.proofs.Settled.{noted, settled, makes_alike}
 

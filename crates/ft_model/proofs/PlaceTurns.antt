@@ -18,7 +18,7 @@ use Rattle.ft_model.specs.Refusal.{as_closed, full_rst}
 use Rattle.ft_model.specs.Node.{Node, Place, Input, key_of, is_for}
 use Rattle.ft_model.specs.Node.Place.{Opens, Lives, Ended}
 use Rattle.ft_model.specs.Node.Input.{Packet_comes, Message_comes, Tick_comes}
-use Rattle.ft_model.specs.Serving.{Stays, LivesOn, Hears, Meets, PlaceTurn, concerns, names, AllGo, newcomers, refusals, is_asked, opens_at, ServingTurn}
+use Rattle.ft_model.specs.ServingTurn.{Stays, LivesOn, Hears, Meets, PlaceTurn, concerns, names, AllGo, newcomers, refusals, is_asked, opens_at, ServingTurn}
 use Rattle.ft_model.proofs.Lists.{same_key, all_append}
 use Rattle.ft_io.proofs.Choices.{holds_if}
 

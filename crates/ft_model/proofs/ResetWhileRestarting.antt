@@ -11,7 +11,7 @@ use Rattle.ft_model.specs.Lawful.{LawfulTurn}
 use Rattle.ft_model.specs.Resets.{ResetsNoLogged}
 use Rattle.ft_model.specs.World.{Happens}
 use Rattle.ft_model.specs.declared.phase.Phase.TheVariants.{Reset}
-use Rattle.ft_model.specs.Weakened.{IsWrongOnce}
+use Rattle.ft_model.specs.WeakerLaw.{IsWrongOnce}
 use Rattle.ft_model.specs.WorkedRuns.Common.{echo, server, client_segment, from_client, to_client, to_log, from_log, fetching}
 use Rattle.ft_model.specs.WorkedRuns.FirstPath as path
 use Rattle.ft_model.specs.WorkedRuns.ResetWhileRestarting as run

@@ -18,7 +18,7 @@ use Rattle.ft_model.specs.Restart.{Fetched, Wanted, wanted, live_entry, entry_in
 use Rattle.ft_model.specs.Node.{Node, Place, Stage, Input, key_of, is_for, booted}
 use Rattle.ft_model.specs.Node.Place.{Opens, Lives, Ended}
 use Rattle.ft_model.specs.Node.Stage.{Asking, Fetching, Serving, Fenced}
-use Rattle.ft_model.specs.Serving.{AllGo}
+use Rattle.ft_model.specs.ServingTurn.{AllGo}
 use Rattle.ft_model.specs.Lawful.{Revives, LawfulTurn, restored, all_restored, asked, held}
 use Rattle.ft_model.specs.Masked.{is_restarting}
 use Rattle.ft_model.specs.Resets.{ResetsNoLogged}

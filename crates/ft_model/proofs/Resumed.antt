@@ -9,14 +9,14 @@ use Rattle.ft_model.specs.Log.{Log, Entry}
 use Rattle.ft_model.specs.Network.{Packet}
 use Rattle.ft_model.specs.Point.{Point}
 use Rattle.ft_model.specs.News.News.{Begins}
-use Rattle.ft_model.specs.Ending.{reset_after}
+use Rattle.ft_model.specs.ResetAndEnd.{reset_after}
 use Rattle.ft_model.specs.Connection.{ResetTurn, LiveTurn, ConnectionTurn}
 use Rattle.ft_model.specs.Restart.{Wanted, Fetched, wanted, next_entry, lacks_read_bytes, lacks_bytes, lacks_lengths, entry_in, point_of}
 use Rattle.ft_model.specs.Restart.Wanted.{An_entry, Its_bytes, Its_lengths}
 use Rattle.ft_model.specs.Node.{Node, Place, Stage, Input, key_of, place_at}
 use Rattle.ft_model.specs.Node.Place.{Opens, Lives, Ended}
 use Rattle.ft_model.specs.Node.Stage.{Asking, Fetching, Serving, Fenced}
-use Rattle.ft_model.specs.Serving.{AllGo}
+use Rattle.ft_model.specs.ServingTurn.{AllGo}
 use Rattle.ft_model.specs.Lawful.{Revives, LawfulTurn, restored, all_restored}
 use Rattle.ft_model.specs.Growth.{IsPrefix}
 use Rattle.ft_model.specs.Masked.{IsResumed, is_restarting, Resumes, RestartIsExact}

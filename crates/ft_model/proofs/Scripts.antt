@@ -27,7 +27,7 @@ use Rattle.ft_model.specs.Connection.{LiveTurn}
 use Rattle.ft_model.proofs.Lists.{take_first, prefix_trans}
 use Rattle.ft_model.proofs.Stands.{nothing_first, drop_prefix, part_stands, goes_on_all, take_nothing}
 use Rattle.ft_model.proofs.Copied.{Grows, IsFurther, HasForm, all_copies}
-use Rattle.ft_model.proofs.Coming.{Fronts, Says, int_same, comes_fits}
+use Rattle.ft_model.proofs.StreamAgreement.{Fronts, Says, int_same, comes_fits}
 use Rattle.ft_model.proofs.Running.{edge_grows}
 use Rattle.ft_io.proofs.Choices.{holds_if}
 

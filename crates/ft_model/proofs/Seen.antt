@@ -18,7 +18,7 @@ use Rattle.ft_model.specs.Growth.{IsPrefix, LogGrows, logged_lengths}
 use Rattle.ft_model.proofs.Lists.{prefix_trans}
 use Rattle.ft_model.proofs.Grows.{found_later, logged_lengths_grow}
 use Rattle.ft_model.proofs.Fetching.{full_front}
-use Rattle.ft_model.proofs.Coming.{Agrees, Fronts, Says, agrees_later, comes_fits}
+use Rattle.ft_model.proofs.StreamAgreement.{Agrees, Fronts, Says, agrees_later, comes_fits}
 use Rattle.ft_model.proofs.Stands.{drop_prefix}
 use Rattle.seq_arith.proofs.Coming.{fin_stays}
 use Rattle.ft_model.proofs.Services.{RunExtends, reads_go_on}

@@ -8,7 +8,7 @@ use Rattle.ft_model.specs.Answered.{answered_after, reads_answered_after}
 use Rattle.ft_model.specs.Reads.{Makes, next_length, may_read}
 use Rattle.ft_model.specs.Timer.{interval_after, rest_after}
 use Rattle.ft_model.specs.Sending.{syn_acked_after, acknowledged_after, edge_after, wl1_after, wl2_after, congestion_after, sent_after}
-use Rattle.ft_model.specs.Ending.{end_ticks_after}
+use Rattle.ft_model.specs.ResetAndEnd.{end_ticks_after}
 
 -- the point after the news are noted, with these lengths and with what is settled at the end of the turn left open
 abbrev pub noted : News → Point → List ℕ → (sent interval rest end_ticks : ℕ) → Point

@@ -10,7 +10,7 @@ use Rattle.ft_model.specs.Offset.{first_of, text_of, fin_of, length_of}
 use Rattle.ft_model.specs.News.News.{Comes}
 use Rattle.ft_model.specs.Point.{Point, taken_units, receive_edge, HoldsBehind, room}
 use Rattle.ft_model.specs.Taken.{accepts, uses, came, counts, taken_after, fin_after}
-use Rattle.ft_model.specs.Owed.{needs_ack}
+use Rattle.ft_model.specs.PendingAck.{needs_ack}
 use Rattle.ft_io.proofs.Choices.{holds_either_way}
 use Rattle.ft_io.proofs.Booleans.{or_true}
 

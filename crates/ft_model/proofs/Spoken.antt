@@ -8,7 +8,7 @@ use Rattle.server_trait.specs.Service.{Machine}
 use Rattle.ft_model.specs.Network.{destination_of}
 use Rattle.ft_model.specs.News.{News}
 use Rattle.ft_model.specs.Point.{Point, acknowledgement, answered_run, released}
-use Rattle.ft_model.specs.Owed.{is_ack_pending}
+use Rattle.ft_model.specs.PendingAck.{is_ack_pending}
 use Rattle.ft_model.specs.Segments.{new_length, texts, syn_acks, syn_ack, opens_with, fin_if_closed, first_unacknowledged, probe, probed_length, is_unacknowledged, resent, resent_length, new_texts, sends_fin, new_fin, full_segments, or_bare, bare_segment, segments_of, segment_at, text_at, fin_segment}
 use Rattle.ft_model.specs.Sending.{is_third_duplicate}
 use Rattle.ft_model.specs.Timer.{expires}

@@ -8,13 +8,13 @@ use Rattle.server_trait.specs.Service.{Machine}
 use Rattle.ft_model.specs.Network.{Packet}
 use Rattle.ft_model.specs.Point.{Point}
 use Rattle.ft_model.specs.News.{News}
-use Rattle.ft_model.specs.Ending.{reset_after}
+use Rattle.ft_model.specs.ResetAndEnd.{reset_after}
 use Rattle.ft_model.specs.Connection.{ResetTurn, LiveTurn, ConnectionTurn}
 use Rattle.ft_model.specs.Restart.{Fetched, Wanted, wanted, fetched_after}
 use Rattle.ft_model.specs.Node.{Node, Place, Stage, Input}
 use Rattle.ft_model.specs.Node.Stage.{Asking, Fetching, Serving, Fenced}
 use Rattle.ft_model.specs.Node.Input.{Packet_comes, Message_comes, Noise_comes, Tick_comes}
-use Rattle.ft_model.specs.Serving.{AllGo, newcomers, ServingTurn}
+use Rattle.ft_model.specs.ServingTurn.{AllGo, newcomers, ServingTurn}
 use Rattle.ft_model.specs.Lawful.{Rests, Revives, Continues, Fetches, StageTurn, NodeTurn, LawfulTurn, all_restored, restored_count, hello, asked, held, fence, count_told, summary_count, fetched_then}
 use Rattle.ft_model.specs.Masked.{is_restarting}
 use Rattle.ft_model.proofs.Lists.{none_is_some, some_is}

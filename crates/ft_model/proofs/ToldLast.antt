@@ -14,8 +14,8 @@ use Rattle.ft_model.specs.Network.Packet.{To_server, To_client, To_logger, From_
 use Rattle.ft_model.specs.News.{News}
 use Rattle.ft_model.specs.News.News.{Comes, Logged, Ticks, Begins}
 use Rattle.ft_model.specs.Point.{Point, acknowledgement}
-use Rattle.ft_model.specs.Told.{is_segment}
-use Rattle.ft_model.specs.Ending.{dones, reset_after}
+use Rattle.ft_model.specs.Acknowledgement.{is_segment}
+use Rattle.ft_model.specs.ResetAndEnd.{dones, reset_after}
 use Rattle.ft_model.specs.Copy.{copies}
 use Rattle.ft_model.specs.Reads.{reads_told}
 use Rattle.ft_model.specs.Segments.{segments_of}
@@ -24,7 +24,7 @@ use Rattle.ft_model.specs.Opening.{point_opened}
 use Rattle.ft_model.specs.Refusal.{as_closed, rst_at_ack, rst_behind, full_rst}
 use Rattle.ft_model.specs.Node.{Node, Place, Input, key_of}
 use Rattle.ft_model.specs.Node.Place.{Opens, Lives, Ended}
-use Rattle.ft_model.specs.Serving.{AllGo}
+use Rattle.ft_model.specs.ServingTurn.{AllGo}
 use Rattle.ft_model.specs.Masked.{told_to, or_before, last_told, IsToldLast}
 use Rattle.ft_model.proofs.Lists.{three_true, all_both, all_weaker, all_append, key_is}
 use Rattle.ft_model.proofs.Keys.{AreDistinct, has_key, key_eq_turns}

@@ -15,7 +15,7 @@ use Rattle.ft_model.specs.Node.{Node, Place, Stage, Input, key_of, points_in, po
 use Rattle.ft_model.specs.Node.Place.{Opens, Lives, Ended}
 use Rattle.ft_model.specs.Node.Stage.{Asking, Fetching, Serving, Fenced}
 use Rattle.ft_model.specs.Node.Input.{Packet_comes, Message_comes, Noise_comes, Tick_comes}
-use Rattle.ft_model.specs.Serving.{PlaceTurn, newcomers, refusals, is_strange, is_asked, opens_at}
+use Rattle.ft_model.specs.ServingTurn.{PlaceTurn, newcomers, refusals, is_strange, is_asked, opens_at}
 use Rattle.ft_model.specs.Lawful.{Revives, all_restored}
 use Rattle.ft_model.specs.Masked.{or_before, last_told, IsToldLast, AllAreTold, is_restarting}
 use Rattle.ft_model.specs.World.{World, Moment, Joint, world_after}

@@ -10,7 +10,7 @@ use Rattle.ft_model.specs.News.{News}
 use Rattle.ft_model.specs.News.News.{Comes, Logged, Ticks, Begins}
 use Rattle.ft_model.specs.Point.{Point}
 use Rattle.ft_model.specs.Answered.{answered_after, reads_answered_after}
-use Rattle.ft_model.specs.Ending.{reset_after, dones}
+use Rattle.ft_model.specs.ResetAndEnd.{reset_after, dones}
 use Rattle.ft_model.specs.Opening.{is_syn, numbers_for, point_opened}
 use Rattle.ft_model.specs.Refusal.{as_closed, full_rst}
 use Rattle.ft_model.specs.Connection.{ResetTurn, LiveTurn, told_by, sent_by}
@@ -19,7 +19,7 @@ use Rattle.ft_model.specs.Node.{Node, Place, Stage, Input, key_of, pending_count
 use Rattle.ft_model.specs.Node.Place.{Opens, Lives, Ended}
 use Rattle.ft_model.specs.Node.Stage.{Asking, Fetching, Serving, Fenced}
 use Rattle.ft_model.specs.Node.Input.{Packet_comes, Message_comes, Noise_comes, Tick_comes}
-use Rattle.ft_model.specs.Serving.{Stays, LivesOn, Hears, Meets, PlaceTurn, concerns, AllGo, is_strange, newcomers, refusals, opens_at}
+use Rattle.ft_model.specs.ServingTurn.{Stays, LivesOn, Hears, Meets, PlaceTurn, concerns, AllGo, is_strange, newcomers, refusals, opens_at}
 use Rattle.ft_model.specs.Lawful.{hello, asked, held, restored, all_restored, restored_count, Revives, Continues, fetched_then, count_told, StageTurn, NodeTurn, LawfulTurn, fence, is_fenced}
 use Rattle.ft_model.proofs.StageTurns.{Asks, Gets}
 use Rattle.ft_model.proofs.LiveTurns.{turned, live_turn, counts_within, reads_from}

@@ -8,7 +8,7 @@ use Rattle.ft_model.specs.Network.{Packet}
 use Rattle.ft_model.specs.News.{News}
 use Rattle.ft_model.specs.News.News.{Comes, Logged, Ticks, Begins}
 use Rattle.ft_model.specs.Point.{Point}
-use Rattle.ft_model.specs.Ending.{reset_after, dones}
+use Rattle.ft_model.specs.ResetAndEnd.{reset_after, dones}
 use Rattle.ft_model.specs.Opening.{point_opened}
 use Rattle.ft_model.specs.Connection.{ResetTurn, LiveTurn, told_by}
 use Rattle.ft_model.specs.Restart.{Fetched, Wanted, wanted}
@@ -16,7 +16,7 @@ use Rattle.ft_model.specs.Node.{Node, Place, Stage, Input, key_of}
 use Rattle.ft_model.specs.Node.Place.{Opens, Lives}
 use Rattle.ft_model.specs.Node.Stage.{Asking, Fetching, Serving, Fenced}
 use Rattle.ft_model.specs.Node.Input.{Packet_comes, Message_comes, Tick_comes}
-use Rattle.ft_model.specs.Serving.{Stays, LivesOn, Hears, Meets, PlaceTurn, concerns, AllGo, newcomers, refusals, opens_at, ServingTurn}
+use Rattle.ft_model.specs.ServingTurn.{Stays, LivesOn, Hears, Meets, PlaceTurn, concerns, AllGo, newcomers, refusals, opens_at, ServingTurn}
 use Rattle.ft_model.specs.Lawful.{Revives, Continues, StageTurn, NodeTurn, LawfulTurn, all_restored, restored_count, fence, count_told, fetched_then}
 use Rattle.ft_model.proofs.StageTurns.{Asks, Gets}
 use Rattle.ft_model.proofs.LiveOnce.{live_once}

@@ -13,14 +13,14 @@ use Rattle.ft_model.specs.News.News.{Logged, Begins}
 use Rattle.ft_model.specs.Point.{Point, taken_units, acknowledgement, advertised_edge, answered_run, released}
 use Rattle.ft_model.specs.Answered.{answered_after}
 use Rattle.ft_model.specs.Reads.{Makes, next_read, with_read}
-use Rattle.ft_model.specs.Owed.{is_ack_pending, asks}
+use Rattle.ft_model.specs.PendingAck.{is_ack_pending, asks}
 use Rattle.ft_model.specs.Segments.{window, new_length, texts, syn_acks, syn_ack, opens_with, fin_if_closed, first_unacknowledged, probe, probed_length, is_unacknowledged, resent, new_texts, sends_fin, new_fin, full_segments, or_bare, bare_segment, segments_of, text_at, fin_segment}
 use Rattle.ft_model.specs.Copy.{copies}
 use Rattle.ft_model.specs.Reads.{reads_told}
-use Rattle.ft_model.specs.Ending.{dones}
+use Rattle.ft_model.specs.ResetAndEnd.{dones}
 use Rattle.ft_model.specs.Sending.{is_third_duplicate}
 use Rattle.ft_model.specs.Timer.{expires}
-use Rattle.ft_model.specs.Told.{is_segment, Tells, IsTold}
+use Rattle.ft_model.specs.Acknowledgement.{is_segment, Tells, IsTold}
 use Rattle.ft_model.specs.Connection.{LiveTurn, told_by}
 use Rattle.ft_model.proofs.Lists.{all_append}
 use Rattle.ft_io.proofs.Choices.{holds_either_way}

@@ -14,8 +14,8 @@ use Rattle.ft_model.specs.Reads.{next_length, may_read, reads_told}
 use Rattle.ft_model.specs.Timer.{must_run, interval_after, rest_after}
 use Rattle.ft_model.specs.Sending.{syn_acked_after, acknowledged_after, edge_after, wl1_after, wl2_after, is_duplicate, is_third_duplicate, congestion_after, sent_at_once, sent_after}
 use Rattle.ft_model.specs.Copy.{copies, own_data, further_data, datas}
-use Rattle.ft_model.specs.Ending.{reset_after, end_ticks_after, dones}
-use Rattle.ft_model.specs.Owed.{needs_ack, is_ack_pending}
+use Rattle.ft_model.specs.ResetAndEnd.{reset_after, end_ticks_after, dones}
+use Rattle.ft_model.specs.PendingAck.{needs_ack, is_ack_pending}
 use Rattle.ft_model.specs.Segments.{resent, new_texts, new_fin, full_segments, segments_of}
 use Rattle.seq_arith.specs.Packet.{Segment}
 use Rattle.seq_arith.specs.Message.{Kept, Body, Message}
@@ -28,7 +28,7 @@ use Rattle.ft_model.specs.Connection.{ConnectionTurn, ResetTurn, LiveTurn, sent_
 use Rattle.ft_model.specs.Node.{Node, Place, Input}
 use Rattle.ft_model.specs.Node.Place.{Lives}
 use Rattle.ft_model.specs.Node.Stage.{Serving}
-use Rattle.ft_model.specs.Serving.{AllGo, PlaceTurn, newcomers, refusals}
+use Rattle.ft_model.specs.ServingTurn.{AllGo, PlaceTurn, newcomers, refusals}
 use Rattle.ft_model.specs.Lawful.{LawfulTurn, NodeTurn, fence}
 use Rattle.ft_model.specs.WorkedRuns.Common.{serving_at}
 use Rattle.ft_model.proofs.LiveTurns.{turned, live_turn}

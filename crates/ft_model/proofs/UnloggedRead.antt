@@ -14,7 +14,7 @@ use Rattle.ft_model.specs.Node.Input.{Packet_comes, Message_comes}
 use Rattle.ft_model.specs.Lawful.{LawfulTurn, Revives}
 use Rattle.ft_model.specs.Masked.{SeesFront, Masked}
 use Rattle.ft_model.specs.World.{Joint, Happens, Delivered}
-use Rattle.ft_model.specs.Weakened.{EachHappens, IsWrongOnce}
+use Rattle.ft_model.specs.WeakerLaw.{EachHappens, IsWrongOnce}
 use Rattle.ft_model.specs.WorkedRuns.Common.{server, hello_text, client_segment, from_client, to_client, to_log, from_log, kept_with, head_with, fetched_with, fetching, serving_at}
 use Rattle.ft_model.specs.WorkedRuns.FirstPath as path
 use Rattle.ft_model.specs.WorkedRuns.UnloggedRead as run

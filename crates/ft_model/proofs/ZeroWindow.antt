@@ -5,7 +5,7 @@ use Rattle.ft_model.specs.Opening.{point_opened}
 use Rattle.ft_model.specs.Node.{Node, booted}
 use Rattle.ft_model.specs.Node.Place.{Opens, Lives}
 use Rattle.ft_model.specs.Lawful.{LawfulTurn, Lawful, Turn, hello}
-use Rattle.ft_model.specs.Serving.{PlaceTurn}
+use Rattle.ft_model.specs.ServingTurn.{PlaceTurn}
 use Rattle.ft_model.specs.WorkedRuns.Common.{echo, server, numbers, kept_with}
 use Rattle.ft_model.specs.WorkedRuns.ZeroWindow as run
 use Rattle.ft_model.proofs.Turns.{laws, alone, goes, serves}

@@ -15,7 +15,7 @@ use Rattle.ft_model.specs.Sending.{syn_acked_after, acknowledged_after, edge_aft
 use Rattle.ft_model.specs.Timer.{interval_after, rest_after}
 use Rattle.ft_model.specs.Segments.{segments_of}
 use Rattle.ft_model.specs.Copy.{copies}
-use Rattle.ft_model.specs.Ending.{reset_after, end_ticks_after, dones}
+use Rattle.ft_model.specs.ResetAndEnd.{reset_after, end_ticks_after, dones}
 
 -- a message to the logger, in this boot
 abbrev pub told_by : ℕ → Body → Packet

@@ -18,7 +18,7 @@ use Rattle.ft_model.specs.Node.{Node, Place, Stage, Input, booted, is_for}
 use Rattle.ft_model.specs.Node.Place.{Opens, Lives, Ended}
 use Rattle.ft_model.specs.Node.Stage.{Asking, Fetching, Serving, Fenced}
 use Rattle.ft_model.specs.Node.Input.{Packet_comes, Message_comes, Noise_comes, Tick_comes}
-use Rattle.ft_model.specs.Serving.{Stays, LivesOn, AllGo, newcomers, ServingTurn}
+use Rattle.ft_model.specs.ServingTurn.{Stays, LivesOn, AllGo, newcomers, ServingTurn}
 
 -- nothing happens, and nothing is sent
 abbrev pub Rests : Stage → Stage → List Packet → Type 0

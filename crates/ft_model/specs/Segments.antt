@@ -12,7 +12,7 @@ use Rattle.ft_model.specs.News.News.{Comes, Logged, Ticks, Begins}
 use Rattle.ft_model.specs.Opening.{is_syn}
 use Rattle.ft_model.specs.Sending.{is_third_duplicate, sent_at_once}
 use Rattle.ft_model.specs.Timer.{expires}
-use Rattle.ft_model.specs.Owed.{is_ack_pending}
+use Rattle.ft_model.specs.PendingAck.{is_ack_pending}
 
 -- Window: from what is acknowledged up to the edge that TCP advertises
 abbrev pub window : Point → ℕ

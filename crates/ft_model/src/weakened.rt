@@ -9,7 +9,7 @@ ghost use Rattle.ft_model.specs.Growth.{IsPrefix, logged_units};
 ghost use Rattle.ft_model.specs.Log.{log_after};
 ghost use Rattle.ft_model.specs.Masked.{SeesFront, Masked};
 ghost use Rattle.ft_model.specs.Resets.{ResetsNoLogged};
-ghost use Rattle.ft_model.specs.Weakened.{IsWrongOnce};
+ghost use Rattle.ft_model.specs.WeakerLaw.{IsWrongOnce};
 ghost use Rattle.ft_model.specs.declared.phase.Phase.TheVariants.{Reset};
 ghost use Rattle.ft_model.specs.WorkedRuns.Common.{echo, hello_text, key};
 ghost use Rattle.ft_model.specs.WorkedRuns.ChangedBit;

@@ -4,7 +4,7 @@ use Rattle.std.proofs.lemmas.List.{append-nil, take_at, drop_at}
 use Rattle.std.specs.Int.{bytes_high_first}
 use Rattle.disk.specs.declared.calls.DiskCall.{DiskCall}
 use Rattle.disk.specs.declared.calls.DiskCall.TheVariants.{Appended, Put, Cut, Synced}
-use Rattle.disk.specs.Left.{with_byte, seen_after, MayLeave, LeftBy, failed, IsFrontOf}
+use Rattle.disk.specs.Remains.{with_byte, seen_after, MayLeave, LeftBy, failed, IsFrontOf}
 use Rattle.journal.specs.Format.{magic, counted, blocks, front, HasBlocks, at_rest, IsAtRest, sized, keeping, mending, all_kept, seen_by}
 
 -- by how far the calls have come

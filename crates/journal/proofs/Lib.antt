@@ -1,2 +1,2 @@
 pub mod Deaths
-pub mod Reading
+pub mod OneReading

@@ -4,7 +4,7 @@ use Rattle.std.specs.Prelude.{◌≡◌, ℕ, ◌+◌, ◌<◌, ◌^◌, false, 
 use Rattle.std.specs.Int.{bytes_high_first}
 use Rattle.disk.specs.declared.calls.DiskCall.{DiskCall}
 use Rattle.disk.specs.declared.calls.DiskCall.TheVariants.{Appended, Put, Cut, Synced}
-use Rattle.disk.specs.Left.{seen_after}
+use Rattle.disk.specs.Remains.{seen_after}
 
 abbrev pub magic : List ℕ
 magic = codes "ftlog 1\n"

@@ -4,8 +4,8 @@ ghost use Rattle.std.specs.Prelude.{◌≡◌, ◌≤◌, ◌<◌, ◌+◌, ◌-
 ghost use Rattle.ft_io.specs.Faults.{Rose};
 ghost use Rattle.ft_io.specs.Told.{Tells};
 ghost use Rattle.disk.specs.declared.calls.DiskCall.{DiskCall};
-ghost use Rattle.disk.specs.Left.{IsFrontOf};
-ghost use Rattle.disk.specs.Told.{on_disk};
+ghost use Rattle.disk.specs.Remains.{IsFrontOf};
+ghost use Rattle.disk.specs.CallRecord.{on_disk};
 ghost use Rattle.journal.specs.Format.{sized, keeping};
 ghost use Rattle.journal.specs.declared.journal.KeepEnd.TheVariants as ends;
 

@@ -3,7 +3,7 @@
 ghost use Rattle.std.specs.Prelude.{◌≡◌, ◌⊎◌, ℕ, List, [], ◌∷◌, ◌++◌, length};
 ghost use Rattle.std.specs.List.{AllByRecursion};
 ghost use Rattle.disk.specs.declared.calls.DiskCall.{DiskCall};
-ghost use Rattle.disk.specs.Left.{IsFrontOf, LeftBy};
+ghost use Rattle.disk.specs.Remains.{IsFrontOf, LeftBy};
 ghost use Rattle.journal.specs.Format.{HasBlocks, front, at_rest, keeping, mending, all_kept, IsSmall};
 
 /// At any moment while a block is appended, a death leaves a file with the blocks before it, with the new one or without it.

@@ -8,23 +8,23 @@ use Rattle.ft_io.specs.declared.link_call.LinkCall.TheVariants.{Bound}
 use Rattle.seq_arith.specs.Message.{Message}
 use Rattle.seq_arith.specs.MessageGrammar.{reading, spelling}
 use Rattle.ft_model.specs.Log.{Log}
-use Rattle.logger_deaths.specs.Kept.{log_after_all}
-use Rattle.disk.specs.Left.{IsFrontOf, LeftBy}
-use Rattle.disk.specs.Told.{on_link, on_disk, disk_calls}
+use Rattle.logger_deaths.specs.NeededMessages.{log_after_all}
+use Rattle.disk.specs.Remains.{IsFrontOf, LeftBy}
+use Rattle.disk.specs.CallRecord.{on_link, on_disk, disk_calls}
 use Rattle.disk.specs.declared.calls.DiskCall.{DiskCall}
 use Rattle.disk.specs.declared.calls.DeskCall.{DeskCall}
 use Rattle.disk.specs.declared.calls.DeskCall.TheVariants.{OnLink}
 use Rattle.disk.proofs.Telling.{disk_calls_of_disk}
 use Rattle.journal.specs.Format.{front, HasBlocks, seen_by}
 use Rattle.journal.proofs.Deaths.{before_or_after, mended}
-use Rattle.kept_log.specs.Kept.{committing, end_after, with_round, HasLog}
-use Rattle.kept_log.specs.Opening.{Finds, IsWhole, cutting}
+use Rattle.kept_log.specs.JournaledLog.{committing, end_after, with_round, HasLog}
+use Rattle.kept_log.specs.Startup.{Finds, IsWhole, cutting}
 use Rattle.node_link.specs.LoggerTurns.{handing, answer_for, answering}
-use Rattle.node_link.specs.Received.{Received, datagram, silence, failure, received_as}
+use Rattle.node_link.specs.Receipt.{Received, datagram, silence, failure, received_as}
 use Rattle.journal_link.specs.Rounds.{Place, Round, IsRound, received_in, log_behind, receives, changes_in, answers_in, round_calls, place_after, calls_of}
 use Rattle.journal_laws.specs.Moments.{IsFront, messages_in, handed_in, answers_to, ComesBack, Outlives}
 use Rattle.journal_laws.proofs.Fronts.{Within, within, link_front, one_front, disk_front}
-use Rattle.journal_laws.proofs.Reading.{finds_one}
+use Rattle.journal_laws.proofs.OneLog.{finds_one}
 use Rattle.journal_laws.proofs.Resting.{Rests, left_on, committed, has_round, rests_on, opened_rests}
 use Rattle.journal_laws.proofs.Saying.{messages-append, handed-append, disk_calls-append, messages_of_disk, handed_of_disk, disk_calls_of_link, log-append, answers-append, said_by, said_last, said_more, log_said, handed_all}
 

@@ -1,8 +1,8 @@
 -- Fronts of calls: in which part they end.
 use Rattle.std.proofs.Common.{◌≡◌, ◌⊎◌, inl, inr, ◌≤◌, refl, ap, ap₂, List, [], ◌∷◌, ◌++◌, length, arith}
 use Rattle.ft_io.specs.declared.link_call.LinkCall.{LinkCall}
-use Rattle.disk.specs.Left.{IsFrontOf, failed}
-use Rattle.disk.specs.Told.{on_link, on_disk}
+use Rattle.disk.specs.Remains.{IsFrontOf, failed}
+use Rattle.disk.specs.CallRecord.{on_link, on_disk}
 use Rattle.disk.specs.declared.calls.DiskCall.{DiskCall}
 use Rattle.disk.specs.declared.calls.DeskCall.{DeskCall}
 use Rattle.journal_laws.specs.Moments.{IsFront}

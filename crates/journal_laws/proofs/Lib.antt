@@ -1,7 +1,7 @@
 pub mod Dying
-pub mod Ending
+pub mod LifeFront
 pub mod Fronts
-pub mod Reading
+pub mod OneLog
 pub mod Resting
 pub mod Saying
 pub mod Staying

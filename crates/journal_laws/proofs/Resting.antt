@@ -10,18 +10,18 @@ use Rattle.ft_model.specs.Log.{Log, empty_log, log_after}
 use Rattle.ft_model.proofs.Asked.{entry_keys}
 use Rattle.ft_model.proofs.Keys.{AreDistinct}
 use Rattle.logger_store.specs.Changes.{changes}
-use Rattle.disk.specs.Left.{LeftBy, MayLeave, seen_after}
-use Rattle.disk.specs.Told.{on_link, on_disk, disk_calls}
+use Rattle.disk.specs.Remains.{LeftBy, MayLeave, seen_after}
+use Rattle.disk.specs.CallRecord.{on_link, on_disk, disk_calls}
 use Rattle.disk.specs.declared.calls.DiskCall.{DiskCall}
 use Rattle.disk.proofs.Telling.{disk_calls_of_disk}
 use Rattle.journal.specs.Format.{magic, front, at_rest, IsAtRest, keeping, seen_by}
 use Rattle.journal.proofs.Deaths.{stays, mended_rests}
-use Rattle.kept_log.specs.Kept.{kept_of, committing, end_after, with_round, HasLog, Waits}
-use Rattle.kept_log.specs.Opening.{Finds, cutting}
+use Rattle.kept_log.specs.JournaledLog.{kept_of, committing, end_after, with_round, HasLog, Waits}
+use Rattle.kept_log.specs.Startup.{Finds, cutting}
 use Rattle.kept_log.proofs.Logs.{waits_more, kept_none, kept_round}
 use Rattle.kept_log.proofs.Messages.{whole}
 use Rattle.node_link.specs.LoggerTurns.{log_with, log_then}
-use Rattle.node_link.specs.Received.{Received, datagram, silence, failure}
+use Rattle.node_link.specs.Receipt.{Received, datagram, silence, failure}
 use Rattle.journal_link.specs.Rounds.{Place, Round, IsRound, received_in, log_behind, receives, change_in, change_by, changes_in, answers_in, round_calls, place_after, calls_of}
 use Rattle.journal_laws.proofs.Saying.{disk_calls-append, disk_calls_of_link, log_said, said_by}
 use Rattle.journal_laws.proofs.Staying as change

@@ -8,13 +8,13 @@ use Rattle.seq_arith.specs.Message.{Message}
 use Rattle.seq_arith.specs.MessageGrammar.{reading, spelling}
 use Rattle.seq_arith.specs.declared.kinds.BadMsg.{BadMsg}
 use Rattle.ft_model.specs.Log.{Log, log_after, answer_to}
-use Rattle.logger_deaths.specs.Kept.{log_after_all}
-use Rattle.disk.specs.Told.{on_link, on_disk, disk_calls}
+use Rattle.logger_deaths.specs.NeededMessages.{log_after_all}
+use Rattle.disk.specs.CallRecord.{on_link, on_disk, disk_calls}
 use Rattle.disk.specs.declared.calls.DiskCall.{DiskCall}
 use Rattle.disk.specs.declared.calls.DeskCall.{DeskCall}
 use Rattle.disk.specs.declared.calls.DeskCall.TheVariants.{OnLink, OnDisk}
 use Rattle.node_link.specs.LoggerTurns.{log_with, log_then, answer_for, handing, answering}
-use Rattle.node_link.specs.Received.{Received, datagram, silence, failure, received_as}
+use Rattle.node_link.specs.Receipt.{Received, datagram, silence, failure, received_as}
 use Rattle.journal_link.specs.Rounds.{Round, received_in, log_behind, receives, answers_in}
 use Rattle.journal_laws.specs.Moments.{said_in, message_on, messages_in, bytes_on, handed_in, answers_to}
 

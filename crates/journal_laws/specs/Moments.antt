@@ -9,14 +9,14 @@ use Rattle.seq_arith.specs.declared.kinds.BadMsg.{BadMsg}
 use Rattle.ft_model.specs.Log.{Log, log_after, answer_to}
 use Rattle.ft_model.specs.Network.{Packet, packet_at}
 use Rattle.ft_model.specs.Network.Packet.{To_logger}
-use Rattle.logger_deaths.specs.Kept.{log_after_all}
-use Rattle.disk.specs.Left.{failed}
+use Rattle.logger_deaths.specs.NeededMessages.{log_after_all}
+use Rattle.disk.specs.Remains.{failed}
 use Rattle.disk.specs.declared.calls.DiskCall.{DiskCall}
 use Rattle.disk.specs.declared.calls.DeskCall.{DeskCall}
 use Rattle.disk.specs.declared.calls.DeskCall.TheVariants.{OnLink, OnDisk}
 use Rattle.journal.specs.Format.{HasBlocks}
-use Rattle.kept_log.specs.Kept.{HasLog}
-use Rattle.kept_log.specs.Opening.{Finds}
+use Rattle.kept_log.specs.JournaledLog.{HasLog}
+use Rattle.kept_log.specs.Startup.{Finds}
 
 -- a prefix of calls. The last one, if it is on the file, may have failed or not be finished
 abbrev pub failed_call : DeskCall → DeskCall

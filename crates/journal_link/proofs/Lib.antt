@@ -1,5 +1,5 @@
-pub mod Answering
-pub mod Ending
+pub mod AnswerCalls
+pub mod EndReport
 pub mod Gathering
 pub mod Living
 pub mod Rounding

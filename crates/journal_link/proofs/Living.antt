@@ -5,25 +5,25 @@ use Rattle.ft_io.specs.Sink.{AppendsFront}
 use Rattle.ft_io.specs.Told.{Tells}
 use Rattle.ft_io.specs.declared.link_call.LinkCall.TheVariants.{Bound}
 use Rattle.ft_model.specs.Log.{empty_log}
-use Rattle.logger_deaths.specs.Kept.{log_after_all}
-use Rattle.disk.specs.Told.{on_disk}
+use Rattle.logger_deaths.specs.NeededMessages.{log_after_all}
+use Rattle.disk.specs.CallRecord.{on_disk}
 use Rattle.disk.specs.declared.calls.DiskCall.{DiskCall}
 use Rattle.disk.specs.declared.calls.DeskCall.{DeskCall}
 use Rattle.disk.specs.declared.calls.DeskCall.TheVariants.{OnLink}
 use Rattle.journal.specs.Format.{front}
-use Rattle.kept_log.specs.Opening.{HasStopped}
+use Rattle.kept_log.specs.Startup.{HasStopped}
 use Rattle.kept_log.specs.declared.opening.OpenEnd.{OpenEnd}
 use Rattle.kept_log.specs.declared.opening.OpenEnd.TheVariants as open_end
 use Rattle.node_link.specs.Counts.{count_line}
 use Rattle.node_link.specs.declared.counts.Counts.{Counts}
-use Rattle.node_link.specs.Telling.{TellStops}
+use Rattle.node_link.specs.LineOutput.{TellStops}
 use Rattle.node_link.specs.declared.status.NodeEnd.{NodeEnd}
 use Rattle.node_link.specs.declared.status.NodeEnd.TheVariants as ends
 use Rattle.node_link.proofs.Calls.{tells_on}
 use Rattle.journal_link.specs.Ends.{from_open}
-use Rattle.journal_link.specs.Keeping.{IsKeeper, IsCutKeeper, KeeperStops, IsOpen, OpeningStops}
+use Rattle.journal_link.specs.LoggerLife.{IsKeeper, IsCutKeeper, KeeperStops, IsOpen, OpeningStops}
 use Rattle.journal_link.specs.Rounds.{Place, calls_of}
-use Rattle.journal_link.specs.Turning.{HasServed, IsCutServing, HasLived, ServingStops}
+use Rattle.journal_link.specs.RoundParts.{HasServed, IsCutServing, HasLived, ServingStops}
 use Rattle.journal_link.specs.declared.role.JournalRole.{JournalRole}
 use Rattle.journal_link.specs.declared.status.JournalEnd.{JournalEnd}
 use Rattle.journal_link.specs.declared.status.JournalEnd.TheVariants.{Node, JournalFault, BadJournal, InUse}

@@ -5,26 +5,26 @@ use Rattle.ft_io.specs.declared.Addr.{Addr}
 use Rattle.ft_io.specs.declared.link_call.LinkCall.{LinkCall}
 use Rattle.ft_io.specs.Faults.{Rose}
 use Rattle.ft_io.specs.Told.{Tells}
-use Rattle.disk.specs.Told.{on_link, on_disk, link_calls}
-use Rattle.disk.specs.Left.{IsFrontOf}
+use Rattle.disk.specs.CallRecord.{on_link, on_disk, link_calls}
+use Rattle.disk.specs.Remains.{IsFrontOf}
 use Rattle.disk.specs.declared.calls.DiskCall.{DiskCall}
 use Rattle.disk.specs.declared.calls.DeskCall.{DeskCall}
 use Rattle.disk.specs.declared.calls.DeskCall.TheVariants.{OnLink, OnDisk}
 use Rattle.seq_arith.specs.Message.{Message}
 use Rattle.seq_arith.specs.MessageGrammar.{reading, spelling, spelled, header}
 use Rattle.ft_model.specs.Log.{Log}
-use Rattle.logger_store.specs.Stored.{answer_bytes}
-use Rattle.kept_log.specs.Kept.{KeptState, committing, end_after}
+use Rattle.logger_store.specs.StoreState.{answer_bytes}
+use Rattle.kept_log.specs.JournaledLog.{KeptState, committing, end_after}
 use Rattle.node_link.specs.declared.counts.Counts.{Counts}
 use Rattle.node_link.specs.Counts.{counts_of, with_calls, no_calls, HasRoom}
-use Rattle.node_link.specs.Logging.{handing_bytes}
+use Rattle.node_link.specs.LoggerParts.{handing_bytes}
 use Rattle.node_link.specs.LoggerTurns.{LoggerTurn, answer_for, answering, handing}
-use Rattle.node_link.specs.Received.{Received, datagram, silence, failure}
+use Rattle.node_link.specs.Receipt.{Received, datagram, silence, failure}
 use Rattle.node_link.proofs.Calls.{tells_on, tells_none, counts_on, with_both, few_calls}
 use Rattle.journal_link.specs.declared.answers.Answer.{Answer}
-use Rattle.journal_link.specs.Keeping.{IsUnanswered}
+use Rattle.journal_link.specs.LoggerLife.{IsUnanswered}
 use Rattle.journal_link.specs.Rounds.{Place, Round, IsRound, received_in, receives, changes_in, log_behind, answers_in, after_receives, round_calls, place_after, calls_of, turns_in}
-use Rattle.journal_link.specs.Turning.{place_of, with_all_received, reply_to, replies_to, AreHanded, HasAnswered, HasGathered, IsCutGathering, HasTurned, IsCutRound, HasServed, IsCutServing}
+use Rattle.journal_link.specs.RoundParts.{place_of, with_all_received, reply_to, replies_to, AreHanded, HasAnswered, HasGathered, IsCutGathering, HasTurned, IsCutRound, HasServed, IsCutServing}
 use Rattle.journal_link.proofs.Gathering.{receives_count}
 
 -- the calls on the network among those of a desk

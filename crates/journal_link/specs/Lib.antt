@@ -1,6 +1,6 @@
 pub mod Ends
-pub mod Keeping
+pub mod LoggerLife
 pub mod Outcome
 pub mod Rounds
-pub mod Turning
+pub mod RoundParts
 pub mod Words

@@ -5,7 +5,7 @@ use Rattle.ft_io.specs.Sink.{AppendsFront}
 use Rattle.disk.specs.declared.calls.DeskCall.{DeskCall}
 use Rattle.journal_link.specs.declared.status.JournalEnd.{JournalEnd}
 use Rattle.journal_link.specs.Ends.{code_of, text_of}
-use Rattle.journal_link.specs.Keeping.{IsKeeper, KeeperStops}
+use Rattle.journal_link.specs.LoggerLife.{IsKeeper, KeeperStops}
 use Rattle.journal_link.specs.declared.role.JournalRole.{JournalRole}
 
 abbrev pub KeepsJournal : JournalRole → Option (List ℕ) → Result (Unit {0}) JournalEnd → (old new : Option (List DeskCall)) → (out_old out_new : Option (List ℕ)) → Type 0

@@ -8,10 +8,10 @@ use Rattle.seq_arith.specs.MessageGrammar.{reading}
 use Rattle.seq_arith.specs.declared.kinds.BadMsg.{BadMsg}
 use Rattle.ft_model.specs.Log.{Log}
 use Rattle.disk.specs.declared.calls.DeskCall.{DeskCall}
-use Rattle.disk.specs.Told.{on_link, on_disk}
-use Rattle.kept_log.specs.Kept.{kept_of, committing, end_after}
+use Rattle.disk.specs.CallRecord.{on_link, on_disk}
+use Rattle.kept_log.specs.JournaledLog.{kept_of, committing, end_after}
 use Rattle.node_link.specs.LoggerTurns.{LoggerTurn, log_then, answering}
-use Rattle.node_link.specs.Received.{Received, datagram, silence, failure, received_as}
+use Rattle.node_link.specs.Receipt.{Received, datagram, silence, failure, received_as}
 
 -- the turns of a round, the newest first: of each what was received, and whether the send of its answer fails
 abbrev pub Round : Type 0

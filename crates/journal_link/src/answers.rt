@@ -2,7 +2,7 @@
 
 ghost use Rattle.std.specs.Prelude.{◌≡◌, length};
 ghost use Rattle.node_link.specs.Counts.{HasRoom};
-ghost use Rattle.journal_link.specs.Turning.{HandsOver, HasAnswered};
+ghost use Rattle.journal_link.specs.RoundParts.{HandsOver, HasAnswered};
 
 use disk::Desk;
 use ft_io::Addr;

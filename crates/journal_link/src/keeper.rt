@@ -4,8 +4,8 @@ ghost use Rattle.std.specs.Prelude.{◌≡◌, ◌≤◌, [], Err, IfOk, IfErr, 
 ghost use Rattle.std.specs.Io.KnownBytes.{Appends};
 ghost use Rattle.ft_io.specs.Faults.{Rose};
 ghost use Rattle.journal_link.specs.Ends.{UnlessFault};
-ghost use Rattle.journal_link.specs.Keeping.{IsKeeper, KeeperStops, IsOpen, OpeningStops};
-ghost use Rattle.journal_link.specs.Turning.{place_of, HasLived, ServingStops};
+ghost use Rattle.journal_link.specs.LoggerLife.{IsKeeper, KeeperStops, IsOpen, OpeningStops};
+ghost use Rattle.journal_link.specs.RoundParts.{place_of, HasLived, ServingStops};
 
 use crate::role::JournalRole;
 use crate::rounds::serve;

@@ -3,14 +3,14 @@
 ghost use Rattle.std.specs.Prelude.{◌≡◌, ◌≤◌, ◌<◌, [], ◌∷◌, take, length, false, IfOk, IfErr, OnOk, OnErr, IsErrOf, MatchOption};
 ghost use Rattle.ft_io.specs.Faults.{Rose};
 ghost use Rattle.ft_io.specs.Told.{Tells};
-ghost use Rattle.disk.specs.Told.{on_link};
+ghost use Rattle.disk.specs.CallRecord.{on_link};
 ghost use Rattle.node_link.specs.Counts.{HasRoom, with_calls};
-ghost use Rattle.node_link.specs.Received.{Received, datagram, received_as, IsQuiet};
+ghost use Rattle.node_link.specs.Receipt.{Received, datagram, received_as, IsQuiet};
 ghost use Rattle.seq_arith.specs.MessageGrammar.{reading};
-ghost use Rattle.logger_store.specs.Stored.{answer_bytes};
-ghost use Rattle.kept_log.specs.Kept.{is_full};
+ghost use Rattle.logger_store.specs.StoreState.{answer_bytes};
+ghost use Rattle.kept_log.specs.JournaledLog.{is_full};
 ghost use Rattle.node_link.specs.LoggerTurns.{answer_for};
-ghost use Rattle.journal_link.specs.Turning.{place_of, with_bytes, HasTaken, HasGathered, IsCutGathering, HasTurned, IsCutRound, HasServed, IsCutServing, IsServeEnd};
+ghost use Rattle.journal_link.specs.RoundParts.{place_of, with_bytes, HasTaken, HasGathered, IsCutGathering, HasTurned, IsCutRound, HasServed, IsCutServing, IsServeEnd};
 
 use crate::answers::{Answer, reply_to_all};
 use crate::status::JournalEnd;

@@ -3,7 +3,7 @@ use Rattle.std.proofs.Common.{◌≡◌, ◌∙◌, ℕ, zero, suc, ◌<◌, ◌
 use Rattle.std.specs.Int.{bytes_high_first, to_be_bytes, from_be_bytes, w32}
 use Rattle.std.proofs.lemmas.List.{length-take-le, take-append-drop}
 use Rattle.std.proofs.lemmas.Nat.{be_bytes_4}
-use Rattle.kept_log.specs.Reading.{StartsWith}
+use Rattle.kept_log.specs.ReadSteps.{StartsWith}
 use Rattle.kept_log.specs.declared.block.Start.TheVariants as starts
 
 pub block_at : (bytes : List ℕ) (n : ℕ) → ((i : ℕ) → get_or bytes i 0 < 256) → get_or bytes 0 0 ≡ 209 → 5 ≤ length bytes

@@ -5,7 +5,7 @@ use Rattle.ft_io.proofs.Choices.{same_some}
 use Rattle.ft_io.specs.Faults.{Rose}
 use Rattle.ft_io.specs.Told.{Tells}
 use Rattle.disk.proofs.Telling.{tells_on}
-use Rattle.kept_log.specs.Opening.{HasNoBlock}
+use Rattle.kept_log.specs.Startup.{HasNoBlock}
 
 -- nothing was called
 pub none_told : {A : Type 0} (told : Option (List A)) → Tells told told []

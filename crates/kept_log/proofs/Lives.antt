@@ -2,11 +2,11 @@
 use Rattle.std.proofs.Common.{◌≡◌, ◌∙◌, ◌⊎◌, inl, inr, ℕ, ◌+◌, List, [], ◌∷◌, ◌++◌, length, drop, refl, sym, ap, subst, append_assoc, length-append, arith, ◌≤◌}
 use Rattle.std.proofs.lemmas.List.{drop_at}
 use Rattle.disk.specs.declared.calls.DiskCall.{DiskCall}
-use Rattle.disk.specs.Left.{seen_after, MayLeave, LeftBy, IsFrontOf}
+use Rattle.disk.specs.Remains.{seen_after, MayLeave, LeftBy, IsFrontOf}
 use Rattle.journal.specs.Format.{magic, front, HasBlocks, at_rest, IsAtRest, keeping, seen_by}
 use Rattle.journal.proofs.Deaths.{before_or_after, stays, mended, mended_rests}
-use Rattle.kept_log.specs.Kept.{committing, with_round}
-use Rattle.kept_log.specs.Opening.{making, cutting, IsBegun, IsWhole, Finds}
+use Rattle.kept_log.specs.JournaledLog.{committing, with_round}
+use Rattle.kept_log.specs.Startup.{making, cutting, IsBegun, IsWhole, Finds}
 use Rattle.kept_log.specs.Life.{with_rounds, committed}
 
 left_append : (file : List ℕ) (Held : List ℕ → Type 0) (calls more : List DiskCall) (left : List ℕ) → LeftBy file Held (calls ++ more) left

@@ -5,10 +5,10 @@ use Rattle.std.specs.List.{AllByRecursion}
 use Rattle.seq_arith.specs.Message.{Message}
 use Rattle.seq_arith.specs.MessageGrammar.{reading}
 use Rattle.ft_model.specs.Log.{Log, log_after, empty_log}
-use Rattle.logger_deaths.specs.Kept.{log_after_all}
+use Rattle.logger_deaths.specs.NeededMessages.{log_after_all}
 use Rattle.journal.specs.Format.{magic, counted, blocks, front}
-use Rattle.kept_log.specs.Says.{Says, AllSay, IsRound}
-use Rattle.kept_log.specs.Kept.{HasLog, Waits, with_round}
+use Rattle.kept_log.specs.MessageList.{Says, AllSay, IsRound}
+use Rattle.kept_log.specs.JournaledLog.{HasLog, Waits, with_round}
 use Rattle.kept_log.proofs.Messages.{whole}
 
 pub blocks_push : (bodies : List (List ℕ)) (body : List ℕ) → blocks (bodies ++ body ∷ []) ≡ blocks bodies ++ 209 ∷ counted body

@@ -3,9 +3,9 @@ use Rattle.std.proofs.Common.{◌≡◌, ◌∙◌, ℕ, ◌+◌, ◌≤◌, Opt
 use Rattle.std.specs.Io.KnownBytes.{Consumes}
 use Rattle.ft_model.specs.Log.{Log, empty_log}
 use Rattle.journal.specs.Format.{counted, blocks}
-use Rattle.kept_log.specs.Kept.{Waits}
-use Rattle.kept_log.specs.Opening.{HasNoBlock}
-use Rattle.kept_log.specs.Reading.{IsAt, IsBrokenAt, Steps}
+use Rattle.kept_log.specs.JournaledLog.{Waits}
+use Rattle.kept_log.specs.Startup.{HasNoBlock}
+use Rattle.kept_log.specs.ReadSteps.{IsAt, IsBrokenAt, Steps}
 use Rattle.kept_log.specs.declared.reading.Taken.TheVariants.{Block, Short}
 use Rattle.kept_log.proofs.Logs.{no_blocks, block_more, blocks_push}
 

@@ -8,10 +8,10 @@ use Rattle.disk.specs.declared.calls.DiskCall.{DiskCall}
 use Rattle.disk.specs.declared.calls.DiskCall.TheVariants.{Cut, Synced}
 use Rattle.disk.specs.declared.calls.DeskCall.{DeskCall}
 use Rattle.disk.specs.declared.calls.DeskCall.TheVariants.{OnDisk}
-use Rattle.disk.specs.Left.{IsFrontOf, failed}
-use Rattle.disk.specs.Told.{on_disk}
-use Rattle.kept_log.specs.Opening.{making, cutting, IsOpened, IsCutShort, Finds}
-use Rattle.kept_log.specs.Reading.{FindsAs}
+use Rattle.disk.specs.Remains.{IsFrontOf, failed}
+use Rattle.disk.specs.CallRecord.{on_disk}
+use Rattle.kept_log.specs.Startup.{making, cutting, IsOpened, IsCutShort, Finds}
+use Rattle.kept_log.specs.ReadSteps.{FindsAs}
 use Rattle.kept_log.specs.declared.reading.Found.TheVariants as finds
 use Rattle.disk.proofs.Telling.{tells_on}
 

@@ -6,9 +6,9 @@ use Rattle.std.proofs.lemmas.List.{drop_at}
 use Rattle.ft_io.proofs.Choices.{same_some}
 use Rattle.ft_model.specs.Log.{Log, empty_log}
 use Rattle.journal.specs.Format.{magic, blocks}
-use Rattle.kept_log.specs.Kept.{HasLog}
-use Rattle.kept_log.specs.Opening.{IsDamaged}
-use Rattle.kept_log.specs.Reading.{HasMagic, FindsBehind, FindsAs}
+use Rattle.kept_log.specs.JournaledLog.{HasLog}
+use Rattle.kept_log.specs.Startup.{IsDamaged}
+use Rattle.kept_log.specs.ReadSteps.{HasMagic, FindsBehind, FindsAs}
 use Rattle.kept_log.specs.declared.magic.Magic.TheVariants.{Part, Whole, Missing}
 use Rattle.kept_log.specs.declared.reading.Found.{Found}
 use Rattle.kept_log.specs.declared.reading.Found.TheVariants as finds

@@ -1,5 +1,5 @@
-pub mod Kept
+pub mod JournaledLog
 pub mod Life
-pub mod Opening
-pub mod Reading
-pub mod Says
+pub mod Startup
+pub mod ReadSteps
+pub mod MessageList

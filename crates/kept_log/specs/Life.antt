@@ -2,7 +2,7 @@
 use Rattle.std.specs.Prelude.{List, [], ◌∷◌, ◌++◌, ℕ, length}
 use Rattle.disk.specs.declared.calls.DiskCall.{DiskCall}
 use Rattle.journal.specs.Format.{front}
-use Rattle.kept_log.specs.Kept.{committing, with_round}
+use Rattle.kept_log.specs.JournaledLog.{committing, with_round}
 
 -- the blocks after rounds, the oldest first
 abbrev pub with_rounds : List (List ℕ) → List (List ℕ) → List (List ℕ)

@@ -1,6 +1,6 @@
 //! Where a block ends.
 
-ghost use Rattle.kept_log.specs.Reading.{StartsWith};
+ghost use Rattle.kept_log.specs.ReadSteps.{StartsWith};
 
 use journal::{CLOSED, OPEN};
 

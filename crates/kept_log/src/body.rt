@@ -4,8 +4,8 @@ ghost use Rattle.std.specs.Prelude.{◌≡◌, ◌≤◌, ◌++◌, List, ℕ, O
 ghost use Rattle.seq_arith.specs.Bytes.{word_at as word_at_lem};
 ghost use Rattle.seq_arith.specs.Message.{Message};
 ghost use Rattle.seq_arith.specs.MessageGrammar.{reading};
-ghost use Rattle.kept_log.specs.Says.{Says};
-ghost use Rattle.kept_log.specs.Kept.{Waits};
+ghost use Rattle.kept_log.specs.MessageList.{Says};
+ghost use Rattle.kept_log.specs.JournaledLog.{Waits};
 
 use ft_io::NoMemory;
 use logger_store::{LogStore, MsgOut};

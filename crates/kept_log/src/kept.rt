@@ -6,12 +6,12 @@ ghost use Rattle.ft_io.specs.Told.{Tells};
 ghost use Rattle.seq_arith.specs.MessageGrammar.{reading};
 ghost use Rattle.ft_model.specs.Log.{Log, log_after, answer_to};
 ghost use Rattle.logger_wire.specs.Value.{message_of, IsSendable};
-ghost use Rattle.logger_store.specs.Stored.{answer_bytes, wants_memory};
+ghost use Rattle.logger_store.specs.StoreState.{answer_bytes, wants_memory};
 ghost use Rattle.disk.specs.declared.calls.DiskCall.{DiskCall};
-ghost use Rattle.disk.specs.Left.{IsFrontOf};
-ghost use Rattle.disk.specs.Told.{on_disk};
-ghost use Rattle.kept_log.specs.Kept.{is_full, kept_of, committing, end_after, with_round, HasLog, Waits};
-ghost use Rattle.kept_log.specs.Opening.{IsOpened, HasStopped};
+ghost use Rattle.disk.specs.Remains.{IsFrontOf};
+ghost use Rattle.disk.specs.CallRecord.{on_disk};
+ghost use Rattle.kept_log.specs.JournaledLog.{is_full, kept_of, committing, end_after, with_round, HasLog, Waits};
+ghost use Rattle.kept_log.specs.Startup.{IsOpened, HasStopped};
 ghost use Rattle.std.specs.Prelude.{◌++◌};
 
 use crate::block::MOST_BODY;
@@ -40,7 +40,7 @@ pub struct KeptLog {
 
 impl Model for KeptLog {
     ghost use Rattle.std.specs.Prelude.{◌≤◌, length, vec_capacity};
-    ghost use Rattle.kept_log.specs.Kept.{KeptState};
+    ghost use Rattle.kept_log.specs.JournaledLog.{KeptState};
 
     ghost Value = { KeptState };
 

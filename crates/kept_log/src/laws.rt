@@ -3,11 +3,11 @@
 ghost use Rattle.std.specs.Prelude.{◌≡◌, ◌⊎◌, ◌≤◌, ◌+◌, ℕ, List, ◌++◌, length};
 ghost use Rattle.seq_arith.specs.Message.{Message};
 ghost use Rattle.disk.specs.declared.calls.DiskCall.{DiskCall};
-ghost use Rattle.disk.specs.Left.{IsFrontOf, LeftBy};
+ghost use Rattle.disk.specs.Remains.{IsFrontOf, LeftBy};
 ghost use Rattle.journal.specs.Format.{HasBlocks, front, at_rest};
-ghost use Rattle.kept_log.specs.Says.{AreKept};
-ghost use Rattle.kept_log.specs.Kept.{committing, with_round};
-ghost use Rattle.kept_log.specs.Opening.{Finds, IsWhole, IsDamaged};
+ghost use Rattle.kept_log.specs.MessageList.{AreKept};
+ghost use Rattle.kept_log.specs.JournaledLog.{committing, with_round};
+ghost use Rattle.kept_log.specs.Startup.{Finds, IsWhole, IsDamaged};
 ghost use Rattle.kept_log.specs.Life.{with_rounds, committed};
 
 /// A file has one list of blocks, and they say one list of messages: so it has one log.

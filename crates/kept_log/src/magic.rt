@@ -1,6 +1,6 @@
 //! What a journal's file begins with.
 
-ghost use Rattle.kept_log.specs.Reading.{HasMagic};
+ghost use Rattle.kept_log.specs.ReadSteps.{HasMagic};
 
 /// The first eight bytes of a journal's file.
 pub const MAGIC: &[u8] = b"ftlog 1\n";

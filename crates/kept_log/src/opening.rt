@@ -4,10 +4,10 @@ ghost use Rattle.std.specs.Prelude.{[], ◌≡◌, ◌≤◌, ◌^◌, List, ℕ
 ghost use Rattle.ft_io.specs.Faults.{Rose};
 ghost use Rattle.ft_io.specs.Told.{Tells};
 ghost use Rattle.disk.specs.declared.calls.DiskCall.{DiskCall};
-ghost use Rattle.disk.specs.Left.{IsFrontOf};
-ghost use Rattle.disk.specs.Told.{on_disk};
+ghost use Rattle.disk.specs.Remains.{IsFrontOf};
+ghost use Rattle.disk.specs.CallRecord.{on_disk};
 ghost use Rattle.ft_model.specs.Log.{empty_log};
-ghost use Rattle.kept_log.specs.Opening.{making, cutting, IsOpened, HasStopped};
+ghost use Rattle.kept_log.specs.Startup.{making, cutting, IsOpened, HasStopped};
 ghost use Rattle.kept_log.specs.declared.opening.OpenEnd.TheVariants as ends;
 
 use crate::magic::MAGIC;
@@ -38,7 +38,7 @@ impl From<Failed> for OpenEnd {
 }
 
 impl From<KeepEnd> for OpenEnd {
-    ghost use Rattle.kept_log.specs.Opening.{opening_end};
+    ghost use Rattle.kept_log.specs.Startup.{opening_end};
 
     ghost from_gives = { λ k e. e ≡ opening_end k };
 

@@ -5,7 +5,7 @@ ghost use Rattle.std.specs.Io.KnownBytes.{Consumes, IsAtEnd};
 ghost use Rattle.ft_io.specs.Faults.{Rose};
 ghost use Rattle.ft_io.specs.Told.{Tells};
 ghost use Rattle.ft_model.specs.Log.{empty_log};
-ghost use Rattle.kept_log.specs.Reading.{Takes, Steps, Reaches, FindsBehind, FindsAs};
+ghost use Rattle.kept_log.specs.ReadSteps.{Takes, Steps, Reaches, FindsBehind, FindsAs};
 
 use crate::block::{Start, start_of};
 use crate::body::take_body;

@@ -2,7 +2,7 @@
 use Rattle.std.proofs.Common.{◌≡◌, inl, inr, sym, ap, ◌∙◌, List, [], ◌∷◌}
 use Rattle.seq_arith.specs.Message.{Message}
 use Rattle.ft_model.specs.Log.{Log, log_after}
-use Rattle.logger_deaths.specs.Kept.{log_after_all, IsKeptOf}
+use Rattle.logger_deaths.specs.NeededMessages.{log_after_all, IsKeptOf}
 
 pub kept_alone : (log : Log) (messages kept : List Message) → IsKeptOf log messages kept → log_after_all log kept ≡ log_after_all log messages
 kept_alone log [] kept none = ap (log_after_all log) none

@@ -9,7 +9,7 @@ ghost use Rattle.ft_model.specs.Log.{Log, log_after, answer_to};
 ghost use Rattle.server_trait.specs.Service.{machine};
 ghost use Rattle.ft_model.specs.World.{World};
 ghost use Rattle.ft_model.specs.Growth.{LogGrows};
-ghost use Rattle.logger_deaths.specs.Kept.{log_after_all, IsKeptOf};
+ghost use Rattle.logger_deaths.specs.NeededMessages.{log_after_all, IsKeptOf};
 ghost use Rattle.logger_deaths.specs.Deaths.{MortalMoment, mortal_after, MortalJoint, IsShown, Unseen};
 
 use server_trait::Service;

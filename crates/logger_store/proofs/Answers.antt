@@ -10,8 +10,8 @@ use Rattle.seq_arith.specs.Mark.{MarkMessage}
 use Rattle.seq_arith.specs.Bytes.{two, word_at}
 use Rattle.seq_arith.specs.declared.mark.BadMark.{BadMark}
 use Rattle.seq_arith.specs.declared.mark.BadMark.TheVariants as bad
-use Rattle.logger_store.specs.Stored.{IsAnswer, IsReply, answer_bytes}
-use Rattle.logger_wire.proofs.Assembled.{not_longer}
+use Rattle.logger_store.specs.StoreState.{IsAnswer, IsReply, answer_bytes}
+use Rattle.logger_wire.proofs.OneSpelling.{not_longer}
 
 -- what was written at the front is the whole message
 pub message_written : (message : Message) (old now : List ℕ) (len : ℕ) → IsSpellable message → len ≡ message_length message.body → length old ≡ 2048 → length now ≡ 2048

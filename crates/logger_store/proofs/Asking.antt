@@ -4,7 +4,7 @@ use Rattle.ft_io.specs.declared.Key.{Key}
 use Rattle.seq_arith.specs.Message.{Message, Body}
 use Rattle.seq_arith.specs.Message.Body.{HelloMsg, SummaryMsg, ListMsg, EntryMsg, BytesMsg, PartMsg, CutsMsg, LensMsg, OpenMsg, OpenedMsg, DataMsg, StableMsg, ReadMsg, ReadsMsg, DoneMsg, EndedMsg, StaleMsg, FullMsg}
 use Rattle.ft_model.specs.Log.{Log, log_after}
-use Rattle.logger_store.specs.Trimmed.{TrimmedLog, is_trimmed}
+use Rattle.logger_store.specs.Trim.{TrimmedLog, is_trimmed}
 
 all_same : (c d : Bool) (log : Log) → (if c then log else (if d then log else log)) ≡ log
 all_same true d log = refl

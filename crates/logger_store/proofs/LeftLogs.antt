@@ -10,8 +10,8 @@ use Rattle.seq_arith.specs.Message.Body.{HelloMsg, SummaryMsg, ListMsg, EntryMsg
 use Rattle.ft_model.specs.Log.{Log, Entry, log_after, answer_to, answer_from, with_body, with_part, with_read, new_entry, with_entry, part_of, lens_of, head_of, kept_of, on_entry, opened_answer, is_hello}
 use Rattle.ft_model.proofs.PlayableLemmas.{same_either_way}
 use Rattle.logger_store.specs.Pages.{changed_at, pages, zeroed, reads_on, took, without}
-use Rattle.logger_store.specs.Stored.{acknowledging, bytes_of, lengths_of}
-use Rattle.logger_store.specs.Trimmed.{TrimmedLog, no_trim, trim_at, is_trimmed, answer_left, with_trim, MayTrim, IsLeft, AreLeft, IsLeftOf}
+use Rattle.logger_store.specs.StoreState.{acknowledging, bytes_of, lengths_of}
+use Rattle.logger_store.specs.Trim.{TrimmedLog, no_trim, trim_at, is_trimmed, answer_left, with_trim, MayTrim, IsLeft, AreLeft, IsLeftOf}
 use Rattle.logger_store.specs.declared.trimming.Trim.{Trim}
 use Rattle.logger_store.proofs.Entries.{changed}
 use Rattle.logger_store.proofs.Asking.{bytes_stay, cuts_stay}

@@ -4,7 +4,7 @@ use Rattle.std.specs.List.{list_any, list_all}
 use Rattle.seq_arith.specs.MessageGrammar.{flag}
 use Rattle.ft_model.proofs.Services.{sum_take}
 use Rattle.logger_store.specs.Pages.{pages, zeroed, levelled, reads_on}
-use Rattle.logger_store.specs.Stored.{IsInRange, AreRead}
+use Rattle.logger_store.specs.StoreState.{IsInRange, AreRead}
 use Rattle.logger_store.proofs.Left.{low, same_length}
 use Rattle.logger_store.proofs.Levels.{levelled_count, levelled_sum, levelled_closing, levelled_each}
 

@@ -1,5 +1,5 @@
 pub mod Changes
 pub mod Levels
 pub mod Pages
-pub mod Stored
-pub mod Trimmed
+pub mod StoreState
+pub mod Trim

@@ -2,12 +2,12 @@
 
 ghost use Rattle.ft_io.specs.declared.Key.{Key};
 ghost use Rattle.std.specs.Prelude.{ℕ, ◌≡◌, ◌≤◌, ◌<◌, ◌==◌, ◌&&◌, true, false, List, Option, Some, None, if◌then◌else◌, length, slice_get};
-ghost use Rattle.logger_store.specs.Stored.{IsAnswer, IsReply, acknowledging, answer_bytes, bytes_of};
+ghost use Rattle.logger_store.specs.StoreState.{IsAnswer, IsReply, acknowledging, answer_bytes, bytes_of};
 ghost use Rattle.seq_arith.specs.Message.{Message, is_answer};
 ghost use Rattle.seq_arith.specs.Message.Body.{StaleMsg};
 ghost use Rattle.ft_model.specs.Log.{Log, log_after, answer_to, empty_log, is_hello, with_entry};
 ghost use Rattle.ft_model.specs.Growth.{LogGrows};
-ghost use Rattle.logger_store.specs.Trimmed.{TrimmedLog, IsLeftOf, MayTrim, answer_left, is_trimmed, untrimmed, with_trim};
+ghost use Rattle.logger_store.specs.Trim.{TrimmedLog, IsLeftOf, MayTrim, answer_left, is_trimmed, untrimmed, with_trim};
 
 /// After a Hello, however far the log has grown since, a message of a smaller boot number changes nothing, and gets Stale unless only the logger
 /// sends its kind.

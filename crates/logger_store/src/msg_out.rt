@@ -3,7 +3,7 @@
 ghost use Rattle.std.specs.Prelude.{[], ◌≡◌, ◌≤◌, IsOk, length};
 ghost use Rattle.seq_arith.specs.MessageGrammar.{spelling};
 ghost use Rattle.seq_arith.specs.MarkGrammar.{reading as mark_reading};
-ghost use Rattle.logger_store.specs.Stored.{IsReply};
+ghost use Rattle.logger_store.specs.StoreState.{IsReply};
 ghost use Rattle.logger_wire.specs.Value.{message_of, IsSendable};
 
 use logger_wire::{Msg, write_msg};
@@ -20,7 +20,7 @@ pub struct MsgOut {
 
 impl Model for MsgOut {
     ghost use Rattle.std.specs.Prelude.{ℕ, ◌≤◌, List, take};
-    ghost use Rattle.logger_store.specs.Stored.{IsReply};
+    ghost use Rattle.logger_store.specs.StoreState.{IsReply};
 
     ghost Value = { List ℕ };
 

@@ -13,7 +13,7 @@ ghost use Rattle.logger_wire.specs.Value.{body_of, message_of, IsSendable};
 ghost use Rattle.logger_store.specs.Changes.{body_changes, changes};
 ghost use Rattle.std.specs.Prelude.{sum, take};
 ghost use Rattle.logger_store.specs.Pages.{changed_at, reads_on, took, without, place_of};
-ghost use Rattle.logger_store.specs.Stored.{numbers_value, part_value, head_value, adds, answer_bytes, acknowledging, with_boot, wants_memory, bytes_of, lengths_of};
+ghost use Rattle.logger_store.specs.StoreState.{numbers_value, part_value, head_value, adds, answer_bytes, acknowledging, with_boot, wants_memory, bytes_of, lengths_of};
 
 use crate::entry_head::EntryHead;
 use crate::msg_out::MsgOut;
@@ -422,7 +422,7 @@ impl LogStore {
 
     /// Takes a message, and replaces what `out` held by the answer to it, or by nothing. It allocates only for an entry of a new key, for bytes that don't fit
     /// the page of the entry's last byte, and for a read whose length differs from the last one. After `NoMemory` all is as it was, and `out` is empty.
-    #[tactic(auto, using(crate::proofs::Sending::some_boot), unfolding(ft_model::specs::Log::log_after, ft_model::specs::Log::answer_to, crate::specs::Stored::wants_memory))]
+    #[tactic(auto, using(crate::proofs::Sending::some_boot), unfolding(ft_model::specs::Log::log_after, ft_model::specs::Log::answer_to, crate::specs::StoreState::wants_memory))]
     pub fn answer(&mut self, alloc: Global, m: &Msg<'_>, out: &mut MsgOut) -> Result<(), NoMemory>
         requires { IsSendable m.now }
         ensures next { OnOk result (self.new ≡ log_after self.old (message_of m.now)) }

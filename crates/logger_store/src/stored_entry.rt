@@ -5,7 +5,7 @@ ghost use Rattle.std.specs.List.{list_all};
 ghost use Rattle.ft_model.specs.Log.{new_entry, with_bytes, with_its_fin, with_part, with_read, is_next_read, head_of, Entry};
 ghost use Rattle.logger_store.specs.Changes.{part_changes};
 ghost use Rattle.logger_store.specs.Pages.{reads_on, took, without};
-ghost use Rattle.logger_store.specs.Stored.{acknowledging, numbers_value, part_value, head_value, adds_page, begins_run};
+ghost use Rattle.logger_store.specs.StoreState.{acknowledging, numbers_value, part_value, head_value, adds_page, begins_run};
 
 use crate::entry_head::EntryHead;
 use crate::lens::Lens;
@@ -72,7 +72,7 @@ impl Model for StoredEntry {
     ghost use Rattle.std.specs.Prelude.{◌≡◌, ◌==◌, ◌≤◌, ◌^◌, ◌+◌, length, sum};
     ghost use Rattle.std.specs.List.{list_any};
     ghost use Rattle.ft_model.specs.Log.{Entry};
-    ghost use Rattle.logger_store.specs.Stored.{AreRead, IsInRange};
+    ghost use Rattle.logger_store.specs.StoreState.{AreRead, IsInRange};
 
     ghost Value = { Entry };
 

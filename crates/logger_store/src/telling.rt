@@ -3,7 +3,7 @@
 ghost use Rattle.std.specs.Prelude.{[], ◌≡◌, ◌≤◌, ◌<◌, Some, option_copied};
 ghost use Rattle.seq_arith.specs.Message.Body.{EntryMsg, OpenedMsg, StableMsg, ReadsMsg, EndedMsg, StaleMsg};
 ghost use Rattle.ft_model.specs.Log.{head_of, kept_of, part_of, lens_of, on_entry, opened_answer};
-ghost use Rattle.logger_store.specs.Stored.{answer_bytes, with_boot};
+ghost use Rattle.logger_store.specs.StoreState.{answer_bytes, with_boot};
 
 use crate::entry_head::EntryHead;
 use crate::lens::Lens;

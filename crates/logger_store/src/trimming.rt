@@ -3,7 +3,7 @@
 ghost use Rattle.std.specs.Prelude.{[], ◌≡◌, ◌≤◌, ◌<◌, ◌+◌, ◌-◌, ◌^◌, ◌&&◌, ◌==◌, true, false, None, option_map, option_copied, IfSome, OnOk, OnErr, IsOk, length, sum, take, slice_get, slice_index, slice_index_or, slice_set, if◌then◌else◌};
 ghost use Rattle.ft_model.specs.Log.{head_of, with_entry, log_after, answer_to};
 ghost use Rattle.logger_wire.specs.Value.{body_of, message_of, IsSendable};
-ghost use Rattle.logger_store.specs.Stored.{acknowledging, head_value, answer_bytes, wants_memory, bytes_of, lengths_of};
+ghost use Rattle.logger_store.specs.StoreState.{acknowledging, head_value, answer_bytes, wants_memory, bytes_of, lengths_of};
 ghost use Rattle.logger_store.specs.Pages.{pages, place_of, reads_on, took};
 
 use crate::entry_head::EntryHead;
@@ -38,7 +38,7 @@ pub struct TrimStore {
 }
 
 impl Model for TrimStore {
-    ghost use Rattle.logger_store.specs.Trimmed.{TrimmedLog};
+    ghost use Rattle.logger_store.specs.Trim.{TrimmedLog};
 
     ghost Value = { TrimmedLog };
 
@@ -46,7 +46,7 @@ impl Model for TrimStore {
 }
 
 impl TrimStore {
-    ghost use Rattle.logger_store.specs.Trimmed.{untrimmed, trim_at, trim_of, is_trimmed, answer_left, with_trim, MayTrim};
+    ghost use Rattle.logger_store.specs.Trim.{untrimmed, trim_at, trim_of, is_trimmed, answer_left, with_trim, MayTrim};
 
     /// A log of boot 0 without entries. Nothing is allocated yet.
     pub fn new(alloc: Global) -> TrimStore
@@ -141,7 +141,7 @@ impl TrimStore {
 
     /// Takes a message, and replaces what `out` held by the answer to it, or by nothing, as `LogStore::answer` does; but it doesn't answer questions about what
     /// is trimmed.
-    #[tactic(auto, unfolding(crate::specs::Trimmed::answer_left))]
+    #[tactic(auto, unfolding(crate::specs::Trim::answer_left))]
     pub fn answer(&mut self, alloc: Global, m: &Msg<'_>, out: &mut MsgOut) -> Result<(), NoMemory>
         requires { IsSendable m.now }
         ensures next { OnOk result (self.new.log ≡ log_after self.old.log (message_of m.now)) }

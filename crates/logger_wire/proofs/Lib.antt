@@ -4,4 +4,4 @@ pub mod Placed
 pub mod Sendable
 pub mod Placing
 pub mod Putting
-pub mod Assembled
+pub mod OneSpelling

@@ -5,7 +5,7 @@ use Rattle.std.proofs.Math.Seq.{take-append_seam, drop-append-add}
 use borrow.Rule.Slice.PartMut.{put_mid, post_of}
 use mir.Val.{bool_byte}
 use Rattle.seq_arith.specs.MessageGrammar.{number_bytes, flag}
-use Rattle.logger_wire.specs.Written.{put}
+use Rattle.logger_wire.specs.Spelling.{put}
 
 pub placed : (at : ℕ) (bytes new part : List ℕ) → at + length new ≤ length bytes
     → part ≡ new ++ drop (length new) (take (length bytes - at) (drop at bytes))

@@ -5,7 +5,7 @@ use Rattle.seq_arith.specs.declared.kinds.Kind.TheVariants as kinds
 use Rattle.seq_arith.specs.Message.{EntryHead, Kept, Numbers, Part}
 use Rattle.seq_arith.specs.Message.{Body as bodies}
 use Rattle.seq_arith.specs.MessageGrammar.{number_bytes, numbers_bytes, fields_of, numbers_of, flag}
-use Rattle.logger_wire.specs.Written.{put, body_bytes}
+use Rattle.logger_wire.specs.Spelling.{put, body_bytes}
 use Rattle.logger_wire.proofs.Placing.{by_cells, put_put}
 
 abbrev count_steps : ℕ → List ℕ → List ℕ

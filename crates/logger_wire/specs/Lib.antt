@@ -1,4 +1,4 @@
 pub mod Value
 pub mod Places
 pub mod Records
-pub mod Written
+pub mod Spelling

@@ -2,7 +2,7 @@
 
 ghost use Rattle.std.specs.Prelude.{◌≡◌, ◌≤◌, ◌<◌, ◌+◌, ◌++◌, length};
 ghost use Rattle.seq_arith.specs.MessageGrammar.{number_bytes, flag};
-ghost use Rattle.logger_wire.specs.Written.{put};
+ghost use Rattle.logger_wire.specs.Spelling.{put};
 
 use byteorder::{BigEndian, ByteOrder};
 use ft_io::Key;

@@ -4,7 +4,7 @@ ghost use Rattle.std.specs.Prelude.{◌≡◌, ◌≤◌, true, length};
 ghost use Rattle.seq_arith.specs.Message.Body.{EntryMsg, OpenMsg, DataMsg, StableMsg};
 ghost use Rattle.seq_arith.specs.MessageGrammar.{fields_of, numbers_of, numbers_bytes};
 ghost use Rattle.logger_wire.specs.Value.{body_of as said_body};
-ghost use Rattle.logger_wire.specs.Written.{put, body_bytes, has_numbers, has_kept, has_entry, has_part};
+ghost use Rattle.logger_wire.specs.Spelling.{put, body_bytes, has_numbers, has_kept, has_entry, has_part};
 ghost use Rattle.logger_wire.specs.Records.{numbers_said, kept_said, entry_said, part_said, opening_at, kept_at, entry_at, part_at, read_as};
 
 use crate::Body;
@@ -70,7 +70,7 @@ impl Numbers {
     }
 
     /// What such a body says.
-    #[tactic(auto, unfolding(crate::specs::Written::body_bytes))]
+    #[tactic(auto, unfolding(crate::specs::Spelling::body_bytes))]
     pub(crate) fn of(body: &Body<'_>) -> Numbers
         requires { has_numbers (said_body body.now) ≡ true }
         ensures { body_bytes (said_body body.now) ≡ body_bytes (OpenMsg (numbers_said result)) }
@@ -124,7 +124,7 @@ impl Kept {
     }
 
     /// What such a body says.
-    #[tactic(auto, unfolding(crate::specs::Written::body_bytes))]
+    #[tactic(auto, unfolding(crate::specs::Spelling::body_bytes))]
     pub(crate) fn of(body: &Body<'_>) -> Kept
         requires { has_kept (said_body body.now) ≡ true }
         ensures { body_bytes (said_body body.now) ≡ body_bytes (StableMsg (kept_said result)) }

@@ -6,7 +6,7 @@ ghost use Rattle.seq_arith.specs.Checksum.{checksum};
 ghost use Rattle.seq_arith.specs.Message.Body.{HelloMsg, SummaryMsg, PartMsg, ReadMsg, DoneMsg, StaleMsg};
 ghost use Rattle.seq_arith.specs.MessageGrammar.{kind_of as kind_lem, kind_number, lens_in, lens_bytes, message_length};
 ghost use Rattle.seq_arith.specs.MessageGrammar.{header, spelling, reading};
-ghost use Rattle.logger_wire.specs.Written.{put, body_bytes, sealed, framed, has_numbers, has_kept, has_entry, has_part};
+ghost use Rattle.logger_wire.specs.Spelling.{put, body_bytes, sealed, framed, has_numbers, has_kept, has_entry, has_part};
 ghost use Rattle.logger_wire.specs.Value.{body_of as said_body, message_of, left_over, IsSendable};
 
 use crate::places::{put_bytes, put_huge, put_key, put_long, put_word};
@@ -41,7 +41,7 @@ pub fn put_msg(m: &Msg<'_>, out: &mut [u8]) -> usize
 }
 
 /// Writes a message of each kind.
-#[tactic(auto, unfolding(crate::specs::Written::body_bytes))]
+#[tactic(auto, unfolding(crate::specs::Spelling::body_bytes))]
 fn put_kind(m: &Msg<'_>, out: &mut [u8]) -> usize
     requires lens { left_over m.now.body ≡ 0 }
     requires short { message_length (said_body m.now.body) ≤ 1491 }

@@ -5,7 +5,7 @@ use Rattle.std.proofs.lemmas.Bool.{eqb-true}
 use Rattle.std.proofs.lemmas.List.{get_or-set_same, get_or-set_other}
 use Rattle.seq_arith.specs.Mark.{Mark}
 use Rattle.mark_laws.specs.MarkedLog.{no_mark}
-use Rattle.mark_store.specs.Standing.{mark_at}
+use Rattle.mark_store.specs.Refinement.{mark_at}
 use Rattle.mark_store.proofs.Places.{alike}
 
 -- no marks behind the last one are read as none

@@ -10,7 +10,7 @@ use Rattle.ft_io.proofs.Choices.{same_some}
 use Rattle.ft_model.proofs.Lists.{same_key}
 use Rattle.ft_model.proofs.PlayableLemmas.{same_either_way}
 use Rattle.ft_model.specs.Log.{Entry}
-use Rattle.logger_store.specs.Trimmed.{no_trim, trim_at, IsLeft, AreLeft}
+use Rattle.logger_store.specs.Trim.{no_trim, trim_at, IsLeft, AreLeft}
 use Rattle.logger_store.specs.declared.trimming.Trim.{Trim}
 use Rattle.logger_store.proofs.LeftLogs.{one_less, one_more, some_more, same_key_left}
 

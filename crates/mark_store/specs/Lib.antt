@@ -1,3 +1,3 @@
 pub mod Bytes
 pub mod New
-pub mod Standing
+pub mod Refinement

@@ -6,15 +6,15 @@ ghost use Rattle.seq_arith.specs.Mark.MarkBody.{MarkMsg as Marking, AskMsg};
 ghost use Rattle.seq_arith.specs.MarkGrammar.{IsSpellable};
 ghost use Rattle.checkpoint.specs.Value.{body_of, message_of};
 ghost use Rattle.ft_model.specs.Log.{head_of};
-ghost use Rattle.logger_store.specs.Stored.{bytes_of, head_value};
-ghost use Rattle.logger_store.specs.Trimmed.{trim_at, MayTrim};
+ghost use Rattle.logger_store.specs.StoreState.{bytes_of, head_value};
+ghost use Rattle.logger_store.specs.Trim.{trim_at, MayTrim};
 ghost use Rattle.mark_laws.specs.MarkedLog.{MarkedLog, after_mark, answer_to_mark, is_mark_answer, may_follow, no_mark, nothing_logged, told_of_mark, with_mark_body};
 ghost use Rattle.seq_arith.specs.Message.Body.{StaleMsg};
 ghost use Rattle.mark_laws.specs.MarkedLog.{about_mark};
 ghost use Rattle.mark_laws.specs.MarkedLog.Reply.{Of_log};
 ghost use Rattle.mark_store.specs.Bytes.{after_bytes, kept_at, reply_bytes, reply_to};
 ghost use Rattle.mark_store.specs.New.{mark_value};
-ghost use Rattle.mark_store.specs.Standing.{IsLeftOfMarked, mark_at};
+ghost use Rattle.mark_store.specs.Refinement.{IsLeftOfMarked, mark_at};
 
 use crate::kept_mark::{KeptMark, NewMark};
 use crate::telling::{tell_held, tell_marked, tell_stale};
@@ -39,7 +39,7 @@ pub struct MarkStore {
 }
 
 impl Model for MarkStore {
-    ghost use Rattle.mark_store.specs.Standing.{TrimmedAtMarks};
+    ghost use Rattle.mark_store.specs.Refinement.{TrimmedAtMarks};
 
     ghost Value = { TrimmedAtMarks };
 

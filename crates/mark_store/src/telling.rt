@@ -5,7 +5,7 @@ ghost use Rattle.seq_arith.specs.Mark.MarkBody.{MarkedMsg, HeldMsg};
 ghost use Rattle.seq_arith.specs.Message.Body.{StaleMsg};
 ghost use Rattle.seq_arith.specs.MarkGrammar.{IsSpellable, spelling};
 ghost use Rattle.checkpoint.specs.Value.{message_of};
-ghost use Rattle.logger_store.specs.Stored.{answer_bytes};
+ghost use Rattle.logger_store.specs.StoreState.{answer_bytes};
 ghost use Rattle.mark_laws.specs.MarkedLog.{about_mark};
 ghost use Rattle.mark_store.specs.Bytes.{reply_bytes};
 ghost use Rattle.mark_store.specs.New.{mark_value};

@@ -24,15 +24,15 @@ use Rattle.ft_model.specs.declared.way.Way.{Way}
 use Rattle.ft_model.proofs.Keys.{AreDistinct}
 use Rattle.ft_model.proofs.Lists.{none_is_some}
 use Rattle.peer_client.specs.Scripted.{delivered, hearing}
-use Rattle.net_schedule.specs.Carried.{number_in, way_along}
+use Rattle.net_schedule.specs.StoredPackets.{number_in, way_along}
 use Rattle.net_schedule.specs.Actors.{ActorsStand, ActorsGoOn}
-use Rattle.net_schedule.specs.Hearing.{changed_at, delivered_to, with_logs}
+use Rattle.net_schedule.specs.Delivery.{changed_at, delivered_to, with_logs}
 use Rattle.net_schedule.specs.Loggers.{Loggers}
 use Rattle.net_schedule.specs.Logs.{log_in, loggers_in, log_reads, logs_hear}
 use Rattle.net_schedule.specs.declared.logs.Logs.{Logs}
 use Rattle.net_schedule.specs.declared.logs.Logs.TheVariants.{One, Two}
 use Rattle.net_schedule.specs.Premises.{Premises, ComesAs}
-use Rattle.net_schedule.specs.Standing.{Kept, WorldStands, ReachesNext}
+use Rattle.net_schedule.specs.Refinement.{Kept, WorldStands, ReachesNext}
 use Rattle.net_schedule.proofs.Goings.{client_hears, log_hears, nothing_happens, actors_of, one_goes}
 use Rattle.net_schedule.proofs.Peers.{keys_in, first_of, apart_distinct, at_first, by_number, changed_past}
 

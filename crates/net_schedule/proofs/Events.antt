@@ -22,12 +22,12 @@ use Rattle.server_node.specs.Identity.{node_of}
 use Rattle.server_node.specs.Stages.{StageStands}
 use Rattle.net_schedule.specs.Actors.{ActorsStand, ActorsGoOn, ActorsAdvance}
 use Rattle.net_schedule.specs.AtNumber.{at_number}
-use Rattle.net_schedule.specs.Carried.{with_wires, way_along}
+use Rattle.net_schedule.specs.StoredPackets.{with_wires, way_along}
 use Rattle.net_schedule.specs.Premises.{Premises, ComesAs}
-use Rattle.net_schedule.specs.Standing.{Kept, Server, WorldStands, ReachesNext, Advances, Refuses, IsForMemory}
+use Rattle.net_schedule.specs.Refinement.{Kept, Server, WorldStands, ReachesNext, Advances, Refuses, IsForMemory}
 use Rattle.net_schedule.specs.declared.end.StepEnd.{StepEnd}
 use Rattle.net_schedule.specs.declared.end.StepEnd.TheVariants.{NoMemory, BadEvent, PacketLimit}
-use Rattle.net_schedule.proofs.Keeping.{Found, found, none_sent}
+use Rattle.net_schedule.proofs.PacketStore.{Found, found, none_sent}
 use Rattle.net_schedule.proofs.Goings.{down, both_up}
 use Rattle.net_schedule.proofs.Bringing.{comes_whole, comes_changed, goes_whole}
 

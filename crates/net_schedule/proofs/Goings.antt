@@ -16,14 +16,14 @@ use Rattle.ft_model.specs.World.{World as Seen, MayCome, ServerTurn, ServerMoves
 use Rattle.ft_model.specs.declared.event.Event.{Event}
 use Rattle.ft_model.proofs.FaithfulKept.{received_same}
 use Rattle.ft_model.proofs.Lists.{none_is_some}
-use Rattle.logger_store.specs.Stored.{answer_bytes}
+use Rattle.logger_store.specs.StoreState.{answer_bytes}
 use Rattle.server_node.specs.Identity.{node_of}
 use Rattle.server_node.specs.Stages.{StageStands, NodeGoes}
 use Rattle.net_schedule.specs.Actors.{ActorsStand, ActorsGoOn, ActorsAdvance}
-use Rattle.net_schedule.specs.Carried.{carried, with_wires, with_answer}
+use Rattle.net_schedule.specs.StoredPackets.{carried, with_wires, with_answer}
 use Rattle.net_schedule.specs.Premises.{Premises}
-use Rattle.net_schedule.specs.Standing.{Kept, Server, IsAt, NodeStands, WorldStands, ReachesNext, Advances}
-use Rattle.net_schedule.proofs.Keeping.{sent_kept, none_sent, answer_kept}
+use Rattle.net_schedule.specs.Refinement.{Kept, Server, IsAt, NodeStands, WorldStands, ReachesNext, Advances}
+use Rattle.net_schedule.proofs.PacketStore.{sent_kept, none_sent, answer_kept}
 use Rattle.net_schedule.proofs.Peers.{keys_stay}
 
 -- the server is down in both worlds at once, ..

@@ -1,5 +1,5 @@
 pub mod Peers
-pub mod Keeping
+pub mod PacketStore
 pub mod Goings
 pub mod Bringing
 pub mod Moving
@@ -7,7 +7,7 @@ pub mod Events
 pub mod Trace
 pub mod Outcomes
 pub mod Keys
-pub mod Starting
+pub mod FirstWorld
 pub mod Numbered
 pub mod Sent
 pub mod Parcels

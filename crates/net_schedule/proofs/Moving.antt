@@ -19,12 +19,12 @@ use Rattle.ft_model.specs.declared.way.Way.TheVariants.{ClientToServer}
 use Rattle.ft_model.proofs.Keys.{AreDistinct}
 use Rattle.ft_model.proofs.Lists.{none_is_some, some_is, same_key}
 use Rattle.peer_client.specs.Scripted.{Makes, Refuses as RefusesMove}
-use Rattle.net_schedule.specs.Carried.{with_packet, number_in}
-use Rattle.net_schedule.specs.Hearing.{changed_at, delivered_to}
+use Rattle.net_schedule.specs.StoredPackets.{with_packet, number_in}
+use Rattle.net_schedule.specs.Delivery.{changed_at, delivered_to}
 use Rattle.peer_client.specs.Scripted.{delivered}
 use Rattle.net_schedule.specs.Premises.{Premises}
 use Rattle.net_schedule.specs.Actors.{ActorsStand, ActorsAdvance}
-use Rattle.net_schedule.specs.Standing.{Kept}
+use Rattle.net_schedule.specs.Refinement.{Kept}
 use Rattle.net_schedule.proofs.Numbered.{past}
 use Rattle.net_schedule.proofs.Peers.{keys_in, number_is, at_first, first_is, keys_stay, changed_past, within}
 use Rattle.net_schedule.proofs.Bringing.{distinct_keys}

@@ -2,7 +2,7 @@
 use Rattle.std.proofs.Common.{◌≡◌, ◌∙◌, sym, ap, subst, not, Bool, true, false, is_some, Option, Some, None, option_map, Result, Ok, Err, refl, true≢false}
 use Rattle.std.specs.Prelude.{IfErr, IsErrAnd}
 use Rattle.ft_model.specs.declared.event.EventWhy.{EventWhy}
-use Rattle.net_schedule.specs.Standing.{Kept, IsForMemory, KeepsAtRefusal}
+use Rattle.net_schedule.specs.Refinement.{Kept, IsForMemory, KeepsAtRefusal}
 use Rattle.net_schedule.specs.declared.end.StepEnd.{StepEnd}
 use Rattle.net_schedule.specs.declared.end.StepEnd.TheVariants.{NoMemory, BadEvent, PacketLimit}
 

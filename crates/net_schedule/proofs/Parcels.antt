@@ -16,16 +16,16 @@ use Rattle.twin_laws.specs.declared.part.Side.{Side}
 use Rattle.twin_laws.specs.declared.part.Side.TheVariants as sides
 use Rattle.twin_laws.specs.Twin.{Between, Does, bytes_of}
 use Rattle.twin_laws.specs.Twin.Between.{Forward, Got}
-use Rattle.twin_laws.specs.Kept.{sent_to_other}
+use Rattle.twin_laws.specs.StoredState.{sent_to_other}
 use Rattle.twin_laws.specs.TwinWorld.{Parcel, parcel_at, sent_by}
 use Rattle.twin_laws.specs.TwinWorld.Parcel.{Outside, Inside}
 use Rattle.twin_laws.specs.TwinLegal.{bytes_of_parcel}
 use Rattle.server_node.proofs.Collecting.{take_more}
 use Rattle.net_schedule.specs.AtNumber.{at_number}
-use Rattle.net_schedule.specs.Carried.{Carried, with_packet, with_wires, way_along}
+use Rattle.net_schedule.specs.StoredPackets.{Carried, with_packet, with_wires, way_along}
 use Rattle.net_schedule.specs.Loggers.{way_out, with_datagrams}
-use Rattle.net_schedule.specs.TwinStanding.{stored_way, carried_parcels}
-use Rattle.net_schedule.proofs.Keeping.{found_at, missing_at}
+use Rattle.net_schedule.specs.TwinRefinement.{stored_way, carried_parcels}
+use Rattle.net_schedule.proofs.PacketStore.{found_at, missing_at}
 
 abbrev pack : List Way → List (List ℕ) → Carried
 pack ways bytes = record { ways = ways; bytes = bytes }

@@ -13,8 +13,8 @@ use Rattle.ft_model.specs.World.{with_client, is_apart, are_apart}
 use Rattle.ft_model.specs.Report.{number_of_client}
 use Rattle.ft_model.proofs.Lists.{some_is, none_is_some, key_is, same_key}
 use Rattle.ft_model.proofs.Keys.{AreDistinct, has_key, has_key_map, key_eq_turns}
-use Rattle.net_schedule.specs.Carried.{number_in}
-use Rattle.net_schedule.specs.Hearing.{changed_at}
+use Rattle.net_schedule.specs.StoredPackets.{number_in}
+use Rattle.net_schedule.specs.Delivery.{changed_at}
 use Rattle.ft_io.proofs.Booleans.{not_true}
 use Rattle.ft_io.proofs.Choices.{by_cases}
 

@@ -15,14 +15,14 @@ use Rattle.ft_model.specs.declared.schedule.Schedule.{Schedule}
 use Rattle.ft_model.specs.declared.way.Way.{Way}
 use Rattle.ft_model.specs.declared.way.Way.TheVariants.{ClientToServer, ServerToClient}
 use Rattle.net_schedule.specs.AtNumber.{at_number}
-use Rattle.net_schedule.specs.Carried.{way_along}
-use Rattle.net_schedule.specs.Sent.{packets_of, KeepsAllSent, WasSentAs}
-use Rattle.net_schedule.specs.Standing.{Kept}
-use Rattle.net_schedule.specs.Stepping.{StandsAfter}
+use Rattle.net_schedule.specs.StoredPackets.{way_along}
+use Rattle.net_schedule.specs.SentPackets.{packets_of, KeepsAllSent, WasSentAs}
+use Rattle.net_schedule.specs.Refinement.{Kept}
+use Rattle.net_schedule.specs.Step.{StandsAfter}
 use Rattle.net_schedule.proofs.Events.{all_numbered}
-use Rattle.net_schedule.proofs.Keeping.{Found, found, twice}
+use Rattle.net_schedule.proofs.PacketStore.{Found, found, twice}
 use Rattle.net_schedule.proofs.Peers.{keys_in, number_among}
-use Rattle.net_schedule.proofs.Starting.{keys_begin}
+use Rattle.net_schedule.proofs.FirstWorld.{keys_begin}
 use Rattle.net_schedule.proofs.Trace.{keys_after}
 
 -- a way by keys is one by clients

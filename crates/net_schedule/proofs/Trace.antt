@@ -19,12 +19,12 @@ use Rattle.ft_model.proofs.Happened.{Happened, holds_after}
 use Rattle.ft_model.proofs.Happened.Happened.{log_heard, client_heard, client_moved, server_turned, server_booted, server_down}
 use Rattle.ft_model.proofs.Lists.{same_key}
 use Rattle.net_schedule.specs.Premises.{Premises}
-use Rattle.net_schedule.specs.Standing.{Kept, WorldStands, Advances, Refuses}
-use Rattle.net_schedule.specs.Stepping.{StandsAfter, Extends, Steps, EndsStep}
+use Rattle.net_schedule.specs.Refinement.{Kept, WorldStands, Advances, Refuses}
+use Rattle.net_schedule.specs.Step.{StandsAfter, Extends, Steps, EndsStep}
 use Rattle.net_schedule.specs.declared.end.StepEnd.{StepEnd}
 use Rattle.net_schedule.specs.declared.end.StepEnd.TheVariants.{NoMemory, BadEvent, PacketLimit}
 use Rattle.net_schedule.specs.declared.step_out.StepOut.{StepOut}
-use Rattle.net_schedule.proofs.Keeping.{as_many}
+use Rattle.net_schedule.proofs.PacketStore.{as_many}
 use Rattle.net_schedule.proofs.Peers.{keys_in, keys_stay}
 
 -- the clients keep the keys with which they started

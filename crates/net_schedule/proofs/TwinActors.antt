@@ -22,9 +22,9 @@ use Rattle.twin_laws.specs.TwinLegal.{twin_refusal}
 use Rattle.twin_laws.proofs.Elsewhere.{with_packets, happens_elsewhere, server_elsewhere, client_reads_elsewhere, NamesNone}
 use Rattle.twin_laws.proofs.Numbering.{outside_of}
 use Rattle.net_schedule.specs.Actors.{ActorsStand, ActorsGoOn, ActorsAdvance, ActorsDo, ActorsDecline}
-use Rattle.net_schedule.specs.Doing.{Does, Declines}
-use Rattle.net_schedule.specs.Standing.{Kept, Refuses}
-use Rattle.net_schedule.specs.TwinStanding.{TwinWorldStands, TwinGoesOn, TwinAdvances, TwinDoes, TwinDeclines, TwinRefuses, ParcelComesAs, carried_parcels}
+use Rattle.net_schedule.specs.Methods.{Does, Declines}
+use Rattle.net_schedule.specs.Refinement.{Kept, Refuses}
+use Rattle.net_schedule.specs.TwinRefinement.{TwinWorldStands, TwinGoesOn, TwinAdvances, TwinDoes, TwinDeclines, TwinRefuses, ParcelComesAs, carried_parcels}
 use Rattle.net_schedule.specs.declared.end.StepEnd.{StepEnd}
 use Rattle.net_schedule.specs.declared.end.StepEnd.TheVariants.{NoMemory, BadEvent, PacketLimit}
 use Rattle.net_schedule.proofs.Goings.{actors_of, one_advances}

@@ -24,19 +24,19 @@ use Rattle.twin_laws.specs.declared.part.Part.{Part}
 use Rattle.twin_laws.specs.declared.part.Part.TheVariants as parts
 use Rattle.twin_laws.specs.Twin.{asked}
 use Rattle.twin_laws.specs.Twin.Between.{Forward, Got}
-use Rattle.twin_laws.specs.Kept.{left_alone}
+use Rattle.twin_laws.specs.StoredState.{left_alone}
 use Rattle.twin_laws.specs.Pair.{Pair, IsPaired, stopped_by}
 use Rattle.twin_laws.specs.TwinWorld.{Parcel, TwinWorld, Elsewhere, HeadHas, TailHas, LoggerHas, ParcelComes, ParcelFlipped, seen, parcel_at}
 use Rattle.twin_laws.specs.TwinWorld.Parcel.{Outside, Inside}
 use Rattle.twin_laws.specs.TwinWorld.TwinEvent.{Usual, Stop}
 use Rattle.twin_laws.specs.TwinLegal.{part_number, bytes_of_parcel, refusal_of_twin_flip, may_stop, twin_refusal}
-use Rattle.twin_laws.specs.Written.{IsWritten}
+use Rattle.twin_laws.specs.SentBytes.{IsWritten}
 use Rattle.net_schedule.specs.AtNumber.{at_number}
-use Rattle.net_schedule.specs.Carried.{way_along}
+use Rattle.net_schedule.specs.StoredPackets.{way_along}
 use Rattle.net_schedule.specs.Loggers.{Loggers, serving_log, stopped, part_numbered}
 use Rattle.net_schedule.specs.Premises.{ComesAs}
-use Rattle.net_schedule.specs.Standing.{Kept, IsForMemory}
-use Rattle.net_schedule.specs.TwinStanding.{stored_way, LoggersStand, TwinWorldStands, TwinGoesOn, TwinAdvances, TwinPremises, TwinRefuses, ParcelComesAs, MayComeAs}
+use Rattle.net_schedule.specs.Refinement.{Kept, IsForMemory}
+use Rattle.net_schedule.specs.TwinRefinement.{stored_way, LoggersStand, TwinWorldStands, TwinGoesOn, TwinAdvances, TwinPremises, TwinRefuses, ParcelComesAs, MayComeAs}
 use Rattle.net_schedule.specs.declared.end.StepEnd.{StepEnd}
 use Rattle.net_schedule.specs.declared.end.StepEnd.TheVariants.{NoMemory, BadEvent, PacketLimit}
 use Rattle.net_schedule.proofs.Bringing.{comes_whole, comes_changed, as_whole}

@@ -8,7 +8,7 @@ use Rattle.seq_arith.specs.MessageGrammar.{reading}
 use Rattle.seq_arith.specs.declared.kinds.BadMsg.{BadMsg}
 use Rattle.server_trait.specs.Service.{Machine}
 use Rattle.ft_model.specs.Log.{Log, answer_to}
-use Rattle.logger_store.specs.Stored.{answer_bytes}
+use Rattle.logger_store.specs.StoreState.{answer_bytes}
 use Rattle.ft_model.specs.Network.Packet.{To_server, To_client, To_logger, From_logger}
 use Rattle.ft_model.specs.declared.way.Way.{Way}
 use Rattle.ft_model.specs.declared.way.Way.TheVariants.{ClientToServer, ServerToClient, ServerToLogger, LoggerToServer, HeadToTail, TailToHead}
@@ -20,17 +20,17 @@ use Rattle.twin_laws.specs.declared.part.Side.TheVariants as sides
 use Rattle.twin_laws.specs.Twin.{Request, Comes, Head, Tail, Does, nothing, has_room, with_taken, head_takes, numbered, sends_waiting, head_paired, head_alone, confirmed_to, head_does, tail_alone, applies_next, confirms_again, tail_applies, tail_does}
 use Rattle.twin_laws.specs.Twin.Between.{Forward, Got}
 use Rattle.twin_laws.specs.Twin.Comes.{Asks, Tells, Is_noise}
-use Rattle.twin_laws.specs.Kept.{kept_head, kept_tail, kept_does, comes_from, in_bytes}
+use Rattle.twin_laws.specs.StoredState.{kept_head, kept_tail, kept_does, comes_from, in_bytes}
 use Rattle.twin_laws.specs.Pair.{Pair, IsPaired, head_has, tail_has}
 use Rattle.twin_laws.specs.TwinWorld.{Parcel, TwinWorld, HeadHas, TailHas, LoggerHas, serving, sent_by}
 use Rattle.twin_laws.specs.TwinWorld.Parcel.{Outside, Inside}
-use Rattle.twin_laws.proofs.Keeping.{head_does_so, tail_does_so}
-use Rattle.net_schedule.specs.Carried.{Carried, with_answer}
-use Rattle.net_schedule.specs.Hearing.{with_logs}
+use Rattle.twin_laws.proofs.StoredParts.{head_does_so, tail_does_so}
+use Rattle.net_schedule.specs.StoredPackets.{Carried, with_answer}
+use Rattle.net_schedule.specs.Delivery.{with_logs}
 use Rattle.net_schedule.specs.Loggers.{Loggers, serving_log, with_datagrams, head_hears, tail_hears, front_hears, pair_hears}
 use Rattle.net_schedule.specs.Logs.{loggers_in, log_reads, logs_hear}
-use Rattle.net_schedule.specs.Standing.{Kept}
-use Rattle.net_schedule.specs.TwinStanding.{stored_way, carried_parcels, LoggersStand, TwinWorldStands, TwinGoesOn, ParcelComesAs}
+use Rattle.net_schedule.specs.Refinement.{Kept}
+use Rattle.net_schedule.specs.TwinRefinement.{stored_way, carried_parcels, LoggersStand, TwinWorldStands, TwinGoesOn, ParcelComesAs}
 use Rattle.net_schedule.specs.declared.logs.Logs.{Logs}
 use Rattle.net_schedule.specs.declared.logs.Logs.TheVariants.{One, Two}
 use Rattle.net_schedule.proofs.Parcels.{GoesFrom, datagrams_after, datagrams_grow, none_after}

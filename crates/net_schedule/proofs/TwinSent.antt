@@ -14,14 +14,14 @@ use Rattle.twin_laws.specs.TwinReport.{way_of_parcel}
 use Rattle.twin_laws.specs.TwinWorld.{Parcel, TwinMoment, seen, twin_after}
 use Rattle.twin_laws.specs.TwinWorld.Parcel.{Outside, Inside}
 use Rattle.net_schedule.specs.AtNumber.{at_number}
-use Rattle.net_schedule.specs.Sent.{parcels_of, KeepsAllParcels, ParcelSentAs}
-use Rattle.net_schedule.specs.Standing.{Kept}
-use Rattle.net_schedule.specs.TwinStanding.{stored_way}
-use Rattle.net_schedule.specs.TwinStepping.{TwinStandsAfter}
+use Rattle.net_schedule.specs.SentPackets.{parcels_of, KeepsAllParcels, ParcelSentAs}
+use Rattle.net_schedule.specs.Refinement.{Kept}
+use Rattle.net_schedule.specs.TwinRefinement.{stored_way}
+use Rattle.net_schedule.specs.TwinStep.{TwinStandsAfter}
 use Rattle.net_schedule.proofs.Parcels.{FoundParcel, found_parcel}
 use Rattle.net_schedule.proofs.Peers.{keys_in}
 use Rattle.net_schedule.proofs.Sent.{way_is}
-use Rattle.net_schedule.proofs.Starting.{keys_begin}
+use Rattle.net_schedule.proofs.FirstWorld.{keys_begin}
 use Rattle.net_schedule.proofs.Trace.{keys_after}
 use Rattle.net_schedule.proofs.TwinEvents.{written_at}
 use Rattle.net_schedule.proofs.TwinTrace.{AreTwinLaws}

@@ -14,11 +14,11 @@ use Rattle.twin_laws.specs.Pair.{IsPaired}
 use Rattle.twin_laws.specs.TwinLegal.{IsTwinLegalFor, event_of, twin_start, twin_refusal}
 use Rattle.twin_laws.specs.TwinWorld.{TwinWorld, TwinMoment, TwinJoint, TwinHappens, seen, parcel_at, twin_after}
 use Rattle.twin_laws.specs.TwinWorld.Parcel.{Outside}
-use Rattle.twin_laws.specs.Written.{IsWritten}
+use Rattle.twin_laws.specs.SentBytes.{IsWritten}
 use Rattle.net_schedule.specs.Premises.{Premises}
-use Rattle.net_schedule.specs.Standing.{Kept}
-use Rattle.net_schedule.specs.TwinStanding.{TwinWorldStands, TwinAdvances, TwinPremises, TwinRefuses}
-use Rattle.net_schedule.specs.TwinStepping.{TwinStandsAfter, TwinExtends, TwinSteps, TwinEndsStep}
+use Rattle.net_schedule.specs.Refinement.{Kept}
+use Rattle.net_schedule.specs.TwinRefinement.{TwinWorldStands, TwinAdvances, TwinPremises, TwinRefuses}
+use Rattle.net_schedule.specs.TwinStep.{TwinStandsAfter, TwinExtends, TwinSteps, TwinEndsStep}
 use Rattle.net_schedule.specs.declared.end.StepEnd.{StepEnd}
 use Rattle.net_schedule.specs.declared.end.StepEnd.TheVariants.{NoMemory, BadEvent, PacketLimit}
 use Rattle.net_schedule.specs.declared.step_out.StepOut.{StepOut}

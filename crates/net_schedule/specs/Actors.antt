@@ -7,9 +7,9 @@ use Rattle.ft_model.specs.Node.{Input}
 use Rattle.ft_model.specs.Wire.{wire_of}
 use Rattle.ft_model.specs.World.{World as Seen, Happens, MayCome, ServerMoves}
 use Rattle.ft_model.specs.declared.event.Event.{Event}
-use Rattle.net_schedule.specs.Carried.{with_wires}
+use Rattle.net_schedule.specs.StoredPackets.{with_wires}
 use Rattle.net_schedule.specs.Premises.{Premises}
-use Rattle.net_schedule.specs.Standing.{Kept, NodeStands, Refuses, IsForMemory}
+use Rattle.net_schedule.specs.Refinement.{Kept, NodeStands, Refuses, IsForMemory}
 use Rattle.net_schedule.specs.declared.end.StepEnd.{StepEnd}
 
 -- server and clients of the code's world are at those of a world of the definitions

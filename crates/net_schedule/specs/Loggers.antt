@@ -7,8 +7,8 @@ use Rattle.twin_laws.specs.declared.part.Part.{Part}
 use Rattle.twin_laws.specs.declared.part.Part.TheVariants as parts
 use Rattle.twin_laws.specs.declared.part.Side.{Side}
 use Rattle.twin_laws.specs.declared.part.Side.TheVariants as sides
-use Rattle.twin_laws.specs.Kept.{Kept, new_kept, left_alone, kept_does}
-use Rattle.net_schedule.specs.Carried.{Carried}
+use Rattle.twin_laws.specs.StoredState.{Kept, new_kept, left_alone, kept_does}
+use Rattle.net_schedule.specs.StoredPackets.{Carried}
 
 -- one of them has stopped exactly where the other serves alone
 pub record Loggers : Type 0 where

@@ -6,8 +6,8 @@ use Rattle.seq_arith.specs.declared.kinds.BadMsg.{BadMsg}
 use Rattle.ft_model.specs.Log.{Log, empty_log, log_after, answer_to}
 use Rattle.ft_model.specs.declared.way.Way.{Way}
 use Rattle.ft_model.specs.declared.way.Way.TheVariants.{ClientToServer, ServerToClient, ServerToLogger, LoggerToServer, HeadToTail, TailToHead}
-use Rattle.logger_store.specs.Stored.{answer_bytes}
-use Rattle.net_schedule.specs.Carried.{Carried, with_answer}
+use Rattle.logger_store.specs.StoreState.{answer_bytes}
+use Rattle.net_schedule.specs.StoredPackets.{Carried, with_answer}
 use Rattle.net_schedule.specs.Loggers.{Loggers, new_loggers, serving_log, pair_hears}
 use Rattle.net_schedule.specs.declared.logs.Logs.{Logs}
 use Rattle.net_schedule.specs.declared.logs.Logs.TheVariants.{One, Two}

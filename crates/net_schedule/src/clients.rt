@@ -3,7 +3,7 @@
 ghost use Rattle.std.specs.Prelude.{◌≡◌, ◌≤◌, ◌+◌, ◌%◌, ◌^◌, map, length, All, IfOk, IfSome, position};
 ghost use Rattle.ft_io.specs.Key.{key_eq};
 ghost use Rattle.ft_model.specs.Schedule.{bytes_of as bytes_lem, client_of as client_lem, clients_of};
-ghost use Rattle.net_schedule.specs.Carried.{number_in as number_lem};
+ghost use Rattle.net_schedule.specs.StoredPackets.{number_in as number_lem};
 
 use ft_io::{Addr, Key, NoMemory};
 use ft_model::ClientLine;

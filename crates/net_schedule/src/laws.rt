@@ -10,10 +10,10 @@ ghost use Rattle.ft_model.specs.declared.event.Event.{Event};
 ghost use Rattle.ft_model.specs.declared.schedule.Schedule.{Schedule};
 ghost use Rattle.ft_model.specs.declared.way.Way.{Way};
 ghost use Rattle.net_schedule.specs.AtNumber.{at_number};
-ghost use Rattle.net_schedule.specs.Sent.{KeepsAllSent, WasSentAs, KeepsAllParcels, ParcelSentAs};
-ghost use Rattle.net_schedule.specs.Standing.{Kept};
-ghost use Rattle.net_schedule.specs.Stepping.{StandsAfter};
-ghost use Rattle.net_schedule.specs.TwinStepping.{TwinStandsAfter};
+ghost use Rattle.net_schedule.specs.SentPackets.{KeepsAllSent, WasSentAs, KeepsAllParcels, ParcelSentAs};
+ghost use Rattle.net_schedule.specs.Refinement.{Kept};
+ghost use Rattle.net_schedule.specs.Step.{StandsAfter};
+ghost use Rattle.net_schedule.specs.TwinStep.{TwinStandsAfter};
 ghost use Rattle.twin_laws.specs.TwinWorld.{TwinMoment};
 
 use ft_model::wire::packets_have_wires;

@@ -2,7 +2,7 @@
 
 ghost use Rattle.std.specs.Prelude.{◌≡◌, ◌<◌, [], ◌∷◌, length, slice_index, option_copied, OnOk};
 ghost use Rattle.net_schedule.specs.AtNumber.{at_number};
-ghost use Rattle.net_schedule.specs.Carried.{with_packet, no_packets};
+ghost use Rattle.net_schedule.specs.StoredPackets.{with_packet, no_packets};
 
 use ft_io::NoMemory;
 use ft_model::Way;
@@ -20,7 +20,7 @@ pub struct Packets {
 impl Model for Packets {
     ghost use Rattle.std.specs.Prelude.{◌≡◌, length};
     ghost use Rattle.tcp_endpoint.specs.Packets.{pieces, ClimbsTo};
-    ghost use Rattle.net_schedule.specs.Carried.{Carried};
+    ghost use Rattle.net_schedule.specs.StoredPackets.{Carried};
 
     ghost Value = { Carried };
 

@@ -1,8 +1,8 @@
 //! What the server and the loggers send, as the network stores it.
 
 ghost use Rattle.std.specs.Prelude.{◌≡◌, ◌≤◌, length, OnOk};
-ghost use Rattle.server_node.specs.Sending.{party_of};
-ghost use Rattle.net_schedule.specs.Carried.{way_to as way_lem, with_wires, with_answer};
+ghost use Rattle.server_node.specs.SentBytes.{party_of};
+ghost use Rattle.net_schedule.specs.StoredPackets.{way_to as way_lem, with_wires, with_answer};
 ghost use Rattle.net_schedule.specs.Loggers.{way_out as way_out_lem, with_datagrams};
 
 use crate::clients::number_of;

@@ -81,7 +81,7 @@ pub struct World<S: Service> {
 impl<S: Service> World<S> {
     ghost use Rattle.std.specs.Prelude.{◌≡◌, ◌≤◌, ◌<◌, ◌+◌, ◌-◌, ℕ, true, false, [], List, option_copied, length, Some, IfOk, IfErr, OnOk};
     ghost use Rattle.net_schedule.specs.AtNumber.{at_number};
-    ghost use Rattle.net_schedule.specs.Keeping.{kept};
+    ghost use Rattle.net_schedule.specs.WorldView.{kept};
     ghost use Rattle.ft_model.specs.Client.{mover_of};
     ghost use Rattle.ft_model.specs.Legal.{machines};
     ghost use Rattle.ft_model.specs.Playable.{IsPlayable};
@@ -91,13 +91,13 @@ impl<S: Service> World<S> {
     ghost use Rattle.ft_model.specs.declared.schedule.Schedule.{Schedule};
     ghost use Rattle.server_node.specs.Inputs.{input_of};
     ghost use Rattle.net_schedule.specs.Actors.{ActorsDo, ActorsDecline, Serves, ServesNot};
-    ghost use Rattle.net_schedule.specs.Doing.{Does, Declines, Brings, BringsNot};
-    ghost use Rattle.net_schedule.specs.Hearing.{delivered_to, with_logs};
+    ghost use Rattle.net_schedule.specs.Methods.{Does, Declines, Brings, BringsNot};
+    ghost use Rattle.net_schedule.specs.Delivery.{delivered_to, with_logs};
     ghost use Rattle.net_schedule.specs.Logs.{logs_hear};
-    ghost use Rattle.net_schedule.specs.Standing.{IsForMemory, KeepsAtRefusal};
-    ghost use Rattle.net_schedule.specs.Stepping.{StandsAfter, Steps, EndsStep};
-    ghost use Rattle.net_schedule.specs.TwinStanding.{TwinDoes, TwinDeclines, TwinBrings, TwinBringsNot};
-    ghost use Rattle.net_schedule.specs.TwinStepping.{TwinStandsAfter, TwinSteps, TwinEndsStep};
+    ghost use Rattle.net_schedule.specs.Refinement.{IsForMemory, KeepsAtRefusal};
+    ghost use Rattle.net_schedule.specs.Step.{StandsAfter, Steps, EndsStep};
+    ghost use Rattle.net_schedule.specs.TwinRefinement.{TwinDoes, TwinDeclines, TwinBrings, TwinBringsNot};
+    ghost use Rattle.net_schedule.specs.TwinStep.{TwinStandsAfter, TwinSteps, TwinEndsStep};
     ghost use Rattle.twin_laws.specs.TwinWorld.{TwinMoment};
 
     /// The world in which a schedule starts: nothing was sent, nothing is logged, and the server is down.

@@ -12,9 +12,9 @@ use Rattle.ft_model.specs.Client.{Client, IsMove, is_opening, is_open, next_of, 
 use Rattle.ft_model.specs.declared.phase.Phase.TheVariants as phases
 use Rattle.ft_model.specs.Client as machine
 use Rattle.peer_client.specs.Live.{LiveState, is_of, unread, sent_by, turned}
-use Rattle.peer_client.specs.Standing.{AreMoves, IsBetween, IsDue, HasHeard, AcksNear, receiving, handed_out, Moves}
+use Rattle.peer_client.specs.Refinement.{AreMoves, IsBetween, IsDue, HasHeard, AcksNear, receiving, handed_out, Moves}
 use Rattle.peer_client.proofs.Whole.{due_handed, flush_moves, unread_is, due_outcome, heard_of}
-use Rattle.node_link.specs.Received.{Received, datagram, silence, failure}
+use Rattle.node_link.specs.Receipt.{Received, datagram, silence, failure}
 use Rattle.node_link.specs.ClientTurns.{ClientTurn, after_receive, emptied, due_at, accepted_in}
 use Rattle.node_link.specs.ClientMachine.{IsNear, machine_then, GoesBeside, HasMachine}
 use Rattle.node_link.specs.ClientParts.{IsLimited, BeginsBeside}

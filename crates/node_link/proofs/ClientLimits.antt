@@ -14,17 +14,17 @@ use Rattle.seq_arith.specs.declared.BadPacket.{BadPacket}
 use Rattle.tcp_endpoint.specs.declared.states.StateName.{StateName}
 use Rattle.tcp_endpoint.specs.declared.states.StateName.TheVariants.{Closed, Listen, SynSent, SynReceived, Established, FinWait1, FinWait2, CloseWait, Closing, LastAck, TimeWait}
 use Rattle.tcp_endpoint.specs.States.{has_begun}
-use Rattle.tcp_endpoint.specs.Receiving.{Receiving, taken, next, receive_edge, came, with_came, with_segment}
-use Rattle.tcp_endpoint.specs.Sending.{Sending, IsShort, with_syn_acked, acknowledged, is_duplicate, duplicated, answered_by, moves_edge, send_edge, sendable, expires, timed, with_sent, with_fin_sent}
+use Rattle.tcp_endpoint.specs.ReceiveHalf.{Receiving, taken, next, receive_edge, came, with_came, with_segment}
+use Rattle.tcp_endpoint.specs.SendHalf.{Sending, IsShort, with_syn_acked, acknowledged, is_duplicate, duplicated, answered_by, moves_edge, send_edge, sendable, expires, timed, with_sent, with_fin_sent}
 use Rattle.tcp_endpoint.specs.Tcb.{Tcb, listening, connecting}
 use Rattle.tcp_endpoint.specs.Arrival.{ack_at, first, with_ack_pending_if, with_reset, received, received_in, in_closed, in_listen, begun, with_reset_reply, with_reset_reply_without_ack, answered, in_syn_sent, in_others, check_sequence, with_time_wait_restarted, check_rst, check_syn, check_ack, is_bare, with_ack_used, with_ack, with_first_ack, with_fin_acked, with_text_and_fin}
-use Rattle.tcp_endpoint.specs.Leaving.{probes_text, probes_fin, with_probe, with_text_sent, new_fin, with_fin_out, after_full, with_advertised, is_timed, with_turn_ended, flushed}
-use Rattle.tcp_endpoint.specs.Turning.{after_tick, timer_ticked, waited, after_read, after_write, closing, write_room}
+use Rattle.tcp_endpoint.specs.Output.{probes_text, probes_fin, with_probe, with_text_sent, new_fin, with_fin_out, after_full, with_advertised, is_timed, with_turn_ended, flushed}
+use Rattle.tcp_endpoint.specs.UserCalls.{after_tick, timer_ticked, waited, after_read, after_write, closing, write_room}
 use Rattle.endpoint_laws.proofs.Bounding.{text_facts, new_within}
 use Rattle.endpoint_laws.proofs.SendingLaw.{held_field}
 use Rattle.peer_client.specs.Live.{LiveState, new_live, is_of, met, hearing, ticked, unread, given_up, supplied, next_part, closes, before_flush, turned}
 use Rattle.peer_client.proofs.TurnEnds.{read_behind}
-use Rattle.node_link.specs.Received.{Received, datagram, silence, failure}
+use Rattle.node_link.specs.Receipt.{Received, datagram, silence, failure}
 use Rattle.node_link.specs.ClientTurns.{ClientTurn, after_receive, emptied, due_at}
 use Rattle.node_link.specs.ClientParts.{HasLimits, IsWithin, IsLimited}
 use Rattle.ft_io.proofs.Booleans.{left_true, right_true}

@@ -12,19 +12,19 @@ use Rattle.ft_io.specs.declared.Failed.{Failed}
 use Rattle.ft_io.specs.Link.{send_told}
 use Rattle.ft_io.specs.Told.{Tells}
 use Rattle.ft_io.specs.Sink.{AppendsFront}
-use Rattle.tcp_endpoint.specs.Leaving.{packets}
+use Rattle.tcp_endpoint.specs.Output.{packets}
 use Rattle.ft_model.specs.Client.{Client, new_client}
 use Rattle.ft_model.specs.Client.ClientKind.{Live}
 use Rattle.ft_model.specs.Schedule.{bytes_of}
 use Rattle.ft_model.specs.declared.schedule.Script.{Script}
 use Rattle.peer_client.specs.Live.{LiveState, new_live, unread, handed, sent_by, turned}
-use Rattle.peer_client.specs.Standing.{IsBetween, IsDue}
+use Rattle.peer_client.specs.Refinement.{IsBetween, IsDue}
 use Rattle.peer_client.specs.declared.live.ClientEnd.{ClientEnd}
 use Rattle.peer_client.specs.declared.live.ClientEnd.TheVariants as peer
 use Rattle.node_link.specs.declared.role.ClientRole.{ClientRole}
 use Rattle.node_link.specs.declared.status.NodeEnd.{NodeEnd}
 use Rattle.node_link.specs.declared.status.NodeEnd.TheVariants as ends
-use Rattle.node_link.specs.Received.{Received, received_as}
+use Rattle.node_link.specs.Receipt.{Received, received_as}
 use Rattle.node_link.specs.ClientTurns.{ClientTurn, after_receive, emptied, due_at, accepted_in, handings, flush_calls, client_calls, WasOpen}
 use Rattle.node_link.specs.ClientMachine.{AreNear, machine_then}
 use Rattle.node_link.specs.ClientRuns.{Runs, IsEndedBy, IsSpent, IsCutShort, IsClient, IsScript, DoesNothing, ScriptRunStops}

@@ -20,15 +20,15 @@ use Rattle.server_node.specs.declared.stage.Stage.TheVariants as stage
 use Rattle.server_node.specs.Alone.{slot_of, StandsFor, IsNearFor, Alone}
 use Rattle.server_node.specs.Apart.{TurnsApart}
 use Rattle.server_node.specs.Identity.{node_of}
-use Rattle.server_node.specs.Opening.{pending_slots}
-use Rattle.server_node.specs.Restarting.{FetchingStands}
+use Rattle.server_node.specs.Openings.{pending_slots}
+use Rattle.server_node.specs.FetchStage.{FetchingStands}
 use Rattle.server_node.specs.Restarts.{IsRestorable, KeyRevives, RestoredAlone, RestartGoes, MessageRestarts}
 use Rattle.server_node.specs.Stages.{StageStands, NodeGoes}
-use Rattle.server_node.specs.Whose.{of_key}
+use Rattle.server_node.specs.Ownership.{of_key}
 use Rattle.server_node.proofs.RestoredAlone.{silent_fetched}
 use Rattle.node_link.specs.KeyLife.{KeyStage, restarts_by, entry_of, RestartsKey, Revived, KeyAdvances, IsSoundFor, IsFairFor}
 use Rattle.node_link.specs.KeyLife.KeyStage.{Asks, Fetches, Has}
-use Rattle.node_link.specs.Turning.{StandsAt}
+use Rattle.node_link.specs.ServerParts.{StandsAt}
 
 -- a key of which the log has no entry isn't fetched
 not_fetched : (key : Key) (fetched : List Fetched) → entry_of key fetched ≡ None → is_fetched key fetched ≡ false

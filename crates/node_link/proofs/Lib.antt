@@ -8,5 +8,5 @@ pub mod Fronts
 pub mod KeyGoing
 pub mod Pairing
 pub mod Serviced
-pub mod Serving
+pub mod LoggerRun
 pub mod Walking

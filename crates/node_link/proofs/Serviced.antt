@@ -31,12 +31,12 @@ use Rattle.node_link.specs.declared.status.NodeEnd.TheVariants as ends
 use Rattle.node_link.specs.Counts.{count_line, counts_of, with_calls, HasRoom}
 use Rattle.node_link.specs.KeyLife.{AreFairFor}
 use Rattle.node_link.specs.KeyLife.KeyStage.{Asks}
-use Rattle.node_link.specs.Received.{Received, datagram, received_as, IsQuiet}
-use Rattle.node_link.specs.Telling.{TellStops}
+use Rattle.node_link.specs.Receipt.{Received, datagram, received_as, IsQuiet}
+use Rattle.node_link.specs.LineOutput.{TellStops}
 use Rattle.node_link.specs.ServerTurns.{is_from_logger, input_from, Sent, wires_in, address_of, second_for, sent_second, sent_as, sending, ServerTurn, turn_calls, server_calls}
 use Rattle.node_link.specs.Incarnation.{kind_in, service_of, first_of, input_in, IsFairAt, AreFair, fence_in}
 use Rattle.node_link.specs.ServerLife.{IsServer, IsCutServer, ServerStops}
-use Rattle.node_link.specs.Turning.{Standing, HasHanded, HasSent, identity_of, HasBooted, Goes, HasTurned, EndsTurn, TurnStops, IsAfterTurns, StandsForKey, IsServing, HasServed, IsCutServing, ServeStops}
+use Rattle.node_link.specs.ServerParts.{Standing, HasHanded, HasSent, identity_of, HasBooted, Goes, HasTurned, EndsTurn, TurnStops, IsAfterTurns, StandsForKey, IsServing, HasServed, IsCutServing, ServeStops}
 use Rattle.node_link.proofs.KeyGoing.{GoesFor, begins_for, key_goes}
 use Rattle.node_link.proofs.Calls.{tells_on, tells_none, counts_on, with_both, with_none, few_calls, IsFew}
 

@@ -5,8 +5,8 @@ use Rattle.std.specs.List.{AllByRecursion}
 use Rattle.seq_arith.specs.PacketGrammar.{reading}
 use Rattle.ft_model.specs.Client.{Client}
 use Rattle.peer_client.specs.Live.{LiveState, sent_by, turned}
-use Rattle.peer_client.specs.Standing.{AreMoves, AcksNear, receiving, outcome_of}
-use Rattle.node_link.specs.Received.{Received, datagram, silence, failure}
+use Rattle.peer_client.specs.Refinement.{AreMoves, AcksNear, receiving, outcome_of}
+use Rattle.node_link.specs.Receipt.{Received, datagram, silence, failure}
 use Rattle.node_link.specs.ClientTurns.{ClientTurn, due_at, accepted_in}
 
 -- what comes from the client's server acknowledges nothing far after the client's stream

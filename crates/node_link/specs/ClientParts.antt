@@ -7,17 +7,17 @@ use Rattle.ft_io.specs.declared.link_call.LinkCall.{LinkCall}
 use Rattle.ft_io.specs.Told.{Tells}
 use Rattle.ft_io.specs.Sink.{AppendsFront}
 use Rattle.std.specs.Io.KnownBytes.{Appends}
-use Rattle.tcp_endpoint.specs.Receiving.{Receiving}
-use Rattle.tcp_endpoint.specs.Sending.{Sending}
+use Rattle.tcp_endpoint.specs.ReceiveHalf.{Receiving}
+use Rattle.tcp_endpoint.specs.SendHalf.{Sending}
 use Rattle.tcp_endpoint.specs.Tcb.{Tcb}
 use Rattle.ft_model.specs.Client.{Client}
 use Rattle.peer_client.specs.Live.{LiveState, unread, turned}
-use Rattle.peer_client.specs.Standing.{IsBetween, IsDue}
+use Rattle.peer_client.specs.Refinement.{IsBetween, IsDue}
 use Rattle.peer_client.specs.declared.live.ClientEnd.TheVariants as ends
 use Rattle.node_link.specs.declared.role.ClientRole.{ClientRole}
 use Rattle.node_link.specs.declared.status.NodeEnd.{NodeEnd}
 use Rattle.node_link.specs.declared.status.NodeEnd.TheVariants.{WriteFault, Reset, Spent}
-use Rattle.node_link.specs.Received.{Received, received_as}
+use Rattle.node_link.specs.Receipt.{Received, received_as}
 use Rattle.node_link.specs.ClientTurns.{ClientTurn, after_receive, emptied, handings, flush_calls}
 use Rattle.node_link.specs.ClientMachine.{IsNear, machine_then}
 use Rattle.node_link.specs.ClientRuns.{Runs, IsEndedBy, IsSpent, IsCutShort}

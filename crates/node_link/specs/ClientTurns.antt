@@ -4,9 +4,9 @@ use Rattle.std.specs.Prelude.{◌≡◌, ℕ, Bool, false, None, List, [], ◌�
 use Rattle.ft_io.specs.declared.Addr.{Addr}
 use Rattle.ft_io.specs.declared.link_call.LinkCall.{LinkCall}
 use Rattle.ft_io.specs.declared.link_call.LinkCall.TheVariants.{Handed}
-use Rattle.tcp_endpoint.specs.Leaving.{packets}
+use Rattle.tcp_endpoint.specs.Output.{packets}
 use Rattle.peer_client.specs.Live.{LiveState, after_packet, ticked, unread, handed, sent_by, turned}
-use Rattle.node_link.specs.Received.{Received, datagram, silence, failure, received_as}
+use Rattle.node_link.specs.Receipt.{Received, datagram, silence, failure, received_as}
 
 -- what was received, and whether the sends of the flush after it fail, one by one; those past the list don't
 pub record ClientTurn : Type 0 where

@@ -10,7 +10,7 @@ use Rattle.ft_model.specs.declared.schedule.ServiceKind.{ServiceKind}
 use Rattle.ft_model.specs.Wire.{wire_of, HasWire}
 use Rattle.node_link.specs.declared.role.ServerRole.{ServerRole}
 use Rattle.node_link.specs.KeyLife.{AreLawfulFor}
-use Rattle.node_link.specs.Received.{Received}
+use Rattle.node_link.specs.Receipt.{Received}
 use Rattle.node_link.specs.ServerTurns.{Sent, wires_in, ServerTurn, input_from}
 
 -- the number of the service that the words name; 0 where they name none

@@ -16,7 +16,7 @@ use Rattle.sample_servers.specs.AnyService.{any_started, any_after}
 use Rattle.peer_client.specs.declared.live.ClientEnd.TheVariants.{Closed}
 use Rattle.node_link.specs.ClientRuns.{RunsScript, IsEndedBy, ClientStops}
 use Rattle.node_link.specs.Ends.{code_of, text_of}
-use Rattle.node_link.specs.Logging.{IsLogger, LoggerStops}
+use Rattle.node_link.specs.LoggerParts.{IsLogger, LoggerStops}
 use Rattle.node_link.specs.Pair.{steps_of, IsPair, PairStops}
 use Rattle.node_link.specs.ServerLife.{IsServer, ServerStops}
 

@@ -10,7 +10,7 @@ use Rattle.node_link.specs.declared.role.ServerRole.{ServerRole}
 use Rattle.node_link.specs.declared.status.NodeEnd.{NodeEnd}
 use Rattle.node_link.specs.declared.status.NodeEnd.TheVariants.{LinkFault, NoMemory, WriteFault, Fenced}
 use Rattle.node_link.specs.Counts.{count_line, counts_of}
-use Rattle.node_link.specs.Received.{Received, received_as}
+use Rattle.node_link.specs.Receipt.{Received, received_as}
 use Rattle.node_link.specs.ServerTurns.{Sent, ServerTurn, server_calls}
 use Rattle.node_link.specs.Incarnation.{Serves, fence_in}
 

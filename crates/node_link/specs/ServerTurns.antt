@@ -11,7 +11,7 @@ use Rattle.ft_model.specs.World.{segment_or_noise, message_or_noise}
 use Rattle.ft_model.specs.Wire.{Party, Wire}
 use Rattle.ft_model.specs.Wire.Party.{A_client, The_server, The_logger}
 use Rattle.node_link.specs.declared.role.Loggers.{Loggers}
-use Rattle.node_link.specs.Received.{Received, datagram, silence, failure, received_as}
+use Rattle.node_link.specs.Receipt.{Received, datagram, silence, failure, received_as}
 
 abbrev pub is_from : Addr → Addr → Bool
 is_from at from = from.ip == at.ip && from.port == at.port

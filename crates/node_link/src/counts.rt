@@ -7,7 +7,7 @@ ghost use Rattle.ft_io.specs.declared.Addr.{Addr};
 ghost use Rattle.ft_io.specs.Link.{recv_told, send_told};
 ghost use Rattle.node_link.specs.Counts.{no_calls, with_calls, HasRoom, count_line};
 ghost use Rattle.node_link.specs.Ends.{UnlessFault};
-ghost use Rattle.node_link.specs.Telling.{TellStops};
+ghost use Rattle.node_link.specs.LineOutput.{TellStops};
 
 use crate::status::NodeEnd;
 use ft_io::{Failed, Heard, NoMemory, Sink, write_all};

@@ -8,11 +8,11 @@ ghost use Rattle.ft_io.specs.Told.{Tells};
 ghost use Rattle.ft_io.specs.declared.link_call.LinkCall.{LinkCall};
 ghost use Rattle.ft_io.specs.declared.link_call.LinkCall.TheVariants.{Bound};
 ghost use Rattle.std.specs.declared.option.Option.{Option};
-ghost use Rattle.logger_store.specs.Stored.{answer_bytes, IsAnswer};
+ghost use Rattle.logger_store.specs.StoreState.{answer_bytes, IsAnswer};
 ghost use Rattle.node_link.specs.Counts.{HasRoom};
 ghost use Rattle.node_link.specs.Ends.{UnlessFault};
 ghost use Rattle.node_link.specs.LoggerTurns.{log_with, answer_for};
-ghost use Rattle.node_link.specs.Logging.{HasTurned, IsCutOff, Replies, HasCounted, IsCutServing, IsLogger, LoggerStops};
+ghost use Rattle.node_link.specs.LoggerParts.{HasTurned, IsCutOff, Replies, HasCounted, IsCutServing, IsLogger, LoggerStops};
 
 use crate::counts::{Counts, tell_counts};
 use crate::receiving::{DATAGRAM_ROOM, receive};

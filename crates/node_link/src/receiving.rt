@@ -3,7 +3,7 @@
 ghost use Rattle.std.specs.Prelude.{◌≡◌, ◌≤◌, [], ◌∷◌, take, length, MatchOption};
 ghost use Rattle.ft_io.specs.Told.{Tells};
 ghost use Rattle.node_link.specs.Counts.{with_calls, HasRoom};
-ghost use Rattle.node_link.specs.Received.{Received, datagram, received_as, IsQuiet};
+ghost use Rattle.node_link.specs.Receipt.{Received, datagram, received_as, IsQuiet};
 
 use crate::counts::Counts;
 use ft_io::{Addr, Heard, Link};

@@ -10,14 +10,14 @@ ghost use Rattle.ft_io.specs.declared.link_call.LinkCall.{LinkCall};
 ghost use Rattle.ft_io.specs.declared.link_call.LinkCall.TheVariants.{Bound};
 ghost use Rattle.ft_model.specs.Legal.{machines};
 ghost use Rattle.server_node.specs.Inputs.{input_of as input_lem};
-ghost use Rattle.server_node.specs.Sending.{party_of};
+ghost use Rattle.server_node.specs.SentBytes.{party_of};
 ghost use Rattle.node_link.specs.Counts.{HasRoom};
 ghost use Rattle.node_link.specs.Ends.{UnlessFault};
-ghost use Rattle.node_link.specs.Received.{Received, datagram, IsQuiet};
+ghost use Rattle.node_link.specs.Receipt.{Received, datagram, IsQuiet};
 ghost use Rattle.node_link.specs.Ranges.{ServerInRange};
 ghost use Rattle.node_link.specs.ServerTurns.{address_of as address_lem, second_for as second_lem, is_from as is_from_lem, is_from_logger as is_from_logger_lem, input_from};
 ghost use Rattle.node_link.specs.ServerLife.{IsServer, ServerStops};
-ghost use Rattle.node_link.specs.Turning.{standing_of, HasHanded, HasSent, HasBooted, HasTurned, TurnStops, HasServed, ServeStops};
+ghost use Rattle.node_link.specs.ServerParts.{standing_of, HasHanded, HasSent, HasBooted, HasTurned, TurnStops, HasServed, ServeStops};
 
 use crate::counts::{Counts, tell_counts};
 use crate::receiving::{DATAGRAM_ROOM, receive};

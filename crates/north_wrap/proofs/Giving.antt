@@ -7,7 +7,7 @@ use Rattle.ft_model.proofs.Services.{prefix_length, drop_within}
 use Rattle.north_wrap.specs.RunState.{given_count, gives}
 use Rattle.north_wrap.specs.NorthState.{NorthState, unreleased, given_north, given_socket, shut_north, shut_socket, closes}
 use Rattle.north_wrap.specs.Sockets.{Writer}
-use Rattle.north_wrap.specs.Standing.{NorthStands, RecordsRun, given_more, given_text, written}
+use Rattle.north_wrap.specs.Refinement.{NorthStands, RecordsRun, given_more, given_text, written}
 use Rattle.north_wrap.proofs.Logged.{answered_front}
 use Rattle.north_wrap.proofs.OneRead.{drop_drop}
 

@@ -1,12 +1,12 @@
 pub mod Empty
-pub mod Reading
+pub mod ReadSequence
 pub mod Fronts
 pub mod Logged
 pub mod NextRead
 pub mod OneRead
 pub mod TurnReads
 pub mod Giving
-pub mod Answering
+pub mod PointAfter
 pub mod WholeTurn
 pub mod Offline
 pub mod Shutting

@@ -6,7 +6,7 @@ use Rattle.ft_model.specs.Point.{Point, made, released, whole_run, answered_run}
 use Rattle.ft_model.proofs.Lists.{take_first}
 use Rattle.ft_model.proofs.Services.{RunExtends, reads_go_on}
 use Rattle.ft_model.specs.Growth.{IsPrefix}
-use Rattle.north_wrap.specs.Standing.{with_reads}
+use Rattle.north_wrap.specs.Refinement.{with_reads}
 
 -- the answered run is a front of the whole one
 pub answered_front : {S : Type 0} (service : Machine S) (p : Point) → RunExtends (answered_run service p) (whole_run service p)

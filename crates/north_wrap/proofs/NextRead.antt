@@ -7,7 +7,7 @@ use Rattle.ft_model.specs.Reads.{next_read, may_read}
 use Rattle.ft_model.specs.Reads as law
 use Rattle.north_wrap.specs.NorthState.{NorthState, next_at, next_length, is_free_to_read, length_of_next}
 use Rattle.north_wrap.specs.Sockets.{Reader}
-use Rattle.north_wrap.specs.Standing.{NorthStands, QueueStands}
+use Rattle.north_wrap.specs.Refinement.{NorthStands, QueueStands}
 
 -- the length, over plain numbers
 same_length : (fetched read taken : ℕ) (fin ended : Bool) → fetched ≤ taken → length_of_next (fetched - read) (taken - max fetched read) (fin && (taken - max fetched read == 0)) ended

@@ -7,7 +7,7 @@ use Rattle.ft_model.specs.Point.{Point, whole_run, released}
 use Rattle.ft_model.proofs.Lists.{some_is, none_is_some}
 use Rattle.north_wrap.specs.NorthState.{NorthState, Reads, next_length, is_free_to_read, length_of_next, read_on, socket_on, lengths_of}
 use Rattle.north_wrap.specs.Sockets.{Reader}
-use Rattle.north_wrap.specs.Standing.{NorthStands, HasReplayed, RecordsRun, read_off, off_socket, AreThere, given_more, IsNumbered}
+use Rattle.north_wrap.specs.Refinement.{NorthStands, HasReplayed, RecordsRun, read_off, off_socket, AreThere, given_more, IsNumbered}
 use Rattle.ft_io.proofs.Booleans.{left_false}
 use Rattle.ft_io.proofs.Choices.{holds_if}
 

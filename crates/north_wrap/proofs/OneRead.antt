@@ -11,7 +11,7 @@ use Rattle.north_wrap.specs.declared.read_record.ReadRecord.{ReadRecord}
 use Rattle.north_wrap.specs.RunState.{RunState, run_on, served_on}
 use Rattle.north_wrap.specs.NorthState.{NorthState, chunk_of, read_on, record_of, lengths_of}
 use Rattle.north_wrap.proofs.Logged.{answered_stays, made_stays}
-use Rattle.north_wrap.specs.Standing.{NorthStands, QueueStands, RunsTo, RecordsRun, IsNext, IsNumbered, run_after}
+use Rattle.north_wrap.specs.Refinement.{NorthStands, QueueStands, RunsTo, RecordsRun, IsNext, IsNumbered, run_after}
 use Rattle.ft_io.proofs.Choices.{holds_if}
 
 pub drop_drop : (n m : ℕ) (xs : List ℕ) → drop n (drop m xs) ≡ drop (m + n) xs

@@ -5,7 +5,7 @@ use Rattle.ft_model.specs.Point.{Point, made, released, whole_run, answered_run}
 use Rattle.ft_model.proofs.Services.{prefix_length}
 use Rattle.north_wrap.specs.NorthState.{NorthState, Reads, read_on, socket_on, given_north, shut_north}
 use Rattle.north_wrap.specs.Sockets.{Reader, Writer}
-use Rattle.north_wrap.specs.Standing.{NorthStands, given_more, is_all_given, with_reads}
+use Rattle.north_wrap.specs.Refinement.{NorthStands, given_more, is_all_given, with_reads}
 use Rattle.north_wrap.proofs.Logged.{answered_front, answered_stays, made_stays}
 use Rattle.north_wrap.proofs.Giving.{given_stands, closes_is}
 

@@ -8,7 +8,7 @@ use Rattle.ft_model.proofs.Lists.{some_is, none_is_some}
 use Rattle.ft_model.proofs.Services.{sum_append}
 use Rattle.north_wrap.specs.NorthState.{NorthState, Reads, read_on, socket_on}
 use Rattle.north_wrap.specs.Sockets.{Reader, Writer, SocketLaws}
-use Rattle.north_wrap.specs.Standing.{NorthStands, QueueStands, IsNext, ReadsLead}
+use Rattle.north_wrap.specs.Refinement.{NorthStands, QueueStands, IsNext, ReadsLead}
 use Rattle.north_wrap.proofs.NextRead.{same_next, rest_length}
 use Rattle.north_wrap.proofs.OneRead.{read_more, drop_drop}
 use Rattle.ft_io.proofs.Choices.{holds_if}

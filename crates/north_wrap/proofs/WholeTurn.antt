@@ -5,7 +5,7 @@ use Rattle.ft_model.specs.Point.{Point, made, released, answered_run}
 use Rattle.north_wrap.specs.declared.read_record.ReadRecord.{ReadRecord}
 use Rattle.north_wrap.specs.Sockets.{Reader, Writer, SocketLaws}
 use Rattle.north_wrap.specs.NorthState.{NorthState, Reads, Turns, closes, given_north, given_socket, shut_north, shut_socket, lengths_of, read_on, socket_on}
-use Rattle.north_wrap.specs.Standing.{NorthStands, SocketStands, QueueStands, NorthTurn, given_more, given_text, written, off_socket, read_off, AreThere}
+use Rattle.north_wrap.specs.Refinement.{NorthStands, SocketStands, QueueStands, NorthTurn, given_more, given_text, written, off_socket, read_off, AreThere}
 use Rattle.north_wrap.proofs.Giving.{shut_gives, closes_is, given_stands, written_is}
 use Rattle.north_wrap.proofs.Offline.{socket_is, all_or_room}
 use Rattle.north_wrap.proofs.Shutting.{shut_is, all_given_stays, reads_keep_shut}

@@ -1,4 +1,4 @@
 pub mod RunState
 pub mod Sockets
 pub mod NorthState
-pub mod Standing
+pub mod Refinement

@@ -7,7 +7,7 @@ ghost use Rattle.ft_model.specs.Reads.{read_messages};
 ghost use Rattle.ft_io.specs.declared.Key.{Key};
 ghost use Rattle.north_wrap.specs.declared.read_record.ReadRecord.{ReadRecord};
 ghost use Rattle.north_wrap.specs.NorthState.{NorthState, lengths_of};
-ghost use Rattle.north_wrap.specs.Standing.{NorthStands, HasReplayed, IsNumbered, messages_of, with_taken, HoldsUpTo, HoldingLaws};
+ghost use Rattle.north_wrap.specs.Refinement.{NorthStands, HasReplayed, IsNumbered, messages_of, with_taken, HoldsUpTo, HoldingLaws};
 
 use server_trait::Service;
 

@@ -4,7 +4,7 @@ ghost use Rattle.std.specs.Prelude.{◌≡◌, ◌∷◌, ◌||◌, false, ℕ, 
 ghost use Rattle.server_trait.specs.Service.{machine};
 ghost use Rattle.ft_model.specs.Offset.{one_if};
 ghost use Rattle.ft_model.specs.Point.{Point, released};
-ghost use Rattle.north_wrap.specs.Standing.{NorthStands, SocketStands, NorthTurn, with_answered};
+ghost use Rattle.north_wrap.specs.Refinement.{NorthStands, SocketStands, NorthTurn, with_answered};
 ghost use Rattle.north_wrap.specs.RunState.{run_on};
 ghost use Rattle.north_wrap.specs.Sockets.{reader, writer};
 ghost use Rattle.north_wrap.specs.NorthState.{fresh_north, resumed_north, unreleased, given_north, given_socket, shut_north, shut_socket, Turns, answered_on};
@@ -233,7 +233,7 @@ impl<S: Service> North<S> {
     }
 
     /// Makes the reads of a turn.
-    #[tactic(auto, using(crate::proofs::Reading::begins, crate::proofs::Reading::goes_on, crate::proofs::Reading::ends))]
+    #[tactic(auto, using(crate::proofs::ReadSequence::begins, crate::proofs::ReadSequence::goes_on, crate::proofs::ReadSequence::ends))]
     fn make_reads<K: Socket>(
         &mut self,
         sock: &mut K,

@@ -2,8 +2,8 @@
 use Rattle.std.proofs.Common.{◌≡◌, ℕ, ◌+◌, ◌<◌, sym, subst, List, [], ◌∷◌, length, take, get_or}
 use Rattle.std.proofs.lemmas.List.{take_more}
 use Rattle.std.specs.List.{AllByRecursion}
-use Rattle.net_schedule.specs.Standing.{Kept}
-use Rattle.net_schedule.specs.Stepping.{Steps}
+use Rattle.net_schedule.specs.Refinement.{Kept}
+use Rattle.net_schedule.specs.Step.{Steps}
 use Rattle.net_schedule.specs.declared.step_out.StepOut.{StepOut}
 use Rattle.ft_model.specs.Client.{Client}
 use Rattle.ft_model.specs.Growth.{logged_lengths}
@@ -16,7 +16,7 @@ use Rattle.ft_model.specs.declared.event.Event.{Event}
 use Rattle.ft_model.specs.declared.schedule.Schedule.{Schedule}
 use Rattle.counter_service.specs.declared.counter.Counter.{Counter}
 use Rattle.counter_service.specs.Counter.{counter_started, counter_after, answers, counter_machine}
-use Rattle.own_service.specs.Seen.{SeesAnswers, IsPlayed}
+use Rattle.own_service.specs.ClientView.{SeesAnswers, IsPlayed}
 use Rattle.own_service.proofs.Fronts.{front, longer}
 
 each_sees : (log : Log) (clients : List Client) → AllByRecursion (SeesFront counter_machine log) clients → AllByRecursion SeesAnswers clients

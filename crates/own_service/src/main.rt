@@ -5,8 +5,8 @@
 ghost use Rattle.std.specs.Prelude.{◌≡◌, ◌≤◌, length, IfOk, IfSome};
 ghost use Rattle.std.specs.List.{AllByRecursion};
 ghost use Rattle.ft_model.specs.Playable.{IsPlayable};
-ghost use Rattle.net_schedule.specs.Keeping.{kept};
-ghost use Rattle.own_service.specs.Seen.{IsPlayed, SeesAnswers};
+ghost use Rattle.net_schedule.specs.WorldView.{kept};
+ghost use Rattle.own_service.specs.ClientView.{IsPlayed, SeesAnswers};
 ghost use Rattle.counter_service.specs.Counter.{answers};
 
 use counter_service::Counter;

@@ -12,17 +12,17 @@ use Rattle.seq_arith.proofs.Gaps.{offset_leads}
 use Rattle.segment_codec.specs.declared.Head.{Head}
 use Rattle.tcp_endpoint.specs.declared.states.StateName.TheVariants.{Closed}
 use Rattle.tcp_endpoint.specs.States.{is_closed, is_time_wait}
-use Rattle.tcp_endpoint.specs.Sending.{Sending, expires}
+use Rattle.tcp_endpoint.specs.SendHalf.{Sending, expires}
 use Rattle.tcp_endpoint.specs.Tcb.{Tcb}
 use Rattle.tcp_endpoint.specs.Arrival.{ack_at, with_reset, answered, with_reset_reply, in_syn_sent, received}
-use Rattle.tcp_endpoint.specs.Turning.{after_tick, timer_ticked, waited}
+use Rattle.tcp_endpoint.specs.UserCalls.{after_tick, timer_ticked, waited}
 use Rattle.ft_model.specs.Client as machine
 use Rattle.ft_model.specs.Client.{Client, is_new, is_opening, is_ended, is_open}
 use Rattle.ft_model.specs.declared.phase.Phase.TheVariants as phases
 use Rattle.endpoint_laws.proofs.Connecting.{received_by}
 use Rattle.peer_client.specs.declared.live.ClientEnd.TheVariants as ends
 use Rattle.peer_client.specs.Live.{LiveState, is_of, end_of, first_end, met, ticked}
-use Rattle.peer_client.specs.Standing.{IsSame, AnswersBy, Waits, IsWaiting, IsConnected, IsReset, IsDue}
+use Rattle.peer_client.specs.Refinement.{IsSame, AnswersBy, Waits, IsWaiting, IsConnected, IsReset, IsDue}
 use Rattle.peer_client.proofs.Leaves.{eq_of}
 use Rattle.peer_client.proofs.Comes.{both_if}
 use Rattle.peer_client.proofs.News.{ticked_sends, ticked_same}

@@ -11,15 +11,15 @@ use Rattle.tcp_buffers.specs.Near.{is_ahead}
 use Rattle.tcp_endpoint.specs.declared.states.StateName.{StateName}
 use Rattle.tcp_endpoint.specs.declared.states.StateName.TheVariants.{Closed}
 use Rattle.tcp_endpoint.specs.States.{after_fin, after_fin_acked}
-use Rattle.tcp_endpoint.specs.Receiving.{Receiving, next, taken, window, receive_edge, with_segment}
-use Rattle.tcp_endpoint.specs.Sending.{Sending, acknowledged, is_duplicate, is_third_duplicate, duplicated, answered_by, fin_acked}
+use Rattle.tcp_endpoint.specs.ReceiveHalf.{Receiving, next, taken, window, receive_edge, with_segment}
+use Rattle.tcp_endpoint.specs.SendHalf.{Sending, acknowledged, is_duplicate, is_third_duplicate, duplicated, answered_by, fin_acked}
 use Rattle.tcp_endpoint.specs.Tcb.{Tcb}
 use Rattle.tcp_endpoint.specs.Arrival.{first, ack_at, with_ack_pending_if, with_reset, entering, with_text_and_fin, with_fin_acked, with_first_ack, is_bare, with_ack_used, with_ack, check_ack, check_syn, check_rst, with_time_wait_restarted, accepts, is_allowed, check_sequence, in_others}
 use Rattle.ft_model.specs.Client as machine
 use Rattle.ft_model.specs.Client.{Client, is_live, is_open, is_ended, holds, next_of, room_of}
 use Rattle.ft_model.specs.Client.ClientKind.{Live}
 use Rattle.ft_model.specs.declared.phase.Phase.TheVariants.{Reset}
-use Rattle.peer_client.specs.Standing.{Hears, Sends}
+use Rattle.peer_client.specs.Refinement.{Hears, Sends}
 use Rattle.peer_client.proofs.Comes.{both_if, Heard, segment_heard, ack_sends, ahead_is}
 use Rattle.ft_io.proofs.Booleans.{left_true, right_true, and_true}
 use Rattle.ft_io.proofs.Choices.{holds_if}

@@ -9,14 +9,14 @@ use Rattle.seq_arith.specs.Coming.{Came, StandsBehind, comes}
 use Rattle.seq_arith.specs.Congestion.{Congestion}
 use Rattle.seq_arith.proofs.Coming.{comes_within, fin_stays, stays_behind}
 use Rattle.tcp_buffers.specs.Near.{is_ahead}
-use Rattle.tcp_endpoint.specs.Receiving.{Receiving, taken, receive_edge, came, with_came, with_segment}
-use Rattle.tcp_endpoint.specs.Sending.{Sending, acknowledged, moves_edge}
+use Rattle.tcp_endpoint.specs.ReceiveHalf.{Receiving, taken, receive_edge, came, with_came, with_segment}
+use Rattle.tcp_endpoint.specs.SendHalf.{Sending, acknowledged, moves_edge}
 use Rattle.ft_model.specs.Client as machine
 use Rattle.ft_model.specs.Client.{Client, is_ended, is_open, holds}
 use Rattle.ft_model.specs.Client.ClientKind.{Live}
 use Rattle.ft_model.specs.declared.phase.Phase.{Phase}
 use Rattle.ft_model.specs.declared.phase.Phase.TheVariants.{Ended}
-use Rattle.peer_client.specs.Standing.{Hears, Sends}
+use Rattle.peer_client.specs.Refinement.{Hears, Sends}
 use Rattle.ft_io.proofs.Booleans.{left_true, right_true, false_by}
 use Rattle.endpoint_laws.proofs.Bounding.{new_within}
 use Rattle.ft_io.proofs.Choices.{holds_if}

@@ -5,13 +5,13 @@ use Rattle.std.proofs.lemmas.Bool.{false≢true}
 use Rattle.seq_arith.specs.Packet.{Segment}
 use Rattle.seq_arith.specs.Offset.{one_if}
 use Rattle.tcp_endpoint.specs.States.{is_closed, has_begun}
-use Rattle.tcp_endpoint.specs.Receiving.{next, taken, receive_edge, advertised_edge}
-use Rattle.tcp_endpoint.specs.Sending.{Sending, in_flight, is_unacknowledged, send_edge, sends_fin, resent_length, with_sent, with_fin_sent}
+use Rattle.tcp_endpoint.specs.ReceiveHalf.{next, taken, receive_edge, advertised_edge}
+use Rattle.tcp_endpoint.specs.SendHalf.{Sending, in_flight, is_unacknowledged, send_edge, sends_fin, resent_length, with_sent, with_fin_sent}
 use Rattle.tcp_endpoint.specs.Tcb.{Tcb}
-use Rattle.tcp_endpoint.specs.Leaving.{segment_at, text_at, fin_at, texts, reset_reply_segments, reset_reply_out, retransmission_out, retransmitted_segment, opening_segment, probes, probes_text, probes_fin, probe_out, with_probe, new_length, text_out, with_text_sent, new_fin, fin_out, with_fin_out, full_out, after_full, is_ack_pending, bare_segment, or_bare, leaving}
+use Rattle.tcp_endpoint.specs.Output.{segment_at, text_at, fin_at, texts, reset_reply_segments, reset_reply_out, retransmission_out, retransmitted_segment, opening_segment, probes, probes_text, probes_fin, probe_out, with_probe, new_length, text_out, with_text_sent, new_fin, fin_out, with_fin_out, full_out, after_full, is_ack_pending, bare_segment, or_bare, leaving}
 use Rattle.segment_codec.specs.declared.Head.{Head}
 use Rattle.ft_model.specs.Client.{Client, IsMove}
-use Rattle.peer_client.specs.Standing.{AreMoves, Told}
+use Rattle.peer_client.specs.Refinement.{AreMoves, Told}
 use Rattle.peer_client.proofs.Spoken.{grown, Speaks, Goes, edge_after, text_move, fin_move, bare_move, texts_go, goes_none, goes_one, goes_on, edge_low}
 use Rattle.ft_io.proofs.Booleans.{left_true, right_true, not_true, or_other}
 use Rattle.ft_io.proofs.Choices.{holds_if}

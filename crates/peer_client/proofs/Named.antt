@@ -5,16 +5,16 @@ use Rattle.std.proofs.lemmas.Bool.{false≢true, and_from}
 use Rattle.tcp_endpoint.specs.declared.states.StateName.{StateName}
 use Rattle.tcp_endpoint.specs.declared.states.StateName.TheVariants.{Closed, Listen, SynSent, SynReceived, Established, FinWait1, FinWait2, CloseWait, Closing, LastAck, TimeWait}
 use Rattle.tcp_endpoint.specs.States.{has_begun, is_closed, is_time_wait}
-use Rattle.tcp_endpoint.specs.Sending.{Sending, fin_acked}
+use Rattle.tcp_endpoint.specs.SendHalf.{Sending, fin_acked}
 use Rattle.tcp_endpoint.specs.Tcb.{Tcb}
-use Rattle.endpoint_laws.specs.Ending.{IsNamed, is_over}
+use Rattle.endpoint_laws.specs.ConnectionEnd.{IsNamed, is_over}
 use Rattle.endpoint_laws.proofs.EndingLaw.{IsPlaced, FollowsAt}
 use Rattle.ft_model.specs.Client.{Client, is_ended}
 use Rattle.ft_model.specs.declared.phase.Phase.{Phase}
 use Rattle.ft_model.specs.declared.phase.Phase.TheVariants as phases
 use Rattle.peer_client.specs.declared.live.ClientEnd.TheVariants as ends
 use Rattle.peer_client.specs.Live.{LiveState, end_of}
-use Rattle.peer_client.specs.Standing.{IsConnected, Sends, is_reset, outcome_of}
+use Rattle.peer_client.specs.Refinement.{IsConnected, Sends, is_reset, outcome_of}
 use Rattle.ft_io.proofs.Booleans.{left_true, right_true}
 
 placed_from : (name : StateName) (o c f a : Bool) → IsNamed name o c f a → o ≡ true → (has_begun name ≡ false → (name ≡ Closed) × (c ≡ true) × ((f && a) ≡ true))

@@ -7,12 +7,12 @@ use Rattle.seq_arith.specs.Congestion.{Congestion}
 use Rattle.seq_arith.specs.Offset.{ack_of, one_if}
 use Rattle.seq_arith.specs.Packet.{Segment, has_rst, has_ack}
 use Rattle.tcp_endpoint.specs.States.{has_begun, is_closed, is_time_wait}
-use Rattle.tcp_endpoint.specs.Receiving.{Receiving, next, receive_edge}
-use Rattle.tcp_endpoint.specs.Sending.{Sending, expires, congestion_expired}
-use Rattle.tcp_endpoint.specs.Sending as half
+use Rattle.tcp_endpoint.specs.ReceiveHalf.{Receiving, next, receive_edge}
+use Rattle.tcp_endpoint.specs.SendHalf.{Sending, expires, congestion_expired}
+use Rattle.tcp_endpoint.specs.SendHalf as half
 use Rattle.tcp_endpoint.specs.Tcb.{Tcb}
 use Rattle.tcp_endpoint.specs.Arrival.{first, in_others, received}
-use Rattle.tcp_endpoint.specs.Turning.{after_tick, timer_ticked, waited}
+use Rattle.tcp_endpoint.specs.UserCalls.{after_tick, timer_ticked, waited}
 use Rattle.ft_model.specs.Client as machine
 use Rattle.ft_model.specs.Client.{Client, is_opening, is_open}
 use Rattle.ft_model.specs.declared.phase.Phase.{Phase}
@@ -21,7 +21,7 @@ use Rattle.endpoint_laws.proofs.TakenLaw.{begun_is}
 use Rattle.endpoint_laws.proofs.EndingLaw.{FollowsAt, named_at, received_follows, tick_follows}
 use Rattle.peer_client.specs.declared.live.ClientEnd.TheVariants as ends
 use Rattle.peer_client.specs.Live.{LiveState, end_of, first_end, met, ticked}
-use Rattle.peer_client.specs.Standing.{IsSame, Hears, Sends, Told, IsConnected, IsStanding, HasHeard, IsReset, is_reset}
+use Rattle.peer_client.specs.Refinement.{IsSame, Hears, Sends, Told, IsConnected, IsStanding, HasHeard, IsReset, is_reset}
 use Rattle.peer_client.proofs.Named.{follows_of, over_at, ends_alike}
 use Rattle.peer_client.proofs.Arrives.{Before, AfterChecks, Resets, others_kept, others_reset}
 use Rattle.ft_io.proofs.Choices.{holds_if}

@@ -4,12 +4,12 @@ use Rattle.std.specs.Prelude.{◌&&◌, nat_lt, nat_le}
 use Rattle.std.proofs.lemmas.List.{drop-take, take-take}
 use Rattle.seq_arith.specs.Number.{number_at}
 use Rattle.seq_arith.specs.Packet.{Segment}
-use Rattle.tcp_endpoint.specs.Receiving.{next, window}
+use Rattle.tcp_endpoint.specs.ReceiveHalf.{next, window}
 use Rattle.tcp_endpoint.specs.Tcb.{Tcb}
-use Rattle.tcp_endpoint.specs.Leaving.{head_at, segment_at, text_at, fin_at, texts}
+use Rattle.tcp_endpoint.specs.Output.{head_at, segment_at, text_at, fin_at, texts}
 use Rattle.ft_model.specs.Client.{Client, IsMove, accepted_units, is_open}
 use Rattle.ft_model.specs.Client.Move.{Text, Fin, Acknowledge}
-use Rattle.peer_client.specs.Standing.{AreMoves}
+use Rattle.peer_client.specs.Refinement.{AreMoves}
 use Rattle.ft_io.proofs.Choices.{holds_if}
 
 -- a machine that has sent and announced so much

@@ -7,18 +7,18 @@ use Rattle.seq_arith.specs.Coming.{StandsBehind}
 use Rattle.seq_arith.specs.Offset.{one_if}
 use Rattle.seq_arith.proofs.Coming.{behind_up}
 use Rattle.tcp_endpoint.specs.States.{has_begun}
-use Rattle.tcp_endpoint.specs.Receiving.{Receiving, next, taken, receive_edge, advertised_edge, read_out}
-use Rattle.tcp_endpoint.specs.Sending.{Sending, timed}
+use Rattle.tcp_endpoint.specs.ReceiveHalf.{Receiving, next, taken, receive_edge, advertised_edge, read_out}
+use Rattle.tcp_endpoint.specs.SendHalf.{Sending, timed}
 use Rattle.tcp_endpoint.specs.Tcb.{Tcb}
-use Rattle.tcp_endpoint.specs.Leaving.{reset_reply_segments, is_timed, with_advertised, with_turn_ended, flushed}
-use Rattle.tcp_endpoint.specs.Turning.{closing, write_room}
+use Rattle.tcp_endpoint.specs.Output.{reset_reply_segments, is_timed, with_advertised, with_turn_ended, flushed}
+use Rattle.tcp_endpoint.specs.UserCalls.{closing, write_room}
 use Rattle.ft_model.specs.Client.{Client, is_open}
 use Rattle.endpoint_laws.specs.Turn.{Call, used}
 use Rattle.endpoint_laws.specs.Turn.Call.{Reads, Writes, Closes}
 use Rattle.endpoint_laws.proofs.EndingLaw.{FollowsAt, used_follows, flush_follows, named_at}
 use Rattle.endpoint_laws.proofs.AnswersAlone.{closed_sends}
 use Rattle.peer_client.specs.Live.{LiveState, given_up, next_part, supplied, closes, shut, before_flush, sent_by, turned}
-use Rattle.peer_client.specs.Standing.{AreMoves, IsSame, Hears, Sends, Told, IsConnected, IsStanding}
+use Rattle.peer_client.specs.Refinement.{AreMoves, IsSame, Hears, Sends, Told, IsConnected, IsStanding}
 use Rattle.peer_client.proofs.Spoken.{grown, Speaks}
 use Rattle.peer_client.proofs.Leaves.{at, IsWithin, Flushes, Left, leaves}
 use Rattle.peer_client.proofs.Named.{follows_of, over_at}

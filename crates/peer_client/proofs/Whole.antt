@@ -7,11 +7,11 @@ use Rattle.seq_arith.specs.declared.BadPacket.{BadPacket}
 use Rattle.segment_codec.specs.declared.Head.{Head}
 use Rattle.tcp_endpoint.specs.declared.states.StateName.TheVariants.{Closed}
 use Rattle.tcp_endpoint.specs.States.{has_begun, after_close}
-use Rattle.tcp_endpoint.specs.Receiving.{Receiving, read_out}
-use Rattle.tcp_endpoint.specs.Sending.{IsShort}
+use Rattle.tcp_endpoint.specs.ReceiveHalf.{Receiving, read_out}
+use Rattle.tcp_endpoint.specs.SendHalf.{IsShort}
 use Rattle.tcp_endpoint.specs.Tcb.{Tcb}
-use Rattle.tcp_endpoint.specs.Turning.{closing}
-use Rattle.tcp_endpoint.specs.Leaving.{reset_reply_segments, with_probe, with_text_sent, with_fin_out, after_full, with_advertised, with_turn_ended, flushed}
+use Rattle.tcp_endpoint.specs.UserCalls.{closing}
+use Rattle.tcp_endpoint.specs.Output.{reset_reply_segments, with_probe, with_text_sent, with_fin_out, after_full, with_advertised, with_turn_ended, flushed}
 use Rattle.ft_model.specs.Client as machine
 use Rattle.ft_model.specs.Client.{Client, is_ended}
 use Rattle.endpoint_laws.proofs.AnswersAlone.{closed_sends}
@@ -19,7 +19,7 @@ use Rattle.ft_model.specs.declared.phase.Phase.TheVariants as phases
 use Rattle.peer_client.specs.declared.live.ClientEnd.{ClientEnd}
 use Rattle.peer_client.specs.declared.live.ClientEnd.TheVariants as ends
 use Rattle.peer_client.specs.Live.{LiveState, is_of, met, hearing, ticked, unread, handed, given_up, supplied, closes, before_flush, sent_by, turned}
-use Rattle.peer_client.specs.Standing.{AreMoves, IsSame, AnswersBy, Waits, IsConnected, Hears, HasHeard, IsReset, IsBetween, IsDue, is_for_client, AcksNear, AckFits, Moves, outcome_of, is_reset, receiving, handed_out}
+use Rattle.peer_client.specs.Refinement.{AreMoves, IsSame, AnswersBy, Waits, IsConnected, Hears, HasHeard, IsReset, IsBetween, IsDue, is_for_client, AcksNear, AckFits, Moves, outcome_of, is_reset, receiving, handed_out}
 use Rattle.peer_client.proofs.Named.{over_at, acked_at}
 use Rattle.peer_client.proofs.Arrives.{few_sent}
 use Rattle.peer_client.proofs.TurnEnds.{ready, turn_ends, closed_leaves, follows_before}

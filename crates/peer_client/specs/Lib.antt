@@ -1,4 +1,4 @@
 pub mod Moves
 pub mod Scripted
 pub mod Live
-pub mod Standing
+pub mod Refinement

@@ -7,8 +7,8 @@ use Rattle.seq_arith.specs.declared.BadPacket.{BadPacket}
 use Rattle.tcp_endpoint.specs.States.{has_begun, is_closed, is_time_wait}
 use Rattle.tcp_endpoint.specs.Tcb.{Tcb, connecting}
 use Rattle.tcp_endpoint.specs.Arrival.{received}
-use Rattle.tcp_endpoint.specs.Turning.{after_tick, after_read, after_write, closing, write_room}
-use Rattle.tcp_endpoint.specs.Leaving.{leaving, flushed}
+use Rattle.tcp_endpoint.specs.UserCalls.{after_tick, after_read, after_write, closing, write_room}
+use Rattle.tcp_endpoint.specs.Output.{leaving, flushed}
 use Rattle.peer_client.specs.declared.live.ClientEnd.{ClientEnd}
 use Rattle.peer_client.specs.declared.live.ClientEnd.TheVariants.{Closed, Reset}
 

@@ -2,14 +2,14 @@
 
 ghost use Rattle.std.specs.Prelude.{None, IsSome, ◌≡◌, ◌+◌, ◌-◌, ◌^◌, ◌≤◌, ◌==◌, ◌&&◌, ◌||◌, [], ◌++◌, IfOk, length, min, take, drop};
 ghost use Rattle.segment_codec.specs.Value.{segment_of};
-ghost use Rattle.tcp_endpoint.specs.Leaving.{packets};
+ghost use Rattle.tcp_endpoint.specs.Output.{packets};
 ghost use Rattle.tcp_endpoint.specs.Packets.{AreReadable};
-ghost use Rattle.tcp_endpoint.specs.Sending.{IsShort};
+ghost use Rattle.tcp_endpoint.specs.SendHalf.{IsShort};
 ghost use Rattle.tcp_endpoint.specs.States.{has_begun as begun_lem};
-ghost use Rattle.tcp_endpoint.specs.Turning.{after_read};
+ghost use Rattle.tcp_endpoint.specs.UserCalls.{after_read};
 ghost use Rattle.peer_client.specs.Live.{new_live, is_of, end_of, first_end, met, after_packet, ticked, unread, handed, given_up, supplied, closes as closes_lem};
 ghost use Rattle.peer_client.specs.Live.{shut as shut_lem, before_flush, sent_by, turned};
-ghost use Rattle.peer_client.specs.Standing.{IsBetween, IsDue, AcksNear, AckFits, receiving, Moves, HasHeard, handed_out, outcome_of};
+ghost use Rattle.peer_client.specs.Refinement.{IsBetween, IsDue, AcksNear, AckFits, receiving, Moves, HasHeard, handed_out, outcome_of};
 ghost use Rattle.seq_arith.specs.PacketGrammar.{reading};
 ghost use Rattle.ft_model.specs.Client.{Client, new_client};
 ghost use Rattle.ft_model.specs.Client.ClientKind.{Live};

@@ -12,10 +12,10 @@ use Rattle.ft_model.proofs.Lists.{none_is_some}
 use Rattle.reincarnate.specs.declared.cuts.Cuts.{Cuts}
 use Rattle.reincarnate.specs.declared.lack.Lack.{Lack}
 use Rattle.reincarnate.specs.declared.lack.Lack.TheVariants as lack
-use Rattle.reincarnate.specs.Cutting.{cuts_of, cuts_through}
+use Rattle.reincarnate.specs.ReadLengths.{cuts_of, cuts_through}
 use Rattle.reincarnate.specs.Progress.{EntryState, lacks, asked_for, asks_bytes, asks_lengths, with_bytes, with_lengths, cuts_with}
-use Rattle.reincarnate.specs.Asking.{FetchingState, entries_of, asked_of, asked, or_else, entry_known, head_fits, with_head, with_newest, part_on, lens_on, answered, after_answer}
-use Rattle.reincarnate.specs.Standing.{StandsFor, StandFor, StandsFetching, AreWhole, AnswerLeads, fetched_then}
+use Rattle.reincarnate.specs.Questions.{FetchingState, entries_of, asked_of, asked, or_else, entry_known, head_fits, with_head, with_newest, part_on, lens_on, answered, after_answer}
+use Rattle.reincarnate.specs.Refinement.{StandsFor, StandFor, StandsFetching, AreWhole, AnswerLeads, fetched_then}
 use Rattle.reincarnate.proofs.EntryLaw.{lack_of, lacks_is, wanted_when, wanted_is, nothing_lacks, head_stands, bytes_stand, lengths_stand, cuts_are, follow_within}
 
 -- what the law makes of an answer, and what the code does

@@ -7,10 +7,10 @@ use Rattle.ft_model.specs.Restart.{Fetched, is_whole, entry_in}
 use Rattle.ft_model.proofs.Services.{sum_more}
 use Rattle.reincarnate.specs.declared.entries.Restored.{Restored}
 use Rattle.reincarnate.specs.declared.entries.Restored.TheVariants as restored
-use Rattle.reincarnate.specs.Replaying.{RunsTo}
+use Rattle.reincarnate.specs.Replay.{RunsTo}
 use Rattle.reincarnate.specs.Progress.{EntryState, ReplayedState, replayed_state, next_live, behind_next, IsShort}
-use Rattle.reincarnate.specs.Asking.{FetchingState, entries_of, asked_of, asked}
-use Rattle.reincarnate.specs.Standing.{StandsFor, StandFor, StandsFetching, StandsWhole, AreWhole, IsReplayed, NextIs, live_from, first_restored, RestoredIs, FirstIs}
+use Rattle.reincarnate.specs.Questions.{FetchingState, entries_of, asked_of, asked}
+use Rattle.reincarnate.specs.Refinement.{StandsFor, StandFor, StandsFetching, StandsWhole, AreWhole, IsReplayed, NextIs, live_from, first_restored, RestoredIs, FirstIs}
 use Rattle.reincarnate.proofs.Sized.{sum_both}
 use Rattle.reincarnate.proofs.Ready.{asked_nothing, newest_is_ready}
 use Rattle.reincarnate.proofs.EntryLaw.{lacks_is, nothing_lacks}

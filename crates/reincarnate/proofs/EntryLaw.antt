@@ -11,10 +11,10 @@ use Rattle.ft_model.proofs.Services.{sum_append}
 use Rattle.reincarnate.specs.declared.cuts.Cuts.{Cuts}
 use Rattle.reincarnate.specs.declared.lack.Lack.{Lack}
 use Rattle.reincarnate.specs.declared.lack.Lack.TheVariants as lack
-use Rattle.reincarnate.specs.Cutting.{cuts_of, cut_on, cuts_through}
-use Rattle.reincarnate.specs.Replaying.{ReplayState}
+use Rattle.reincarnate.specs.ReadLengths.{cuts_of, cut_on, cuts_through}
+use Rattle.reincarnate.specs.Replay.{ReplayState}
 use Rattle.reincarnate.specs.Progress.{EntryState, begun_entry, lacks, with_bytes, with_lengths}
-use Rattle.reincarnate.specs.Standing.{StandsFor}
+use Rattle.reincarnate.specs.Refinement.{StandsFor}
 use Rattle.reincarnate.proofs.ReplayOn.{replays}
 use Rattle.reincarnate.proofs.ReplayLaw.{replays_stand, begins, more_held, more_lengths}
 use Rattle.north_wrap.proofs.OneRead.{any_append}

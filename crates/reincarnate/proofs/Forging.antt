@@ -7,13 +7,13 @@ use Rattle.ft_io.specs.declared.Key.{Key}
 use Rattle.server_trait.specs.Service.{Machine, machine}
 use Rattle.ft_model.specs.Log.{Entry}
 use Rattle.ft_model.specs.News.News.{Comes}
-use Rattle.tcp_endpoint.specs.Sending.{IsShort}
+use Rattle.tcp_endpoint.specs.SendHalf.{IsShort}
 use Rattle.tcp_endpoint.specs.Tcb.{listening}
 use Rattle.endpoint_laws.specs.Turn.{turned}
 use Rattle.endpoint_laws.proofs.Bounding.{bounded_is_short}
 use Rattle.endpoint_laws.proofs.Listening.{listens_at_listen}
-use Rattle.endpoint_laws.proofs.Beginning.{begins_law}
-use Rattle.connection_laws.specs.Splicing.{forged_syn, connected, GoesOnFrom}
+use Rattle.endpoint_laws.proofs.FirstPoint.{begins_law}
+use Rattle.connection_laws.specs.Splice.{forged_syn, connected, GoesOnFrom}
 use Rattle.connection_laws.proofs.Spliced.{splices}
 use Rattle.reincarnate.specs.Progress.{IsSegmentSize}
 

@@ -8,20 +8,20 @@ use Rattle.seq_arith.specs.Offset.{one_if}
 use Rattle.server_trait.specs.Service.{Machine}
 use Rattle.ft_model.specs.Log.{Entry}
 use Rattle.ft_model.specs.Restart.{point_of, resumed_at, run_of, IsSoundEntry}
-use Rattle.south_wrap.specs.Standing.{south_at}
-use Rattle.north_wrap.specs.Standing.{HasReplayed}
-use Rattle.connection_laws.specs.Splicing.{GoesOnFrom, delta_from, spliced}
-use Rattle.connection_laws.specs.Standing.{PartsStand}
+use Rattle.south_wrap.specs.SouthPoint.{south_at}
+use Rattle.north_wrap.specs.Refinement.{HasReplayed}
+use Rattle.connection_laws.specs.Splice.{GoesOnFrom, delta_from, spliced}
+use Rattle.connection_laws.specs.Parts.{PartsStand}
 use Rattle.connection_laws.proofs.Spliced.{splices_parts}
-use Rattle.connection_laws.specs.Telling.{PartsTell}
-use Rattle.connection_laws.proofs.Telling.{parts_tell}
-use Rattle.wrapped_conn.specs.Beginning.{joined_conn}
+use Rattle.connection_laws.specs.PointNumbers.{PartsTell}
+use Rattle.connection_laws.proofs.PointNumbers.{parts_tell}
+use Rattle.wrapped_conn.specs.NewConnection.{joined_conn}
 use Rattle.wrapped_conn.specs.Numbers.{has_fin}
-use Rattle.wrapped_conn.specs.Standing.{StandsBefore}
+use Rattle.wrapped_conn.specs.Refinement.{StandsBefore}
 use Rattle.wrapped_conn.proofs.NumbersAt.{has_fin_is, logged_at}
 use Rattle.reincarnate.specs.Progress.{ReplayedState, IsSegmentSize}
-use Rattle.reincarnate.specs.Standing.{IsReplayed}
-use Rattle.reincarnate.specs.Joining.{SplicedState, goes_on_at, has_end, south_from, north_from, spliced_from, EntryNumbersFit, IsSpliced}
+use Rattle.reincarnate.specs.Refinement.{IsReplayed}
+use Rattle.reincarnate.specs.Splice.{SplicedState, goes_on_at, has_end, south_from, north_from, spliced_from, EntryNumbersFit, IsSpliced}
 use Rattle.wrapped_conn.proofs.Joining.{spliced_local}
 
 goes_on : {S : Type 0} (service : Machine S) (e : Entry) (r : ReplayedState S) (i : ℕ) → EntryNumbersFit r i → IsReplayed service e r → IsSoundEntry service e → GoesOnFrom service e i

@@ -7,7 +7,7 @@ use Rattle.seq_arith.specs.MessageGrammar.{lens_in}
 use Rattle.ft_model.proofs.Lists.{some_is, none_is_some}
 use Rattle.ft_model.proofs.Services.{sum_more}
 use Rattle.reincarnate.specs.declared.cuts.Cuts.{Cuts}
-use Rattle.reincarnate.specs.Cutting.{may_cut, cut_on, cuts_through}
+use Rattle.reincarnate.specs.ReadLengths.{may_cut, cut_on, cuts_through}
 
 pub length_lens : (bytes : List ℕ) → length (lens_in bytes) ≡ length bytes / 2
 length_lens [] = refl

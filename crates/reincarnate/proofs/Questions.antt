@@ -5,7 +5,7 @@ use Rattle.ft_io.specs.declared.Key.{Key}
 use Rattle.seq_arith.specs.MessageGrammar.{is_sound, has_length}
 use Rattle.ft_model.specs.Offset.{one_if}
 use Rattle.logger_wire.specs.declared.Body.TheVariants as body
-use Rattle.reincarnate.specs.Asking.{IsAskable}
+use Rattle.reincarnate.specs.Questions.{IsAskable}
 use Rattle.wrapped_conn.proofs.Sendable.{FitsKey}
 
 pub hello_askable : IsAskable body.HelloMsg

@@ -7,7 +7,7 @@ use Rattle.ft_model.proofs.Lists.{none_is_some}
 use Rattle.reincarnate.specs.declared.lack.Lack.{Lack}
 use Rattle.reincarnate.specs.declared.lack.Lack.TheVariants as lack
 use Rattle.reincarnate.specs.Progress.{EntryState, lacks, asked_for, AreReady}
-use Rattle.reincarnate.specs.Asking.{FetchingState, entries_of, asked_of, asked, asked_entry, or_else, entry_known, head_fits}
+use Rattle.reincarnate.specs.Questions.{FetchingState, entries_of, asked_of, asked, asked_entry, or_else, entry_known, head_fits}
 use Rattle.ft_io.specs.declared.Key.{Key}
 
 lacks_nothing : {S : Type 0} (e : EntryState S) (l : Lack) → asked_for l e ≡ None → l ≡ lack.Nothing

@@ -9,9 +9,9 @@ use Rattle.seq_arith.specs.MessageGrammar.{lens_in}
 use Rattle.ft_io.specs.declared.Key.{Key}
 use Rattle.ft_io.specs.Key.{key_eq}
 use Rattle.reincarnate.specs.declared.lack.Lack.TheVariants as lack
-use Rattle.reincarnate.specs.Cutting.{HaveBytes, cuts_through}
+use Rattle.reincarnate.specs.ReadLengths.{HaveBytes, cuts_through}
 use Rattle.reincarnate.proofs.Lengths.{length_lens}
-use Rattle.reincarnate.specs.Replaying.{ReplayState}
+use Rattle.reincarnate.specs.Replay.{ReplayState}
 use Rattle.reincarnate.specs.Progress.{EntryState, Waiting, lacks, asks_bytes, asks_lengths, part_fits, lengths_fit, cuts_with, replayed_from, with_bytes, with_lengths, begun_entry, IsShort, IsSegmentSize, IsSized}
 use Rattle.reincarnate.proofs.ReplayOn.{Replays, replays}
 use Rattle.reincarnate.proofs.Ready.{first_of_four}

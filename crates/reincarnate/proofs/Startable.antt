@@ -11,22 +11,22 @@ use Rattle.server_trait.specs.Service.{reference}
 use Rattle.ft_model.specs.Log.{Entry}
 use Rattle.ft_model.specs.Restart.{point_of, resumed_at}
 use Rattle.north_wrap.specs.NorthState.{NorthState, resumed_north}
-use Rattle.north_wrap.specs.Standing.{HasReplayed}
+use Rattle.north_wrap.specs.Refinement.{HasReplayed}
 use Rattle.tcp_endpoint.specs.declared.states.StateName.{StateName}
 use Rattle.tcp_endpoint.specs.declared.states.StateName.TheVariants.{Closed, Listen, SynSent, SynReceived, Established, FinWait1, FinWait2, CloseWait, Closing, LastAck, TimeWait}
-use Rattle.tcp_endpoint.specs.Sending.{Sending, bytes_end}
+use Rattle.tcp_endpoint.specs.SendHalf.{Sending, bytes_end}
 use Rattle.tcp_endpoint.specs.States.{has_begun}
 use Rattle.tcp_endpoint.specs.Tcb.{Tcb}
-use Rattle.connection_laws.specs.Splicing.{GoesOnFrom, StandsAtEntry, delta_from, spliced}
-use Rattle.connection_laws.specs.Telling.{PartsTell}
+use Rattle.connection_laws.specs.Splice.{GoesOnFrom, StandsAtEntry, delta_from, spliced}
+use Rattle.connection_laws.specs.PointNumbers.{PartsTell}
 use Rattle.connection_laws.proofs.Spliced.{splices, splices_parts}
-use Rattle.connection_laws.proofs.Telling.{parts_tell}
+use Rattle.connection_laws.proofs.PointNumbers.{parts_tell}
 use Rattle.wrapped_conn.specs.Numbers.{has_fin}
 use Rattle.wrapped_conn.specs.Sound.{has_peer, IsSoundTcp, IsSound}
 use Rattle.wrapped_conn.proofs.NumbersAt.{has_fin_is}
-use Rattle.reincarnate.specs.Cutting.{HaveBytes}
+use Rattle.reincarnate.specs.ReadLengths.{HaveBytes}
 use Rattle.reincarnate.specs.Progress.{ReplayedState, IsSegmentSize}
-use Rattle.reincarnate.specs.Joining.{SplicedState, conn_of, goes_on_at, has_end, spliced_from, EntryNumbersFit}
+use Rattle.reincarnate.specs.Splice.{SplicedState, conn_of, goes_on_at, has_end, spliced_from, EntryNumbersFit}
 use Rattle.reincarnate.proofs.Forging.{idle}
 use Rattle.reincarnate.proofs.Joined.{less_fin}
 use Rattle.ft_io.proofs.Booleans.{false_by}

@@ -1,6 +1,6 @@
-pub mod Cutting
-pub mod Replaying
+pub mod ReadLengths
+pub mod Replay
 pub mod Progress
-pub mod Asking
-pub mod Standing
-pub mod Joining
+pub mod Questions
+pub mod Refinement
+pub mod Splice

@@ -9,8 +9,8 @@ use Rattle.server_trait.specs.Service.{Served}
 use Rattle.reincarnate.specs.declared.cuts.Cuts.{Cuts}
 use Rattle.reincarnate.specs.declared.lack.Lack.{Lack}
 use Rattle.reincarnate.specs.declared.lack.Lack.TheVariants as lack
-use Rattle.reincarnate.specs.Cutting.{cuts_of, cuts_through, HaveBytes}
-use Rattle.reincarnate.specs.Replaying.{ReplayState, fed_on}
+use Rattle.reincarnate.specs.ReadLengths.{cuts_of, cuts_through, HaveBytes}
+use Rattle.reincarnate.specs.Replay.{ReplayState, fed_on}
 
 pub record EntryState (S : Type 0) : Type 0 where
   pub head : EntryHead  -- the entry without its bytes and lengths

@@ -3,8 +3,8 @@
 ghost use Rattle.std.specs.Prelude.{◌≡◌, ◌≤◌, [], Ok, IfOk};
 ghost use Rattle.seq_arith.specs.Message.Body.{HelloMsg};
 ghost use Rattle.logger_wire.specs.Value.{message_of, IsSendable};
-ghost use Rattle.reincarnate.specs.Asking.{begun_fetching};
-ghost use Rattle.reincarnate.specs.Standing.{StandsFetching};
+ghost use Rattle.reincarnate.specs.Questions.{begun_fetching};
+ghost use Rattle.reincarnate.specs.Refinement.{StandsFetching};
 ghost use Rattle.server_trait.specs.Service.{machine};
 
 use crate::fetching::Fetching;

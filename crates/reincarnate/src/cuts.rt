@@ -2,7 +2,7 @@
 
 ghost use Rattle.std.specs.Prelude.{◌≡◌, ◌≤◌, ◌+◌, ◌^◌, length, sum, Some, None, IfSome, if◌then◌else◌};
 ghost use Rattle.seq_arith.specs.MessageGrammar.{lens_in};
-ghost use Rattle.reincarnate.specs.Cutting.{may_cut, cut_on, cuts_through, HaveBytes};
+ghost use Rattle.reincarnate.specs.ReadLengths.{may_cut, cut_on, cuts_through, HaveBytes};
 
 use logger_wire::len_at;
 

@@ -4,8 +4,8 @@ ghost use Rattle.std.specs.Prelude.{◌≡◌, ◌++◌, ◌+◌, [], List, leng
 ghost use Rattle.std.specs.Option.{option_to_list};
 ghost use Rattle.reincarnate.specs.declared.lack.Lack.TheVariants as lack;
 ghost use Rattle.reincarnate.specs.Progress.{lacks, next_live, behind_next, AreReady};
-ghost use Rattle.reincarnate.specs.Asking.{asked_of};
-ghost use Rattle.reincarnate.specs.Standing.{StandsWhole, NextIs, live_from, first_restored, FirstIs};
+ghost use Rattle.reincarnate.specs.Questions.{asked_of};
+ghost use Rattle.reincarnate.specs.Refinement.{StandsWhole, NextIs, live_from, first_restored, FirstIs};
 ghost use Rattle.server_trait.specs.Service.{machine};
 ghost use Rattle.ft_model.specs.Restart.{Fetched};
 
@@ -37,7 +37,7 @@ impl<S: Service> Model for Entries<S> {
     ghost use Rattle.std.specs.Prelude.{◌≡◌, ◌++◌, List, None, reverse};
     ghost use Rattle.std.specs.Option.{option_to_list};
     ghost use Rattle.reincarnate.specs.Progress.{EntryState, AreReady};
-    ghost use Rattle.reincarnate.specs.Asking.{asked_of};
+    ghost use Rattle.reincarnate.specs.Questions.{asked_of};
 
     ghost Value = { List (EntryState S) };
 

@@ -5,9 +5,9 @@ ghost use Rattle.std.specs.List.{AllByRecursion};
 ghost use Rattle.seq_arith.specs.MessageGrammar.{lens_in};
 ghost use Rattle.logger_wire.specs.Value.{body_of};
 ghost use Rattle.ft_io.specs.Key.{key_eq};
-ghost use Rattle.reincarnate.specs.Cutting.{HaveBytes};
-ghost use Rattle.logger_store.specs.Stored.{head_value};
-ghost use Rattle.reincarnate.specs.Asking.{IsAskable};
+ghost use Rattle.reincarnate.specs.ReadLengths.{HaveBytes};
+ghost use Rattle.logger_store.specs.StoreState.{head_value};
+ghost use Rattle.reincarnate.specs.Questions.{IsAskable};
 ghost use Rattle.reincarnate.specs.Progress.{begun_entry, lacks, asked_for, asks_bytes, asks_lengths, part_fits, lengths_fit, with_bytes, cuts_with};
 ghost use Rattle.reincarnate.specs.Progress.{with_lengths, first_whole, replayed_from, replayed_state, IsSegmentSize};
 
@@ -40,7 +40,7 @@ pub(crate) struct FetchedEntry<S: Service> {
 }
 
 impl<S: Service> Model for FetchedEntry<S> {
-    ghost use Rattle.logger_store.specs.Stored.{head_value};
+    ghost use Rattle.logger_store.specs.StoreState.{head_value};
     ghost use Rattle.reincarnate.specs.Progress.{EntryState, IsSized};
 
     ghost Value = { EntryState S };

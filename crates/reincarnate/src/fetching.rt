@@ -9,11 +9,11 @@ ghost use Rattle.server_trait.specs.Service.{machine};
 ghost use Rattle.ft_io.specs.Key.{key_eq};
 ghost use Rattle.ft_model.specs.Restart.{Fetched, wanted, question};
 ghost use Rattle.logger_wire.specs.Value.{body_of, message_of, IsSendable};
-ghost use Rattle.logger_store.specs.Stored.{head_value};
+ghost use Rattle.logger_store.specs.StoreState.{head_value};
 ghost use Rattle.reincarnate.specs.Progress.{AreReady, IsSegmentSize};
-ghost use Rattle.reincarnate.specs.Asking.{IsAskable, begun_fetching, entries_of, asked_of, asked_entry, asked, entry_known, head_fits, with_head, with_newest};
-ghost use Rattle.reincarnate.specs.Asking.{part_on, lens_on, answered, after_answer};
-ghost use Rattle.reincarnate.specs.Standing.{StandsFetching, StandsWhole, AnswerLeads, fetched_then, held_of};
+ghost use Rattle.reincarnate.specs.Questions.{IsAskable, begun_fetching, entries_of, asked_of, asked_entry, asked, entry_known, head_fits, with_head, with_newest};
+ghost use Rattle.reincarnate.specs.Questions.{part_on, lens_on, answered, after_answer};
+ghost use Rattle.reincarnate.specs.Refinement.{StandsFetching, StandsWhole, AnswerLeads, fetched_then, held_of};
 
 use crate::entries::Entries;
 use crate::fetched_entry::FetchedEntry;
@@ -44,7 +44,7 @@ pub struct Fetching<S: Service> {
 impl<S: Service> Model for Fetching<S> {
     ghost use Rattle.std.specs.Prelude.{◌≡◌, ◌≤◌};
     ghost use Rattle.std.specs.List.{AllByRecursion};
-    ghost use Rattle.reincarnate.specs.Asking.{FetchingState};
+    ghost use Rattle.reincarnate.specs.Questions.{FetchingState};
     ghost use Rattle.reincarnate.specs.Progress.{AreReady};
 
     ghost Value = { FetchingState S };

@@ -2,8 +2,8 @@
 
 ghost use Rattle.std.specs.Prelude.{◌≡◌, ℕ, ◌^◌, ◌-◌, ◌+◌, ◌≤◌, List, [], ◌++◌, length, take, drop, true, false, OnOk};
 ghost use Rattle.north_wrap.specs.NorthState.{resumed_north};
-ghost use Rattle.reincarnate.specs.Cutting.{HaveBytes};
-ghost use Rattle.reincarnate.specs.Replaying.{served_on, fed_on};
+ghost use Rattle.reincarnate.specs.ReadLengths.{HaveBytes};
+ghost use Rattle.reincarnate.specs.Replay.{served_on, fed_on};
 
 use crate::cuts::Cuts;
 use crate::held::Held;
@@ -37,7 +37,7 @@ pub(crate) struct Replay<S: Service> {
 
 impl<S: Service> Model for Replay<S> {
     ghost use Rattle.std.specs.Prelude.{◌≤◌, ◌^◌, length};
-    ghost use Rattle.reincarnate.specs.Replaying.{ReplayState};
+    ghost use Rattle.reincarnate.specs.Replay.{ReplayState};
 
     ghost Value = { ReplayState S };
 
@@ -121,7 +121,7 @@ impl<S: Service> Replay<S> {
     }
 
     /// Replays a read of this length.
-    #[tactic(auto, unfolding(crate::specs::Replaying::fed_on))]
+    #[tactic(auto, unfolding(crate::specs::Replay::fed_on))]
     pub(crate) fn feed(&mut self, size: usize) -> Result<(), NoMemory>
         requires short { size ≤ 2048 }
         requires there { size ≤ length self.old.held }

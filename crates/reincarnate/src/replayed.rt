@@ -5,10 +5,10 @@ ghost use Rattle.server_trait.specs.Service.{machine};
 ghost use Rattle.ft_model.specs.Log.{Entry};
 ghost use Rattle.ft_model.specs.Restart.{IsSoundEntry};
 ghost use Rattle.south_wrap.specs.SouthState.{resumed_south};
-ghost use Rattle.reincarnate.specs.Standing.{IsReplayed};
-ghost use Rattle.reincarnate.specs.Joining.{has_end, spliced_from, EntryNumbersFit, IsSpliced};
-ghost use Rattle.reincarnate.specs.Cutting.{HaveBytes};
-ghost use Rattle.logger_store.specs.Stored.{head_value};
+ghost use Rattle.reincarnate.specs.Refinement.{IsReplayed};
+ghost use Rattle.reincarnate.specs.Splice.{has_end, spliced_from, EntryNumbersFit, IsSpliced};
+ghost use Rattle.reincarnate.specs.ReadLengths.{HaveBytes};
+ghost use Rattle.logger_store.specs.StoreState.{head_value};
 ghost use Rattle.reincarnate.specs.Progress.{IsSegmentSize};
 
 use crate::cuts::Cuts;
@@ -37,8 +37,8 @@ pub struct Replayed<S: Service> {
 
 impl<S: Service> Model for Replayed<S> {
     ghost use Rattle.std.specs.Prelude.{◌≡◌, ◌+◌, ◌^◌, ◌≤◌, length};
-    ghost use Rattle.reincarnate.specs.Cutting.{HaveBytes};
-    ghost use Rattle.logger_store.specs.Stored.{head_value};
+    ghost use Rattle.reincarnate.specs.ReadLengths.{HaveBytes};
+    ghost use Rattle.logger_store.specs.StoreState.{head_value};
     ghost use Rattle.reincarnate.specs.Progress.{ReplayedState, IsSegmentSize};
 
     ghost Value = { ReplayedState S };

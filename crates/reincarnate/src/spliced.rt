@@ -5,8 +5,8 @@ ghost use Rattle.server_trait.specs.Service.{machine};
 ghost use Rattle.ft_model.specs.Log.{Entry};
 ghost use Rattle.ft_model.specs.Restart.{point_of};
 ghost use Rattle.wrapped_conn.specs.Sound.{IsSound};
-ghost use Rattle.wrapped_conn.specs.Standing.{StandsBefore};
-ghost use Rattle.reincarnate.specs.Joining.{conn_of, IsSpliced};
+ghost use Rattle.wrapped_conn.specs.Refinement.{StandsBefore};
+ghost use Rattle.reincarnate.specs.Splice.{conn_of, IsSpliced};
 
 use ft_io::{Addr, Key};
 use north_wrap::North;
@@ -35,7 +35,7 @@ pub struct Spliced<S: Service> {
 
 impl<S: Service> Model for Spliced<S> {
     ghost use Rattle.wrapped_conn.specs.Sound.{IsSound};
-    ghost use Rattle.reincarnate.specs.Joining.{SplicedState, conn_of};
+    ghost use Rattle.reincarnate.specs.Splice.{SplicedState, conn_of};
 
     ghost Value = { SplicedState S };
 

@@ -4,13 +4,13 @@ ghost use Rattle.std.specs.Prelude.{◌≡◌, ◌≤◌, ◌-◌, ◌+◌, ◌^
 ghost use Rattle.seq_arith.specs.Number.{number_at};
 ghost use Rattle.segment_codec.specs.Value.{said};
 ghost use Rattle.ft_model.specs.News.News.{Comes};
-ghost use Rattle.logger_store.specs.Stored.{head_value};
-ghost use Rattle.tcp_endpoint.specs.Sending.{IsShort};
+ghost use Rattle.logger_store.specs.StoreState.{head_value};
+ghost use Rattle.tcp_endpoint.specs.SendHalf.{IsShort};
 ghost use Rattle.tcp_endpoint.specs.Tcb.{listening};
 ghost use Rattle.endpoint_laws.specs.Turn.{turned};
-ghost use Rattle.connection_laws.specs.Splicing.{forged as forged_lem, forged_syn, forged_ack, forged_fin, connected as connected_lem, spliced};
+ghost use Rattle.connection_laws.specs.Splice.{forged as forged_lem, forged_syn, forged_ack, forged_fin, connected as connected_lem, spliced};
 ghost use Rattle.reincarnate.specs.Progress.{IsSegmentSize};
-ghost use Rattle.reincarnate.specs.Joining.{has_end};
+ghost use Rattle.reincarnate.specs.Splice.{has_end};
 
 use ft_io::{Addr, Key, NoMemory};
 use logger_store::EntryHead;
@@ -65,7 +65,7 @@ fn forge(endpoint: &mut Endpoint, head: Head, out: &mut Outbox)
 }
 
 /// An endpoint that is connected at the end of the entry's bytes: the client's SYN has the number that they lead to.
-#[tactic(auto, using(crate::proofs::Forging::listen_short, crate::proofs::Forging::syn_short), unfolding(connection_laws::specs::Splicing::connected))]
+#[tactic(auto, using(crate::proofs::Forging::listen_short, crate::proofs::Forging::syn_short), unfolding(connection_laws::specs::Splice::connected))]
 fn connected(
     alloc: Global,
     head: &EntryHead,

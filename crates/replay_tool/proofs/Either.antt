@@ -16,15 +16,15 @@ use Rattle.twin_laws.specs.Flat.{flat}
 use Rattle.twin_laws.specs.TwinLegal.{twin_start, IsTwinLegalFor}
 use Rattle.twin_laws.specs.TwinWorld.{TwinMoment}
 use Rattle.net_schedule.specs.AtNumber.{at_number}
-use Rattle.net_schedule.specs.Sent.{KeepsAllSent, KeepsAllParcels}
-use Rattle.net_schedule.specs.Standing.{Kept}
-use Rattle.net_schedule.specs.Stepping.{StandsAfter, Steps, EndsStep}
-use Rattle.net_schedule.specs.TwinStepping.{TwinStandsAfter, TwinSteps, TwinEndsStep}
+use Rattle.net_schedule.specs.SentPackets.{KeepsAllSent, KeepsAllParcels}
+use Rattle.net_schedule.specs.Refinement.{Kept}
+use Rattle.net_schedule.specs.Step.{StandsAfter, Steps, EndsStep}
+use Rattle.net_schedule.specs.TwinStep.{TwinStandsAfter, TwinSteps, TwinEndsStep}
 use Rattle.net_schedule.specs.declared.end.StepEnd.{StepEnd}
 use Rattle.net_schedule.specs.declared.end.StepEnd.TheVariants.{NoMemory, BadEvent, PacketLimit}
 use Rattle.net_schedule.specs.declared.step_out.StepOut.{StepOut}
 use Rattle.schedule_text.specs.Bytes.{content_in}
-use Rattle.replay_tool.specs.Standing.{IsTraceEnd, IsStanding, PlaysOne, StopsAt}
+use Rattle.replay_tool.specs.TraceEnd.{IsTraceEnd, IsStanding, PlaysOne, StopsAt}
 use Rattle.replay_tool.specs.Traces.{traces_of, traces}
 use Rattle.replay_tool.proofs.OneLog as one
 use Rattle.replay_tool.proofs.TwoLoggers as two

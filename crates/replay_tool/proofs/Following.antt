@@ -13,9 +13,9 @@ use Rattle.ft_model.specs.World.{Moment, client_at}
 use Rattle.ft_model.specs.declared.schedule.Schedule.{Schedule}
 use Rattle.ft_model.specs.declared.way.Way.{Way}
 use Rattle.ft_model.proofs.Lists.{some_is, none_is_some}
-use Rattle.logger_store.specs.Stored.{head_value, lengths_of}
+use Rattle.logger_store.specs.StoreState.{head_value, lengths_of}
 use Rattle.logger_store.specs.declared.entry_head.EntryHead.{EntryHead}
-use Rattle.net_schedule.specs.Sent.{packets_of, reported_way, WasSentAs}
+use Rattle.net_schedule.specs.SentPackets.{packets_of, reported_way, WasSentAs}
 use Rattle.schedule_text.specs.Bytes.{packet_in, content_in, said_as}
 use Rattle.schedule_text.proofs.Contents.{content_of_packet}
 use Rattle.net_schedule.proofs.Peers.{within as is_within}

@@ -4,7 +4,7 @@ use Rattle.std.proofs.lemmas.List.{take-append-drop}
 use Rattle.std.proofs.KnownBytes.{Appends-nil, Appends-trans}
 use Rattle.std.specs.Io.KnownBytes.{Appends}
 use Rattle.ft_io.specs.Sink.{AppendsFront}
-use Rattle.replay_tool.specs.OnItsWay.{IsOnItsWay, WroteFront}
+use Rattle.replay_tool.specs.PartialWrite.{IsOnItsWay, WroteFront}
 
 -- the sink took a front of a part
 pub front_taken : (a b : Option (List ℕ)) (xs : List ℕ) → AppendsFront a b xs → WroteFront a b xs

@@ -5,6 +5,6 @@ pub mod OneLog
 pub mod TwoLoggers
 pub mod Either
 pub mod Playing
-pub mod Ending
+pub mod RunEnds
 pub mod Settling
 pub mod Seeding

@@ -18,16 +18,16 @@ use Rattle.ft_model.proofs.OneTrace.{goes_on}
 use Rattle.std.specs.List.{flat_map}
 use Rattle.ft_model.specs.declared.way.Way.{Way}
 use Rattle.net_schedule.specs.AtNumber.{at_number}
-use Rattle.net_schedule.specs.Carried.{Carried}
-use Rattle.net_schedule.specs.Sent.{packets_of, reported_way, KeepsAllSent}
-use Rattle.net_schedule.specs.Standing.{Kept}
-use Rattle.net_schedule.specs.Stepping.{StandsAfter, Extends, Steps, EndsStep}
+use Rattle.net_schedule.specs.StoredPackets.{Carried}
+use Rattle.net_schedule.specs.SentPackets.{packets_of, reported_way, KeepsAllSent}
+use Rattle.net_schedule.specs.Refinement.{Kept}
+use Rattle.net_schedule.specs.Step.{StandsAfter, Extends, Steps, EndsStep}
 use Rattle.net_schedule.specs.declared.end.StepEnd.{StepEnd}
 use Rattle.net_schedule.specs.declared.end.StepEnd.TheVariants.{NoMemory, BadEvent, PacketLimit}
 use Rattle.net_schedule.specs.declared.step_out.StepOut.{StepOut}
 use Rattle.schedule_text.specs.Bytes.{content_in}
 use Rattle.schedule_text.proofs.Contents.{content_of_packet}
-use Rattle.replay_tool.specs.Stored.{line_of, stored_lines}
+use Rattle.replay_tool.specs.PacketLines.{line_of, stored_lines}
 use Rattle.replay_tool.proofs.Following.{packet_is_read}
 use Rattle.replay_tool.proofs.Stored.{lines_stored, stored_is_read}
 use Rattle.seed_run.proofs.Stepping.{last_event as last_same}

@@ -4,17 +4,17 @@ use Rattle.sample_servers.specs.declared.any_service.AnyService.{AnyService}
 use Rattle.ft_model.specs.Report.{header, event_line}
 use Rattle.ft_model.specs.declared.event.Event.{Event}
 use Rattle.ft_model.specs.declared.schedule.Schedule.{Schedule}
-use Rattle.net_schedule.specs.Standing.{Kept, KeepsAtRefusal}
+use Rattle.net_schedule.specs.Refinement.{Kept, KeepsAtRefusal}
 use Rattle.net_schedule.specs.declared.end.StepEnd.{StepEnd}
 use Rattle.net_schedule.specs.declared.end.StepEnd.TheVariants.{NoMemory, BadEvent, PacketLimit}
 use Rattle.net_schedule.specs.declared.step_out.StepOut.{StepOut}
 use Rattle.replay_tool.specs.Ends.{end_of_step}
-use Rattle.replay_tool.specs.OnItsWay.{IsOnItsWay, Wrote, WroteFront, Holds}
-use Rattle.replay_tool.specs.Played.{IsPlayedTo, lines_so_far, ReportsFront, ReportsToLimit}
-use Rattle.replay_tool.specs.Standing.{IsTraceEnd, IsStanding, PlaysOne, Exceeds, StopsAt}
-use Rattle.replay_tool.specs.Stored.{stored_lines}
+use Rattle.replay_tool.specs.PartialWrite.{IsOnItsWay, Wrote, WroteFront, Holds}
+use Rattle.replay_tool.specs.PlayedRun.{IsPlayedTo, lines_so_far, ReportsFront, ReportsToLimit}
+use Rattle.replay_tool.specs.TraceEnd.{IsTraceEnd, IsStanding, PlaysOne, Exceeds, StopsAt}
+use Rattle.replay_tool.specs.PacketLines.{stored_lines}
 use Rattle.replay_tool.specs.Traces.{traces}
-use Rattle.replay_tool.specs.Playing.{Plays, Reaches, StopsPlaying, piece}
+use Rattle.replay_tool.specs.Playback.{Plays, Reaches, StopsPlaying, piece}
 use Rattle.replay_tool.proofs.Fronts.{more_held}
 use Rattle.replay_tool.proofs.Either.{AreSafe, legal_of}
 

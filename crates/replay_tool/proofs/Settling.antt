@@ -17,9 +17,9 @@ use Rattle.replay_tool.specs.Traces.{traces_of}
 use Rattle.replay_tool.specs.Causes.{AllHappen, OneIsRefused, PacketsExceed, IsInOrder, HasBadLine, HasBadEvent, IsPastLimit, IsSettled}
 use Rattle.replay_tool.specs.Causes.IsPastLimit.{by_text, by_packets}
 use Rattle.replay_tool.specs.ErrText.{text_of}
-use Rattle.replay_tool.specs.OnItsWay.{Wrote, WroteFront}
+use Rattle.replay_tool.specs.PartialWrite.{Wrote, WroteFront}
 use Rattle.replay_tool.specs.Outcome.{IsTold}
-use Rattle.replay_tool.specs.Played.{Spells, ReportsAll, ReportsTill, ReportsToLimit}
+use Rattle.replay_tool.specs.PlayedRun.{Spells, ReportsAll, ReportsTill, ReportsToLimit}
 use Rattle.replay_tool.specs.Runs.{Reports, RunStops}
 use Rattle.replay_tool.specs.Stream.{Stream, HasFailed, HasNotFailed}
 use Rattle.replay_tool.specs.declared.status.TooMuch.TheVariants.{Text, Events, Packets}

@@ -6,9 +6,9 @@ use Rattle.ft_model.specs.declared.way.Way.{Way}
 use Rattle.ft_model.specs.Report.{line_of_packet}
 use Rattle.ft_model.proofs.Lists.{some_is, none_is_some}
 use Rattle.net_schedule.specs.AtNumber.{at_number}
-use Rattle.net_schedule.specs.Carried.{Carried}
+use Rattle.net_schedule.specs.StoredPackets.{Carried}
 use Rattle.schedule_text.specs.Bytes.{content_in}
-use Rattle.replay_tool.specs.Stored.{line_of, stored_line, stored_lines}
+use Rattle.replay_tool.specs.PacketLines.{line_of, stored_line, stored_lines}
 use Rattle.replay_tool.proofs.Following.{AreLines}
 
 -- the line of a packet is written

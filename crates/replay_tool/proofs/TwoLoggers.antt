@@ -21,16 +21,16 @@ use Rattle.twin_laws.specs.TwinLegal.{IsTwinLegalFor, twin_start, twin_events_of
 use Rattle.twin_laws.specs.TwinReport.{way_of_parcel, way_of_between, between_words, parcel_line, parcel_lines, parcel_count, twin_event_lines, twin_report}
 use Rattle.twin_laws.specs.TwinWorld.{Parcel, TwinWorld, TwinMoment, TwinJoint, twin_after}
 use Rattle.twin_laws.specs.TwinWorld.Parcel.{Outside, Inside}
-use Rattle.twin_laws.specs.Written.{IsWritten, IsRead}
+use Rattle.twin_laws.specs.SentBytes.{IsWritten, IsRead}
 use Rattle.twin_laws.proofs.OneTurn.{twin_goes_on}
 use Rattle.net_schedule.specs.AtNumber.{at_number}
-use Rattle.net_schedule.specs.Carried.{Carried}
-use Rattle.net_schedule.specs.Sent.{KeepsAllParcels, parcels_of}
-use Rattle.net_schedule.specs.Standing.{Kept}
-use Rattle.net_schedule.specs.TwinStepping.{TwinStandsAfter}
+use Rattle.net_schedule.specs.StoredPackets.{Carried}
+use Rattle.net_schedule.specs.SentPackets.{KeepsAllParcels, parcels_of}
+use Rattle.net_schedule.specs.Refinement.{Kept}
+use Rattle.net_schedule.specs.TwinStep.{TwinStandsAfter}
 use Rattle.schedule_text.specs.Bytes.{content_in, told_words, forwarded_words}
 use Rattle.schedule_text.proofs.Contents.{content_of_packet}
-use Rattle.replay_tool.specs.Stored.{line_of, stored_lines}
+use Rattle.replay_tool.specs.PacketLines.{line_of, stored_lines}
 use Rattle.replay_tool.proofs.Following.{packet_is_read}
 use Rattle.replay_tool.proofs.Stored.{lines_stored, stored_is_read}
 use Rattle.seed_run.proofs.Stepping.{last_event as last_same}

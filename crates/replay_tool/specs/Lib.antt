@@ -1,12 +1,12 @@
 pub mod Ends
 pub mod ErrText
 pub mod Words
-pub mod OnItsWay
+pub mod PartialWrite
 pub mod Traces
-pub mod Played
-pub mod Stored
-pub mod Standing
-pub mod Playing
+pub mod PlayedRun
+pub mod PacketLines
+pub mod TraceEnd
+pub mod Playback
 pub mod Stream
 pub mod Runs
 pub mod SeedRuns

@@ -3,7 +3,7 @@ use Rattle.std.specs.Prelude.{◌≡◌, ◌⊎◌, ℕ, Result, Ok, Err}
 use Rattle.std.specs.Io.KnownBytes.{Appends}
 use Rattle.replay_tool.specs.Ends.{code_of}
 use Rattle.replay_tool.specs.ErrText.{text_of}
-use Rattle.replay_tool.specs.OnItsWay.{WroteFront}
+use Rattle.replay_tool.specs.PartialWrite.{WroteFront}
 use Rattle.replay_tool.specs.Stream.{Stream, HasFailed, HasNotFailed}
 use Rattle.replay_tool.specs.declared.status.RunEnd.{RunEnd}
 use Rattle.replay_tool.specs.declared.status.RunEnd.TheVariants.{WriteFault}

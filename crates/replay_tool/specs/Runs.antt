@@ -5,8 +5,8 @@ use Rattle.ft_model.specs.Grammar.{read_text}
 use Rattle.ft_model.specs.Grammar.{Refusal as reading}
 use Rattle.ft_model.specs.declared.schedule.Limit.TheVariants as limits
 use Rattle.ft_model.specs.declared.schedule.Schedule.{Schedule}
-use Rattle.replay_tool.specs.OnItsWay.{Wrote}
-use Rattle.replay_tool.specs.Played.{Spells, ReportsAll, ReportsTill, ReportsToLimit, ReportsFront}
+use Rattle.replay_tool.specs.PartialWrite.{Wrote}
+use Rattle.replay_tool.specs.PlayedRun.{Spells, ReportsAll, ReportsTill, ReportsToLimit, ReportsFront}
 use Rattle.replay_tool.specs.Stream.{Stream, HasFailed, HasNotFailed}
 use Rattle.replay_tool.specs.declared.status.TooMuch.TheVariants.{Text, Events, Packets}
 use Rattle.replay_tool.specs.declared.status.RunEnd.{RunEnd}

@@ -5,10 +5,10 @@ ghost use Rattle.std.specs.List.{flat_map};
 ghost use Rattle.ft_model.specs.Client.{Client as Seen};
 ghost use Rattle.ft_model.specs.Log.{Entry};
 ghost use Rattle.ft_model.specs.Report.{client_line, client_lines, log_line, end_line, event_line};
-ghost use Rattle.logger_store.specs.Stored.{lengths_of};
-ghost use Rattle.net_schedule.specs.Keeping.{kept};
-ghost use Rattle.replay_tool.specs.Standing.{IsStanding};
-ghost use Rattle.replay_tool.specs.Stored.{stored_line, stored_lines};
+ghost use Rattle.logger_store.specs.StoreState.{lengths_of};
+ghost use Rattle.net_schedule.specs.WorldView.{kept};
+ghost use Rattle.replay_tool.specs.TraceEnd.{IsStanding};
+ghost use Rattle.replay_tool.specs.PacketLines.{stored_line, stored_lines};
 
 use ft_io::NoMemory;
 use ft_model::Event;

@@ -7,12 +7,12 @@ ghost use Rattle.ft_model.specs.Report.{client_lines, log_line, end_line};
 ghost use Rattle.ft_model.specs.declared.event.Event.{Event as Asked};
 ghost use Rattle.ft_model.specs.declared.event.EventWhy.{EventWhy};
 ghost use Rattle.ft_model.specs.declared.schedule.Schedule.{Schedule as Written};
-ghost use Rattle.net_schedule.specs.Keeping.{kept};
-ghost use Rattle.replay_tool.specs.OnItsWay.{Wrote, Holds};
+ghost use Rattle.net_schedule.specs.WorldView.{kept};
+ghost use Rattle.replay_tool.specs.PartialWrite.{Wrote, Holds};
 ghost use Rattle.replay_tool.specs.Ends.{CountsFaults};
-ghost use Rattle.replay_tool.specs.Played.{ReportsAll};
-ghost use Rattle.replay_tool.specs.Standing.{IsStanding};
-ghost use Rattle.replay_tool.specs.Playing.{Reaches, StopsPlaying, HoldsAtEnd, EndsPlaying};
+ghost use Rattle.replay_tool.specs.PlayedRun.{ReportsAll};
+ghost use Rattle.replay_tool.specs.TraceEnd.{IsStanding};
+ghost use Rattle.replay_tool.specs.Playback.{Reaches, StopsPlaying, HoldsAtEnd, EndsPlaying};
 ghost use Rattle.replay_tool.specs.declared.status.RunEnd.TheVariants.{BadEvent};
 
 use crate::laws::legal_traces_are_safe;

@@ -1,8 +1,8 @@
 //! A report that is being written to a sink: it is held in one buffer, and written in pieces.
 
 ghost use Rattle.std.specs.Prelude.{◌≡◌, ◌<◌, ℕ, List, [], Option, OnOk, OnErr, length};
-ghost use Rattle.replay_tool.specs.OnItsWay.{IsOnItsWay, WroteFront, CountsFailed};
-ghost use Rattle.replay_tool.specs.Playing.{piece};
+ghost use Rattle.replay_tool.specs.PartialWrite.{IsOnItsWay, WroteFront, CountsFailed};
+ghost use Rattle.replay_tool.specs.Playback.{piece};
 
 use ft_io::{Failed, Sink, write_all};
 use std::alloc::Global;

@@ -4,7 +4,7 @@ ghost use Rattle.std.specs.Prelude.{◌≡◌, ◌≤◌, length, Ok, IfOk, IfEr
 ghost use Rattle.ft_io.specs.Source.{ConsumesAtMost};
 ghost use Rattle.ft_model.specs.Grammar.{read_text};
 ghost use Rattle.ft_model.specs.Playable.{IsPlayable};
-ghost use Rattle.replay_tool.specs.Played.{ReportsAll};
+ghost use Rattle.replay_tool.specs.PlayedRun.{ReportsAll};
 ghost use Rattle.replay_tool.specs.Runs.{Reports, RunStops, StopsReading};
 ghost use Rattle.replay_tool.specs.Stream.{stream};
 

@@ -6,7 +6,7 @@ ghost use Rattle.replay_tool.specs.Causes.{IsStill, IsSettled};
 ghost use Rattle.replay_tool.specs.Ends.{is_code};
 ghost use Rattle.replay_tool.specs.Outcome.{HasEnded};
 ghost use Rattle.replay_tool.specs.Runs.{Reports, RunDoes};
-ghost use Rattle.replay_tool.specs.Played.{ReportsAll};
+ghost use Rattle.replay_tool.specs.PlayedRun.{ReportsAll};
 ghost use Rattle.replay_tool.specs.Stream.{stream};
 
 use crate::laws::schedules_end_in_one_way;

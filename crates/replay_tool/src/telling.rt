@@ -3,7 +3,7 @@
 ghost use Rattle.std.specs.Prelude.{◌≡◌, ◌⊎◌, ◌++◌, ◌∷◌, [], OnOk, OnErr};
 ghost use Rattle.std.specs.Io.KnownBytes.{Appends};
 ghost use Rattle.ft_io.specs.Faults.{Rose};
-ghost use Rattle.replay_tool.specs.OnItsWay.{WroteFront, CountsFailed};
+ghost use Rattle.replay_tool.specs.PartialWrite.{WroteFront, CountsFailed};
 ghost use Rattle.replay_tool.specs.Ends.{code_of};
 ghost use Rattle.replay_tool.specs.ErrText.{line_word as line_lem, event_word as event_lem, limit_word as limit_lem, numbered, error_line, cause_text, text_of};
 

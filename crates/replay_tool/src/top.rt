@@ -4,8 +4,8 @@ ghost use Rattle.std.specs.Prelude.{◌≡◌, ◌⊎◌, true, map, string_byte
 ghost use Rattle.ft_io.specs.Source.{ConsumesAtMost};
 ghost use Rattle.seed_run.specs.Words.{asked};
 ghost use Rattle.replay_tool.specs.Words.{is_run, AreOther};
-ghost use Rattle.replay_tool.specs.OnItsWay.{Wrote};
-ghost use Rattle.replay_tool.specs.Played.{Spells, ReportsAll};
+ghost use Rattle.replay_tool.specs.PartialWrite.{Wrote};
+ghost use Rattle.replay_tool.specs.PlayedRun.{Spells, ReportsAll};
 ghost use Rattle.replay_tool.specs.Stream.{stream};
 ghost use Rattle.replay_tool.specs.Runs.{RunDoes};
 ghost use Rattle.replay_tool.specs.SeedRuns.{SeedDoes};

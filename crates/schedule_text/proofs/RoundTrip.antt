@@ -25,7 +25,7 @@ use Rattle.ft_model.specs.declared.line.Verb.{Verb}
 use Rattle.ft_model.specs.declared.line.Verb.TheVariants as verb
 use Rattle.ft_model.specs.declared.schedule.Schedule.{Schedule}
 use Rattle.ft_model.proofs.ReportWords.{IsDigit, all_weaken, digits_decimal}
-use Rattle.schedule_text.specs.Asked.{IsAskable, asked_line}
+use Rattle.schedule_text.specs.EventLines.{IsAskable, asked_line}
 use Rattle.ft_io.proofs.Booleans.{left_true, right_true}
 
 -- a printable character that is no space

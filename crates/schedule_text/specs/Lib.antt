@@ -1,4 +1,4 @@
-pub mod Asked
+pub mod EventLines
 pub mod Bytes
 pub mod Line
-pub mod Reading
+pub mod ReadResult

@@ -5,7 +5,7 @@ ghost use Rattle.std.specs.List.{list_any};
 ghost use Rattle.ft_model.specs.Words.{words_of};
 ghost use Rattle.ft_model.specs.Grammar.{service_line, server_line, is_taken, free_address, client_line, bare_line, line_from, verb_of, keyword_of, names_no_service};
 ghost use Rattle.ft_model.specs.Grammar.{is_next, has_next_number, may_join, may_pair, may_stand, is_printable, line_behind, line_of, begins_event};
-ghost use Rattle.schedule_text.specs.Reading.{GivesLine};
+ghost use Rattle.schedule_text.specs.ReadResult.{GivesLine};
 
 use crate::end::LineEnd;
 use crate::event_line::{end_of, read_client_number, read_event, read_long_number, word_of};

@@ -2,7 +2,7 @@
 
 ghost use Rattle.std.specs.Prelude.{◌≡◌, IfOk, length};
 ghost use Rattle.ft_model.specs.Grammar.{with_line, no_objection, is_comment, is_passed_over, is_full, is_too_much, after_line, schedule_of, read_text};
-ghost use Rattle.schedule_text.specs.Reading.{Gives, GivesLine, with_text};
+ghost use Rattle.schedule_text.specs.ReadResult.{Gives, GivesLine, with_text};
 
 use crate::end::{LineEnd, ScheduleEnd};
 use crate::line::{begins_with_event, read_line};
@@ -129,7 +129,7 @@ fn finish(number: u32, draft: Draft) -> Result<Schedule, ScheduleEnd>
 
 /// Reads a schedule from its text. Unless an allocation fails, it returns the schedule that the text spells; or the first line that is refused and why; or the
 /// limit that is exceeded.
-#[tactic(auto, using(crate::proofs::Reading::goes_on, crate::proofs::Reading::stops, crate::proofs::Reading::ends), unfolding(ft_model::specs::Grammar::read_with))]
+#[tactic(auto, using(crate::proofs::LineByLine::goes_on, crate::proofs::LineByLine::stops, crate::proofs::LineByLine::ends), unfolding(ft_model::specs::Grammar::read_with))]
 pub fn read_schedule(alloc: Global, text: &[u8]) -> Result<Schedule, ScheduleEnd>
     ensures { Gives result (read_text text.now) }
 {

@@ -7,7 +7,7 @@ ghost use Rattle.ft_model.specs.declared.event.Event.{Event};
 ghost use Rattle.ft_model.specs.declared.line.Draft.TheVariants.{Begun};
 ghost use Rattle.ft_model.specs.declared.line.Line.TheVariants as line;
 ghost use Rattle.ft_model.specs.declared.schedule.Schedule.{Schedule};
-ghost use Rattle.schedule_text.specs.Asked.{IsAskable, asked_line};
+ghost use Rattle.schedule_text.specs.EventLines.{IsAskable, asked_line};
 
 /// The line of an event in a report is its number, and after that the line by which a schedule asks for the event.
 pub fn event_lines_hold_what_was_asked()

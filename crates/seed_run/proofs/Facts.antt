@@ -9,14 +9,14 @@ use Rattle.ft_model.specs.World.{World, Moment, client_at}
 use Rattle.ft_model.specs.declared.event.Event.{Event}
 use Rattle.ft_model.specs.declared.schedule.ClientLine.{ClientLine}
 use Rattle.ft_model.proofs.Lists.{none_is_some, some_is}
-use Rattle.net_schedule.specs.Standing.{Kept}
+use Rattle.net_schedule.specs.Refinement.{Kept}
 use Rattle.seed_run.specs.Generated.{server_address, client_line, client_lines, after_draws}
 use Rattle.seed_run.specs.Summary.{count_events, is_boot, is_crash}
 use Rattle.seed_run.specs.Runs.{start_of_run, StandsBehind}
 use Rattle.seed_run.specs.declared.asked.Asked.{Asked}
 use Rattle.seed_run.specs.declared.progress.Progress.{Progress}
 use Rattle.seed_run.proofs.Clients.{ClientInvariant, AllKeep}
-use Rattle.seed_run.proofs.Starting.{count_lines}
+use Rattle.seed_run.proofs.FirstSchedule.{count_lines}
 use Rattle.seed_run.proofs.Stepping.{world_of, clients_keep}
 use Rattle.seq_arith.proofs.Units.{one_at_most}
 use Rattle.ft_model.proofs.FaithfulOver.{client_there}

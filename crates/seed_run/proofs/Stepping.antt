@@ -7,8 +7,8 @@ use Rattle.sample_servers.specs.declared.any_service.AnyService.{AnyService}
 use Rattle.ft_model.specs.Legal.{IsLegalFor, Legal, refusal}
 use Rattle.ft_model.specs.World.{World, Moment, world_after, events_of, Happens}
 use Rattle.ft_model.specs.declared.event.Event.{Event}
-use Rattle.net_schedule.specs.Standing.{Kept}
-use Rattle.net_schedule.specs.Stepping.{StandsAfter, Extends, Steps, EndsStep}
+use Rattle.net_schedule.specs.Refinement.{Kept}
+use Rattle.net_schedule.specs.Step.{StandsAfter, Extends, Steps, EndsStep}
 use Rattle.net_schedule.specs.declared.step_out.StepOut.{StepOut}
 use Rattle.net_schedule.specs.declared.end.StepEnd.TheVariants.{BadEvent, PacketLimit}
 use Rattle.ft_model.proofs.Lists.{some_is, none_is_some}

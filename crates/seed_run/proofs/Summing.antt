@@ -5,8 +5,8 @@ use Rattle.sample_servers.specs.declared.any_service.AnyService.{AnyService}
 use Rattle.ft_model.specs.Client.{Client}
 use Rattle.ft_model.specs.World.{World, Moment, Joint, client_at}
 use Rattle.ft_model.proofs.Lists.{none_is_some, some_is}
-use Rattle.net_schedule.specs.Standing.{Kept}
-use Rattle.net_schedule.specs.Stepping.{StandsAfter}
+use Rattle.net_schedule.specs.Refinement.{Kept}
+use Rattle.net_schedule.specs.Step.{StandsAfter}
 use Rattle.seed_run.specs.Generated.{schedule_of, after_draws}
 use Rattle.seed_run.specs.Safe.{IsSafe}
 use Rattle.seed_run.specs.Summary.{first_line, client_result, client_results, count_events, is_boot, is_crash}

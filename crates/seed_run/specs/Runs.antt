@@ -6,8 +6,8 @@ use Rattle.sample_servers.specs.AnyService.{any_machine}
 use Rattle.sample_servers.specs.declared.any_service.AnyService.{AnyService}
 use Rattle.ft_model.specs.Legal.{Legal}
 use Rattle.ft_model.specs.World.{World, Moment, world_after, events_of}
-use Rattle.net_schedule.specs.Standing.{Kept}
-use Rattle.net_schedule.specs.Stepping.{StandsAfter}
+use Rattle.net_schedule.specs.Refinement.{Kept}
+use Rattle.net_schedule.specs.Step.{StandsAfter}
 use Rattle.seed_run.specs.Generated.{schedule_of, start_for, after_draws, state_behind, AreDrawn}
 use Rattle.seed_run.specs.Safe.{IsSafe}
 use Rattle.seed_run.specs.Summary.{summary, count_events, is_boot, is_crash}

@@ -3,7 +3,7 @@
 ghost use Rattle.std.specs.Prelude.{◌≡◌, ℕ, ◌+◌, ◌*◌, ◌<◌, ◌≤◌, ◌^◌, Some, is_some, length, OnOk, IsErrOf};
 ghost use Rattle.ft_model.specs.Client.{Client as Seen};
 ghost use Rattle.ft_model.specs.World.{client_at};
-ghost use Rattle.net_schedule.specs.Keeping.{kept};
+ghost use Rattle.net_schedule.specs.WorldView.{kept};
 ghost use Rattle.seq_arith.specs.Offset.{one_if};
 
 use crate::asked::Asked;

@@ -8,7 +8,7 @@ use Rattle.seq_arith.specs.Bytes.{two, four}
 use Rattle.seq_arith.specs.Packet.{Head, Segment}
 use Rattle.seq_arith.specs.PacketGrammar.{mss_option, packet_length, spelled, spelling, tcp_text}
 use Rattle.segment_codec.specs.Change.{put, sealed}
-use Rattle.segment_codec.specs.Written.{ip_start, places, numbers, with_checksums}
+use Rattle.segment_codec.specs.Spelling.{ip_start, places, numbers, with_checksums}
 use Rattle.segment_codec.proofs.Cells.{front, front_is}
 
 by_cells : (n : ℕ) (P : List ℕ → Type 0) (bytes : List ℕ) → n ≤ length bytes → P (front n bytes) → P bytes

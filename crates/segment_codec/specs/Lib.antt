@@ -1,4 +1,4 @@
 pub mod Value
 pub mod Change
 pub mod Options
-pub mod Written
+pub mod Spelling

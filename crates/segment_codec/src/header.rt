@@ -5,7 +5,7 @@ ghost use Rattle.std.specs.Prelude.{◌≡◌, ◌<◌, ◌≤◌, ◌+◌, ◌/
 ghost use Rattle.seq_arith.specs.PacketGrammar.{mss_option, reading, spelling};
 ghost use Rattle.segment_codec.specs.Change.{put};
 ghost use Rattle.segment_codec.specs.Value.{said};
-ghost use Rattle.segment_codec.specs.Written.{PlacesFit, NumbersFit, segment_with, ip_start, places, numbers, with_checksums};
+ghost use Rattle.segment_codec.specs.Spelling.{PlacesFit, NumbersFit, segment_with, ip_start, places, numbers, with_checksums};
 
 use crate::Head;
 use crate::fields::{ip_checksum, put_long, put_word, seal};
@@ -101,7 +101,7 @@ fn put_options(out: &mut [u8], mss: Option<u16>)
 }
 
 /// Computes both checksums.
-#[tactic(auto, unfolding(crate::specs::Written::with_checksums))]
+#[tactic(auto, unfolding(crate::specs::Spelling::with_checksums))]
 fn seal_both(packet: &mut [u8])
     requires long { 40 ≤ length packet.old }
     requires short { length packet.old ≤ 1500 }

@@ -2,7 +2,7 @@
 
 ghost use Rattle.std.specs.Prelude.{◌≡◌, ◌≤◌, ◌++◌, length, take, drop, Ok};
 ghost use Rattle.seq_arith.specs.PacketGrammar.{packet_length, reading, spelling};
-ghost use Rattle.segment_codec.specs.Written.{segment_with};
+ghost use Rattle.segment_codec.specs.Spelling.{segment_with};
 
 use crate::Head;
 use crate::fields::put_bytes;

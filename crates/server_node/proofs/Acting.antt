@@ -16,23 +16,23 @@ use Rattle.ft_model.specs.Offset.{IsNear}
 use Rattle.ft_model.specs.Opening.{point_opened}
 use Rattle.ft_model.specs.Point.{Point}
 use Rattle.ft_model.proofs.Lists.{some_is, none_is_some}
-use Rattle.north_wrap.specs.Standing.{NorthStands}
-use Rattle.connection_laws.specs.Beginning.{MayOpen}
+use Rattle.north_wrap.specs.Refinement.{NorthStands}
+use Rattle.connection_laws.specs.FirstSyn.{MayOpen}
 use Rattle.wrapped_conn.specs.ConnState.{ConnState}
-use Rattle.wrapped_conn.specs.Arriving.{arrived}
-use Rattle.wrapped_conn.specs.Beginning.{first_conn}
-use Rattle.wrapped_conn.specs.Standing as conn
-use Rattle.wrapped_conn.specs.Standing.{StandsLive, StandsReset, Leads}
-use Rattle.wrapped_conn.specs.Telling.{with_done}
-use Rattle.wrapped_conn.specs.Turning.{Starts, Receives, Hears, IsTold, Ticks as TicksOn, counted, ticked}
+use Rattle.wrapped_conn.specs.Arrival.{arrived}
+use Rattle.wrapped_conn.specs.NewConnection.{first_conn}
+use Rattle.wrapped_conn.specs.Refinement as conn
+use Rattle.wrapped_conn.specs.Refinement.{StandsLive, StandsReset, Leads}
+use Rattle.wrapped_conn.specs.LoggerMessages.{with_done}
+use Rattle.wrapped_conn.specs.Turn.{Starts, Receives, Hears, IsTold, Ticks as TicksOn, counted, ticked}
 use Rattle.wrapped_conn.specs.Numbers.{resets}
-use Rattle.south_wrap.specs.Patching.{repeats_syn}
+use Rattle.south_wrap.specs.Translation.{repeats_syn}
 use Rattle.wrapped_conn.proofs.Hearing.{hears, starts}
 use Rattle.wrapped_conn.proofs.Joining.{new_starts}
 use Rattle.wrapped_conn.proofs.Receiving.{receives}
 use Rattle.wrapped_conn.proofs.Ticking.{ticks}
 use Rattle.server_node.specs.Conn.{Begins, IsOursAt, IsSound, IsOurs, Acts}
-use Rattle.server_node.specs.Hearing.{logged_in}
+use Rattle.server_node.specs.LogMessages.{logged_in}
 use Rattle.server_node.proofs.Came.{fits, text_fits}
 use Rattle.server_node.proofs.Turned.{IsTyped, acts}
 use Rattle.ft_io.proofs.Choices.{holds_if}

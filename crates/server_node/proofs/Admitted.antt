@@ -13,14 +13,14 @@ use Rattle.ft_model.specs.Node.{Node, Place, key_of, is_for, is_known, place_at,
 use Rattle.ft_model.specs.Node.Place.{Opens, Lives, Ended}
 use Rattle.ft_model.specs.Node.Input.{Packet_comes}
 use Rattle.ft_model.specs.Opening.{is_syn, initial_number, numbers_for}
-use Rattle.ft_model.specs.Serving.{opens_at, newcomers, is_strange}
+use Rattle.ft_model.specs.ServingTurn.{opens_at, newcomers, is_strange}
 use Rattle.server_node.specs.declared.slot.Slot.{Slot}
 use Rattle.server_node.specs.declared.slot.Slot.TheVariants as slot
 use Rattle.seq_arith.specs.Message.Body.{OpenMsg}
 use Rattle.ft_model.specs.Connection.{told_by}
 use Rattle.ft_model.specs.Wire.{Wire}
 use Rattle.server_node.specs.declared.slot.Opening.{Opening}
-use Rattle.server_node.specs.Opening.{ArePut, Admits, all_opens, slot_opens, is_pending_slot, pending_slots}
+use Rattle.server_node.specs.Openings.{ArePut, Admits, all_opens, slot_opens, is_pending_slot, pending_slots}
 use Rattle.server_node.specs.Slots.{numbers_of, SlotStands, AllStand}
 use Rattle.server_node.proofs.Asked.{all_other, asked_at_syn}
 use Rattle.server_node.proofs.OneKey.{place_key, none_found}

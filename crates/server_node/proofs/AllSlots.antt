@@ -10,7 +10,7 @@ use Rattle.ft_model.specs.News.News.{Ticks}
 use Rattle.ft_model.specs.Node.{Node, Place, Input}
 use Rattle.ft_model.specs.Node.Place.{Opens, Lives, Ended}
 use Rattle.ft_model.specs.Node.Input.{Tick_comes}
-use Rattle.ft_model.specs.Serving.{PlaceTurn, AllGo}
+use Rattle.ft_model.specs.ServingTurn.{PlaceTurn, AllGo}
 use Rattle.wrapped_conn.specs.ConnState.{ConnState}
 use Rattle.server_node.specs.declared.slot.Slot.{Slot}
 use Rattle.server_node.specs.declared.slot.Slot.TheVariants as slot

@@ -16,16 +16,16 @@ use Rattle.ft_model.specs.Node.{Node, Place, Input, is_for}
 use Rattle.ft_model.specs.Node.Place.{Opens, Lives, Ended}
 use Rattle.ft_model.specs.Node.Input.{Packet_comes, Message_comes, Noise_comes, Tick_comes}
 use Rattle.ft_model.specs.Opening.{is_syn, initial_number}
-use Rattle.ft_model.specs.Serving.{ServingTurn, concerns, is_asked, opens_at, newcomers, refusals}
+use Rattle.ft_model.specs.ServingTurn.{ServingTurn, concerns, is_asked, opens_at, newcomers, refusals}
 use Rattle.ft_model.specs.Wire.{Wire, wire_of, HasWire}
 use Rattle.ft_model.proofs.Lists.{same_key, key_is, all_append, all_weaker}
 use Rattle.server_node.specs.declared.serving.Serving.{Serving}
 use Rattle.server_node.specs.declared.slot.Slot.{Slot}
 use Rattle.server_node.specs.declared.slot.Slot.TheVariants as slot
 use Rattle.server_node.specs.Alone.{StandsFor, IsNearFor, IsForSubject, KeyMeets, KeyGoes, SlotsAlone, ServesAlone, coming_to, slot_of}
-use Rattle.server_node.specs.Opening.{ArePut, slot_opens, all_opens}
+use Rattle.server_node.specs.Openings.{ArePut, slot_opens, all_opens}
 use Rattle.server_node.specs.Slots.{numbers_of}
-use Rattle.server_node.specs.Whose.{of_key, IsFor, IsOnlyFor}
+use Rattle.server_node.specs.Ownership.{of_key, IsFor, IsOnlyFor}
 use Rattle.server_node.proofs.Found.{not_found}
 use Rattle.server_node.proofs.Keyed.{none_of, all_its}
 use Rattle.server_node.proofs.Opens.{slot_is}
@@ -52,7 +52,7 @@ asked_about node Noise_comes n e = absurd (true≢false (sym e))
 pub open_for : (boot : ℕ) (n : Numbers) (key : Key) → key ≡ n.key → HasWire (told_by boot (OpenMsg n)) → IsFor key (wire_of (told_by boot (OpenMsg n)))
 open_for boot n key same spelled =
     let message : Message = record { boot = boot; body = OpenMsg n } in
-    subst (λ r. IfOk r (λ m. Rattle.server_node.specs.Whose.tells_of m.body key ≡ true)) (sym (message_is_read message spelled.0)) (ap (λ k. key_eq n.key k) same ∙ key_is n.key)
+    subst (λ r. IfOk r (λ m. Rattle.server_node.specs.Ownership.tells_of m.body key ≡ true)) (sym (message_is_read message spelled.0)) (ap (λ k. key_eq n.key k) same ∙ key_is n.key)
 
 -- packets of those that an input is about are none of another key's
 silent_whose : (node : Node) (input : Input) (key : Key) (told : List Wire) → concerns node input key ≡ false → AllByRecursion (IsForSubject node input) told → of_key key told ≡ []

@@ -11,12 +11,12 @@ use Rattle.ft_model.specs.Connection.{told_by}
 use Rattle.ft_model.specs.Node.{Node, is_for}
 use Rattle.ft_model.specs.Node.Input.{Packet_comes}
 use Rattle.ft_model.specs.Opening.{is_syn}
-use Rattle.ft_model.specs.Serving.{is_asked}
+use Rattle.ft_model.specs.ServingTurn.{is_asked}
 use Rattle.server_node.specs.declared.slot.Slot.{Slot}
 use Rattle.server_node.specs.declared.slot.Slot.TheVariants as slot
 use Rattle.server_node.specs.declared.slot.Opening.{Opening}
-use Rattle.server_node.specs.Hearing.{opening_in}
-use Rattle.server_node.specs.Opening.{slot_opens, all_opens}
+use Rattle.server_node.specs.LogMessages.{opening_in}
+use Rattle.server_node.specs.Openings.{slot_opens, all_opens}
 use Rattle.server_node.specs.Slots.{numbers_of}
 use Rattle.ft_model.proofs.Lists.{same_key, key_is}
 

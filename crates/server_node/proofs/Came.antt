@@ -7,7 +7,7 @@ use Rattle.seq_arith.specs.PacketGrammar.{reading, payload_at, head_in, segment_
 use Rattle.segment_codec.proofs.Accepting.{packet_is_short, start_is_there}
 use Rattle.ft_model.specs.Offset.{IsNear}
 use Rattle.ft_model.specs.Point.{Point}
-use Rattle.connection_laws.specs.Turning.{SegmentFits}
+use Rattle.connection_laws.specs.Turn.{SegmentFits}
 use Rattle.server_node.proofs.Turned.{packet_is}
 
 long_low : (bytes : List ℕ) (at : ℕ) → ((i : ℕ) → slice_index bytes i < 256) → long_at bytes at < 2 ^ 32

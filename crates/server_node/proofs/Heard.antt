@@ -11,14 +11,14 @@ use Rattle.ft_model.specs.News.News.{Logged}
 use Rattle.ft_model.specs.Node.{Node, Place, key_of}
 use Rattle.ft_model.specs.Node.Place.{Opens, Lives, Ended}
 use Rattle.ft_model.specs.Node.Input.{Message_comes}
-use Rattle.ft_model.specs.Serving.{concerns, names, Hears, LivesOn}
+use Rattle.ft_model.specs.ServingTurn.{concerns, names, Hears, LivesOn}
 use Rattle.ft_model.specs.Wire.{Wire}
 use Rattle.wrapped_conn.specs.ConnState.{ConnState}
 use Rattle.server_node.specs.declared.slot.Slot.{Slot}
 use Rattle.server_node.specs.declared.slot.Slot.TheVariants as slot
 use Rattle.server_node.specs.declared.slot.Opening.{Opening}
 use Rattle.server_node.specs.Conn.{IsOursAt, ConnGoes}
-use Rattle.server_node.specs.Hearing.{logged_in}
+use Rattle.server_node.specs.LogMessages.{logged_in}
 use Rattle.server_node.specs.Slots.{SlotStands, SlotGoes}
 use Rattle.server_node.proofs.OneKey.{place_meets, place_key}
 use Rattle.ft_io.proofs.Choices.{same_some}

@@ -5,7 +5,7 @@ use Rattle.ft_io.specs.declared.Key.{Key}
 use Rattle.seq_arith.specs.Message.{Body as said, Message}
 use Rattle.seq_arith.specs.MessageGrammar.{is_sound, kind_of, numbers_of, behind_of, lens_of}
 use Rattle.logger_wire.specs.declared.Msg.{Msg}
-use Rattle.ft_model.specs.Serving.{names}
+use Rattle.ft_model.specs.ServingTurn.{names}
 use Rattle.logger_wire.specs.declared.Body.{Body}
 use Rattle.logger_wire.specs.declared.Body.TheVariants as body
 use Rattle.logger_wire.specs.Value.{body_of, IsSendable}

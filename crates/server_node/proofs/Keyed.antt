@@ -18,16 +18,16 @@ use Rattle.ft_model.specs.Refusal.{as_listen, as_closed, full_rst, rst_at_ack, r
 use Rattle.ft_model.specs.Network.Packet.{To_server, To_client, To_logger, From_logger}
 use Rattle.ft_model.specs.Restart.{holding_segment}
 use Rattle.ft_model.specs.Node.{Node, Place, Input}
-use Rattle.ft_model.specs.Serving.{concerns}
+use Rattle.ft_model.specs.ServingTurn.{concerns}
 use Rattle.ft_model.specs.Wire.{Wire, Party, wire_of, HasWire}
 use Rattle.ft_model.specs.Wire.Party.{A_client, The_server, The_logger}
 use Rattle.ft_model.proofs.Lists.{same_key, key_is, all_weaker}
 use Rattle.server_node.specs.declared.slot.Slot.{Slot}
 use Rattle.server_node.specs.declared.slot.Opening.{Opening}
-use Rattle.server_node.specs.Refusing.{AreSent}
+use Rattle.server_node.specs.RefusalPackets.{AreSent}
 use Rattle.server_node.specs.Alone.{StandsFor, IsNearFor, IsForSubject, KeyMeets, SlotsAlone}
 use Rattle.server_node.specs.Slots.{numbers_of, SlotStands, SlotGoes, SlotLeaves}
-use Rattle.server_node.specs.Whose.{tells_of, is_told_of, goes_to, is_of, of_key, IsBetween, IsFor, IsOnlyFor}
+use Rattle.server_node.specs.Ownership.{tells_of, is_told_of, goes_to, is_of, of_key, IsBetween, IsFor, IsOnlyFor}
 use Rattle.server_node.proofs.Found.{found_set, none_dropped, other_set, other_dropped}
 use Rattle.server_node.proofs.OneKey.{place_key, place_stays}
 

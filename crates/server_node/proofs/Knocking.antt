@@ -12,7 +12,7 @@ use Rattle.ft_model.specs.Wire.{Wire}
 use Rattle.server_node.specs.declared.slot.Slot.{Slot}
 use Rattle.server_node.specs.declared.slot.Slot.TheVariants as slot
 use Rattle.server_node.specs.declared.slot.Opening.{Opening}
-use Rattle.server_node.specs.Opening.{ArePut, Opened, Waits, Knocks, IsCounted, pending_slots}
+use Rattle.server_node.specs.Openings.{ArePut, Opened, Waits, Knocks, IsCounted, pending_slots}
 use Rattle.server_node.specs.Slots.{numbers_of}
 
 module _ {S : Type 0} (node : Node) (segment : Segment) (key : Key) (number : ℕ) where

@@ -8,7 +8,7 @@ use Rattle.ft_model.specs.Node.{Node, Place, place_at}
 use Rattle.ft_model.specs.Node.Place.{Opens, Lives, Ended}
 use Rattle.server_node.specs.declared.slot.Slot.{Slot}
 use Rattle.server_node.specs.declared.slot.Slot.TheVariants as slot
-use Rattle.server_node.specs.Lending.{conn_in, IsConnAt}
+use Rattle.server_node.specs.Loan.{conn_in, IsConnAt}
 use Rattle.server_node.specs.Slots.{SlotStands, AllStand}
 use Rattle.server_node.proofs.Admitted.{place_has}
 

@@ -10,22 +10,22 @@ use Rattle.ft_io.specs.declared.Key.{Key}
 use Rattle.seq_arith.specs.Number.{distance}
 use Rattle.server_trait.specs.Service.{Machine}
 use Rattle.ft_model.specs.Point.{Point, made, is_over}
-use Rattle.connection_laws.specs.Closing.{StandsClosed}
-use Rattle.connection_laws.specs.Standing.{StandsOpen, PartsStand}
-use Rattle.connection_laws.specs.Telling.{acked_at}
-use Rattle.connection_laws.proofs.Telling.{parts_tell}
+use Rattle.connection_laws.specs.ClosedTcp.{StandsClosed}
+use Rattle.connection_laws.specs.Parts.{StandsOpen, PartsStand}
+use Rattle.connection_laws.specs.PointNumbers.{acked_at}
+use Rattle.connection_laws.proofs.PointNumbers.{parts_tell}
 use Rattle.north_wrap.specs.NorthState.{NorthState}
 use Rattle.tcp_endpoint.specs.Tcb.{Tcb}
 use Rattle.wrapped_conn.specs.ConnState.{ConnState}
 use Rattle.wrapped_conn.specs.Sound as sound
-use Rattle.wrapped_conn.specs.Standing.{StandsLive, StandsReset}
+use Rattle.wrapped_conn.specs.Refinement.{StandsLive, StandsReset}
 use Rattle.wrapped_conn.proofs.Lending.{tells}
 use Rattle.wrapped_conn.proofs.Receiving.{parts_live}
 use Rattle.server_node.specs.declared.identity.Identity.{Identity}
 use Rattle.server_node.specs.declared.slot.Slot.{Slot}
 use Rattle.server_node.specs.declared.slot.Slot.TheVariants as slot
 use Rattle.server_node.specs.Conn.{IsOursAt, IsSound}
-use Rattle.server_node.specs.Lending.{conn_in}
+use Rattle.server_node.specs.Loan.{conn_in}
 use Rattle.server_node.specs.Slots.{IsSoundSlot}
 use Rattle.server_node.specs.LentConn.{BeginsBehind, TcpTells, TellsItsPoint}
 use Rattle.endpoint_laws.proofs.SegmentsLaw.{begun_open}

@@ -1,7 +1,7 @@
 pub mod Collecting
 pub mod AllSlots
 pub mod OneKey
-pub mod Coming
+pub mod SegmentArrival
 pub mod Heard
 pub mod Opened
 pub mod Opens
@@ -12,15 +12,15 @@ pub mod Served
 pub mod Sound
 pub mod Staged
 pub mod Restored
-pub mod Answering
+pub mod FetchAnswer
 pub mod Resuming
 pub mod Ranged
 pub mod Questions
 pub mod Revived
-pub mod Held
+pub mod FetchReply
 pub mod Lent
 pub mod Heeded
-pub mod Written
+pub mod NumberRanges
 pub mod Turned
 pub mod Came
 pub mod Acting

@@ -9,7 +9,7 @@ use Rattle.server_trait.specs.Service.{Machine}
 use Rattle.ft_model.specs.Network.{Packet}
 use Rattle.ft_model.specs.Node.{Node, Place, Input, key_of}
 use Rattle.ft_model.specs.Node.Place.{Opens, Lives, Ended}
-use Rattle.ft_model.specs.Serving.{PlaceTurn, AllGo, Stays, Meets, concerns}
+use Rattle.ft_model.specs.ServingTurn.{PlaceTurn, AllGo, Stays, Meets, concerns}
 use Rattle.ft_model.specs.Wire.{Wire}
 use Rattle.server_node.specs.declared.slot.Slot.{Slot}
 use Rattle.server_node.specs.declared.slot.Slot.TheVariants as slot

@@ -16,7 +16,7 @@ use Rattle.ft_model.specs.Node.{Node, Place, key_of}
 use Rattle.ft_model.specs.Node.Place.{Opens, Lives, Ended}
 use Rattle.ft_model.specs.Node.Input.{Message_comes}
 use Rattle.ft_model.specs.Refusal.{full_rst}
-use Rattle.ft_model.specs.Serving.{Hears, LivesOn, names}
+use Rattle.ft_model.specs.ServingTurn.{Hears, LivesOn, names}
 use Rattle.ft_model.specs.Wire.{Wire}
 use Rattle.wrapped_conn.specs.ConnState.{ConnState}
 use Rattle.server_node.specs.declared.slot.Slot.{Slot}
@@ -24,8 +24,8 @@ use Rattle.server_node.specs.declared.slot.Slot.TheVariants as slot
 use Rattle.server_node.specs.declared.slot.Opening.{Opening}
 use Rattle.server_node.specs.Alone.{SlotsAlone}
 use Rattle.server_node.specs.Conn.{ConnGoes}
-use Rattle.server_node.specs.Hearing.{opening_in, ended}
-use Rattle.server_node.specs.Refusing.{AreSent}
+use Rattle.server_node.specs.LogMessages.{opening_in, ended}
+use Rattle.server_node.specs.RefusalPackets.{AreSent}
 use Rattle.server_node.specs.Slots.{numbers_of, SlotStands, SlotGoes, SlotLeaves, AllStand, AllSlotsGo}
 use Rattle.server_node.proofs.OneKey.{place_meets, place_key, one_goes, none_goes, none_found, all_units}
 use Rattle.server_node.proofs.Heard.{only_its_key, its_key}

@@ -12,12 +12,12 @@ use Rattle.ft_model.specs.Network.{Packet}
 use Rattle.ft_model.specs.Node.{Node, Place, Input}
 use Rattle.ft_model.specs.Node.Place.{Opens, Lives, Ended}
 use Rattle.ft_model.specs.Node.Input.{Message_comes}
-use Rattle.ft_model.specs.Serving.{opens_at}
+use Rattle.ft_model.specs.ServingTurn.{opens_at}
 use Rattle.ft_model.proofs.Lists.{all_append}
 use Rattle.ft_model.specs.Wire.{Wire, wire_of, HasWire}
 use Rattle.server_node.specs.declared.slot.Slot.{Slot}
 use Rattle.server_node.specs.declared.slot.Slot.TheVariants as slot
-use Rattle.server_node.specs.Opening.{ArePut, slot_opens, all_opens, is_pending_slot, pending_slots}
+use Rattle.server_node.specs.Openings.{ArePut, slot_opens, all_opens, is_pending_slot, pending_slots}
 use Rattle.server_node.specs.Slots.{SlotStands, AllStand}
 use Rattle.server_node.proofs.Collecting.{take_more}
 

@@ -18,15 +18,15 @@ use Rattle.ft_model.specs.Lawful.{Revives, restored, all_restored, restored_coun
 use Rattle.ft_model.specs.Wire.{Wire}
 use Rattle.reincarnate.specs.declared.entries.Restored.{Restored}
 use Rattle.reincarnate.specs.Progress.{EntryState}
-use Rattle.reincarnate.specs.Standing.{StandsWhole, RestoredIs, FirstIs}
+use Rattle.reincarnate.specs.Refinement.{StandsWhole, RestoredIs, FirstIs}
 use Rattle.server_node.specs.declared.identity.Identity.{Identity}
 use Rattle.server_node.specs.declared.serving.Serving.{Serving}
 use Rattle.server_node.specs.declared.slot.Slot.{Slot}
 use Rattle.server_node.specs.declared.slot.Slot.TheVariants as slot
-use Rattle.server_node.specs.Restarting.{AreDistinct}
-use Rattle.server_node.specs.Reviving.{SlotRevives, AreRestored}
-use Rattle.server_node.specs.Numbered.{IsNumbered, AreNumbered}
-use Rattle.server_node.specs.Lending.{conn_in}
+use Rattle.server_node.specs.FetchStage.{AreDistinct}
+use Rattle.server_node.specs.RestartEnd.{SlotRevives, AreRestored}
+use Rattle.server_node.specs.RestartNumbers.{IsNumbered, AreNumbered}
+use Rattle.server_node.specs.Loan.{conn_in}
 use Rattle.server_node.specs.Slots.{IsSoundSlot, AllSound}
 use Rattle.server_node.proofs.Admitted.{one_stands_more, next_number}
 use Rattle.server_node.proofs.AllSlots.{go_on}

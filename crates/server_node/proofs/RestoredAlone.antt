@@ -18,8 +18,8 @@ use Rattle.server_node.specs.declared.slot.Slot.{Slot}
 use Rattle.server_node.specs.declared.slot.Slot.TheVariants as slot
 use Rattle.server_node.specs.Alone.{slot_of, StandsFor}
 use Rattle.server_node.specs.Restarts.{IsRestorable, KeyRevives, IsForFetched, RestoredAlone}
-use Rattle.server_node.specs.Reviving.{SlotRevives}
-use Rattle.server_node.specs.Whose.{of_key, IsFor, IsOnlyFor}
+use Rattle.server_node.specs.RestartEnd.{SlotRevives}
+use Rattle.server_node.specs.Ownership.{of_key, IsFor, IsOnlyFor}
 use Rattle.server_node.proofs.Found.{other_last}
 use Rattle.server_node.proofs.Keyed.{none_of, quiet_for, told_is, told_its}
 use Rattle.server_node.proofs.Restored.{behind_others, found_last}

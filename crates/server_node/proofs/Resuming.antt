@@ -9,21 +9,21 @@ use Rattle.ft_model.specs.Node.Stage.{Asking, Fetching, Serving as Serves}
 use Rattle.ft_model.specs.Node.Input.{Packet_comes, Message_comes, Tick_comes}
 use Rattle.ft_model.specs.Lawful.{Rests, Continues, Fetches, StageTurn, NodeTurn, AreSound, IsSoundInput, asked, held, fence, is_fenced, summary_count, fetched_then, restored_count}
 use Rattle.ft_model.specs.Wire.{Wire}
-use Rattle.reincarnate.specs.Asking.{FetchingState}
-use Rattle.reincarnate.specs.Standing.{AnswerLeads}
-use Rattle.reincarnate.specs.Standing as restart
+use Rattle.reincarnate.specs.Questions.{FetchingState}
+use Rattle.reincarnate.specs.Refinement.{AnswerLeads}
+use Rattle.reincarnate.specs.Refinement as restart
 use Rattle.server_node.specs.declared.identity.Identity.{Identity}
 use Rattle.server_node.specs.declared.serving.Serving.{Serving}
 use Rattle.server_node.specs.declared.stage.Stage.{Stage}
 use Rattle.server_node.specs.declared.stage.Stage.TheVariants as stage
 use Rattle.server_node.specs.Identity.{node_of}
-use Rattle.server_node.specs.Numbered.{fetched_by}
-use Rattle.server_node.specs.Opening.{ArePut}
-use Rattle.server_node.specs.Restarting.{AreDistinct, FetchingStands, IsOwn}
+use Rattle.server_node.specs.RestartNumbers.{fetched_by}
+use Rattle.server_node.specs.Openings.{ArePut}
+use Rattle.server_node.specs.FetchStage.{AreDistinct, FetchingStands, IsOwn}
 use Rattle.server_node.specs.Restarts.{RestoredAlone, StillAsks, RestartGoes, AnswerGoes}
-use Rattle.server_node.specs.Reviving.{AreRestored, StageGoes}
+use Rattle.server_node.specs.RestartEnd.{AreRestored, StageGoes}
 use Rattle.server_node.specs.Stages.{StageStands, NodeGoes}
-use Rattle.server_node.proofs.Answering.{IsSame, then_distinct}
+use Rattle.server_node.proofs.FetchAnswer.{IsSame, then_distinct}
 use Rattle.server_node.proofs.Staged.{stand_again, fetches_on}
 
 module _ {S : Type 0} (service : Machine S) (who : Identity) where

@@ -8,7 +8,7 @@ use Rattle.ft_model.specs.Restart.{point_of}
 use Rattle.ft_model.specs.Node.{Node}
 use Rattle.ft_model.specs.Node.Place.{Lives}
 use Rattle.ft_model.specs.Wire.{Wire}
-use Rattle.tcp_endpoint.specs.Sending.{Sending}
+use Rattle.tcp_endpoint.specs.SendHalf.{Sending}
 use Rattle.tcp_endpoint.specs.Tcb.{Tcb}
 use Rattle.endpoint_laws.specs.Turn.{Call, called}
 use Rattle.endpoint_laws.specs.Turn.Call.{Reads, Writes, Closes}
@@ -17,13 +17,13 @@ use Rattle.endpoint_laws.proofs.TurnEnd.{flush_keeps}
 use Rattle.north_wrap.specs.NorthState.{lengths_of}
 use Rattle.wrapped_conn.specs.Calls.{calls_of}
 use Rattle.wrapped_conn.specs.ConnState.{ConnState}
-use Rattle.wrapped_conn.specs.Turning.{Starts, tcp_used, new_reads}
-use Rattle.reincarnate.specs.Joining.{SplicedState, IsSpliced, conn_of}
-use Rattle.wrapped_conn.specs.Standing.{StandsBefore}
+use Rattle.wrapped_conn.specs.Turn.{Starts, tcp_used, new_reads}
+use Rattle.reincarnate.specs.Splice.{SplicedState, IsSpliced, conn_of}
+use Rattle.wrapped_conn.specs.Refinement.{StandsBefore}
 use Rattle.server_node.specs.declared.slot.Slot.TheVariants as slot
 use Rattle.server_node.specs.Conn.{Begins, ConnGoes}
-use Rattle.server_node.specs.Numbered.{GoesOnUnder}
-use Rattle.server_node.specs.Reviving.{SlotRevives}
+use Rattle.server_node.specs.RestartNumbers.{GoesOnUnder}
+use Rattle.server_node.specs.RestartEnd.{SlotRevives}
 
 pub live_again : {S : Type 0} (service : Machine S) (node : Node) (e : Entry) (c now : ConnState S) (old new : List Wire) → c.local ≡ node.server → c.boot ≡ node.boot → e.mss ≤ 1460
     → StandsBefore service c (point_of service e)

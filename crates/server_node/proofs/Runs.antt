@@ -11,7 +11,7 @@ use Rattle.server_node.specs.declared.slot.Slot.{Slot}
 use Rattle.server_node.specs.declared.stage.Stage.{Stage}
 use Rattle.server_node.specs.declared.stage.Stage.TheVariants as stage
 use Rattle.server_node.specs.Alone.{slot_of, slot_in, StandsFor}
-use Rattle.server_node.specs.Lending.{place_in}
+use Rattle.server_node.specs.Loan.{place_in}
 use Rattle.server_node.specs.Runs.{Turned, AreTurns, AreNearFor, RunsAlone}
 use Rattle.server_node.specs.Slots.{AllStand}
 use Rattle.server_node.specs.Stages.{StageStands}

@@ -17,17 +17,17 @@ use Rattle.ft_model.specs.Node.Place.{Opens}
 use Rattle.ft_model.specs.Node.Input.{Packet_comes, Tick_comes, Message_comes}
 use Rattle.ft_model.specs.Opening.{is_syn, initial_number, numbers_for}
 use Rattle.ft_model.specs.Refusal.{as_listen}
-use Rattle.ft_model.specs.Serving.{opens_at, newcomers, refusals, is_strange}
+use Rattle.ft_model.specs.ServingTurn.{opens_at, newcomers, refusals, is_strange}
 use Rattle.ft_model.specs.Wire.{Wire}
 use Rattle.server_node.specs.declared.serving.Serving.{Serving}
 use Rattle.server_node.specs.declared.slot.Slot.{Slot}
 use Rattle.server_node.specs.declared.slot.Slot.TheVariants as slot
-use Rattle.server_node.specs.Opening.{ArePut, Admits, all_opens}
-use Rattle.server_node.specs.Refusing.{AreSent}
+use Rattle.server_node.specs.Openings.{ArePut, Admits, all_opens}
+use Rattle.server_node.specs.RefusalPackets.{AreSent}
 use Rattle.server_node.specs.Slots.{numbers_of, AllSlotsGo}
-use Rattle.server_node.specs.Serving.{ServingStands, ServingGoes}
+use Rattle.server_node.specs.ServingStage.{ServingStands, ServingGoes}
 use Rattle.server_node.proofs.Admitted.{known, unknown}
-use Rattle.server_node.proofs.Coming.{only_its_client}
+use Rattle.server_node.proofs.SegmentArrival.{only_its_client}
 use Rattle.server_node.proofs.OneKey.{all_stay, none_concerned, none_found}
 use Rattle.server_node.proofs.Opens.{opens_are, no_opens, put_on, put_none}
 

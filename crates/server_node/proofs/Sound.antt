@@ -7,7 +7,7 @@ use Rattle.ft_io.specs.Key.{key_eq}
 use Rattle.server_node.specs.declared.identity.Identity.{Identity}
 use Rattle.server_node.specs.declared.slot.Slot.{Slot}
 use Rattle.server_node.specs.declared.slot.Slot.TheVariants as slot
-use Rattle.server_node.specs.Hearing.{ended}
+use Rattle.server_node.specs.LogMessages.{ended}
 use Rattle.server_node.specs.Slots.{IsSoundSlot, AllSound}
 use Rattle.ft_io.proofs.Choices.{same_some}
 use Rattle.ft_model.proofs.Lists.{same_key}

@@ -11,9 +11,9 @@ use Rattle.ft_model.specs.Node.{Stage as law_stage}
 use Rattle.ft_model.specs.Node.Place.{Opens, Lives, Ended}
 use Rattle.ft_model.specs.Node.Input.{Message_comes, Noise_comes}
 use Rattle.ft_model.specs.Lawful.{fence, newer_than, summary_count, is_fenced, Fetches, Rests, NodeTurn, StageTurn}
-use Rattle.ft_model.specs.Serving.{newcomers, names}
+use Rattle.ft_model.specs.ServingTurn.{newcomers, names}
 use Rattle.ft_model.specs.Wire.{Wire}
-use Rattle.reincarnate.specs.Asking.{FetchingState}
+use Rattle.reincarnate.specs.Questions.{FetchingState}
 use Rattle.server_node.specs.declared.identity.Identity.{Identity}
 use Rattle.server_node.specs.declared.serving.Serving.{Serving}
 use Rattle.server_node.specs.declared.slot.Slot.{Slot}
@@ -21,11 +21,11 @@ use Rattle.server_node.specs.declared.slot.Slot.TheVariants as slot
 use Rattle.server_node.specs.declared.stage.Stage.{Stage}
 use Rattle.server_node.specs.declared.stage.Stage.TheVariants as stage
 use Rattle.server_node.specs.Identity.{node_of}
-use Rattle.server_node.specs.Opening.{ArePut, all_opens}
-use Rattle.server_node.specs.Restarting.{FetchingStands}
-use Rattle.server_node.specs.Serving.{ServingStands, ServingGoes}
+use Rattle.server_node.specs.Openings.{ArePut, all_opens}
+use Rattle.server_node.specs.FetchStage.{FetchingStands}
+use Rattle.server_node.specs.ServingStage.{ServingStands, ServingGoes}
 use Rattle.server_node.specs.Slots.{SlotStands, AllStand}
-use Rattle.server_node.specs.Numbered.{AreNumbered, fetched_by}
+use Rattle.server_node.specs.RestartNumbers.{AreNumbered, fetched_by}
 use Rattle.server_node.specs.Stages.{StageStands, NodeGoes}
 use Rattle.server_node.proofs.OneKey.{none_concerned}
 use Rattle.server_node.proofs.Opens.{put_none}

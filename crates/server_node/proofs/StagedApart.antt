@@ -9,9 +9,9 @@ use Rattle.ft_model.specs.Lawful.{count_told, summary_count, fetched_then}
 use Rattle.ft_model.specs.Node.{Node}
 use Rattle.ft_model.specs.Restart.{wanted, fetched_after}
 use Rattle.ft_model.specs.Node.Input.{Packet_comes, Message_comes, Noise_comes, Tick_comes}
-use Rattle.ft_model.specs.Serving.{concerns, names}
+use Rattle.ft_model.specs.ServingTurn.{concerns, names}
 use Rattle.ft_model.specs.Wire.{Wire}
-use Rattle.reincarnate.specs.Asking.{FetchingState}
+use Rattle.reincarnate.specs.Questions.{FetchingState}
 use Rattle.server_node.specs.declared.identity.Identity.{Identity}
 use Rattle.server_node.specs.declared.serving.Serving.{Serving}
 use Rattle.server_node.specs.declared.stage.Stage.{Stage}
@@ -20,7 +20,7 @@ use Rattle.server_node.specs.Alone.{LeavesOthers, HoldsOthers, Others, Alone, Se
 use Rattle.server_node.specs.Identity.{node_of}
 use Rattle.server_node.specs.Restarts.{RestartGoes, MessageRestarts}
 use Rattle.server_node.specs.Stages.{IsSoundStage}
-use Rattle.server_node.specs.Whose.{IsFor, IsOnlyFor}
+use Rattle.server_node.specs.Ownership.{IsFor, IsOnlyFor}
 use Rattle.server_node.proofs.Apart.{rests_key}
 use Rattle.server_node.proofs.Knocking.{counted_by}
 

@@ -16,7 +16,7 @@ use Rattle.ft_model.proofs.Lists.{same_key, none_is_some, all_weaker, all_append
 use Rattle.server_node.specs.declared.slot.Slot.{Slot}
 use Rattle.server_node.specs.Alone.{StandsFor, IsForSubject, KeyMeets, SlotsAlone}
 use Rattle.server_node.specs.Slots.{SlotStands, SlotGoes}
-use Rattle.server_node.specs.Whose.{is_of, of_key, IsFor, IsOnlyFor}
+use Rattle.server_node.specs.Ownership.{is_of, of_key, IsFor, IsOnlyFor}
 use Rattle.server_node.proofs.Keyed.{none_of, goes_for}
 
 -- the packets of a key among these and those

@@ -15,7 +15,7 @@ use Rattle.seq_arith.proofs.Spelling.{spelling_is_read}
 use Rattle.segment_codec.proofs.Accepting.{is_read}
 use Rattle.server_trait.specs.Service.{Machine, AreBytes}
 use Rattle.ft_model.specs.Connection.{LiveTurn, ResetTurn}
-use Rattle.ft_model.specs.Ending.{reset_after}
+use Rattle.ft_model.specs.ResetAndEnd.{reset_after}
 use Rattle.ft_model.specs.Network.{Packet}
 use Rattle.ft_model.specs.Network.Packet.{To_client, To_logger}
 use Rattle.ft_model.specs.News.{News}
@@ -29,18 +29,18 @@ use Rattle.ft_model.proofs.Formed.{bytes_drop}
 use Rattle.ft_model.proofs.FormedLog.{lengths_drop}
 use Rattle.north_wrap.specs.declared.read_record.ReadRecord.{ReadRecord}
 use Rattle.north_wrap.specs.NorthState.{lengths_of}
-use Rattle.north_wrap.specs.Standing.{NorthStands}
+use Rattle.north_wrap.specs.Refinement.{NorthStands}
 use Rattle.wrapped_conn.specs.ConnState.{ConnState}
 use Rattle.wrapped_conn.specs.Sound as sound
-use Rattle.wrapped_conn.specs.Standing as conn
-use Rattle.wrapped_conn.specs.Standing.{StandsLive, StandsReset, Leads}
-use Rattle.wrapped_conn.specs.Telling.{AreTellable}
+use Rattle.wrapped_conn.specs.Refinement as conn
+use Rattle.wrapped_conn.specs.Refinement.{StandsLive, StandsReset, Leads}
+use Rattle.wrapped_conn.specs.LoggerMessages.{AreTellable}
 use Rattle.wrapped_conn.proofs.Lending.{tells}
 use Rattle.wrapped_conn.proofs.Sendable.{FitsKey}
 use Rattle.wrapped_conn.proofs.Small.{taken_small}
 use Rattle.server_node.specs.Conn.{IsOursAt, Acts, ConnGoes}
-use Rattle.server_node.specs.Sending.{message_to_logger, wires_of}
-use Rattle.server_node.proofs.Written.{IsInRange, IsWritten, IsBoot, IsShort, AreLow, live_written, reset_written}
+use Rattle.server_node.specs.SentBytes.{message_to_logger, wires_of}
+use Rattle.server_node.proofs.NumberRanges.{IsInRange, IsWritten, IsBoot, IsShort, AreLow, live_written, reset_written}
 use Rattle.seq_arith.proofs.Units.{one_at_most}
 use Rattle.ft_model.proofs.LiveTurns.{counts_within}
 

@@ -26,19 +26,19 @@ use Rattle.logger_wire.specs.declared.Body.{Body as Said}
 use Rattle.logger_wire.specs.declared.Body.TheVariants as said
 use Rattle.logger_wire.specs.Value.{is_set}
 use Rattle.north_wrap.specs.declared.read_record.ReadRecord.{ReadRecord}
-use Rattle.north_wrap.specs.Standing.{messages_of}
-use Rattle.south_wrap.specs.Patching.{copied, is_some_copied}
-use Rattle.wrapped_conn.specs.Arriving.{arrived, before_segment}
-use Rattle.wrapped_conn.specs.Beginning.{first_conn}
+use Rattle.north_wrap.specs.Refinement.{messages_of}
+use Rattle.south_wrap.specs.Translation.{copied, is_some_copied}
+use Rattle.wrapped_conn.specs.Arrival.{arrived, before_segment}
+use Rattle.wrapped_conn.specs.NewConnection.{first_conn}
 use Rattle.wrapped_conn.specs.ConnState.{ConnState}
 use Rattle.wrapped_conn.specs.Numbers.{una_units, resets}
-use Rattle.wrapped_conn.specs.Telling as told
-use Rattle.wrapped_conn.specs.Turning.{Starts, Receives, IsTold, Ticks as TicksOn, new_reads, with_logged, counted, ticked}
+use Rattle.wrapped_conn.specs.LoggerMessages as told
+use Rattle.wrapped_conn.specs.Turn.{Starts, Receives, IsTold, Ticks as TicksOn, new_reads, with_logged, counted, ticked}
 use Rattle.wrapped_conn.proofs.Sendable.{FitsKey}
 use Rattle.server_node.specs.declared.identity.Identity.{Identity}
 use Rattle.server_node.specs.Conn.{IsSound, Belongs}
-use Rattle.server_node.specs.Sending.{wires_of, segment_to, message_to_logger}
-use Rattle.server_node.specs.Whose.{tells_of, IsFor, IsOnlyFor}
+use Rattle.server_node.specs.SentBytes.{wires_of, segment_to, message_to_logger}
+use Rattle.server_node.specs.Ownership.{tells_of, IsFor, IsOnlyFor}
 use Rattle.server_node.proofs.Acting.{IsSame, either, arrived_same, starts_same}
 
 -- what is read of bytes, if anything is, is what their kind has there

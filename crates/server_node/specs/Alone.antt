@@ -13,16 +13,16 @@ use Rattle.ft_model.specs.Network.{Packet, source_of}
 use Rattle.ft_model.specs.Node.{Node, Place, Input, is_for}
 use Rattle.ft_model.specs.Node.Input.{Packet_comes, Message_comes, Noise_comes, Tick_comes}
 use Rattle.ft_model.specs.Opening.{initial_number}
-use Rattle.ft_model.specs.Serving.{PlaceTurn, ServingTurn, concerns}
+use Rattle.ft_model.specs.ServingTurn.{PlaceTurn, ServingTurn, concerns}
 use Rattle.ft_model.specs.Wire.{Wire, wire_of, HasWire}
-use Rattle.reincarnate.specs.Asking.{FetchingState}
+use Rattle.reincarnate.specs.Questions.{FetchingState}
 use Rattle.server_node.specs.declared.serving.Serving.{Serving}
 use Rattle.server_node.specs.declared.slot.Slot.{Slot}
 use Rattle.server_node.specs.declared.stage.Stage.{Stage}
 use Rattle.server_node.specs.declared.stage.Stage.TheVariants as stage
-use Rattle.server_node.specs.Opening.{pending_slots}
+use Rattle.server_node.specs.Openings.{pending_slots}
 use Rattle.server_node.specs.Slots.{SlotStands}
-use Rattle.server_node.specs.Whose.{IsFor, of_key}
+use Rattle.server_node.specs.Ownership.{IsFor, of_key}
 
 -- what a node that serves has for a key
 abbrev pub slot_of : {S : Type 0} → Key → Serving S → Option (Slot S)

@@ -14,10 +14,10 @@ use Rattle.ft_model.specs.Wire.{Wire, wire_of, HasWire}
 use Rattle.north_wrap.specs.declared.read_record.ReadRecord.{ReadRecord}
 use Rattle.wrapped_conn.specs.ConnState.{ConnState}
 use Rattle.wrapped_conn.specs.Sound.{IsSound as IsSoundConn}
-use Rattle.wrapped_conn.specs.Standing.{StandsBefore, Stands as StandsConn}
-use Rattle.wrapped_conn.specs.Telling.{IsTellable, AreTellable}
+use Rattle.wrapped_conn.specs.Refinement.{StandsBefore, Stands as StandsConn}
+use Rattle.wrapped_conn.specs.LoggerMessages.{IsTellable, AreTellable}
 use Rattle.server_node.specs.declared.identity.Identity.{Identity}
-use Rattle.server_node.specs.Sending.{wires_of}
+use Rattle.server_node.specs.SentBytes.{wires_of}
 
 -- a connection of the incarnation with this address and boot number, whose segments fit a packet
 pub record IsOurs {S : Type 0} (server : Addr) (boot : ℕ) (c : ConnState S) (p : Point) : Type 0 where

@@ -3,12 +3,12 @@ use Rattle.std.specs.Prelude.{◌≡◌, ◌≤◌, ℕ, true, false, ◌+◌, �
 use Rattle.seq_arith.specs.Number.{number_at, distance}
 use Rattle.server_trait.specs.Service.{Machine}
 use Rattle.ft_model.specs.Point.{Point, made, is_over}
-use Rattle.south_wrap.specs.Standing.{south_at}
+use Rattle.south_wrap.specs.SouthPoint.{south_at}
 use Rattle.tcp_endpoint.specs.States.{is_closed}
 use Rattle.tcp_endpoint.specs.Tcb.{Tcb}
-use Rattle.tcp_endpoint.specs.Turning.{sent_number, acked_number}
+use Rattle.tcp_endpoint.specs.UserCalls.{sent_number, acked_number}
 use Rattle.wrapped_conn.specs.ConnState.{ConnState}
-use Rattle.wrapped_conn.specs.Standing.{Tells}
+use Rattle.wrapped_conn.specs.Refinement.{Tells}
 
 -- the TCP inside began its output after the units that the client had acknowledged then, under a number of its own, which is delta below
 -- the client's number of the same unit

@@ -8,7 +8,7 @@ use Rattle.server_trait.specs.Service.{Machine}
 use Rattle.ft_model.specs.Network.{Packet}
 use Rattle.ft_model.specs.Node.{Node, Place, Input}
 use Rattle.ft_model.specs.Node.Place.{Opens, Lives, Ended}
-use Rattle.ft_model.specs.Serving.{PlaceTurn, AllGo}
+use Rattle.ft_model.specs.ServingTurn.{PlaceTurn, AllGo}
 use Rattle.ft_model.specs.Wire.{Wire, wire_of, HasWire}
 use Rattle.server_node.specs.declared.slot.Slot.{Slot}
 use Rattle.server_node.specs.declared.slot.Slot.TheVariants as slot

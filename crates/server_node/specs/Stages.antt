@@ -16,11 +16,11 @@ use Rattle.server_node.specs.declared.stage.Stage.TheVariants as stage
 use Rattle.server_node.specs.declared.input.TurnEnd.{TurnEnd}
 use Rattle.server_node.specs.declared.input.TurnEnd.TheVariants as end
 use Rattle.server_node.specs.Identity.{node_of}
-use Rattle.server_node.specs.Restarting.{FetchingStands, IsOwn, IsOwn-prop}
-use Rattle.server_node.specs.Numbered.{AllNumbered, fetched_by}
-use Rattle.server_node.specs.Opening.{IsCounted}
+use Rattle.server_node.specs.FetchStage.{FetchingStands, IsOwn, IsOwn-prop}
+use Rattle.server_node.specs.RestartNumbers.{AllNumbered, fetched_by}
+use Rattle.server_node.specs.Openings.{IsCounted}
 use Rattle.server_node.specs.Slots.{AllSound, IsSoundSlot, IsSoundSlot-prop}
-use Rattle.server_node.specs.Serving.{ServingStands}
+use Rattle.server_node.specs.ServingStage.{ServingStands}
 
 abbrev pub StageStands : {S : Type 0} → Machine S → law.Node → Stage S → Type 0
 StageStands service node stage.Asking = node.stage ≡ law_stage.Asking

@@ -12,11 +12,11 @@ ghost use Rattle.ft_model.specs.Node.{Node, Place, Stage};
 ghost use Rattle.ft_model.specs.Node.Input.{Message_comes};
 ghost use Rattle.ft_model.specs.Wire.{Wire};
 ghost use Rattle.server_node.specs.Alone.{SlotsAlone};
-ghost use Rattle.server_node.specs.Hearing.{logged_in, opening_in, ended as ended_lem};
+ghost use Rattle.server_node.specs.LogMessages.{logged_in, opening_in, ended as ended_lem};
 ghost use Rattle.server_node.specs.declared.identity.Identity.{Identity as Incarnation};
 ghost use Rattle.server_node.specs.Identity.{node_of};
 ghost use Rattle.server_node.specs.Slots.{numbers_of, SlotStands, SlotGoes, IsSoundSlot, AllStand, AllSlotsGo, AllSound};
-ghost use Rattle.server_node.specs.Whose.{IsOnlyFor};
+ghost use Rattle.server_node.specs.Ownership.{IsOnlyFor};
 
 use crate::identity::Identity;
 use crate::live::{begin_live, tell_live};

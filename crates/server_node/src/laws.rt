@@ -12,7 +12,7 @@ ghost use Rattle.server_node.specs.declared.serving.Serving.{Serving};
 ghost use Rattle.server_node.specs.declared.stage.Stage.{Stage};
 ghost use Rattle.server_node.specs.Alone.{slot_of, slot_in, StandsFor};
 ghost use Rattle.server_node.specs.Conn.{IsOursAt};
-ghost use Rattle.server_node.specs.Lending.{place_in};
+ghost use Rattle.server_node.specs.Loan.{place_in};
 ghost use Rattle.server_node.specs.LentConn.{TellsItsPoint};
 ghost use Rattle.server_node.specs.Runs.{Turned, AreTurns, AreNearFor, RunsAlone};
 ghost use Rattle.server_node.specs.Stages.{StageStands};

@@ -12,9 +12,9 @@ ghost use Rattle.ft_model.specs.Offset.{IsNear};
 ghost use Rattle.ft_model.specs.Opening.{point_opened};
 ghost use Rattle.ft_model.specs.Node.{Stage};
 ghost use Rattle.server_node.specs.Conn.{Begins, IsOursAt, Belongs, ConnGoes};
-ghost use Rattle.server_node.specs.Hearing.{logged_in};
+ghost use Rattle.server_node.specs.LogMessages.{logged_in};
 ghost use Rattle.server_node.specs.Slots.{numbers_of};
-ghost use Rattle.server_node.specs.Whose.{IsOnlyFor};
+ghost use Rattle.server_node.specs.Ownership.{IsOnlyFor};
 
 use crate::identity::Identity;
 use crate::outgoing::Outgoing;

@@ -40,7 +40,7 @@ impl<S: Service> Node<S> {
     ghost use Rattle.server_node.specs.Apart.{TurnsApart};
     ghost use Rattle.server_node.specs.Identity.{node_of};
     ghost use Rattle.server_node.specs.Inputs.{input_of};
-    ghost use Rattle.server_node.specs.Lending.{IsConnAt, place_in};
+    ghost use Rattle.server_node.specs.Loan.{IsConnAt, place_in};
     ghost use Rattle.server_node.specs.Restarts.{Restarts};
     ghost use Rattle.server_node.specs.Stages.{StageStands, NodeGoes, IsFence};
 

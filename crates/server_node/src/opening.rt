@@ -14,7 +14,7 @@ ghost use Rattle.ft_model.specs.Node.{Place, Stage, is_for};
 ghost use Rattle.ft_model.specs.Node.Input.{Packet_comes, Tick_comes};
 ghost use Rattle.ft_model.specs.Opening.{is_syn as is_syn_lem, initial_number};
 ghost use Rattle.server_node.specs.Identity.{node_of};
-ghost use Rattle.server_node.specs.Opening.{ArePut, slot_opens, all_opens, is_pending_slot, pending_slots, Admits, Knocks, IsCounted};
+ghost use Rattle.server_node.specs.Openings.{ArePut, slot_opens, all_opens, is_pending_slot, pending_slots, Admits, Knocks, IsCounted};
 ghost use Rattle.server_node.specs.Slots.{numbers_of, AllStand, AllSound, IsSoundSlot};
 
 use crate::hearing::opening_at;

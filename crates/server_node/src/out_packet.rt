@@ -1,7 +1,7 @@
 //! A packet that the node sends.
 
 ghost use Rattle.std.specs.Prelude.{◌≡◌, OnOk};
-ghost use Rattle.server_node.specs.Sending.{sent_to, party_of};
+ghost use Rattle.server_node.specs.SentBytes.{sent_to, party_of};
 
 use ft_io::{Key, NoMemory};
 use std::alloc::Global;
@@ -24,7 +24,7 @@ pub struct OutPacket {
 
 impl Model for OutPacket {
     ghost use Rattle.ft_model.specs.Wire.{Wire};
-    ghost use Rattle.server_node.specs.Sending.{sent_to};
+    ghost use Rattle.server_node.specs.SentBytes.{sent_to};
 
     ghost Value = { Wire };
 

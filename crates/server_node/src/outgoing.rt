@@ -1,7 +1,7 @@
 //! What the node sends in a turn, in rooms that are kept from turn to turn.
 
 ghost use Rattle.std.specs.Prelude.{◌≡◌, ◌+◌, ◌≤◌, ◌++◌, ◌∷◌, [], length, take, OnOk};
-ghost use Rattle.server_node.specs.Sending.{sent_to};
+ghost use Rattle.server_node.specs.SentBytes.{sent_to};
 
 use crate::out_packet::{OutPacket, To};
 use ft_io::NoMemory;
@@ -18,7 +18,7 @@ pub(crate) struct Outgoing {
 
 impl Model for Outgoing {
     ghost use Rattle.std.specs.Prelude.{◌≤◌, length, take};
-    ghost use Rattle.server_node.specs.Outgoing.{Packets};
+    ghost use Rattle.server_node.specs.TurnPackets.{Packets};
 
     ghost Value = { Packets };
 

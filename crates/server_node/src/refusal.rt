@@ -7,7 +7,7 @@ ghost use Rattle.seq_arith.specs.PacketGrammar.{reading};
 ghost use Rattle.seq_arith.specs.Value.{said};
 ghost use Rattle.segment_codec.specs.Value.{segment_of};
 ghost use Rattle.ft_model.specs.Refusal.{as_listen, as_closed, full_rst};
-ghost use Rattle.server_node.specs.Refusing.{AreSent};
+ghost use Rattle.server_node.specs.RefusalPackets.{AreSent};
 ghost use Rattle.server_node.specs.Slots.{numbers_of};
 
 use crate::identity::Identity;

@@ -6,7 +6,7 @@ ghost use Rattle.ft_model.specs.Network.Packet.{To_logger};
 ghost use Rattle.logger_wire.specs.Value.{body_of, message_of, IsSendable};
 ghost use Rattle.server_trait.specs.Service.{AreBytes};
 ghost use Rattle.seq_arith.specs.MessageGrammar.{behind_of};
-ghost use Rattle.server_node.specs.Sending.{ArePut, sent_to, wires_of, segment_to, message_to_logger};
+ghost use Rattle.server_node.specs.SentBytes.{ArePut, sent_to, wires_of, segment_to, message_to_logger};
 
 use crate::out_packet::To;
 use crate::outgoing::Outgoing;

@@ -15,9 +15,9 @@ ghost use Rattle.ft_model.specs.Node.{Place, Stage, is_for};
 ghost use Rattle.ft_model.specs.Node.Input.{Packet_comes, Message_comes, Tick_comes};
 ghost use Rattle.server_node.specs.Alone.{ServesAlone};
 ghost use Rattle.server_node.specs.Identity.{node_of};
-ghost use Rattle.server_node.specs.Opening.{IsCounted};
+ghost use Rattle.server_node.specs.Openings.{IsCounted};
 ghost use Rattle.server_node.specs.Slots.{AllSound};
-ghost use Rattle.server_node.specs.Serving.{ServingStands, ServingGoes};
+ghost use Rattle.server_node.specs.ServingStage.{ServingStands, ServingGoes};
 
 use crate::hearing::hear;
 use crate::identity::Identity;

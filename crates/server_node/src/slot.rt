@@ -9,9 +9,9 @@ ghost use Rattle.ft_model.specs.Lawful.{IsNearTo};
 ghost use Rattle.ft_model.specs.Node.{Place, Stage, is_for};
 ghost use Rattle.ft_model.specs.Node.Input.{Packet_comes, Tick_comes};
 ghost use Rattle.server_node.specs.Identity.{node_of};
-ghost use Rattle.server_node.specs.Lending.{conn_in};
+ghost use Rattle.server_node.specs.Loan.{conn_in};
 ghost use Rattle.server_node.specs.Slots.{SlotStands, SlotGoes, IsSoundSlot};
-ghost use Rattle.server_node.specs.Whose.{IsOnlyFor};
+ghost use Rattle.server_node.specs.Ownership.{IsOnlyFor};
 
 use crate::identity::Identity;
 use crate::live::{give_live, tick_live};

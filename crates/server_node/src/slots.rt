@@ -15,7 +15,7 @@ ghost use Rattle.server_node.specs.Alone.{SlotsAlone};
 ghost use Rattle.server_node.specs.Conn.{IsSound};
 ghost use Rattle.server_node.specs.declared.identity.Identity.{Identity as Incarnation};
 ghost use Rattle.server_node.specs.Identity.{node_of};
-ghost use Rattle.server_node.specs.Lending.{IsConnAt};
+ghost use Rattle.server_node.specs.Loan.{IsConnAt};
 ghost use Rattle.server_node.specs.Slots.{AllStand, AllSlotsGo, AllSound, IsSoundSlot};
 
 use crate::identity::Identity;

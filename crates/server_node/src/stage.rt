@@ -17,10 +17,10 @@ ghost use Rattle.server_node.specs.Conn.{IsSound};
 ghost use Rattle.server_node.specs.declared.identity.Identity.{Identity as Incarnation};
 ghost use Rattle.server_node.specs.Identity.{node_of};
 ghost use Rattle.server_node.specs.Inputs.{input_of};
-ghost use Rattle.server_node.specs.Lending.{IsConnAt, place_in};
-ghost use Rattle.server_node.specs.Opening.{ArePut, IsCounted};
+ghost use Rattle.server_node.specs.Loan.{IsConnAt, place_in};
+ghost use Rattle.server_node.specs.Openings.{ArePut, IsCounted};
 ghost use Rattle.server_node.specs.Restarts.{MessageRestarts, Restarts};
-ghost use Rattle.server_node.specs.Serving.{ServingStands, ServingGoes};
+ghost use Rattle.server_node.specs.ServingStage.{ServingStands, ServingGoes};
 ghost use Rattle.server_node.specs.Slots.{AllSound};
 ghost use Rattle.server_node.specs.Stages.{StageStands, IsSoundStage, NodeGoes, IsFence};
 

@@ -6,7 +6,7 @@ use Rattle.seq_arith.specs.Offset.{first_of, text_of, fin_of}
 use Rattle.seq_arith.specs.Packet.{Segment, has_syn, has_rst}
 use Rattle.ft_model.specs.Copy.{from_start}
 use Rattle.south_wrap.specs.SouthState.{SouthState}
-use Rattle.south_wrap.specs.Patching.{copied, IsPart}
+use Rattle.south_wrap.specs.Translation.{copied, IsPart}
 use Rattle.ft_io.proofs.Choices.{holds_if}
 
 -- how many bytes are left of a text, and which, where no more is left out than it has

@@ -1,3 +1,3 @@
 pub mod SouthState
-pub mod Patching
-pub mod Standing
+pub mod Translation
+pub mod SouthPoint

@@ -6,7 +6,7 @@ ghost use Rattle.seq_arith.specs.Offset.{text_of, fin_of};
 ghost use Rattle.seq_arith.specs.PacketGrammar.{reading};
 ghost use Rattle.segment_codec.specs.Value.{segment_of};
 ghost use Rattle.ft_model.specs.Copy.{from_start};
-ghost use Rattle.south_wrap.specs.Patching.{copied, is_some_copied, IsPart};
+ghost use Rattle.south_wrap.specs.Translation.{copied, is_some_copied, IsPart};
 
 use crate::answers::CopyPart;
 use crate::south::South;

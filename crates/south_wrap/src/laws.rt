@@ -6,8 +6,8 @@ ghost use Rattle.ft_model.specs.Point.{Point, acknowledgement};
 ghost use Rattle.ft_model.specs.Copy.{copy_start, copied_text, copies_fin};
 ghost use Rattle.ft_model.specs.Segments as model;
 ghost use Rattle.south_wrap.specs.SouthState.{acknowledged, window, with_stable};
-ghost use Rattle.south_wrap.specs.Patching.{repeats_syn, copied};
-ghost use Rattle.south_wrap.specs.Standing.{south_at};
+ghost use Rattle.south_wrap.specs.Translation.{repeats_syn, copied};
+ghost use Rattle.south_wrap.specs.SouthPoint.{south_at};
 
 /// It acknowledges and advertises what the laws Acknowledgement and Window say.
 pub fn it_tells_what_the_laws_say()

@@ -4,7 +4,7 @@ ghost use Rattle.std.specs.Prelude.{◌≡◌, Ok, IsOk, IfOk, not};
 ghost use Rattle.seq_arith.specs.Packet.{Segment, has_rst};
 ghost use Rattle.seq_arith.specs.PacketGrammar.{reading, spelling};
 ghost use Rattle.segment_codec.specs.Change.{changed};
-ghost use Rattle.south_wrap.specs.Patching.{answer_in, passed_in, passed_out};
+ghost use Rattle.south_wrap.specs.Translation.{answer_in, passed_in, passed_out};
 
 use crate::answers::Inward;
 use crate::patching::{change_ack, change_seq, change_window};

@@ -6,7 +6,7 @@ ghost use Rattle.segment_codec.specs.Value.{said};
 ghost use Rattle.seq_arith.specs.Number.{number_at, offset_of};
 ghost use Rattle.seq_arith.specs.Offset.{one_if};
 ghost use Rattle.south_wrap.specs.SouthState.{acknowledged, receive_edge, window, first_south, resumed_south, with_stable, is_high, inner_ack, inner_window};
-ghost use Rattle.south_wrap.specs.Patching.{repeats_syn};
+ghost use Rattle.south_wrap.specs.Translation.{repeats_syn};
 
 use crate::answers::AckOut;
 use segment_codec::Head;

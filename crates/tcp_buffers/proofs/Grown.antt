@@ -6,7 +6,7 @@ use Rattle.ft_io.proofs.Choices.{by_cases}
 use Rattle.tcp_buffers.specs.declared.early_runs.Run.{Run}
 use Rattle.seq_arith.specs.Early.{front_run, behind_front_run}
 use Rattle.tcp_buffers.specs.Runs.{is_held, marked, AreApart, reach, grown_to, runs_past, shifted}
-use Rattle.tcp_buffers.proofs.Written.{suc_plus}
+use Rattle.tcp_buffers.proofs.Overwrites.{suc_plus}
 use Rattle.tcp_buffers.proofs.Marked.{before_apart, forget_run, in_first, reach_up, plus_suc}
 
 -- up to where the bytes are in order then

@@ -1,7 +1,7 @@
 pub mod NumbersTell
 pub mod Places
 pub mod Outstanding
-pub mod Written
+pub mod Overwrites
 pub mod Marked
 pub mod Covered
 pub mod Grown

@@ -5,7 +5,7 @@ use Rattle.ft_io.proofs.Choices.{by_cases}
 use Rattle.tcp_buffers.specs.declared.early_runs.Run.{Run}
 use Rattle.seq_arith.specs.Early.{laid, runs_behind, run_count, front_run, holds_some}
 use Rattle.tcp_buffers.specs.Runs.{is_held, marked, AreApart, reach, written}
-use Rattle.tcp_buffers.proofs.Written.{zero_plus}
+use Rattle.tcp_buffers.proofs.Overwrites.{zero_plus}
 
 -- the test on a run's range
 abbrev pub spans : (from n j : ℕ) → Bool

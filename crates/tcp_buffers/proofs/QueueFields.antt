@@ -10,7 +10,7 @@ use Rattle.tcp_buffers.specs.declared.early_runs.Run.{Run}
 use Rattle.seq_arith.specs.Early.{laid, run_count, front_run, behind_front_run, holds_some, held_with}
 use Rattle.tcp_buffers.specs.Queue.{Queue, fitting, left_over, added_by, pushed}
 use Rattle.tcp_buffers.specs.Runs.{QueueInvariant, is_held, marked, AreApart, reach, covered, grown_to, runs_past, shifted, written}
-use Rattle.tcp_buffers.proofs.Written.{drop_written, length_written, long_written, no_items, take_written, written_end, written_front}
+use Rattle.tcp_buffers.proofs.Overwrites.{drop_written, length_written, long_written, no_items, take_written, written_end, written_front}
 use Rattle.tcp_buffers.proofs.Marked.{drop_marked, holds_last, last_held, marked_length, reach_up, run_count_is, some_run}
 use Rattle.tcp_buffers.proofs.Covered.{apart_covered, hold_count, hold_is, reach_covered}
 use Rattle.tcp_buffers.proofs.Grown.{GoesTo, Stay, apart_shifted, goes_to, marked_shifted, reach_shifted, stays}

@@ -6,7 +6,7 @@ ghost use Rattle.tcp_buffers.specs.Runs.{written};
 use circular_buffer::HeapCircularBuffer;
 
 /// Writes bytes over those of a queue, from place `from` on, and past its end. A gap before them is filled with zeros.
-#[tactic(auto, using(crate::proofs::Written::length_written))]
+#[tactic(auto, using(crate::proofs::Overwrites::length_written))]
 pub(crate) fn overwrite(queue: &mut HeapCircularBuffer<u8>, from: usize, bytes: &[u8])
     requires fits { from + length bytes.now ≤ 65535 }
     requires room { queue.old.capacity ≡ 65535 }
@@ -101,7 +101,7 @@ fn copy_over(items: &mut [u8], from: usize, bytes: &[u8])
 }
 
 /// The same byte by byte.
-#[tactic(auto, using(crate::proofs::Written::set_one, crate::proofs::Written::length_set), unfolding(crate::specs::Runs::written))]
+#[tactic(auto, using(crate::proofs::Overwrites::set_one, crate::proofs::Overwrites::length_set), unfolding(crate::specs::Runs::written))]
 fn set_each(queue: &mut HeapCircularBuffer<u8>, from: usize, bytes: &[u8])
     requires within { from + length bytes.now ≤ length queue.old.items }
     requires fits { from + length bytes.now ≤ 65535 }

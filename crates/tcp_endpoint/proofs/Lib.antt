@@ -2,6 +2,6 @@ pub mod Pieces
 pub mod Places
 pub mod Commutes
 pub mod Steps
-pub mod Held
+pub mod Reassembly
 pub mod Acks
 pub mod Spelled

@@ -8,7 +8,7 @@ use Rattle.seq_arith.specs.PacketGrammar.{mss_option, packet_length, spelling}
 use Rattle.seq_arith.proofs.Spelling.{size}
 use Rattle.tcp_endpoint.specs.Packets.{byte_count, IsReadable, AreReadable}
 use Rattle.tcp_endpoint.specs.Tcb.{Tcb}
-use Rattle.tcp_endpoint.specs.Leaving.{text_at, texts, reset_reply_out, retransmission_out, probe_out, with_probe, text_out, with_text_sent, fin_out, full_out, after_full, is_ack_pending, bare_segment, leaving, packets, or_bare}
+use Rattle.tcp_endpoint.specs.Output.{text_at, texts, reset_reply_out, retransmission_out, probe_out, with_probe, text_out, with_text_sent, fin_out, full_out, after_full, is_ack_pending, bare_segment, leaving, packets, or_bare}
 
 pub byte_count_push : (ps : List (List ℕ)) (p : List ℕ) → byte_count (ps ++ p ∷ []) ≡ byte_count ps + length p
 byte_count_push [] p = omega arith

@@ -10,8 +10,8 @@ use Rattle.tcp_buffers.specs.Near.{is_ahead}
 use Rattle.tcp_endpoint.specs.declared.states.StateName.{StateName}
 use Rattle.tcp_endpoint.specs.declared.states.StateName.TheVariants.{Closed, Listen, SynSent, SynReceived, Established}
 use Rattle.tcp_endpoint.specs.States.{after_syn_acked, after_fin_acked, after_fin, is_time_wait}
-use Rattle.tcp_endpoint.specs.Receiving.{taken, next, window, with_segment}
-use Rattle.tcp_endpoint.specs.Sending.{with_segment_size, with_syn_acked, is_third_duplicate, answered_by, fin_acked}
+use Rattle.tcp_endpoint.specs.ReceiveHalf.{taken, next, window, with_segment}
+use Rattle.tcp_endpoint.specs.SendHalf.{with_segment_size, with_syn_acked, is_third_duplicate, answered_by, fin_acked}
 use Rattle.tcp_endpoint.specs.Tcb.{Tcb}
 
 -- SEG.SEQ and SEG.ACK as offsets

@@ -1,9 +1,9 @@
 pub mod Packets
 pub mod States
-pub mod Receiving
-pub mod Sending
+pub mod ReceiveHalf
+pub mod SendHalf
 pub mod Tcb
 pub mod Arrival
-pub mod Leaving
-pub mod Turning
-pub mod Lending
+pub mod Output
+pub mod UserCalls
+pub mod Loan

@@ -4,8 +4,8 @@ use Rattle.ft_io.specs.declared.Addr.{Addr}
 use Rattle.segment_codec.specs.declared.Head.{Head}
 use Rattle.tcp_endpoint.specs.declared.states.StateName.{StateName}
 use Rattle.tcp_endpoint.specs.declared.states.StateName.TheVariants.{Listen, SynSent}
-use Rattle.tcp_endpoint.specs.Receiving.{Receiving, receiving_up_to}
-use Rattle.tcp_endpoint.specs.Sending.{Sending, sending_from}
+use Rattle.tcp_endpoint.specs.ReceiveHalf.{Receiving, receiving_up_to}
+use Rattle.tcp_endpoint.specs.SendHalf.{Sending, sending_from}
 
 pub record Tcb : Type 0 where
   pub local : Addr  -- the own address

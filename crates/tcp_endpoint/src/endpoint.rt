@@ -2,7 +2,7 @@
 
 ghost use Rattle.std.specs.Prelude.{◌≡◌, IfOk};
 ghost use Rattle.tcp_endpoint.specs.Tcb.{listening, connecting};
-ghost use Rattle.tcp_endpoint.specs.Turning.{sent_number, acked_number};
+ghost use Rattle.tcp_endpoint.specs.UserCalls.{sent_number, acked_number};
 
 use crate::receiver::Receiver;
 use crate::sender::Sender;

@@ -5,12 +5,12 @@ ghost use Rattle.std.specs.Prelude.{if◌then◌else◌};
 ghost use Rattle.seq_arith.specs.Packet.{Segment};
 ghost use Rattle.seq_arith.specs.PacketGrammar.{spelling};
 ghost use Rattle.segment_codec.specs.Value.{said};
-ghost use Rattle.segment_codec.specs.Written.{segment_with};
+ghost use Rattle.segment_codec.specs.Spelling.{segment_with};
 ghost use Rattle.tcp_endpoint.specs.Packets.{byte_count, IsReadable, AreReadable};
-ghost use Rattle.tcp_endpoint.specs.Sending.{in_flight};
-ghost use Rattle.tcp_endpoint.specs.Leaving.{head_at, opening_segment, text_at, fin_at, texts, reset_reply_out, retransmission_out, probe_out, with_probe, text_out};
-ghost use Rattle.tcp_endpoint.specs.Leaving.{with_text_sent, new_length, fin_out, with_fin_out, is_ack_pending, bare_segment, leaving, with_advertised, is_timed};
-ghost use Rattle.tcp_endpoint.specs.Leaving.{with_turn_ended, flushed, packets, or_bare};
+ghost use Rattle.tcp_endpoint.specs.SendHalf.{in_flight};
+ghost use Rattle.tcp_endpoint.specs.Output.{head_at, opening_segment, text_at, fin_at, texts, reset_reply_out, retransmission_out, probe_out, with_probe, text_out};
+ghost use Rattle.tcp_endpoint.specs.Output.{with_text_sent, new_length, fin_out, with_fin_out, is_ack_pending, bare_segment, leaving, with_advertised, is_timed};
+ghost use Rattle.tcp_endpoint.specs.Output.{with_turn_ended, flushed, packets, or_bare};
 
 use crate::endpoint::Endpoint;
 use crate::outbox::Outbox;
@@ -19,7 +19,7 @@ use seq_arith::{ACK, FIN, SYN, Seq};
 
 impl Endpoint {
     /// Ends the turn: puts what is sent into the outbox, at most 1,030 packets and 110,000 bytes.
-    #[tactic(auto, using(crate::proofs::Spelled::leaving_is), unfolding(crate::specs::Leaving::flushed, crate::specs::Leaving::after_full))]
+    #[tactic(auto, using(crate::proofs::Spelled::leaving_is), unfolding(crate::specs::Output::flushed, crate::specs::Output::after_full))]
     pub fn flush(&mut self, out: &mut Outbox)
         requires { out.old ≡ [] }
         ensures state { self.new ≡ flushed self.old }
@@ -38,7 +38,7 @@ impl Endpoint {
     }
 
     /// The header of every segment except a RST in answer.
-    #[tactic(auto, unfolding(crate::specs::Leaving::head_at))]
+    #[tactic(auto, unfolding(crate::specs::Output::head_at))]
     fn head(&self, seq: Seq, flags: u8) -> Head
         ensures head { said result ≡ head_at self.now seq.0 flags }
         ensures size { result.mss ≡ None }
@@ -57,7 +57,7 @@ impl Endpoint {
     }
 
     /// The header of the SYN or of the SYN-ACK.
-    #[tactic(auto, unfolding(crate::specs::Leaving::opening_segment))]
+    #[tactic(auto, unfolding(crate::specs::Output::opening_segment))]
     fn opening_head(&self) -> Head
         ensures { segment_with result [] ≡ opening_segment self.now }
     {
@@ -77,7 +77,7 @@ impl Endpoint {
     }
 
     /// Sends the RST in answer, where one is due.
-    #[tactic(auto, using(crate::proofs::Spelled::options_short, crate::proofs::Spelled::packets_one, crate::proofs::Spelled::packets_none), unfolding(crate::specs::Leaving::reset_reply_out))]
+    #[tactic(auto, using(crate::proofs::Spelled::options_short, crate::proofs::Spelled::packets_one, crate::proofs::Spelled::packets_none), unfolding(crate::specs::Output::reset_reply_out))]
     fn send_reset_reply(&self, out: &mut Outbox)
         requires { out.old ≡ [] }
         ensures sent { out.new ≡ packets (reset_reply_out self.now) }
@@ -91,7 +91,7 @@ impl Endpoint {
     }
 
     /// Sends `n` bytes of text that begin `place` units after SND.UNA.
-    #[tactic(auto, unfolding(crate::specs::Leaving::text_at))]
+    #[tactic(auto, unfolding(crate::specs::Output::text_at))]
     fn send_text_at(&self, place: u32, n: u32, out: &mut Outbox)
         requires text { place + n ≤ length self.now.sending.held }
         requires size { n ≤ 1460 }
@@ -108,7 +108,7 @@ impl Endpoint {
     }
 
     /// Sends the FIN, `place` units after SND.UNA.
-    #[tactic(auto, unfolding(crate::specs::Leaving::fin_at))]
+    #[tactic(auto, unfolding(crate::specs::Output::fin_at))]
     fn send_fin_at(&self, place: u32, out: &mut Outbox)
         requires count { length out.old < 1100 }
         requires bytes { byte_count out.old ≤ 118000 }
@@ -122,7 +122,7 @@ impl Endpoint {
     }
 
     /// Sends the first unacknowledged segment, where it is due.
-    #[tactic(auto, using(crate::proofs::Spelled::options_short, crate::proofs::Spelled::packets_one, crate::proofs::Spelled::nothing_more), unfolding(crate::specs::Leaving::retransmission_out, crate::specs::Leaving::retransmitted_segment))]
+    #[tactic(auto, using(crate::proofs::Spelled::options_short, crate::proofs::Spelled::packets_one, crate::proofs::Spelled::nothing_more), unfolding(crate::specs::Output::retransmission_out, crate::specs::Output::retransmitted_segment))]
     fn retransmit(&self, out: &mut Outbox)
         requires count { length out.old ≤ 1 }
         requires bytes { byte_count out.old ≤ 44 }
@@ -144,7 +144,7 @@ impl Endpoint {
     }
 
     /// Sends a probe, where it is due.
-    #[tactic(auto, using(crate::proofs::Spelled::packets_one, crate::proofs::Spelled::nothing_more), unfolding(crate::specs::Leaving::probe_out, crate::specs::Leaving::with_probe))]
+    #[tactic(auto, using(crate::proofs::Spelled::packets_one, crate::proofs::Spelled::nothing_more), unfolding(crate::specs::Output::probe_out, crate::specs::Output::with_probe))]
     fn send_probe(&mut self, out: &mut Outbox)
         requires count { length out.old ≤ 2 }
         requires bytes { byte_count out.old ≤ 1544 }
@@ -185,7 +185,7 @@ impl Endpoint {
     }
 
     /// Sends text for the first time.
-    #[tactic(auto, unfolding(crate::specs::Leaving::text_out, crate::specs::Leaving::with_text_sent))]
+    #[tactic(auto, unfolding(crate::specs::Output::text_out, crate::specs::Output::with_text_sent))]
     fn send_text(&mut self, out: &mut Outbox)
         requires count { length out.old ≤ 3 }
         requires bytes { byte_count out.old ≤ 1585 }
@@ -221,7 +221,7 @@ impl Endpoint {
     }
 
     /// Sends the FIN for the first time, where it is due.
-    #[tactic(auto, using(crate::proofs::Spelled::packets_one, crate::proofs::Spelled::nothing_more), unfolding(crate::specs::Leaving::fin_out, crate::specs::Leaving::with_fin_out))]
+    #[tactic(auto, using(crate::proofs::Spelled::packets_one, crate::proofs::Spelled::nothing_more), unfolding(crate::specs::Output::fin_out, crate::specs::Output::with_fin_out))]
     fn send_fin(&mut self, out: &mut Outbox)
         requires count { length out.old ≤ 1027 }
         requires bytes { byte_count out.old ≤ 108080 }
@@ -238,7 +238,7 @@ impl Endpoint {
     }
 
     /// Whether an ACK is pending.
-    #[tactic(auto, unfolding(crate::specs::Leaving::is_ack_pending))]
+    #[tactic(auto, unfolding(crate::specs::Output::is_ack_pending))]
     fn is_ack_pending(&self) -> bool
         ensures { result ≡ is_ack_pending self.now }
     {
@@ -256,7 +256,7 @@ impl Endpoint {
     }
 
     /// Sends the segment without data, if an ACK is pending and no other segment is sent.
-    #[tactic(auto, unfolding(crate::specs::Leaving::bare_segment))]
+    #[tactic(auto, unfolding(crate::specs::Output::bare_segment))]
     fn send_pending_ack(&self, out: &mut Outbox)
         requires count { length out.old ≤ 1028 }
         requires bytes { byte_count out.old ≤ 108120 }
@@ -273,7 +273,7 @@ impl Endpoint {
     }
 
     /// Notes what was advertised, and that nothing is due any more.
-    #[tactic(auto, unfolding(crate::specs::Leaving::with_advertised))]
+    #[tactic(auto, unfolding(crate::specs::Output::with_advertised))]
     fn note_advertised(&mut self)
         ensures { self.new ≡ with_advertised self.old }
     {
@@ -295,7 +295,7 @@ impl Endpoint {
     }
 
     /// Ends the turn.
-    #[tactic(auto, unfolding(crate::specs::Leaving::with_turn_ended, crate::specs::Leaving::with_advertised))]
+    #[tactic(auto, unfolding(crate::specs::Output::with_turn_ended, crate::specs::Output::with_advertised))]
     fn end_turn(&mut self)
         ensures { self.new ≡ with_turn_ended self.old }
     {

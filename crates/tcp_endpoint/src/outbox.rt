@@ -5,9 +5,9 @@ ghost use Rattle.std.specs.Prelude.{slice_index, slice_set, take, drop, replicat
 ghost use Rattle.std.specs.Borrow.{sem};
 ghost use Rattle.std.specs.Bool.{OnTrue, OnFalse};
 ghost use Rattle.seq_arith.specs.PacketGrammar.{mss_option, packet_length, spelling};
-ghost use Rattle.segment_codec.specs.Written.{segment_with};
+ghost use Rattle.segment_codec.specs.Spelling.{segment_with};
 ghost use Rattle.tcp_endpoint.specs.Packets.{byte_count, with_bytes_at, IsReadable};
-ghost use Rattle.tcp_endpoint.specs.Lending.{LendsPacket};
+ghost use Rattle.tcp_endpoint.specs.Loan.{LendsPacket};
 
 use ft_io::NoMemory;
 use segment_codec::{Head, write_header};

@@ -9,7 +9,7 @@ ghost use Rattle.seq_arith.specs.Coming.{StandsBehind, nothing_came, ahead, text
 ghost use Rattle.tcp_buffers.specs.Near.{IsNearFirst};
 ghost use Rattle.tcp_buffers.specs.Queue.{empty_queue, pushed};
 ghost use Rattle.seq_arith.specs.Early.{held_with};
-ghost use Rattle.tcp_endpoint.specs.Receiving.{taken, next, receive_edge, advertised_edge, window, receiving_up_to, with_segment, read_out};
+ghost use Rattle.tcp_endpoint.specs.ReceiveHalf.{taken, next, receive_edge, advertised_edge, window, receiving_up_to, with_segment, read_out};
 ghost use Rattle.tcp_endpoint.specs.Tcb.{kept_limit};
 
 use seq_arith::Seq;
@@ -37,7 +37,7 @@ pub(crate) struct Receiver {
 }
 
 impl Model for Receiver {
-    ghost use Rattle.tcp_endpoint.specs.Receiving.{Receiving, ReceiverInvariant};
+    ghost use Rattle.tcp_endpoint.specs.ReceiveHalf.{Receiving, ReceiverInvariant};
 
     ghost Value = { Receiving };
 

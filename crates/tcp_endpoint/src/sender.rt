@@ -8,8 +8,8 @@ ghost use Rattle.seq_arith.specs.Arrival.{int_eq};
 ghost use Rattle.seq_arith.specs.Congestion.{initial_window, is_third};
 ghost use Rattle.seq_arith.specs.Packet.{segment_size};
 ghost use Rattle.tcp_buffers.specs.Near.{is_ahead};
-ghost use Rattle.tcp_endpoint.specs.Sending.{sending_from, with_segment_size, with_syn_acked, fin_acked, in_flight, is_unacknowledged, expires, ticked, must_run, timed};
-ghost use Rattle.tcp_endpoint.specs.Sending.{send_edge, sendable, sends_fin, resent_length, with_sent, with_fin_sent, units_of, was_sent, repeats, acknowledged, is_duplicate, duplicated, answered_by, use_of, NumbersFit, IsShort};
+ghost use Rattle.tcp_endpoint.specs.SendHalf.{sending_from, with_segment_size, with_syn_acked, fin_acked, in_flight, is_unacknowledged, expires, ticked, must_run, timed};
+ghost use Rattle.tcp_endpoint.specs.SendHalf.{send_edge, sendable, sends_fin, resent_length, with_sent, with_fin_sent, units_of, was_sent, repeats, acknowledged, is_duplicate, duplicated, answered_by, use_of, NumbersFit, IsShort};
 ghost use Rattle.tcp_endpoint.specs.declared.sender.AckUse.TheVariants.{Used, Third};
 
 use seq_arith::{Seq, segment_size};
@@ -45,7 +45,7 @@ pub(crate) struct Sender {
 }
 
 impl Model for Sender {
-    ghost use Rattle.tcp_endpoint.specs.Sending.{Sending, sending_of, SenderInvariant};
+    ghost use Rattle.tcp_endpoint.specs.SendHalf.{Sending, sending_of, SenderInvariant};
 
     ghost Value = { Sending };
 

@@ -1,7 +1,7 @@
 //! A tick, and the calls of the connection's user.
 
 ghost use Rattle.std.specs.Prelude.{◌≡◌, ◌-◌, ℕ, List, length, min, take, drop, ◌++◌};
-ghost use Rattle.tcp_endpoint.specs.Turning.{timer_ticked, waited, after_tick};
+ghost use Rattle.tcp_endpoint.specs.UserCalls.{timer_ticked, waited, after_tick};
 
 use crate::endpoint::Endpoint;
 use crate::states::StateName;
@@ -9,7 +9,7 @@ use socket_layer::Socket;
 
 impl Endpoint {
     /// A tick passes.
-    #[tactic(auto, unfolding(crate::specs::Turning::after_tick))]
+    #[tactic(auto, unfolding(crate::specs::UserCalls::after_tick))]
     pub fn on_tick(&mut self)
         ensures { self.new ≡ after_tick self.old }
     {
@@ -18,7 +18,7 @@ impl Endpoint {
     }
 
     /// At the timer's last tick the first unacknowledged segment is retransmitted, or else a probe is sent (RFC 9293, 3.8.1 and 3.8.6.1).
-    #[tactic(auto, unfolding(crate::specs::Turning::timer_ticked))]
+    #[tactic(auto, unfolding(crate::specs::UserCalls::timer_ticked))]
     fn tick_timer(&mut self)
         ensures { self.new ≡ timer_ticked self.old }
     {
@@ -29,7 +29,7 @@ impl Endpoint {
     }
 
     /// TIME-WAIT ends with its last tick.
-    #[tactic(auto, unfolding(crate::specs::Turning::waited))]
+    #[tactic(auto, unfolding(crate::specs::UserCalls::waited))]
     fn tick_wait(&mut self)
         ensures { self.new ≡ waited self.old }
     {
@@ -54,7 +54,7 @@ impl Endpoint {
 
 impl Socket for Endpoint {
     ghost use Rattle.std.specs.Prelude.{ℕ, List, Bool};
-    ghost use Rattle.tcp_endpoint.specs.Turning.{after_read, after_write, closing, write_room, is_ended};
+    ghost use Rattle.tcp_endpoint.specs.UserCalls.{after_read, after_write, closing, write_room, is_ended};
     ghost use Rattle.std.specs.Prelude.{refl};
     ghost use Rattle.std.proofs.Common.{arith, rules, length-append};
 

@@ -6,7 +6,7 @@ use Rattle.seq_arith.specs.Number.{offset_of}
 use Rattle.ft_model.specs.Client.Move.{Acknowledge}
 use Rattle.ft_model.specs.Lawful.{AreNear}
 use Rattle.ft_model.specs.World.{Happens}
-use Rattle.ft_model.specs.Weakened.{IsWrongOnce}
+use Rattle.ft_model.specs.WeakerLaw.{IsWrongOnce}
 use Rattle.ft_model.specs.WorkedRuns.Common.{echo}
 use Rattle.ft_model.specs.WorkedRuns.FirstPath as path
 use Rattle.ft_model.proofs.Turns.{laws, segment_in}

@@ -4,7 +4,7 @@ use Rattle.std.specs.List.{AllByRecursion}
 use native.Mathlib.Bridge.{IsLe}
 use Rattle.ft_model.specs.Restart.{IsSoundEntry}
 use Rattle.ft_model.specs.World.{Happens}
-use Rattle.ft_model.specs.Weakened.{IsWrongOnce}
+use Rattle.ft_model.specs.WeakerLaw.{IsWrongOnce}
 use Rattle.ft_model.specs.WorkedRuns.Common.{echo}
 use Rattle.ft_model.specs.WorkedRuns.FirstPath as path
 use Rattle.ft_model.proofs.Turns.{laws}

@@ -21,7 +21,7 @@ ghost use Rattle.ft_model.specs.Legal.{Legal, machines, start_of};
 ghost use Rattle.ft_model.specs.Schedule.{kind_of};
 ghost use Rattle.ft_model.specs.World.{World, Moment, WasSent, MayCome, Moves, Joint, world_after};
 ghost use Rattle.ft_model.specs.declared.schedule.Schedule.{Schedule};
-ghost use Rattle.ft_model.specs.Weakened.{IsWrongOnce};
+ghost use Rattle.ft_model.specs.WeakerLaw.{IsWrongOnce};
 ghost use Rattle.ft_model.specs.WorkedRuns.Common.{echo};
 ghost use Rattle.ft_model.specs.WorkedRuns.FirstPath;
 ghost use Rattle.trace_laws.specs.FarPacket;

@@ -4,11 +4,11 @@ pub mod Elsewhere
 mod Flattening
 mod Folds
 mod Holding
-pub mod Keeping
+pub mod StoredParts
 mod Noise
 pub mod Numbering
 mod OneOutcome
 pub mod OneTurn
 mod Steps
 mod WorkedPair
-mod Written
+mod TraceBytes

@@ -1,10 +1,10 @@
 pub mod Twin
-pub mod Kept
+pub mod StoredState
 pub mod Pair
 pub mod TwinWorld
 pub mod Flat
 pub mod WorkedPair
 pub mod TwinLegal
 pub mod TwinReport
-pub mod Written
+pub mod SentBytes
 pub mod TwinOutcome

@@ -19,7 +19,7 @@ ghost use Rattle.ft_model.specs.declared.event.Event.{Event};
 ghost use Rattle.ft_model.specs.declared.schedule.Schedule.{Schedule};
 ghost use Rattle.twin_laws.specs.Flat.{flat};
 ghost use Rattle.twin_laws.specs.Pair.{Delivery, ActsAsOne, IsPaired, pair_over, new_pair};
-ghost use Rattle.twin_laws.specs.Kept.{kept_head, kept_tail, kept_does, comes_from, in_bytes};
+ghost use Rattle.twin_laws.specs.StoredState.{kept_head, kept_tail, kept_does, comes_from, in_bytes};
 ghost use Rattle.twin_laws.specs.Twin.{Request, Head, Tail, head_does, tail_does, from_other_logger, bytes_of};
 ghost use Rattle.twin_laws.specs.Twin.Between.{Forward, Got};
 ghost use Rattle.twin_laws.specs.Twin.Comes.{Tells, Is_noise};
@@ -27,7 +27,7 @@ ghost use Rattle.twin_laws.specs.TwinLegal.{IsTwinLegalFor, twin_start};
 ghost use Rattle.twin_laws.specs.TwinOutcome.{IsTwinWhole, IsTwinRefused, IsTwinPastPackets};
 ghost use Rattle.twin_laws.specs.TwinWorld.{TwinWorld, TwinMoment, TwinJoint, seen, parcel_at, twin_after};
 ghost use Rattle.twin_laws.specs.TwinWorld.Parcel.{Outside};
-ghost use Rattle.twin_laws.specs.Written.{IsWritten};
+ghost use Rattle.twin_laws.specs.SentBytes.{IsWritten};
 ghost use Rattle.twin_laws.specs.WorkedPair.{at_first, worked, events_in, flat_events};
 
 use ft_model::wire::packets_have_wires;

@@ -16,7 +16,7 @@ use Rattle.node_link.specs.Counts.{counts_of, with_calls, HasRoom}
 use Rattle.node_link.specs.declared.counts.Counts.{Counts}
 use Rattle.twin_laws.specs.declared.part.Side.{Side}
 use Rattle.twin_link.specs.PartTurns.{Outgoing, address_for, addressed_to, addressed, sending}
-use Rattle.twin_link.specs.Turning.{HasSent}
+use Rattle.twin_link.specs.PartSteps.{HasSent}
 
 abbrev call_of : Outgoing → LinkCall
 call_of o = Handed o.to o.bytes o.is_lost

@@ -1,3 +1,3 @@
 pub mod Handing
-pub mod Serving
+pub mod PairRun
 pub mod Unread

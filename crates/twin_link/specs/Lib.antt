@@ -1,6 +1,6 @@
 pub mod Outcome
 pub mod PartLife
 pub mod PartTurns
-pub mod Telling
-pub mod Turning
+pub mod StopNotice
+pub mod PartSteps
 pub mod Words

@@ -6,7 +6,7 @@ use Rattle.node_link.specs.Outcome.{IsTold}
 use Rattle.node_link.specs.declared.status.NodeEnd.{NodeEnd}
 use Rattle.node_link.specs.declared.status.NodeEnd.TheVariants.{NoMemory}
 use Rattle.twin_link.specs.PartLife.{IsPart, PartStops}
-use Rattle.twin_link.specs.Telling.{IsTeller, TellerStops}
+use Rattle.twin_link.specs.StopNotice.{IsTeller, TellerStops}
 use Rattle.twin_link.specs.declared.role.TwinRole.{TwinRole}
 use Rattle.twin_link.specs.declared.role.TwinRole.TheVariants.{Logger, Alone}
 

@@ -5,7 +5,7 @@ use Rattle.ft_io.specs.declared.link_call.LinkCall.TheVariants.{Bound}
 use Rattle.ft_io.specs.Sink.{AppendsFront}
 use Rattle.ft_io.specs.Told.{Tells}
 use Rattle.node_link.specs.Counts.{counts_of, count_line}
-use Rattle.node_link.specs.Logging.{IsCutOff}
+use Rattle.node_link.specs.LoggerParts.{IsCutOff}
 use Rattle.node_link.specs.declared.status.NodeEnd.{NodeEnd}
 use Rattle.node_link.specs.declared.status.NodeEnd.TheVariants.{LinkFault, NoMemory, WriteFault}
 use Rattle.twin_link.specs.PartTurns.{PartTurn, AreByDefinition, calls_of}

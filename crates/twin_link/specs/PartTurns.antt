@@ -8,12 +8,12 @@ use Rattle.seq_arith.specs.TwinDatagram.{TwinDatagram}
 use Rattle.seq_arith.specs.TwinDatagram.{TwinDatagram as datagrams}
 use Rattle.seq_arith.specs.TwinGrammar as twins
 use Rattle.seq_arith.specs.declared.twin.BadTwin.{BadTwin}
-use Rattle.twin_laws.specs.Kept.{Kept, new_kept, left_alone, kept_does}
+use Rattle.twin_laws.specs.StoredState.{Kept, new_kept, left_alone, kept_does}
 use Rattle.twin_laws.specs.declared.part.Part.{Part}
 use Rattle.twin_laws.specs.declared.part.Side.{Side}
 use Rattle.twin_laws.specs.declared.part.Side.TheVariants as sides
 use Rattle.node_link.specs.ServerTurns.{is_from}
-use Rattle.node_link.specs.Received.{Received, datagram, silence, failure, received_as}
+use Rattle.node_link.specs.Receipt.{Received, datagram, silence, failure, received_as}
 use Rattle.twin_link.specs.declared.role.PartRole.{PartRole}
 
 -- a logger of a pair, and where the server is, once it has spoken

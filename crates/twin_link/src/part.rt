@@ -9,11 +9,11 @@ ghost use Rattle.ft_io.specs.declared.link_call.LinkCall.{LinkCall};
 ghost use Rattle.ft_io.specs.declared.link_call.LinkCall.TheVariants.{Bound};
 ghost use Rattle.node_link.specs.Counts.{HasRoom};
 ghost use Rattle.node_link.specs.Ends.{UnlessFault};
-ghost use Rattle.node_link.specs.Logging.{IsCutOff};
-ghost use Rattle.twin_laws.specs.Kept.{left_alone};
+ghost use Rattle.node_link.specs.LoggerParts.{IsCutOff};
+ghost use Rattle.twin_laws.specs.StoredState.{left_alone};
 ghost use Rattle.twin_link.specs.PartTurns.{says_alone as says_alone_lem, side_of as side_of_lem, server_after, at_start, heard};
 ghost use Rattle.twin_link.specs.PartLife.{IsPart, PartStops};
-ghost use Rattle.twin_link.specs.Turning.{standing_of, HasTurned, HasServed, IsCutServing};
+ghost use Rattle.twin_link.specs.PartSteps.{standing_of, HasTurned, HasServed, IsCutServing};
 
 use crate::role::PartRole;
 use crate::sending::send_all;

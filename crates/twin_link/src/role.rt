@@ -3,7 +3,7 @@
 ghost use Rattle.std.specs.Prelude.{◌≡◌, ◌≤◌, List, map, string_bytes, IfOk, IfSome};
 ghost use Rattle.node_link.specs.Options.{Use, HasValues};
 ghost use Rattle.twin_link.specs.Words.{part_named, part_at as part_at_lem, part_in, alone_in, part_of, alone_of, twin_of};
-ghost use Rattle.twin_link.specs.Turning.{InRange};
+ghost use Rattle.twin_link.specs.PartSteps.{InRange};
 
 use clap::ArgMatches;
 use ft_io::{Addr, NoMemory};

@@ -3,7 +3,7 @@
 ghost use Rattle.std.specs.Prelude.{◌≡◌, ◌<◌, ◌-◌, ◌^◌, length};
 ghost use Rattle.node_link.specs.Counts.{HasRoom};
 ghost use Rattle.twin_link.specs.PartTurns.{address_for as address_for_lem, addressed_to, addressed};
-ghost use Rattle.twin_link.specs.Turning.{HasSent};
+ghost use Rattle.twin_link.specs.PartSteps.{HasSent};
 
 use ft_io::{Addr, Link};
 use node_link::Counts;

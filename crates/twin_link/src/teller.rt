@@ -8,7 +8,7 @@ ghost use Rattle.ft_io.specs.Told.{Tells};
 ghost use Rattle.seq_arith.specs.TwinDatagram.{TwinDatagram as datagrams};
 ghost use Rattle.seq_arith.specs.TwinGrammar.{spelling};
 ghost use Rattle.node_link.specs.Ends.{UnlessFault};
-ghost use Rattle.twin_link.specs.Telling.{IsTeller, TellerStops, line_of as line_of_lem};
+ghost use Rattle.twin_link.specs.StopNotice.{IsTeller, TellerStops, line_of as line_of_lem};
 
 use crate::role::AloneRole;
 use ft_io::{Addr, Failed, Link, Sink, write_all};

@@ -15,7 +15,7 @@ ghost use Rattle.journal_link.specs.declared.role.JournalRole.{JournalRole};
 ghost use Rattle.journal_link.specs.Outcome.{HasKept};
 ghost use Rattle.journal_link.specs.Words.{journal_of};
 ghost use Rattle.twin_link.specs.Outcome.{LivesAs, HasLived, MayEnd};
-ghost use Rattle.twin_link.specs.Turning.{InRange};
+ghost use Rattle.twin_link.specs.PartSteps.{InRange};
 ghost use Rattle.twin_link.specs.Words.{twin_of};
 ghost use Rattle.twin_link.specs.declared.role.TwinRole.{TwinRole};
 

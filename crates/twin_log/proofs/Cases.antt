@@ -12,7 +12,7 @@ use Rattle.twin_laws.specs.declared.part.Part.{Part}
 use Rattle.twin_laws.specs.declared.part.Part.TheVariants as parts
 use Rattle.twin_laws.specs.Twin.{Comes, from_other_logger, asked, forwarded_as}
 use Rattle.twin_laws.specs.Twin.Comes.{Asks, Tells, Is_noise}
-use Rattle.twin_laws.specs.Kept.{Kept, kept_alone_does, paired_does, sends_nothing}
+use Rattle.twin_laws.specs.StoredState.{Kept, kept_alone_does, paired_does, sends_nothing}
 
 -- one of a pair passes over noise
 pub noise_in_pair : (part : Part) (kept : Kept) → paired_does part Is_noise kept ≡ sends_nothing kept

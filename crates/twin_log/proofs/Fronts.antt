@@ -12,7 +12,7 @@ use Rattle.seq_arith.specs.TwinGrammar.{spelled, spelling, behind_of, kind_of, I
 use Rattle.seq_arith.specs.TwinDatagram.{TwinDatagram as datagrams}
 use Rattle.twin_laws.specs.declared.part.Side.{Side}
 use Rattle.twin_laws.specs.declared.part.Side.TheVariants as sides
-use Rattle.twin_laws.specs.Kept.{forwards_sent}
+use Rattle.twin_laws.specs.StoredState.{forwards_sent}
 use Rattle.seq_arith.proofs.TwinSpelling.{bounded, length_of}
 
 -- no datagram is longer than the room for one

@@ -1,4 +1,4 @@
-mod Assembled
+mod OneSpelling
 pub mod Cases
 pub mod Fronts
 pub mod Outgoing

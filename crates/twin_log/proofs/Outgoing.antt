@@ -10,11 +10,11 @@ use Rattle.seq_arith.specs.MessageGrammar as messages
 use Rattle.seq_arith.specs.Bytes.{two}
 use Rattle.seq_arith.specs.TwinDatagram.{TwinDatagram as datagrams}
 use Rattle.seq_arith.specs.TwinGrammar.{IsSpellable, is_asking}
-use Rattle.logger_store.specs.Stored.{answer_bytes}
+use Rattle.logger_store.specs.StoreState.{answer_bytes}
 use Rattle.twin_laws.specs.declared.part.Side.TheVariants as sides
-use Rattle.twin_laws.specs.Kept.{answers_sent}
+use Rattle.twin_laws.specs.StoredState.{answers_sent}
 use Rattle.twin_laws.proofs.Asking.{forward_spells, got_spells}
-use Rattle.twin_log.specs.Outgoing.{answer_out, AreAsking, texts_of}
+use Rattle.twin_log.specs.Outbox.{answer_out, AreAsking, texts_of}
 use Rattle.twin_log.proofs.Fronts.{at_within}
 
 pub answer_some : (bytes : List ℕ) → (length bytes == 0) ≡ false → answer_out bytes ≡ (sides.Server, bytes) ∷ []

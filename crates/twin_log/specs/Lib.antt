@@ -1,3 +1,3 @@
 pub mod Value
-pub mod Written
-pub mod Outgoing
+pub mod Header
+pub mod Outbox

@@ -7,9 +7,9 @@ ghost use Rattle.logger_wire.specs.Value.{message_of, IsSendable};
 ghost use Rattle.twin_laws.specs.Twin.{asked, forwarded_as, from_other_logger};
 ghost use Rattle.twin_laws.specs.Twin.Between.{Got};
 ghost use Rattle.twin_laws.specs.Twin.Comes.{Tells};
-ghost use Rattle.twin_laws.specs.Kept.{kept_does, paired_does, new_kept, left_alone, serves_alone, kept_head_asked, kept_tail_told, keeps_request, keeps_too, has_kept_room, kept_confirmed, sends_kept, sent_to_other, applies_kept};
+ghost use Rattle.twin_laws.specs.StoredState.{kept_does, paired_does, new_kept, left_alone, serves_alone, kept_head_asked, kept_tail_told, keeps_request, keeps_too, has_kept_room, kept_confirmed, sends_kept, sent_to_other, applies_kept};
 ghost use Rattle.twin_laws.specs.declared.part.Side.TheVariants as sides;
-ghost use Rattle.twin_log.specs.Outgoing.{answer_out, request_in, is_asking_message};
+ghost use Rattle.twin_log.specs.Outbox.{answer_out, request_in, is_asking_message};
 
 use crate::reading::read_twin;
 use crate::twin_msg::TwinMsg;
@@ -37,7 +37,7 @@ pub struct TwinLog {
 
 impl Model for TwinLog {
     ghost use Rattle.std.specs.Prelude.{◌≤◌, length};
-    ghost use Rattle.twin_laws.specs.Kept.{Kept};
+    ghost use Rattle.twin_laws.specs.StoredState.{Kept};
 
     ghost Value = { Kept };
 
@@ -110,7 +110,7 @@ impl TwinLog {
     }
 
     /// Takes a datagram of the server.
-    #[tactic(auto, using(crate::proofs::Cases::noise_in_pair), unfolding(twin_laws::specs::Kept::kept_does))]
+    #[tactic(auto, using(crate::proofs::Cases::noise_in_pair), unfolding(twin_laws::specs::StoredState::kept_does))]
     fn on_server(&mut self, alloc: Global, bytes: &[u8], out: &mut TwinOut) -> Result<(), NoMemory>
         requires empty { out.old ≡ [] }
         ensures next { OnOk result (self.new ≡ (kept_does sides.Server bytes.now self.old).next) }
@@ -131,7 +131,7 @@ impl TwinLog {
     }
 
     /// Takes a datagram of the other logger. One that serves alone ignores it.
-    #[tactic(auto, using(crate::proofs::Cases::told_alone), unfolding(twin_laws::specs::Kept::kept_does))]
+    #[tactic(auto, using(crate::proofs::Cases::told_alone), unfolding(twin_laws::specs::StoredState::kept_does))]
     fn on_other(&mut self, alloc: Global, bytes: &[u8], out: &mut TwinOut) -> Result<(), NoMemory>
         requires empty { out.old ≡ [] }
         ensures next { OnOk result (self.new ≡ (kept_does sides.Other bytes.now self.old).next) }

@@ -3,8 +3,8 @@
 ghost use Rattle.std.specs.Prelude.{[], ◌≡◌, ◌≤◌, ◌<◌, ◌+◌, ◌^◌, ◌++◌, ◌∷◌, true, Some, length, map, drop, slice_get, IfOk};
 ghost use Rattle.std.specs.VecDeque.{deque_capacity};
 ghost use Rattle.seq_arith.specs.TwinGrammar.{is_asking};
-ghost use Rattle.twin_laws.specs.Kept.{forwards_sent};
-ghost use Rattle.twin_log.specs.Outgoing.{AreAsking, texts_of};
+ghost use Rattle.twin_laws.specs.StoredState.{forwards_sent};
+ghost use Rattle.twin_log.specs.Outbox.{AreAsking, texts_of};
 
 use crate::twin_msg::TwinMsg;
 use crate::twin_out::TwinOut;
@@ -25,7 +25,7 @@ pub(crate) struct Waiting {
 impl Model for Waiting {
     ghost use Rattle.std.specs.Prelude.{ℕ, ◌≤◌, List, length};
     ghost use Rattle.std.specs.VecDeque.{deque_capacity};
-    ghost use Rattle.twin_log.specs.Outgoing.{AreAsking, texts_of};
+    ghost use Rattle.twin_log.specs.Outbox.{AreAsking, texts_of};
 
     ghost Value = { List (List ℕ) };
 

@@ -3,7 +3,7 @@
 ghost use Rattle.std.specs.Prelude.{◌≡◌, ◌≤◌, ◌+◌, ◌++◌, length, take, drop, Ok};
 ghost use Rattle.seq_arith.specs.TwinGrammar.{kind_of as kind_lem, number_of as number_lem, behind_of as behind_lem, spelling, reading, IsSpellable};
 ghost use Rattle.twin_log.specs.Value.{said_by};
-ghost use Rattle.twin_log.specs.Written.{header_of};
+ghost use Rattle.twin_log.specs.Header.{header_of};
 
 use crate::table::{HEADER, MAGIC, VERSION, number_of};
 use crate::twin_msg::TwinMsg;
@@ -72,7 +72,7 @@ fn behind_of<'a>(m: &TwinMsg<'a>) -> &'a [u8]
 }
 
 /// The header of a datagram of a kind with this length, checksum and number.
-#[tactic(auto, unfolding(crate::specs::Written::header_of, seq_arith::specs::MessageGrammar::number_bytes, seq_arith::specs::Bytes::two))]
+#[tactic(auto, unfolding(crate::specs::Header::header_of, seq_arith::specs::MessageGrammar::number_bytes, seq_arith::specs::Bytes::two))]
 fn header(kind: TwinKind, len: u16, check: u16, number: u64) -> [u8; HEADER]
     ensures { result ≡ header_of kind len check number }
 {

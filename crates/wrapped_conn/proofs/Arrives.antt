@@ -9,8 +9,8 @@ use Rattle.tcp_buffers.specs.Near.{IsNearFirst, is_ahead}
 use Rattle.tcp_endpoint.specs.declared.states.StateName.{StateName}
 use Rattle.tcp_endpoint.specs.declared.states.StateName.TheVariants.{Closed, Listen, SynSent, SynReceived, Established, FinWait1, FinWait2, CloseWait, Closing, LastAck, TimeWait}
 use Rattle.tcp_endpoint.specs.States.{after_syn_acked, after_fin, after_fin_acked}
-use Rattle.tcp_endpoint.specs.Receiving.{Receiving, next, window, with_segment}
-use Rattle.tcp_endpoint.specs.Sending.{Sending, with_syn_acked, acknowledged, is_duplicate, is_third_duplicate, duplicated, answered_by, fin_acked}
+use Rattle.tcp_endpoint.specs.ReceiveHalf.{Receiving, next, window, with_segment}
+use Rattle.tcp_endpoint.specs.SendHalf.{Sending, with_syn_acked, acknowledged, is_duplicate, is_third_duplicate, duplicated, answered_by, fin_acked}
 use Rattle.tcp_endpoint.specs.Tcb.{Tcb}
 use Rattle.tcp_endpoint.specs.Arrival.{first, ack_at, received, received_in, in_closed, in_others, with_time_wait_restarted, accepts, is_allowed, check_sequence, check_rst, check_syn, check_ack, is_bare, with_ack_used, with_ack, with_first_ack, with_fin_acked, with_text_and_fin, entering, with_ack_pending_if, with_reset, with_reset_reply, with_reset_reply_without_ack}
 use Rattle.tcp_endpoint.proofs.Places.{near_of_usable}

@@ -11,7 +11,7 @@ use Rattle.tcp_endpoint.specs.Arrival.{received, in_listen, begun}
 use Rattle.tcp_endpoint.specs.Tcb.{Tcb, listening}
 use Rattle.endpoint_laws.proofs.Bounding.{bounded_at_listen, bounded_in_listen}
 use Rattle.wrapped_conn.specs.ConnState.{ConnState}
-use Rattle.wrapped_conn.specs.Beginning.{joined_conn, first_conn, syn}
+use Rattle.wrapped_conn.specs.NewConnection.{joined_conn, first_conn, syn}
 use Rattle.wrapped_conn.specs.Numbers.{has_fin}
 use Rattle.wrapped_conn.specs.Sound.{IsSoundTcp, IsSound}
 

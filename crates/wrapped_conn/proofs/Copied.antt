@@ -13,12 +13,12 @@ use Rattle.segment_codec.specs.Change.{changed}
 use Rattle.segment_codec.proofs.Accepting.{is_read, start_is_there, packet_is_short}
 use Rattle.south_wrap.specs.declared.answers.CopyPart.{CopyPart}
 use Rattle.south_wrap.specs.SouthState.{SouthState}
-use Rattle.south_wrap.specs.Patching.{copied, IsPart, passed_in, inward, repeats_syn}
+use Rattle.south_wrap.specs.Translation.{copied, IsPart, passed_in, inward, repeats_syn}
 use Rattle.wrapped_conn.specs.declared.stage.Before.{Before}
 use Rattle.wrapped_conn.specs.ConnState.{ConnState}
 use Rattle.wrapped_conn.specs.Numbers.{has_fin, bytes_taken, logged_units}
-use Rattle.wrapped_conn.specs.Arriving.{reached, noted, arrived}
-use Rattle.wrapped_conn.specs.Telling.{spelled, own_data, end_of, further_start, unread_from, takes_held_fin, datas_of, further_data, or_una, copies}
+use Rattle.wrapped_conn.specs.Arrival.{reached, noted, arrived}
+use Rattle.wrapped_conn.specs.LoggerMessages.{spelled, own_data, end_of, further_start, unread_from, takes_held_fin, datas_of, further_data, or_una, copies}
 use Rattle.ft_io.proofs.Choices.{holds_if}
 
 payload_short : (bytes : List ℕ) → IsOk (reading bytes) → length (segment_in bytes).payload ≤ 1460

@@ -13,11 +13,11 @@ use Rattle.ft_model.specs.Offset.{first_of, text_of, fin_of}
 use Rattle.ft_model.specs.Point.{Point}
 use Rattle.ft_model.specs.Taken.{end_of}
 use Rattle.south_wrap.specs.SouthState.{SouthState}
-use Rattle.south_wrap.specs.Patching.{Copied, copied, is_some_copied}
+use Rattle.south_wrap.specs.Translation.{Copied, copied, is_some_copied}
 use Rattle.wrapped_conn.specs.declared.stage.Before.{Before}
 use Rattle.wrapped_conn.specs.ConnState.{ConnState}
 use Rattle.wrapped_conn.specs.Numbers.{has_fin, fetched_or_read, una_units, bytes_taken, logged_units}
-use Rattle.wrapped_conn.specs.Telling.{own_data, further_start, unread_from, further_data, or_una, copies}
+use Rattle.wrapped_conn.specs.LoggerMessages.{own_data, further_start, unread_from, further_data, or_una, copies}
 
 regrouped : (a b c d : Bool) → (a && (b && c && d)) ≡ (a && b && c && d)
 regrouped true b c d = refl

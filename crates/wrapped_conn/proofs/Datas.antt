@@ -11,7 +11,7 @@ use Rattle.ft_model.specs.Copy.{datas}
 use Rattle.ft_model.proofs.Resumed.{map_append}
 use Rattle.wrapped_conn.specs.ConnState.{ConnState}
 use Rattle.wrapped_conn.specs.Numbers.{una_units}
-use Rattle.wrapped_conn.specs.Telling.{spelled, datas_of}
+use Rattle.wrapped_conn.specs.LoggerMessages.{spelled, datas_of}
 
 -- a Data of a connection
 abbrev pub a_data : {S : Type 0} → ConnState S → (offset : ℕ) → List ℕ → Bool → Body

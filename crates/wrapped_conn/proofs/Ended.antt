@@ -16,7 +16,7 @@ use Rattle.server_trait.specs.Service.{Machine}
 use Rattle.ft_model.specs.Answered.{answered_after}
 use Rattle.ft_model.specs.Connection.{LiveTurn, ResetTurn, told_by, sent_by}
 use Rattle.ft_model.specs.Copy as model
-use Rattle.ft_model.specs.Ending.{reset_after, end_ticks_after, dones as dones_by_law}
+use Rattle.ft_model.specs.ResetAndEnd.{reset_after, end_ticks_after, dones as dones_by_law}
 use Rattle.ft_model.specs.Network.{Packet}
 use Rattle.ft_model.specs.Network.Packet.{To_client, To_logger}
 use Rattle.ft_model.specs.News.{News}
@@ -30,24 +30,24 @@ use Rattle.ft_model.specs.Sending.{acknowledged_after}
 use Rattle.ft_model.specs.Taken.{taken_after, fin_after}
 use Rattle.north_wrap.specs.declared.read_record.ReadRecord.{ReadRecord}
 use Rattle.north_wrap.specs.NorthState.{NorthState, lengths_of}
-use Rattle.north_wrap.specs.Standing.{messages_of, IsNumbered}
+use Rattle.north_wrap.specs.Refinement.{messages_of, IsNumbered}
 use Rattle.north_wrap.proofs.OneRead.{numbered_drop}
-use Rattle.north_wrap.proofs.Reading.{told_reads}
+use Rattle.north_wrap.proofs.ReadSequence.{told_reads}
 use Rattle.south_wrap.specs.SouthState.{SouthState, acknowledged, window}
-use Rattle.south_wrap.specs.Standing.{south_at}
-use Rattle.tcp_endpoint.specs.Leaving.{leaving, flushed, packets, or_bare}
+use Rattle.south_wrap.specs.SouthPoint.{south_at}
+use Rattle.tcp_endpoint.specs.Output.{leaving, flushed, packets, or_bare}
 use Rattle.tcp_endpoint.specs.Tcb.{Tcb}
-use Rattle.connection_laws.specs.Standing.{PartsTurn, adds, repeats, leaves_with}
-use Rattle.connection_laws.specs.Telling.{PartsTell}
-use Rattle.connection_laws.proofs.Telling.{parts_tell}
+use Rattle.connection_laws.specs.Parts.{PartsTurn, adds, repeats, leaves_with}
+use Rattle.connection_laws.specs.PointNumbers.{PartsTell}
+use Rattle.connection_laws.proofs.PointNumbers.{parts_tell}
 use Rattle.wrapped_conn.specs.declared.stage.Before.{Before}
 use Rattle.wrapped_conn.specs.ConnState.{ConnState}
 use Rattle.wrapped_conn.specs.Numbers.{sent_units, outer_sent}
-use Rattle.wrapped_conn.specs.Leaving.{passed, syn_ack, bare, is_ack_pending, leaves, turn_ended, with_endpoint_flushed}
-use Rattle.wrapped_conn.specs.Telling.{spelled, is_done}
-use Rattle.wrapped_conn.specs.Turning.{served, tcp_used}
+use Rattle.wrapped_conn.specs.Output.{passed, syn_ack, bare, is_ack_pending, leaves, turn_ended, with_endpoint_flushed}
+use Rattle.wrapped_conn.specs.LoggerMessages.{spelled, is_done}
+use Rattle.wrapped_conn.specs.Turn.{served, tcp_used}
 use Rattle.wrapped_conn.specs.Calls.{calls_of}
-use Rattle.wrapped_conn.specs.Standing.{StandsLive, StandsReset, IsSpelled, Leads}
+use Rattle.wrapped_conn.specs.Refinement.{StandsLive, StandsReset, IsSpelled, Leads}
 use Rattle.wrapped_conn.proofs.Locals.{used_local, flushed_local}
 
 -- the numbers of the south wrapper once the news have come

@@ -6,15 +6,15 @@ use Rattle.seq_arith.specs.Number.{distance, number_at}
 use Rattle.tcp_endpoint.specs.States.{is_listen, has_begun}
 use Rattle.tcp_endpoint.specs.declared.states.StateName.{StateName}
 use Rattle.tcp_endpoint.specs.declared.states.StateName.TheVariants.{Closed}
-use Rattle.tcp_endpoint.specs.Receiving.{Receiving}
-use Rattle.tcp_endpoint.specs.Sending.{Sending, timed, ticked, expires, with_sent, with_fin_sent}
+use Rattle.tcp_endpoint.specs.ReceiveHalf.{Receiving}
+use Rattle.tcp_endpoint.specs.SendHalf.{Sending, timed, ticked, expires, with_sent, with_fin_sent}
 use Rattle.tcp_endpoint.specs.Tcb.{Tcb}
-use Rattle.tcp_endpoint.specs.Leaving.{flushed, with_turn_ended, with_advertised, is_timed, after_full, with_probe, with_text_sent, with_fin_out, probes_text, probes_fin, new_fin, new_length}
-use Rattle.tcp_endpoint.specs.Turning.{after_tick, timer_ticked, waited}
+use Rattle.tcp_endpoint.specs.Output.{flushed, with_turn_ended, with_advertised, is_timed, after_full, with_probe, with_text_sent, with_fin_out, probes_text, probes_fin, new_fin, new_length}
+use Rattle.tcp_endpoint.specs.UserCalls.{after_tick, timer_ticked, waited}
 use Rattle.endpoint_laws.proofs.Bounding.{bounded_by_flush, bounded_by_tick}
 use Rattle.wrapped_conn.specs.ConnState.{ConnState}
 use Rattle.wrapped_conn.specs.Numbers.{sent_units}
-use Rattle.wrapped_conn.specs.Leaving.{with_endpoint_flushed, turn_ended}
+use Rattle.wrapped_conn.specs.Output.{with_endpoint_flushed, turn_ended}
 use Rattle.wrapped_conn.specs.Sound.{has_peer, IsSound, IsSoundTcp, swallowed}
 use Rattle.wrapped_conn.proofs.Kept.{GoesOnFrom, not_listen}
 use Rattle.wrapped_conn.proofs.SoundAgain.{sound_with}

@@ -7,38 +7,38 @@ use Rattle.seq_arith.specs.Message.Body.{DoneMsg}
 use Rattle.seq_arith.specs.Offset.{one_if}
 use Rattle.server_trait.specs.Service.{Machine}
 use Rattle.ft_model.specs.Answered.{answered_after}
-use Rattle.ft_model.specs.Ending.{reset_after, dones as dones_by_law}
+use Rattle.ft_model.specs.ResetAndEnd.{reset_after, dones as dones_by_law}
 use Rattle.ft_model.specs.News.{News}
 use Rattle.ft_model.specs.News.News.{Logged, Begins}
-use Rattle.ft_model.specs.Owed.{is_ack_pending as is_ack_pending_by_law}
+use Rattle.ft_model.specs.PendingAck.{is_ack_pending as is_ack_pending_by_law}
 use Rattle.ft_model.specs.Point.{Point, taken_units, advertised_edge}
 use Rattle.ft_model.specs.Sending.{acknowledged_after}
 use Rattle.ft_model.specs.Taken.{taken_after, fin_after}
 use Rattle.north_wrap.specs.declared.read_record.ReadRecord.{ReadRecord}
 use Rattle.north_wrap.specs.NorthState.{lengths_of, answered_on, Turns as NorthTurns}
 use Rattle.south_wrap.specs.SouthState.{SouthState}
-use Rattle.tcp_endpoint.specs.Leaving.{leaving, flushed, packets}
+use Rattle.tcp_endpoint.specs.Output.{leaving, flushed, packets}
 use Rattle.tcp_endpoint.specs.States.{is_closed}
 use Rattle.tcp_endpoint.specs.Tcb.{Tcb}
 use Rattle.endpoint_laws.proofs.EndingLaw.{flushed_name}
-use Rattle.connection_laws.specs.Standing.{PartsTurn, adds, north_after_news as heard_north}
-use Rattle.connection_laws.specs.Telling.{PartsTell}
-use Rattle.connection_laws.proofs.Telling.{parts_tell}
+use Rattle.connection_laws.specs.Parts.{PartsTurn, adds, north_after_news as heard_north}
+use Rattle.connection_laws.specs.PointNumbers.{PartsTell}
+use Rattle.connection_laws.proofs.PointNumbers.{parts_tell}
 use Rattle.connection_laws.proofs.Together.{turns_together}
 use Rattle.wrapped_conn.specs.ConnState.{ConnState}
-use Rattle.connection_laws.specs.Feeding.{tcp_reader, tcp_writer}
+use Rattle.connection_laws.specs.OutputFeed.{tcp_reader, tcp_writer}
 use Rattle.wrapped_conn.specs.Numbers.{una_units}
-use Rattle.wrapped_conn.specs.Arriving.{before_other}
-use Rattle.wrapped_conn.specs.Leaving.{is_ack_pending, leaves, turn_ended}
-use Rattle.wrapped_conn.specs.Telling.{spelled}
-use Rattle.wrapped_conn.specs.Turning.{CompletesTurn, Rests, Hears, Starts, with_logged, is_news, served, tcp_used, new_reads}
+use Rattle.wrapped_conn.specs.Arrival.{before_other}
+use Rattle.wrapped_conn.specs.Output.{is_ack_pending, leaves, turn_ended}
+use Rattle.wrapped_conn.specs.LoggerMessages.{spelled}
+use Rattle.wrapped_conn.specs.Turn.{CompletesTurn, Rests, Hears, Starts, with_logged, is_news, served, tcp_used, new_reads}
 use Rattle.wrapped_conn.specs.Sound.{IsSound}
-use Rattle.wrapped_conn.specs.Standing.{Keeps, TcpTells, StandsLive, StandsReset, Stands, StandsBefore, Leads}
+use Rattle.wrapped_conn.specs.Refinement.{Keeps, TcpTells, StandsLive, StandsReset, Stands, StandsBefore, Leads}
 use Rattle.wrapped_conn.proofs.Ended.{HasNews, carries_on}
 use Rattle.wrapped_conn.proofs.NumbersAt.{NumbersAt, numbers_at, una_is}
 use Rattle.wrapped_conn.proofs.Copies.{none_of_logged, none_of_begins}
 use Rattle.wrapped_conn.proofs.Receiving.{off_differs, parts_live, parts_reset}
-use Rattle.wrapped_conn.proofs.Resetting.{reset_point, resets_on}
+use Rattle.wrapped_conn.proofs.ResetTurn.{reset_point, resets_on}
 use Rattle.ft_io.proofs.Choices.{by_cases}
 
 ack_pending_more : (r closed taken e : Bool) → (closed ≡ true → taken ≡ false) → (r || (closed && (false || e))) ≡ ((false || r) || (closed && (((false || r) || taken) || e)))

@@ -16,27 +16,27 @@ use Rattle.ft_model.specs.Point.{Point}
 use Rattle.ft_model.specs.Restart.{point_of, resumed_at}
 use Rattle.north_wrap.specs.declared.read_record.ReadRecord.{ReadRecord}
 use Rattle.north_wrap.specs.NorthState.{NorthState, lengths_of, fresh_north, Turns as NorthTurns}
-use Rattle.north_wrap.specs.Standing.{HasReplayed}
+use Rattle.north_wrap.specs.Refinement.{HasReplayed}
 use Rattle.north_wrap.proofs.Offline.{begins_here}
 use Rattle.south_wrap.specs.SouthState.{first_south}
-use Rattle.south_wrap.specs.Standing.{south_at}
+use Rattle.south_wrap.specs.SouthPoint.{south_at}
 use Rattle.tcp_endpoint.specs.Arrival.{received, in_listen, begun}
 use Rattle.tcp_endpoint.specs.Tcb.{Tcb, listening}
-use Rattle.tcp_endpoint.specs.Turning.{acked_number}
-use Rattle.connection_laws.specs.Beginning.{MayOpen, opened_syn, listens_with}
-use Rattle.connection_laws.specs.Splicing.{GoesOnFrom, delta_from, spliced, connected}
-use Rattle.connection_laws.specs.Standing.{PartsStand, PartsTurn}
-use Rattle.connection_laws.specs.Telling.{PartsTell}
+use Rattle.tcp_endpoint.specs.UserCalls.{acked_number}
+use Rattle.connection_laws.specs.FirstSyn.{MayOpen, opened_syn, listens_with}
+use Rattle.connection_laws.specs.Splice.{GoesOnFrom, delta_from, spliced, connected}
+use Rattle.connection_laws.specs.Parts.{PartsStand, PartsTurn}
+use Rattle.connection_laws.specs.PointNumbers.{PartsTell}
 use Rattle.connection_laws.proofs.Spliced.{splices_parts}
-use Rattle.connection_laws.proofs.Starting.{starts_together}
-use Rattle.connection_laws.proofs.Telling.{parts_tell}
+use Rattle.connection_laws.proofs.NewParts.{starts_together}
+use Rattle.connection_laws.proofs.PointNumbers.{parts_tell}
 use Rattle.wrapped_conn.specs.ConnState.{ConnState}
-use Rattle.wrapped_conn.specs.Beginning.{joined_conn, syn, first_conn}
-use Rattle.connection_laws.specs.Feeding.{tcp_reader, tcp_writer}
+use Rattle.wrapped_conn.specs.NewConnection.{joined_conn, syn, first_conn}
+use Rattle.connection_laws.specs.OutputFeed.{tcp_reader, tcp_writer}
 use Rattle.wrapped_conn.specs.Numbers.{has_fin, una_units}
-use Rattle.wrapped_conn.specs.Turning.{Starts, new_reads, tcp_used}
+use Rattle.wrapped_conn.specs.Turn.{Starts, new_reads, tcp_used}
 use Rattle.wrapped_conn.specs.Sound.{IsSound}
-use Rattle.wrapped_conn.specs.Standing.{Keeps, StandsBefore, Leads}
+use Rattle.wrapped_conn.specs.Refinement.{Keeps, StandsBefore, Leads}
 use Rattle.wrapped_conn.proofs.Locals.{received_local, flushed_local, either}
 use Rattle.wrapped_conn.proofs.NumbersAt.{has_fin_is, logged_at}
 use Rattle.wrapped_conn.proofs.Hearing.{begins_with}

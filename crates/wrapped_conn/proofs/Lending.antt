@@ -2,13 +2,13 @@
 use Rattle.std.proofs.Common.{ℕ, ap, ◌∙◌}
 use Rattle.server_trait.specs.Service.{Machine}
 use Rattle.ft_model.specs.Point.{Point}
-use Rattle.north_wrap.specs.Standing.{NorthStands}
+use Rattle.north_wrap.specs.Refinement.{NorthStands}
 use Rattle.south_wrap.specs.SouthState.{SouthState}
-use Rattle.connection_laws.specs.Telling.{PartsTell}
-use Rattle.connection_laws.proofs.Telling.{parts_tell}
+use Rattle.connection_laws.specs.PointNumbers.{PartsTell}
+use Rattle.connection_laws.proofs.PointNumbers.{parts_tell}
 use Rattle.wrapped_conn.specs.ConnState.{ConnState}
 use Rattle.wrapped_conn.specs.Sound.{IsSound}
-use Rattle.wrapped_conn.specs.Standing.{Keeps, TcpTells, Tells, StandsLive, StandsReset, Stands}
+use Rattle.wrapped_conn.specs.Refinement.{Keeps, TcpTells, Tells, StandsLive, StandsReset, Stands}
 use Rattle.wrapped_conn.proofs.NumbersAt.{tcp_tells, logged_is}
 use Rattle.wrapped_conn.proofs.Receiving.{parts_live, parts_reset}
 use Rattle.ft_io.proofs.Choices.{by_cases}

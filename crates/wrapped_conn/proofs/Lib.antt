@@ -5,7 +5,7 @@ pub mod SoundAgain
 pub mod Flushed
 pub mod Passing
 pub mod PassedOn
-pub mod Serving
+pub mod NorthSoundness
 pub mod Reached
 pub mod Served
 pub mod Begun
@@ -13,14 +13,14 @@ pub mod Told
 pub mod Sendable
 pub mod Copied
 pub mod Onward
-pub mod Taking
+pub mod SegmentTurn
 pub mod Locals
 pub mod Ended
 pub mod NumbersAt
 pub mod Owing
 pub mod Copies
 pub mod Datas
-pub mod Resetting
+pub mod ResetTurn
 pub mod Receiving
 pub mod Hearing
 pub mod Ticking

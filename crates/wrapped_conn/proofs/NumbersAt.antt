@@ -10,11 +10,11 @@ use Rattle.ft_model.specs.Sending.{acknowledged_after}
 use Rattle.tcp_endpoint.specs.declared.states.StateName.{StateName}
 use Rattle.tcp_endpoint.specs.declared.states.StateName.TheVariants.{Closed, Listen, SynSent, SynReceived, Established, FinWait1, FinWait2, CloseWait, Closing, LastAck, TimeWait}
 use Rattle.tcp_endpoint.specs.States.{is_closed, is_time_wait}
-use Rattle.tcp_endpoint.specs.Turning.{acked_number}
-use Rattle.endpoint_laws.specs.Ending.{has_taken_fin}
-use Rattle.connection_laws.specs.Telling.{PartsTell, NewsTell, units_before, raised_by}
+use Rattle.tcp_endpoint.specs.UserCalls.{acked_number}
+use Rattle.endpoint_laws.specs.ConnectionEnd.{has_taken_fin}
+use Rattle.connection_laws.specs.PointNumbers.{PartsTell, NewsTell, units_before, raised_by}
 use Rattle.wrapped_conn.specs.ConnState.{ConnState}
-use Rattle.wrapped_conn.specs.Standing.{TcpTells}
+use Rattle.wrapped_conn.specs.Refinement.{TcpTells}
 use Rattle.wrapped_conn.specs.Numbers.{has_fin, is_over, bytes_taken, units_taken, advertised, una_units, logged_units, outer_sent}
 use Rattle.wrapped_conn.proofs.Ended.{few_units, units_of}
 

@@ -7,15 +7,15 @@ use Rattle.seq_arith.specs.Message.{Body}
 use Rattle.server_trait.specs.Service.{Served}
 use Rattle.north_wrap.specs.declared.read_record.ReadRecord.{ReadRecord}
 use Rattle.north_wrap.specs.NorthState.{NorthState, Turns}
-use Rattle.north_wrap.specs.Standing.{messages_of}
-use Rattle.tcp_endpoint.specs.Leaving.{leaving, packets, or_bare}
+use Rattle.north_wrap.specs.Refinement.{messages_of}
+use Rattle.tcp_endpoint.specs.Output.{leaving, packets, or_bare}
 use Rattle.wrapped_conn.specs.declared.stage.Before.{Before}
 use Rattle.wrapped_conn.specs.ConnState.{ConnState}
 use Rattle.wrapped_conn.specs.Numbers.{una_units}
-use Rattle.connection_laws.specs.Feeding.{tcp_reader, tcp_writer}
-use Rattle.wrapped_conn.specs.Leaving.{turn_ended, passed, syn_ack, bare, is_ack_pending, leaves}
-use Rattle.wrapped_conn.specs.Telling.{spelled}
-use Rattle.wrapped_conn.specs.Turning.{tcp_used, served, new_reads, CompletesTurn}
+use Rattle.connection_laws.specs.OutputFeed.{tcp_reader, tcp_writer}
+use Rattle.wrapped_conn.specs.Output.{turn_ended, passed, syn_ack, bare, is_ack_pending, leaves}
+use Rattle.wrapped_conn.specs.LoggerMessages.{spelled}
+use Rattle.wrapped_conn.specs.Turn.{tcp_used, served, new_reads, CompletesTurn}
 use Rattle.ft_model.proofs.Resumed.{map_append}
 
 bare_packets : (ack_pending : Bool) (segment : Segment) (segments : List Segment) → or_bare ack_pending (spelling segment) (packets segments) ≡ packets (or_bare ack_pending segment segments)

@@ -6,7 +6,7 @@ use Rattle.seq_arith.specs.Arrival.{int_eq, is_acceptable_or_at_edge}
 use Rattle.seq_arith.specs.Offset.{first_of, ack_of, length_of}
 use Rattle.seq_arith.specs.Packet.{Segment, has_rst, has_syn, has_ack}
 use Rattle.server_trait.specs.Service.{Machine}
-use Rattle.ft_model.specs.Owed.{is_refused, needs_ack as needs_ack_by_law}
+use Rattle.ft_model.specs.PendingAck.{is_refused, needs_ack as needs_ack_by_law}
 use Rattle.ft_model.specs.Point.{Point, taken_units, advertised_edge}
 use Rattle.ft_model.specs.Taken.{accepts as accepts_by_law}
 use Rattle.wrapped_conn.specs.ConnState.{ConnState}

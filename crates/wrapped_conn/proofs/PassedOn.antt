@@ -8,10 +8,10 @@ use Rattle.seq_arith.specs.Packet.{Segment, has_rst}
 use Rattle.seq_arith.specs.PacketGrammar.{reading, spelling}
 use Rattle.ft_model.proofs.Lists.{some_is, none_is_some}
 use Rattle.south_wrap.specs.SouthState.{SouthState}
-use Rattle.south_wrap.specs.Patching.{outward, passed_out}
-use Rattle.tcp_endpoint.specs.Leaving.{packets}
+use Rattle.south_wrap.specs.Translation.{outward, passed_out}
+use Rattle.tcp_endpoint.specs.Output.{packets}
 use Rattle.tcp_endpoint.specs.Packets.{AreReadable, byte_count}
-use Rattle.wrapped_conn.specs.Leaving.{passed}
+use Rattle.wrapped_conn.specs.Output.{passed}
 
 abbrev pub IsPassedOn : SouthState → ℕ → List Segment → List (List ℕ) → Type 0
 IsPassedOn s zero segments out = out ≡ packets segments

@@ -4,7 +4,7 @@ use Rattle.std.specs.Prelude.{IsOk}
 use Rattle.std.specs.List.{AllByRecursion}
 use Rattle.seq_arith.specs.Packet.{Segment}
 use Rattle.seq_arith.specs.PacketGrammar.{reading}
-use Rattle.tcp_endpoint.specs.Leaving.{packets}
+use Rattle.tcp_endpoint.specs.Output.{packets}
 use Rattle.tcp_endpoint.specs.Packets.{AreReadable}
 
 pub accepted : (segments : List Segment) → AreReadable segments → AllByRecursion (λ packet. IsOk (reading packet)) (packets segments)

@@ -7,11 +7,11 @@ use Rattle.segment_codec.specs.Change.{changed}
 use Rattle.south_wrap.specs.declared.answers.Inward.{Inward}
 use Rattle.south_wrap.specs.declared.answers.Inward.TheVariants.{Pass, Repeat}
 use Rattle.south_wrap.specs.SouthState.{SouthState}
-use Rattle.south_wrap.specs.Patching.{repeats_syn, answer_in, passed_in, inward}
+use Rattle.south_wrap.specs.Translation.{repeats_syn, answer_in, passed_in, inward}
 use Rattle.tcp_endpoint.specs.Arrival.{received}
 use Rattle.tcp_endpoint.specs.Tcb.{Tcb}
 use Rattle.wrapped_conn.specs.ConnState.{ConnState}
-use Rattle.wrapped_conn.specs.Arriving.{reached}
+use Rattle.wrapped_conn.specs.Arrival.{reached}
 use Rattle.wrapped_conn.specs.Sound.{IsSound}
 use Rattle.wrapped_conn.proofs.Arrives.{HasFieldsInRange, segment_goes}
 use Rattle.wrapped_conn.proofs.SoundAgain.{sound_with}

@@ -9,44 +9,44 @@ use Rattle.seq_arith.specs.Message.Body.{DoneMsg}
 use Rattle.server_trait.specs.Service.{Machine}
 use Rattle.ft_model.specs.Answered.{answered_after}
 use Rattle.ft_model.specs.Copy.{copies as copies_by_law}
-use Rattle.ft_model.specs.Ending.{reset_after, dones as dones_by_law}
+use Rattle.ft_model.specs.ResetAndEnd.{reset_after, dones as dones_by_law}
 use Rattle.ft_model.specs.News.{News}
 use Rattle.ft_model.specs.News.News.{Comes, Begins}
-use Rattle.ft_model.specs.Owed.{is_ack_pending as is_ack_pending_by_law, needs_ack as needs_ack_by_law}
+use Rattle.ft_model.specs.PendingAck.{is_ack_pending as is_ack_pending_by_law, needs_ack as needs_ack_by_law}
 use Rattle.ft_model.specs.Point.{Point, taken_units, advertised_edge, is_over}
 use Rattle.ft_model.specs.Sending.{acknowledged_after}
 use Rattle.north_wrap.specs.declared.read_record.ReadRecord.{ReadRecord}
 use Rattle.north_wrap.specs.NorthState.{lengths_of, Turns as NorthTurns}
 use Rattle.south_wrap.specs.SouthState.{SouthState}
-use Rattle.south_wrap.specs.Patching.{repeats_syn, inward}
-use Rattle.south_wrap.specs.Standing.{south_at}
+use Rattle.south_wrap.specs.Translation.{repeats_syn, inward}
+use Rattle.south_wrap.specs.SouthPoint.{south_at}
 use Rattle.tcp_endpoint.specs.Arrival.{received}
-use Rattle.tcp_endpoint.specs.Leaving.{leaving, flushed, packets}
+use Rattle.tcp_endpoint.specs.Output.{leaving, flushed, packets}
 use Rattle.tcp_endpoint.specs.States.{is_closed}
 use Rattle.tcp_endpoint.specs.Tcb.{Tcb}
 use Rattle.endpoint_laws.specs.Turn as endpoint
-use Rattle.connection_laws.specs.Passing.{news_inside}
-use Rattle.connection_laws.specs.Turning.{NewsFit}
-use Rattle.connection_laws.specs.Standing.{PartsTurn, adds}
-use Rattle.connection_laws.specs.Telling.{PartsTell, NewsTell}
-use Rattle.connection_laws.proofs.Telling.{parts_tell, news_tell}
+use Rattle.connection_laws.specs.Traffic.{news_inside}
+use Rattle.connection_laws.specs.Turn.{NewsFit}
+use Rattle.connection_laws.specs.Parts.{PartsTurn, adds}
+use Rattle.connection_laws.specs.PointNumbers.{PartsTell, NewsTell}
+use Rattle.connection_laws.proofs.PointNumbers.{parts_tell, news_tell}
 use Rattle.connection_laws.proofs.Together.{turns_together}
 use Rattle.endpoint_laws.proofs.EndingLaw.{flushed_name}
 use Rattle.wrapped_conn.specs.ConnState.{ConnState}
-use Rattle.connection_laws.specs.Feeding.{tcp_reader, tcp_writer}
+use Rattle.connection_laws.specs.OutputFeed.{tcp_reader, tcp_writer}
 use Rattle.wrapped_conn.specs.Numbers.{una_units, resets, needs_ack}
-use Rattle.wrapped_conn.specs.Arriving.{arrived, reached, noted, before_segment}
-use Rattle.wrapped_conn.specs.Leaving.{is_ack_pending, leaves, turn_ended}
-use Rattle.wrapped_conn.specs.Telling.{copies, spelled}
-use Rattle.wrapped_conn.specs.Turning.{CompletesTurn, Rests, TellsDone, Receives, served, tcp_used, new_reads}
+use Rattle.wrapped_conn.specs.Arrival.{arrived, reached, noted, before_segment}
+use Rattle.wrapped_conn.specs.Output.{is_ack_pending, leaves, turn_ended}
+use Rattle.wrapped_conn.specs.LoggerMessages.{copies, spelled}
+use Rattle.wrapped_conn.specs.Turn.{CompletesTurn, Rests, TellsDone, Receives, served, tcp_used, new_reads}
 use Rattle.wrapped_conn.specs.Sound.{IsSound}
-use Rattle.wrapped_conn.specs.Standing.{Keeps, TcpTells, StandsLive, StandsReset, Stands, Leads}
+use Rattle.wrapped_conn.specs.Refinement.{Keeps, TcpTells, StandsLive, StandsReset, Stands, Leads}
 use Rattle.wrapped_conn.proofs.Locals.{received_local}
 use Rattle.wrapped_conn.proofs.Ended.{HasNews, carries_on}
 use Rattle.wrapped_conn.proofs.NumbersAt.{NumbersAt, numbers_at, has_fin_is, una_is, news_una_is, tcp_tells, logged_is}
 use Rattle.wrapped_conn.proofs.Owing.{ack_pending_same, needs_ack_is}
 use Rattle.wrapped_conn.proofs.Copies.{copies_is}
-use Rattle.wrapped_conn.proofs.Resetting.{reset_point, resets_on, dones_are, still_unanswered}
+use Rattle.wrapped_conn.proofs.ResetTurn.{reset_point, resets_on, dones_are, still_unanswered}
 use Rattle.ft_io.proofs.Choices.{by_cases}
 
 -- TCP once the segment has come

@@ -5,20 +5,20 @@ use Rattle.server_trait.specs.Service.{Served}
 use Rattle.south_wrap.specs.SouthState.{SouthState}
 use Rattle.north_wrap.specs.declared.read_record.ReadRecord.{ReadRecord}
 use Rattle.north_wrap.specs.NorthState.{NorthState, Turns, closes, given_north, given_socket, shut_north, shut_socket, lengths_of}
-use Rattle.north_wrap.specs.Standing.{read_off, off_socket}
+use Rattle.north_wrap.specs.Refinement.{read_off, off_socket}
 use Rattle.north_wrap.proofs.Offline.{socket_is}
 use Rattle.tcp_endpoint.specs.Tcb.{Tcb}
-use Rattle.tcp_endpoint.specs.Turning.{after_read, closing}
+use Rattle.tcp_endpoint.specs.UserCalls.{after_read, closing}
 use Rattle.endpoint_laws.specs.Turn.{used}
 use Rattle.endpoint_laws.specs.Turn.Call.{Closes}
 use Rattle.wrapped_conn.specs.ConnState.{ConnState}
 use Rattle.wrapped_conn.specs.Numbers.{una_units}
-use Rattle.connection_laws.specs.Feeding.{tcp_reader, tcp_writer}
+use Rattle.connection_laws.specs.OutputFeed.{tcp_reader, tcp_writer}
 use Rattle.wrapped_conn.specs.Calls.{reads_of, calls_of}
-use Rattle.wrapped_conn.specs.Telling.{AreTellable}
-use Rattle.wrapped_conn.specs.Turning.{tcp_used, served}
+use Rattle.wrapped_conn.specs.LoggerMessages.{AreTellable}
+use Rattle.wrapped_conn.specs.Turn.{tcp_used, served}
 use Rattle.wrapped_conn.specs.Sound.{IsSound, swallowed}
-use Rattle.wrapped_conn.proofs.Serving.{ServedOn, turn_serves, news_tellable}
+use Rattle.wrapped_conn.proofs.NorthSoundness.{ServedOn, turn_serves, news_tellable}
 
 -- the endpoint after a turn of the north wrapper is that after its calls
 used_reads : (e : Tcb) (ks : List ℕ) → read_off after_read e ks ≡ used (reads_of ks) e

@@ -4,7 +4,7 @@ use Rattle.std.specs.List.{AllByRecursion}
 use Rattle.south_wrap.specs.SouthState.{SouthState, with_stable}
 use Rattle.north_wrap.specs.declared.read_record.ReadRecord.{ReadRecord}
 use Rattle.north_wrap.specs.NorthState.{NorthState, answered_on, newly}
-use Rattle.wrapped_conn.specs.Telling.{IsTellable}
+use Rattle.wrapped_conn.specs.LoggerMessages.{IsTellable}
 use Rattle.seq_arith.specs.Number.{distance}
 use Rattle.tcp_endpoint.specs.Tcb.{Tcb}
 use Rattle.wrapped_conn.specs.ConnState.{ConnState}

@@ -8,7 +8,7 @@ use Rattle.server_trait.specs.Service.{Machine}
 use Rattle.ft_model.specs.Answered.{answered_after}
 use Rattle.ft_model.specs.Connection.{LiveTurn, ResetTurn, sent_by}
 use Rattle.ft_model.specs.Copy.{copies as copies_by_law}
-use Rattle.ft_model.specs.Ending.{reset_after, end_ticks_after, dones as dones_by_law}
+use Rattle.ft_model.specs.ResetAndEnd.{reset_after, end_ticks_after, dones as dones_by_law}
 use Rattle.ft_model.specs.News.News.{Ticks}
 use Rattle.ft_model.specs.Point.{Point, taken_units, acknowledgement, is_over as is_over_by_law}
 use Rattle.ft_model.specs.Reads.{reads_told, read_messages}
@@ -16,30 +16,30 @@ use Rattle.ft_model.specs.Segments as segments
 use Rattle.ft_model.specs.Segments.{segments_of, bare_segment}
 use Rattle.ft_model.specs.Sending.{acknowledged_after}
 use Rattle.ft_model.specs.Taken.{taken_after, fin_after}
-use Rattle.north_wrap.specs.Standing.{NorthStands, messages_of}
-use Rattle.north_wrap.proofs.Reading.{told_reads}
+use Rattle.north_wrap.specs.Refinement.{NorthStands, messages_of}
+use Rattle.north_wrap.proofs.ReadSequence.{told_reads}
 use Rattle.south_wrap.specs.SouthState.{SouthState}
-use Rattle.south_wrap.specs.Standing.{south_at}
-use Rattle.tcp_endpoint.specs.Leaving.{leaving, flushed, packets}
+use Rattle.south_wrap.specs.SouthPoint.{south_at}
+use Rattle.tcp_endpoint.specs.Output.{leaving, flushed, packets}
 use Rattle.tcp_endpoint.specs.Tcb.{Tcb}
-use Rattle.tcp_endpoint.specs.Turning.{after_tick, waited, timer_ticked}
-use Rattle.connection_laws.specs.Standing.{PartsTurn, adds, leaves_with}
-use Rattle.connection_laws.specs.Telling.{PartsTell}
-use Rattle.connection_laws.proofs.Telling.{parts_tell}
+use Rattle.tcp_endpoint.specs.UserCalls.{after_tick, waited, timer_ticked}
+use Rattle.connection_laws.specs.Parts.{PartsTurn, adds, leaves_with}
+use Rattle.connection_laws.specs.PointNumbers.{PartsTell}
+use Rattle.connection_laws.proofs.PointNumbers.{parts_tell}
 use Rattle.connection_laws.proofs.Together.{ticks_together, ticks_add_nothing}
 use Rattle.wrapped_conn.specs.ConnState.{ConnState}
 use Rattle.wrapped_conn.specs.Numbers.{logged_units, sent_units, outer_sent}
-use Rattle.wrapped_conn.specs.Leaving.{passed, with_endpoint_flushed}
-use Rattle.wrapped_conn.specs.Telling.{is_done, dones, spelled, with_done}
-use Rattle.wrapped_conn.specs.Turning.{ticked, is_end_tick, counted, TicksLive, TellsDone, Ticks as TicksOn}
+use Rattle.wrapped_conn.specs.Output.{passed, with_endpoint_flushed}
+use Rattle.wrapped_conn.specs.LoggerMessages.{is_done, dones, spelled, with_done}
+use Rattle.wrapped_conn.specs.Turn.{ticked, is_end_tick, counted, TicksLive, TellsDone, Ticks as TicksOn}
 use Rattle.wrapped_conn.specs.Sound.{IsSound}
-use Rattle.wrapped_conn.specs.Standing.{Keeps, TcpTells, StandsLive, StandsReset, Stands, Leads}
+use Rattle.wrapped_conn.specs.Refinement.{Keeps, TcpTells, StandsLive, StandsReset, Stands, Leads}
 use Rattle.wrapped_conn.proofs.Locals.{flushed_local}
 use Rattle.wrapped_conn.proofs.Ended.{units_of, few_units, spelled_by}
 use Rattle.wrapped_conn.proofs.NumbersAt.{NumbersAt, numbers_at, logged_is}
 use Rattle.wrapped_conn.proofs.Copies.{none_of_ticks}
 use Rattle.wrapped_conn.proofs.Receiving.{parts_live, parts_reset}
-use Rattle.wrapped_conn.proofs.Resetting.{reset_point, resets_on, dones_are, still_unanswered}
+use Rattle.wrapped_conn.proofs.ResetTurn.{reset_point, resets_on, dones_are, still_unanswered}
 use Rattle.ft_io.proofs.Choices.{by_cases}
 
 -- the south wrapper after the tick

@@ -8,9 +8,9 @@ use Rattle.seq_arith.specs.declared.kinds.Kind.TheVariants as kinds
 use Rattle.seq_arith.specs.MessageGrammar.{spelling, behind_at}
 use Rattle.ft_io.specs.declared.Key.{Key}
 use Rattle.north_wrap.specs.declared.read_record.ReadRecord.{ReadRecord}
-use Rattle.north_wrap.specs.Standing.{messages_of}
+use Rattle.north_wrap.specs.Refinement.{messages_of}
 use Rattle.tcp_endpoint.specs.Packets.{byte_count}
-use Rattle.wrapped_conn.specs.Telling.{spelled, AreTellable}
+use Rattle.wrapped_conn.specs.LoggerMessages.{spelled, AreTellable}
 use Rattle.tcp_endpoint.proofs.Spelled.{byte_count_push}
 
 abbrev pub pair : ℕ → ℕ → ℕ × ℕ

@@ -2,10 +2,10 @@
 use Rattle.std.specs.Prelude.{ℕ, List, [], ◌∷◌, length, if◌then◌else◌}
 use Rattle.north_wrap.specs.RunState.{gives}
 use Rattle.north_wrap.specs.NorthState.{NorthState, unreleased, closes, given_north}
-use Rattle.north_wrap.specs.Standing.{off_socket}
+use Rattle.north_wrap.specs.Refinement.{off_socket}
 use Rattle.tcp_endpoint.specs.Tcb.{Tcb}
-use Rattle.tcp_endpoint.specs.Turning.{write_room}
-use Rattle.connection_laws.specs.Feeding.{tcp_writer}
+use Rattle.tcp_endpoint.specs.UserCalls.{write_room}
+use Rattle.connection_laws.specs.OutputFeed.{tcp_writer}
 use Rattle.endpoint_laws.specs.Turn.{Call}
 use Rattle.endpoint_laws.specs.Turn.Call.{Reads, Writes, Closes}
 

@@ -1,10 +1,10 @@
 pub mod ConnState
 pub mod Numbers
-pub mod Beginning
+pub mod NewConnection
 pub mod Calls
-pub mod Arriving
-pub mod Leaving
-pub mod Telling
-pub mod Turning
+pub mod Arrival
+pub mod Output
+pub mod LoggerMessages
+pub mod Turn
 pub mod Sound
-pub mod Standing
+pub mod Refinement

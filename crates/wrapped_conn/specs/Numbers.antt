@@ -9,7 +9,7 @@ use Rattle.ft_model.specs.Copy.{from_start}
 use Rattle.south_wrap.specs.SouthState.{raised}
 use Rattle.tcp_endpoint.specs.declared.states.StateName.{StateName}
 use Rattle.tcp_endpoint.specs.declared.states.StateName.TheVariants.{Closed, CloseWait, Closing, LastAck, TimeWait}
-use Rattle.tcp_endpoint.specs.Turning.{sent_number, acked_number}
+use Rattle.tcp_endpoint.specs.UserCalls.{sent_number, acked_number}
 use Rattle.wrapped_conn.specs.ConnState.{ConnState}
 
 -- the states in which the peer's FIN is taken, of a TCP that no RST has closed (RFC 9293, 3.3.2, figure 5) ..

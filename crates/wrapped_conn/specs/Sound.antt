@@ -9,7 +9,7 @@ use Rattle.tcp_endpoint.specs.Tcb.{Tcb}
 use Rattle.endpoint_laws.specs.Laws.{IsBounded}
 use Rattle.wrapped_conn.specs.ConnState.{ConnState}
 use Rattle.wrapped_conn.specs.Numbers.{bytes_taken}
-use Rattle.wrapped_conn.specs.Telling.{AreTellable}
+use Rattle.wrapped_conn.specs.LoggerMessages.{AreTellable}
 
 -- the states of an endpoint that has received a SYN
 abbrev pub has_peer : StateName → Bool

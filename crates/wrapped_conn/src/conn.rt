@@ -3,7 +3,7 @@
 ghost use Rattle.std.specs.Prelude.{◌≡◌, ◌<◌, ◌≤◌, ◌-◌, ◌%◌, ◌^◌, ◌+◌, false, Some, [], IfOk};
 ghost use Rattle.seq_arith.specs.Offset.{one_if};
 ghost use Rattle.segment_codec.specs.Value.{said};
-ghost use Rattle.wrapped_conn.specs.Beginning.{first_conn, joined_conn, syn};
+ghost use Rattle.wrapped_conn.specs.NewConnection.{first_conn, joined_conn, syn};
 ghost use Rattle.wrapped_conn.specs.Numbers.{has_fin as has_fin_lem, is_over as is_over_lem};
 ghost use Rattle.wrapped_conn.specs.Sound.{IsSound};
 

@@ -4,11 +4,11 @@ ghost use Rattle.std.specs.Prelude.{◌≡◌, ◌≤◌, ◌+◌, ◌-◌, ◌*
 ghost use Rattle.seq_arith.specs.PacketGrammar.{reading};
 ghost use Rattle.seq_arith.specs.Message.{Body as Told};
 ghost use Rattle.seq_arith.specs.Message.Body.{DataMsg};
-ghost use Rattle.south_wrap.specs.Patching.{copied};
+ghost use Rattle.south_wrap.specs.Translation.{copied};
 ghost use Rattle.tcp_endpoint.specs.Packets.{byte_count};
 ghost use Rattle.wrapped_conn.specs.Numbers.{fetched_or_read, una_units, logged_units, bytes_taken};
-ghost use Rattle.wrapped_conn.specs.Telling.{spelled, copies, own_data, further_start as further_start_lem, takes_held_fin as takes_held_fin_lem};
-ghost use Rattle.wrapped_conn.specs.Telling.{unread_from, datas_of, or_una, most_text, AreShort};
+ghost use Rattle.wrapped_conn.specs.LoggerMessages.{spelled, copies, own_data, further_start as further_start_lem, takes_held_fin as takes_held_fin_lem};
+ghost use Rattle.wrapped_conn.specs.LoggerMessages.{unread_from, datas_of, or_una, most_text, AreShort};
 ghost use Rattle.wrapped_conn.specs.Sound.{IsSound};
 
 use crate::conn::Conn;

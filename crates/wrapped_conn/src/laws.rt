@@ -14,16 +14,16 @@ ghost use Rattle.ft_model.specs.Restart.{point_of, resumed_at};
 ghost use Rattle.logger_wire.specs.declared.Body.TheVariants.{StableMsg, ReadsMsg};
 ghost use Rattle.logger_wire.specs.Value.{is_set};
 ghost use Rattle.north_wrap.specs.NorthState.{NorthState};
-ghost use Rattle.north_wrap.specs.Standing.{HasReplayed};
-ghost use Rattle.south_wrap.specs.Standing.{south_at};
-ghost use Rattle.connection_laws.specs.Beginning.{MayOpen};
-ghost use Rattle.connection_laws.specs.Splicing.{GoesOnFrom, delta_from, spliced};
-ghost use Rattle.connection_laws.specs.Turning.{NewsFit};
+ghost use Rattle.north_wrap.specs.Refinement.{HasReplayed};
+ghost use Rattle.south_wrap.specs.SouthPoint.{south_at};
+ghost use Rattle.connection_laws.specs.FirstSyn.{MayOpen};
+ghost use Rattle.connection_laws.specs.Splice.{GoesOnFrom, delta_from, spliced};
+ghost use Rattle.connection_laws.specs.Turn.{NewsFit};
 ghost use Rattle.wrapped_conn.specs.ConnState.{ConnState};
-ghost use Rattle.wrapped_conn.specs.Beginning.{first_conn, joined_conn};
+ghost use Rattle.wrapped_conn.specs.NewConnection.{first_conn, joined_conn};
 ghost use Rattle.wrapped_conn.specs.Sound.{IsSound};
-ghost use Rattle.wrapped_conn.specs.Standing.{Stands, StandsBefore, Leads, Tells};
-ghost use Rattle.wrapped_conn.specs.Turning.{Starts, Receives, IsTold, Ticks as TicksOn};
+ghost use Rattle.wrapped_conn.specs.Refinement.{Stands, StandsBefore, Leads, Tells};
+ghost use Rattle.wrapped_conn.specs.Turn.{Starts, Receives, IsTold, Ticks as TicksOn};
 
 use server_trait::Service;
 

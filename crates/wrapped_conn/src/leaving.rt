@@ -5,9 +5,9 @@ ghost use Rattle.std.specs.List.{AllByRecursion};
 ghost use Rattle.seq_arith.specs.Packet.{Segment};
 ghost use Rattle.seq_arith.specs.PacketGrammar.{reading, spelling, mss_option};
 ghost use Rattle.segment_codec.specs.Value.{said};
-ghost use Rattle.tcp_endpoint.specs.Leaving.{leaving, packets, or_bare};
+ghost use Rattle.tcp_endpoint.specs.Output.{leaving, packets, or_bare};
 ghost use Rattle.tcp_endpoint.specs.Packets.{AreReadable, byte_count};
-ghost use Rattle.wrapped_conn.specs.Leaving.{passed, turn_ended, own_segment, syn_ack, bare, is_ack_pending};
+ghost use Rattle.wrapped_conn.specs.Output.{passed, turn_ended, own_segment, syn_ack, bare, is_ack_pending};
 ghost use Rattle.wrapped_conn.specs.Sound.{IsSound};
 
 use crate::conn::Conn;
@@ -64,7 +64,7 @@ impl<S: Service> Conn<S> {
     }
 
     /// Sends the SYN-ACK with the logged numbers, where the client has repeated its SYN.
-    #[tactic(auto, unfolding(crate::specs::Leaving::syn_ack))]
+    #[tactic(auto, unfolding(crate::specs::Output::syn_ack))]
     pub(crate) fn send_syn_ack(&self, repeats: bool, out: &mut Outbox)
         requires count { length out.old ≤ 1030 }
         requires bytes { byte_count out.old ≤ 110000 }
@@ -80,7 +80,7 @@ impl<S: Service> Conn<S> {
     }
 
     /// Sends a segment without data, if an ACK is pending and no other segment is sent.
-    #[tactic(auto, unfolding(crate::specs::Leaving::bare))]
+    #[tactic(auto, unfolding(crate::specs::Output::bare))]
     pub(crate) fn send_bare(&self, ack_pending: bool, out: &mut Outbox)
         ensures { out.new ≡ or_bare ack_pending (spelling (bare self.now)) out.old }
     {

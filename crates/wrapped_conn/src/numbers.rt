@@ -9,7 +9,7 @@ ghost use Rattle.ft_model.specs.Copy.{from_start};
 ghost use Rattle.tcp_endpoint.specs.States.{is_closed};
 ghost use Rattle.wrapped_conn.specs.Numbers.{has_fin as has_fin_lem, is_over as is_over_lem, fetched_or_read, bytes_taken, units_taken, advertised, una_units, outer_sent};
 ghost use Rattle.wrapped_conn.specs.Numbers.{sent_units, logged_units, resets, needs_ack};
-ghost use Rattle.wrapped_conn.specs.Telling.{end_of};
+ghost use Rattle.wrapped_conn.specs.LoggerMessages.{end_of};
 ghost use Rattle.wrapped_conn.specs.Sound.{IsSound};
 
 use crate::conn::{Conn, STREAM, has_fin, is_over};

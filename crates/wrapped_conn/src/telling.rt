@@ -4,9 +4,9 @@ ghost use Rattle.std.specs.Prelude.{◌≡◌, ◌≤◌, ◌<◌, ◌+◌, ◌*
 ghost use Rattle.seq_arith.specs.MessageGrammar.{spelling, message_length};
 ghost use Rattle.seq_arith.specs.Message.Body.{DataMsg};
 ghost use Rattle.logger_wire.specs.Value.{body_of, message_of, IsSendable};
-ghost use Rattle.north_wrap.specs.Standing.{messages_of};
+ghost use Rattle.north_wrap.specs.Refinement.{messages_of};
 ghost use Rattle.tcp_endpoint.specs.Packets.{byte_count};
-ghost use Rattle.wrapped_conn.specs.Telling.{spelled, dones, text_length, most_text, AreShort, AreTellable, with_done};
+ghost use Rattle.wrapped_conn.specs.LoggerMessages.{spelled, dones, text_length, most_text, AreShort, AreTellable, with_done};
 
 use crate::conn::Conn;
 use crate::stage::ConnStage;

@@ -1,4 +1,4 @@
-use Rattle.journal_laws.proofs.Ending.{moment}
+use Rattle.journal_laws.proofs.LifeFront.{moment}
 use Rattle.journal_laws.proofs.an_unanswered_round_is_a_moment.Goals as goal
 
 pub returns : goal.returns

@@ -1,4 +1,4 @@
-use Rattle.net_schedule.specs.Keeping.{kept}
+use Rattle.net_schedule.specs.WorldView.{kept}
 use Rattle.own_service.proofs.Seen.{all_see, plays_next}
 use Rattle.own_service.proofs.play.Goals as goal
 

@@ -1,6 +1,6 @@
 use Rattle.std.proofs.Common.{take}
-use Rattle.net_schedule.specs.Keeping.{kept}
-use Rattle.own_service.specs.Seen.{IsPlayed}
+use Rattle.net_schedule.specs.WorldView.{kept}
+use Rattle.own_service.specs.ClientView.{IsPlayed}
 use Rattle.own_service.proofs.play.Given as goal
 
 -- the events up to here are played

@@ -1,6 +1,6 @@
 use Rattle.server_trait.specs.Service.{machine}
 use Rattle.twin_laws.proofs.Flattening.{flattens}
-use Rattle.twin_laws.proofs.Written.{is_sent, is_paired}
+use Rattle.twin_laws.proofs.TraceBytes.{is_sent, is_paired}
 use Rattle.twin_laws.proofs.flat_traces_show_all.Goals as goal
 
 pub returns-clause-world : goal.returns-clause-world

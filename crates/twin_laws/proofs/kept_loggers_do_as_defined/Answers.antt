@@ -1,4 +1,4 @@
-use Rattle.twin_laws.proofs.Keeping.{head_does_so, tail_does_so}
+use Rattle.twin_laws.proofs.StoredParts.{head_does_so, tail_does_so}
 use Rattle.twin_laws.proofs.kept_loggers_do_as_defined.Goals as goal
 
 pub returns-clause-head : goal.returns-clause-head

@@ -1,5 +1,5 @@
 use Rattle.server_trait.specs.Service.{machine}
-use Rattle.twin_laws.proofs.Written.{all_written}
+use Rattle.twin_laws.proofs.TraceBytes.{all_written}
 use Rattle.twin_laws.proofs.parcels_are_written.Goals as goal
 
 pub returns : goal.returns

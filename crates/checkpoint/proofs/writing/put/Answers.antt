@@ -1,5 +1,5 @@
 use Rattle.std.proofs.Common.{◌+◌, ◌∙◌, length, refl}
-use Rattle.checkpoint.proofs.Assembled.{assembled}
+use Rattle.checkpoint.proofs.OneSpelling.{assembled}
 use Rattle.checkpoint.proofs.writing.put.Goals as goal
 
 pub returns-clause-bytes : goal.returns-clause-bytes

@@ -1,7 +1,7 @@
 use Rattle.std.proofs.Common.{◌∙◌, [], ◌++◌, ap, take, drop}
 use Rattle.seq_arith.specs.declared.mark.MarkKind.TheVariants as kinds
-use Rattle.checkpoint.specs.Written.{sealed}
-use Rattle.checkpoint.proofs.Assembled.{marked_numbers, ask_numbers}
+use Rattle.checkpoint.specs.Spelling.{sealed}
+use Rattle.checkpoint.proofs.OneSpelling.{marked_numbers, ask_numbers}
 use Rattle.checkpoint.proofs.writing.put_body.Goals as goal
 
 pub returns-in-Marked-clause-bytes : goal.returns-in-Marked-clause-bytes

@@ -1,7 +1,7 @@
 use Rattle.std.proofs.Common.{◌∙◌, ◌++◌, ap, take, drop, arith}
 use Rattle.seq_arith.specs.MarkGrammar.{reading}
 use Rattle.checkpoint.specs.Value.{message_of}
-use Rattle.checkpoint.proofs.Assembled.{message_fits, spelling_is, read_back}
+use Rattle.checkpoint.proofs.OneSpelling.{message_fits, spelling_is, read_back}
 use Rattle.checkpoint.proofs.writing.write_mark.Goals as goal
 
 pub put_body-requires-clause-short : goal.put_body-requires-clause-short

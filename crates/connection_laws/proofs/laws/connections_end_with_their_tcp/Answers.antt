@@ -1,5 +1,5 @@
 use Rattle.server_trait.specs.Service.{machine}
-use Rattle.connection_laws.proofs.Ending.{ends_inside}
+use Rattle.connection_laws.proofs.TcpEnd.{ends_inside}
 use Rattle.connection_laws.proofs.laws.connections_end_with_their_tcp.Goals as goal
 
 pub returns : goal.returns

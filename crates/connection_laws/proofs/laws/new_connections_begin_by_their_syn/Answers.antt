@@ -1,5 +1,5 @@
 use Rattle.server_trait.specs.Service.{machine}
-use Rattle.connection_laws.proofs.Beginning.{begins_inside}
+use Rattle.connection_laws.proofs.FirstSyn.{begins_inside}
 use Rattle.connection_laws.proofs.laws.new_connections_begin_by_their_syn.Goals as goal
 
 pub returns : goal.returns

@@ -1,5 +1,5 @@
 use Rattle.server_trait.specs.Service.{machine}
-use Rattle.connection_laws.proofs.Starting.{starts_together}
+use Rattle.connection_laws.proofs.NewParts.{starts_together}
 use Rattle.connection_laws.proofs.laws.new_connections_start_with_their_parts.Goals as goal
 
 pub returns : goal.returns

@@ -1,5 +1,5 @@
 use Rattle.server_trait.specs.Service.{machine}
-use Rattle.connection_laws.proofs.Telling.{parts_tell}
+use Rattle.connection_laws.proofs.PointNumbers.{parts_tell}
 use Rattle.connection_laws.proofs.laws.parts_tell_the_point.Goals as goal
 
 pub returns : goal.returns

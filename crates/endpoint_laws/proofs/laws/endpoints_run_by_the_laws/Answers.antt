@@ -1,4 +1,4 @@
-use Rattle.endpoint_laws.proofs.Beginning.{run_law}
+use Rattle.endpoint_laws.proofs.FirstPoint.{run_law}
 use Rattle.endpoint_laws.proofs.laws.endpoints_run_by_the_laws.Goals as goal
 
 pub returns : goal.returns

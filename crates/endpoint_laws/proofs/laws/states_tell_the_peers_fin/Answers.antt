@@ -1,4 +1,4 @@
-use Rattle.tcp_endpoint.specs.Sending.{fin_acked}
+use Rattle.tcp_endpoint.specs.SendHalf.{fin_acked}
 use Rattle.endpoint_laws.proofs.Ends.{fin_by_name}
 use Rattle.endpoint_laws.proofs.laws.states_tell_the_peers_fin.Goals as goal
 

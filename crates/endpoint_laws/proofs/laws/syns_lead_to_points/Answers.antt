@@ -1,4 +1,4 @@
-use Rattle.endpoint_laws.proofs.Beginning.{begins_law}
+use Rattle.endpoint_laws.proofs.FirstPoint.{begins_law}
 use Rattle.endpoint_laws.proofs.laws.syns_lead_to_points.Goals as goal
 
 pub returns : goal.returns

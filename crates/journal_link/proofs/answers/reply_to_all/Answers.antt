@@ -1,6 +1,6 @@
 use Rattle.std.proofs.Common.{◌∙◌, ap, ◌++◌, ◌∷◌, [], take, sym}
 use Rattle.std.proofs.lemmas.List.{take_more}
-use Rattle.journal_link.proofs.Answering.{room_for_one, answered_on}
+use Rattle.journal_link.proofs.AnswerCalls.{room_for_one, answered_on}
 use Rattle.journal_link.proofs.answers.reply_to_all.Goals as goal
 
 pub reply-requires : goal.reply-requires

@@ -1,5 +1,5 @@
 use Rattle.std.proofs.Common.{◌≡◌, take}
-use Rattle.journal_link.specs.Turning.{HasAnswered}
+use Rattle.journal_link.specs.RoundParts.{HasAnswered}
 use Rattle.journal_link.proofs.answers.reply_to_all.Given as goal
 
 -- the first answers are handed over

@@ -1,5 +1,5 @@
 use Rattle.journal_link.specs.Ends.{from_open}
-use Rattle.journal_link.specs.Keeping.{OpeningStops}
+use Rattle.journal_link.specs.LoggerLife.{OpeningStops}
 use Rattle.journal_link.proofs.Living.{opening_stops, said_end}
 use Rattle.journal_link.proofs.keeper.open_log.Goals as goal
 

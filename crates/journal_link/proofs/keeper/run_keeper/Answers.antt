@@ -2,8 +2,8 @@ use Rattle.std.proofs.Common.{subst}
 use Rattle.std.specs.Io.KnownBytes.{Appends}
 use Rattle.std.proofs.lemmas.Result.{on_ok_weaker}
 use Rattle.ft_io.proofs.Outcomes.{if_err}
-use Rattle.journal_link.specs.Keeping.{IsOpen}
-use Rattle.journal_link.specs.Turning.{place_of}
+use Rattle.journal_link.specs.LoggerLife.{IsOpen}
+use Rattle.journal_link.specs.RoundParts.{place_of}
 use Rattle.journal_link.proofs.Living.{kept, serving_stops}
 use Rattle.journal_link.proofs.keeper.run_keeper.Goals as goal
 

@@ -1,4 +1,4 @@
-use Rattle.journal_link.specs.Turning.{place_of, ServingStops}
+use Rattle.journal_link.specs.RoundParts.{place_of, ServingStops}
 use Rattle.journal_link.specs.declared.status.JournalEnd.TheVariants.{Node}
 use Rattle.journal_link.proofs.Living.{line_stops, said_end}
 use Rattle.journal_link.proofs.keeper.serve_and_tell.Goals as goal

@@ -1,5 +1,5 @@
 use Rattle.std.proofs.Common.{◌≡◌}
-use Rattle.journal_link.specs.Turning.{IsGathering}
+use Rattle.journal_link.specs.RoundParts.{IsGathering}
 use Rattle.journal_link.proofs.rounds.gather.Given as goal
 
 -- so many datagrams came, and their answers wait

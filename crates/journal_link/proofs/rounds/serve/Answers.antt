@@ -1,5 +1,5 @@
 use Rattle.std.proofs.Common.{◌+◌, ◌∙◌, arith}
-use Rattle.journal_link.specs.Turning.{place_of}
+use Rattle.journal_link.specs.RoundParts.{place_of}
 use Rattle.journal_link.proofs.Rounding.{room_for_round, served_on}
 use Rattle.journal_link.proofs.rounds.serve.Goals as goal
 

@@ -1,5 +1,5 @@
 use Rattle.std.proofs.Common.{◌≡◌, ◌≤◌, ◌+◌, [], ℕ}
-use Rattle.journal_link.specs.Turning.{place_of, HasServed}
+use Rattle.journal_link.specs.RoundParts.{place_of, HasServed}
 use Rattle.journal_link.proofs.rounds.serve.Given as goal
 
 -- so many turns are done, and nothing waits

@@ -1,5 +1,5 @@
 use Rattle.journal_link.specs.declared.status.JournalEnd.TheVariants.{JournalFault, BadJournal, InUse}
-use Rattle.journal_link.proofs.Ending.{told_end}
+use Rattle.journal_link.proofs.EndReport.{told_end}
 use Rattle.journal_link.proofs.status.tell.Goals as goal
 
 pub returns-in-JournalFault-clause-told : goal.returns-in-JournalFault-clause-told

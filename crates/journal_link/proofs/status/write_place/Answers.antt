@@ -5,7 +5,7 @@ use Rattle.std.proofs.KnownBytes.{Appends-trans}
 use Rattle.std.proofs.lemmas.Result.{on_ok_weaker, on_err_weaker}
 use Rattle.ft_io.specs.Sink.{AppendsFront}
 use Rattle.node_link.proofs.Fronts.{front_before, at_failed}
-use Rattle.journal_link.proofs.Ending.{front_more}
+use Rattle.journal_link.proofs.EndReport.{front_more}
 use Rattle.journal_link.proofs.status.write_place.Goals as goal
 
 pub returns-in_err-write_all-clause-front : goal.returns-in_err-write_all-clause-front

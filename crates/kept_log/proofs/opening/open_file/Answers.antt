@@ -1,6 +1,6 @@
 use Rattle.std.proofs.Common.{inr, subst}
-use Rattle.kept_log.specs.Opening.{IsCutShort, HasStopped}
-use Rattle.kept_log.specs.Reading.{FindsAs}
+use Rattle.kept_log.specs.Startup.{IsCutShort, HasStopped}
+use Rattle.kept_log.specs.ReadSteps.{FindsAs}
 use Rattle.kept_log.specs.declared.reading.Found.TheVariants.{New, Whole}
 use Rattle.kept_log.specs.declared.opening.OpenEnd.TheVariants.{Failed}
 use Rattle.kept_log.proofs.Settled.{if_err, begun_opened, begun_stopped, whole_opened, whole_stopped}

@@ -1,5 +1,5 @@
 use Rattle.std.proofs.Common.{◌∙◌, subst, arith}
-use Rattle.kept_log.specs.Reading.{IsAt, Steps}
+use Rattle.kept_log.specs.ReadSteps.{IsAt, Steps}
 use Rattle.kept_log.proofs.Files.{quiet_on}
 use Rattle.kept_log.proofs.Onward.{step_more, step_block}
 use Rattle.kept_log.proofs.reading.read_blocks.Goals as goal

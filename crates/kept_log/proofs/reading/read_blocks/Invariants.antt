@@ -1,6 +1,6 @@
 use Rattle.std.proofs.Common.{◌≡◌, ◌≤◌, []}
 use Rattle.ft_io.specs.Told.{Tells}
-use Rattle.kept_log.specs.Reading.{IsAt}
+use Rattle.kept_log.specs.ReadSteps.{IsAt}
 use Rattle.kept_log.proofs.reading.read_blocks.Given as goal
 
 abbrev pub invariant-loop-step : goal.invariant-loop-step

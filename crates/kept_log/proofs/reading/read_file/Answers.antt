@@ -1,6 +1,6 @@
 use Rattle.std.proofs.Common.{ℕ, List, length, sym, subst}
 use Rattle.std.proofs.lemmas.Result.{IfOk-weaker}
-use Rattle.kept_log.specs.Reading.{HasMagic, FindsBehind, FindsAs}
+use Rattle.kept_log.specs.ReadSteps.{HasMagic, FindsBehind, FindsAs}
 use Rattle.kept_log.specs.declared.magic.Magic.TheVariants.{Part, Whole, Missing}
 use Rattle.kept_log.specs.declared.reading.Found.TheVariants as finds
 use Rattle.kept_log.proofs.Whole.{has_first, found_part, found_missing, found_whole}

@@ -1,5 +1,5 @@
 use Rattle.std.proofs.Common.{[], ◌∷◌, ◌∙◌, ap}
-use Rattle.logger_wire.specs.Written.{put}
+use Rattle.logger_wire.specs.Spelling.{put}
 use Rattle.logger_wire.proofs.Placing.{flag_byte}
 use Rattle.logger_wire.proofs.places.put_flag.Goals as goal
 

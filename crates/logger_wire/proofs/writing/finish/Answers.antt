@@ -1,5 +1,5 @@
 use Rattle.std.proofs.Common.{◌∙◌}
-use Rattle.logger_wire.proofs.Assembled.{finished}
+use Rattle.logger_wire.proofs.OneSpelling.{finished}
 use Rattle.logger_wire.proofs.writing.finish.Goals as goal
 
 pub returns-clause-bytes : goal.returns-clause-bytes

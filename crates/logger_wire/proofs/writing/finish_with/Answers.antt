@@ -1,8 +1,8 @@
 use Rattle.std.proofs.Common.{◌≡◌, ◌+◌, ℕ, List, length, take, ap, arith, ◌∙◌}
 use Rattle.seq_arith.specs.Checksum.{checksum}
 use Rattle.seq_arith.specs.MessageGrammar.{header}
-use Rattle.logger_wire.specs.Written.{put, framed}
-use Rattle.logger_wire.proofs.Assembled.{behind_summed, finished}
+use Rattle.logger_wire.specs.Spelling.{put, framed}
+use Rattle.logger_wire.proofs.OneSpelling.{behind_summed, finished}
 use Rattle.logger_wire.proofs.writing.finish_with.Goals as goal
 
 pub returns-clause-bytes : goal.returns-clause-bytes

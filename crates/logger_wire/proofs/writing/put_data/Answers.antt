@@ -4,8 +4,8 @@ use Rattle.seq_arith.specs.Message.{Part}
 use Rattle.seq_arith.specs.Message.{Body as bodies}
 use Rattle.seq_arith.specs.MessageGrammar.{message_length}
 use Rattle.logger_wire.specs.Records.{part_said}
-use Rattle.logger_wire.specs.Written.{body_bytes}
-use Rattle.logger_wire.proofs.Assembled.{written}
+use Rattle.logger_wire.specs.Spelling.{body_bytes}
+use Rattle.logger_wire.proofs.OneSpelling.{written}
 use Rattle.logger_wire.proofs.Putting.{part_put}
 use Rattle.logger_wire.proofs.writing.put_data.Goals as goal
 

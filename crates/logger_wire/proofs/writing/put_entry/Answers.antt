@@ -3,8 +3,8 @@ use Rattle.seq_arith.specs.declared.kinds.Kind.TheVariants as kinds
 use Rattle.seq_arith.specs.Message.{Body}
 use Rattle.seq_arith.specs.Message.{Body as bodies}
 use Rattle.logger_wire.specs.Records.{entry_said}
-use Rattle.logger_wire.specs.Written.{body_bytes}
-use Rattle.logger_wire.proofs.Assembled.{written}
+use Rattle.logger_wire.specs.Spelling.{body_bytes}
+use Rattle.logger_wire.proofs.OneSpelling.{written}
 use Rattle.logger_wire.proofs.writing.put_entry.Goals as goal
 
 pub returns-clause-bytes : goal.returns-clause-bytes

@@ -1,7 +1,7 @@
 use Rattle.std.proofs.Common.{ℕ, List, ◌+◌, length, refl}
 use Rattle.seq_arith.specs.Message.{Body}
 use Rattle.seq_arith.specs.Message.{Body as bodies}
-use Rattle.logger_wire.proofs.Assembled.{written}
+use Rattle.logger_wire.proofs.OneSpelling.{written}
 use Rattle.logger_wire.proofs.Putting.{from_put}
 use Rattle.logger_wire.proofs.writing.put_from.Goals as goal
 

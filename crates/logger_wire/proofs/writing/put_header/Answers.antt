@@ -1,4 +1,4 @@
-use Rattle.logger_wire.proofs.Assembled.{header_put}
+use Rattle.logger_wire.proofs.OneSpelling.{header_put}
 use Rattle.logger_wire.proofs.writing.put_header.Goals as goal
 
 pub returns : goal.returns

@@ -2,7 +2,7 @@ use Rattle.std.proofs.Common.{◌++◌, ◌∙◌, ap, sym, take, drop}
 use Rattle.seq_arith.specs.Message.{Message}
 use Rattle.seq_arith.specs.MessageGrammar.{spelling, reading}
 use Rattle.logger_wire.specs.Value.{message_of}
-use Rattle.logger_wire.proofs.Assembled.{not_longer, message_written, read_back}
+use Rattle.logger_wire.proofs.OneSpelling.{not_longer, message_written, read_back}
 use Rattle.logger_wire.proofs.writing.put_msg.Goals as goal
 
 pub put_kind-requires-clause-short : goal.put_kind-requires-clause-short

@@ -1,6 +1,6 @@
 use Rattle.std.proofs.Common.{refl}
 use Rattle.seq_arith.specs.Message.{Body as bodies}
-use Rattle.logger_wire.proofs.Assembled.{written}
+use Rattle.logger_wire.proofs.OneSpelling.{written}
 use Rattle.logger_wire.proofs.Putting.{key_put}
 use Rattle.logger_wire.proofs.writing.put_only_key.Goals as goal
 

@@ -1,7 +1,7 @@
 use Rattle.std.proofs.Common.{refl}
 use Rattle.seq_arith.specs.Message.{Body as bodies}
 use Rattle.logger_wire.specs.Records.{numbers_said}
-use Rattle.logger_wire.proofs.Assembled.{written}
+use Rattle.logger_wire.proofs.OneSpelling.{written}
 use Rattle.logger_wire.proofs.writing.put_opening.Goals as goal
 
 pub returns-clause-bytes : goal.returns-clause-bytes

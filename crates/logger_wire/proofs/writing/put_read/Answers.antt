@@ -2,7 +2,7 @@ use Rattle.std.proofs.Common.{refl}
 use Rattle.seq_arith.specs.declared.kinds.Kind.TheVariants as kinds
 use Rattle.seq_arith.specs.Message.{Body}
 use Rattle.seq_arith.specs.Message.{Body as bodies}
-use Rattle.logger_wire.proofs.Assembled.{written}
+use Rattle.logger_wire.proofs.OneSpelling.{written}
 use Rattle.logger_wire.proofs.Putting.{read_put}
 use Rattle.logger_wire.proofs.writing.put_read.Goals as goal
 

@@ -1,6 +1,6 @@
 use Rattle.std.proofs.Common.{arith}
 use Rattle.logger_wire.specs.Value.{message_of}
-use Rattle.logger_wire.proofs.Assembled.{not_longer}
+use Rattle.logger_wire.proofs.OneSpelling.{not_longer}
 use Rattle.logger_wire.proofs.writing.write_msg.Goals as goal
 
 pub put_msg-requires-clause-room : goal.put_msg-requires-clause-room

@@ -2,7 +2,7 @@ use Rattle.std.proofs.Common.{[], ◌∷◌, take, subst}
 use Rattle.ft_io.specs.Told.{Tells}
 use Rattle.ft_io.specs.Link.{heard_as}
 use Rattle.ft_io.specs.declared.link.Heard.{Heard}
-use Rattle.node_link.specs.Received.{datagram}
+use Rattle.node_link.specs.Receipt.{datagram}
 use Rattle.node_link.proofs.client.receive.Goals as goal
 
 pub returns-in-Ok-Got-clause-received : goal.returns-in-Ok-Got-clause-received

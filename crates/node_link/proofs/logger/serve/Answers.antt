@@ -1,5 +1,5 @@
 use Rattle.std.proofs.Common.{◌∙◌, refl}
-use Rattle.node_link.proofs.Serving.{served_none, served_on, room_in_turn}
+use Rattle.node_link.proofs.LoggerRun.{served_none, served_on, room_in_turn}
 use Rattle.node_link.proofs.logger.serve.Goals as goal
 
 pub take_turn-requires : goal.take_turn-requires

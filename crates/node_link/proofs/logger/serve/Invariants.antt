@@ -1,5 +1,5 @@
 use Rattle.std.proofs.Common.{◌≡◌}
-use Rattle.node_link.specs.Logging.{HasServed}
+use Rattle.node_link.specs.LoggerParts.{HasServed}
 use Rattle.node_link.proofs.logger.serve.Given as goal
 
 -- so many turns are done, and no bind failed

@@ -1,6 +1,6 @@
 use Rattle.std.specs.Io.KnownBytes.{Appends}
 use Rattle.std.proofs.lemmas.Result.{on_ok_weaker}
-use Rattle.node_link.proofs.Serving.{logger_done, logger_stops}
+use Rattle.node_link.proofs.LoggerRun.{logger_done, logger_stops}
 use Rattle.node_link.proofs.logger.serve_and_tell.Goals as goal
 use Rattle.ft_io.proofs.Outcomes.{if_err}
 

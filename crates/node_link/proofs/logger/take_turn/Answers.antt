@@ -1,6 +1,6 @@
 use Rattle.std.proofs.Common.{◌≡◌, take}
-use Rattle.node_link.specs.Received.{datagram}
-use Rattle.node_link.proofs.Serving.{quiet, replied}
+use Rattle.node_link.specs.Receipt.{datagram}
+use Rattle.node_link.proofs.LoggerRun.{quiet, replied}
 use Rattle.node_link.proofs.logger.take_turn.Goals as goal
 
 pub returns-in_default-clause-turned : goal.returns-in_default-clause-turned

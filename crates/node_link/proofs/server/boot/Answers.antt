@@ -2,7 +2,7 @@ use Rattle.std.proofs.Common.{◌∙◌, ap, subst}
 use Rattle.ft_model.specs.Legal.{machines}
 use Rattle.server_node.specs.Stages.{StageStands}
 use Rattle.node_link.specs.Incarnation.{first_of}
-use Rattle.node_link.specs.Turning.{standing_of}
+use Rattle.node_link.specs.ServerParts.{standing_of}
 use Rattle.node_link.proofs.Serviced.{booted}
 use Rattle.node_link.proofs.server.boot.Goals as goal
 

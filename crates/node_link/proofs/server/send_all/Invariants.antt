@@ -1,5 +1,5 @@
 use Rattle.std.proofs.Common.{◌≡◌, take}
-use Rattle.node_link.specs.Turning.{HasSent}
+use Rattle.node_link.specs.ServerParts.{HasSent}
 use Rattle.node_link.proofs.server.send_all.Given as goal
 
 -- the packets so far were handed to send, and no bind was made

@@ -1,6 +1,6 @@
 use Rattle.std.proofs.Common.{◌≡◌, ◌∙◌, sym, ap, subst}
 use Rattle.node_link.specs.ServerTurns.{address_of, second_for}
-use Rattle.node_link.specs.Turning.{HasHanded}
+use Rattle.node_link.specs.ServerParts.{HasHanded}
 use Rattle.node_link.proofs.Serviced.{sent_once, sent_twice}
 use Rattle.node_link.proofs.server.send_one.Goals as goal
 

@@ -1,6 +1,6 @@
 use Rattle.ft_model.specs.Legal.{machines}
 use Rattle.std.proofs.Common.{◌∙◌, sym, subst}
-use Rattle.node_link.specs.Turning.{standing_of, TurnStops}
+use Rattle.node_link.specs.ServerParts.{standing_of, TurnStops}
 use Rattle.node_link.proofs.Serviced.{serving_none, serving_on, serving_stops, room_for_turn}
 use Rattle.node_link.proofs.server.serve.Goals as goal
 use Rattle.ft_io.proofs.Outcomes.{of_error}

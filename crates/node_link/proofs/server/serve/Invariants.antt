@@ -1,6 +1,6 @@
 use Rattle.std.proofs.Common.{◌≡◌}
 use Rattle.ft_model.specs.Legal.{machines}
-use Rattle.node_link.specs.Turning.{IsServing, standing_of}
+use Rattle.node_link.specs.ServerParts.{IsServing, standing_of}
 use Rattle.node_link.proofs.server.serve.Given as goal
 
 -- so many turns are done, and no bind failed

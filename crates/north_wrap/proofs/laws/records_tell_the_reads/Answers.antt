@@ -1,4 +1,4 @@
-use Rattle.north_wrap.proofs.Reading.{told_reads}
+use Rattle.north_wrap.proofs.ReadSequence.{told_reads}
 use Rattle.north_wrap.proofs.laws.records_tell_the_reads.Goals as goal
 
 pub returns : goal.returns

@@ -1,5 +1,5 @@
 use Rattle.std.proofs.Common.{◌≡◌, ◌≤◌, length}
-use Rattle.tcp_endpoint.specs.Turning.{after_read}
+use Rattle.tcp_endpoint.specs.UserCalls.{after_read}
 use Rattle.peer_client.proofs.live.pass_over.Given as goal
 
 -- what is left to read, read at once, leads to the same

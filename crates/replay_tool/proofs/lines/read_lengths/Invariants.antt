@@ -1,5 +1,5 @@
 use Rattle.std.proofs.Common.{◌≡◌, take, slice_get}
-use Rattle.logger_store.specs.Stored.{lengths_of}
+use Rattle.logger_store.specs.StoreState.{lengths_of}
 use Rattle.replay_tool.proofs.lines.read_lengths.Given as goal
 
 -- the first lengths are read

@@ -1,6 +1,6 @@
 use Rattle.std.proofs.Common.{sym}
 use Rattle.std.proofs.lemmas.Result.{on_ok_weaker}
-use Rattle.net_schedule.specs.Keeping.{kept}
+use Rattle.net_schedule.specs.WorldView.{kept}
 use Rattle.replay_tool.proofs.Either.{can_be_written}
 use Rattle.replay_tool.proofs.Stored.{line_written}
 use Rattle.replay_tool.proofs.lines.write_packet.Goals as goal

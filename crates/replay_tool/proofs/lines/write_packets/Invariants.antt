@@ -1,5 +1,5 @@
 use Rattle.std.proofs.Common.{◌≡◌, ◌+◌, ◌-◌, ◌++◌}
-use Rattle.replay_tool.specs.Stored.{stored_lines}
+use Rattle.replay_tool.specs.PacketLines.{stored_lines}
 use Rattle.replay_tool.proofs.lines.write_packets.Given as goal
 
 -- what is written, and what is still to be written, are the lines of all these packets

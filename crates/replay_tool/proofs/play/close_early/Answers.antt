@@ -1,9 +1,9 @@
 use Rattle.std.proofs.Common.{subst, sym}
-use Rattle.net_schedule.specs.Keeping.{kept}
-use Rattle.replay_tool.specs.OnItsWay.{Holds}
-use Rattle.replay_tool.specs.Played.{ReportsFront}
-use Rattle.replay_tool.specs.Playing.{StopsPlaying}
-use Rattle.replay_tool.proofs.Ending.{closes_till, front_till}
+use Rattle.net_schedule.specs.WorldView.{kept}
+use Rattle.replay_tool.specs.PartialWrite.{Holds}
+use Rattle.replay_tool.specs.PlayedRun.{ReportsFront}
+use Rattle.replay_tool.specs.Playback.{StopsPlaying}
+use Rattle.replay_tool.proofs.RunEnds.{closes_till, front_till}
 use Rattle.replay_tool.proofs.play.close_early.Goals as goal
 
 pub returns-in-Ok-clause-stops : goal.returns-in-Ok-clause-stops

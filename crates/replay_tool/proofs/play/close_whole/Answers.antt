@@ -1,7 +1,7 @@
 use Rattle.std.proofs.Common.{ap, length}
-use Rattle.net_schedule.specs.Keeping.{kept}
+use Rattle.net_schedule.specs.WorldView.{kept}
 use Rattle.replay_tool.proofs.Either.{few_clients}
-use Rattle.replay_tool.proofs.Ending.{closes_all}
+use Rattle.replay_tool.proofs.RunEnds.{closes_all}
 use Rattle.replay_tool.proofs.play.close_whole.Goals as goal
 
 pub close-requires : goal.close-requires

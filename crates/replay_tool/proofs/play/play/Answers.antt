@@ -1,7 +1,7 @@
 use Rattle.std.proofs.Common.{sym, subst}
-use Rattle.replay_tool.specs.OnItsWay.{Wrote}
-use Rattle.replay_tool.specs.Playing.{EndsPlaying}
-use Rattle.replay_tool.proofs.Ending.{all_goes, all_fails}
+use Rattle.replay_tool.specs.PartialWrite.{Wrote}
+use Rattle.replay_tool.specs.Playback.{EndsPlaying}
+use Rattle.replay_tool.proofs.RunEnds.{all_goes, all_fails}
 use Rattle.replay_tool.proofs.Fronts.{all_taken}
 use Rattle.replay_tool.proofs.play.play.Goals as goal
 use Rattle.ft_io.proofs.Outcomes.{of_error}

@@ -1,6 +1,6 @@
 use Rattle.std.proofs.Common.{◌∙◌, ◌++◌, ap, sym, subst}
-use Rattle.net_schedule.specs.Keeping.{kept}
-use Rattle.replay_tool.specs.Playing.{Plays, StopsPlaying}
+use Rattle.net_schedule.specs.WorldView.{kept}
+use Rattle.replay_tool.specs.Playback.{Plays, StopsPlaying}
 use Rattle.replay_tool.proofs.Either.{plays_one, stops_at}
 use Rattle.replay_tool.proofs.Playing.{event_played, stands_on, goes_out, goes_out_in_part, holds_front, step_ends}
 use Rattle.replay_tool.proofs.play.play_event.Goals as goal

@@ -1,8 +1,8 @@
 use Rattle.std.proofs.Common.{◌∙◌, refl, sym, subst, arith}
 use Rattle.std.proofs.lemmas.List.{get_or_default}
-use Rattle.net_schedule.specs.Keeping.{kept}
-use Rattle.replay_tool.specs.Playing.{Reaches, StopsPlaying}
-use Rattle.replay_tool.proofs.Ending.{plays_next, stops_next, none_left}
+use Rattle.net_schedule.specs.WorldView.{kept}
+use Rattle.replay_tool.specs.Playback.{Reaches, StopsPlaying}
+use Rattle.replay_tool.proofs.RunEnds.{plays_next, stops_next, none_left}
 use Rattle.replay_tool.proofs.play.play_events.Goals as goal
 use Rattle.ft_io.proofs.Outcomes.{of_error}
 

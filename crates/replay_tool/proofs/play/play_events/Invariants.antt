@@ -1,7 +1,7 @@
 use Rattle.std.proofs.Common.{◌≡◌, ℕ, List, Option, drop}
-use Rattle.net_schedule.specs.Keeping.{kept}
-use Rattle.replay_tool.specs.Playing.{Reaches}
-use Rattle.replay_tool.specs.Standing.{IsStanding}
+use Rattle.net_schedule.specs.WorldView.{kept}
+use Rattle.replay_tool.specs.Playback.{Reaches}
+use Rattle.replay_tool.specs.TraceEnd.{IsStanding}
 use Rattle.replay_tool.proofs.play.play_events.Given as goal
 
 -- all events but the ones that are left are played, and no call of the sink has failed

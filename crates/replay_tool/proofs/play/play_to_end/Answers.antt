@@ -1,10 +1,10 @@
 use Rattle.std.proofs.Common.{[], sym, subst}
-use Rattle.net_schedule.specs.Keeping.{kept}
-use Rattle.replay_tool.specs.Playing.{HoldsAtEnd, StopsPlaying}
-use Rattle.replay_tool.specs.Played.{ReportsFront}
-use Rattle.replay_tool.specs.OnItsWay.{Holds}
+use Rattle.net_schedule.specs.WorldView.{kept}
+use Rattle.replay_tool.specs.Playback.{HoldsAtEnd, StopsPlaying}
+use Rattle.replay_tool.specs.PlayedRun.{ReportsFront}
+use Rattle.replay_tool.specs.PartialWrite.{Holds}
 use Rattle.replay_tool.specs.declared.status.RunEnd.TheVariants.{NoMemory}
-use Rattle.replay_tool.proofs.Ending.{counts_of_error, stopped_few}
+use Rattle.replay_tool.proofs.RunEnds.{counts_of_error, stopped_few}
 use Rattle.replay_tool.proofs.Playing.{stands_where, holds_front}
 use Rattle.replay_tool.proofs.play.play_to_end.Goals as goal
 use Rattle.ft_io.proofs.Outcomes.{of_error}

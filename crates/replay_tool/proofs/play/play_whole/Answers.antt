@@ -1,7 +1,7 @@
 use Rattle.std.proofs.Common.{sym, subst}
 use Rattle.replay_tool.specs.Ends.{CountsFaults}
-use Rattle.replay_tool.specs.Playing.{HoldsAtEnd}
-use Rattle.replay_tool.proofs.Ending.{counts_of_error, ok_counts, err_counts}
+use Rattle.replay_tool.specs.Playback.{HoldsAtEnd}
+use Rattle.replay_tool.proofs.RunEnds.{counts_of_error, ok_counts, err_counts}
 use Rattle.replay_tool.proofs.play.play_whole.Goals as goal
 use Rattle.ft_io.proofs.Outcomes.{of_error}
 

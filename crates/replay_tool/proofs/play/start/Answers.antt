@@ -1,9 +1,9 @@
 use Rattle.std.proofs.Common.{◌∙◌, ◌++◌, [], ap, sym, subst, append-nil}
 use Rattle.ft_model.specs.Report.{header}
-use Rattle.net_schedule.specs.Keeping.{kept}
-use Rattle.replay_tool.specs.Playing.{HoldsAtEnd}
+use Rattle.net_schedule.specs.WorldView.{kept}
+use Rattle.replay_tool.specs.Playback.{HoldsAtEnd}
 use Rattle.replay_tool.proofs.Either.{stands_first}
-use Rattle.replay_tool.proofs.Ending.{begins, ends_before}
+use Rattle.replay_tool.proofs.RunEnds.{begins, ends_before}
 use Rattle.replay_tool.proofs.Playing.{goes_out, goes_out_in_part}
 use Rattle.replay_tool.proofs.play.start.Goals as goal
 use Rattle.ft_io.proofs.Outcomes.{of_error}

@@ -1,4 +1,4 @@
-use Rattle.replay_tool.proofs.Ending.{steady, rises, rest_goes, rest_fails}
+use Rattle.replay_tool.proofs.RunEnds.{steady, rises, rest_goes, rest_fails}
 use Rattle.replay_tool.proofs.Fronts.{all_taken}
 use Rattle.replay_tool.proofs.play.write_rest.Goals as goal
 

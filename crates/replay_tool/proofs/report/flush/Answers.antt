@@ -1,7 +1,7 @@
 use Rattle.std.proofs.Common.{subst}
 use Rattle.std.specs.Io.KnownBytes.{Appends}
 use Rattle.ft_io.specs.Sink.{AppendsFront}
-use Rattle.replay_tool.proofs.Ending.{when_err}
+use Rattle.replay_tool.proofs.RunEnds.{when_err}
 use Rattle.replay_tool.proofs.Fronts.{held_taken, held_front}
 use Rattle.replay_tool.proofs.report.flush.Goals as goal
 

@@ -1,9 +1,9 @@
 use Rattle.std.proofs.Common.{◌∙◌, ap, sym, subst, refl, Err}
 use Rattle.ft_model.specs.Grammar.{read_text}
-use Rattle.replay_tool.specs.Played.{ReportsAll}
+use Rattle.replay_tool.specs.PlayedRun.{ReportsAll}
 use Rattle.replay_tool.specs.Runs.{StopsReading, RunStops}
 use Rattle.replay_tool.specs.Stream.{stream}
-use Rattle.replay_tool.proofs.Ending.{source_stops, reading_stops, playing_stops, playing_reports, ok_counts, err_counts}
+use Rattle.replay_tool.proofs.RunEnds.{source_stops, reading_stops, playing_stops, playing_reports, ok_counts, err_counts}
 use Rattle.replay_tool.proofs.run.run.Goals as goal
 use Rattle.ft_io.proofs.Outcomes.{of_error}
 

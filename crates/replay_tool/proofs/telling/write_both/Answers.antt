@@ -1,4 +1,4 @@
-use Rattle.replay_tool.proofs.Ending.{when_err}
+use Rattle.replay_tool.proofs.RunEnds.{when_err}
 use Rattle.replay_tool.proofs.Fronts.{then_front, front_then}
 use Rattle.replay_tool.proofs.telling.write_both.Goals as goal
 

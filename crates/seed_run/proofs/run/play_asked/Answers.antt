@@ -1,7 +1,7 @@
 use Rattle.std.proofs.Common.{◌∙◌, [], ap, subst}
 use Rattle.sample_servers.specs.AnyService.{any_machine}
-use Rattle.net_schedule.specs.Keeping.{kept}
-use Rattle.net_schedule.specs.Stepping.{StandsAfter}
+use Rattle.net_schedule.specs.WorldView.{kept}
+use Rattle.net_schedule.specs.Step.{StandsAfter}
 use Rattle.seed_run.specs.Generated.{schedule_of, after_draws}
 use Rattle.seed_run.specs.declared.progress.Progress.{Progress}
 use Rattle.seed_run.proofs.Facts.{client_count, totals}

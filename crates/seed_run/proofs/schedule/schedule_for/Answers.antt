@@ -1,4 +1,4 @@
-use Rattle.seed_run.proofs.Starting.{can_be_played, count_lines}
+use Rattle.seed_run.proofs.FirstSchedule.{can_be_played, count_lines}
 use Rattle.seed_run.proofs.schedule.schedule_for.Goals as goal
 
 pub returns-clause-playable : goal.returns-clause-playable

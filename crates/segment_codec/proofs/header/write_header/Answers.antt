@@ -2,7 +2,7 @@ use Rattle.std.proofs.Common.{ℕ, ◌≡◌, ◌+◌, length, length-drop, drop
 use Rattle.seq_arith.specs.Packet.{Segment}
 use Rattle.seq_arith.specs.PacketGrammar.{IsSpellable, mss_option, reading, packet_length}
 use Rattle.seq_arith.proofs.Spelling.{spelling_is_read}
-use Rattle.segment_codec.specs.Written.{segment_with}
+use Rattle.segment_codec.specs.Spelling.{segment_with}
 use Rattle.segment_codec.proofs.Pieces.{header_put, headed}
 use Rattle.segment_codec.proofs.header.write_header.Goals as goal
 

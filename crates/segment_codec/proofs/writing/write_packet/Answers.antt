@@ -2,7 +2,7 @@ use Rattle.std.proofs.Common.{ℕ, ◌≡◌, ◌+◌, ◌++◌, length, take, d
 use Rattle.std.specs.Prelude.{Ok}
 use Rattle.seq_arith.specs.Packet.{Segment}
 use Rattle.seq_arith.specs.PacketGrammar.{mss_option, reading, spelling}
-use Rattle.segment_codec.specs.Written.{segment_with}
+use Rattle.segment_codec.specs.Spelling.{segment_with}
 use Rattle.segment_codec.proofs.Pieces.{payload_put, behind_put, front_written}
 use Rattle.segment_codec.proofs.writing.write_packet.Goals as goal
 

@@ -4,8 +4,8 @@ use Rattle.std.proofs.lemmas.Bool.{and_right}
 use Rattle.server_trait.specs.Service.{machine}
 use Rattle.logger_wire.specs.Value.{body_of, message_of}
 use Rattle.ft_model.specs.Node.Input.{Message_comes}
-use Rattle.ft_model.specs.Serving.{names}
-use Rattle.server_node.specs.Hearing.{logged_in}
+use Rattle.ft_model.specs.ServingTurn.{names}
+use Rattle.server_node.specs.LogMessages.{logged_in}
 use Rattle.server_node.specs.Identity.{node_of}
 use Rattle.server_node.proofs.Heeded.{message_is, opened_range, others_unheard}
 use Rattle.server_node.proofs.OneKey.{none_concerned}

@@ -7,7 +7,7 @@ use Rattle.seq_arith.specs.Message.{Message}
 use Rattle.seq_arith.specs.Message.Body.{OpenedMsg}
 use Rattle.ft_model.specs.Node.Input.{Message_comes}
 use Rattle.server_node.specs.declared.slot.Slot.TheVariants as slot
-use Rattle.server_node.specs.Hearing.{opening_in}
+use Rattle.server_node.specs.LogMessages.{opening_in}
 use Rattle.server_node.specs.Identity.{node_of}
 use Rattle.server_node.specs.Slots.{numbers_of, AllSlotsGo, AllSound}
 use Rattle.server_node.specs.Alone.{SlotsAlone}

@@ -2,8 +2,8 @@ use Rattle.std.proofs.Common.{rules, refl, subst}
 use Rattle.server_trait.specs.Service.{machine}
 use Rattle.ft_model.specs.News.News.{Begins as Becomes_live}
 use Rattle.ft_model.specs.Opening.{point_opened}
-use Rattle.connection_laws.specs.Beginning.{MayOpen}
-use Rattle.wrapped_conn.specs.Turning.{Starts}
+use Rattle.connection_laws.specs.FirstSyn.{MayOpen}
+use Rattle.wrapped_conn.specs.Turn.{Starts}
 use Rattle.server_node.specs.Conn.{IsSound}
 use Rattle.server_node.specs.Slots.{numbers_of}
 use Rattle.server_node.proofs.Turned.{goes}

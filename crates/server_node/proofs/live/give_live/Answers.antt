@@ -2,7 +2,7 @@ use Rattle.std.proofs.Common.{rules, ℕ, ◌<◌, ◌^◌, slice_index, sym, su
 use Rattle.server_trait.specs.Service.{machine}
 use Rattle.ft_model.specs.News.News.{Comes}
 use Rattle.ft_model.proofs.Formed.{bytes_of_all}
-use Rattle.wrapped_conn.specs.Turning.{Receives}
+use Rattle.wrapped_conn.specs.Turn.{Receives}
 use Rattle.wrapped_conn.proofs.Sendable.{FitsKey}
 use Rattle.server_node.specs.Conn.{IsSound}
 use Rattle.server_node.proofs.Turned.{goes, all_ok, at_ok}

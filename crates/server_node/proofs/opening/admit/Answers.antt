@@ -7,7 +7,7 @@ use Rattle.seq_arith.specs.Packet.{segment_size}
 use Rattle.server_node.specs.declared.slot.Opening.{Opening}
 use Rattle.server_node.specs.Identity.{node_of}
 use Rattle.ft_model.specs.Opening.{is_syn}
-use Rattle.server_node.specs.Opening.{Admits, pending_slots}
+use Rattle.server_node.specs.Openings.{Admits, pending_slots}
 use Rattle.server_node.proofs.Admitted.{none_admitted, one_admitted, same_numbers, next_number}
 use Rattle.server_node.proofs.Knocking.{waits_outside, comes_in, numbers_are, counted_on}
 use Rattle.server_node.proofs.opening.admit.Goals as goal

@@ -5,9 +5,9 @@ use Rattle.std.proofs.lemmas.Bool.{and_parts}
 use Rattle.ft_io.specs.Key.{key_eq}
 use Rattle.ft_model.specs.Node.Input.{Packet_comes}
 use Rattle.server_node.specs.declared.slot.Slot.TheVariants as slot
-use Rattle.server_node.specs.Hearing.{opening_in}
+use Rattle.server_node.specs.LogMessages.{opening_in}
 use Rattle.server_node.specs.Identity.{node_of}
-use Rattle.server_node.specs.Opening.{ArePut, all_opens}
+use Rattle.server_node.specs.Openings.{ArePut, all_opens}
 use Rattle.server_node.proofs.Asked.{opens_of, opens_one, asked_at_syn, unasked}
 use Rattle.server_node.proofs.Opened.{pending_found}
 use Rattle.server_node.proofs.Opens.{put_none}

@@ -2,7 +2,7 @@ use Rattle.std.proofs.Common.{rules, ◌≡◌, ◌≤◌, length, take, subst, 
 use Rattle.std.proofs.lemmas.List.{take_all}
 use Rattle.ft_model.specs.Node.Input.{Tick_comes}
 use Rattle.server_node.specs.Identity.{node_of}
-use Rattle.server_node.specs.Opening.{ArePut, all_opens, slot_opens}
+use Rattle.server_node.specs.Openings.{ArePut, all_opens, slot_opens}
 use Rattle.server_node.proofs.Collecting.{entry_at}
 use Rattle.server_node.proofs.Opens.{opens_more, put_none, put_on}
 use Rattle.server_node.proofs.Sound.{sound_at}

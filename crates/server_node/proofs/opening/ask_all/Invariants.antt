@@ -2,7 +2,7 @@ use Rattle.std.proofs.Common.{take}
 use Rattle.ft_model.specs.Node.{Stage}
 use Rattle.ft_model.specs.Node.Input.{Tick_comes}
 use Rattle.server_node.specs.Identity.{node_of}
-use Rattle.server_node.specs.Opening.{ArePut, all_opens}
+use Rattle.server_node.specs.Openings.{ArePut, all_opens}
 use Rattle.server_node.proofs.opening.ask_all.Given as goal
 
 abbrev pub invariant-loop-i : goal.invariant-loop-i

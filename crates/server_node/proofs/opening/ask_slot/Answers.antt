@@ -2,7 +2,7 @@ use Rattle.std.proofs.Common.{subst, sym, ⊎_elim}
 use Rattle.std.proofs.lemmas.Result.{on_ok_weaker}
 use Rattle.ft_model.specs.Node.Input.{Tick_comes}
 use Rattle.server_node.specs.Identity.{node_of}
-use Rattle.server_node.specs.Opening.{ArePut, slot_opens}
+use Rattle.server_node.specs.Openings.{ArePut, slot_opens}
 use Rattle.server_node.proofs.Opens.{put_none}
 use Rattle.server_node.proofs.opening.ask_slot.Goals as goal
 

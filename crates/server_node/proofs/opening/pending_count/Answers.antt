@@ -1,7 +1,7 @@
 use Rattle.std.proofs.Common.{rules, ◌≡◌, ◌∙◌, ◌+◌, ◌≤◌, ap, ap₂, length, sym, arith}
 use mir.Val.{bool_byte}
 use Rattle.std.proofs.lemmas.List.{take_all}
-use Rattle.server_node.specs.Opening.{pending_slots, is_pending_slot}
+use Rattle.server_node.specs.Openings.{pending_slots, is_pending_slot}
 use Rattle.server_node.proofs.Collecting.{entry_with}
 use Rattle.server_node.proofs.Opens.{pending_more, one_pending}
 use Rattle.server_node.proofs.opening.pending_count.Goals as goal

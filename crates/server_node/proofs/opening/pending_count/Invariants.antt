@@ -1,5 +1,5 @@
 use Rattle.std.proofs.Common.{◌≡◌, ◌≤◌, take}
-use Rattle.server_node.specs.Opening.{pending_slots}
+use Rattle.server_node.specs.Openings.{pending_slots}
 use Rattle.server_node.proofs.opening.pending_count.Given as goal
 
 abbrev pub invariant-loop-i : goal.invariant-loop-i

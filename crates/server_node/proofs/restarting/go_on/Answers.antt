@@ -1,7 +1,7 @@
 use Rattle.std.proofs.Common.{◌∙◌, reverse, sym, subst}
 use Rattle.server_trait.specs.Service.{machine}
-use Rattle.reincarnate.specs.Asking.{asked}
-use Rattle.reincarnate.specs.Standing.{StandsFetching, StandsWhole}
+use Rattle.reincarnate.specs.Questions.{asked}
+use Rattle.reincarnate.specs.Refinement.{StandsFetching, StandsWhole}
 use Rattle.server_node.proofs.Questions.{nothing_asked}
 use Rattle.server_node.proofs.Resuming.{waits_on, serves_on, still_asks, serves_alone}
 use Rattle.server_node.proofs.restarting.go_on.Goals as goal

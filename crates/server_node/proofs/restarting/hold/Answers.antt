@@ -3,12 +3,12 @@ use Rattle.std.proofs.lemmas.Result.{on_ok_weaker}
 use Rattle.seq_arith.specs.Packet.{has_rst}
 use Rattle.seq_arith.specs.Value.{said}
 use Rattle.segment_codec.specs.Value.{segment_of}
-use Rattle.logger_store.specs.Stored.{head_value}
+use Rattle.logger_store.specs.StoreState.{head_value}
 use Rattle.ft_model.specs.Network.{source_of}
 use Rattle.ft_model.specs.Node.{is_for}
 use Rattle.server_node.specs.Identity.{node_of}
-use Rattle.server_node.proofs.Answering.{same_ok, own_stands}
-use Rattle.server_node.proofs.Held.{none_held, one_held}
+use Rattle.server_node.proofs.FetchAnswer.{same_ok, own_stands}
+use Rattle.server_node.proofs.FetchReply.{none_held, one_held}
 use Rattle.std.proofs.lemmas.Bool.{and_parts}
 use Rattle.server_node.proofs.Keyed.{quiet_for, refused_for, held_back}
 use Rattle.server_node.proofs.restarting.hold.Goals as goal

@@ -1,7 +1,7 @@
 use Rattle.std.proofs.Common.{rules, tests, ◌≡◌, ◌∙◌, true, false, None, Some, option_map, ap, sym, if◌then◌else◌}
 use Rattle.logger_wire.specs.Value.{is_set}
-use Rattle.logger_store.specs.Stored.{head_value}
-use Rattle.server_node.proofs.Answering.{live_head_is, known_key}
+use Rattle.logger_store.specs.StoreState.{head_value}
+use Rattle.server_node.proofs.FetchAnswer.{live_head_is, known_key}
 use Rattle.server_node.proofs.restarting.live_head.Goals as goal
 
 pub returns-in_default-clause-law : goal.returns-in_default-clause-law

@@ -1,8 +1,8 @@
 use Rattle.std.proofs.Common.{rules, tests, ◌≡◌, ◌∙◌, true, false, true≢false, refl, sym, subst}
 use Rattle.server_trait.specs.Service.{machine}
 use Rattle.logger_wire.specs.Value.{message_of}
-use Rattle.reincarnate.specs.Standing.{StandsFetching, AnswerLeads, fetched_then}
-use Rattle.server_node.proofs.Answering.{answer_same, still_own}
+use Rattle.reincarnate.specs.Refinement.{StandsFetching, AnswerLeads, fetched_then}
+use Rattle.server_node.proofs.FetchAnswer.{answer_same, still_own}
 use Rattle.server_node.specs.declared.stage.Stage.TheVariants as stage
 use Rattle.server_node.proofs.Resuming.{answers_nothing, answers_on, answers_alone}
 use Rattle.server_node.proofs.restarting.take_answer.Goals as goal

@@ -1,12 +1,12 @@
 use Rattle.std.proofs.Common.{◌≡◌, ◌∙◌, ap, refl, sym, subst}
 use Rattle.std.proofs.lemmas.Result.{on_ok_weaker}
 use Rattle.server_trait.specs.Service.{machine}
-use Rattle.reincarnate.specs.Standing.{RestoredIs}
+use Rattle.reincarnate.specs.Refinement.{RestoredIs}
 use Rattle.ft_model.specs.Restart.{entry_in}
 use Rattle.server_node.specs.Identity.{node_of}
 use Rattle.server_node.specs.Slots.{IsSoundSlot}
 use Rattle.server_node.proofs.Knocking.{counted_on}
-use Rattle.server_node.specs.Whose.{IsOnlyFor}
+use Rattle.server_node.specs.Ownership.{IsOnlyFor}
 use Rattle.server_node.proofs.Restored.{ended_more, live_more}
 use Rattle.server_node.proofs.RestoredAlone.{ended_alone, live_alone}
 use Rattle.server_node.proofs.Turned.{at_ok}

@@ -3,12 +3,12 @@ use Rattle.server_trait.specs.Service.{machine}
 use Rattle.ft_model.specs.Restart.{Fetched}
 use Rattle.ft_model.specs.Node.{Stage}
 use Rattle.ft_model.specs.Lawful.{AreSound}
-use Rattle.reincarnate.specs.Standing.{StandsWhole}
+use Rattle.reincarnate.specs.Refinement.{StandsWhole}
 use Rattle.server_node.specs.Identity.{node_of}
-use Rattle.server_node.specs.Opening.{IsCounted}
-use Rattle.server_node.specs.Restarting.{AreDistinct}
+use Rattle.server_node.specs.Openings.{IsCounted}
+use Rattle.server_node.specs.FetchStage.{AreDistinct}
 use Rattle.server_node.specs.Restarts.{RestoredAlone}
-use Rattle.server_node.specs.Reviving.{AreRestored}
+use Rattle.server_node.specs.RestartEnd.{AreRestored}
 use Rattle.server_node.specs.Slots.{AllSound}
 use Rattle.server_node.proofs.Restored.{RestoresOn}
 use Rattle.server_node.proofs.reviving.restore_all.Given as goal

@@ -4,7 +4,7 @@ use Rattle.server_node.specs.Identity.{node_of}
 use Rattle.server_node.specs.declared.slot.Slot.TheVariants as slot
 use Rattle.server_node.specs.Conn.{IsSound}
 use Rattle.server_node.specs.Slots.{IsSoundSlot}
-use Rattle.server_node.specs.Whose.{IsOnlyFor}
+use Rattle.server_node.specs.Ownership.{IsOnlyFor}
 use Rattle.server_node.proofs.Revived.{live_again, goes_on_under}
 use Rattle.server_node.proofs.reviving.revive.Goals as goal
 

@@ -1,7 +1,7 @@
 use Rattle.std.proofs.Common.{◌≡◌, ◌∙◌, ◌++◌, ◌∷◌, [], Some, ap, subst, slice_get, length, ◌≤◌, rules, take_all}
 use Rattle.std.specs.List.{AllByRecursion}
 use Rattle.server_trait.specs.Service.{AreBytes}
-use Rattle.server_node.specs.Sending.{message_to_logger}
+use Rattle.server_node.specs.SentBytes.{message_to_logger}
 use Rattle.server_node.proofs.Collecting.{one_more, all_more}
 use Rattle.server_node.proofs.sent.send_messages.Goals as goal
 

@@ -1,7 +1,7 @@
 use Rattle.std.proofs.Common.{◌≡◌, ◌++◌, map, take}
 use Rattle.std.specs.List.{AllByRecursion}
 use Rattle.server_trait.specs.Service.{AreBytes}
-use Rattle.server_node.specs.Sending.{message_to_logger}
+use Rattle.server_node.specs.SentBytes.{message_to_logger}
 use Rattle.server_node.proofs.sent.send_messages.Given as goal
 
 abbrev pub invariant-loop-i : goal.invariant-loop-i

@@ -1,7 +1,7 @@
 use Rattle.std.proofs.Common.{◌≡◌, ◌∙◌, ◌++◌, ◌∷◌, [], Some, ap, sym, subst, slice_get, length, ◌≤◌, rules, take_all}
 use Rattle.std.specs.List.{AllByRecursion}
 use Rattle.server_trait.specs.Service.{AreBytes}
-use Rattle.server_node.specs.Sending.{segment_to}
+use Rattle.server_node.specs.SentBytes.{segment_to}
 use Rattle.server_node.proofs.Collecting.{one_more, all_more}
 use Rattle.server_node.proofs.sent.send_segments.Goals as goal
 

@@ -1,7 +1,7 @@
 use Rattle.std.proofs.Common.{◌≡◌, ◌++◌, map, take}
 use Rattle.std.specs.List.{AllByRecursion}
 use Rattle.server_trait.specs.Service.{AreBytes}
-use Rattle.server_node.specs.Sending.{segment_to}
+use Rattle.server_node.specs.SentBytes.{segment_to}
 use Rattle.server_node.proofs.sent.send_segments.Given as goal
 
 abbrev pub invariant-loop-i : goal.invariant-loop-i

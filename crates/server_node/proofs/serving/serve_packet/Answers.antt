@@ -2,7 +2,7 @@ use Rattle.std.proofs.Common.{rules, ◌≡◌, ◌∙◌, true, false, ap, sym}
 use Rattle.std.proofs.lemmas.Result.{on_ok_weaker}
 use Rattle.segment_codec.specs.Value.{segment_of}
 use Rattle.ft_model.specs.Network.{source_of}
-use Rattle.server_node.proofs.Answering.{same_ok}
+use Rattle.server_node.proofs.FetchAnswer.{same_ok}
 use Rattle.server_trait.specs.Service.{machine}
 use Rattle.seq_arith.specs.Value.{said}
 use Rattle.ft_model.specs.Node.{is_for}

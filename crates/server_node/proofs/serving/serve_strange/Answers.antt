@@ -3,7 +3,7 @@ use Rattle.std.proofs.lemmas.Result.{on_ok_weaker}
 use Rattle.server_trait.specs.Service.{machine}
 use Rattle.ft_model.specs.Refusal.{as_listen}
 use Rattle.server_node.specs.Identity.{node_of}
-use Rattle.server_node.specs.Refusing.{AreSent}
+use Rattle.server_node.specs.RefusalPackets.{AreSent}
 use Rattle.server_node.proofs.Knocking.{counted_by}
 use Rattle.server_node.proofs.Served.{strange_packet}
 use Rattle.server_node.proofs.Strange.{strange_alone}

@@ -5,9 +5,9 @@ use Rattle.ft_model.specs.Node.Input.{Packet_comes}
 use Rattle.ft_model.specs.Refusal.{as_closed}
 use Rattle.server_node.specs.declared.slot.Slot.TheVariants as slot
 use Rattle.server_node.specs.Identity.{node_of}
-use Rattle.server_node.specs.Refusing.{AreSent}
+use Rattle.server_node.specs.RefusalPackets.{AreSent}
 use Rattle.server_node.specs.Slots.{SlotStands, SlotGoes}
-use Rattle.server_node.proofs.Coming.{live_comes, done_answers}
+use Rattle.server_node.proofs.SegmentArrival.{live_comes, done_answers}
 use Rattle.server_node.proofs.Keyed.{quiet_for, refused_for, closed_back}
 use Rattle.server_node.proofs.slot.give_slot.Goals as goal
 

@@ -3,7 +3,7 @@ use Rattle.std.specs.Map.{lookup}
 use Rattle.std.specs.Option.{option_copied}
 use Rattle.ft_io.specs.Key.{key_eq}
 use Rattle.ft_model.specs.Node.{place_at}
-use Rattle.server_node.specs.Lending.{conn_in, IsConnAt}
+use Rattle.server_node.specs.Loan.{conn_in, IsConnAt}
 use Rattle.server_node.proofs.Lent.{conn_looked}
 use Rattle.server_node.proofs.LentConn.{sound_lent}
 use Rattle.server_node.proofs.Sound.{sound_found}

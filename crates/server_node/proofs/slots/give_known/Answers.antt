@@ -10,7 +10,7 @@ use Rattle.server_node.specs.Alone.{SlotsAlone}
 use Rattle.server_node.specs.Identity.{node_of}
 use Rattle.server_node.specs.Slots.{SlotStands, SlotGoes, AllSlotsGo, AllSound}
 use Rattle.server_node.proofs.OneKey.{one_goes, none_goes, none_found}
-use Rattle.server_node.proofs.Coming.{only_its_client, its_client}
+use Rattle.server_node.proofs.SegmentArrival.{only_its_client, its_client}
 use Rattle.server_node.proofs.Keyed.{set_alone, same_alone}
 use Rattle.server_node.proofs.Sound.{sound_found, sound_set}
 use Rattle.server_node.proofs.slots.give_known.Goals as goal

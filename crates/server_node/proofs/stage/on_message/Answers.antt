@@ -7,10 +7,10 @@ use Rattle.ft_model.specs.Node.Input.{Message_comes}
 use Rattle.server_node.specs.declared.stage.Stage.TheVariants as stage
 use Rattle.server_node.specs.Alone.{Others, Alone}
 use Rattle.server_node.specs.Identity.{node_of}
-use Rattle.server_node.specs.Numbered.{fetched_by}
+use Rattle.server_node.specs.RestartNumbers.{fetched_by}
 use Rattle.server_node.specs.Restarts.{MessageRestarts, AnswerGoes}
-use Rattle.server_node.specs.Reviving.{StageGoes}
-use Rattle.server_node.specs.Serving.{ServingGoes}
+use Rattle.server_node.specs.RestartEnd.{StageGoes}
+use Rattle.server_node.specs.ServingStage.{ServingGoes}
 use Rattle.server_node.specs.Stages.{StageStands}
 use Rattle.server_node.proofs.Resuming.{answered_on}
 use Rattle.server_node.proofs.StagedApart.{serving_others, serving_alone}

@@ -8,8 +8,8 @@ use Rattle.ft_model.specs.Node.Input.{Packet_comes}
 use Rattle.server_node.specs.declared.stage.Stage.TheVariants as stage
 use Rattle.server_node.specs.Alone.{Others, Alone}
 use Rattle.server_node.specs.Identity.{node_of}
-use Rattle.server_node.specs.Opening.{ArePut}
-use Rattle.server_node.specs.Serving.{ServingGoes}
+use Rattle.server_node.specs.Openings.{ArePut}
+use Rattle.server_node.specs.ServingStage.{ServingGoes}
 use Rattle.server_node.specs.Stages.{StageStands, NodeGoes}
 use Rattle.server_node.proofs.Opens.{put_none}
 use Rattle.server_node.proofs.Resuming.{holds_on}

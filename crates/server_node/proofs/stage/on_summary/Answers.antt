@@ -6,7 +6,7 @@ use Rattle.ft_model.specs.Node.Input.{Message_comes}
 use Rattle.server_node.specs.declared.stage.Stage.TheVariants as stage
 use Rattle.server_node.specs.Identity.{node_of}
 use Rattle.server_node.specs.Restarts.{RestartGoes}
-use Rattle.server_node.specs.Reviving.{StageGoes}
+use Rattle.server_node.specs.RestartEnd.{StageGoes}
 use Rattle.server_node.specs.Stages.{NodeGoes}
 use Rattle.server_node.proofs.Ranged.{count_in_range}
 use Rattle.server_node.proofs.Resuming.{begins_on}

@@ -1,5 +1,5 @@
 use Rattle.std.proofs.Common.{◌≡◌, ℕ, ◌+◌, ◌-◌, arith, ◌∙◌, ◌++◌, length, take, drop}
-use Rattle.tcp_buffers.proofs.Written.{written_within}
+use Rattle.tcp_buffers.proofs.Overwrites.{written_within}
 use Rattle.tcp_buffers.proofs.overwriting.copy_over.Goals as goal
 
 pub returns-clause-items : goal.returns-clause-items

@@ -1,7 +1,7 @@
 use Rattle.std.proofs.Common.{◌-◌, ◌<◌, ◌++◌, ap, arith, length, ◌∙◌, sym, eqb-true}
 use Rattle.std.specs.Prelude.{min}
 use Rattle.std.proofs.lemmas.List.{take_rest}
-use Rattle.tcp_buffers.proofs.Written.{written_none, written_whole}
+use Rattle.tcp_buffers.proofs.Overwrites.{written_none, written_whole}
 use Rattle.tcp_buffers.proofs.overwriting.overwrite.Goals as goal
 
 pub returns-then-is_empty-clause-items : goal.returns-then-is_empty-clause-items

@@ -1,7 +1,7 @@
 use Rattle.std.proofs.Common.{◌≡◌, ℕ, ◌+◌, ◌≤◌, ◌++◌, List, ap, arith, length, ◌∙◌}
 use Rattle.std.specs.Prelude.{replicate}
 use Rattle.tcp_buffers.specs.Runs.{written}
-use Rattle.tcp_buffers.proofs.Written.{pad_more, zeros_count, zeros_after, zeros_longer}
+use Rattle.tcp_buffers.proofs.Overwrites.{pad_more, zeros_count, zeros_after, zeros_longer}
 use Rattle.tcp_buffers.proofs.overwriting.pad_with.Goals as goal
 
 pub loop-queue-preserved : goal.loop-queue-preserved

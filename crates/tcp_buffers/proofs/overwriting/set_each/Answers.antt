@@ -1,6 +1,6 @@
 use Rattle.std.proofs.Common.{◌≡◌, ◌+◌, ap, arith, length, ◌∙◌, ◌∷◌, sym}
 use Rattle.tcp_buffers.specs.Runs.{written}
-use Rattle.tcp_buffers.proofs.Written.{set_next, length_set}
+use Rattle.tcp_buffers.proofs.Overwrites.{set_next, length_set}
 use Rattle.tcp_buffers.proofs.overwriting.set_each.Goals as goal
 
 pub loop-byte-preserved : goal.loop-byte-preserved

@@ -1,7 +1,7 @@
 use Rattle.std.proofs.Common.{◌∙◌, refl}
-use Rattle.twin_link.specs.Turning.{standing_of}
+use Rattle.twin_link.specs.PartSteps.{standing_of}
 use Rattle.node_link.proofs.Fronts.{at_failed}
-use Rattle.twin_link.proofs.Serving.{serving_none, serving_on, room_in_turn, cut_before, cut_serving}
+use Rattle.twin_link.proofs.PairRun.{serving_none, serving_on, room_in_turn, cut_before, cut_serving}
 use Rattle.twin_link.proofs.part.serve.Goals as goal
 
 pub take_turn-requires : goal.take_turn-requires

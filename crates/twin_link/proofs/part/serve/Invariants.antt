@@ -1,5 +1,5 @@
 use Rattle.std.proofs.Common.{◌≡◌}
-use Rattle.twin_link.specs.Turning.{standing_of, IsServing}
+use Rattle.twin_link.specs.PartSteps.{standing_of, IsServing}
 use Rattle.twin_link.proofs.part.serve.Given as goal
 
 -- so many turns are done, and no bind failed

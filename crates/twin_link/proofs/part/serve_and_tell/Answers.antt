@@ -1,7 +1,7 @@
 use Rattle.std.specs.Io.KnownBytes.{Appends}
 use Rattle.std.proofs.lemmas.Result.{on_ok_weaker}
 use Rattle.ft_io.proofs.Outcomes.{if_err}
-use Rattle.twin_link.proofs.Serving.{part_done, part_stops}
+use Rattle.twin_link.proofs.PairRun.{part_done, part_stops}
 use Rattle.twin_link.proofs.part.serve_and_tell.Goals as goal
 
 pub returns-in-Ok-clause-done : goal.returns-in-Ok-clause-done

@@ -1,7 +1,7 @@
 use Rattle.std.proofs.Common.{◌≡◌, take}
-use Rattle.node_link.specs.Received.{datagram}
-use Rattle.twin_link.specs.Turning.{standing_of}
-use Rattle.twin_link.proofs.Serving.{quiet, turned, room_left}
+use Rattle.node_link.specs.Receipt.{datagram}
+use Rattle.twin_link.specs.PartSteps.{standing_of}
+use Rattle.twin_link.proofs.PairRun.{quiet, turned, room_left}
 use Rattle.twin_link.proofs.part.take_turn.Goals as goal
 
 pub send_all-requires : goal.send_all-requires

@@ -1,6 +1,6 @@
 use Rattle.std.proofs.Common.{◌∙◌, subst, refl, arith}
 use Rattle.twin_link.specs.PartTurns.{addressed_to}
-use Rattle.twin_link.specs.Turning.{HasSent}
+use Rattle.twin_link.specs.PartSteps.{HasSent}
 use Rattle.twin_link.proofs.Handing.{sent_none, sent_on, room_for_one}
 use Rattle.twin_link.proofs.sending.send_all.Goals as goal
 

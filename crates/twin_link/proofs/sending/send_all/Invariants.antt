@@ -1,6 +1,6 @@
 use Rattle.std.proofs.Common.{◌≡◌, take}
 use Rattle.twin_link.specs.PartTurns.{addressed}
-use Rattle.twin_link.specs.Turning.{HasSent}
+use Rattle.twin_link.specs.PartSteps.{HasSent}
 use Rattle.twin_link.proofs.sending.send_all.Given as goal
 
 -- the first of them were handed to send, and no bind failed

@@ -1,4 +1,4 @@
-use Rattle.twin_log.specs.Outgoing.{texts_of}
+use Rattle.twin_log.specs.Outbox.{texts_of}
 use Rattle.twin_log.proofs.Fronts.{forwarded}
 use Rattle.twin_log.proofs.Outgoing.{forward_fits}
 use Rattle.twin_log.proofs.waiting.forward.Goals as goal

@@ -1,6 +1,6 @@
 use Rattle.std.proofs.Common.{◌≡◌, ◌+◌, ◌++◌, length, take}
-use Rattle.twin_laws.specs.Kept.{forwards_sent}
-use Rattle.twin_log.specs.Outgoing.{texts_of}
+use Rattle.twin_laws.specs.StoredState.{forwards_sent}
+use Rattle.twin_log.specs.Outbox.{texts_of}
 use Rattle.twin_log.proofs.waiting.forward.Given as goal
 
 abbrev pub invariant-loop-i : goal.invariant-loop-i

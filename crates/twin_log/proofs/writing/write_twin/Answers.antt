@@ -1,7 +1,7 @@
 use Rattle.std.proofs.Common.{◌+◌, ◌∙◌, ap, arith, refl, take, length}
 use Rattle.seq_arith.specs.TwinGrammar.{reading}
 use Rattle.twin_log.specs.Value.{said_by}
-use Rattle.twin_log.proofs.Assembled.{assembled, header_length, read_back}
+use Rattle.twin_log.proofs.OneSpelling.{assembled, header_length, read_back}
 use Rattle.twin_log.proofs.Fronts.{datagram_fits}
 use Rattle.twin_log.proofs.writing.write_twin.Goals as goal
 

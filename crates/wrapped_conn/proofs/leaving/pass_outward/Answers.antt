@@ -4,7 +4,7 @@ use Rattle.std.proofs.lemmas.List.{drop-set-lt, length-set}
 use Rattle.std.proofs.lemmas.Grind.{drop_more_same}
 use Rattle.seq_arith.specs.Packet.{Segment}
 use Rattle.seq_arith.specs.PacketGrammar.{reading, spelling}
-use Rattle.south_wrap.specs.Patching.{passed_out}
+use Rattle.south_wrap.specs.Translation.{passed_out}
 use Rattle.ft_model.proofs.Lists.{all_slice_get}
 use Rattle.tcp_endpoint.specs.Packets.{byte_count}
 use Rattle.wrapped_conn.proofs.PassedOn.{Passes, goes_on, passed_all, has_a_rst, passed_none, same_there, same_bytes, packets_count}

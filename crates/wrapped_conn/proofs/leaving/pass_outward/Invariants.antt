@@ -1,6 +1,6 @@
 use Rattle.std.proofs.Common.{◌≡◌, drop, length, List}
 use Rattle.seq_arith.specs.Packet.{Segment}
-use Rattle.tcp_endpoint.specs.Leaving.{packets}
+use Rattle.tcp_endpoint.specs.Output.{packets}
 use Rattle.tcp_endpoint.specs.Packets.{AreReadable, byte_count}
 use Rattle.wrapped_conn.proofs.PassedOn.{IsPassedOn}
 use Rattle.wrapped_conn.proofs.leaving.pass_outward.Given as goal

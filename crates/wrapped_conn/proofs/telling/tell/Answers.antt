@@ -1,7 +1,7 @@
 use Rattle.std.proofs.Common.{◌≡◌, ◌∙◌, arith, length, length-take, take}
 use Rattle.seq_arith.specs.MessageGrammar.{kind_of}
 use Rattle.logger_wire.specs.Value.{body_of}
-use Rattle.wrapped_conn.specs.Telling.{text_length}
+use Rattle.wrapped_conn.specs.LoggerMessages.{text_length}
 use Rattle.wrapped_conn.proofs.Told.{head_short, short_pushed}
 use Rattle.wrapped_conn.proofs.telling.tell.Goals as goal
 

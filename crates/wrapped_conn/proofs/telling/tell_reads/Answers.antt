@@ -1,6 +1,6 @@
 use Rattle.std.proofs.Common.{◌++◌, ◌∙◌, ap, arith, sym, add-one, drop, suc}
-use Rattle.north_wrap.specs.Standing.{messages_of}
-use Rattle.wrapped_conn.specs.Telling.{spelled}
+use Rattle.north_wrap.specs.Refinement.{messages_of}
+use Rattle.wrapped_conn.specs.LoggerMessages.{spelled}
 use Rattle.wrapped_conn.proofs.Told.{read_next, read_fits, one_told}
 use Rattle.wrapped_conn.proofs.Sendable.{read_sendable}
 use Rattle.wrapped_conn.proofs.telling.tell_reads.Goals as goal

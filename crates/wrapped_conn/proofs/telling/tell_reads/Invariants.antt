@@ -1,6 +1,6 @@
 use Rattle.std.proofs.Common.{◌≡◌, ◌+◌, ◌++◌, drop, length}
-use Rattle.north_wrap.specs.Standing.{messages_of}
-use Rattle.wrapped_conn.specs.Telling.{spelled, AreShort}
+use Rattle.north_wrap.specs.Refinement.{messages_of}
+use Rattle.wrapped_conn.specs.LoggerMessages.{spelled, AreShort}
 use Rattle.wrapped_conn.proofs.telling.tell_reads.Given as goal
 
 abbrev pub invariant-loop-i : goal.invariant-loop-i

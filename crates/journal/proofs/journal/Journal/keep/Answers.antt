@@ -2,8 +2,8 @@ use Rattle.std.proofs.Common.{◌≡◌, ◌∙◌, inl, inr, refl, subst, List,
 use Rattle.ft_io.specs.Told.{Tells}
 use Rattle.disk.specs.declared.calls.DiskCall.{DiskCall}
 use Rattle.disk.specs.declared.calls.DiskCall.TheVariants.{Appended, Put, Synced}
-use Rattle.disk.specs.Left.{IsFrontOf}
-use Rattle.disk.specs.Told.{on_disk}
+use Rattle.disk.specs.Remains.{IsFrontOf}
+use Rattle.disk.specs.CallRecord.{on_disk}
 use Rattle.journal.specs.Format.{sized, keeping}
 use Rattle.disk.proofs.Telling.{tells_on, at_err}
 use Rattle.journal.proofs.journal.Journal.keep.Goals as goal

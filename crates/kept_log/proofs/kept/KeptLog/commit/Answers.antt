@@ -1,6 +1,6 @@
 use Rattle.std.proofs.Common.{◌≡◌, ◌∙◌, ◌+◌, ◌≤◌, [], length, sym, ap, subst, arith, vec_len}
 use Rattle.std.specs.Prelude.{◌==◌}
-use Rattle.kept_log.specs.Kept.{HasLog, with_round}
+use Rattle.kept_log.specs.JournaledLog.{HasLog, with_round}
 use Rattle.kept_log.proofs.Messages.{is_empty, not_empty}
 use Rattle.kept_log.proofs.Logs.{kept_none, kept_round}
 use Rattle.kept_log.proofs.kept.KeptLog.commit.Goals as goal

@@ -3,7 +3,7 @@ use Rattle.std.proofs.lemmas.Bool.{ltb-false}
 use Rattle.std.proofs.lemmas.List.{length-append}
 use Rattle.std.specs.Result.{is_ok}
 use Rattle.logger_wire.specs.Value.{message_of}
-use Rattle.kept_log.specs.Kept.{Waits}
+use Rattle.kept_log.specs.JournaledLog.{Waits}
 use Rattle.kept_log.proofs.Messages.{whole}
 use Rattle.kept_log.proofs.Logs.{waits_more}
 use Rattle.kept_log.proofs.kept.KeptLog.take.Goals as goal

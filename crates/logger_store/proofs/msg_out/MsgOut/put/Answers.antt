@@ -1,6 +1,6 @@
 use Rattle.std.proofs.Common.{arith, inl, inr, refl, subst, sym, IsOk}
 use Rattle.logger_wire.specs.Value.{message_of}
-use Rattle.logger_wire.proofs.Assembled.{not_longer}
+use Rattle.logger_wire.proofs.OneSpelling.{not_longer}
 use Rattle.logger_store.proofs.msg_out.MsgOut.put.Goals as goal
 
 pub invariant_of-self : goal.invariant_of-self

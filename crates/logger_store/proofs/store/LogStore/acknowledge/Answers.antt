@@ -2,7 +2,7 @@ use Rattle.std.proofs.Common.{◌≡◌, ◌∙◌, ap, rules, Some, None}
 use Rattle.std.specs.Map.{lookup}
 use Rattle.ft_io.specs.Key.{key_eq}
 use Rattle.ft_model.specs.Log.{with_entry}
-use Rattle.logger_store.specs.Stored.{acknowledging}
+use Rattle.logger_store.specs.StoreState.{acknowledging}
 use Rattle.logger_store.proofs.Entries.{written, absent, map_kept}
 use Rattle.logger_store.proofs.store.LogStore.acknowledge.Goals as goal
 

@@ -5,7 +5,7 @@ use Rattle.std.specs.Map.{values_of}
 use Rattle.ft_io.specs.Key.{key_eq}
 use Rattle.indexmap.specs.IndexMap.{insert_entry}
 use Rattle.ft_model.specs.Log.{opened}
-use Rattle.logger_store.specs.Stored.{numbers_value}
+use Rattle.logger_store.specs.StoreState.{numbers_value}
 use Rattle.logger_store.proofs.Entries.{opening}
 use Rattle.logger_store.proofs.store.LogStore.open.Goals as goal
 

@@ -4,7 +4,7 @@ use Rattle.std.specs.Map.{lookup}
 use Rattle.std.proofs.lemmas.Result.{on_ok_weaker, on_err_weaker}
 use Rattle.ft_io.specs.Key.{key_eq}
 use Rattle.ft_model.specs.Log.{with_entry, with_part}
-use Rattle.logger_store.specs.Stored.{part_value, adds_page}
+use Rattle.logger_store.specs.StoreState.{part_value, adds_page}
 use Rattle.logger_store.proofs.Entries.{written, unwritten, absent, map_kept, there}
 use Rattle.logger_store.proofs.store.LogStore.take_part.Goals as goal
 

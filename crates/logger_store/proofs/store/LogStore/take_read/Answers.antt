@@ -4,7 +4,7 @@ use Rattle.std.specs.Map.{lookup}
 use Rattle.std.proofs.lemmas.Result.{on_ok_weaker, on_err_weaker}
 use Rattle.ft_io.specs.Key.{key_eq}
 use Rattle.ft_model.specs.Log.{with_entry, with_read, is_next_read}
-use Rattle.logger_store.specs.Stored.{begins_run}
+use Rattle.logger_store.specs.StoreState.{begins_run}
 use Rattle.logger_store.proofs.Entries.{written, unwritten, absent, map_kept, there}
 use Rattle.logger_store.proofs.store.LogStore.take_read.Goals as goal
 

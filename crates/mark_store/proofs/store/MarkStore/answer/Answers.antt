@@ -5,7 +5,7 @@ use Rattle.seq_arith.specs.MarkGrammar as marks
 use Rattle.seq_arith.specs.MessageGrammar as messages
 use Rattle.logger_wire.specs.Value.{message_of, seen}
 use Rattle.mark_store.specs.Bytes.{after_reading, reply_to_reading, reply_bytes}
-use Rattle.mark_store.specs.Standing.{TrimmedAtMarks, IsLeftOfMarked}
+use Rattle.mark_store.specs.Refinement.{TrimmedAtMarks, IsLeftOfMarked}
 use Rattle.mark_store.proofs.Steps.{after_given, answers_above}
 use Rattle.mark_store.proofs.store.MarkStore.answer.Goals as goal
 

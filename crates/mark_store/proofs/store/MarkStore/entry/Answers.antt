@@ -1,5 +1,5 @@
 use Rattle.std.proofs.Common.{◌∙◌, sym, subst}
-use Rattle.mark_store.specs.Standing.{IsLeftOfMarked}
+use Rattle.mark_store.specs.Refinement.{IsLeftOfMarked}
 use Rattle.mark_store.proofs.Steps.{head_left}
 use Rattle.mark_store.proofs.store.MarkStore.entry.Goals as goal
 

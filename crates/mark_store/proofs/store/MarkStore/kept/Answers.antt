@@ -1,6 +1,6 @@
 use Rattle.std.proofs.Common.{◌≡◌, ◌∙◌, sym, ap, subst, rules, None, Some, option_map}
-use Rattle.logger_store.specs.Stored.{head_value}
-use Rattle.mark_store.specs.Standing.{IsLeftOfMarked}
+use Rattle.logger_store.specs.StoreState.{head_value}
+use Rattle.mark_store.specs.Refinement.{IsLeftOfMarked}
 use Rattle.mark_store.proofs.Steps.{kept_nothing, kept_some}
 use Rattle.mark_store.proofs.store.MarkStore.kept.Goals as goal
 

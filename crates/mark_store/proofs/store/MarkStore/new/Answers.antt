@@ -1,6 +1,6 @@
 use Rattle.std.proofs.Common.{sym, ap₂, subst}
 use Rattle.mark_laws.specs.MarkedLog.{nothing_logged}
-use Rattle.mark_store.specs.Standing.{TrimmedAtMarks, IsLeftOfMarked}
+use Rattle.mark_store.specs.Refinement.{TrimmedAtMarks, IsLeftOfMarked}
 use Rattle.mark_store.proofs.Steps.{begins}
 use Rattle.mark_store.proofs.store.MarkStore.new.Goals as goal
 

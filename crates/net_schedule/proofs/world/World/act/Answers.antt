@@ -1,9 +1,9 @@
 use Rattle.std.proofs.Common.{sym, subst, refl, rules}
 use Rattle.std.proofs.lemmas.Result.{on_ok_weaker}
 use Rattle.ft_model.specs.Legal.{machines}
-use Rattle.net_schedule.specs.Doing.{Does, Declines}
-use Rattle.net_schedule.specs.Keeping.{kept}
-use Rattle.net_schedule.specs.TwinStanding.{TwinDoes, TwinDeclines}
+use Rattle.net_schedule.specs.Methods.{Does, Declines}
+use Rattle.net_schedule.specs.WorldView.{kept}
+use Rattle.net_schedule.specs.TwinRefinement.{TwinDoes, TwinDeclines}
 use Rattle.net_schedule.proofs.TwinActors.{one_done, one_ended, two_done, two_ended, movers_are_actors}
 use Rattle.net_schedule.proofs.world.World.act.Goals as goal
 use Rattle.ft_io.proofs.Outcomes.{if_err}

@@ -1,7 +1,7 @@
 use Rattle.std.proofs.Common.{◌≡◌, ◌∙◌, ap, arith, Some}
 use Rattle.server_trait.specs.Service.{machine}
-use Rattle.net_schedule.specs.Carried.{with_wires}
-use Rattle.net_schedule.specs.Keeping.{kept, server_of}
+use Rattle.net_schedule.specs.StoredPackets.{with_wires}
+use Rattle.net_schedule.specs.WorldView.{kept, server_of}
 use Rattle.net_schedule.proofs.Events.{boots, refuses_up, refuses_boot}
 use Rattle.net_schedule.proofs.Outcomes.{not_there, same_there}
 use Rattle.net_schedule.proofs.world.World.boot.Goals as goal

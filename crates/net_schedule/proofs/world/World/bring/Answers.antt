@@ -4,9 +4,9 @@ use Rattle.server_trait.specs.Service.{machine}
 use Rattle.ft_model.specs.World.{DeliveredAs}
 use Rattle.ft_model.specs.declared.way.Way.TheVariants.{ClientToServer, ServerToClient, ServerToLogger, LoggerToServer, HeadToTail, TailToHead}
 use Rattle.twin_laws.specs.TwinWorld.{seen}
-use Rattle.net_schedule.specs.Keeping.{kept}
-use Rattle.net_schedule.specs.Standing.{IsForMemory}
-use Rattle.net_schedule.specs.TwinStanding.{TwinGoesOn, ParcelComesAs}
+use Rattle.net_schedule.specs.WorldView.{kept}
+use Rattle.net_schedule.specs.Refinement.{IsForMemory}
+use Rattle.net_schedule.specs.TwinRefinement.{TwinGoesOn, ParcelComesAs}
 use Rattle.net_schedule.proofs.Bringing.{brings_client, brings_logger, none_between, packet_comes, packet_brought, message_comes, message_brought}
 use Rattle.net_schedule.proofs.Goings.{actors_of, one_goes}
 use Rattle.net_schedule.proofs.Outcomes.{keeps_nothing}

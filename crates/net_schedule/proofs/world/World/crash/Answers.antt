@@ -1,7 +1,7 @@
 use Rattle.std.proofs.Common.{refl}
 use Rattle.server_trait.specs.Service.{machine}
 use Rattle.ft_model.specs.declared.event.Event.TheVariants.{Crash}
-use Rattle.net_schedule.specs.Keeping.{kept, server_of}
+use Rattle.net_schedule.specs.WorldView.{kept, server_of}
 use Rattle.net_schedule.proofs.Events.{crashes, refuses_down}
 use Rattle.net_schedule.proofs.Outcomes.{is_up, is_down}
 use Rattle.net_schedule.proofs.world.World.crash.Goals as goal

@@ -3,9 +3,9 @@ use Rattle.std.specs.Prelude.{option_copied}
 use Rattle.std.proofs.lemmas.Result.{on_ok_weaker}
 use Rattle.server_trait.specs.Service.{machine}
 use Rattle.net_schedule.specs.AtNumber.{at_number}
-use Rattle.net_schedule.specs.Keeping.{kept}
+use Rattle.net_schedule.specs.WorldView.{kept}
 use Rattle.net_schedule.proofs.Events.{delivers, delivers_end, refuses_packet}
-use Rattle.net_schedule.proofs.Keeping.{no_way, no_bytes}
+use Rattle.net_schedule.proofs.PacketStore.{no_way, no_bytes}
 use Rattle.net_schedule.proofs.Parcels.{no_parcel_way, no_parcel_bytes}
 use Rattle.net_schedule.proofs.TwinEvents.{twin_delivers, twin_delivers_end, twin_refuses_packet}
 use Rattle.net_schedule.proofs.world.World.deliver.Goals as goal

@@ -4,14 +4,14 @@ use Rattle.std.proofs.lemmas.Result.{on_ok_weaker}
 use Rattle.seq_arith.specs.Damage.{flipped}
 use Rattle.server_trait.specs.Service.{machine}
 use Rattle.ft_model.specs.World.{DeliveredAs}
-use Rattle.net_schedule.specs.Keeping.{kept}
+use Rattle.net_schedule.specs.WorldView.{kept}
 use Rattle.net_schedule.specs.Premises.{ComesAs}
-use Rattle.net_schedule.specs.Standing.{ReachesNext}
+use Rattle.net_schedule.specs.Refinement.{ReachesNext}
 use Rattle.net_schedule.proofs.Events.{flips, flips_end, refuses_no_packet, refuses_bit}
-use Rattle.net_schedule.proofs.Keeping.{no_way, no_bytes}
+use Rattle.net_schedule.proofs.PacketStore.{no_way, no_bytes}
 use Rattle.net_schedule.proofs.Parcels.{no_parcel_way, no_parcel_bytes}
 use Rattle.net_schedule.proofs.TwinEvents.{twin_flips, twin_flips_end, twin_refuses_no_packet, twin_refuses_bit}
-use Rattle.net_schedule.specs.TwinStanding.{TwinGoesOn, ParcelComesAs, MayComeAs}
+use Rattle.net_schedule.specs.TwinRefinement.{TwinGoesOn, ParcelComesAs, MayComeAs}
 use Rattle.twin_laws.specs.TwinWorld.{seen}
 use Rattle.net_schedule.proofs.world.World.flip.Goals as goal
 use Rattle.ft_io.proofs.Outcomes.{if_err}

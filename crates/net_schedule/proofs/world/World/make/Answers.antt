@@ -5,8 +5,8 @@ use Rattle.seq_arith.specs.PacketGrammar.{spelling}
 use Rattle.ft_model.specs.Client.{segment_of, window_of}
 use Rattle.ft_model.specs.World.{client_at}
 use Rattle.ft_model.specs.declared.way.Way.TheVariants.{ClientToServer}
-use Rattle.net_schedule.specs.Carried.{with_packet}
-use Rattle.net_schedule.specs.Keeping.{kept}
+use Rattle.net_schedule.specs.StoredPackets.{with_packet}
+use Rattle.net_schedule.specs.WorldView.{kept}
 use Rattle.net_schedule.proofs.Moving.{moves, refuses_client, refuses_move, client_there, client_missing, no_client, written_front}
 use Rattle.net_schedule.proofs.Outcomes.{converted}
 use Rattle.net_schedule.proofs.world.World.make.Goals as goal

@@ -1,7 +1,7 @@
 use Rattle.std.proofs.Common.{◌∙◌, ap, map}
 use Rattle.ft_model.specs.Legal.{machines}
 use Rattle.ft_model.specs.Schedule.{clients_of}
-use Rattle.net_schedule.proofs.Starting.{begun_so, stands_at_start, twin_stands_at_start}
+use Rattle.net_schedule.proofs.FirstWorld.{begun_so, stands_at_start, twin_stands_at_start}
 use Rattle.net_schedule.proofs.world.World.new.Goals as goal
 
 pub returns-clause-one : goal.returns-clause-one

@@ -2,8 +2,8 @@ use Rattle.std.proofs.Common.{◌≡◌, ap, Some, option_map}
 use Rattle.server_trait.specs.Service.{machine}
 use Rattle.ft_model.specs.Legal.{machines}
 use Rattle.server_node.specs.Inputs.{input_of}
-use Rattle.net_schedule.specs.Carried.{with_wires}
-use Rattle.net_schedule.specs.Keeping.{kept, server_of}
+use Rattle.net_schedule.specs.StoredPackets.{with_wires}
+use Rattle.net_schedule.specs.WorldView.{kept, server_of}
 use Rattle.net_schedule.proofs.Goings.{server_goes_at, server_rests, never_fenced}
 use Rattle.net_schedule.proofs.world.World.serve.Goals as goal
 

@@ -1,5 +1,5 @@
 use Rattle.ft_model.specs.Legal.{machines}
-use Rattle.net_schedule.specs.Keeping.{kept}
+use Rattle.net_schedule.specs.WorldView.{kept}
 use Rattle.net_schedule.proofs.Trace.{steps, limits, ends_so}
 use Rattle.net_schedule.proofs.TwinTrace.{twin_steps, twin_limits, twin_ends_so}
 use Rattle.net_schedule.proofs.world.World.step.Goals as goal

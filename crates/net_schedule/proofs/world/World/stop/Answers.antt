@@ -1,7 +1,7 @@
 use Rattle.std.proofs.Common.{◌∙◌, sym, ap, Some}
 use Rattle.server_trait.specs.Service.{machine}
 use Rattle.ft_model.proofs.Lists.{none_is_some}
-use Rattle.net_schedule.specs.Keeping.{kept}
+use Rattle.net_schedule.specs.WorldView.{kept}
 use Rattle.net_schedule.specs.Loggers.{serving_log}
 use Rattle.net_schedule.specs.Logs.{loggers_in}
 use Rattle.net_schedule.proofs.TwinEvents.{twin_stops}

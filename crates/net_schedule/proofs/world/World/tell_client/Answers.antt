@@ -1,7 +1,7 @@
 use Rattle.std.proofs.Common.{◌≡◌, ◌∙◌, ap, subst, arith, ◌-◌, get_or}
 use Rattle.std.proofs.Math.ListN.{set}
 use Rattle.peer_client.specs.Scripted.{delivered}
-use Rattle.net_schedule.specs.Keeping.{kept}
+use Rattle.net_schedule.specs.WorldView.{kept}
 use Rattle.net_schedule.proofs.Moving.{delivered_set, delivered_none, none_delivered}
 use Rattle.net_schedule.proofs.world.World.tell_client.Goals as goal
 

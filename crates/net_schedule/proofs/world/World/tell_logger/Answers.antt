@@ -1,6 +1,6 @@
 use Rattle.std.proofs.Common.{◌≤◌, ap, sym, subst, length}
-use Rattle.net_schedule.specs.Hearing.{with_logs}
-use Rattle.net_schedule.specs.Keeping.{kept}
+use Rattle.net_schedule.specs.Delivery.{with_logs}
+use Rattle.net_schedule.specs.WorldView.{kept}
 use Rattle.net_schedule.proofs.TwinLoggers.{logs_grow}
 use Rattle.net_schedule.proofs.world.World.tell_logger.Goals as goal
 

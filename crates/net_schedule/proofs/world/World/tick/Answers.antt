@@ -2,7 +2,7 @@ use Rattle.std.proofs.Common.{refl}
 use Rattle.std.proofs.lemmas.Result.{on_ok_weaker}
 use Rattle.server_trait.specs.Service.{machine}
 use Rattle.ft_model.specs.declared.event.Event.TheVariants.{Tick}
-use Rattle.net_schedule.specs.Keeping.{kept, server_of}
+use Rattle.net_schedule.specs.WorldView.{kept, server_of}
 use Rattle.net_schedule.proofs.Events.{ticks, refuses_down, refuses_nothing}
 use Rattle.net_schedule.proofs.Outcomes.{is_up, is_down}
 use Rattle.net_schedule.proofs.world.World.tick.Goals as goal

@@ -1,7 +1,7 @@
 use Rattle.std.proofs.Common.{◌≡◌, sym, ◌∙◌, ap₂, Some}
 use Rattle.north_wrap.specs.NorthState.{record_of, next_length, next_at}
 use Rattle.north_wrap.specs.Sockets.{reader}
-use Rattle.north_wrap.proofs.Reading.{goes_on}
+use Rattle.north_wrap.proofs.ReadSequence.{goes_on}
 use Rattle.north_wrap.proofs.north.North.make_reads.Goals as goal
 
 pub loop-size-preserved : goal.loop-size-preserved

@@ -1,6 +1,6 @@
 use Rattle.std.proofs.Common.{sym, subst}
 use Rattle.peer_client.specs.Live.{LiveState}
-use Rattle.peer_client.specs.Standing.{IsDue, IsBetween}
+use Rattle.peer_client.specs.Refinement.{IsDue, IsBetween}
 use Rattle.peer_client.proofs.Whole.{unread_is, unread_heard, due_handed, between_handed}
 use Rattle.peer_client.proofs.live.LiveClient.accept.Goals as goal
 

@@ -1,6 +1,6 @@
 use Rattle.std.proofs.Common.{sym, subst}
 use Rattle.peer_client.specs.Live.{LiveState, sent_by}
-use Rattle.peer_client.specs.Standing.{Moves}
+use Rattle.peer_client.specs.Refinement.{Moves}
 use Rattle.peer_client.proofs.Whole.{flush_moves}
 use Rattle.peer_client.proofs.live.LiveClient.flush.Goals as goal
 

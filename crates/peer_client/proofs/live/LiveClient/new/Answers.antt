@@ -3,7 +3,7 @@ use Rattle.std.specs.Prelude.{None}
 use Rattle.ft_model.specs.Client.{new_client}
 use Rattle.ft_model.specs.Client.ClientKind.{Live}
 use Rattle.tcp_endpoint.specs.Tcb.{Tcb}
-use Rattle.peer_client.specs.Standing.{Waits}
+use Rattle.peer_client.specs.Refinement.{Waits}
 use Rattle.peer_client.proofs.Opens.{starts}
 use Rattle.peer_client.proofs.live.LiveClient.new.Goals as goal
 

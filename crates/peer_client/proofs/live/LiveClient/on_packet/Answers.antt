@@ -1,7 +1,7 @@
 use Rattle.std.proofs.Common.{sym, subst}
 use Rattle.seq_arith.specs.PacketGrammar.{reading}
 use Rattle.peer_client.specs.Live.{LiveState}
-use Rattle.peer_client.specs.Standing.{IsDue, receiving}
+use Rattle.peer_client.specs.Refinement.{IsDue, receiving}
 use Rattle.peer_client.proofs.Whole.{heard_due, short_between, due_outcome}
 use Rattle.peer_client.proofs.live.LiveClient.on_packet.Goals as goal
 

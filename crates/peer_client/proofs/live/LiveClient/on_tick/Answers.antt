@@ -1,6 +1,6 @@
 use Rattle.std.proofs.Common.{sym, subst}
 use Rattle.peer_client.specs.Live.{LiveState}
-use Rattle.peer_client.specs.Standing.{IsDue}
+use Rattle.peer_client.specs.Refinement.{IsDue}
 use Rattle.peer_client.proofs.Whole.{tick_due}
 use Rattle.peer_client.proofs.live.LiveClient.on_tick.Goals as goal
 

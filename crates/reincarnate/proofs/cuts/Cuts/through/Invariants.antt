@@ -1,6 +1,6 @@
 use Rattle.std.proofs.Common.{◌≡◌, ◌≤◌, drop}
 use Rattle.seq_arith.specs.MessageGrammar.{lens_in}
-use Rattle.reincarnate.specs.Cutting.{cuts_through, HaveBytes}
+use Rattle.reincarnate.specs.ReadLengths.{cuts_through, HaveBytes}
 use Rattle.reincarnate.proofs.cuts.Cuts.through.Given as goal
 
 -- the lengths that are left decide

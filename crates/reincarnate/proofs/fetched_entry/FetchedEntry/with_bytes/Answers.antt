@@ -1,5 +1,5 @@
 use Rattle.std.proofs.Common.{◌≡◌, ◌+◌, ◌++◌, ◌∙◌, true, ap, sym, subst, length, ◌≤◌}
-use Rattle.logger_store.specs.Stored.{head_value}
+use Rattle.logger_store.specs.StoreState.{head_value}
 use Rattle.reincarnate.specs.Progress.{EntryState, Waiting, lacks, asks_bytes, replayed_from, waits_on, IsSized}
 use Rattle.reincarnate.proofs.Sized.{bytes_sized}
 use Rattle.reincarnate.proofs.fetched_entry.FetchedEntry.with_bytes.Goals as goal

@@ -1,6 +1,6 @@
 use Rattle.std.proofs.Common.{◌≡◌, ◌+◌, ◌++◌, ◌∙◌, true, ap, sym, subst, sum, ◌≤◌}
 use Rattle.seq_arith.specs.MessageGrammar.{lens_in}
-use Rattle.logger_store.specs.Stored.{head_value}
+use Rattle.logger_store.specs.StoreState.{head_value}
 use Rattle.reincarnate.specs.Progress.{EntryState, Waiting, lacks, asks_lengths, replayed_from, waits_on, IsSized}
 use Rattle.reincarnate.proofs.Sized.{lengths_sized}
 use Rattle.reincarnate.proofs.fetched_entry.FetchedEntry.with_lengths.Goals as goal

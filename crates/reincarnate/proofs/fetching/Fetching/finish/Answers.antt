@@ -1,7 +1,7 @@
 use Rattle.std.proofs.Common.{◌∙◌, ◌++◌, ap, subst, sym, reverse}
 use Rattle.std.specs.Option.{option_to_list}
 use Rattle.server_trait.specs.Service.{machine}
-use Rattle.reincarnate.specs.Standing.{StandsWhole}
+use Rattle.reincarnate.specs.Refinement.{StandsWhole}
 use Rattle.reincarnate.proofs.EntriesLaw.{finished}
 use Rattle.reincarnate.proofs.fetching.Fetching.finish.Goals as goal
 

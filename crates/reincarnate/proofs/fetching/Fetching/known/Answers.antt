@@ -1,6 +1,6 @@
 use Rattle.std.proofs.Common.{◌∙◌}
 use Rattle.server_trait.specs.Service.{machine}
-use Rattle.reincarnate.specs.Asking.{entries_of}
+use Rattle.reincarnate.specs.Questions.{entries_of}
 use Rattle.reincarnate.proofs.AnswerLaw.{heads_found}
 use Rattle.reincarnate.proofs.fetching.Fetching.known.Goals as goal
 

@@ -1,9 +1,9 @@
 use Rattle.std.proofs.Common.{◌≡◌, ◌∙◌, ◌≤◌, ◌^◌, length, min, sym, ap, subst}
-use Rattle.logger_store.specs.Stored.{head_value}
+use Rattle.logger_store.specs.StoreState.{head_value}
 use Rattle.south_wrap.specs.SouthState.{resumed_south}
 use Rattle.wrapped_conn.specs.Sound.{IsSound}
 use Rattle.reincarnate.specs.Progress.{ReplayedState}
-use Rattle.reincarnate.specs.Joining.{SplicedState, conn_of, has_end, south_from, spliced_from, EntryNumbersFit}
+use Rattle.reincarnate.specs.Splice.{SplicedState, conn_of, has_end, south_from, spliced_from, EntryNumbersFit}
 use Rattle.reincarnate.proofs.Startable.{spliced_sound}
 use Rattle.reincarnate.proofs.replayed.Replayed.join.Goals as goal
 

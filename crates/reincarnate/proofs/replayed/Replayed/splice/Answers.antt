@@ -1,6 +1,6 @@
 use Rattle.std.proofs.Common.{subst, sym}
 use Rattle.server_trait.specs.Service.{machine}
-use Rattle.reincarnate.specs.Joining.{IsSpliced}
+use Rattle.reincarnate.specs.Splice.{IsSpliced}
 use Rattle.reincarnate.proofs.Joined.{splice_stands}
 use Rattle.reincarnate.proofs.replayed.Replayed.splice.Goals as goal
 use Rattle.ft_io.proofs.Outcomes.{if_ok}

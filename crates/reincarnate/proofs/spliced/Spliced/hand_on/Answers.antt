@@ -2,8 +2,8 @@ use Rattle.std.proofs.Common.{sym, subst}
 use Rattle.server_trait.specs.Service.{machine}
 use Rattle.ft_model.specs.Restart.{point_of}
 use Rattle.wrapped_conn.specs.Sound.{IsSound}
-use Rattle.wrapped_conn.specs.Standing.{StandsBefore}
-use Rattle.reincarnate.specs.Joining.{IsSpliced}
+use Rattle.wrapped_conn.specs.Refinement.{StandsBefore}
+use Rattle.reincarnate.specs.Splice.{IsSpliced}
 use Rattle.reincarnate.proofs.Joined.{hands_on}
 use Rattle.reincarnate.proofs.spliced.Spliced.hand_on.Goals as goal
 

@@ -1,4 +1,4 @@
-use Rattle.net_schedule.specs.Keeping.{kept}
+use Rattle.net_schedule.specs.WorldView.{kept}
 use Rattle.seed_run.specs.Runs.{StandsBehind}
 use Rattle.seed_run.proofs.progress.Progress.play.Given as goal
 

@@ -2,8 +2,8 @@ use Rattle.std.proofs.Common.{◌∙◌, ◌+◌, [], sym, ap, subst, arith}
 use Rattle.sample_servers.specs.AnyService.{any_machine}
 use Rattle.seq_arith.specs.Offset.{one_if}
 use Rattle.ft_model.specs.World.{events_of}
-use Rattle.net_schedule.specs.Keeping.{kept, server_of}
-use Rattle.net_schedule.specs.Stepping.{EndsStep}
+use Rattle.net_schedule.specs.WorldView.{kept, server_of}
+use Rattle.net_schedule.specs.Step.{EndsStep}
 use Rattle.seed_run.specs.Events.{next_event}
 use Rattle.seed_run.specs.Generated.{schedule_of}
 use Rattle.seed_run.specs.Runs.{StandsBehind}

@@ -10,7 +10,7 @@ use Rattle.seq_arith.specs.Packet.{Segment}
 use Rattle.seq_arith.specs.PacketGrammar.{reading}
 use Rattle.segment_codec.specs.Value.{segment_of}
 use Rattle.south_wrap.specs.declared.answers.CopyPart.{CopyPart}
-use Rattle.south_wrap.specs.Patching.{copied, is_some_copied, IsPart}
+use Rattle.south_wrap.specs.Translation.{copied, is_some_copied, IsPart}
 use Rattle.south_wrap.proofs.Heads.{if_read}
 use Rattle.south_wrap.proofs.Parts.{Found, found_size, fin_is, part_is}
 use Rattle.south_wrap.proofs.south.South.copy_of.Goals as goal

@@ -7,7 +7,7 @@ use Rattle.segment_codec.specs.Value.{segment_of}
 use Rattle.south_wrap.specs.declared.answers.Inward.{Inward}
 use Rattle.south_wrap.specs.declared.answers.Inward.TheVariants.{Pass, Repeat}
 use Rattle.south_wrap.specs.SouthState.{inner_ack, inner_window}
-use Rattle.south_wrap.specs.Patching.{repeats_syn, answer_in, passed_in, inward}
+use Rattle.south_wrap.specs.Translation.{repeats_syn, answer_in, passed_in, inward}
 use Rattle.south_wrap.proofs.Heads.{changed_twice, changed_once, if_read, one_reading}
 use Rattle.south_wrap.proofs.south.South.inward.Goals as goal
 

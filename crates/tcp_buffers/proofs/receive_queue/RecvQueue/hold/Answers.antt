@@ -2,7 +2,7 @@ use Rattle.std.proofs.Common.{◌≡◌, ◌+◌, ◌<◌, ◌≤◌, true, ap, 
 use Rattle.std.specs.Prelude.{nat_le}
 use Rattle.seq_arith.specs.Early.{laid, run_count}
 use Rattle.tcp_buffers.specs.Queue.{Queue}
-use Rattle.tcp_buffers.proofs.Written.{no_items}
+use Rattle.tcp_buffers.proofs.Overwrites.{no_items}
 use Rattle.tcp_buffers.proofs.QueueFields.{held_so, none_laid, held_by, not_held_by, hold_counts, shown}
 use Rattle.tcp_buffers.proofs.receive_queue.RecvQueue.hold.Goals as goal
 

@@ -1,7 +1,7 @@
 use Rattle.std.proofs.Common.{◌≡◌, ◌++◌, ap, ◌∙◌, subst}
 use Rattle.tcp_endpoint.specs.Tcb.{Tcb}
 use Rattle.tcp_endpoint.specs.Packets.{AreReadable}
-use Rattle.tcp_endpoint.specs.Leaving.{reset_reply_out, retransmission_out, probe_out, with_probe, text_out, with_text_sent, fin_out, with_fin_out, full_out, after_full, packets}
+use Rattle.tcp_endpoint.specs.Output.{reset_reply_out, retransmission_out, probe_out, with_probe, text_out, with_text_sent, fin_out, with_fin_out, full_out, after_full, packets}
 use Rattle.tcp_endpoint.proofs.Spelled.{packets_full, full_readable, leaving_readable}
 use Rattle.tcp_endpoint.proofs.endpoint.Endpoint.flush.Goals as goal
 

@@ -1,6 +1,6 @@
 use Rattle.std.proofs.Common.{ap, ◌∙◌, sym, length}
 use Rattle.std.specs.Prelude.{◌==◌, ◌&&◌}
-use Rattle.tcp_endpoint.specs.Leaving.{is_ack_pending, bare_segment}
+use Rattle.tcp_endpoint.specs.Output.{is_ack_pending, bare_segment}
 use Rattle.tcp_endpoint.proofs.Spelled.{unsent_readable}
 use Rattle.tcp_endpoint.proofs.endpoint.Endpoint.send_pending_ack.Goals as goal
 

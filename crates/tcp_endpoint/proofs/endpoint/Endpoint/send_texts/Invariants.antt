@@ -1,6 +1,6 @@
 use Rattle.std.proofs.Common.{◌≡◌, ◌+◌, ◌*◌, ◌<◌, ◌≤◌, ◌++◌, length}
 use Rattle.tcp_endpoint.specs.Packets.{byte_count, AreReadable}
-use Rattle.tcp_endpoint.specs.Leaving.{texts, packets}
+use Rattle.tcp_endpoint.specs.Output.{texts, packets}
 use Rattle.tcp_endpoint.proofs.endpoint.Endpoint.send_texts.Given as goal
 
 abbrev pub invariant-loop-left : goal.invariant-loop-left

@@ -3,7 +3,7 @@ use Rattle.std.proofs.lemmas.List.{length_push}
 use Rattle.seq_arith.specs.Packet.{Segment}
 use Rattle.seq_arith.specs.PacketGrammar.{spelling}
 use Rattle.seq_arith.proofs.Spelling.{size}
-use Rattle.segment_codec.specs.Written.{segment_with}
+use Rattle.segment_codec.specs.Spelling.{segment_with}
 use Rattle.tcp_endpoint.specs.Packets.{byte_count}
 use Rattle.tcp_endpoint.proofs.Pieces.{appended, appended_climbs, byte_count_pieces, length_pieces}
 use Rattle.tcp_endpoint.proofs.Spelled.{spelled_bytes}

@@ -1,6 +1,6 @@
 use Rattle.std.proofs.Common.{◌≡◌, ◌+◌, ◌%◌, ◌^◌, ◌∙◌, ap, arith}
 use Rattle.seq_arith.specs.Number.{distance}
-use Rattle.tcp_endpoint.specs.Receiving.{Receiving}
+use Rattle.tcp_endpoint.specs.ReceiveHalf.{Receiving}
 use Rattle.tcp_endpoint.proofs.Places.{end_place, end_below}
 use Rattle.tcp_endpoint.proofs.receiver.Receiver.end.Goals as goal
 

@@ -1,5 +1,5 @@
 use Rattle.std.proofs.Common.{arith}
-use Rattle.tcp_endpoint.proofs.Held.{keeps_none}
+use Rattle.tcp_endpoint.proofs.Reassembly.{keeps_none}
 use Rattle.tcp_endpoint.proofs.receiver.Receiver.new.Goals as goal
 
 pub invariant_of-result : goal.invariant_of-result

@@ -1,8 +1,8 @@
 use Rattle.std.proofs.Common.{◌∙◌, ap, sym, subst, pos, ◌+ℤ◌, length, []}
 use Rattle.seq_arith.specs.Number.{offset_of}
 use Rattle.tcp_buffers.specs.Near.{IsNearFirst}
-use Rattle.tcp_endpoint.specs.Receiving.{Receiving, with_came, with_segment}
-use Rattle.tcp_endpoint.proofs.Held.{one_segment}
+use Rattle.tcp_endpoint.specs.ReceiveHalf.{Receiving, with_came, with_segment}
+use Rattle.tcp_endpoint.proofs.Reassembly.{one_segment}
 use Rattle.tcp_endpoint.proofs.receiver.Receiver.take.Goals as goal
 
 pub take_fin-requires-clause-near : goal.take_fin-requires-clause-near

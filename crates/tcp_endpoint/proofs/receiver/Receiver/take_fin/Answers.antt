@@ -2,8 +2,8 @@ use Rattle.std.proofs.Common.{◌≡◌, ◌∙◌, ap, sym, subst, true, pos, �
 use Rattle.ft_io.proofs.Booleans.{and_false}
 use Rattle.seq_arith.specs.Number.{offset_of}
 use Rattle.seq_arith.specs.Coming.{holds_fin, nothing_came}
-use Rattle.tcp_endpoint.specs.Receiving.{Receiving, taken, receive_edge, with_segment}
-use Rattle.tcp_endpoint.proofs.Held.{Makes, KeepsOf, no_fin, takes_fin, keeps_fin}
+use Rattle.tcp_endpoint.specs.ReceiveHalf.{Receiving, taken, receive_edge, with_segment}
+use Rattle.tcp_endpoint.proofs.Reassembly.{Makes, KeepsOf, no_fin, takes_fin, keeps_fin}
 use Rattle.tcp_endpoint.proofs.Steps.{held_by_number, held_number}
 use Rattle.tcp_endpoint.specs.contracts.receiver.Receiver.{the_view}
 use Rattle.tcp_endpoint.proofs.receiver.Receiver.take_fin.Goals.{then-not-fin-via-then-not-fin, then-not-fin-via-else-not-fin+then-not-holds_fin}

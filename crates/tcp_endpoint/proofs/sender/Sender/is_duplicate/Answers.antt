@@ -1,6 +1,6 @@
 use Rattle.std.proofs.Common.{◌∙◌, sym, ap, arith}
 use Rattle.std.specs.Prelude.{◌&&◌}
-use Rattle.tcp_endpoint.specs.Sending.{repeats}
+use Rattle.tcp_endpoint.specs.SendHalf.{repeats}
 use Rattle.tcp_endpoint.proofs.Acks.{duplicate_is}
 use Rattle.tcp_endpoint.proofs.sender.Sender.is_duplicate.Goals as goal
 

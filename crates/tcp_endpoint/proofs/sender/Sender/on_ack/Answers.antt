@@ -3,7 +3,7 @@ use Rattle.seq_arith.specs.Congestion.{is_third}
 use Rattle.seq_arith.specs.Number.{offset_of}
 use Rattle.tcp_buffers.specs.Near.{is_ahead}
 use Rattle.ft_io.proofs.Booleans.{not_true}
-use Rattle.tcp_endpoint.specs.Sending.{Sending, acknowledged, is_duplicate, duplicated}
+use Rattle.tcp_endpoint.specs.SendHalf.{Sending, acknowledged, is_duplicate, duplicated}
 use Rattle.tcp_endpoint.proofs.Acks.{duplicate_keeps, answered_once, answered_again}
 use Rattle.tcp_endpoint.proofs.sender.Sender.on_ack.Goals as goal
 

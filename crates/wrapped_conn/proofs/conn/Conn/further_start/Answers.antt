@@ -1,7 +1,7 @@
 use Rattle.std.proofs.Common.{◌≡◌, sym, subst}
 use Rattle.std.specs.Prelude.{IfOk}
 use Rattle.segment_codec.specs.Value.{segment_of}
-use Rattle.wrapped_conn.specs.Telling.{further_start}
+use Rattle.wrapped_conn.specs.LoggerMessages.{further_start}
 use Rattle.wrapped_conn.proofs.Copied.{start_from}
 use Rattle.wrapped_conn.proofs.conn.Conn.further_start.Goals as goal
 

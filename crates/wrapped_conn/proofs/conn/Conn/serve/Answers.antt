@@ -1,8 +1,8 @@
 use Rattle.std.proofs.Common.{◌≡◌, sym, ap, subst, ◌∙◌, arith}
 use Rattle.north_wrap.specs.NorthState.{Turns}
 use Rattle.wrapped_conn.specs.ConnState.{ConnState}
-use Rattle.connection_laws.specs.Feeding.{tcp_reader, tcp_writer}
-use Rattle.wrapped_conn.specs.Turning.{served}
+use Rattle.connection_laws.specs.OutputFeed.{tcp_reader, tcp_writer}
+use Rattle.wrapped_conn.specs.Turn.{served}
 use Rattle.wrapped_conn.specs.Sound.{IsSound}
 use Rattle.wrapped_conn.proofs.Served.{served_sound, served_state, north_is, read_rises, news_are_tellable}
 use Rattle.wrapped_conn.proofs.conn.Conn.serve.Goals as goal

@@ -1,4 +1,4 @@
-use Rattle.wrapped_conn.proofs.Taking.{copied_now, told_now, takes}
+use Rattle.wrapped_conn.proofs.SegmentTurn.{copied_now, told_now, takes}
 use Rattle.wrapped_conn.proofs.conn.Conn.take_packet.Goals as goal
 use Rattle.std.proofs.lemmas.Result.{on_ok_weaker}
 

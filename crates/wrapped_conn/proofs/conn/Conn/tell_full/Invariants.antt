@@ -1,6 +1,6 @@
 use Rattle.std.proofs.Common.{◌≡◌, ◌≤◌, ◌+◌, ◌*◌, ◌-◌, ◌++◌, Bool, length, drop}
 use Rattle.tcp_endpoint.specs.Packets.{byte_count}
-use Rattle.wrapped_conn.specs.Telling.{spelled, datas_of}
+use Rattle.wrapped_conn.specs.LoggerMessages.{spelled, datas_of}
 use Rattle.wrapped_conn.proofs.conn.Conn.tell_full.Given as goal
 
 abbrev pub invariant-loop-told : goal.invariant-loop-told

@@ -1,5 +1,5 @@
 use Rattle.std.proofs.Common.{◌+◌, ◌-◌, ◌++◌, ◌∙◌, ap, drop, length, length-drop, arith}
-use Rattle.wrapped_conn.specs.Telling.{spelled, datas_of}
+use Rattle.wrapped_conn.specs.LoggerMessages.{spelled, datas_of}
 use Rattle.wrapped_conn.proofs.Datas.{last_told, none_left, some_text, some_fin, no_more}
 use Rattle.wrapped_conn.proofs.conn.Conn.tell_further.Goals as goal
 use Rattle.wrapped_conn.proofs.conn.Conn.tell_further.Goals.{then-told-count-via-then-told-count, then-told-count-via-else-told-count+then-fin}

@@ -1,7 +1,7 @@
 use Rattle.std.proofs.Common.{◌++◌, ◌∷◌, [], ap, ◌∙◌, arith}
 use Rattle.seq_arith.specs.Message.Body.{DataMsg}
 use Rattle.wrapped_conn.specs.ConnState.{ConnState}
-use Rattle.wrapped_conn.specs.Telling.{spelled}
+use Rattle.wrapped_conn.specs.LoggerMessages.{spelled}
 use Rattle.wrapped_conn.proofs.Datas.{peeked}
 use Rattle.wrapped_conn.proofs.conn.Conn.tell_piece.Goals as goal
 

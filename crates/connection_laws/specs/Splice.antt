@@ -1,0 +1,67 @@
+-- How a fresh endpoint is brought to where a restart continues: by forged segments.
+use Rattle.std.specs.Prelude.{false, ◌≡◌, ◌≤◌, ◌<◌, true, length, sum, ℕ, Bool, ◌+◌, ◌-◌, ◌%◌, ◌^◌, Option, Some, None, [], if◌then◌else◌}
+use Rattle.ft_io.specs.declared.Addr.{Addr}
+use Rattle.ft_io.specs.declared.Key.{Key}
+use Rattle.seq_arith.specs.declared.flags.TheConstants.{FIN, SYN, ACK}
+use Rattle.seq_arith.specs.Number.{distance, number_at}
+use Rattle.seq_arith.specs.Packet.{Segment}
+use Rattle.ft_model.specs.News.News.{Comes}
+use Rattle.server_trait.specs.Service.{Machine}
+use Rattle.ft_model.specs.Log.{Entry}
+use Rattle.ft_model.specs.Restart.{point_of, resumed_at}
+use Rattle.connection_laws.specs.OutputFeed.{Feeds}
+use Rattle.connection_laws.specs.Parts.{StandsOpen}
+use Rattle.tcp_endpoint.specs.Tcb.{Tcb, listening}
+use Rattle.endpoint_laws.specs.Turn.{turned}
+
+-- a segment of the client with these numbers, no text and window 0
+abbrev pub forged : Key → Addr → (seq ack flags : ℕ) → (mss : Option ℕ) → Segment
+forged key local seq ack flags mss = record {
+  head = record { src = key.ip; dst = local.ip; sport = key.port; dport = local.port; seq = seq; ack = ack; flags = flags; window = 0; mss = mss };
+  payload = [];
+}
+
+-- its SYN comes before the bytes that are still to come, ..
+abbrev pub forged_syn : Key → Addr → (cisn fetched mss : ℕ) → Segment
+forged_syn key local cisn fetched mss = forged key local ((cisn + fetched) % 2 ^ 32) 0 SYN (Some mss)
+
+-- .. then it acknowledges the SYN-ACK, ..
+abbrev pub forged_ack : Key → Addr → (cisn fetched i : ℕ) → Segment
+forged_ack key local cisn fetched i = forged key local (number_at cisn fetched) (number_at i 0) ACK None
+
+-- .. and ends its stream where its FIN is logged
+abbrev pub forged_fin : Key → Addr → (cisn fetched i : ℕ) → Segment
+forged_fin key local cisn fetched i = forged key local (number_at cisn fetched) (number_at i 0) (FIN + ACK) None
+
+-- what each turn sends is discarded
+unfoldable pub connected : Key → Addr → (cisn fetched mss i : ℕ) → Tcb
+connected key local cisn fetched mss i =
+    turned (Comes (forged_ack key local cisn fetched i)) []
+    (turned (Comes (forged_syn key local cisn fetched mss)) [] (listening local i (2 ^ 24 - fetched)))
+
+abbrev pub spliced : Key → Addr → (cisn fetched mss i : ℕ) → (fin : Bool) → Tcb
+spliced key local cisn fetched mss i fin =
+    if fin then turned (Comes (forged_fin key local cisn fetched i)) [] (connected key local cisn fetched mss i)
+    else connected key local cisn fetched mss i
+
+-- the entry and the initial number from which a restart continues
+pub record GoesOnFrom {State : Type 0} (service : Machine State) (e : Entry) (i : ℕ) : Type 0 where
+  pub least : 64 ≤ e.mss
+  pub most : e.mss ≤ 1460
+  pub short : length e.bytes ≤ 2 ^ 24
+  pub fin : e.fin ≡ true → length e.bytes < 2 ^ 24
+  pub cut : sum e.lengths ≤ length e.bytes
+  pub small : resumed_at service e ≤ 2 ^ 24
+  pub sisn : e.sisn < 2 ^ 32
+  pub i_fits : i < 2 ^ 32
+
+-- the number of the unit at which output continues, less the initial number
+abbrev pub delta_from : {State : Type 0} → Machine State → Entry → (i : ℕ) → ℕ
+delta_from service e i = distance ((e.sisn + resumed_at service e) % 2 ^ 32) i
+
+-- the result is at the point inside that of the entry. Nothing is written to it yet, so it holds nothing of the output
+pub record StandsAtEntry {State : Type 0} (service : Machine State) (e : Entry) (i : ℕ) (t : Tcb) : Type 0 where
+  pub tcp : StandsOpen (resumed_at service e) i (delta_from service e i) (point_of service e) t
+  pub feeds : Feeds service (resumed_at service e) (point_of service e) (resumed_at service e) t
+  pub kept : t.reset ≡ false
+  pub open_still : t.sending.closed ≡ false

@@ -1,0 +1,48 @@
+-- A log whose changes are in a journal, except for those of the round that isn't committed yet.
+use Rattle.std.specs.Prelude.{◌≡◌, ◌+◌, ℕ, Bool, List, [], ◌∷◌, ◌++◌, length, nat_lt, if◌then◌else◌}
+use Rattle.seq_arith.specs.Message.{Message}
+use Rattle.ft_model.specs.Log.{Log, empty_log}
+use Rattle.logger_deaths.specs.NeededMessages.{log_after_all}
+use Rattle.logger_store.specs.Changes.{changes}
+use Rattle.disk.specs.declared.calls.DiskCall.{DiskCall}
+use Rattle.journal.specs.Format.{front, keeping}
+use Rattle.kept_log.specs.MessageList.{Says, AreKept}
+
+pub record KeptState : Type 0 where
+  pub log : Log
+  pub end : ℕ  -- the place of the closed gate in the file
+  pub round : List ℕ  -- the messages that have changed the log since the last commit, byte for byte as they came
+
+-- no room is left for one more message of the greatest length
+abbrev pub is_full : KeptState → Bool
+is_full k = nat_lt 380205 (length k.round)
+
+-- what is kept of the bytes of a message: all if it changes the log, otherwise none
+abbrev pub kept_of : Log → Message → List ℕ → List ℕ
+kept_of log message bytes = if changes log message then bytes else []
+
+-- the calls that commit a round: none if it is empty
+abbrev pub committing : ℕ → List ℕ → List DiskCall
+committing end [] = []
+committing end (byte ∷ round) = keeping end (byte ∷ round)
+
+abbrev pub end_after : ℕ → List ℕ → ℕ
+end_after end [] = end
+end_after end (byte ∷ round) = end + 5 + length (byte ∷ round)
+
+abbrev pub with_round : List (List ℕ) → List ℕ → List (List ℕ)
+with_round bodies [] = bodies
+with_round bodies (byte ∷ round) = bodies ++ (byte ∷ round) ∷ []
+
+-- the log of the blocks before the closed gate at this place
+pub record HasLog (bodies : List (List ℕ)) (end : ℕ) (log : Log) : Type 0 where
+  pub messages : List Message
+  pub kept : AreKept bodies messages
+  pub end_is : end ≡ length (front bodies)
+  pub log_is : log ≡ log_after_all empty_log messages
+
+-- a log after the uncommitted round, from the log before it
+pub record Waits (before : Log) (round : List ℕ) (log : Log) : Type 0 where
+  pub messages : List Message
+  pub says : Says round messages
+  pub log_is : log ≡ log_after_all before messages

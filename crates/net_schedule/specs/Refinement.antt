@@ -1,0 +1,92 @@
+-- The world of the code, the world of the definitions at which it is, and what an event does to both.
+use Rattle.std.specs.Prelude.{◌≡◌, ℕ, Option, None, Some, List, ◌++◌, map}
+use Rattle.ft_io.specs.declared.Addr.{Addr}
+use Rattle.ft_io.specs.declared.Key.{Key}
+use Rattle.server_trait.specs.Service.{Machine}
+use Rattle.ft_model.specs.Client.{Client}
+use Rattle.ft_model.specs.Log.{Log}
+use Rattle.ft_model.specs.Network.{Packet}
+use Rattle.ft_model.specs.Node.{Node, Stage}
+use Rattle.ft_model.specs.Wire.{wire_of}
+use Rattle.ft_model.specs.World.{World as Seen, Happens}
+use Rattle.ft_model.specs.Legal.{refusal, IsScripted}
+use Rattle.ft_model.specs.declared.event.Event.{Event}
+use Rattle.server_node.specs.Identity.{node_of}
+use Rattle.server_node.specs.Stages.{StageStands}
+use Rattle.server_node.specs.declared.identity.Identity.{Identity}
+use Rattle.server_node.specs.declared.stage.Stage.{Stage as Holds}
+use Rattle.net_schedule.specs.StoredPackets.{Carried, carried}
+use Rattle.net_schedule.specs.Loggers.{Loggers}
+use Rattle.net_schedule.specs.declared.end.StepEnd.{StepEnd}
+use Rattle.net_schedule.specs.declared.end.StepEnd.TheVariants.{NoMemory, BadEvent, PacketLimit}
+
+-- a server that is up: what never changes of it, and what it holds
+pub record Server (State : Type 0) : Type 0 where
+  pub who : Identity
+  pub stage : Holds State
+
+-- what the code's world stores
+pub record Kept (State : Type 0) : Type 0 where
+  pub kind : ℕ  -- of the service
+  pub server : Addr
+  pub keys : List Key  -- of the clients
+  pub clients : List Client
+  pub log : Log  -- the one that serves
+  pub loggers : Option Loggers  -- where there are two
+  pub packets : Carried
+  pub boot : ℕ
+  pub node : Option (Server State)
+
+-- the server runs the service of this kind, and is at an incarnation
+pub record IsAt {State : Type 0} (service : Machine State) (kind : ℕ) (now : Server State) (node : Node) : Type 0 where
+  pub kind_is : now.who.kind ≡ kind
+  pub standing : Stage
+  pub is : node ≡ node_of now.who standing
+  pub stands : StageStands service (node_of now.who standing) now.stage
+
+-- the server is down in both, or it is at the incarnation that is up
+abbrev pub NodeStands : {State : Type 0} → Machine State → ℕ → Option (Server State) → Option Node → Type 0
+NodeStands service kind None None = Unit {0}
+NodeStands service kind (Some now) (Some node) = IsAt service kind now node
+NodeStands service kind _ _ = ⊥
+
+-- The code's world is at a world of the definitions: each packet is stored in its one spelling, with its direction.
+pub record WorldStands {State : Type 0} (service : Machine State) (w : Kept State) (v : Seen) : Type 0 where
+  pub server : w.server ≡ v.server
+  pub keys : w.keys ≡ map (λ c. c.key) v.clients
+  pub clients : w.clients ≡ v.clients
+  pub single : w.loggers ≡ None
+  pub log : w.log ≡ v.log
+  pub packets : w.packets ≡ carried w.keys (map wire_of v.packets)
+  pub boot : w.boot ≡ v.boot
+  pub node : NodeStands service w.kind w.node v.node
+
+-- The world becomes a next one, with these packets sent, and the code's world is at that.
+pub record ReachesNext {State : Type 0} (service : Machine State) (Goes : List Packet → Seen → Type 0) (v : Seen) (w : Kept State) : Type 0 where
+  pub sent : List Packet
+  pub world : Seen
+  pub goes : Goes sent world
+  pub stands : WorldStands service w world
+  pub grew : world.packets ≡ v.packets ++ sent
+
+-- An event is allowed and happens, and the clients follow the script.
+pub record Advances {State : Type 0} (service : Machine State) (v : Seen) (event : Event) (w : Kept State) : Type 0 where
+  pub happens : ReachesNext service (Happens service v event) v w
+  pub allowed : refusal v event ≡ None
+  pub scripted : IsScripted v event happens.sent happens.world
+
+-- an allocation failed
+abbrev pub IsForMemory : StepEnd → Type 0
+IsForMemory NoMemory = Unit {0}
+IsForMemory _ = ⊥
+
+-- an event that isn't done is refused by the events' tests, or an allocation failed
+abbrev pub Refuses : Seen → Event → StepEnd → Type 0
+Refuses v event NoMemory = Unit {0}
+Refuses v event (BadEvent why) = refusal v event ≡ Some why
+Refuses v event PacketLimit = ⊥
+
+-- the world may only be dropped, or is as it was before
+abbrev pub KeepsAtRefusal : {State : Type 0} → Kept State → Kept State → StepEnd → Type 0
+KeepsAtRefusal before after (BadEvent why) = after ≡ before
+KeepsAtRefusal before after _ = Unit {0}

@@ -1,0 +1,56 @@
+-- The packets of a trace, as the code's world stores them.
+use Rattle.std.specs.Prelude.{◌≡◌, ℕ, Some, List, map}
+use Rattle.std.specs.List.{AllByRecursion}
+use Rattle.ft_model.specs.Legal.{start_of}
+use Rattle.ft_model.specs.Network.{Packet, packet_at}
+use Rattle.ft_model.specs.Report.{way_of}
+use Rattle.ft_model.specs.Schedule.{clients_of}
+use Rattle.ft_model.specs.Wire.{wire_of, HasWire}
+use Rattle.ft_model.specs.World.{Moment, world_after}
+use Rattle.ft_model.specs.declared.schedule.Schedule.{Schedule}
+use Rattle.ft_model.specs.declared.way.Way.{Way}
+use Rattle.twin_laws.specs.TwinWorld.{Parcel, TwinMoment, parcel_at, twin_after}
+use Rattle.twin_laws.specs.TwinLegal.{twin_start, bytes_of_parcel}
+use Rattle.twin_laws.specs.TwinReport.{way_of_parcel}
+use Rattle.twin_laws.specs.SentBytes.{IsWritten}
+use Rattle.net_schedule.specs.StoredPackets.{Carried}
+
+-- all packets that were sent up to the end of a trace
+abbrev pub packets_of : Schedule → List Moment → List Packet
+packets_of schedule trace = (world_after (start_of schedule) trace).packets
+
+-- a packet's direction, as a report of the schedule names it
+abbrev pub reported_way : Schedule → Packet → Way
+reported_way schedule packet = way_of (clients_of schedule.server schedule.clients) packet
+
+-- what is stored is the packets of a trace, each in its one spelling and with the direction that its report names
+pub record KeepsAllSent (schedule : Schedule) (trace : List Moment) (kept : Carried) : Type 0 where
+  pub ways : kept.ways ≡ map (reported_way schedule) (packets_of schedule trace)
+  pub bytes : kept.bytes ≡ map (λ packet. (wire_of packet).bytes) (packets_of schedule trace)
+  pub wires : AllByRecursion HasWire (packets_of schedule trace)
+
+-- this direction and these bytes are those of the trace's packet with a number
+pub record WasSentAs (schedule : Schedule) (trace : List Moment) (number : ℕ) (way : Way) (bytes : List ℕ) : Type 0 where
+  pub packet : Packet
+  pub is : packet_at (packets_of schedule trace) number ≡ Some packet
+  pub wire : HasWire packet
+  pub goes : way ≡ reported_way schedule packet
+  pub spells : bytes ≡ (wire_of packet).bytes
+
+-- With two loggers: all that was sent up to the end of a trace
+abbrev pub parcels_of : Schedule → List TwinMoment → List Parcel
+parcels_of schedule trace = (twin_after (twin_start schedule) trace).parcels
+
+-- what is stored is the parcels of a trace, each in its one spelling and with the direction that its report names
+pub record KeepsAllParcels (schedule : Schedule) (trace : List TwinMoment) (kept : Carried) : Type 0 where
+  pub ways : kept.ways ≡ map (way_of_parcel (clients_of schedule.server schedule.clients)) (parcels_of schedule trace)
+  pub bytes : kept.bytes ≡ map bytes_of_parcel (parcels_of schedule trace)
+  pub written : AllByRecursion IsWritten (parcels_of schedule trace)
+
+-- this direction and these bytes are those of the trace's parcel with a number
+pub record ParcelSentAs (schedule : Schedule) (trace : List TwinMoment) (number : ℕ) (way : Way) (bytes : List ℕ) : Type 0 where
+  pub parcel : Parcel
+  pub is : parcel_at (parcels_of schedule trace) number ≡ Some parcel
+  pub written : IsWritten parcel
+  pub goes : way ≡ way_of_parcel (clients_of schedule.server schedule.clients) parcel
+  pub spells : bytes ≡ bytes_of_parcel parcel

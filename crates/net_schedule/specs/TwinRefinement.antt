@@ -1,0 +1,119 @@
+-- The code's world with two loggers, the world of the definitions at which it is, and what an event does to both.
+use Rattle.std.specs.Prelude.{◌≡◌, ℕ, None, Some, List, [], ◌++◌, map}
+use Rattle.std.specs.List.{AllByRecursion}
+use Rattle.ft_io.specs.declared.Key.{Key}
+use Rattle.server_trait.specs.Service.{Machine}
+use Rattle.ft_model.specs.Legal.{IsScripted}
+use Rattle.ft_model.specs.Network.{Packet}
+use Rattle.ft_model.specs.Wire.{wire_of}
+use Rattle.ft_model.specs.World.{World as Seen, WasSent, DeliveredAs}
+use Rattle.ft_model.specs.Network.Packet.{To_logger}
+use Rattle.ft_model.specs.declared.event.Event.{Event}
+use Rattle.ft_model.specs.declared.way.Way.{Way}
+use Rattle.twin_laws.specs.Twin.Between.{Forward, Got}
+use Rattle.twin_laws.specs.StoredState.{kept_head, kept_tail, comes_from}
+use Rattle.twin_laws.specs.declared.part.Side.TheVariants as sides
+use Rattle.twin_laws.specs.Pair.{Pair, IsPaired}
+use Rattle.twin_laws.specs.TwinWorld.{Parcel, TwinWorld, TwinEvent, TwinHappens, Elsewhere, HeadHas, TailHas, LoggerHas, serving, seen, parcel_at}
+use Rattle.twin_laws.specs.TwinWorld.Parcel.{Outside, Inside}
+use Rattle.twin_laws.specs.Flat.{outside}
+use Rattle.twin_laws.specs.TwinLegal.{event_of, twin_refusal, bytes_of_parcel}
+use Rattle.twin_laws.specs.TwinReport.{way_of_between}
+use Rattle.twin_laws.specs.SentBytes.{IsWritten}
+use Rattle.net_schedule.specs.Actors.{ActorsStand}
+use Rattle.net_schedule.specs.StoredPackets.{Carried, way_along}
+use Rattle.net_schedule.specs.Loggers.{Loggers}
+use Rattle.net_schedule.specs.Premises.{Premises, ComesAs}
+use Rattle.net_schedule.specs.Refinement.{Kept, IsForMemory}
+use Rattle.net_schedule.specs.declared.end.StepEnd.{StepEnd}
+use Rattle.net_schedule.specs.declared.end.StepEnd.TheVariants.{NoMemory, BadEvent, PacketLimit}
+
+-- the direction of a parcel
+abbrev pub stored_way : List Key → Parcel → Way
+stored_way keys (Outside packet) = way_along keys (wire_of packet)
+stored_way keys (Inside between) = way_of_between between
+
+-- parcels as the network stores them
+abbrev pub carried_parcels : List Key → List Parcel → Carried
+carried_parcels keys parcels = record { ways = map (stored_way keys) parcels; bytes = map bytes_of_parcel parcels }
+
+-- each logger stores what is stored of its history
+pub record LoggersStand (l : Loggers) (p : Pair) : Type 0 where
+  pub head : l.head ≡ kept_head p.head
+  pub tail : l.tail ≡ kept_tail p.tail
+
+-- The code's world is at a world of the definitions with two loggers: each parcel is stored as bytes, with its direction.
+pub record TwinWorldStands {State : Type 0} (service : Machine State) (w : Kept State) (v : TwinWorld) : Type 0 where
+  pub actors : ActorsStand service w (seen v [])
+  pub loggers : Loggers
+  pub double : w.loggers ≡ Some loggers
+  pub log : w.log ≡ serving v.pair
+  pub pair : LoggersStand loggers v.pair
+  pub packets : w.packets ≡ carried_parcels w.keys v.parcels
+
+-- The world becomes a next one, with these parcels sent, and the code's world is at that.
+pub record TwinGoesOn {State : Type 0} (service : Machine State) (Goes : List Parcel → TwinWorld → Type 0) (v : TwinWorld) (w : Kept State) : Type 0 where
+  pub sent : List Parcel
+  pub world : TwinWorld
+  pub goes : Goes sent world
+  pub stands : TwinWorldStands service w world
+  pub grew : world.parcels ≡ v.parcels ++ sent
+
+-- An event is allowed and happens, and the clients follow the script.
+pub record TwinAdvances {State : Type 0} (service : Machine State) (v : TwinWorld) (event : Event) (w : Kept State) : Type 0 where
+  pub turn : TwinEvent
+  pub is : event_of turn ≡ event
+  pub happens : TwinGoesOn service (TwinHappens service v turn) v w
+  pub allowed : twin_refusal v event ≡ None
+  pub scripted : IsScripted (seen v []) event (outside happens.sent) (seen happens.world [])
+
+-- an event that isn't done is refused by the events' tests, or an allocation failed
+abbrev pub TwinRefuses : TwinWorld → Event → StepEnd → Type 0
+TwinRefuses v event NoMemory = Unit {0}
+TwinRefuses v event (BadEvent why) = twin_refusal v event ≡ Some why
+TwinRefuses v event PacketLimit = ⊥
+
+-- What every legal trace guarantees of the world at its end: in the flat trace were sent the packets, and for them the premises of a step hold; whatever was
+-- sent is written; and each logger knows whether it serves alone.
+pub record TwinPremises {State : Type 0} (service : Machine State) (v : TwinWorld) : Type 0 where
+  pub packets : List Packet
+  pub premises : Premises service (seen v packets)
+  pub sent : (number : ℕ) (packet : Packet) → parcel_at v.parcels number ≡ Some (Outside packet) → WasSent (seen v packets) packet
+  pub written : AllByRecursion IsWritten v.parcels
+  pub paired : IsPaired v.pair
+
+-- the event is allowed and happens
+abbrev pub TwinDoes : {State : Type 0} → (ℕ → Machine State) → Event → (before after : Kept State) → Type 0
+TwinDoes services event before after =
+    (v : TwinWorld) → TwinWorldStands (services before.kind) before v → TwinPremises (services before.kind) v → TwinAdvances (services before.kind) v event after
+
+-- the event isn't done: it is refused, or an allocation failed
+abbrev pub TwinDeclines : {State : Type 0} → (ℕ → Machine State) → Event → Kept State → StepEnd → Type 0
+TwinDeclines services event before end =
+    (v : TwinWorld) → TwinWorldStands (services before.kind) before v → TwinPremises (services before.kind) v → TwinRefuses v event end
+
+-- these bytes reach the addressee of a parcel in place of its own
+abbrev pub ParcelComesAs : {State : Type 0} → Machine State → Parcel → List ℕ → TwinWorld → List Parcel → TwinWorld → Type 0
+ParcelComesAs service (Outside (To_logger message)) bytes before sent after =
+    LoggerHas before.pair.head_stopped (comes_from sides.Server bytes) before sent after
+ParcelComesAs service (Outside packet) bytes before sent after = Elsewhere (λ w. DeliveredAs service w packet bytes) before sent after
+ParcelComesAs service (Inside (Forward number request)) bytes before sent after = TailHas (comes_from sides.Other bytes) before sent after
+ParcelComesAs service (Inside (Got number)) bytes before sent after = HeadHas (comes_from sides.Other bytes) before sent after
+
+-- what they say to the server may come to it
+abbrev pub MayComeAs : Seen → Parcel → List ℕ → Type 0
+MayComeAs v (Outside packet) bytes = ComesAs v packet bytes
+MayComeAs v (Inside between) bytes = Unit {0}
+
+-- bytes reach the addressee of a parcel that has this direction
+abbrev pub TwinBrings : {State : Type 0} → (ℕ → Machine State) → Way → List ℕ → (before after : Kept State) → Type 0
+TwinBrings services way bytes before after =
+    (v : TwinWorld) (parcel : Parcel) → TwinWorldStands (services before.kind) before v → (p : TwinPremises (services before.kind) v)
+    → way ≡ stored_way before.keys parcel → MayComeAs (seen v p.packets) parcel bytes
+    → TwinGoesOn (services before.kind) (ParcelComesAs (services before.kind) parcel bytes v) v after
+
+-- only a failed allocation prevents that
+abbrev pub TwinBringsNot : {State : Type 0} → (ℕ → Machine State) → Way → List ℕ → Kept State → StepEnd → Type 0
+TwinBringsNot services way bytes before end =
+    (v : TwinWorld) (parcel : Parcel) → TwinWorldStands (services before.kind) before v → (p : TwinPremises (services before.kind) v)
+    → way ≡ stored_way before.keys parcel → MayComeAs (seen v p.packets) parcel bytes → IsForMemory end

@@ -1,0 +1,73 @@
+-- The parts of a connection at the end of a restart, which are at the point of its entry.
+use Rattle.std.specs.Prelude.{◌≡◌, ℕ, Bool, ◌&&◌, nat_lt, ◌<◌, ◌≤◌, ◌^◌, length, min}
+use Rattle.ft_io.specs.declared.Addr.{Addr}
+use Rattle.ft_io.specs.declared.Key.{Key}
+use Rattle.seq_arith.specs.Message.{EntryHead}
+use Rattle.server_trait.specs.Service.{Machine}
+use Rattle.ft_model.specs.Log.{Entry}
+use Rattle.ft_model.specs.Restart.{point_of, resumed_at}
+use Rattle.tcp_endpoint.specs.Tcb.{Tcb}
+use Rattle.south_wrap.specs.SouthState.{SouthState, resumed_south}
+use Rattle.south_wrap.specs.SouthPoint.{south_at}
+use Rattle.north_wrap.specs.NorthState.{NorthState, resumed_north}
+use Rattle.connection_laws.specs.Splice.{spliced, delta_from}
+use Rattle.connection_laws.specs.Parts.{PartsStand}
+use Rattle.wrapped_conn.specs.NewConnection.{joined_conn}
+use Rattle.wrapped_conn.specs.ConnState.{ConnState}
+use Rattle.reincarnate.specs.Progress.{ReplayedState, IsSegmentSize}
+
+pub record SplicedState (S : Type 0) : Type 0 where
+  pub boot : ℕ  -- the server's boot number
+  pub key : Key  -- the client's address and port
+  pub local : Addr  -- the server's address
+  pub south : SouthState  -- the wrapper between the client and TCP
+  pub endpoint : Tcb  -- TCP, which has never seen the client
+  pub north : NorthState S  -- the wrapper between TCP and the service
+
+-- the connection as which it is handed on
+abbrev pub conn_of : {S : Type 0} → SplicedState S → ConnState S
+conn_of s = joined_conn s.boot s.key s.local s.south s.endpoint s.north
+
+-- output continues after what the client has acknowledged of it. A FIN is retransmitted even where it was acknowledged
+abbrev pub goes_on_at : {S : Type 0} → ReplayedState S → ℕ
+goes_on_at r = min r.head.acked r.replay.made
+
+-- A FIN is logged, and the stream has room for it. No log keeps one after a full stream: there it would have no number within the receive window (RFC 9293,
+-- section 3.4), and the connection continues without it
+abbrev pub has_end : EntryHead → Bool
+has_end head = head.fin && nat_lt head.length (2 ^ 24)
+
+abbrev pub south_from : {S : Type 0} → (i : ℕ) → ReplayedState S → SouthState
+south_from i r = record (resumed_south r.head.cisn r.head.sisn r.head.length (has_end r.head) (goes_on_at r) i) { read = r.cuts.sum }
+
+abbrev pub north_from : {S : Type 0} → ReplayedState S → NorthState S
+north_from r = resumed_north r.replay.service r.replay.held r.replay.pending r.cuts.count r.cuts.sum r.replay.made r.cuts.ended r.replay.closed
+
+-- the inner TCP has the initial number i
+abbrev pub spliced_from : {S : Type 0} → (boot : ℕ) → Addr → (i : ℕ) → ReplayedState S → SplicedState S
+spliced_from boot local i r = record {
+  boot = boot;
+  key = r.head.key;
+  local = local;
+  south = south_from i r;
+  endpoint = spliced r.head.key local r.head.cisn r.head.length r.head.mss i (has_end r.head);
+  north = north_from r;
+}
+
+-- They are at the entry's point: the wrapper with delta = sisn + u - i modulo 2^32, where u is how much of the output the client has acknowledged; TCP where
+-- its next numbers are cisn + 1 + T and i + 1, where T is the units taken; and the service with the output from u on. TCP has the server's address, and the
+-- segment size is one that the log keeps
+pub record IsSpliced {S : Type 0} (service : Machine S) (e : Entry) (i : ℕ) (s : SplicedState S) : Type 0 where
+  pub key : s.key ≡ e.key
+  pub short : length e.bytes ≤ 2 ^ 24
+  pub segments : IsSegmentSize e.mss
+  pub local : s.endpoint.local ≡ s.local
+  pub south : s.south ≡ south_at (delta_from service e i) (point_of service e)
+  pub parts : PartsStand service (resumed_at service e) i (delta_from service e i) (resumed_at service e) (point_of service e) s.north s.endpoint
+
+-- the numbers of an entry and an initial number are within their ranges
+pub record EntryNumbersFit {S : Type 0} (r : ReplayedState S) (i : ℕ) : Type 0 where
+  pub stream : r.head.length ≤ 2 ^ 24
+  pub segments : IsSegmentSize r.head.mss
+  pub sisn : r.head.sisn < 2 ^ 32
+  pub i_fits : i < 2 ^ 32

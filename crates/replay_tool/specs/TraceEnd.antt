@@ -1,0 +1,48 @@
+-- The state of the world before and after an event, with two loggers or with one.
+use Rattle.std.specs.Prelude.{◌≡◌, ℕ, ◌+◌, ◌<◌, ◌≤◌, Bool, true, false, Some, List, [], ◌∷◌, ◌++◌, length}
+use Rattle.ft_model.specs.Report.{event_line}
+use Rattle.ft_model.specs.declared.event.Event.{Event}
+use Rattle.ft_model.specs.declared.schedule.Schedule.{Schedule}
+use Rattle.net_schedule.specs.Refinement.{Kept}
+use Rattle.net_schedule.specs.Step.{StandsAfter}
+use Rattle.net_schedule.specs.TwinStep.{TwinStandsAfter}
+use Rattle.net_schedule.specs.declared.end.StepEnd.{StepEnd}
+use Rattle.net_schedule.specs.declared.end.StepEnd.TheVariants.{NoMemory, BadEvent, PacketLimit}
+use Rattle.net_schedule.specs.declared.step_out.StepOut.{StepOut}
+use Rattle.sample_servers.specs.AnyService.{any_machine}
+use Rattle.sample_servers.specs.declared.any_service.AnyService.{AnyService}
+use Rattle.replay_tool.specs.PacketLines.{stored_lines}
+use Rattle.replay_tool.specs.Traces.{traces_of}
+
+-- at the end of a legal trace of a schedule
+abbrev pub IsTraceEnd : (twin : Bool) → Schedule → List Event → List (traces_of twin).Turn → Kept AnyService → Type 0
+IsTraceEnd true schedule events trace w = TwinStandsAfter any_machine schedule events trace w
+IsTraceEnd false schedule events trace w = StandsAfter any_machine schedule events trace w
+
+-- .. of some schedule
+pub record IsStanding (w : Kept AnyService) : Type 0 where
+  pub schedule : Schedule
+  pub events : List Event
+  pub trace : List (traces_of schedule.twin).Turn
+  pub stands : IsTraceEnd schedule.twin schedule events trace w
+
+-- one event more is played, and its lines are the event's own and those of the packets that were stored with it
+pub record PlaysOne (twin : Bool) (schedule : Schedule) (events : List Event) (trace : List (traces_of twin).Turn) (event : Event) (answer : StepOut)
+    (w : Kept AnyService) : Type 0 where
+  pub moment : (traces_of twin).Turn
+  pub stands : IsTraceEnd twin schedule (events ++ event ∷ []) (moment ∷ trace) w
+  pub within : (traces_of twin).sent schedule (moment ∷ trace) ≤ 200000
+  pub lines : (traces_of twin).lines schedule (moment ∷ trace)
+      ≡ (traces_of twin).lines schedule trace ++ (event_line (length events + 1) event ++ stored_lines w.packets answer.first answer.count)
+
+-- with one event more the packets exceed their limit
+pub record Exceeds (twin : Bool) (schedule : Schedule) (events : List Event) (trace : List (traces_of twin).Turn) (event : Event) : Type 0 where
+  pub moment : (traces_of twin).Turn
+  pub legal : (traces_of twin).IsLegal schedule (events ++ event ∷ []) (moment ∷ trace)
+  pub over : 200000 < (traces_of twin).sent schedule (moment ∷ trace)
+
+-- why an event isn't played
+abbrev pub StopsAt : (twin : Bool) → Schedule → List Event → List (traces_of twin).Turn → Event → StepEnd → Type 0
+StopsAt twin schedule events trace event NoMemory = Unit {0}
+StopsAt twin schedule events trace event (BadEvent why) = (traces_of twin).refuses schedule trace event ≡ Some why
+StopsAt twin schedule events trace event PacketLimit = Exceeds twin schedule events trace event

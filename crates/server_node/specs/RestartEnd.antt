@@ -1,0 +1,54 @@
+-- The turn that ends a restart: every entry of the log gets its slot, and those that aren't done become live.
+use Rattle.std.specs.Prelude.{◌≡◌, false, List, [], ◌∷◌, ◌++◌, map, None}
+use Rattle.std.specs.List.{AllByRecursion}
+use Rattle.std.specs.Map.{lookup}
+use Rattle.ft_io.specs.declared.Key.{Key}
+use Rattle.ft_io.specs.Key.{key_eq}
+use Rattle.server_trait.specs.Service.{Machine}
+use Rattle.ft_model.specs.Network.{Packet}
+use Rattle.ft_model.specs.Restart.{Fetched, is_fetched}
+use Rattle.ft_model.specs.Node.{Node, Place}
+use Rattle.ft_model.specs.Node as law
+use Rattle.ft_model.specs.ServingTurn.{AllGo}
+use Rattle.ft_model.specs.Lawful.{Revives, all_restored, restored_count}
+use Rattle.ft_model.specs.Wire.{Wire, wire_of, HasWire}
+use Rattle.server_node.specs.declared.identity.Identity.{Identity}
+use Rattle.server_node.specs.declared.serving.Serving.{Serving}
+use Rattle.server_node.specs.declared.slot.Slot.{Slot}
+use Rattle.server_node.specs.declared.stage.Stage.{Stage}
+use Rattle.server_node.specs.Identity.{node_of}
+use Rattle.server_node.specs.RestartNumbers.{AreNumbered, AllNumbered}
+use Rattle.server_node.specs.Slots.{SlotStands}
+use Rattle.server_node.specs.ServingStage.{ServingStands}
+use Rattle.server_node.specs.Stages.{StageStands}
+
+-- a slot's first turn, from the place of its entry
+pub record SlotRevives {S : Type 0} (service : Machine S) (node : Node) (key : Key) (place : Place) (now : Slot S) (old new : List Wire) : Type 0 where
+  pub after : Place
+  pub packets : List Packet
+  pub stands : SlotStands service node key now after
+  pub turn : Revives service node place (after ∷ []) packets
+  pub wires : new ≡ old ++ map wire_of packets
+  pub spelled : AllByRecursion HasWire packets
+
+-- these entries, the newest first, have had their first turn in the log's order, and no other key has a slot
+pub record AreRestored {S : Type 0} (service : Machine S) (node : Node) (fetched : List Fetched) (now : Serving S) (old new : List Wire) : Type 0 where
+  pub places : List Place
+  pub packets : List Packet
+  pub stands : ServingStands service node (restored_count fetched) places now
+  pub go : AllGo (Revives service node) (all_restored service fetched) places packets
+  pub numbers : AreNumbered service node.isn fetched now.slots.entries
+  pub others : (key : Key) → is_fetched key fetched ≡ false → lookup (key_eq key) now.slots.entries ≡ None
+  pub wires : new ≡ old ++ map wire_of packets
+  pub spelled : AllByRecursion HasWire packets
+
+-- a stage's turn by this law: it stands elsewhere, having restored these entries if it serves then, and the packets of the turn are after what
+-- was sent, each in its one spelling
+pub record StageGoes {S : Type 0} (service : Machine S) (who : Identity) (restored : List Fetched) (Goes : law.Stage → List Packet → Type 0) (now : Stage S) (old new : List Wire) : Type 0 where
+  pub after : law.Stage
+  pub packets : List Packet
+  pub stands : StageStands service (node_of who after) now
+  pub goes : Goes after packets
+  pub numbers : AllNumbered service who.isn restored now
+  pub wires : new ≡ old ++ map wire_of packets
+  pub spelled : AllByRecursion HasWire packets

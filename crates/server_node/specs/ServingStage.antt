@@ -1,0 +1,25 @@
+-- Where a node stands that serves, and its turn.
+use Rattle.std.specs.Prelude.{◌≡◌, ℕ, ◌+◌, List, ◌++◌, map, length}
+use Rattle.std.specs.List.{AllByRecursion}
+use Rattle.server_trait.specs.Service.{Machine}
+use Rattle.ft_model.specs.Network.{Packet}
+use Rattle.ft_model.specs.Node.{Node, Place, Input}
+use Rattle.ft_model.specs.Opening.{initial_number}
+use Rattle.ft_model.specs.ServingTurn.{newcomers, ServingTurn}
+use Rattle.ft_model.specs.Wire.{Wire, wire_of, HasWire}
+use Rattle.server_node.specs.declared.serving.Serving.{Serving}
+use Rattle.server_node.specs.Slots.{AllStand}
+
+-- so many initial numbers are used up, and the slots stand at these places
+pub record ServingStands {S : Type 0} (service : Machine S) (node : Node) (opened : ℕ) (places : List Place) (now : Serving S) : Type 0 where
+  pub number : now.next.0 ≡ initial_number node.isn opened
+  pub slots : AllStand service node now.slots.entries places
+
+-- a turn by the law: it stands elsewhere, and the packets of the turn are after what was sent, each in its one spelling
+pub record ServingGoes {S : Type 0} (service : Machine S) (node : Node) (input : Input) (opened : ℕ) (places : List Place) (now : Serving S) (old new : List Wire) : Type 0 where
+  pub later : List Place
+  pub packets : List Packet
+  pub stands : ServingStands service node (opened + length (newcomers node input opened places)) later now
+  pub turn : ServingTurn service node input opened places later packets
+  pub wires : new ≡ old ++ map wire_of packets
+  pub spelled : AllByRecursion HasWire packets

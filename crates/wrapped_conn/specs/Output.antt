@@ -1,0 +1,57 @@
+-- The segments that a turn sends: TCP's, each through the south wrapper, and those that the connection adds.
+use Rattle.std.specs.Prelude.{ℕ, Bool, ◌==◌, ◌&&◌, ◌||◌, not, Option, Some, None, List, [], ◌∷◌, ◌++◌, map, if◌then◌else◌}
+use Rattle.std.specs.List.{list_any}
+use Rattle.seq_arith.specs.Number.{number_at}
+use Rattle.seq_arith.specs.Packet.{Segment, has_rst}
+use Rattle.south_wrap.specs.SouthState.{SouthState, acknowledged, window}
+use Rattle.south_wrap.specs.Translation.{outward}
+use Rattle.tcp_endpoint.specs.States.{is_closed}
+use Rattle.tcp_endpoint.specs.Output.{flushed, or_bare}
+use Rattle.wrapped_conn.specs.declared.stage.Before.{Before}
+use Rattle.wrapped_conn.specs.ConnState.{ConnState}
+use Rattle.wrapped_conn.specs.Numbers.{advertised, outer_sent, sent_units}
+
+-- what TCP sends is passed to the client. A RST, which is sent alone, isn't
+abbrev pub passed : SouthState → List Segment → List Segment
+passed s segments = if list_any has_rst segments then [] else map (outward s) segments
+
+-- TCP's turn has ended
+abbrev pub with_endpoint_flushed : {S : Type 0} → ConnState S → ConnState S
+with_endpoint_flushed c = record c { endpoint = flushed c.endpoint }
+
+abbrev pub turn_ended : {S : Type 0} → ConnState S → ConnState S
+turn_ended c = record (with_endpoint_flushed c) { south = record c.south { sent = sent_units (with_endpoint_flushed c) } }
+
+-- a segment of the connection's own acknowledges what may be acknowledged, and its window begins there
+abbrev pub own_segment : {S : Type 0} → ConnState S → (seq flags : ℕ) → (mss : Option ℕ) → Segment
+own_segment c seq flags mss = record {
+  head = record {
+    src = c.local.ip;
+    dst = c.key.ip;
+    sport = c.local.port;
+    dport = c.key.port;
+    seq = seq;
+    ack = number_at c.south.cisn (acknowledged c.south);
+    flags = flags;
+    window = window c.south;
+    mss = mss;
+  };
+  payload = [];
+}
+
+-- the SYN-ACK with the logged numbers, and a segment without data, which comes after all that is sent
+unfoldable pub syn_ack : {S : Type 0} → ConnState S → Segment
+syn_ack c = own_segment c c.south.sisn 18 (Some 1460)
+
+unfoldable pub bare : {S : Type 0} → ConnState S → Segment
+bare c = own_segment c (outer_sent c) 16 None
+
+-- an ACK is pending that TCP doesn't send: TCP doesn't know that more is answered, or that the connection was over or has become live; and a TCP that is CLOSED
+-- sends none
+abbrev pub is_ack_pending : {S : Type 0} → Before → ConnState S → Bool
+is_ack_pending before c = before.asks || (is_closed c.endpoint.name && (before.needs_ack || not (before.edge == advertised c)))
+
+-- all segments that a turn sends, where TCP sends these
+abbrev pub leaves : {S : Type 0} → Before → (repeats : Bool) → ConnState S → List Segment → List Segment
+leaves before repeats c segments =
+    or_bare (is_ack_pending before c) (bare c) (passed c.south segments ++ (if repeats then syn_ack c ∷ [] else []))
