@@ -13,7 +13,7 @@ const STREAM: u32 = 1 << 24;
 /// The longest state, in bytes.
 const STATE: usize = 1_100;
 
-/// The bytes that a text in hexadecimal stands for; `-` stands for none.
+/// The bytes that a text in hexadecimal means; `-` means none.
 fn bytes_of(alloc: Global, text: &str) -> Result<Option<Vec<u8>>, NoMemory> {
     if text == "-" {
         return Ok(Some(Vec::new(alloc)));

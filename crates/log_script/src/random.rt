@@ -47,7 +47,7 @@ fn below(generator: &mut Generator, bound: u32) -> u32
     generator.draw() % bound
 }
 
-/// Any bytes, at most 100, at the front of `bytes`; answers how many.
+/// Any bytes, at most 100, at the beginning of `bytes`; returns how many.
 fn any_bytes(generator: &mut Generator, bytes: &mut [u8; 128]) -> usize
     ensures { result ≤ 100 }
 {
@@ -58,7 +58,7 @@ fn any_bytes(generator: &mut Generator, bytes: &mut [u8; 128]) -> usize
     len
 }
 
-/// A message of a kind from 1 to 18, most of whose numbers are small, at the front of `bytes`; answers how long it is. A Data has up to 69 bytes.
+/// A message of a kind from 1 to 18, most of whose numbers are small, at the beginning of `bytes`; returns its length. A Data has up to 69 bytes.
 fn any_message(generator: &mut Generator, boot: u8, bytes: &mut [u8; 128]) -> usize
     ensures { result ≤ 100 }
 {

@@ -1,4 +1,4 @@
--- Calls that are told after one another, and their counts.
+-- Calls recorded one after another, and their counts.
 use Rattle.std.proofs.Common.{◌≡◌, ◌∙◌, ℕ, ◌+◌, ◌≤◌, sym, ap, Option, None, Some, List, [], ◌++◌, length, append_assoc, append-nil, arith}
 use Rattle.std.proofs.lemmas.List.Sums.{sum_by-append, count_by-le-length}
 use Rattle.std.specs.Prelude.{cond}
@@ -7,7 +7,7 @@ use Rattle.ft_io.specs.Told.{Tells}
 use Rattle.node_link.specs.declared.counts.Counts.{Counts}
 use Rattle.node_link.specs.Counts.{counts_of, plus, with_calls, is_receive, is_datagram, is_sent, is_lost, is_failed}
 
--- calls are told after one another
+-- calls are recorded one after another
 pub tells_on : {A : Type 0} (old mid new : Option (List A)) (xs ys : List A) → Tells old mid xs → Tells mid new ys → Tells old new (xs ++ ys)
 tells_on None None None xs ys a b = tt
 tells_on None None (Some n) xs ys a b = absurd b

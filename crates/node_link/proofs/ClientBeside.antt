@@ -1,4 +1,4 @@
--- The client machine goes on beside a client, turn by turn, as long as what comes is near.
+-- The client machine follows a client, turn by turn, as long as what arrives is near.
 use Rattle.std.proofs.Common.{◌≡◌, ℕ, None, List, [], ◌∷◌, ◌++◌, length, length-drop, drop, refl, sym, ap, ap₂, subst, arith, ◌∙◌, append-nil, Result, Ok, Err}
 use Rattle.std.specs.Prelude.{pos, ◌-ℤ◌, ◌≤ℤ◌, ◌^◌, ◌==◌, ◌&&◌, ◌||◌, not, int_lt}
 use Rattle.std.proofs.Math.Seq.{drop-append_seam}

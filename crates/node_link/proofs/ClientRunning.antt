@@ -161,13 +161,13 @@ runs_on isn start client after server i old mid new Writes More Both limited sam
 pub front_more : (a b c : Option (List ℕ)) (xs ys : List ℕ) → Appends a b xs → AppendsFront b c ys → AppendsFront a c (xs ++ ys)
 front_more a b c xs ys h (n, k) = (length xs + n, subst (Appends a c) (sym (take-append-add xs ys n)) (Appends-trans a b c xs (take n ys) h k))
 
--- a client that goes on keeps its limits
+-- a client that continues keeps its limits
 pub runs_limited : (isn : ℕ) (start client : LiveState) (i : ℕ) (old now : Option (List LinkCall)) (Writes : List ℕ → Type 0) → IsLimited isn start
     → RunsTo start i old now Writes client → IsLimited isn client
 runs_limited isn start client i old now Writes limited r =
     subst (IsLimited isn) (sym r.state) (turned_limited isn (due_at start r.turns) (limited_at isn start r.turns limited))
 
--- one turn more, whose bytes are written whole or in front
+-- one turn more, whose bytes are written completely or up to a prefix
 module _ (isn : ℕ) (start client after : LiveState) (server : Addr) (i : ℕ) (old mid new : Option (List LinkCall)) (out_old out_mid out_new : Option (List ℕ)) where
   pub runs_whole : IsLimited isn start → start.server ≡ server → RunsTo start i old mid (Appends out_old out_mid) client → client.outcome ≡ None
       → HasTurned server client after mid new (Appends out_mid out_new) → RunsTo start (i + 1) old new (Appends out_old out_new) after
@@ -223,7 +223,7 @@ fresh_client role script client short made = record {
   outcome = ap (λ (l : LiveState). l.outcome) made;
 }
 
--- the machine of the model that begins beside it
+-- the machine of the model that begins with it
 begins_beside : (role : ClientRole) (script : List ℕ) (client : LiveState) → client ≡ first_state role script → IsDue client (first_machine role script)
     → BeginsBeside client (first_machine role script)
 begins_beside role script client made due = record {

@@ -8,7 +8,7 @@ front_is zero a b = (0, refl)
 front_is (suc n) [] b = (0, refl)
 front_is (suc n) (x ∷ a) b = let (m, e) = front_is n a b in (suc m, ap (λ l. x ∷ l) e)
 
--- a front of the first text
+-- a prefix of the first text
 pub front_before : (old new : Option (List ℕ)) (a b : List ℕ) → AppendsFront old new a → AppendsFront old new (a ++ b)
 front_before old new a b h = let (m, e) = front_is h.0 a b in (m, subst (Appends old new) (sym e) h.1)
 

@@ -48,7 +48,7 @@ fetched_in (Fetching count fetched) = fetched
 fetched_in _ = []
 
 module _ {State : Type 0} (services : ℕ → Machine State) where
-  -- where a node stands that asks, or fetches
+  -- the stage of a node that asks, or fetches
   pub begins_for : (node : Node) (other : Node) (key : Key) (at : Stage State) (kind : ℕ) → StageStands (services kind) node at → node.stage ≡ Asking → StandsAt services other key Asks at kind
   begins_for node other key stage.Asking kind st is = tt
   begins_for node other key (stage.Fetching f) kind (count, fetched, at, st) is = absurd (no count fetched (sym is ∙ at))
@@ -75,7 +75,7 @@ module _ {State : Type 0} (services : ℕ → Machine State) where
       no opened places e = cc
   fetches_for node other key count fetched stage.Lost kind st is = st
 
-  -- a turn of the key: where it leads, and that the node stands there
+  -- a turn of the key: where it leads, and that the node is there
   pub record GoesFor (who : Identity) (key : Key) (input : Input) (before : KeyStage) (sent : List Wire) (now : Stage State) : Type 0 where
     pub after : KeyStage
     pub goes : KeyAdvances (services who.kind) (node_of who Asking) key before input after sent

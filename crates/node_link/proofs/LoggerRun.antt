@@ -153,7 +153,7 @@ logger_cut role before mid new b s = record {
   tells = tells_on before mid new (Bound role.local ∷ []) (calls_of s.turns ++ s.cut) b s.tells;
 }
 
--- a whole life whose line wants memory
+-- a whole life whose line has no memory
 untold : (role : LoggerRole) (before mid new : Option (List LinkCall)) (counts : Counts) → Tells before mid (Bound role.local ∷ []) → HasCounted role.turns mid new counts → IsCutLogger role before new
 untold role before mid new counts b s = logger_cut role before mid new b (record {
   turns = s.turns;

@@ -235,13 +235,13 @@ module _ (options : List OptionName) where
   value_again h before v o held known old = let f = used_twice o v (settled rules h).rows (ap (has_row (name_of o)) held.rows ∙ (has_use (name_of o) before ∙ old)) in
       record { first = f.first; more = f.more; are = rw (known_id o known) f.are }
 
-  -- how the walk over the rest of the words goes, where `found` are the uses that they spell
+  -- what the walk over the rest of the words does, where `found` are the uses that they spell
   pub data Goes (w : Walk) (words : List Text) (before : List Use) (found : Option (List Use)) : Type 0 where
     takes : (uses : List Use) (end : Held) → found ≡ Some uses → are_new options before uses ≡ true → walk_fault (level options) [] w words ≡ []
         → fold (walked rules []) w words ≡ at_word end idle → Holds end (before ++ uses) → Goes w words before found
     refuses : Fails (faults w words) → ((uses : List Use) → found ≡ Some uses → are_new options before uses ≡ true → ⊥) → Goes w words before found
 
-  -- where the walk stands: between two options, or after `--NAME`
+  -- where the walk is: between two options, or after `--NAME`
   pub data At : Walk → List Use → Option Text → Type 0 where
     between : (h : Held) (before : List Use) → Holds h before → At (at_word h idle) before None
     waits : (h : Held) (before : List Use) (o : OptionName) → option_named options (name_of o) ≡ Some o → Holds h before

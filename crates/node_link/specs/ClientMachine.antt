@@ -1,4 +1,4 @@
--- The client machine of the model beside a client over its link: each segment of a flush is a move of the machine, and it receives what the client
+-- The client machine of the model that follows a client over its link: each segment of a flush is a move of the machine, and it receives what the client
 -- does.
 use Rattle.std.specs.Prelude.{◌≡◌, List, [], ◌∷◌}
 use Rattle.std.specs.List.{AllByRecursion}
@@ -18,7 +18,7 @@ IsNear c failure = Unit {0}
 abbrev pub AreNear : Client → List ClientTurn → Type 0
 AreNear c turns = AllByRecursion (λ turn. IsNear c turn.received) turns
 
--- the machine with what was received by the client beside it
+-- the machine with what the client has received
 abbrev pub machine_then : LiveState → Client → Received → Client
 machine_then l c (datagram from bytes) = receiving l c (reading bytes)
 machine_then l c silence = c

@@ -73,7 +73,7 @@ pub record IsFresh (role : ClientRole) (l : LiveState) : Type 0 where
   pub server : l.server ≡ role.server
   pub outcome : l.outcome ≡ None
 
--- a client's first flush is due, and the machine beside it has accepted nothing yet
+-- a client's first flush is due, and the machine that follows it has accepted nothing yet
 pub record BeginsBeside (l : LiveState) (c : Client) : Type 0 where
   pub due : IsDue l c
   pub nothing : c.accepted ≡ []

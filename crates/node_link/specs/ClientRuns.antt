@@ -29,7 +29,7 @@ abbrev pub IsCutShort : Option ClientEnd → ℕ → Type 0
 IsCutShort outcome count = Unit {0}
 
 -- A client's first flush and its turns, after these calls. It takes no turn more once its connection has an outcome. What is written are the bytes
--- accepted. Where what comes is near, the model's client machine goes beside it.
+-- accepted. Where what arrives is near, the model's client machine follows it.
 pub record Runs (start : LiveState) (machine : Client) (most : ℕ) (calls : List LinkCall) (old new : Option (List LinkCall))
     (Writes : List ℕ → Type 0) (Ends : Option ClientEnd → ℕ → Type 0) : Type 0 where
   pub first : List Bool  -- which sends of the first flush fail
@@ -63,7 +63,7 @@ ScriptStops script left_old ReadFault = script ≡ None
 ScriptStops script left_old NoMemory = Unit {0}
 ScriptStops script left_old _ = ⊥
 
--- no call is told, and nothing is written
+-- no call is made, and nothing is written
 abbrev pub DoesNothing : (old new : Option (List LinkCall)) → (out_old out_new : Option (List ℕ)) → Type 0
 DoesNothing old new out_old out_new = Tells old new [] × (out_new ≡ out_old)
 
@@ -76,7 +76,7 @@ ScriptRunStops role script old new out_old out_new Reset = IsClient role script 
 ScriptRunStops role script old new out_old out_new Spent = IsClient role script old new (Appends out_old out_new) (IsSpent role.turns)
 ScriptRunStops role script old new out_old out_new _ = ⊥
 
--- how a client stops: for want of a script, or with one
+-- how a client stops: without a script, or with one
 abbrev pub ClientStops : ClientRole → (left_old left_new : Option (List ℕ)) → (old new : Option (List LinkCall)) → (out_old out_new : Option (List ℕ)) → NodeEnd → Type 0
 ClientStops role left_old left_new old new out_old out_new end =
     (ScriptStops role.script left_old end × DoesNothing old new out_old out_new)

@@ -1,4 +1,4 @@
--- The turns of a client over its link. One flush stands before the first receive. In each turn the client receives once, hands out all that its TCP
+-- The turns of a client over its link. One flush comes before the first receive. In each turn the client receives once, hands out all that its TCP
 -- then has for it, and hands all segments that leave to send, to its server, before it receives again.
 use Rattle.std.specs.Prelude.{◌≡◌, ℕ, Bool, false, None, List, [], ◌∷◌, ◌++◌, length}
 use Rattle.ft_io.specs.declared.Addr.{Addr}

@@ -1,4 +1,4 @@
--- The calls on a link, counted by what they answered, and the line that tells the counts.
+-- The calls on a link, counted by what they answered, and the line of the counts.
 use Rattle.std.specs.Prelude.{ℕ, Bool, true, false, ◌+◌, ◌^◌, ◌<◌, List, [], ◌++◌, codes, count_by}
 use Rattle.std.specs.Fmt.{decimal}
 use Rattle.ft_io.specs.declared.link_call.LinkCall.{LinkCall}
@@ -54,7 +54,7 @@ pub record HasRoom (n : ℕ) (c : Counts) : Type 0 where
   pub lost : c.lost + n < 2 ^ 128
   pub failed : c.failed + n < 2 ^ 128
 
--- the line that tells them
+-- the line of the counts
 abbrev pub count_line : Counts → List ℕ
 count_line c =
     (codes "turns " ++ decimal c.turns) ++ (codes " datagrams " ++ decimal c.datagrams) ++ (codes " sent " ++ decimal c.sent) ++ (codes " lost " ++ decimal c.lost)

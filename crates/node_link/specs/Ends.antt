@@ -1,4 +1,4 @@
--- How a process ends early: its exit status, and the line that tells it.
+-- How a process ends early: its exit status, and the line that reports it.
 use Rattle.std.specs.Prelude.{◌≡◌, ◌⊎◌, ◌==◌, ◌||◌, ℕ, Bool, true, false, Option, Result, MatchResult, List, [], ◌++◌, codes}
 use Rattle.std.specs.Fmt.{decimal}
 use Rattle.std.specs.Io.KnownBytes.{Appends}
@@ -37,7 +37,7 @@ UnlessFault result P = MatchResult result (λ _. P) (λ end. is_fault end ≡ fa
 abbrev pub fence_text : ℕ → List ℕ
 fence_text newer = codes "ftnode: fenced by boot " ++ (decimal newer ++ codes "\n")
 
--- nothing is told of a fault of a sink
+-- nothing is reported of a fault of a sink
 abbrev pub text_of : NodeEnd → List ℕ
 text_of Usage = codes "ftnode: usage\n"
 text_of NoMemory = codes "ftnode: no memory\n"

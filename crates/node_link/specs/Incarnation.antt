@@ -50,7 +50,7 @@ module _ {State : Type 0} (services : ℕ → Machine State) where
     pub turns_are : AreTurns role turns law
     pub lawful : IsLawful (service_of role) (first_of role) law
 
-  -- The premises: what comes is near to the live connections, and the entries that it completes are sound, wherever a lawful server may stand then
+  -- The premises: what comes is near to the live connections, and the entries that it completes are sound, wherever a lawful server may be then
   pub record IsFairAt (role : ServerRole) (received : Received) (node : Node) : Type 0 where
     pub near : IsNearInput role.local (input_in role received) node.stage
     pub sound : IsSoundInput (service_of role) node (input_in role received) node.stage

@@ -1,4 +1,4 @@
--- What one client has of a server's life, from the boot on, whatever other clients send, wherever their connections stand, and whatever the log has of them.
+-- What one client has of a server's life, from the boot on, whatever other clients send, whatever their connections' states, and whatever the log has of them.
 use Rattle.std.specs.Prelude.{◌≡◌, MatchOption, ℕ, find, option_map, Option, None, Some, map, List, [], ◌∷◌}
 use Rattle.std.specs.List.{AllByRecursion}
 use Rattle.std.specs.Option.{option_to_list}

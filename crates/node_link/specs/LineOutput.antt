@@ -4,7 +4,7 @@ use Rattle.ft_io.specs.Sink.{AppendsFront}
 use Rattle.node_link.specs.declared.status.NodeEnd.{NodeEnd}
 use Rattle.node_link.specs.declared.status.NodeEnd.TheVariants.{NoMemory, WriteFault}
 
--- how the telling of a line stops early: memory was wanting before the first byte, or a front of it was written
+-- how a line ends early: an allocation failed before the first byte, or a prefix of it was written
 abbrev pub TellStops : List ℕ → (out_old out_new : Option (List ℕ)) → NodeEnd → Type 0
 TellStops line out_old out_new NoMemory = out_new ≡ out_old
 TellStops line out_old out_new WriteFault = AppendsFront out_old out_new line

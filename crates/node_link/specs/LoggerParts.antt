@@ -72,7 +72,7 @@ pub record IsCutLogger (role : LoggerRole) (old new : Option (List LinkCall)) : 
   pub cut_off : (cut ≡ []) ⊎ IsCutOff cut
   pub tells : Tells old new (Bound role.local ∷ (calls_of turns ++ cut))
 
--- how a logger stops early: nothing was told where the bind failed, and a front of the line was written where a write did
+-- how a logger stops early: nothing was written where the bind failed, and a prefix of the line where a write did
 abbrev pub LoggerStops : LoggerRole → (old new : Option (List LinkCall)) → (out_old out_new : Option (List ℕ)) → NodeEnd → Type 0
 LoggerStops role old new out_old out_new LinkFault = Tells old new [] × (out_new ≡ out_old)
 LoggerStops role old new out_old out_new NoMemory = IsCutLogger role old new × (out_new ≡ out_old)

@@ -1,4 +1,4 @@
--- What a process did, by its words and with any services, and how that is told.
+-- What a process did, by its words and with any services, and how that is reported.
 use Rattle.std.specs.Prelude.{◌≡◌, ◌⊎◌, ℕ, ◌^◌, ◌≤◌, Option, None, Some, Result, Ok, Err, List, length}
 use Rattle.std.specs.Io.KnownBytes.{Appends}
 use Rattle.ft_io.specs.declared.link_call.LinkCall.{LinkCall}
@@ -33,7 +33,7 @@ pub record Given : Type 0 where
 abbrev pub HasDoneNothing : (before after : Given) → Type 0
 HasDoneNothing before after = (after.left ≡ before.left) × (after.calls ≡ before.calls) × (after.spawned ≡ before.spawned) × (after.out ≡ before.out)
 
--- the status of an end, and what is written of it to err: the whole line, or a front of it at 5
+-- the status of an end, and what is written of it to err: the whole line, or a prefix of it at 5
 abbrev pub IsTold : Result (Unit {0}) NodeEnd → (err_old err_new : Option (List ℕ)) → (code : ℕ) → Type 0
 IsTold (Ok _) err_old err_new code = (code ≡ 0) × (err_new ≡ err_old)
 IsTold (Err end) err_old err_new code =
@@ -62,12 +62,12 @@ module _ {State : Type 0} (services : ℕ → Machine State) where
   LivesAs (Pair role) (Err end) before after =
       (after.left ≡ before.left) × (after.calls ≡ before.calls) × PairStops role before.started before.spawned after.spawned before.out after.out end
 
-  -- by the role that the words ask for. Words that aren't allowed are told as such, and memory may be wanting to read them
+  -- by the role that the words ask for. Words that aren't allowed are reported as such, and memory may be lacking to read them
   abbrev pub Lives : Option Role → Result (Unit {0}) NodeEnd → (before after : Given) → Type 0
   Lives None end before after = ((end ≡ Err Usage) ⊎ (end ≡ Err NoMemory)) × HasDoneNothing before after
   Lives (Some role) end before after = LivesAs role end before after ⊎ ((end ≡ Err NoMemory) × HasDoneNothing before after)
 
-  -- what was done and what was told agree
+  -- what was done and what was reported agree
   pub record HasEndedWith (role : Option Role) (before after : Given) (err_old err_new : Option (List ℕ)) (code : ℕ) : Type 0 where
     pub end : Result (Unit {0}) NodeEnd
     pub lives : Lives role end before after

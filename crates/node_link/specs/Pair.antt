@@ -1,4 +1,4 @@
--- A pair of servers beside a logger and a client: which programs are started and waited for, in which order, and what is written.
+-- A pair of servers with a logger and a client: which programs are started and waited for, in which order, and what is written.
 use Rattle.std.specs.Prelude.{◌≡◌, ℕ, ◌+◌, ◌<◌, ℤ, Option, List, [], ◌∷◌, ◌++◌, codes, take, length}
 use Rattle.std.specs.Fmt.{decimal, signed_decimal}
 use Rattle.std.specs.Io.KnownBytes.{Appends}
@@ -71,7 +71,7 @@ pub record IsPair (steps : List PairStep) (before : ℕ) (old new : Option (List
   pub tells : Tells old new calls
   pub written : Writes lines
 
--- how steps stop early: some first ones were done, and the next call failed; or the last of them told a status of which only a front was written
+-- how steps stop early: some first ones were done, and the next call failed; or the last of them gave a status of which only a prefix was written
 abbrev pub StepsStop : List PairStep → ℕ → (old new : Option (List SpawnCall)) → (out_old out_new : Option (List ℕ)) → PairFault → Type 0
 StepsStop steps before old new out_old out_new Child =
     (count : ℕ) × (count < length steps) × IsPair (take count steps) before old new (Appends out_old out_new)

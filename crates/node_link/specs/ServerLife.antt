@@ -48,7 +48,7 @@ module _ {State : Type 0} (services : ℕ → Machine State) where
     pub serves : Serves services role at_boot turns
     pub fenced : fence_in role last ≡ Some newer
 
-  -- how a server stops early: nothing was told where the bind failed, and a front of the line was written where a write did
+  -- how a server stops early: nothing was written where the bind failed, and a prefix of the line where a write did
   abbrev pub ServerStops : ServerRole → (old new : Option (List LinkCall)) → (out_old out_new : Option (List ℕ)) → NodeEnd → Type 0
   ServerStops role old new out_old out_new LinkFault = Tells old new [] × (out_new ≡ out_old)
   ServerStops role old new out_old out_new NoMemory = IsLostServer role old new × (out_new ≡ out_old)

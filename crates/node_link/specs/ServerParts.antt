@@ -66,7 +66,7 @@ TurnStops loggers before old new end.NoMemory = EndsTurn loggers old new (λ inp
 TurnStops loggers before old new (end.Fenced newer) = EndsTurn loggers old new (λ input. (standing : law.Stage) → fence (node_of before.who standing) input ≡ Some newer)
 
 module _ {State : Type 0} (services : ℕ → Machine State) where
-  -- a boot: it stands where the law's server boots, and its Hello was handed to send
+  -- a boot: it is where the law's server boots, and its Hello was handed to send
   pub record HasBooted (role : ServerRole) (s : Standing State) (old new : Option (List LinkCall)) (counted counts : Counts) : Type 0 where
     pub at_boot : List Sent
     pub wires_are : wires_in at_boot ≡ map wire_of (hello (first_of role))
@@ -93,7 +93,7 @@ module _ {State : Type 0} (services : ℕ → Machine State) where
     pub apart : TurnsApart (services before.who.kind) before.who (input_from loggers turn.received) before.stage after.stage (wires_in turn.sent)
     pub unfenced : (standing : law.Stage) → fence (node_of before.who standing) (input_from loggers turn.received) ≡ None
 
-  -- where the node stands after these turns, as long as the premises hold
+  -- where the node is after these turns, as long as the premises hold
   pub record IsAfterTurns (role : ServerRole) (turns : List ServerTurn) (s : Standing State) : Type 0 where
     pub turns_by_law : List Turn
     pub standing : law.Stage
@@ -108,7 +108,7 @@ module _ {State : Type 0} (services : ℕ → Machine State) where
   StandsAt node key (Has place) (stage.Serving s) kind = StandsFor (services kind) node key (slot_of key s) place
   StandsAt node key _ _ kind = ⊥
 
-  -- where it stands for a key after these turns, as long as the premises hold of that key
+  -- where it is for a key after these turns, as long as the premises hold of that key
   pub record StandsForKey (role : ServerRole) (key : Key) (turns : List ServerTurn) (s : Standing State) : Type 0 where
     pub at : KeyStage
     pub run : KeyRun (service_of services role) (first_of role) key role.loggers turns at
@@ -127,7 +127,7 @@ module _ {State : Type 0} (services : ℕ → Machine State) where
     pub stands : AreFair services role turns → IsAfterTurns role turns s
     pub each_key : (key : Key) → AreFairFor (service_of services role) (first_of role) key role.loggers turns → StandsForKey role key turns s
 
-  -- the same, wherever the node stands
+  -- the same, whatever the node's stage
   pub record HasServed (role : ServerRole) (old new : Option (List LinkCall)) (counts : Counts) : Type 0 where
     pub at_boot : List Sent
     pub turns : List ServerTurn

@@ -39,13 +39,13 @@ pub record Sent : Type 0 where
 abbrev pub wires_in : List Sent → List Wire
 wires_in sent = map (λ s. s.wire) sent
 
--- a packet goes to its client's own address, and a message to the logger's, the first of two
+-- a packet is sent to its client's own address, and a message to the logger's, the first of two
 abbrev pub address_of : Addr → Party → Addr
 address_of logger (A_client key) = record { ip = key.ip; port = key.port }
 address_of logger The_server = logger
 address_of logger The_logger = logger
 
--- a second logger gets the messages alone
+-- a second logger gets only the messages
 abbrev pub second_for : Loggers → Party → Option Addr
 second_for loggers (A_client key) = None
 second_for loggers The_server = None

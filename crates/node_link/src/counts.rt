@@ -78,7 +78,7 @@ fn put_count(name: &[u8], n: u128, line: &mut Vec<u8>) -> Result<(), NoMemory>
     Ok(())
 }
 
-/// The line that tells these counts.
+/// The line of these counts.
 #[tactic(auto, using(std::proofs::Common::append_assoc))]
 fn line_of(alloc: Global, counts: &Counts) -> Result<Vec<u8>, NoMemory>
     ensures { IfOk result (λ line. line.items ≡ count_line counts.now) }

@@ -108,7 +108,7 @@ fn serve_and_tell<L: Link, O: Sink>(
     }
 }
 
-/// A logger: it binds, does its turns, and tells the counts of their calls.
+/// A logger: it binds, does its turns, and writes the counts of their calls.
 pub(crate) fn run_logger<L: Link, O: Sink>(
     alloc: Global,
     role: &LoggerRole,

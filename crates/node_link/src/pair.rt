@@ -1,5 +1,5 @@
-//! A pair of servers, one after the other, beside a logger and a client, each a program of its own. Where the first server has ended the second one
-//! starts, and the client goes on with it.
+//! A pair of servers, one after the other, with a logger and a client, each a process. When the first server has ended, the second one
+//! starts, and the client continues with it.
 
 ghost use Rattle.std.specs.Prelude.{◌≡◌, ◌≤◌, ◌+◌, [], ◌∷◌, ◌++◌, map, string_bytes, decimal, length, IfOk, IfErr, OnOk, OnErr, IsErrOf};
 ghost use Rattle.std.specs.Fmt.{signed_decimal};
@@ -38,7 +38,7 @@ impl ChildName {
         }
     }
 
-    /// What stands in front of its status.
+    /// What is written before its status.
     fn status_text<'a>(self) -> &'a [u8]
         ensures { result.now ≡ text_lem self }
     {
@@ -55,7 +55,7 @@ impl ChildName {
 pub(crate) enum PairStep {
     /// A program is started by these words.
     Start(Words),
-    /// The child of this number, from 1 in the order of the starts, is waited for, and its status is told by this name.
+    /// The child of this number, from 1 in the order of the starts, is waited for, and its status is reported under this name.
     Wait(u32, ChildName),
 }
 
@@ -239,7 +239,7 @@ fn start<P: Spawner>(words: &Words, children: &mut Children, kids: &mut P) -> Re
     }
 }
 
-/// Waits for a child, and tells its status.
+/// Waits for a child, and reports its status.
 fn wait<P: Spawner, O: Sink>(
     number: u32,
     name: ChildName,
@@ -321,7 +321,7 @@ fn take_steps<P: Spawner, O: Sink>(
     Ok(())
 }
 
-/// A pair: its children are started and waited for in order, and the status of each is told. After a fault no further child is waited for.
+/// A pair: its children are started and waited for in order, and the status of each is reported. After a fault no further child is waited for.
 pub(crate) fn run_pair<P: Spawner, O: Sink>(
     alloc: Global,
     role: &PairRole,

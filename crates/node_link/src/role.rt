@@ -126,7 +126,7 @@ pub struct PairRole {
 }
 
 impl ServerRole {
-    /// The number by which the service is told its kind: that of the four, or 0.
+    /// The number of the service's kind: that of the four, or 0.
     pub(crate) fn kind(&self) -> u8
         ensures { result ≡ kind_in self.now.service }
     {
@@ -173,7 +173,7 @@ fn service_at(matches: &ArgMatches<'_>, option: OptionName) -> Option<ServiceKin
     read_service(matches.get_str(option.word())?.as_bytes())
 }
 
-/// The script, if one is given. The outer None stands for a word that spells none.
+/// The script, if one is given. The outer None means a word that spells no script.
 fn script_at(
     alloc: Global,
     matches: &ArgMatches<'_>,
@@ -191,7 +191,7 @@ fn script_at(
     }
 }
 
-/// The program. None stands for a word that names none.
+/// The program. None means a word that names none.
 fn program_at(
     alloc: Global,
     matches: &ArgMatches<'_>,
@@ -205,7 +205,7 @@ fn program_at(
     }
 }
 
-/// The loggers. None stands for a word that spells no address.
+/// The loggers. None means a word that spells no address.
 fn loggers_at(matches: &ArgMatches<'_>) -> Option<Loggers>
     ensures { (uses : List Use) → HasValues uses matches.now → result ≡ loggers_in uses }
 {

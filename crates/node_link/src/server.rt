@@ -28,7 +28,7 @@ use server_node::{Input, Node, OutPacket, To, TurnEnd};
 use server_trait::Service;
 use std::alloc::Global;
 
-/// Where a packet goes: to its client's own address, or to the logger's, the first of two.
+/// Where a packet is sent: to its client's own address, or to the logger's, the first of two.
 fn address_of(logger: Addr, to: To) -> Addr
     ensures { result ≡ address_lem logger (party_of to) }
 {
@@ -204,7 +204,7 @@ fn serve_and_tell<S: Service, L: Link, O: Sink>(
     }
 }
 
-/// A server: it binds, boots, does its turns, and tells the counts of their calls.
+/// A server: it binds, boots, does its turns, and writes the counts of their calls.
 pub(crate) fn run_server<S: Service, L: Link, O: Sink>(
     alloc: Global,
     role: &ServerRole,

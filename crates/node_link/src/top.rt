@@ -60,7 +60,7 @@ fn run<L: Link, I: Source, O: Sink, P: Spawner>(
 }
 
 /// `ftnode` with these words: a server, a logger or a client of FT-TCP over the link, or a pair, which starts these as programs of their own. What ended it
-/// early stands in `err`. The status is 0 where all was done: the turns of a server or a logger, both ends of a client's connection, the waits of a pair; 2
+/// early is written to `err`. The status is 0 where all was done: the turns of a server or a logger, both ends of a client's connection, the waits of a pair; 2
 /// where the words aren't allowed or the client's input is longer than a stream, 3 because memory ran out, 4 where the bind failed, 5 for a fault of a sink, 6
 /// where a newer server fenced this one, 7 where the client was reset, 8 where its turns ended before, 9 for a fault of the source, and 10 where a start or a
 /// wait of a pair failed.
@@ -78,7 +78,7 @@ pub fn node<L: Link, I: Source, O: Sink, E: Sink, P: Spawner>(
         (record { left = I.left input.old; calls = L.told link.old; started = P.started kids.old; spawned = P.told kids.old; out = O.taken out.old })
         (record { left = I.left input.new; calls = L.told link.new; started = P.started kids.new; spawned = P.told kids.new; out = O.taken out.new })
         (E.taken err.old) (E.taken err.new) result.code }
-    // A client without a script in its words alone reads the input, at most one byte past the limit of a script. A pair alone starts children.
+    // Only a client without a script in its words reads the input, at most one byte past the limit of a script. Only a pair starts children.
     ensures unread { reads_input (role_of (map string_bytes words.now)) ≡ false → input.new ≡ input.old }
     ensures taken { ConsumesAtMost 16777217 (I.left input.old) (I.left input.new) }
     ensures same_kids { is_pair (role_of (map string_bytes words.now)) ≡ false → kids.new ≡ kids.old }
@@ -141,7 +141,7 @@ fn run_own<S: Service, L: Link, O: Sink>(
 }
 
 /// A server with a service of one's own, or its logger, over the link. The words are those of a server or a logger of [`node`], without `--service`: the
-/// service is `S`, whose kind is 0. What ended it early stands in `err`. The status is 0 where all turns were done, 2 where the words aren't allowed, 3 for
+/// service is `S`, whose kind is 0. What ended it early is written to `err`. The status is 0 where all turns were done, 2 where the words aren't allowed, 3 for
 /// a lack of memory, 4 where the bind failed, 5 for a fault of a sink, and 6 where a newer server fenced this one.
 pub fn node_of<S: Service, L: Link, O: Sink, E: Sink>(
     alloc: Global,
