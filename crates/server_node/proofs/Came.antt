@@ -18,8 +18,11 @@ word_low : (bytes : List ℕ) (at : ℕ) → ((i : ℕ) → slice_index bytes i 
 unfolding word_at
 word_low bytes at small = omega (arith, small at, small (at + 1))
 
-accepted : (bytes : List ℕ) (segment : Segment) → reading bytes ≡ Ok segment → IsOk (reading bytes)
+pub accepted : (bytes : List ℕ) (segment : Segment) → reading bytes ≡ Ok segment → IsOk (reading bytes)
 accepted bytes segment reads = subst (λ r. IsOk r) (sym reads) refl
+
+pub packet_fits : (bytes : List ℕ) (segment : Segment) → reading bytes ≡ Ok segment → length bytes ≤ 1500
+packet_fits bytes segment reads = packet_is_short bytes (accepted bytes segment reads)
 
 pub text_fits : (bytes : List ℕ) (segment : Segment) → reading bytes ≡ Ok segment → length segment.payload ≤ 1460
 unfolding segment_in

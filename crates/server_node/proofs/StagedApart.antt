@@ -16,9 +16,10 @@ use Rattle.server_node.specs.declared.identity.Identity.{Identity}
 use Rattle.server_node.specs.declared.serving.Serving.{Serving}
 use Rattle.server_node.specs.declared.stage.Stage.{Stage}
 use Rattle.server_node.specs.declared.stage.Stage.TheVariants as stage
-use Rattle.server_node.specs.Alone.{LeavesOthers, HoldsOthers, Others, Alone, ServesAlone, GoAlone}
+use Rattle.server_node.specs.Alone.{LeavesOthers, HoldsOthers, Others, Alone, IsUntouched, ServesAlone, GoAlone}
+use Rattle.server_node.specs.Apart.{TurnsApart}
 use Rattle.server_node.specs.Identity.{node_of}
-use Rattle.server_node.specs.Restarts.{RestartGoes, MessageRestarts}
+use Rattle.server_node.specs.Restarts.{Restarts, RestartGoes, MessageRestarts}
 use Rattle.server_node.specs.Stages.{IsSoundStage}
 use Rattle.server_node.specs.Ownership.{IsFor, IsOnlyFor}
 use Rattle.server_node.proofs.Apart.{rests_key}
@@ -58,6 +59,29 @@ rest_alone service who standing input (stage.Serving s) low sound none = λ key 
 rest_alone service who standing input (stage.Fetching f) low sound none = tt
 rest_alone service who standing input stage.Asking low sound none = tt
 rest_alone service who standing input stage.Lost low sound none = tt
+
+module _ {S : Type 0} (service : Machine S) (who : Identity) (input : law.Input) where
+  -- a turn while it serves
+  pub serving_apart : (was now : Serving S) (old new : List Wire) → old ≡ [] → ((standing : law.Stage) → ServesAlone service (node_of who standing) input was now old new)
+      → ((standing : law.Stage) → IsUntouched (node_of who standing) input (stage.Serving was) (stage.Serving now) new)
+      → ((standing : law.Stage) → Restarts service (node_of who standing) input (stage.Serving was) (stage.Serving now) new)
+      → TurnsApart service who input (stage.Serving was) (stage.Serving now) new
+  serving_apart was now old new first alone untouched restarts = record {
+    others = λ standing. serving_others service (node_of who standing) input was now old new first (alone standing);
+    untouched = untouched;
+    alone = λ standing. serving_alone service (node_of who standing) input was now old new first (alone standing);
+    restarts = restarts;
+  }
+
+  -- an input that is for no key leaves everything as it is
+  pub rest_apart : (at : Stage S) → who.isn < 2 ^ 32 → IsSoundStage who at → ((standing : law.Stage) (key : Key) → concerns (node_of who standing) input key ≡ false)
+      → ((standing : law.Stage) → Restarts service (node_of who standing) input at at []) → TurnsApart service who input at at []
+  rest_apart at low sound none restarts = record {
+    others = λ standing. rest_others (node_of who standing) input at;
+    untouched = λ standing nobody. (refl, refl);
+    alone = λ standing. rest_alone service who standing input at low sound (none standing);
+    restarts = restarts;
+  }
 
 -- so does a message of another boot
 pub other_boot : (node : Node) (message : Message) → (message.boot == node.boot) ≡ false → (key : Key) → concerns node (Message_comes message) key ≡ false

@@ -19,3 +19,6 @@ pub mod Alone
 pub mod Restarts
 pub mod Apart
 pub mod Runs
+pub mod Turns
+pub mod RestartTurns
+pub mod NodeTurns

@@ -1,6 +1,7 @@
 -- What a message tells a connection of its log.
-use Rattle.std.specs.Prelude.{Option, Some, None}
-use Rattle.seq_arith.specs.Message.{Body, Kept}
+use Rattle.std.specs.Prelude.{◌≡◌, ℕ, Option, Some, None}
+use Rattle.ft_io.specs.declared.Key.{Key}
+use Rattle.seq_arith.specs.Message.{Body, Kept, Message}
 use Rattle.seq_arith.specs.Message.Body.{StableMsg, ReadsMsg}
 use Rattle.server_node.specs.declared.slot.Slot.{Slot}
 use Rattle.server_node.specs.declared.slot.Slot.TheVariants as slot
@@ -11,6 +12,12 @@ abbrev pub logged_in : Body → Option Kept
 logged_in (StableMsg kept) = Some kept
 logged_in (ReadsMsg kept) = Some kept
 logged_in _ = None
+
+-- a message of this boot says so of the connection of a key
+pub record IsLogged (number : ℕ) (message : Message) (key : Key) (kept : Kept) : Type 0 where
+  pub boot : message.boot ≡ number
+  pub says : logged_in message.body ≡ Some kept
+  pub client : kept.key ≡ key
 
 abbrev pub opening_in : {S : Type 0} → Option (Slot S) → Option Opening
 opening_in (Some (slot.Pending o)) = Some o

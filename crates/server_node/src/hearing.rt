@@ -1,85 +1,71 @@
 //! What a message of the logger does at the slot of the key that it names.
 
-ghost use Rattle.std.specs.Prelude.{◌≡◌, ◌≤◌, List, Some, OnOk, IfOk, IsSome};
+ghost use Rattle.std.specs.Prelude.{◌≡◌, ◌≤◌, List, Some, OnOk, IsSome};
 ghost use Rattle.std.specs.Map.{lookup, set_value, remove_entry, keys_of};
 ghost use Rattle.std.specs.List.{IsDistinct};
 ghost use Rattle.ft_io.specs.Key.{key_eq};
 ghost use Rattle.seq_arith.specs.Message.{Kept, Message};
 ghost use Rattle.seq_arith.specs.Message.Body.{OpenedMsg, EndedMsg, FullMsg};
-ghost use Rattle.server_trait.specs.Service.{Machine, machine};
+ghost use Rattle.server_trait.specs.Service.{Machine};
 ghost use Rattle.logger_wire.specs.Value.{message_of, IsSendable};
-ghost use Rattle.ft_model.specs.Node.{Node, Place, Stage};
+ghost use Rattle.ft_model.specs.Node.{Node, Place};
 ghost use Rattle.ft_model.specs.Node.Input.{Message_comes};
 ghost use Rattle.ft_model.specs.Wire.{Wire};
 ghost use Rattle.server_node.specs.Alone.{SlotsAlone};
-ghost use Rattle.server_node.specs.LogMessages.{logged_in, opening_in, ended as ended_lem};
+ghost use Rattle.server_node.specs.LogMessages.{IsLogged, opening_in, ended as ended_lem};
 ghost use Rattle.server_node.specs.declared.identity.Identity.{Identity as Incarnation};
-ghost use Rattle.server_node.specs.Identity.{node_of};
-ghost use Rattle.server_node.specs.Slots.{numbers_of, SlotStands, SlotGoes, IsSoundSlot, AllStand, AllSlotsGo, AllSound};
-ghost use Rattle.server_node.specs.Ownership.{IsOnlyFor};
+ghost use Rattle.server_node.specs.Slots.{numbers_of, IsSoundSlot, AllStand, AllSlotsGo, AllSound};
+ghost use Rattle.server_node.specs.Turns.{SendsFor, SlotTurns, SlotsTurn, SlotsTurnAlone};
 
 use crate::identity::Identity;
 use crate::live::{begin_live, tell_live};
-use crate::outgoing::Outgoing;
 use crate::refusal::refuse_full;
 use crate::slot::{Opening, Slot};
+use crate::turn::Turn;
 use ft_io::{Key, NoMemory};
 use indexmap::IndexMap;
 use logger_wire::{Body, Msg};
 use seq_arith::Seq;
 use server_trait::Service;
-use std::alloc::Global;
-use wrapped_conn::TurnOut;
 
 fn tell_slot<S: Service>(
-    alloc: Global,
     who: Identity,
     key: Key,
     slot: &mut Slot<S>,
     m: &Msg<'_>,
-    out: &mut TurnOut,
-    sent: &mut Outgoing,
+    turn: &mut Turn,
 ) -> Result<(), NoMemory>
     requires sound { IsSoundSlot who key slot.old }
     requires sendable { IsSendable m.now }
-    ensures alone { OnOk result (IsOnlyFor key sent.old.items sent.new.items) }
-    ensures turn { OnOk result ((stage : Stage) (place : Place) (kept : Kept) → m.now.boot ≡ who.boot → logged_in (message_of m.now).body ≡ Some kept
-        → kept.key ≡ key
-        → SlotStands (machine (S.started who.kind) S.after) (node_of who stage) key slot.old place
-        → SlotGoes (machine (S.started who.kind) S.after) (node_of who stage)
-        (Message_comes (message_of m.now)) key place slot.new sent.old.items sent.new.items) }
+    ensures turn { OnOk result ((kept : Kept) → IsLogged who.boot (message_of m.now) key kept
+        → SlotTurns S.Service who (Message_comes (message_of m.now)) key slot.old slot.new turn.old turn.new) }
+    ensures alone { OnOk result (SendsFor key turn.old turn.new) }
     ensures sound { OnOk result (IsSoundSlot who key slot.new) }
 {
     match slot {
-        Slot::Live(conn) => tell_live(alloc, who, key, conn, m, out, sent),
+        Slot::Live(conn) => tell_live(who, key, conn, m, turn),
         Slot::Pending(_) | Slot::Done => Ok(()),
     }
 }
 
 /// How much of a connection is logged.
 pub(crate) fn tell_known<S: Service>(
-    alloc: Global,
     who: Identity,
     key: Key,
     slots: &mut IndexMap<Key, Slot<S>>,
     m: &Msg<'_>,
-    out: &mut TurnOut,
-    sent: &mut Outgoing,
+    turn: &mut Turn,
 ) -> Result<(), NoMemory>
     requires sound { AllSound who slots.old.entries }
     requires sendable { IsSendable m.now }
-    ensures turn { OnOk result ((stage : Stage) (places : List Place) (kept : Kept) → m.now.boot ≡ who.boot → logged_in (message_of m.now).body ≡ Some kept
-        → kept.key ≡ key
-        → AllStand (machine (S.started who.kind) S.after) (node_of who stage) slots.old.entries places
-        → AllSlotsGo (machine (S.started who.kind) S.after) (node_of who stage)
-        (Message_comes (message_of m.now)) places slots.new.entries sent.old.items sent.new.items) }
-    ensures alone { OnOk result ((stage : Stage) (kept : Kept) → m.now.boot ≡ who.boot → logged_in (message_of m.now).body ≡ Some kept → kept.key ≡ key
-        → SlotsAlone (machine (S.started who.kind) S.after) (node_of who stage) (Message_comes (message_of m.now)) slots.old.entries slots.new.entries
-        sent.old.items sent.new.items) }
+    ensures turn { OnOk result ((kept : Kept) → IsLogged who.boot (message_of m.now) key kept
+        → SlotsTurn S.Service who (Message_comes (message_of m.now)) slots.old.entries slots.new.entries turn.old turn.new) }
+    ensures alone { OnOk result ((kept : Kept) → IsLogged who.boot (message_of m.now) key kept
+        → SlotsTurnAlone S.Service who (Message_comes (message_of m.now)) slots.old.entries slots.new.entries turn.old turn.new) }
     ensures sound { OnOk result (AllSound who slots.new.entries) }
 {
     if let Some(slot) = slots.get_mut(&key) {
-        tell_slot(alloc, who, key, slot, m, out, sent)?;
+        tell_slot(who, key, slot, m, turn)?;
     }
     Ok(())
 }
@@ -112,8 +98,8 @@ pub(crate) fn opening_at<S: Service>(key: Key, slots: &IndexMap<Key, Slot<S>>) -
     ensures found { result ≡ opening_in (lookup (key_eq key) slots.now.entries) }
     ensures unique { IsDistinct key_eq (keys_of slots.now.entries) }
 {
-    let _keys_differ = slots.len();
-    opening_of(slots.get(&key)?)
+    let place = slots.get_index_of(&key)?;
+    opening_of(&slots[place])
 }
 
 fn opening_of<S: Service>(slot: &Slot<S>) -> Option<Opening>
@@ -145,26 +131,20 @@ fn drop_slot<S: Service>(key: Key, slots: &mut IndexMap<Key, Slot<S>>)
 /// The log has an entry for a key, with these numbers: a pending opening with the client's number becomes a connection, one with another
 /// number is dropped.
 pub(crate) fn open_known<S: Service>(
-    alloc: Global,
     who: Identity,
     key: Key,
     numbers: Opening,
     slots: &mut IndexMap<Key, Slot<S>>,
-    out: &mut TurnOut,
-    sent: &mut Outgoing,
+    turn: &mut Turn,
 ) -> Result<(), NoMemory>
     requires boot { 1 ≤ who.boot }
     requires least { 64 ≤ numbers.mss }
     requires most { numbers.mss ≤ 1460 }
     requires sound { AllSound who slots.old.entries }
-    ensures turn { OnOk result ((stage : Stage) (places : List Place) (message : Message)
-        → message ≡ record { boot = who.boot; body = OpenedMsg (numbers_of key numbers) }
-        → AllStand (machine (S.started who.kind) S.after) (node_of who stage) slots.old.entries places
-        → AllSlotsGo (machine (S.started who.kind) S.after) (node_of who stage)
-        (Message_comes message) places slots.new.entries sent.old.items sent.new.items) }
-    ensures alone { OnOk result ((stage : Stage) (message : Message) → message ≡ record { boot = who.boot; body = OpenedMsg (numbers_of key numbers) }
-        → SlotsAlone (machine (S.started who.kind) S.after) (node_of who stage) (Message_comes message) slots.old.entries slots.new.entries
-        sent.old.items sent.new.items) }
+    ensures turn { OnOk result ((message : Message) → message ≡ record { boot = who.boot; body = OpenedMsg (numbers_of key numbers) }
+        → SlotsTurn S.Service who (Message_comes message) slots.old.entries slots.new.entries turn.old turn.new) }
+    ensures alone { OnOk result ((message : Message) → message ≡ record { boot = who.boot; body = OpenedMsg (numbers_of key numbers) }
+        → SlotsTurnAlone S.Service who (Message_comes message) slots.old.entries slots.new.entries turn.old turn.new) }
     ensures sound { OnOk result (AllSound who slots.new.entries) }
 {
     let Some(opening) = opening_at(key, slots) else {
@@ -174,61 +154,52 @@ pub(crate) fn open_known<S: Service>(
         drop_slot(key, slots);
         return Ok(());
     }
-    let conn = begin_live(alloc, who, key, numbers, out, sent)?;
+    let conn = begin_live(who, key, numbers, turn)?;
     put_slot(key, slots, Slot::Live(conn));
     Ok(())
 }
 
 /// The log is full: a pending opening is dropped and its SYN refused.
 pub(crate) fn refuse_known<S: Service>(
-    alloc: Global,
     who: Identity,
     key: Key,
     slots: &mut IndexMap<Key, Slot<S>>,
-    sent: &mut Outgoing,
+    turn: &mut Turn,
 ) -> Result<(), NoMemory>
     requires sound { AllSound who slots.old.entries }
-    ensures turn { OnOk result ((stage : Stage) (places : List Place) (message : Message) → message ≡ record { boot = who.boot; body = FullMsg key }
-        → AllStand (machine (S.started who.kind) S.after) (node_of who stage) slots.old.entries places
-        → AllSlotsGo (machine (S.started who.kind) S.after) (node_of who stage)
-        (Message_comes message) places slots.new.entries sent.old.items sent.new.items) }
-    ensures alone { OnOk result ((stage : Stage) (message : Message) → message ≡ record { boot = who.boot; body = FullMsg key }
-        → SlotsAlone (machine (S.started who.kind) S.after) (node_of who stage) (Message_comes message) slots.old.entries slots.new.entries
-        sent.old.items sent.new.items) }
+    ensures turn { OnOk result ((message : Message) → message ≡ record { boot = who.boot; body = FullMsg key }
+        → SlotsTurn S.Service who (Message_comes message) slots.old.entries slots.new.entries turn.old turn.new) }
+    ensures alone { OnOk result ((message : Message) → message ≡ record { boot = who.boot; body = FullMsg key }
+        → SlotsTurnAlone S.Service who (Message_comes message) slots.old.entries slots.new.entries turn.old turn.new) }
     ensures sound { OnOk result (AllSound who slots.new.entries) }
 {
     let Some(opening) = opening_at(key, slots) else {
         return Ok(());
     };
-    refuse_full(alloc, who, key, opening, sent)?;
+    refuse_full(who, key, opening, turn)?;
     drop_slot(key, slots);
     Ok(())
 }
 
 /// A message of this boot.
 pub(crate) fn hear<S: Service>(
-    alloc: Global,
     who: Identity,
     m: &Msg<'_>,
     slots: &mut IndexMap<Key, Slot<S>>,
-    out: &mut TurnOut,
-    sent: &mut Outgoing,
+    turn: &mut Turn,
 ) -> Result<(), NoMemory>
     requires boot { 1 ≤ who.boot }
     requires sendable { IsSendable m.now }
     requires sound { AllSound who slots.old.entries }
-    ensures turn { OnOk result ((stage : Stage) (places : List Place) → m.now.boot ≡ who.boot
-        → AllStand (machine (S.started who.kind) S.after) (node_of who stage) slots.old.entries places
-        → AllSlotsGo (machine (S.started who.kind) S.after) (node_of who stage)
-        (Message_comes (message_of m.now)) places slots.new.entries sent.old.items sent.new.items) }
-    ensures alone { OnOk result ((stage : Stage) → m.now.boot ≡ who.boot
-        → SlotsAlone (machine (S.started who.kind) S.after) (node_of who stage) (Message_comes (message_of m.now)) slots.old.entries slots.new.entries
-        sent.old.items sent.new.items) }
+    ensures turn { OnOk result (m.now.boot ≡ who.boot
+        → SlotsTurn S.Service who (Message_comes (message_of m.now)) slots.old.entries slots.new.entries turn.old turn.new) }
+    ensures alone { OnOk result (m.now.boot ≡ who.boot
+        → SlotsTurnAlone S.Service who (Message_comes (message_of m.now)) slots.old.entries slots.new.entries turn.old turn.new) }
     ensures sound { OnOk result (AllSound who slots.new.entries) }
 {
     match m.body {
-        Body::StableMsg { key, .. } => tell_known(alloc, who, key, slots, m, out, sent),
-        Body::ReadsMsg { key, .. } => tell_known(alloc, who, key, slots, m, out, sent),
+        Body::StableMsg { key, .. } => tell_known(who, key, slots, m, turn),
+        Body::ReadsMsg { key, .. } => tell_known(who, key, slots, m, turn),
         Body::EndedMsg { key } => {
             end_known(key, slots);
             Ok(())
@@ -244,9 +215,9 @@ pub(crate) fn hear<S: Service>(
                 sisn: Seq(sisn),
                 mss,
             };
-            open_known(alloc, who, key, numbers, slots, out, sent)
+            open_known(who, key, numbers, slots, turn)
         }
-        Body::FullMsg { key } => refuse_known(alloc, who, key, slots, sent),
+        Body::FullMsg { key } => refuse_known(who, key, slots, turn),
         _ => Ok(()),
     }
 }

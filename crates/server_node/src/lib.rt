@@ -22,3 +22,4 @@ mod serving;
 mod slot;
 mod slots;
 mod stage;
+mod turn;

@@ -1,51 +1,42 @@
 //! The calls of a live connection: each is one turn of it, and what it gives out is sent.
 
-ghost use Rattle.std.specs.Prelude.{◌≡◌, ◌≤◌, Ok, Some, IsOk, OnOk, IfOk};
-ghost use Rattle.server_trait.specs.Service.{machine};
-ghost use Rattle.seq_arith.specs.Packet.{Segment};
+ghost use Rattle.std.specs.Prelude.{◌≡◌, ◌≤◌, Ok, IsOk, OnOk, IfOk};
 ghost use Rattle.seq_arith.specs.Message.{Kept};
+ghost use Rattle.seq_arith.specs.Packet.{Segment};
 ghost use Rattle.seq_arith.specs.PacketGrammar.{reading};
 ghost use Rattle.logger_wire.specs.Value.{message_of, IsSendable};
-ghost use Rattle.ft_model.specs.Point.{Point};
-ghost use Rattle.ft_model.specs.News.News.{Begins as Becomes_live, Comes, Logged, Ticks};
-ghost use Rattle.ft_model.specs.Offset.{IsNear};
-ghost use Rattle.ft_model.specs.Opening.{point_opened};
-ghost use Rattle.ft_model.specs.Node.{Stage};
-ghost use Rattle.server_node.specs.Conn.{Begins, IsOursAt, Belongs, ConnGoes};
-ghost use Rattle.server_node.specs.LogMessages.{logged_in};
+ghost use Rattle.ft_model.specs.News.News.{Comes, Logged, Ticks};
+ghost use Rattle.server_node.specs.Conn.{Belongs};
+ghost use Rattle.server_node.specs.LogMessages.{IsLogged};
 ghost use Rattle.server_node.specs.Slots.{numbers_of};
-ghost use Rattle.server_node.specs.Ownership.{IsOnlyFor};
+ghost use Rattle.server_node.specs.Turns.{SendsFor, ConnTurns, ConnBegins, ConnRevives};
 
 use crate::identity::Identity;
-use crate::outgoing::Outgoing;
 use crate::sent::{fit, send_all};
 use crate::slot::Opening;
+use crate::turn::Turn;
 use ft_io::{Key, NoMemory};
 use logger_wire::Msg;
 use server_trait::Service;
-use std::alloc::Global;
-use wrapped_conn::{Conn, TurnOut};
+use wrapped_conn::Conn;
 
 /// A new connection, with the numbers that the log keeps, and its first turn.
 #[tactic(auto, unfolding(crate::specs::Conn::IsSound))]
 pub(crate) fn begin_live<S: Service>(
-    alloc: Global,
     who: Identity,
     key: Key,
     numbers: Opening,
-    out: &mut TurnOut,
-    sent: &mut Outgoing,
+    turn: &mut Turn,
 ) -> Result<Conn<S>, NoMemory>
     requires boot { 1 ≤ who.boot }
     requires least { 64 ≤ numbers.mss }
     requires most { numbers.mss ≤ 1460 }
-    ensures turn { IfOk result (λ conn. ConnGoes (machine (S.started who.kind) S.after) who.local who.boot Becomes_live
-        (point_opened (numbers_of key numbers)) conn sent.old.items sent.new.items) }
-    ensures alone { IfOk result (λ conn. IsOnlyFor key sent.old.items sent.new.items) }
+    ensures turn { IfOk result (λ conn. ConnBegins S.Service who (numbers_of key numbers) conn turn.old turn.new) }
+    ensures alone { IfOk result (λ conn. SendsFor key turn.old turn.new) }
     ensures sound { IfOk result (λ conn. Belongs who key conn) }
 {
     let mut conn = Conn::first(
-        alloc,
+        turn.alloc,
         who.boot,
         key,
         who.local,
@@ -54,101 +45,89 @@ pub(crate) fn begin_live<S: Service>(
         numbers.mss,
         who.kind,
     )?;
-    out.clear();
-    conn.start(alloc, out)?;
-    send_all(alloc, key, out, sent)?;
+    turn.out.clear();
+    conn.start(turn.alloc, &mut turn.out)?;
+    send_all(key, turn)?;
     Ok(conn)
 }
 
 /// The first turn of a connection that a restart has put together: `key` is its client's.
 #[tactic(auto, unfolding(crate::specs::Conn::IsSound))]
 pub(crate) fn start_live<S: Service>(
-    alloc: Global,
     who: Identity,
     key: Key,
     conn: &mut Conn<S>,
-    out: &mut TurnOut,
-    sent: &mut Outgoing,
+    turn: &mut Turn,
 ) -> Result<(), NoMemory>
     requires { Belongs who key conn.old }
-    ensures turn { OnOk result ((p : Point) → p.key ≡ key → Begins (machine (S.started who.kind) S.after) who.local who.boot conn.old p
-        → ConnGoes (machine (S.started who.kind) S.after) who.local who.boot Becomes_live p conn.new sent.old.items sent.new.items) }
+    ensures turn { OnOk result (ConnRevives S.Service who key conn.old conn.new turn.old turn.new) }
     ensures number { OnOk result (conn.new.endpoint.sending.iss ≡ conn.old.endpoint.sending.iss) }
     ensures delta { OnOk result (conn.new.south.delta ≡ conn.old.south.delta) }
-    ensures alone { OnOk result (IsOnlyFor key sent.old.items sent.new.items) }
+    ensures alone { OnOk result (SendsFor key turn.old turn.new) }
     ensures sound { OnOk result (Belongs who key conn.new) }
 {
-    out.clear();
-    conn.start(alloc, out)?;
-    send_all(alloc, key, out, sent)
+    turn.out.clear();
+    conn.start(turn.alloc, &mut turn.out)?;
+    send_all(key, turn)
 }
 
 /// A tick at a live connection.
 #[tactic(auto, unfolding(crate::specs::Conn::IsSound))]
 pub(crate) fn tick_live<S: Service>(
-    alloc: Global,
     who: Identity,
     key: Key,
     conn: &mut Conn<S>,
-    out: &mut TurnOut,
-    sent: &mut Outgoing,
+    turn: &mut Turn,
 ) -> Result<(), NoMemory>
     requires { Belongs who key conn.old }
-    ensures turn { OnOk result ((stage : Stage) (p : Point) → p.key ≡ key → IsOursAt (machine (S.started who.kind) S.after) who.local who.boot conn.old p
-        → ConnGoes (machine (S.started who.kind) S.after) who.local who.boot Ticks p conn.new sent.old.items sent.new.items) }
-    ensures alone { OnOk result (IsOnlyFor key sent.old.items sent.new.items) }
+    ensures turn { OnOk result (ConnTurns S.Service who Ticks key conn.old conn.new turn.old turn.new) }
+    ensures alone { OnOk result (SendsFor key turn.old turn.new) }
     ensures sound { OnOk result (Belongs who key conn.new) }
 {
-    out.clear();
-    conn.on_tick(out);
-    send_all(alloc, key, out, sent)
+    turn.out.clear();
+    conn.on_tick(&mut turn.out);
+    send_all(key, turn)
 }
 
 /// A segment at a live connection.
 #[tactic(auto, unfolding(crate::specs::Conn::IsSound))]
 pub(crate) fn give_live<S: Service>(
-    alloc: Global,
     who: Identity,
     key: Key,
     conn: &mut Conn<S>,
     packet: &mut [u8],
-    out: &mut TurnOut,
-    sent: &mut Outgoing,
+    turn: &mut Turn,
 ) -> Result<(), NoMemory>
     requires sound { Belongs who key conn.old }
     requires accepted { IsOk (reading packet.old) }
-    ensures turn { OnOk result ((stage : Stage) (p : Point) (segment : Segment) → reading packet.old ≡ Ok segment → IsNear p.cisn p.sisn segment → p.key ≡ key
-        → IsOursAt (machine (S.started who.kind) S.after) who.local who.boot conn.old p
-        → ConnGoes (machine (S.started who.kind) S.after) who.local who.boot (Comes segment) p conn.new sent.old.items sent.new.items) }
-    ensures alone { OnOk result (IsOnlyFor key sent.old.items sent.new.items) }
+    ensures turn { OnOk result ((segment : Segment) → reading packet.old ≡ Ok segment
+        → ConnTurns S.Service who (Comes segment) key conn.old conn.new turn.old turn.new) }
+    ensures alone { OnOk result (SendsFor key turn.old turn.new) }
     ensures sound { OnOk result (Belongs who key conn.new) }
 {
     fit(packet);
-    out.clear();
-    conn.on_packet(alloc, packet, out)?;
-    send_all(alloc, key, out, sent)
+    turn.out.clear();
+    conn.on_packet(turn.alloc, packet, &mut turn.out)?;
+    send_all(key, turn)
 }
 
 /// A message about how much of a live connection is logged.
 #[tactic(auto, unfolding(crate::specs::Conn::IsSound))]
 pub(crate) fn tell_live<S: Service>(
-    alloc: Global,
     who: Identity,
     key: Key,
     conn: &mut Conn<S>,
     m: &Msg<'_>,
-    out: &mut TurnOut,
-    sent: &mut Outgoing,
+    turn: &mut Turn,
 ) -> Result<(), NoMemory>
     requires sound { Belongs who key conn.old }
     requires sendable { IsSendable m.now }
-    ensures turn { OnOk result ((p : Point) (kept : Kept) → m.now.boot ≡ who.boot → logged_in (message_of m.now).body ≡ Some kept → kept.key ≡ key → p.key ≡ key
-        → IsOursAt (machine (S.started who.kind) S.after) who.local who.boot conn.old p
-        → ConnGoes (machine (S.started who.kind) S.after) who.local who.boot (Logged kept) p conn.new sent.old.items sent.new.items) }
-    ensures alone { OnOk result (IsOnlyFor key sent.old.items sent.new.items) }
+    ensures turn { OnOk result ((kept : Kept) → IsLogged who.boot (message_of m.now) key kept
+        → ConnTurns S.Service who (Logged kept) key conn.old conn.new turn.old turn.new) }
+    ensures alone { OnOk result (SendsFor key turn.old turn.new) }
     ensures sound { OnOk result (Belongs who key conn.new) }
 {
-    out.clear();
-    conn.on_msg(alloc, m, out)?;
-    send_all(alloc, key, out, sent)
+    turn.out.clear();
+    conn.on_msg(turn.alloc, m, &mut turn.out)?;
+    send_all(key, turn)
 }

@@ -1,144 +1,110 @@
 //! The stage of a node that fetches the log: one question after another, until nothing is missing.
 
-ghost use Rattle.std.specs.Prelude.{◌≡◌, ◌≤◌, ◌&&◌, not, ℕ, List, [], Ok, is_some, option_map, false, IsOk, IfOk, IfSome, OnOk};
+ghost use Rattle.std.specs.Prelude.{◌≡◌, ◌≤◌, ◌&&◌, not, ℕ, List, [], is_some, option_map, false, IfOk, IfSome, OnOk};
 ghost use Rattle.server_trait.specs.Service.{machine};
-ghost use Rattle.seq_arith.specs.Packet.{Segment, has_rst};
-ghost use Rattle.seq_arith.specs.PacketGrammar.{reading};
+ghost use Rattle.seq_arith.specs.Packet.{has_rst};
 ghost use Rattle.seq_arith.specs.Value.{said};
+ghost use Rattle.segment_codec.specs.Value.{segment_of};
 ghost use Rattle.logger_wire.specs.Value.{message_of, IsSendable};
 ghost use Rattle.logger_store.specs.StoreState.{head_value};
 ghost use Rattle.reincarnate.specs.Questions.{asked as asked_of};
 ghost use Rattle.ft_model.specs.Restart.{Fetched, wanted, live_entry, holding_segment};
 ghost use Rattle.ft_model.specs.Network.{source_of};
-ghost use Rattle.ft_model.specs.Node.{Stage as Standing, is_for};
-ghost use Rattle.ft_model.specs.Node.Stage.{Fetching as Fetches_on};
-ghost use Rattle.ft_model.specs.Node.Input.{Message_comes};
-ghost use Rattle.ft_model.specs.Lawful.{AreSound, Fetches, StageTurn, asked, fetched_then, held};
-ghost use Rattle.server_node.specs.Identity.{node_of};
-ghost use Rattle.server_node.specs.RestartNumbers.{fetched_by};
-ghost use Rattle.server_node.specs.Openings.{ArePut};
+ghost use Rattle.ft_model.specs.Node.{is_for};
+ghost use Rattle.server_node.specs.Identity.{service_of};
 ghost use Rattle.server_node.specs.FetchStage.{FetchingStands, IsOwn};
-ghost use Rattle.server_node.specs.Restarts.{RestartGoes, AnswerGoes};
-ghost use Rattle.server_node.specs.RestartEnd.{StageGoes};
+ghost use Rattle.server_node.specs.RestartTurns.{FetchingBegins, FetchingBeginsAlone, FetchingTurns, FetchingTurnsAlone, AnswerTurns, AnswerTurnsAlone, SendsWanted, SendsHeld};
 ghost use Rattle.server_node.specs.Stages.{IsSoundStage};
-ghost use Rattle.server_node.specs.Ownership.{IsOnlyFor};
+ghost use Rattle.server_node.specs.Turns.{SendsFor};
 
 use crate::identity::Identity;
-use crate::outgoing::Outgoing;
 use crate::refusal::send_bare;
 use crate::reviving::restore_all;
 use crate::sent::tell;
 use crate::stage::Stage;
+use crate::turn::Turn;
 use ft_io::{Key, NoMemory};
 use logger_store::EntryHead;
 use logger_wire::Msg;
 use reincarnate::{Asked, Fetching};
-use segment_codec::{Head, read_accepted};
+use segment_codec::{Head, PacketRef};
 use seq_arith::{ACK, RST, Seq, has};
 use server_trait::Service;
-use std::alloc::Global;
-use wrapped_conn::TurnOut;
 
 /// The log has so many entries: the first is asked for.
 pub(crate) fn begin_fetching<S: Service>(
-    alloc: Global,
     who: Identity,
     count: u16,
-    out: &mut TurnOut,
-    sent: &mut Outgoing,
+    turn: &mut Turn,
 ) -> Result<Stage<S>, NoMemory>
     requires boot { 1 ≤ who.boot }
     requires few { count ≤ 64 }
-    ensures turn { IfOk result (λ after. (standing : Standing)
-        → StageGoes (machine (S.started who.kind) S.after) who [] (Fetches (machine (S.started who.kind) S.after) (node_of who standing) count [])
-        after sent.old.items sent.new.items) }
-    ensures alone { IfOk result (λ after. (standing : Standing)
-        → RestartGoes (machine (S.started who.kind) S.after) (node_of who standing) count [] after sent.old.items sent.new.items) }
+    ensures turn { IfOk result (λ after. FetchingBegins S.Service who count after turn.old turn.new) }
+    ensures alone { IfOk result (λ after. FetchingBeginsAlone S.Service who count after turn.old turn.new) }
     ensures sound { IfOk result (λ after. IsSoundStage who after) }
 {
-    let Ok(fetching) = Asked::new(who.boot).on_summary(alloc, who.kind, count) else {
+    let Ok(fetching) = Asked::new(who.boot).on_summary(turn.alloc, who.kind, count) else {
         return Err(NoMemory);
     };
-    go_on(alloc, who, fetching, out, sent)
+    go_on(who, fetching, turn)
 }
 
 /// A message that may be an answer: one that fits the question is taken, and what is missing then is asked for.
 pub(crate) fn take_answer<S: Service>(
-    alloc: Global,
     who: Identity,
     mut fetching: Fetching<S>,
     m: &Msg<'_>,
-    out: &mut TurnOut,
-    sent: &mut Outgoing,
+    turn: &mut Turn,
 ) -> Result<Stage<S>, NoMemory>
     requires boot { 1 ≤ who.boot }
     requires sendable { IsSendable m.now }
     requires own { IsOwn who fetching }
-    ensures turn { IfOk result (λ after. (standing : Standing) (count : ℕ) (fetched : List Fetched)
-        → FetchingStands (machine (S.started who.kind) S.after) count fetched fetching
-        → IfSome (fetched_then (node_of who standing) (message_of m.now) count fetched) (AreSound (machine (S.started who.kind) S.after))
-        → StageGoes (machine (S.started who.kind) S.after) who (fetched_by (node_of who standing) (Fetches_on count fetched) (Message_comes (message_of m.now)))
-        (StageTurn (machine (S.started who.kind) S.after) (node_of who standing) (Fetches_on count fetched)
-        (Message_comes (message_of m.now))) after sent.old.items sent.new.items) }
-    ensures alone { IfOk result (λ after. (standing : Standing) (count : ℕ) (fetched : List Fetched)
-        → FetchingStands (machine (S.started who.kind) S.after) count fetched fetching
-        → AnswerGoes (machine (S.started who.kind) S.after) (node_of who standing) (message_of m.now) count fetched fetching after
-        sent.old.items sent.new.items) }
+    ensures turn { IfOk result (λ after. AnswerTurns S.Service who (message_of m.now) fetching after turn.old turn.new) }
+    ensures alone { IfOk result (λ after. AnswerTurnsAlone S.Service who (message_of m.now) fetching after turn.old turn.new) }
     ensures sound { IfOk result (λ after. IsSoundStage who after) }
 {
-    if !fetching.on_answer(alloc, m)? {
+    if !fetching.on_answer(turn.alloc, m)? {
         return Ok(Stage::Fetching(fetching));
     }
-    go_on(alloc, who, fetching, out, sent)
+    go_on(who, fetching, turn)
 }
 
 /// What is missing is asked for. Once nothing is, the log is restored.
 fn go_on<S: Service>(
-    alloc: Global,
     who: Identity,
     fetching: Fetching<S>,
-    out: &mut TurnOut,
-    sent: &mut Outgoing,
+    turn: &mut Turn,
 ) -> Result<Stage<S>, NoMemory>
     requires boot { 1 ≤ who.boot }
     requires own { IsOwn who fetching }
-    ensures turn { IfOk result (λ after. (standing : Standing) (count : ℕ) (fetched : List Fetched)
-        → FetchingStands (machine (S.started who.kind) S.after) count fetched fetching
-        → AreSound (machine (S.started who.kind) S.after) fetched
-        → StageGoes (machine (S.started who.kind) S.after) who fetched
-        (Fetches (machine (S.started who.kind) S.after) (node_of who standing) count fetched) after sent.old.items sent.new.items) }
-    ensures alone { IfOk result (λ after. (standing : Standing) (count : ℕ) (fetched : List Fetched)
-        → FetchingStands (machine (S.started who.kind) S.after) count fetched fetching
-        → RestartGoes (machine (S.started who.kind) S.after) (node_of who standing) count fetched after sent.old.items sent.new.items) }
+    ensures turn { IfOk result (λ after. FetchingTurns S.Service who fetching after turn.old turn.new) }
+    ensures alone { IfOk result (λ after. FetchingTurnsAlone S.Service who fetching after turn.old turn.new) }
     ensures sound { IfOk result (λ after. IsSoundStage who after) }
 {
-    if ask(alloc, who, &fetching, sent)? {
+    if ask(who, &fetching, turn)? {
         return Ok(Stage::Fetching(fetching));
     }
-    let serving = restore_all(alloc, who, fetching.finish(), out, sent)?;
+    let serving = restore_all(who, fetching.finish(), turn)?;
     Ok(Stage::Serving(serving))
 }
 
 /// Asks for what is missing, if anything is.
 pub(crate) fn ask<S: Service>(
-    alloc: Global,
     who: Identity,
     fetching: &Fetching<S>,
-    sent: &mut Outgoing,
+    turn: &mut Turn,
 ) -> Result<bool, NoMemory>
     requires { IsOwn who fetching.now }
-    ensures turn { OnOk result ((standing : Standing) (count : ℕ) (fetched : List Fetched)
-        → FetchingStands (machine (S.started who.kind) S.after) count fetched fetching.now
-        → ArePut (asked (node_of who standing) (wanted count fetched)) sent.old.items sent.new.items) }
+    ensures turn { OnOk result (SendsWanted S.Service who fetching.now turn.old turn.new) }
     ensures missing { IfOk result (λ asks. (count : ℕ) (fetched : List Fetched)
-        → FetchingStands (machine (S.started who.kind) S.after) count fetched fetching.now
+        → FetchingStands (service_of S.Service who) count fetched fetching.now
         → asks ≡ is_some (wanted count fetched)) }
     ensures asks { IfOk result (λ asks. asks ≡ is_some (asked_of fetching.now)) }
 {
     let Some(question) = fetching.question() else {
         return Ok(false);
     };
-    tell(alloc, &question, sent)?;
+    tell(&question, turn)?;
     Ok(true)
 }
 
@@ -160,10 +126,11 @@ fn holding(who: Identity, entry: &EntryHead) -> Head
     }
 }
 
-/// Whether a packet's header is for this server and has no RST.
-fn may_be_held(who: Identity, head: &Head) -> bool
-    ensures { (segment : Segment) → segment.head ≡ said head.now → result ≡ (is_for who.local segment && not (has_rst segment)) }
+/// Whether a segment is for this server and has no RST.
+fn may_be_held(who: Identity, segment: &PacketRef<'_>) -> bool
+    ensures { result ≡ (is_for who.local (segment_of segment.now) && not (has_rst (segment_of segment.now))) }
 {
+    let head = &segment.head;
     head.dst == who.local.ip && head.dport == who.local.port && !has(head.flags, RST)
 }
 
@@ -184,27 +151,21 @@ fn live_head<S: Service>(fetching: &Fetching<S>, key: Key) -> Option<EntryHead>
 
 /// A packet while the log is fetched. Until a client's entry has come it gets no answer, nor if that is done, nor for a RST.
 pub(crate) fn hold<S: Service>(
-    alloc: Global,
     who: Identity,
     fetching: &Fetching<S>,
-    packet: &[u8],
-    sent: &mut Outgoing,
+    segment: &PacketRef<'_>,
+    turn: &mut Turn,
 ) -> Result<(), NoMemory>
-    requires own { IsOwn who fetching.now }
-    requires accepted { IsOk (reading packet.now) }
-    ensures held { OnOk result ((standing : Standing) (count : ℕ) (fetched : List Fetched) (segment : Segment) → reading packet.now ≡ Ok segment
-        → FetchingStands (machine (S.started who.kind) S.after) count fetched fetching.now
-        → ArePut (held (node_of who standing) fetched segment) sent.old.items sent.new.items) }
-    ensures alone { OnOk result ((segment : Segment) → reading packet.now ≡ Ok segment → IsOnlyFor (source_of segment) sent.old.items sent.new.items) }
-    ensures silent { OnOk result ((segment : Segment) → reading packet.now ≡ Ok segment → is_for who.local segment ≡ false
-        → sent.new.items ≡ sent.old.items) }
+    requires { IsOwn who fetching.now }
+    ensures held { OnOk result (SendsHeld S.Service who (segment_of segment.now) fetching.now turn.old turn.new) }
+    ensures alone { OnOk result (SendsFor (source_of (segment_of segment.now)) turn.old turn.new) }
+    ensures silent { OnOk result (is_for who.local (segment_of segment.now) ≡ false → turn.new.sent.items ≡ turn.old.sent.items) }
 {
-    let head = read_accepted(packet).head;
-    if !may_be_held(who, &head) {
+    if !may_be_held(who, segment) {
         return Ok(());
     }
-    match live_head(fetching, head.sender()) {
-        Some(entry) => send_bare(alloc, holding(who, &entry), sent),
+    match live_head(fetching, segment.head.sender()) {
+        Some(entry) => send_bare(holding(who, &entry), turn),
         None => Ok(()),
     }
 }

@@ -6,24 +6,26 @@ ghost use Rattle.ft_model.specs.Network.Packet.{To_logger};
 ghost use Rattle.logger_wire.specs.Value.{body_of, message_of, IsSendable};
 ghost use Rattle.server_trait.specs.Service.{AreBytes};
 ghost use Rattle.seq_arith.specs.MessageGrammar.{behind_of};
-ghost use Rattle.server_node.specs.SentBytes.{ArePut, sent_to, wires_of, segment_to, message_to_logger};
+ghost use Rattle.server_node.specs.SentBytes.{sent_to, wires_of, segment_to, message_to_logger};
+ghost use Rattle.server_node.specs.Turns.{Sends};
 
 use crate::out_packet::To;
 use crate::outgoing::Outgoing;
+use crate::turn::Turn;
 use ft_io::{Key, NoMemory};
 use logger_wire::{Msg, put_msg};
 use std::alloc::Global;
 use wrapped_conn::TurnOut;
 
 /// Sends the logger a message without bytes after its fields.
-pub(crate) fn tell(alloc: Global, message: &Msg<'_>, sent: &mut Outgoing) -> Result<(), NoMemory>
+pub(crate) fn tell(message: &Msg<'_>, turn: &mut Turn) -> Result<(), NoMemory>
     requires sendable { IsSendable message.now }
     requires bare { behind_of (body_of message.now.body) ≡ [] }
-    ensures { OnOk result (ArePut (To_logger (message_of message.now) ∷ []) sent.old.items sent.new.items) }
+    ensures { OnOk result (Sends (To_logger (message_of message.now) ∷ []) turn.old turn.new) }
 {
     let mut text = [0; 64];
     let len = put_msg(message, &mut text);
-    sent.send(alloc, To::Logger, &text[..len])
+    turn.sent.send(turn.alloc, To::Logger, &text[..len])
 }
 
 /// What a proof may know of bytes: each fits its type.
@@ -65,16 +67,11 @@ fn send_messages(alloc: Global, out: &TurnOut, sent: &mut Outgoing) -> Result<()
 
 /// Sends what a connection gives out: its segments, then its messages.
 #[tactic(auto, using(std::proofs::Common::append_assoc))]
-pub(crate) fn send_all(
-    alloc: Global,
-    key: Key,
-    out: &TurnOut,
-    sent: &mut Outgoing,
-) -> Result<(), NoMemory>
-    ensures sent { OnOk result (sent.new.items ≡ sent.old.items ++ wires_of key out.now.segments out.now.messages) }
-    ensures segments { OnOk result (AllByRecursion AreBytes out.now.segments) }
-    ensures messages { OnOk result (AllByRecursion AreBytes out.now.messages) }
+pub(crate) fn send_all(key: Key, turn: &mut Turn) -> Result<(), NoMemory>
+    ensures sent { OnOk result (turn.new.sent.items ≡ turn.old.sent.items ++ wires_of key turn.old.out.segments turn.old.out.messages) }
+    ensures segments { OnOk result (AllByRecursion AreBytes turn.old.out.segments) }
+    ensures messages { OnOk result (AllByRecursion AreBytes turn.old.out.messages) }
 {
-    send_segments(alloc, key, out, sent)?;
-    send_messages(alloc, out, sent)
+    send_segments(turn.alloc, key, &turn.out, &mut turn.sent)?;
+    send_messages(turn.alloc, &turn.out, &mut turn.sent)
 }

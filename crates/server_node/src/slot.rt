@@ -1,27 +1,24 @@
 //! What the node has for a key.
 
-ghost use Rattle.std.specs.Prelude.{◌≡◌, ◌∷◌, ◌++◌, [], map, Ok, Some, IsOk, OnOk, true, option_copied};
-ghost use Rattle.server_trait.specs.Service.{machine};
-ghost use Rattle.seq_arith.specs.Packet.{Segment};
+ghost use Rattle.std.specs.Prelude.{◌≡◌, Ok, Some, OnOk, true, option_copied};
 ghost use Rattle.seq_arith.specs.PacketGrammar.{reading};
+ghost use Rattle.segment_codec.specs.Value.{segment_of};
 ghost use Rattle.ft_model.specs.Network.{source_of};
-ghost use Rattle.ft_model.specs.Lawful.{IsNearTo};
-ghost use Rattle.ft_model.specs.Node.{Place, Stage, is_for};
+ghost use Rattle.ft_model.specs.Node.{is_for};
 ghost use Rattle.ft_model.specs.Node.Input.{Packet_comes, Tick_comes};
-ghost use Rattle.server_node.specs.Identity.{node_of};
 ghost use Rattle.server_node.specs.Loan.{conn_in};
-ghost use Rattle.server_node.specs.Slots.{SlotStands, SlotGoes, IsSoundSlot};
-ghost use Rattle.server_node.specs.Ownership.{IsOnlyFor};
+ghost use Rattle.server_node.specs.Slots.{IsSoundSlot};
+ghost use Rattle.server_node.specs.Turns.{SendsFor, SlotTurns};
 
 use crate::identity::Identity;
 use crate::live::{give_live, tick_live};
-use crate::outgoing::Outgoing;
 use crate::refusal::refuse_closed;
+use crate::turn::Turn;
 use ft_io::{Key, NoMemory};
+use segment_codec::PacketRef;
 use seq_arith::Seq;
 use server_trait::Service;
-use std::alloc::Global;
-use wrapped_conn::{Conn, TurnOut};
+use wrapped_conn::Conn;
 
 /// A pending opening: the numbers that the log is asked to keep.
 #[derive(Clone, Copy, Debug, PartialEq, Eq)]
@@ -45,47 +42,41 @@ pub enum Slot<S: Service> {
 
 /// A tick at one slot.
 pub(crate) fn tick_slot<S: Service>(
-    alloc: Global,
     who: Identity,
     key: Key,
     slot: &mut Slot<S>,
-    out: &mut TurnOut,
-    sent: &mut Outgoing,
+    turn: &mut Turn,
 ) -> Result<(), NoMemory>
     requires { IsSoundSlot who key slot.old }
-    ensures turn { OnOk result ((stage : Stage) (place : Place) → SlotStands (machine (S.started who.kind) S.after) (node_of who stage) key slot.old place
-        → SlotGoes (machine (S.started who.kind) S.after) (node_of who stage) Tick_comes key place slot.new sent.old.items sent.new.items) }
-    ensures alone { OnOk result (IsOnlyFor key sent.old.items sent.new.items) }
+    ensures turn { OnOk result (SlotTurns S.Service who Tick_comes key slot.old slot.new turn.old turn.new) }
+    ensures alone { OnOk result (SendsFor key turn.old turn.new) }
     ensures sound { OnOk result (IsSoundSlot who key slot.new) }
 {
     match slot {
-        Slot::Live(conn) => tick_live(alloc, who, key, conn, out, sent),
+        Slot::Live(conn) => tick_live(who, key, conn, turn),
         Slot::Pending(_) | Slot::Done => Ok(()),
     }
 }
 
-/// A segment at the slot of its client.
+/// A segment at the slot of its client: `packet` has its bytes.
 pub(crate) fn give_slot<S: Service>(
-    alloc: Global,
     who: Identity,
-    key: Key,
+    segment: &PacketRef<'_>,
     slot: &mut Slot<S>,
     packet: &mut [u8],
-    out: &mut TurnOut,
-    sent: &mut Outgoing,
+    turn: &mut Turn,
 ) -> Result<(), NoMemory>
-    requires sound { IsSoundSlot who key slot.old }
-    requires accepted { IsOk (reading packet.old) }
-    ensures turn { OnOk result ((stage : Stage) (place : Place) (segment : Segment) → reading packet.old ≡ Ok segment → source_of segment ≡ key
-        → is_for who.local segment ≡ true → IsNearTo who.local segment place → SlotStands (machine (S.started who.kind) S.after) (node_of who stage) key slot.old place
-        → SlotGoes (machine (S.started who.kind) S.after) (node_of who stage) (Packet_comes segment) key place slot.new sent.old.items sent.new.items) }
-    ensures alone { OnOk result ((segment : Segment) → reading packet.old ≡ Ok segment → source_of segment ≡ key → IsOnlyFor key sent.old.items sent.new.items) }
-    ensures sound { OnOk result (IsSoundSlot who key slot.new) }
+    requires sound { IsSoundSlot who (source_of (segment_of segment.now)) slot.old }
+    requires read { reading packet.old ≡ Ok (segment_of segment.now) }
+    ensures turn { OnOk result (is_for who.local (segment_of segment.now) ≡ true → SlotTurns S.Service who (Packet_comes (segment_of segment.now))
+        (source_of (segment_of segment.now)) slot.old slot.new turn.old turn.new) }
+    ensures alone { OnOk result (SendsFor (source_of (segment_of segment.now)) turn.old turn.new) }
+    ensures sound { OnOk result (IsSoundSlot who (source_of (segment_of segment.now)) slot.new) }
 {
     match slot {
-        Slot::Live(conn) => give_live(alloc, who, key, conn, packet, out, sent),
+        Slot::Live(conn) => give_live(who, segment.head.sender(), conn, packet, turn),
         Slot::Pending(_) => Ok(()),
-        Slot::Done => refuse_closed(alloc, who, packet, sent),
+        Slot::Done => refuse_closed(who, segment, turn),
     }
 }
 

@@ -1,31 +1,27 @@
 //! The slots of a node that serves, in one map, in the order of the log and then of the SYNs.
 
-ghost use Rattle.std.specs.Prelude.{◌≡◌, ◌<◌, ◌∷◌, ◌++◌, [], List, Ok, Some, None, IsOk, IfSome, OnOk, true, length, slice_get, option_copied, option_map};
-ghost use Rattle.std.specs.List.{AllByRecursion};
+ghost use Rattle.std.specs.Prelude.{◌≡◌, ◌<◌, ◌∷◌, ◌++◌, [], List, Ok, Some, None, IfSome, OnOk, true, length, slice_get, option_copied, option_map};
 ghost use Rattle.std.specs.Map.{lookup};
 ghost use Rattle.ft_io.specs.Key.{key_eq};
-ghost use Rattle.server_trait.specs.Service.{Machine, machine};
-ghost use Rattle.seq_arith.specs.Packet.{Segment};
+ghost use Rattle.server_trait.specs.Service.{Machine};
 ghost use Rattle.seq_arith.specs.PacketGrammar.{reading};
-ghost use Rattle.ft_model.specs.Network.{source_of};
-ghost use Rattle.ft_model.specs.Lawful.{IsNearTo};
-ghost use Rattle.ft_model.specs.Node.{Node, Place, Stage, is_for, place_at};
+ghost use Rattle.segment_codec.specs.Value.{segment_of};
+ghost use Rattle.ft_model.specs.Node.{Node, Place, is_for, place_at};
 ghost use Rattle.ft_model.specs.Node.Input.{Packet_comes, Tick_comes};
-ghost use Rattle.server_node.specs.Alone.{SlotsAlone};
 ghost use Rattle.server_node.specs.Conn.{IsSound};
 ghost use Rattle.server_node.specs.declared.identity.Identity.{Identity as Incarnation};
-ghost use Rattle.server_node.specs.Identity.{node_of};
 ghost use Rattle.server_node.specs.Loan.{IsConnAt};
-ghost use Rattle.server_node.specs.Slots.{AllStand, AllSlotsGo, AllSound, IsSoundSlot};
+ghost use Rattle.server_node.specs.Slots.{AllStand, AllSound, IsSoundSlot};
+ghost use Rattle.server_node.specs.Turns.{SlotsTurn, SlotsTurnAlone};
 
 use crate::identity::Identity;
-use crate::outgoing::Outgoing;
 use crate::slot::{Slot, give_slot, live_conn, tick_slot};
+use crate::turn::Turn;
 use ft_io::{Key, NoMemory};
 use indexmap::IndexMap;
+use segment_codec::PacketRef;
 use server_trait::Service;
-use std::alloc::Global;
-use wrapped_conn::{Conn, TurnOut};
+use wrapped_conn::Conn;
 
 /// The key at a place of the map.
 pub(crate) fn key_at<S: Service>(slots: &IndexMap<Key, Slot<S>>, i: usize) -> Key
@@ -38,50 +34,40 @@ pub(crate) fn key_at<S: Service>(slots: &IndexMap<Key, Slot<S>>, i: usize) -> Ke
 
 /// A tick at each slot, in order.
 pub(crate) fn tick_all<S: Service>(
-    alloc: Global,
     who: Identity,
     slots: &mut IndexMap<Key, Slot<S>>,
-    out: &mut TurnOut,
-    sent: &mut Outgoing,
+    turn: &mut Turn,
 ) -> Result<(), NoMemory>
     requires { AllSound who slots.old.entries }
-    ensures turn { OnOk result ((stage : Stage) (places : List Place)
-        → AllStand (machine (S.started who.kind) S.after) (node_of who stage) slots.old.entries places
-        → AllSlotsGo (machine (S.started who.kind) S.after) (node_of who stage) Tick_comes places slots.new.entries sent.old.items sent.new.items) }
-    ensures alone { OnOk result ((stage : Stage) → SlotsAlone (machine (S.started who.kind) S.after) (node_of who stage) Tick_comes slots.old.entries slots.new.entries
-        sent.old.items sent.new.items) }
+    ensures turn { OnOk result (SlotsTurn S.Service who Tick_comes slots.old.entries slots.new.entries turn.old turn.new) }
+    ensures alone { OnOk result (SlotsTurnAlone S.Service who Tick_comes slots.old.entries slots.new.entries turn.old turn.new) }
     ensures sound { OnOk result (AllSound who slots.new.entries) }
 {
     for i in 0..slots.len() {
         let key = key_at(slots, i);
-        tick_slot(alloc, who, key, &mut slots[i], out, sent)?;
+        tick_slot(who, key, &mut slots[i], turn)?;
     }
     Ok(())
 }
 
-/// A segment at the slot of its client, if there is one.
+/// A segment at the slot of its client, if there is one: `packet` has its bytes.
 pub(crate) fn give_known<S: Service>(
-    alloc: Global,
     who: Identity,
-    key: Key,
+    segment: &PacketRef<'_>,
     slots: &mut IndexMap<Key, Slot<S>>,
     packet: &mut [u8],
-    out: &mut TurnOut,
-    sent: &mut Outgoing,
+    turn: &mut Turn,
 ) -> Result<(), NoMemory>
     requires sound { AllSound who slots.old.entries }
-    requires accepted { IsOk (reading packet.old) }
-    ensures turn { OnOk result ((stage : Stage) (places : List Place) (segment : Segment) → reading packet.old ≡ Ok segment → source_of segment ≡ key
-        → is_for who.local segment ≡ true → AllByRecursion (IsNearTo who.local segment) places
-        → AllStand (machine (S.started who.kind) S.after) (node_of who stage) slots.old.entries places
-        → AllSlotsGo (machine (S.started who.kind) S.after) (node_of who stage) (Packet_comes segment) places slots.new.entries sent.old.items sent.new.items) }
-    ensures alone { OnOk result ((stage : Stage) (segment : Segment) → reading packet.old ≡ Ok segment → source_of segment ≡ key → is_for who.local segment ≡ true
-        → SlotsAlone (machine (S.started who.kind) S.after) (node_of who stage) (Packet_comes segment) slots.old.entries slots.new.entries
-        sent.old.items sent.new.items) }
+    requires read { reading packet.old ≡ Ok (segment_of segment.now) }
+    ensures turn { OnOk result (is_for who.local (segment_of segment.now) ≡ true → SlotsTurn S.Service who (Packet_comes (segment_of segment.now))
+        slots.old.entries slots.new.entries turn.old turn.new) }
+    ensures alone { OnOk result (is_for who.local (segment_of segment.now) ≡ true → SlotsTurnAlone S.Service who (Packet_comes (segment_of segment.now))
+        slots.old.entries slots.new.entries turn.old turn.new) }
     ensures sound { OnOk result (AllSound who slots.new.entries) }
 {
-    if let Some(slot) = slots.get_mut(&key) {
-        give_slot(alloc, who, key, slot, packet, out, sent)?;
+    if let Some(slot) = slots.get_mut(&segment.head.sender()) {
+        give_slot(who, segment, slot, packet, turn)?;
     }
     Ok(())
 }

@@ -1,43 +1,40 @@
 //! How far a node is, and what an input does to it.
 
-ghost use Rattle.std.specs.Prelude.{◌≡◌, ◌≤◌, ◌∷◌, [], ℕ, List, length, Ok, None, Some, IsOk, IfSome, OnOk, IfOk, IfErr, IsErrOf, option_copied, false};
-ghost use Rattle.std.specs.List.{AllByRecursion};
-ghost use Rattle.seq_arith.specs.Packet.{Segment};
+ghost use Rattle.std.specs.Prelude.{◌≡◌, ◌≤◌, ◌∷◌, [], length, Ok, None, Some, IfSome, OnOk, IfOk, IfErr, IsErrOf, option_copied, false};
 ghost use Rattle.seq_arith.specs.PacketGrammar.{reading};
 ghost use Rattle.seq_arith.specs.Message.Body.{HelloMsg};
-ghost use Rattle.server_trait.specs.Service.{Machine, machine};
+ghost use Rattle.segment_codec.specs.Value.{segment_of};
+ghost use Rattle.server_trait.specs.Service.{Machine};
 ghost use Rattle.logger_wire.specs.Value.{body_of, message_of, IsSendable};
 ghost use Rattle.ft_model.specs.Connection.{told_by};
-ghost use Rattle.ft_model.specs.Node.{Node, Place, Stage as Standing, is_for};
-ghost use Rattle.ft_model.specs.Node.Stage.{Asking};
+ghost use Rattle.ft_model.specs.Node.{Node, Stage as Standing, is_for};
 ghost use Rattle.ft_model.specs.Node.Input.{Packet_comes, Message_comes, Tick_comes};
-ghost use Rattle.ft_model.specs.Lawful.{IsNearInput, IsNearTo, IsSoundInput, fence, newer_than, summary_count};
-ghost use Rattle.server_node.specs.Alone.{ServesAlone, Others, Alone, IsUntouched};
+ghost use Rattle.ft_model.specs.Lawful.{fence, newer_than, summary_count};
+ghost use Rattle.server_node.specs.Apart.{TurnsApart};
 ghost use Rattle.server_node.specs.Conn.{IsSound};
 ghost use Rattle.server_node.specs.declared.identity.Identity.{Identity as Incarnation};
-ghost use Rattle.server_node.specs.Identity.{node_of};
+ghost use Rattle.server_node.specs.Identity.{node_of, service_of};
 ghost use Rattle.server_node.specs.Inputs.{input_of};
 ghost use Rattle.server_node.specs.Loan.{IsConnAt, place_in};
-ghost use Rattle.server_node.specs.Openings.{ArePut, IsCounted};
-ghost use Rattle.server_node.specs.Restarts.{MessageRestarts, Restarts};
-ghost use Rattle.server_node.specs.ServingStage.{ServingStands, ServingGoes};
+ghost use Rattle.server_node.specs.Openings.{IsCounted};
 ghost use Rattle.server_node.specs.Slots.{AllSound};
-ghost use Rattle.server_node.specs.Stages.{StageStands, IsSoundStage, NodeGoes, IsFence};
+ghost use Rattle.server_node.specs.Stages.{StageStands, IsSoundStage, IsFence};
+ghost use Rattle.server_node.specs.RestartTurns.{SummaryRestarts};
+ghost use Rattle.server_node.specs.Turns.{Sends, ServingTurns, ServingTurnsAlone, StageTurns, IsUnfenced, IsFenceOf};
 
 use crate::identity::Identity;
 use crate::input::{Input, TurnEnd};
-use crate::outgoing::Outgoing;
 use crate::restarting::{ask, begin_fetching, hold, take_answer};
 use crate::sent::tell;
 use crate::serving::{Serving, serve_message, serve_packet, serve_tick};
 use crate::slots::conn_at;
+use crate::turn::Turn;
 use ft_io::{Key, NoMemory};
 use logger_wire::{Body, Msg, read_msg};
 use reincarnate::Fetching;
-use segment_codec::{read_accepted, read_packet};
+use segment_codec::{PacketRef, read_packet};
 use server_trait::Service;
-use std::alloc::Global;
-use wrapped_conn::{Conn, TurnOut};
+use wrapped_conn::Conn;
 
 /// A packet of at most so many bytes is short.
 const SHORT_PACKET: usize = 128;
@@ -55,45 +52,40 @@ pub(crate) enum Stage<S: Service> {
 }
 
 /// Asks the logger how many entries it has.
-pub(crate) fn send_hello(alloc: Global, who: Identity, sent: &mut Outgoing) -> Result<(), NoMemory>
+pub(crate) fn send_hello(who: Identity, turn: &mut Turn) -> Result<(), NoMemory>
     requires { 1 ≤ who.boot }
-    ensures { OnOk result (ArePut (told_by who.boot HelloMsg ∷ []) sent.old.items sent.new.items) }
+    ensures { OnOk result (Sends (told_by who.boot HelloMsg ∷ []) turn.old turn.new) }
 {
     let message = Msg {
         boot: who.boot,
         body: Body::HelloMsg,
     };
-    tell(alloc, &message, sent)
+    tell(&message, turn)
 }
 
 fn on_tick<S: Service>(
-    alloc: Global,
     who: Identity,
     stage: Stage<S>,
-    out: &mut TurnOut,
-    sent: &mut Outgoing,
+    turn: &mut Turn,
 ) -> Result<Stage<S>, NoMemory>
     requires boot { 1 ≤ who.boot }
     requires sound { IsSoundStage who stage }
-    requires empty { sent.old.items ≡ [] }
-    ensures turn { IfOk result (λ after. (standing : Standing) → StageStands (machine (S.started who.kind) S.after) (node_of who standing) stage
-        → NodeGoes (machine (S.started who.kind) S.after) (node_of who standing) Tick_comes who after sent.new.items) }
-    ensures others { IfOk result (λ after. (standing : Standing) → Others (node_of who standing) Tick_comes stage after sent.new.items) }
-    ensures alone { IfOk result (λ after. (standing : Standing)
-        → Alone (machine (S.started who.kind) S.after) (node_of who standing) Tick_comes stage after sent.new.items) }
+    requires empty { turn.old.sent.items ≡ [] }
+    ensures turn { IfOk result (λ after. StageTurns S.Service who Tick_comes stage after turn.new.sent.items) }
+    ensures apart { IfOk result (λ after. TurnsApart (service_of S.Service who) who Tick_comes stage after turn.new.sent.items) }
     ensures sound { IfOk result (λ after. IsSoundStage who after) }
 {
     match stage {
         Stage::Asking => {
-            send_hello(alloc, who, sent)?;
+            send_hello(who, turn)?;
             Ok(Stage::Asking)
         }
         Stage::Fetching(fetching) => {
-            ask(alloc, who, &fetching, sent)?;
+            ask(who, &fetching, turn)?;
             Ok(Stage::Fetching(fetching))
         }
         Stage::Serving(mut serving) => {
-            serve_tick(alloc, who, &mut serving, out, sent)?;
+            serve_tick(who, &mut serving, turn)?;
             Ok(Stage::Serving(serving))
         }
         Stage::Lost => Err(NoMemory),
@@ -102,34 +94,26 @@ fn on_tick<S: Service>(
 
 /// A message of this boot that is no fence.
 fn on_message<S: Service>(
-    alloc: Global,
     who: Identity,
     stage: Stage<S>,
     m: &Msg<'_>,
-    out: &mut TurnOut,
-    sent: &mut Outgoing,
+    turn: &mut Turn,
 ) -> Result<Stage<S>, NoMemory>
     requires boot { 1 ≤ who.boot }
     requires sendable { IsSendable m.now }
     requires sound { IsSoundStage who stage }
-    requires empty { sent.old.items ≡ [] }
-    ensures turn { IfOk result (λ after. (standing : Standing) → m.now.boot ≡ who.boot → fence (node_of who standing) (Message_comes (message_of m.now)) ≡ None
-        → IsSoundInput (machine (S.started who.kind) S.after) (node_of who standing) (Message_comes (message_of m.now)) standing
-        → StageStands (machine (S.started who.kind) S.after) (node_of who standing) stage
-        → NodeGoes (machine (S.started who.kind) S.after) (node_of who standing) (Message_comes (message_of m.now)) who after sent.new.items) }
-    ensures others { IfOk result (λ after. (standing : Standing) → m.now.boot ≡ who.boot
-        → Others (node_of who standing) (Message_comes (message_of m.now)) stage after sent.new.items) }
-    ensures alone { IfOk result (λ after. (standing : Standing) → m.now.boot ≡ who.boot
-        → Alone (machine (S.started who.kind) S.after) (node_of who standing) (Message_comes (message_of m.now)) stage after sent.new.items) }
-    ensures restarts { IfOk result (λ after. (standing : Standing) → m.now.boot ≡ who.boot
-        → MessageRestarts (machine (S.started who.kind) S.after) (node_of who standing) (message_of m.now) stage after sent.new.items) }
+    requires empty { turn.old.sent.items ≡ [] }
+    ensures turn { IfOk result (λ after. m.now.boot ≡ who.boot → IsUnfenced who (Message_comes (message_of m.now))
+        → StageTurns S.Service who (Message_comes (message_of m.now)) stage after turn.new.sent.items) }
+    ensures apart { IfOk result (λ after. m.now.boot ≡ who.boot
+        → TurnsApart (service_of S.Service who) who (Message_comes (message_of m.now)) stage after turn.new.sent.items) }
     ensures sound { IfOk result (λ after. IsSoundStage who after) }
 {
     match stage {
-        Stage::Asking => on_summary(alloc, who, m, out, sent),
-        Stage::Fetching(fetching) => take_answer(alloc, who, fetching, m, out, sent),
+        Stage::Asking => on_summary(who, m, turn),
+        Stage::Fetching(fetching) => take_answer(who, fetching, m, turn),
         Stage::Serving(mut serving) => {
-            serve_message(alloc, who, m, &mut serving, out, sent)?;
+            serve_message(who, m, &mut serving, turn)?;
             Ok(Stage::Serving(serving))
         }
         Stage::Lost => Err(NoMemory),
@@ -147,27 +131,19 @@ fn count_in(body: &Body<'_>) -> Option<u16>
 }
 
 /// A message of this boot that is no fence, while the logger is asked how many entries it has.
-fn on_summary<S: Service>(
-    alloc: Global,
-    who: Identity,
-    m: &Msg<'_>,
-    out: &mut TurnOut,
-    sent: &mut Outgoing,
-) -> Result<Stage<S>, NoMemory>
+fn on_summary<S: Service>(who: Identity, m: &Msg<'_>, turn: &mut Turn) -> Result<Stage<S>, NoMemory>
     requires boot { 1 ≤ who.boot }
     requires sendable { IsSendable m.now }
-    requires empty { sent.old.items ≡ [] }
-    ensures turn { IfOk result (λ after. (standing : Standing) → m.now.boot ≡ who.boot → fence (node_of who standing) (Message_comes (message_of m.now)) ≡ None
-        → standing ≡ Asking → NodeGoes (machine (S.started who.kind) S.after) (node_of who standing)
-        (Message_comes (message_of m.now)) who after sent.new.items) }
-    ensures restarts { IfOk result (λ after. (standing : Standing) → m.now.boot ≡ who.boot
-        → MessageRestarts (machine (S.started who.kind) S.after) (node_of who standing) (message_of m.now) Stage.Asking after sent.new.items) }
+    requires empty { turn.old.sent.items ≡ [] }
+    ensures turn { IfOk result (λ after. m.now.boot ≡ who.boot → IsUnfenced who (Message_comes (message_of m.now))
+        → StageTurns S.Service who (Message_comes (message_of m.now)) Stage.Asking after turn.new.sent.items) }
+    ensures restarts { IfOk result (λ after. m.now.boot ≡ who.boot → SummaryRestarts S.Service who (message_of m.now) after turn.new.sent.items) }
     ensures sound { IfOk result (λ after. IsSoundStage who after) }
 {
     let Some(count) = count_in(&m.body) else {
         return Ok(Stage::Asking);
     };
-    begin_fetching(alloc, who, count, out, sent)
+    begin_fetching(who, count, turn)
 }
 
 /// A larger boot number than this one, if a body tells it.
@@ -192,33 +168,20 @@ fn newer_in(who: Identity, m: &Msg<'_>) -> Option<u64>
 
 /// What a message says that the codec reads. A Stale of this boot that names a larger one ends the node.
 fn hear<S: Service>(
-    alloc: Global,
     who: Identity,
     stage: Stage<S>,
     m: &Msg<'_>,
-    out: &mut TurnOut,
-    sent: &mut Outgoing,
+    turn: &mut Turn,
 ) -> Result<Stage<S>, TurnEnd>
     requires boot { 1 ≤ who.boot }
     requires sendable { IsSendable m.now }
     requires sound { IsSoundStage who stage }
-    requires empty { sent.old.items ≡ [] }
-    ensures turn { IfOk result (λ after. (standing : Standing)
-        → IsSoundInput (machine (S.started who.kind) S.after) (node_of who standing) (Message_comes (message_of m.now)) standing
-        → StageStands (machine (S.started who.kind) S.after) (node_of who standing) stage
-        → NodeGoes (machine (S.started who.kind) S.after) (node_of who standing) (Message_comes (message_of m.now)) who after sent.new.items) }
-    ensures others { IfOk result (λ after. (standing : Standing)
-        → Others (node_of who standing) (Message_comes (message_of m.now)) stage after sent.new.items) }
-    ensures alone { IfOk result (λ after. (standing : Standing)
-        → Alone (machine (S.started who.kind) S.after) (node_of who standing) (Message_comes (message_of m.now)) stage after sent.new.items) }
-    ensures restarts { IfOk result (λ after. (standing : Standing)
-        → MessageRestarts (machine (S.started who.kind) S.after) (node_of who standing) (message_of m.now) stage after sent.new.items) }
-    ensures untouched { IfOk result (λ after. (standing : Standing)
-        → IsUntouched (node_of who standing) (Message_comes (message_of m.now)) stage after sent.new.items) }
-    ensures unfenced { IfOk result (λ after. (standing : Standing) → fence (node_of who standing) (Message_comes (message_of m.now)) ≡ None) }
-    ensures fenced { IfErr result (λ end. IsFence end (λ newer. (standing : Standing)
-        → fence (node_of who standing) (Message_comes (message_of m.now)) ≡ Some newer)) }
-    ensures memory { IsErrOf result TurnEnd.NoMemory → (standing : Standing) → fence (node_of who standing) (Message_comes (message_of m.now)) ≡ None }
+    requires empty { turn.old.sent.items ≡ [] }
+    ensures turn { IfOk result (λ after. StageTurns S.Service who (Message_comes (message_of m.now)) stage after turn.new.sent.items) }
+    ensures apart { IfOk result (λ after. TurnsApart (service_of S.Service who) who (Message_comes (message_of m.now)) stage after turn.new.sent.items) }
+    ensures unfenced { IfOk result (λ after. IsUnfenced who (Message_comes (message_of m.now))) }
+    ensures fenced { IfErr result (IsFenceOf who (Message_comes (message_of m.now))) }
+    ensures memory { IsErrOf result TurnEnd.NoMemory → IsUnfenced who (Message_comes (message_of m.now)) }
     ensures sound { IfOk result (λ after. IsSoundStage who after) }
 {
     if let Some(newer) = newer_in(who, m) {
@@ -227,42 +190,33 @@ fn hear<S: Service>(
     if m.boot != who.boot {
         return Ok(stage);
     }
-    Ok(on_message(alloc, who, stage, m, out, sent)?)
+    Ok(on_message(who, stage, m, turn)?)
 }
 
-/// A packet that the codec reads. While nothing is fetched, clients get no answer.
+/// A segment, with its bytes. While nothing is fetched, clients get no answer.
 fn on_packet<S: Service>(
-    alloc: Global,
     who: Identity,
     stage: Stage<S>,
+    segment: &PacketRef<'_>,
     packet: &[u8],
-    out: &mut TurnOut,
-    sent: &mut Outgoing,
+    turn: &mut Turn,
 ) -> Result<Stage<S>, NoMemory>
     requires boot { 1 ≤ who.boot }
-    requires accepted { IsOk (reading packet.now) }
+    requires read { reading packet.now ≡ Ok (segment_of segment.now) }
     requires sound { IsSoundStage who stage }
-    requires empty { sent.old.items ≡ [] }
-    ensures turn { IfOk result (λ after. (standing : Standing) (segment : Segment) → reading packet.now ≡ Ok segment
-        → IsNearInput who.local (Packet_comes segment) standing
-        → StageStands (machine (S.started who.kind) S.after) (node_of who standing) stage
-        → NodeGoes (machine (S.started who.kind) S.after) (node_of who standing) (Packet_comes segment) who after sent.new.items) }
-    ensures others { IfOk result (λ after. (standing : Standing) (segment : Segment) → reading packet.now ≡ Ok segment
-        → Others (node_of who standing) (Packet_comes segment) stage after sent.new.items) }
-    ensures alone { IfOk result (λ after. (standing : Standing) (segment : Segment) → reading packet.now ≡ Ok segment
-        → Alone (machine (S.started who.kind) S.after) (node_of who standing) (Packet_comes segment) stage after sent.new.items) }
-    ensures untouched { IfOk result (λ after. (standing : Standing) (segment : Segment) → reading packet.now ≡ Ok segment
-        → IsUntouched (node_of who standing) (Packet_comes segment) stage after sent.new.items) }
+    requires empty { turn.old.sent.items ≡ [] }
+    ensures turn { IfOk result (λ after. StageTurns S.Service who (Packet_comes (segment_of segment.now)) stage after turn.new.sent.items) }
+    ensures apart { IfOk result (λ after. TurnsApart (service_of S.Service who) who (Packet_comes (segment_of segment.now)) stage after turn.new.sent.items) }
     ensures sound { IfOk result (λ after. IsSoundStage who after) }
 {
     match stage {
         Stage::Asking => Ok(Stage::Asking),
         Stage::Fetching(fetching) => {
-            hold(alloc, who, &fetching, packet, sent)?;
+            hold(who, &fetching, segment, turn)?;
             Ok(Stage::Fetching(fetching))
         }
         Stage::Serving(mut serving) => {
-            serve_bytes(alloc, who, packet, &mut serving, out, sent)?;
+            serve_bytes(who, segment, packet, &mut serving, turn)?;
             Ok(Stage::Serving(serving))
         }
         Stage::Lost => Err(NoMemory),
@@ -270,76 +224,29 @@ fn on_packet<S: Service>(
 }
 
 /// The same on a copy, whose numbers the connection changes in place. A short packet is copied into a short room, which takes less time to clear.
+#[tactic(auto, using(crate::proofs::Came::packet_fits))]
 fn serve_bytes<S: Service>(
-    alloc: Global,
     who: Identity,
+    segment: &PacketRef<'_>,
     packet: &[u8],
     serving: &mut Serving<S>,
-    out: &mut TurnOut,
-    sent: &mut Outgoing,
+    turn: &mut Turn,
 ) -> Result<(), NoMemory>
     requires boot { 1 ≤ who.boot }
-    requires accepted { IsOk (reading packet.now) }
+    requires read { reading packet.now ≡ Ok (segment_of segment.now) }
     requires sound { AllSound who serving.old.slots.entries }
     requires counted { IsCounted who.isn serving.old.next.0 }
-    ensures turn { OnOk result ((stage : Standing) (opened : ℕ) (places : List Place) (segment : Segment) → reading packet.now ≡ Ok segment
-        → AllByRecursion (IsNearTo who.local segment) places
-        → ServingStands (machine (S.started who.kind) S.after) (node_of who stage) opened places serving.old
-        → ServingGoes (machine (S.started who.kind) S.after) (node_of who stage)
-        (Packet_comes segment) opened places serving.new sent.old.items sent.new.items) }
-    ensures alone { OnOk result ((stage : Standing) (segment : Segment) → reading packet.now ≡ Ok segment
-        → ServesAlone (machine (S.started who.kind) S.after) (node_of who stage) (Packet_comes segment) serving.old serving.new
-        sent.old.items sent.new.items) }
-    ensures untouched { OnOk result ((segment : Segment) → reading packet.now ≡ Ok segment → is_for who.local segment ≡ false
-        → (serving.new ≡ serving.old) × (sent.new.items ≡ sent.old.items)) }
+    ensures turn { OnOk result (ServingTurns S.Service who (Packet_comes (segment_of segment.now)) serving.old serving.new turn.old turn.new) }
+    ensures alone { OnOk result (ServingTurnsAlone S.Service who (Packet_comes (segment_of segment.now)) serving.old serving.new turn.old turn.new) }
+    ensures untouched { OnOk result (is_for who.local (segment_of segment.now) ≡ false
+        → (serving.new ≡ serving.old) × (turn.new.sent.items ≡ turn.old.sent.items)) }
     ensures sound { OnOk result (AllSound who serving.new.slots.entries) }
     ensures counted { OnOk result (IsCounted who.isn serving.new.next.0) }
 {
     if packet.len() <= SHORT_PACKET {
-        return serve_copy(alloc, who, packet, &mut [0; 128], serving, out, sent);
+        return serve_packet(who, segment, copied(packet, &mut [0; 128]), serving, turn);
     }
-    short(packet);
-    serve_copy(alloc, who, packet, &mut [0; 1_500], serving, out, sent)
-}
-
-/// The same, with the copy in this room.
-fn serve_copy<S: Service>(
-    alloc: Global,
-    who: Identity,
-    packet: &[u8],
-    room: &mut [u8],
-    serving: &mut Serving<S>,
-    out: &mut TurnOut,
-    sent: &mut Outgoing,
-) -> Result<(), NoMemory>
-    requires room { length packet.now ≤ length room.old }
-    requires boot { 1 ≤ who.boot }
-    requires accepted { IsOk (reading packet.now) }
-    requires sound { AllSound who serving.old.slots.entries }
-    requires counted { IsCounted who.isn serving.old.next.0 }
-    ensures turn { OnOk result ((stage : Standing) (opened : ℕ) (places : List Place) (segment : Segment) → reading packet.now ≡ Ok segment
-        → AllByRecursion (IsNearTo who.local segment) places
-        → ServingStands (machine (S.started who.kind) S.after) (node_of who stage) opened places serving.old
-        → ServingGoes (machine (S.started who.kind) S.after) (node_of who stage)
-        (Packet_comes segment) opened places serving.new sent.old.items sent.new.items) }
-    ensures alone { OnOk result ((stage : Standing) (segment : Segment) → reading packet.now ≡ Ok segment
-        → ServesAlone (machine (S.started who.kind) S.after) (node_of who stage) (Packet_comes segment) serving.old serving.new
-        sent.old.items sent.new.items) }
-    ensures untouched { OnOk result ((segment : Segment) → reading packet.now ≡ Ok segment → is_for who.local segment ≡ false
-        → (serving.new ≡ serving.old) × (sent.new.items ≡ sent.old.items)) }
-    ensures sound { OnOk result (AllSound who serving.new.slots.entries) }
-    ensures counted { OnOk result (IsCounted who.isn serving.new.next.0) }
-{
-    let copy = copied(packet, room);
-    serve_packet(alloc, who, copy, serving, out, sent)
-}
-
-/// A fact for proofs: a packet that is read has at most 1,500 bytes.
-fn short(packet: &[u8])
-    requires { IsOk (reading packet.now) }
-    ensures { length packet.now ≤ 1500 }
-{
-    let _ = read_accepted(packet);
+    serve_packet(who, segment, copied(packet, &mut [0; 1_500]), serving, turn)
 }
 
 /// The bytes of a packet at the front of this room.
@@ -366,40 +273,29 @@ pub(crate) fn conn_in<S: Service>(stage: &Stage<S>, key: Key) -> Option<&Conn<S>
 
 /// What an input does to a node. After an error the node may only be dropped.
 pub(crate) fn go<S: Service>(
-    alloc: Global,
     who: Identity,
     stage: Stage<S>,
     input: Input<'_>,
-    out: &mut TurnOut,
-    sent: &mut Outgoing,
+    turn: &mut Turn,
 ) -> Result<Stage<S>, TurnEnd>
     requires boot { 1 ≤ who.boot }
     requires sound { IsSoundStage who stage }
-    requires empty { sent.old.items ≡ [] }
-    ensures turn { IfOk result (λ after. (standing : Standing) → IsNearInput who.local (input_of input.entry) standing
-        → IsSoundInput (machine (S.started who.kind) S.after) (node_of who standing) (input_of input.entry) standing
-        → StageStands (machine (S.started who.kind) S.after) (node_of who standing) stage
-        → NodeGoes (machine (S.started who.kind) S.after) (node_of who standing) (input_of input.entry) who after sent.new.items) }
-    ensures others { IfOk result (λ after. (standing : Standing) → Others (node_of who standing) (input_of input.entry) stage after sent.new.items) }
-    ensures alone { IfOk result (λ after. (standing : Standing)
-        → Alone (machine (S.started who.kind) S.after) (node_of who standing) (input_of input.entry) stage after sent.new.items) }
-    ensures restarts { IfOk result (λ after. (standing : Standing)
-        → Restarts (machine (S.started who.kind) S.after) (node_of who standing) (input_of input.entry) stage after sent.new.items) }
-    ensures untouched { IfOk result (λ after. (standing : Standing)
-        → IsUntouched (node_of who standing) (input_of input.entry) stage after sent.new.items) }
-    ensures unfenced { IfOk result (λ after. (standing : Standing) → fence (node_of who standing) (input_of input.entry) ≡ None) }
-    ensures fenced { IfErr result (λ end. IsFence end (λ newer. (standing : Standing) → fence (node_of who standing) (input_of input.entry) ≡ Some newer)) }
-    ensures memory { IsErrOf result TurnEnd.NoMemory → (standing : Standing) → fence (node_of who standing) (input_of input.entry) ≡ None }
+    requires empty { turn.old.sent.items ≡ [] }
+    ensures turn { IfOk result (λ after. StageTurns S.Service who (input_of input.entry) stage after turn.new.sent.items) }
+    ensures apart { IfOk result (λ after. TurnsApart (service_of S.Service who) who (input_of input.entry) stage after turn.new.sent.items) }
+    ensures unfenced { IfOk result (λ after. IsUnfenced who (input_of input.entry)) }
+    ensures fenced { IfErr result (IsFenceOf who (input_of input.entry)) }
+    ensures memory { IsErrOf result TurnEnd.NoMemory → IsUnfenced who (input_of input.entry) }
     ensures sound { IfOk result (λ after. IsSoundStage who after) }
 {
     match input {
-        Input::Tick => Ok(on_tick(alloc, who, stage, out, sent)?),
+        Input::Tick => Ok(on_tick(who, stage, turn)?),
         Input::Packet(bytes) => match read_packet(bytes) {
-            Ok(_) => Ok(on_packet(alloc, who, stage, bytes, out, sent)?),
+            Ok(segment) => Ok(on_packet(who, stage, &segment, bytes, turn)?),
             Err(_) => Ok(stage),
         },
         Input::Message(bytes) => match read_msg(bytes) {
-            Ok(m) => hear(alloc, who, stage, &m, out, sent),
+            Ok(m) => hear(who, stage, &m, turn),
             Err(_) => Ok(stage),
         },
     }

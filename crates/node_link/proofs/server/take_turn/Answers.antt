@@ -32,4 +32,4 @@ returns-clause-turned g c =
     turned (machines g.S.Service.started g.S.Service.after) c.args.loggers (standing_of c.args.node.now) (standing_of c.turn.follows.lender-at-none) (g.L.Link.told c.args.link.now) (g.L.Link.told c.receive-came.new.link) (g.L.Link.told c.send_all.new.link)
     c.args.counts.now c.receive-came.new.counts c.send_all.new.counts r.0 (input_of c.input_of.result) c.in_ok-packets.packets.now r.1 r.2
     (c.input_of.ensures r.0 (at_some c.receive-came.result (IsQuiet r.0) (λ g. (g.0 ≤ length c.receive-came.new.buffer) × (r.0 ≡ datagram g.1 (take g.0 c.receive-came.new.buffer)))
-    (λ g. r.0 ≡ datagram g.1 (take g.0 c.receive-came.new.buffer)) (λ g h. h.1) r.3)) few c.send_all.ensures.sent went.0 went.2 went.3 c.in_ok-packets.ensures.unfenced
+    (λ g. r.0 ≡ datagram g.1 (take g.0 c.receive-came.new.buffer)) (λ g h. h.1) r.3)) few c.send_all.ensures.sent went.who went.turn went.apart c.in_ok-packets.ensures.unfenced

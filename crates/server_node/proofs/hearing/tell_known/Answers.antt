@@ -20,17 +20,17 @@ tell_slot-requires-clause-sound g c =
     sound_found c.args.who c.args.key c.args.slots.now.entries c.in-Some.slot.now c.requires.sound found
 
 pub returns-in_ok-tell_slot-clause-turn : goal.returns-in_ok-tell_slot-clause-turn
-returns-in_ok-tell_slot-clause-turn g c = λ stage places kept boot says from st.
+returns-in_ok-tell_slot-clause-turn g c = λ kept log stage places near st.
     let service = machine (g.S.Service.started c.args.who.kind) g.S.Service.after in
     let node = node_of c.args.who stage in
     let message = message_of c.args.m.now in
     let found : lookup (key_eq c.args.key) c.args.slots.now.entries ≡ Some c.in-Some.slot.now = search rules in
-    subst (λ es. AllSlotsGo service node (Message_comes message) places es c.args.sent.now.items c.tell_slot.new.sent.items)
+    subst (λ es. AllSlotsGo service node (Message_comes message) places es c.args.turn.now.sent.items c.tell_slot.new.turn.sent.items)
     (sym (c.get_mut.follows.holds c.tell_slot.new.slot).0)
-    (one_goes service node (Message_comes message) c.args.key (only_its_key node message c.args.key (λ k. logged_names message.body kept says k ∙ ap (λ x. key_eq x k) from))
-    (λ place. Unit {0}) c.args.slots.now.entries places c.in-Some.slot.now c.tell_slot.new.slot c.args.sent.now.items c.tell_slot.new.sent.items
+    (one_goes service node (Message_comes message) c.args.key (only_its_key node message c.args.key (λ k. logged_names message.body kept log.says k ∙ ap (λ x. key_eq x k) log.client))
+    (λ place. Unit {0}) c.args.slots.now.entries places c.in-Some.slot.now c.tell_slot.new.slot c.args.turn.now.sent.items c.tell_slot.new.turn.sent.items
     st c.get_mut.ensures.unique found (all_units places)
-    (λ place u stands. c.in_ok-tell_slot.ensures.turn stage place kept boot says from stands))
+    (λ place u stands. c.in_ok-tell_slot.ensures.turn kept log stage place tt stands))
 
 pub returns-in_ok-tell_slot-clause-sound : goal.returns-in_ok-tell_slot-clause-sound
 returns-in_ok-tell_slot-clause-sound g c =
@@ -38,35 +38,35 @@ returns-in_ok-tell_slot-clause-sound g c =
     (sound_set c.args.who c.args.key c.args.slots.now.entries c.tell_slot.new.slot c.requires.sound c.in_ok-tell_slot.ensures.sound)
 
 pub returns-in_default-clause-turn : goal.returns-in_default-clause-turn
-returns-in_default-clause-turn g c = λ stage places kept boot says from st.
+returns-in_default-clause-turn g c = λ kept log stage places near st.
     let service = machine (g.S.Service.started c.args.who.kind) g.S.Service.after in
     let node = node_of c.args.who stage in
     let message = message_of c.args.m.now in
     let nothing : lookup (key_eq c.args.key) c.args.slots.now.entries ≡ None = search rules in
-    subst (λ m. AllSlotsGo service node (Message_comes message) places m.entries c.args.sent.now.items c.args.sent.now.items) (sym c.get_mut.follows.holds-at-none)
-    (none_goes service node (Message_comes message) c.args.key (only_its_key node message c.args.key (λ k. logged_names message.body kept says k ∙ ap (λ x. key_eq x k) from))
-    c.args.slots.now.entries places c.args.sent.now.items st (none_found (key_eq c.args.key) c.args.slots.now.entries nothing))
+    subst (λ m. AllSlotsGo service node (Message_comes message) places m.entries c.args.turn.now.sent.items c.args.turn.now.sent.items) (sym c.get_mut.follows.holds-at-none)
+    (none_goes service node (Message_comes message) c.args.key (only_its_key node message c.args.key (λ k. logged_names message.body kept log.says k ∙ ap (λ x. key_eq x k) log.client))
+    c.args.slots.now.entries places c.args.turn.now.sent.items st (none_found (key_eq c.args.key) c.args.slots.now.entries nothing))
 
 pub returns-in_ok-tell_slot-clause-alone : goal.returns-in_ok-tell_slot-clause-alone
-returns-in_ok-tell_slot-clause-alone g c = λ stage kept boot says from.
+returns-in_ok-tell_slot-clause-alone g c = λ kept log stage.
     let service = machine (g.S.Service.started c.args.who.kind) g.S.Service.after in
     let node = node_of c.args.who stage in
     let message = message_of c.args.m.now in
     let found : lookup (key_eq c.args.key) c.args.slots.now.entries ≡ Some c.in-Some.slot.now = search rules in
-    subst (λ es. SlotsAlone service node (Message_comes message) c.args.slots.now.entries es c.args.sent.now.items c.tell_slot.new.sent.items)
+    subst (λ es. SlotsAlone service node (Message_comes message) c.args.slots.now.entries es c.args.turn.now.sent.items c.tell_slot.new.turn.sent.items)
     (sym (c.get_mut.follows.holds c.tell_slot.new.slot).0)
-    (set_alone service node (Message_comes message) c.args.key (only_its_key node message c.args.key (λ k. logged_names message.body kept says k ∙ ap (λ x. key_eq x k) from))
-    (its_key node message c.args.key boot (λ k. logged_names message.body kept says k ∙ ap (λ x. key_eq x k) from) c.args.key refl)
-    c.args.slots.now.entries c.in-Some.slot.now c.tell_slot.new.slot c.args.sent.now.items c.tell_slot.new.sent.items found c.in_ok-tell_slot.ensures.alone
-    (λ place near stands. c.in_ok-tell_slot.ensures.turn stage place kept boot says from stands))
+    (set_alone service node (Message_comes message) c.args.key (only_its_key node message c.args.key (λ k. logged_names message.body kept log.says k ∙ ap (λ x. key_eq x k) log.client))
+    (its_key node message c.args.key log.boot (λ k. logged_names message.body kept log.says k ∙ ap (λ x. key_eq x k) log.client) c.args.key refl)
+    c.args.slots.now.entries c.in-Some.slot.now c.tell_slot.new.slot c.args.turn.now.sent.items c.tell_slot.new.turn.sent.items found c.in_ok-tell_slot.ensures.alone
+    (λ place near stands. c.in_ok-tell_slot.ensures.turn kept log stage place near stands))
 
 pub returns-in_default-clause-alone : goal.returns-in_default-clause-alone
-returns-in_default-clause-alone g c = λ stage kept boot says from.
+returns-in_default-clause-alone g c = λ kept log stage.
     let service = machine (g.S.Service.started c.args.who.kind) g.S.Service.after in
     let node = node_of c.args.who stage in
     let message = message_of c.args.m.now in
     let nothing : lookup (key_eq c.args.key) c.args.slots.now.entries ≡ None = search rules in
-    subst (λ m. SlotsAlone service node (Message_comes message) c.args.slots.now.entries m.entries c.args.sent.now.items c.args.sent.now.items) (sym c.get_mut.follows.holds-at-none)
-    (same_alone service node (Message_comes message) c.args.key (only_its_key node message c.args.key (λ k. logged_names message.body kept says k ∙ ap (λ x. key_eq x k) from))
-    (its_key node message c.args.key boot (λ k. logged_names message.body kept says k ∙ ap (λ x. key_eq x k) from) c.args.key refl)
-    c.args.slots.now.entries c.args.sent.now.items (λ s found. none_is_some s (sym nothing ∙ found)))
+    subst (λ m. SlotsAlone service node (Message_comes message) c.args.slots.now.entries m.entries c.args.turn.now.sent.items c.args.turn.now.sent.items) (sym c.get_mut.follows.holds-at-none)
+    (same_alone service node (Message_comes message) c.args.key (only_its_key node message c.args.key (λ k. logged_names message.body kept log.says k ∙ ap (λ x. key_eq x k) log.client))
+    (its_key node message c.args.key log.boot (λ k. logged_names message.body kept log.says k ∙ ap (λ x. key_eq x k) log.client) c.args.key refl)
+    c.args.slots.now.entries c.args.turn.now.sent.items (λ s found. none_is_some s (sym nothing ∙ found)))

@@ -10,11 +10,11 @@ use Rattle.server_node.proofs.hearing.tell_slot.Goals as goal
 
 pub returns-in-Live-clause-turn : goal.returns-in-Live-clause-turn
 returns-in-Live-clause-turn g c = on_ok_weaker c.tell_live.result
-    (λ h stage place kept boot says from st.
+    (λ h kept log stage place near st.
     let service = machine (g.S.Service.started c.args.who.kind) g.S.Service.after in
-    live_hears service (node_of c.args.who stage) (message_of c.args.m.now) boot c.args.key kept says from place c.in-Live.conn c.tell_live.new.conn c.args.sent.now.items c.tell_live.new.sent.items
+    live_hears service (node_of c.args.who stage) (message_of c.args.m.now) log.boot c.args.key kept log.says log.client place c.in-Live.conn c.tell_live.new.conn c.args.turn.now.sent.items c.tell_live.new.turn.sent.items
     (subst (λ s. SlotStands service (node_of c.args.who stage) c.args.key s place) c.in-Live.is st)
-    (λ p key stands. h p kept boot says from key stands)) c.tell_live.ensures.turn
+    (λ p key stands. h kept log p tt key stands)) c.tell_live.ensures.turn
 
 pub returns-in-Pending-clause-alone : goal.returns-in-Pending-clause-alone
-returns-in-Pending-clause-alone g c = quiet_for c.args.key c.args.sent.now.items
+returns-in-Pending-clause-alone g c = quiet_for c.args.key c.args.turn.now.sent.items

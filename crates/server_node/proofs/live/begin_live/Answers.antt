@@ -19,7 +19,7 @@ returns-clause-turn g c =
     let numbers = numbers_of c.args.key c.args.numbers in
     let may : MayOpen numbers = record { least = c.requires.least; most = c.requires.most; cisn = search rules; sisn = search rules } in
     let started = subst (λ old. Starts g.S.Service.after old c.start.new.self c.start.new.out.segments c.start.new.out.messages) c.in_ok-conn.ensures.state c.in_ok-start.ensures.turn in
-    goes service c.args.who.local c.args.who.boot Becomes_live (point_opened numbers) c.start.new.self c.args.key c.start.new.out.segments c.start.new.out.messages c.args.sent.now.items c.send_all.new.sent.items refl
+    goes service c.args.who.local c.args.who.boot Becomes_live (point_opened numbers) c.start.new.self c.args.key c.start.new.out.segments c.start.new.out.messages c.args.turn.now.sent.items c.send_all.new.turn.sent.items refl
     c.in_ok-send_all.ensures.sent
     (first_acts service c.args.who.local c.args.who.boot numbers c.start.new.self c.start.new.out.segments c.start.new.out.messages
     (record {
@@ -35,7 +35,7 @@ returns-clause-alone g c =
     let fits : FitsKey c.args.key = record { ip = search rules; port = search rules } in
     let numbers = numbers_of c.args.key c.args.numbers in
     let started = subst (λ old. Starts g.S.Service.after old c.start.new.self c.start.new.out.segments c.start.new.out.messages) c.in_ok-conn.ensures.state c.in_ok-start.ensures.turn in
-    first_own g.S.Service.after c.args.who.boot c.args.who.local numbers (g.S.Service.started c.args.who.kind) c.start.new.self c.start.new.out.segments c.start.new.out.messages c.args.sent.now.items c.send_all.new.sent.items fits started
+    first_own g.S.Service.after c.args.who.boot c.args.who.local numbers (g.S.Service.started c.args.who.kind) c.start.new.self c.start.new.out.segments c.start.new.out.messages c.args.turn.now.sent.items c.send_all.new.turn.sent.items fits started
     c.in_ok-send_all.ensures.sent
 
 pub returns-clause-sound : goal.returns-clause-sound

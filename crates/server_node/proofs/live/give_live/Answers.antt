@@ -22,8 +22,8 @@ returns-clause-turn g c =
     let sound = rw c.in_ok-on_packet.was at c.on_packet.ensures.sound in
     let told = rw c.in_ok-on_packet.was at c.on_packet.ensures.turn in
     all_ok c.send_all.result c.send_all.ensures.sent c.send_all.ensures.segments c.send_all.ensures.messages
-    (λ sent segments messages stage p segment reads near key st.
-    goes service c.args.who.local c.args.who.boot (Comes segment) p c.on_packet.new.self c.args.key c.on_packet.new.out.segments c.on_packet.new.out.messages c.args.sent.now.items c.send_all.new.sent.items key sent
+    (λ sent segments messages segment reads p near key st.
+    goes service c.args.who.local c.args.who.boot (Comes segment) p c.on_packet.new.self c.args.key c.on_packet.new.out.segments c.on_packet.new.out.messages c.args.turn.now.sent.items c.send_all.new.turn.sent.items key sent
     (segment_acts service c.args.who.local c.args.who.boot p c.args.conn.now c.on_packet.new.self c.args.packet.now segment c.on_packet.new.out.segments c.on_packet.new.out.messages small (record { at = (ip, port); up = boot; client = subst FitsKey (sym key) fits; sent = segments; told = messages }) c.requires.sound.sound sound told reads near st))
 
 pub on_packet-requires-clause-sound : goal.on_packet-requires-clause-sound
@@ -37,7 +37,7 @@ returns-clause-alone g c =
     let told = came_ok c.args.packet.now (λ segment. Receives g.S.Service.after segment c.args.conn.now c.on_packet.new.self c.on_packet.new.out.segments c.on_packet.new.out.messages) c.requires.accepted
     (rw c.in_ok-on_packet.was at c.on_packet.ensures.turn) in
     all_ok c.send_all.result c.send_all.ensures.sent c.send_all.ensures.segments c.send_all.ensures.messages
-    (λ sent segments messages. leaves_for c.args.key c.args.conn.now c.on_packet.new.out.segments c.on_packet.new.out.messages c.args.sent.now.items c.send_all.new.sent.items fits c.requires.sound.client
+    (λ sent segments messages. leaves_for c.args.key c.args.conn.now c.on_packet.new.out.segments c.on_packet.new.out.messages c.args.turn.now.sent.items c.send_all.new.turn.sent.items fits c.requires.sound.client
     (receives_own service told.0 c.args.conn.now c.on_packet.new.self c.on_packet.new.out.segments c.on_packet.new.out.messages told.1) sent)
 
 pub returns-clause-sound : goal.returns-clause-sound

@@ -21,7 +21,7 @@ returns-clause-turn g c =
     let told = rw c.in_ok-start.was at c.start.ensures.turn in
     all_ok c.send_all.result c.send_all.ensures.sent c.send_all.ensures.segments c.send_all.ensures.messages
     (λ sent segments messages p key st.
-    goes service c.args.who.local c.args.who.boot Becomes_live p c.start.new.self c.args.key c.start.new.out.segments c.start.new.out.messages c.args.sent.now.items c.send_all.new.sent.items key sent
+    goes service c.args.who.local c.args.who.boot Becomes_live p c.start.new.self c.args.key c.start.new.out.segments c.start.new.out.messages c.args.turn.now.sent.items c.send_all.new.turn.sent.items key sent
     (start_acts service c.args.who.local c.args.who.boot p c.args.conn.now c.start.new.self c.start.new.out.segments c.start.new.out.messages (record { at = (ip, port); up = boot; client = subst FitsKey (sym key) fits; sent = segments; told = messages }) c.requires.sound sound told st))
 
 pub returns-clause-number : goal.returns-clause-number
@@ -45,7 +45,7 @@ returns-clause-alone g c =
     let fits : FitsKey c.args.key = record { ip = search rules; port = search rules } in
     let told = rw c.in_ok-start.was at c.start.ensures.turn in
     all_ok c.send_all.result c.send_all.ensures.sent c.send_all.ensures.segments c.send_all.ensures.messages
-    (λ sent segments messages. leaves_for c.args.key c.args.conn.now c.start.new.out.segments c.start.new.out.messages c.args.sent.now.items c.send_all.new.sent.items fits c.requires.client
+    (λ sent segments messages. leaves_for c.args.key c.args.conn.now c.start.new.out.segments c.start.new.out.messages c.args.turn.now.sent.items c.send_all.new.turn.sent.items fits c.requires.client
     (starts_own g.S.Service.after c.args.conn.now c.start.new.self c.start.new.out.segments c.start.new.out.messages told) sent)
 
 pub returns-clause-sound : goal.returns-clause-sound

@@ -19,9 +19,9 @@ returns-clause-turn g c =
     let sound = rw c.in_ok-on_msg.was at c.on_msg.ensures.sound in
     let told = rw c.in_ok-on_msg.was at c.on_msg.ensures.turn in
     all_ok c.send_all.result c.send_all.ensures.sent c.send_all.ensures.segments c.send_all.ensures.messages
-    (λ sent segments messages p kept boot_is says from key st.
-    goes service c.args.who.local c.args.who.boot (Logged kept) p c.on_msg.new.self c.args.key c.on_msg.new.out.segments c.on_msg.new.out.messages c.args.sent.now.items c.send_all.new.sent.items key sent
-    (message_acts service c.args.who.local c.args.who.boot p c.args.conn.now c.on_msg.new.self c.args.m.now.body kept c.on_msg.new.out.segments c.on_msg.new.out.messages (record { at = (ip, port); up = boot; client = subst FitsKey (sym key) fits; sent = segments; told = messages }) c.requires.sound.sound sound says told st))
+    (λ sent segments messages kept log p near key st.
+    goes service c.args.who.local c.args.who.boot (Logged kept) p c.on_msg.new.self c.args.key c.on_msg.new.out.segments c.on_msg.new.out.messages c.args.turn.now.sent.items c.send_all.new.turn.sent.items key sent
+    (message_acts service c.args.who.local c.args.who.boot p c.args.conn.now c.on_msg.new.self c.args.m.now.body kept c.on_msg.new.out.segments c.on_msg.new.out.messages (record { at = (ip, port); up = boot; client = subst FitsKey (sym key) fits; sent = segments; told = messages }) c.requires.sound.sound sound log.says told st))
 
 pub on_msg-requires-clause-sound : goal.on_msg-requires-clause-sound
 unfolding IsSound
@@ -32,7 +32,7 @@ returns-clause-alone g c =
     let fits : FitsKey c.args.key = record { ip = search rules; port = search rules } in
     let told = rw c.in_ok-on_msg.was at c.on_msg.ensures.turn in
     all_ok c.send_all.result c.send_all.ensures.sent c.send_all.ensures.segments c.send_all.ensures.messages
-    (λ sent segments messages. leaves_for c.args.key c.args.conn.now c.on_msg.new.out.segments c.on_msg.new.out.messages c.args.sent.now.items c.send_all.new.sent.items fits c.requires.sound.client
+    (λ sent segments messages. leaves_for c.args.key c.args.conn.now c.on_msg.new.out.segments c.on_msg.new.out.messages c.args.turn.now.sent.items c.send_all.new.turn.sent.items fits c.requires.sound.client
     (told_own g.S.Service.after c.args.m.now.body c.args.conn.now c.on_msg.new.self c.on_msg.new.out.segments c.on_msg.new.out.messages told) sent)
 
 pub returns-clause-sound : goal.returns-clause-sound

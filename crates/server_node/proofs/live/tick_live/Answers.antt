@@ -17,8 +17,8 @@ returns-clause-turn g c =
     let boot : c.args.who.boot < 2 ^ 64 = search rules in
     let fits : FitsKey c.args.key = record { ip = search rules; port = search rules } in
     all_ok c.send_all.result c.send_all.ensures.sent c.send_all.ensures.segments c.send_all.ensures.messages
-    (λ sent segments messages stage p key st.
-    goes service c.args.who.local c.args.who.boot Ticks p c.on_tick.new.self c.args.key c.on_tick.new.out.segments c.on_tick.new.out.messages c.args.sent.now.items c.send_all.new.sent.items key sent
+    (λ sent segments messages p near key st.
+    goes service c.args.who.local c.args.who.boot Ticks p c.on_tick.new.self c.args.key c.on_tick.new.out.segments c.on_tick.new.out.messages c.args.turn.now.sent.items c.send_all.new.turn.sent.items key sent
     (tick_acts service c.args.who.local c.args.who.boot p c.args.conn.now c.on_tick.new.self c.on_tick.new.out.segments c.on_tick.new.out.messages (record { at = (ip, port); up = boot; client = subst FitsKey (sym key) fits; sent = segments; told = messages }) c.requires.sound c.on_tick.ensures.sound c.on_tick.ensures.turn st))
 
 pub on_tick-requires-clause-sound : goal.on_tick-requires-clause-sound
@@ -29,7 +29,7 @@ pub returns-clause-alone : goal.returns-clause-alone
 returns-clause-alone g c =
     let fits : FitsKey c.args.key = record { ip = search rules; port = search rules } in
     all_ok c.send_all.result c.send_all.ensures.sent c.send_all.ensures.segments c.send_all.ensures.messages
-    (λ sent segments messages. leaves_for c.args.key c.args.conn.now c.on_tick.new.out.segments c.on_tick.new.out.messages c.args.sent.now.items c.send_all.new.sent.items fits c.requires.client
+    (λ sent segments messages. leaves_for c.args.key c.args.conn.now c.on_tick.new.out.segments c.on_tick.new.out.messages c.args.turn.now.sent.items c.send_all.new.turn.sent.items fits c.requires.client
     (ticks_own c.args.conn.now c.on_tick.new.self c.on_tick.new.out.segments c.on_tick.new.out.messages c.on_tick.ensures.turn) sent)
 
 pub returns-clause-sound : goal.returns-clause-sound

@@ -15,7 +15,7 @@ returns-then-not-branch-clause-turn g c = λ standing count fetched st sound.
     c.in_ok-on_answer.field-0 c.args.fetching c.on_answer.new.self) c.requires.own.kind (c.in_ok-on_answer.ensures.law fetched before) in
     let unfit : c.in_ok-on_answer.field-0 ≡ false = search (rules, tests) in
     answers_nothing (machine (g.S.Service.started c.args.who.kind) g.S.Service.after) c.args.who standing (message_of c.args.m.now) count fetched c.args.fetching c.on_answer.new.self
-    c.in_ok-on_answer.field-0 c.args.sent.now.items unfit c.requires.own st leads
+    c.in_ok-on_answer.field-0 c.args.turn.now.sent.items unfit c.requires.own st leads
 
 pub returns-then-not-branch-clause-sound : goal.returns-then-not-branch-clause-sound
 returns-then-not-branch-clause-sound g c =
@@ -37,7 +37,7 @@ returns-clause-turn g c =
     let leads = subst (λ k. AnswerLeads (machine (g.S.Service.started k) g.S.Service.after) (fetched_then c.args.fetching.boot c.args.fetching.count (message_of c.args.m.now) fetched)
     c.in_ok-on_answer.field-0 c.args.fetching c.on_answer.new.self) c.requires.own.kind (c.in_ok-on_answer.ensures.law fetched before) in
     answers_on (machine (g.S.Service.started c.args.who.kind) g.S.Service.after) c.args.who standing (message_of c.args.m.now) count fetched c.args.fetching c.on_answer.new.self
-    c.in_ok-on_answer.field-0 after c.args.sent.now.items c.go_on.new.sent.items fit same c.requires.own st sound leads (λ more stands sounds. h standing count more stands sounds))
+    c.in_ok-on_answer.field-0 after c.args.turn.now.sent.items c.go_on.new.turn.sent.items fit same c.requires.own st sound leads (λ more stands sounds. h standing count more stands sounds))
     c.go_on.ensures.turn
 
 pub returns-then-not-branch-clause-alone : goal.returns-then-not-branch-clause-alone
@@ -48,7 +48,7 @@ returns-then-not-branch-clause-alone g c = λ standing count fetched st.
     c.in_ok-on_answer.field-0 c.args.fetching c.on_answer.new.self) c.requires.own.kind (c.in_ok-on_answer.ensures.law fetched before) in
     let unfit : c.in_ok-on_answer.field-0 ≡ false = search (rules, tests) in
     answers_alone (machine (g.S.Service.started c.args.who.kind) g.S.Service.after) c.args.who standing (message_of c.args.m.now) count fetched c.args.fetching c.on_answer.new.self
-    c.in_ok-on_answer.field-0 (stage.Fetching c.on_answer.new.self) c.args.sent.now.items c.args.sent.now.items same c.requires.own st leads
+    c.in_ok-on_answer.field-0 (stage.Fetching c.on_answer.new.self) c.args.turn.now.sent.items c.args.turn.now.sent.items same c.requires.own st leads
     (λ e. (refl, refl)) (λ e more stands. absurd (true≢false (sym e ∙ unfit)))
 
 pub returns-clause-alone : goal.returns-clause-alone
@@ -61,6 +61,6 @@ returns-clause-alone g c =
     let leads = subst (λ k. AnswerLeads (machine (g.S.Service.started k) g.S.Service.after) (fetched_then c.args.fetching.boot c.args.fetching.count (message_of c.args.m.now) fetched)
     c.in_ok-on_answer.field-0 c.args.fetching c.on_answer.new.self) c.requires.own.kind (c.in_ok-on_answer.ensures.law fetched before) in
     answers_alone (machine (g.S.Service.started c.args.who.kind) g.S.Service.after) c.args.who standing (message_of c.args.m.now) count fetched c.args.fetching c.on_answer.new.self
-    c.in_ok-on_answer.field-0 after c.args.sent.now.items c.go_on.new.sent.items same c.requires.own st leads
+    c.in_ok-on_answer.field-0 after c.args.turn.now.sent.items c.go_on.new.turn.sent.items same c.requires.own st leads
     (λ e. absurd (true≢false (sym fit ∙ e))) (λ e more stands. h standing count more stands))
     c.go_on.ensures.alone

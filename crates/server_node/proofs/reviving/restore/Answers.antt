@@ -18,7 +18,7 @@ returns-in-Ended-clause-turn g c =
     on_ok_weaker c.add_slot.result
     (λ added standing f fetched first is sound fresh r.
     let here = subst (RestoredIs service f) c.in-Ended.is is in
-    ended_more service (node_of c.args.who standing) f fetched c.in-Ended.key c.args.serving.now (record { next = c.args.serving.now.next; slots = c.add_slot.new.slots }) first c.args.sent.now.items
+    ended_more service (node_of c.args.who standing) f fetched c.in-Ended.key c.args.serving.now (record { next = c.args.serving.now.next; slots = c.add_slot.new.slots }) first c.args.turn.now.sent.items
     here.0 here.1 fresh r refl added) c.add_slot.ensures.added
 
 pub returns-in_ok-slot-in-Live-clause-turn : goal.returns-in_ok-slot-in-Live-clause-turn
@@ -29,7 +29,7 @@ returns-in_ok-slot-in-Live-clause-turn g c =
     let here = subst (RestoredIs service f) c.in-Live.is is in
     let key : c.head.result.key ≡ f.head.key = ap (λ h. h.key) c.head.ensures ∙ ap (λ h. h.key) here.1.head in
     live_more service (node_of c.args.who standing) f fetched c.head.result.key c.args.serving.now (record { next = c.add-serving.result; slots = c.add_slot-in-Live.new.slots }) c.in_ok-slot-in-Live.slot
-    first c.args.sent.now.items c.revive.new.sent.items here.0 key fresh r (c.in_ok-slot-in-Live.ensures.turn standing (entry_in f) here.1 (sound here.0)) c.add-serving.ensures added
+    first c.args.turn.now.sent.items c.revive.new.turn.sent.items here.0 key fresh r (c.in_ok-slot-in-Live.ensures.turn standing (entry_in f) here.1 (sound here.0)) c.add-serving.ensures added
     (c.in_ok-slot-in-Live.ensures.number (g.S.Service.started c.args.who.kind) (entry_in f) here.1 (sound here.0)))
     c.add_slot-in-Live.ensures.added
 
@@ -51,7 +51,7 @@ returns-in-Ended-clause-alone g c =
     on_ok_weaker c.add_slot.result
     (λ added standing f fetched first is fresh r.
     let here = subst (RestoredIs service f) c.in-Ended.is is in
-    ended_alone service (node_of c.args.who standing) f fetched c.in-Ended.key c.args.serving.now (record { next = c.args.serving.now.next; slots = c.add_slot.new.slots }) first c.args.sent.now.items
+    ended_alone service (node_of c.args.who standing) f fetched c.in-Ended.key c.args.serving.now (record { next = c.args.serving.now.next; slots = c.add_slot.new.slots }) first c.args.turn.now.sent.items
     here.0 here.1 fresh r added) c.add_slot.ensures.added
 
 pub returns-in_ok-slot-in-Live-clause-alone : goal.returns-in_ok-slot-in-Live-clause-alone
@@ -63,6 +63,6 @@ returns-in_ok-slot-in-Live-clause-alone g c =
     let here = subst (RestoredIs service f) c.in-Live.is is in
     let key : c.head.result.key ≡ f.head.key = ap (λ h. h.key) c.head.ensures ∙ ap (λ h. h.key) here.1.head in
     live_alone service (node_of c.args.who standing) f fetched c.head.result.key c.args.serving.now (record { next = c.add-serving.result; slots = c.add_slot-in-Live.new.slots }) c.in_ok-slot-in-Live.slot
-    first c.args.sent.now.items c.revive.new.sent.items here.0 key fresh r (subst (λ h. IsOnlyFor h.key c.args.sent.now.items c.revive.new.sent.items) (sym c.head.ensures) alone)
+    first c.args.turn.now.sent.items c.revive.new.turn.sent.items here.0 key fresh r (subst (λ h. IsOnlyFor h.key c.args.turn.now.sent.items c.revive.new.turn.sent.items) (sym c.head.ensures) alone)
     (λ sound. c.in_ok-slot-in-Live.ensures.turn standing (entry_in f) here.1 sound) added)
     c.add_slot-in-Live.ensures.added

@@ -19,11 +19,11 @@ loop-entry-init g c =
       subst (AllSound c.args.who) (sym c.new.ensures.empty) tt,
       (refl, search rules),
       λ standing fetched st distinct sound. restores_none service (AreRestored service (node_of c.args.who standing)) fetched c.args.entries
-          (record { next = record { 0 = c.args.who.isn }; slots = c.new.result }) c.args.sent.now.items st
-          (restored_none service (node_of c.args.who standing) (record { next = record { 0 = c.args.who.isn }; slots = c.new.result }) c.args.sent.now.items number c.new.ensures.empty),
+          (record { next = record { 0 = c.args.who.isn }; slots = c.new.result }) c.args.turn.now.sent.items st
+          (restored_none service (node_of c.args.who standing) (record { next = record { 0 = c.args.who.isn }; slots = c.new.result }) c.args.turn.now.sent.items number c.new.ensures.empty),
       λ standing fetched st distinct. restores_none service (RestoredAlone service (node_of c.args.who standing)) fetched c.args.entries
-          (record { next = record { 0 = c.args.who.isn }; slots = c.new.result }) c.args.sent.now.items st
-          (none_restored service (node_of c.args.who standing) (record { next = record { 0 = c.args.who.isn }; slots = c.new.result }) c.args.sent.now.items c.new.ensures.empty),
+          (record { next = record { 0 = c.args.who.isn }; slots = c.new.result }) c.args.turn.now.sent.items st
+          (none_restored service (node_of c.args.who standing) (record { next = record { 0 = c.args.who.isn }; slots = c.new.result }) c.args.turn.now.sent.items c.new.ensures.empty),
     )
 
 pub loop-entry-preserved : goal.loop-entry-preserved
@@ -34,21 +34,21 @@ loop-entry-preserved g c =
       told.sound,
       told.counted c.loop-entry.invariant.1,
       λ standing fetched st distinct sound. restores_more service (AreRestored service (node_of c.args.who standing)) fetched c.loop-entry.entries c.advance.new.self c.in-Some.entry c.loop-entry.serving c.restore.new.serving
-          c.args.sent.now.items c.loop-entry.sent.items c.restore.new.sent.items (c.loop-entry.invariant.2 standing fetched st distinct sound)
+          c.args.turn.now.sent.items c.loop-entry.turn.sent.items c.restore.new.turn.sent.items (c.loop-entry.invariant.2 standing fetched st distinct sound)
           (λ left waits. subst (λ o. FirstIs service left o c.advance.new.self) c.in-Some.is (c.advance.ensures.law fresh left waits))
-          (λ front f done there whole is sofar. told.turn standing f done c.args.sent.now.items is (λ live. sound_at service front f done (subst (AreSound service) there sound) live whole)
+          (λ front f done there whole is sofar. told.turn standing f done c.args.turn.now.sent.items is (λ live. sound_at service front f done (subst (AreSound service) there sound) live whole)
           (distinct_at front f done (subst AreDistinct there distinct)) sofar),
       λ standing fetched st distinct. restores_more service (RestoredAlone service (node_of c.args.who standing)) fetched c.loop-entry.entries c.advance.new.self c.in-Some.entry c.loop-entry.serving c.restore.new.serving
-          c.args.sent.now.items c.loop-entry.sent.items c.restore.new.sent.items (c.loop-entry.invariant.3 standing fetched st distinct)
+          c.args.turn.now.sent.items c.loop-entry.turn.sent.items c.restore.new.turn.sent.items (c.loop-entry.invariant.3 standing fetched st distinct)
           (λ left waits. subst (λ o. FirstIs service left o c.advance.new.self) c.in-Some.is (c.advance.ensures.law fresh left waits))
-          (λ front f done there whole is sofar. told.alone standing f done c.args.sent.now.items is (distinct_at front f done (subst AreDistinct there distinct)) sofar),
+          (λ front f done there whole is sofar. told.alone standing f done c.args.turn.now.sent.items is (distinct_at front f done (subst AreDistinct there distinct)) sofar),
     )
 
 pub returns-clause-turn : goal.returns-clause-turn
 returns-clause-turn g c = λ standing fetched st distinct sound.
     let fresh = g.S.Service.started c.args.who.kind in
     let service = machine fresh g.S.Service.after in
-    restores_all service (AreRestored service (node_of c.args.who standing)) fetched c.loop-entry.entries c.advance.new.self c.loop-entry.serving c.args.sent.now.items c.loop-entry.sent.items
+    restores_all service (AreRestored service (node_of c.args.who standing)) fetched c.loop-entry.entries c.advance.new.self c.loop-entry.serving c.args.turn.now.sent.items c.loop-entry.turn.sent.items
     (c.loop-entry.invariant.2 standing fetched st distinct sound)
     (λ left waits. subst (λ o. FirstIs service left o c.advance.new.self) c.in_default.is (c.advance.ensures.law fresh left waits))
 
@@ -56,6 +56,6 @@ pub returns-clause-alone : goal.returns-clause-alone
 returns-clause-alone g c = λ standing fetched st distinct.
     let fresh = g.S.Service.started c.args.who.kind in
     let service = machine fresh g.S.Service.after in
-    restores_all service (RestoredAlone service (node_of c.args.who standing)) fetched c.loop-entry.entries c.advance.new.self c.loop-entry.serving c.args.sent.now.items c.loop-entry.sent.items
+    restores_all service (RestoredAlone service (node_of c.args.who standing)) fetched c.loop-entry.entries c.advance.new.self c.loop-entry.serving c.args.turn.now.sent.items c.loop-entry.turn.sent.items
     (c.loop-entry.invariant.3 standing fetched st distinct)
     (λ left waits. subst (λ o. FirstIs service left o c.advance.new.self) c.in_default.is (c.advance.ensures.law fresh left waits))

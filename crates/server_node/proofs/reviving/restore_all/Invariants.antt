@@ -19,10 +19,10 @@ invariant-loop-entry g l = AllSound l.who l.serving.slots.entries
     × ((standing : Stage) (fetched : List Fetched) → StandsWhole (machine (g.S.Service.started l.who.kind) g.S.Service.after) (reverse fetched) l.initial.entries → AreDistinct fetched
     → AreSound (machine (g.S.Service.started l.who.kind) g.S.Service.after) fetched
     → RestoresOn (machine (g.S.Service.started l.who.kind) g.S.Service.after) (AreRestored (machine (g.S.Service.started l.who.kind) g.S.Service.after) (node_of l.who standing))
-    fetched l.entries l.serving l.initial.sent.items l.sent.items)
+    fetched l.entries l.serving l.initial.turn.sent.items l.turn.sent.items)
     × ((standing : Stage) (fetched : List Fetched) → StandsWhole (machine (g.S.Service.started l.who.kind) g.S.Service.after) (reverse fetched) l.initial.entries → AreDistinct fetched
     → RestoresOn (machine (g.S.Service.started l.who.kind) g.S.Service.after) (RestoredAlone (machine (g.S.Service.started l.who.kind) g.S.Service.after) (node_of l.who standing))
-    fetched l.entries l.serving l.initial.sent.items l.sent.items)
+    fetched l.entries l.serving l.initial.turn.sent.items l.turn.sent.items)
 
 abbrev pub decreases-loop-entry : goal.decreases-loop-entry
 decreases-loop-entry g l = length l.entries

@@ -24,7 +24,7 @@ returns-clause-turn g c = λ standing e re sound.
     let key : c.head.result.key ≡ e.key = ap (λ h. h.key) c.head.ensures ∙ ap (λ h. h.key) re.head in
     let local : c.hand_on-conn.result.local ≡ c.args.who.local = ap (λ x. x.local) c.hand_on-conn.ensures.value ∙ ap (λ x. x.local) c.in-Ok.ensures.value in
     let boot : c.hand_on-conn.result.boot ≡ c.args.who.boot = ap (λ x. x.boot) c.hand_on-conn.ensures.value ∙ ap (λ x. x.boot) c.in-Ok.ensures.value in
-    live_again (machine fresh g.S.Service.after) (node_of c.args.who standing) e c.hand_on-conn.result c.start_live.new.conn c.args.sent.now.items c.start_live.new.sent.items
+    live_again (machine fresh g.S.Service.after) (node_of c.args.who standing) e c.hand_on-conn.result c.start_live.new.conn c.args.turn.now.sent.items c.start_live.new.turn.sent.items
     local boot is.segments.1 (c.hand_on-conn.ensures.law fresh e c.args.isn.0 is) (λ p same begins. told p (same ∙ sym key) begins)
 
 pub returns-clause-number : goal.returns-clause-number
@@ -42,4 +42,4 @@ returns-clause-sound g c =
 pub returns-clause-alone : goal.returns-clause-alone
 returns-clause-alone g c =
     let alone = rw c.in_ok-start_live.was at c.start_live.ensures.alone in
-    subst (λ h. IsOnlyFor h.key c.args.sent.now.items c.start_live.new.sent.items) c.head.ensures alone
+    subst (λ h. IsOnlyFor h.key c.args.turn.now.sent.items c.start_live.new.turn.sent.items) c.head.ensures alone

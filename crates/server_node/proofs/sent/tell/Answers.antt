@@ -24,6 +24,6 @@ returns c =
     ap (take c.put_msg-len.result) c.put_msg-len.ensures.bytes ∙ front_told message _ c.put_msg-len.result c.requires.sendable.spellable c.put_msg-len.ensures.length in
     on_ok_weaker c.send.result
     (λ kept. record {
-      wires = kept ∙ ap (λ bytes. c.args.sent.now.items ++ record { from = The_server; to = The_logger; bytes = bytes } ∷ []) text;
+      wires = kept ∙ ap (λ bytes. c.args.turn.now.sent.items ++ record { from = The_server; to = The_logger; bytes = bytes } ∷ []) text;
       spelled = ((c.requires.sendable.spellable, subst AreBytes (sym c.requires.bare) tt), tt);
     }) c.send.ensures

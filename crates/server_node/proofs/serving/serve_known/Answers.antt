@@ -1,9 +1,11 @@
-use Rattle.std.proofs.Common.{rules, ◌≡◌, true}
+use Rattle.std.proofs.Common.{rules, ◌≡◌, true, refl}
 use Rattle.std.specs.Map.{lookup}
 use Rattle.std.specs.Option.{is_some}
 use Rattle.std.proofs.lemmas.Result.{on_ok_weaker}
 use Rattle.ft_io.specs.Key.{key_eq}
 use Rattle.server_trait.specs.Service.{machine}
+use Rattle.segment_codec.specs.Value.{segment_of}
+use Rattle.ft_model.specs.Network.{source_of}
 use Rattle.server_node.specs.Identity.{node_of}
 use Rattle.server_node.proofs.Knocking.{counted_by}
 use Rattle.server_node.proofs.Served.{known_packet}
@@ -12,21 +14,23 @@ use Rattle.server_node.proofs.serving.serve_known.Goals as goal
 
 pub returns-clause-turn : goal.returns-clause-turn
 returns-clause-turn g c =
+    let segment = segment_of c.args.segment.now in
     let told = rw c.in_ok-give_known.was at c.give_known.ensures.turn in
-    let there : is_some (lookup (key_eq c.args.key) c.args.serving.now.slots.entries) ≡ true = search rules in
+    let there : is_some (lookup (key_eq (source_of segment)) c.args.serving.now.slots.entries) ≡ true = search rules in
     on_ok_weaker c.ask_again.result
-    (λ asked stage opened places segment reads headed from mine near st.
-    known_packet (machine (g.S.Service.started c.args.who.kind) g.S.Service.after) (node_of c.args.who stage) segment c.args.key opened places c.args.serving.now _
-    c.args.sent.now.items c.give_known.new.sent.items c.ask_again.new.sent.items from there st st.number (told stage places segment reads from mine near st.slots)
-    (asked stage segment headed from mine)) c.ask_again.ensures.asked
+    (λ asked mine stage opened places near st.
+    known_packet (machine (g.S.Service.started c.args.who.kind) g.S.Service.after) (node_of c.args.who stage) segment (source_of segment) opened places c.args.serving.now _
+    c.args.turn.now.sent.items c.give_known.new.turn.sent.items c.ask_again.new.turn.sent.items refl there st st.number (told mine stage places near st.slots)
+    (asked mine stage)) c.ask_again.ensures.asked
 
 pub returns-clause-alone : goal.returns-clause-alone
 returns-clause-alone g c =
+    let segment = segment_of c.args.segment.now in
     let told = rw c.in_ok-give_known.was at c.give_known.ensures.alone in
-    let there : is_some (lookup (key_eq c.args.key) c.args.serving.now.slots.entries) ≡ true = search rules in
+    let there : is_some (lookup (key_eq (source_of segment)) c.args.serving.now.slots.entries) ≡ true = search rules in
     let count = counted_by c.args.who.isn c.args.serving.now.next.0 (search rules) c.requires.counted in
     on_ok_weaker c.ask_again.result
-    (λ asked stage segment reads headed from mine.
-    known_alone (machine (g.S.Service.started c.args.who.kind) g.S.Service.after) (node_of c.args.who stage) segment c.args.key c.args.serving.now _
-    c.args.sent.now.items c.give_known.new.sent.items c.ask_again.new.sent.items count.0 count.1 from there c.ask_again.ensures.unique (told stage segment reads from mine)
-    (asked stage segment headed from mine)) c.ask_again.ensures.asked
+    (λ asked mine stage.
+    known_alone (machine (g.S.Service.started c.args.who.kind) g.S.Service.after) (node_of c.args.who stage) segment (source_of segment) c.args.serving.now _
+    c.args.turn.now.sent.items c.give_known.new.turn.sent.items c.ask_again.new.turn.sent.items count.0 count.1 refl there c.ask_again.ensures.unique (told mine stage)
+    (asked mine stage)) c.ask_again.ensures.asked

@@ -9,10 +9,10 @@ use Rattle.server_node.proofs.slot.tick_slot.Goals as goal
 
 pub returns-in-Live-clause-turn : goal.returns-in-Live-clause-turn
 returns-in-Live-clause-turn g c = on_ok_weaker c.tick_live.result
-    (λ h stage place st.
+    (λ h stage place near st.
     let service = machine (g.S.Service.started c.args.who.kind) g.S.Service.after in
     live_ticks service (node_of c.args.who stage) c.args.key place _ _ _ _
-    (subst (λ s. SlotStands service (node_of c.args.who stage) c.args.key s place) c.in-Live.is st) (λ p key s. h stage p key s)) c.tick_live.ensures.turn
+    (subst (λ s. SlotStands service (node_of c.args.who stage) c.args.key s place) c.in-Live.is st) (λ p key s. h p tt key s)) c.tick_live.ensures.turn
 
 pub returns-in-Pending-clause-alone : goal.returns-in-Pending-clause-alone
-returns-in-Pending-clause-alone g c = quiet_for c.args.key c.args.sent.now.items
+returns-in-Pending-clause-alone g c = quiet_for c.args.key c.args.turn.now.sent.items

@@ -12,6 +12,6 @@ abbrev pub invariant-loop-i : goal.invariant-loop-i
 invariant-loop-i g l = (length l.slots.entries ≡ l.i-end)
     × AllSound l.who l.slots.entries
     × ((stage : Stage) (places : List Place) → AllStand (machine (g.S.Service.started l.who.kind) g.S.Service.after) (node_of l.who stage) l.initial.slots.entries places
-    → FirstGo (machine (g.S.Service.started l.who.kind) g.S.Service.after) (node_of l.who stage) Tick_comes places l.i l.slots.entries l.initial.sent.items l.sent.items)
-    × ((stage : Stage) → (told : List Wire) × (l.sent.items ≡ l.initial.sent.items ++ told)
+    → FirstGo (machine (g.S.Service.started l.who.kind) g.S.Service.after) (node_of l.who stage) Tick_comes places l.i l.slots.entries l.initial.turn.sent.items l.turn.sent.items)
+    × ((stage : Stage) → (told : List Wire) × (l.turn.sent.items ≡ l.initial.turn.sent.items ++ told)
     × TicksUpTo (machine (g.S.Service.started l.who.kind) g.S.Service.after) (node_of l.who stage) l.i l.initial.slots.entries l.slots.entries told)

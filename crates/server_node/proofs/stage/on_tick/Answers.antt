@@ -1,4 +1,4 @@
-use Rattle.std.proofs.Common.{◌∷◌, [], refl, subst, sym}
+use Rattle.std.proofs.Common.{◌∷◌, [], refl, subst, sym, true≢false}
 use Rattle.server_trait.specs.Service.{machine}
 use Rattle.seq_arith.specs.Message.Body.{HelloMsg}
 use Rattle.ft_model.specs.Connection.{told_by}
@@ -6,50 +6,54 @@ use Rattle.ft_model.specs.Lawful.{asked}
 use Rattle.ft_model.specs.Restart.{wanted}
 use Rattle.ft_model.specs.Node.Input.{Tick_comes}
 use Rattle.server_node.specs.declared.stage.Stage.TheVariants as stage
-use Rattle.server_node.specs.Alone.{Others, Alone}
+use Rattle.server_node.specs.Apart.{TurnsApart}
 use Rattle.server_node.specs.Identity.{node_of}
 use Rattle.server_node.specs.Openings.{ArePut}
 use Rattle.server_node.specs.ServingStage.{ServingGoes}
 use Rattle.server_node.specs.Stages.{StageStands}
 use Rattle.server_node.proofs.Resuming.{ticks_on}
-use Rattle.server_node.proofs.StagedApart.{serving_others, serving_alone}
+use Rattle.server_node.proofs.StagedApart.{serving_apart}
 use Rattle.server_node.proofs.Staged.{asks_on, serves_on}
 use Rattle.server_node.proofs.stage.on_tick.Goals as goal
 
 pub returns-in_ok-send_hello-in-Asking-clause-turn : goal.returns-in_ok-send_hello-in-Asking-clause-turn
-returns-in_ok-send_hello-in-Asking-clause-turn g c = λ standing st.
+returns-in_ok-send_hello-in-Asking-clause-turn g c = λ standing near sound st.
     let service = machine (g.S.Service.started c.args.who.kind) g.S.Service.after in
     let told = rw c.in_ok-send_hello-in-Asking.was at c.send_hello.ensures in
-    asks_on service c.args.who standing Tick_comes (told_by c.args.who.boot HelloMsg ∷ []) c.send_hello.new.sent.items
+    asks_on service c.args.who standing Tick_comes (told_by c.args.who.boot HelloMsg ∷ []) c.send_hello.new.turn.sent.items
     (subst (λ s. StageStands service (node_of c.args.who standing) s) c.in-Asking.is st) refl (refl, refl)
-    (subst (λ xs. ArePut (told_by c.args.who.boot HelloMsg ∷ []) xs c.send_hello.new.sent.items) c.requires.empty told)
+    (subst (λ xs. ArePut (told_by c.args.who.boot HelloMsg ∷ []) xs c.send_hello.new.turn.sent.items) c.requires.empty told)
 
 pub returns-in_ok-serve_tick-in-Serving-clause-turn : goal.returns-in_ok-serve_tick-in-Serving-clause-turn
-returns-in_ok-serve_tick-in-Serving-clause-turn g c = λ standing st.
+returns-in_ok-serve_tick-in-Serving-clause-turn g c = λ standing near sound st.
     let service = machine (g.S.Service.started c.args.who.kind) g.S.Service.after in
     let told = rw c.in_ok-serve_tick-in-Serving.was at c.serve_tick.ensures.turn in
-    serves_on service c.args.who standing Tick_comes c.in-Serving.serving c.serve_tick.new.serving c.serve_tick.new.sent.items refl
+    serves_on service c.args.who standing Tick_comes c.in-Serving.serving c.serve_tick.new.serving c.serve_tick.new.turn.sent.items refl
     (subst (λ s. StageStands service (node_of c.args.who standing) s) c.in-Serving.is st)
-    (λ opened places is stands. subst (λ xs. ServingGoes service (node_of c.args.who standing) Tick_comes opened places c.serve_tick.new.serving xs c.serve_tick.new.sent.items) c.requires.empty
-    (told standing opened places stands))
+    (λ opened places is stands. subst (λ xs. ServingGoes service (node_of c.args.who standing) Tick_comes opened places c.serve_tick.new.serving xs c.serve_tick.new.turn.sent.items) c.requires.empty
+    (told standing opened places tt stands))
 
 pub returns-in_ok-ask-in-Fetching-clause-turn : goal.returns-in_ok-ask-in-Fetching-clause-turn
-returns-in_ok-ask-in-Fetching-clause-turn g c = λ standing st.
+returns-in_ok-ask-in-Fetching-clause-turn g c = λ standing near sound st.
     let service = machine (g.S.Service.started c.args.who.kind) g.S.Service.after in
     let told = rw c.in_ok-ask-in-Fetching.was at c.ask.ensures.turn in
-    ticks_on service c.args.who standing c.in-Fetching.fetching c.ask.new.sent.items (subst (λ s. StageStands service (node_of c.args.who standing) s) c.in-Fetching.is st)
-    (λ count fetched stands. subst (λ xs. ArePut (asked (node_of c.args.who standing) (wanted count fetched)) xs c.ask.new.sent.items) c.requires.empty (told standing count fetched stands))
+    ticks_on service c.args.who standing c.in-Fetching.fetching c.ask.new.turn.sent.items (subst (λ s. StageStands service (node_of c.args.who standing) s) c.in-Fetching.is st)
+    (λ count fetched stands. subst (λ xs. ArePut (asked (node_of c.args.who standing) (wanted count fetched)) xs c.ask.new.turn.sent.items) c.requires.empty (told standing count fetched stands))
 
-pub returns-in_ok-serve_tick-in-Serving-clause-others : goal.returns-in_ok-serve_tick-in-Serving-clause-others
-returns-in_ok-serve_tick-in-Serving-clause-others g c = λ standing.
+pub returns-in_ok-send_hello-in-Asking-clause-apart : goal.returns-in_ok-send_hello-in-Asking-clause-apart
+returns-in_ok-send_hello-in-Asking-clause-apart g c =
+    subst (λ s. TurnsApart (machine (g.S.Service.started c.args.who.kind) g.S.Service.after) c.args.who Tick_comes s stage.Asking c.send_hello.new.turn.sent.items) (sym c.in-Asking.is)
+    (record { others = λ standing. tt; untouched = λ standing nobody. absurd (true≢false (sym nobody)); alone = λ standing. tt; restarts = λ standing. tt })
+
+pub returns-in_ok-ask-in-Fetching-clause-apart : goal.returns-in_ok-ask-in-Fetching-clause-apart
+returns-in_ok-ask-in-Fetching-clause-apart g c =
+    subst (λ s. TurnsApart (machine (g.S.Service.started c.args.who.kind) g.S.Service.after) c.args.who Tick_comes s (stage.Fetching c.in-Fetching.fetching) c.ask.new.turn.sent.items) (sym c.in-Fetching.is)
+    (record { others = λ standing. tt; untouched = λ standing nobody. absurd (true≢false (sym nobody)); alone = λ standing. tt; restarts = λ standing. tt })
+
+pub returns-in_ok-serve_tick-in-Serving-clause-apart : goal.returns-in_ok-serve_tick-in-Serving-clause-apart
+returns-in_ok-serve_tick-in-Serving-clause-apart g c =
     let service = machine (g.S.Service.started c.args.who.kind) g.S.Service.after in
     let told = rw c.in_ok-serve_tick-in-Serving.was at c.serve_tick.ensures.alone in
-    subst (λ s. Others (node_of c.args.who standing) (Tick_comes) s (stage.Serving c.serve_tick.new.serving) c.serve_tick.new.sent.items) (sym c.in-Serving.is)
-    (serving_others service (node_of c.args.who standing) (Tick_comes) c.in-Serving.serving c.serve_tick.new.serving c.args.sent.now.items c.serve_tick.new.sent.items c.requires.empty (told standing))
-
-pub returns-in_ok-serve_tick-in-Serving-clause-alone : goal.returns-in_ok-serve_tick-in-Serving-clause-alone
-returns-in_ok-serve_tick-in-Serving-clause-alone g c = λ standing.
-    let service = machine (g.S.Service.started c.args.who.kind) g.S.Service.after in
-    let told = rw c.in_ok-serve_tick-in-Serving.was at c.serve_tick.ensures.alone in
-    subst (λ s. Alone service (node_of c.args.who standing) (Tick_comes) s (stage.Serving c.serve_tick.new.serving) c.serve_tick.new.sent.items) (sym c.in-Serving.is)
-    (serving_alone service (node_of c.args.who standing) (Tick_comes) c.in-Serving.serving c.serve_tick.new.serving c.args.sent.now.items c.serve_tick.new.sent.items c.requires.empty (told standing))
+    subst (λ s. TurnsApart service c.args.who Tick_comes s (stage.Serving c.serve_tick.new.serving) c.serve_tick.new.turn.sent.items) (sym c.in-Serving.is)
+    (serving_apart service c.args.who Tick_comes c.in-Serving.serving c.serve_tick.new.serving c.args.turn.now.sent.items c.serve_tick.new.turn.sent.items c.requires.empty told
+    (λ standing nobody. absurd (true≢false (sym nobody))) (λ standing. tt))

@@ -16,7 +16,7 @@ returns-then-boot-self-clause-ends g c = λ v st p.
 
 pub returns-clause-done : goal.returns-clause-done
 returns-clause-done g c = λ v st p.
-    let kept_is : c.keep_sent.new.packets ≡ with_wires c.args.self.now.keys.items c.args.self.now.packets c.in_ok-node.node.sent.items = cc (c.in_ok-keep_sent.ensures) in
-    boots (machine (g.S.Service.started c.args.self.now.kind) g.S.Service.after) (kept c.args.self.now) _ v c.args.boot c.args.isn (server_of c.in_ok-node.node) c.in_ok-node.node.sent.items st
+    let kept_is : c.keep_sent.new.packets ≡ with_wires c.args.self.now.keys.items c.args.self.now.packets c.in_ok-node.node.turn.sent.items = cc (c.in_ok-keep_sent.ensures) in
+    boots (machine (g.S.Service.started c.args.self.now.kind) g.S.Service.after) (kept c.args.self.now) _ v c.args.boot c.args.isn (server_of c.in_ok-node.node) c.in_ok-node.node.turn.sent.items st
     (not_there server_of c.args.self.now.node (cc)) (omega arith) (omega arith) c.in_ok-node.ensures.stands c.in_ok-node.ensures.hello c.in_ok-node.ensures.same
     (ap (λ ps. record (kept c.args.self.now) { packets = ps; boot = c.args.boot; node = Some (server_of c.in_ok-node.node) }) kept_is)

@@ -16,7 +16,7 @@ returns-in_ok-keep_sent-in-Ok-clause-done g c = λ v st p comes.
     let turned = rw c.in-Ok.is at c.turn.follows.holds-at-none in
     let kept_is : c.keep_sent.new.packets ≡ with_wires c.args.self.now.keys.items c.args.self.now.packets c.in-Ok.sent.now = cc (c.in_ok-keep_sent-in-Ok.ensures) in
     server_goes_at (machines g.S.Service.started g.S.Service.after) (kept c.args.self.now) _ v (input_of c.args.input) (server_of c.in-Some.node) (server_of c.turn.follows.lender-at-none) c.in-Ok.sent.now
-    st p comes (ap (option_map server_of) c.in-Some.is) turned.0 turned.2
+    st p comes (ap (option_map server_of) c.in-Some.is) turned.who turned.turn
     (ap (λ ps. record (kept c.args.self.now) { packets = ps; node = Some (server_of c.turn.follows.lender-at-none) }) kept_is)
 
 pub returns-in-Err-Fenced-clause-ends : goal.returns-in-Err-Fenced-clause-ends

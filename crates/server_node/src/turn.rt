@@ -1,0 +1,32 @@
+//! What each function of a turn is given.
+
+ghost use Rattle.std.specs.Prelude.{◌≡◌, [], IfOk};
+
+use crate::outgoing::Outgoing;
+use ft_io::NoMemory;
+use std::alloc::Global;
+use wrapped_conn::TurnOut;
+
+/// What each function of a turn is given. Both rooms are kept from turn to turn.
+#[derive(Drop)]
+pub(crate) struct Turn {
+    /// Gives the memory.
+    pub alloc: Global,
+    /// What the connection whose turn it is gives out.
+    pub out: TurnOut,
+    /// What the turn sends, in order.
+    pub sent: Outgoing,
+}
+
+impl Turn {
+    /// Nothing is sent yet.
+    pub(crate) fn new(alloc: Global) -> Result<Turn, NoMemory>
+        ensures { IfOk result (λ turn. turn.sent.items ≡ []) }
+    {
+        Ok(Turn {
+            alloc,
+            out: TurnOut::new(alloc)?,
+            sent: Outgoing::new(alloc),
+        })
+    }
+}
