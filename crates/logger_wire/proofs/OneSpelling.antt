@@ -1,5 +1,5 @@
 -- A header with its checksum and a body after it are the one spelling of a message, and it is read.
-use Rattle.std.proofs.Common.{◌≡◌, ℕ, ◌≤◌, ◌+◌, ◌-◌, List, [], ◌∷◌, ◌++◌, length, length-append, length-drop, length-take-le, take, drop, ap, refl, sym, arith, append_assoc, append-nil, zero-add, ◌∙◌}
+use Rattle.std.proofs.Common.{◌≡◌, ℕ, ◌≤◌, ◌+◌, ◌-◌, List, [], ◌∷◌, ◌++◌, length, length-append, length-drop, length-take-le, take, drop, ap, refl, sym, arith, append_assoc, zero-add, ◌∙◌}
 use Rattle.std.specs.Prelude.{Ok}
 use Rattle.std.proofs.lemmas.List.{drop-drop, drop-take, take-append-drop}
 use Rattle.std.proofs.Math.Seq.{take-append_seam, take-append-add, take-add, drop-append_seam, drop-append-add}
@@ -39,13 +39,13 @@ pub not_longer : (message : Message) → IsSpellable message → message_length 
 not_longer message spellable =
     let within = (bounded (kind_of message.body) (message_length message.body) spellable.size).1 in omega (arith, room (kind_of message.body))
 
-pub header_put : (kind : Kind) (boot len : ℕ) (out : List ℕ) → 16 ≤ length out
-    → put 8 (number_bytes 8 boot) (put 6 (number_bytes 2 0) (put 4 (number_bytes 2 len) (put 0 (70 ∷ 84 ∷ 1 ∷ kind_number kind ∷ []) out)))
-    ≡ put 0 (header kind len 0 boot) out
+abbrev header_steps : Kind → (boot len : ℕ) → List ℕ → List ℕ
+header_steps kind boot len out =
+    put 8 (number_bytes 8 boot) (put 6 (number_bytes 2 0) (put 4 (number_bytes 2 len) (put 2 (1 ∷ kind_number kind ∷ []) (put 0 (number_bytes 2 18004) out))))
+
+pub header_put : (kind : Kind) (boot len : ℕ) (out : List ℕ) → 16 ≤ length out → header_steps kind boot len out ≡ put 0 (header kind len 0 boot) out
 unfolding put header two number_bytes
-header_put kind boot len out long =
-    by_cells 16 (λ b. put 8 (number_bytes 8 boot) (put 6 (number_bytes 2 0) (put 4 (number_bytes 2 len) (put 0 (70 ∷ 84 ∷ 1 ∷ kind_number kind ∷ []) b)))
-    ≡ put 0 (header kind len 0 boot) b) out long refl
+header_put kind boot len out long = by_cells 16 (λ b. header_steps kind boot len b ≡ put 0 (header kind len 0 boot) b) out long refl
 
 check_put : (kind : Kind) (boot len check : ℕ) (out : List ℕ) → 16 ≤ length out
     → put 6 (number_bytes 2 check) (put 0 (header kind len 0 boot) out) ≡ header kind len check boot ++ drop 16 out
@@ -107,10 +107,6 @@ finished kind boot len check out blank long within blank_is check_is =
     ap (λ n. put 0 (Text n) out) count ∙ ap (λ xs. put 0 xs out) with_sum ∙ put_first (header kind len check boot ++ behind) out len size
     ∙ append_assoc (header kind len check boot) behind (drop len out) ∙ ap (λ xs. header kind len check boot ++ xs) (behind_header len out long)
     )
-
-pub nothing_body : (out : List ℕ) → put 16 (body_bytes bodies.HelloMsg) out ≡ out
-unfolding body_bytes put
-nothing_body out = rw (append-nil (take 16 out)) (take-append-drop 16 out)
 
 -- bytes after the fields are summed where they come from
 pub behind_summed : (kind : Kind) (boot len at : ℕ) (behind out blank : List ℕ) → 16 ≤ at → at + length behind ≤ length out

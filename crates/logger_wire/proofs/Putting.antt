@@ -1,106 +1,78 @@
--- Fields written one by one, each at its constant place, are the bytes that the grammar gives them.
-use Rattle.std.proofs.Common.{◌≡◌, ℕ, ◌≤◌, ◌+◌, List, length, refl, ap, arith, ◌∙◌}
-use Rattle.ft_io.specs.declared.Key.{Key}
-use Rattle.seq_arith.specs.declared.kinds.Kind.TheVariants as kinds
-use Rattle.seq_arith.specs.Message.{EntryHead, Kept, Numbers, Part}
-use Rattle.seq_arith.specs.Message.{Body as bodies}
-use Rattle.seq_arith.specs.MessageGrammar.{number_bytes, numbers_bytes, fields_of, numbers_of, flag}
+-- Numbers written one after the other, each where the one before it ends, are the bytes that the grammar gives them.
+use Rattle.std.proofs.Common.{◌≡◌, ℕ, ◌≤◌, ◌+◌, List, [], ◌∷◌, ◌++◌, length, length-append, length-drop, length-take-le, take, drop, refl, ap, sym, arith, append-nil, add-zero, ◌∙◌}
+use Rattle.std.proofs.lemmas.List.{take-append-drop}
+use Rattle.seq_arith.specs.declared.kinds.Field.{Field}
+use Rattle.seq_arith.specs.Message.{Body}
+use Rattle.seq_arith.specs.MessageGrammar.{width, number_bytes, numbers_bytes, fields_length, fields_of, behind_at, kind_of, numbers_of, behind_of, message_length}
+use Rattle.seq_arith.proofs.MessageSpelling.{number_length}
 use Rattle.logger_wire.specs.Spelling.{put, body_bytes}
-use Rattle.logger_wire.proofs.Placing.{by_cells, put_put}
+use Rattle.logger_wire.proofs.OneSpelling.{size}
+use Rattle.logger_wire.proofs.Placing.{put_put}
 
-abbrev count_steps : ℕ → List ℕ → List ℕ
-count_steps n out =
-    put 16 (number_bytes 2 n) out
+abbrev pub put_numbers : List Field → (at : ℕ) → (numbers out : List ℕ) → List ℕ
+put_numbers [] at numbers out = out
+put_numbers (field ∷ rest) at [] out = out
+put_numbers (field ∷ rest) at (n ∷ numbers) out = put_numbers rest (at + width field) numbers (put at (number_bytes (width field) n) out)
 
-pub count_put : (n : ℕ) (out : List ℕ) → 18 ≤ length out → count_steps n out ≡ put 16 (body_bytes (bodies.SummaryMsg n)) out
-unfolding put number_bytes body_bytes
-count_put n out long = by_cells 18 (λ b. count_steps n b ≡ put 16 (body_bytes (bodies.SummaryMsg n)) b) out long refl
+put_nothing : (at : ℕ) (out : List ℕ) → put at [] out ≡ out
+unfolding put
+put_nothing at out = rw (append-nil (take at out), add-zero at) (take-append-drop at out)
 
-abbrev stale_steps : ℕ → List ℕ → List ℕ
-stale_steps n out =
-    put 16 (number_bytes 8 n) out
+put_length : (at : ℕ) (new out : List ℕ) → at + length new ≤ length out → length (put at new out) ≡ length out
+unfolding put
+put_length at new out room =
+    let whole : length (put at new out) ≡ length ((take at out ++ new) ++ drop (at + length new) out) = refl
+    in omega (
+      arith,
+      whole,
+      length-append (take at out ++ new) (drop (at + length new) out),
+      length-append (take at out) new,
+      length-take-le at out (omega arith),
+      length-drop (at + length new) out,
+    )
 
-pub stale_put : (n : ℕ) (out : List ℕ) → 24 ≤ length out → stale_steps n out ≡ put 16 (body_bytes (bodies.StaleMsg n)) out
-unfolding put number_bytes body_bytes
-stale_put n out long = by_cells 24 (λ b. stale_steps n b ≡ put 16 (body_bytes (bodies.StaleMsg n)) b) out long refl
+fits : (fields : List Field) (numbers : List ℕ) → length (numbers_bytes fields numbers) ≤ fields_length fields
+fits [] numbers = omega arith
+fits (field ∷ rest) [] = omega arith
+fits (field ∷ rest) (n ∷ numbers) =
+    omega (arith, length-append (number_bytes (width field) n) (numbers_bytes rest numbers), number_length (width field) n, fits rest numbers)
 
-abbrev key_steps : Key → List ℕ → List ℕ
-key_steps key out =
-    put 20 (number_bytes 2 key.port) (put 16 (number_bytes 4 key.ip) out)
+pub numbers_put : (fields : List Field) (at : ℕ) (numbers out : List ℕ) → at + fields_length fields ≤ length out
+    → put_numbers fields at numbers out ≡ put at (numbers_bytes fields numbers) out
+numbers_put [] at numbers out room = sym (put_nothing at out)
+numbers_put (field ∷ rest) at [] out room = sym (put_nothing at out)
+numbers_put (field ∷ rest) at (n ∷ numbers) out room =
+    let first : List ℕ = number_bytes (width field) n
+    in let long : length first ≡ width field = number_length (width field) n
+    in let same : length (put at first out) ≡ length out = put_length at first out (omega arith)
+    in numbers_put rest (at + width field) numbers (put at first out) (omega arith)
+    ∙ put_put at (at + width field) first (numbers_bytes rest numbers) out (omega arith) (omega (arith, fits rest numbers))
 
-pub key_put : (key : Key) (out : List ℕ) → 22 ≤ length out → key_steps key out ≡ put 16 (body_bytes (bodies.DoneMsg key)) out
-unfolding put number_bytes body_bytes
-key_put key out long = by_cells 22 (λ b. key_steps key b ≡ put 16 (body_bytes (bodies.DoneMsg key)) b) out long refl
+-- the numbers of a body, behind the header
+abbrev pub fields_bytes : Body → List ℕ
+fields_bytes body = numbers_bytes (fields_of (kind_of body)) (numbers_of body)
 
-abbrev read_steps : Key → ℕ → ℕ → List ℕ → List ℕ
-read_steps key index len out =
-    put 26 (number_bytes 2 len) (put 22 (number_bytes 4 index) (put 20 (number_bytes 2 key.port) (put 16 (number_bytes 4 key.ip) out)))
+abbrev pub put_fields : Body → List ℕ → List ℕ
+put_fields body out = put_numbers (fields_of (kind_of body)) 16 (numbers_of body) out
 
-pub read_put : (key : Key) (index len : ℕ) (out : List ℕ) → 28 ≤ length out
-    → read_steps key index len out ≡ put 16 (body_bytes (bodies.ReadMsg key index len)) out
-unfolding put number_bytes body_bytes
-read_put key index len out long = by_cells 28 (λ b. read_steps key index len b ≡ put 16 (body_bytes (bodies.ReadMsg key index len)) b) out long refl
+pub fields_put : (body : Body) (out : List ℕ) → behind_at (kind_of body) ≤ length out → put_fields body out ≡ put 16 (fields_bytes body) out
+fields_put body out room = numbers_put (fields_of (kind_of body)) 16 (numbers_of body) out room
 
-abbrev opening_steps : Numbers → List ℕ → List ℕ
-opening_steps n out =
-    put 30 (number_bytes 2 n.mss) (put 26 (number_bytes 4 n.sisn) (put 22 (number_bytes 4 n.cisn) (put 20 (number_bytes 2 n.key.port) (
-    put 16 (number_bytes 4 n.key.ip) out))))
+-- and all that follows the header: nothing more, or bytes behind the numbers
+pub fields_are_all : (body : Body) (out : List ℕ) → behind_of body ≡ [] → behind_at (kind_of body) ≤ length out → put_fields body out ≡ put 16 (body_bytes body) out
+unfolding body_bytes
+fields_are_all body out nothing room =
+    fields_put body out room
+    ∙ ap (λ xs. put 16 xs out) (sym (ap (λ xs. fields_bytes body ++ xs) nothing ∙ append-nil (fields_bytes body)))
 
-pub opening_put : (n : Numbers) (out : List ℕ) → 32 ≤ length out → opening_steps n out ≡ put 16 (body_bytes (bodies.OpenMsg n)) out
-unfolding put number_bytes body_bytes
-opening_put n out long = by_cells 32 (λ b. opening_steps n b ≡ put 16 (body_bytes (bodies.OpenMsg n)) b) out long refl
+pub behind_put : (body : Body) (out : List ℕ) → message_length body ≤ length out
+    → put (behind_at (kind_of body)) (behind_of body) (put 16 (fields_bytes body) out) ≡ put 16 (body_bytes body) out
+unfolding body_bytes
+behind_put body out room =
+    let ends : behind_at (kind_of body) ≡ 16 + length (fields_bytes body) = omega (arith, size body, length-append (fields_bytes body) (behind_of body))
+    in put_put 16 (behind_at (kind_of body)) (fields_bytes body) (behind_of body) out ends room
 
-abbrev kept_steps : Kept → List ℕ → List ℕ
-kept_steps k out =
-    put 27 (number_bytes 4 k.reads) (put 26 (number_bytes 1 (flag k.fin)) (put 22 (number_bytes 4 k.length) (put 20 (number_bytes 2 k.key.port) (
-    put 16 (number_bytes 4 k.key.ip) out))))
-
-pub kept_put : (k : Kept) (out : List ℕ) → 31 ≤ length out → kept_steps k out ≡ put 16 (body_bytes (bodies.StableMsg k)) out
-unfolding put number_bytes body_bytes
-kept_put k out long = by_cells 31 (λ b. kept_steps k b ≡ put 16 (body_bytes (bodies.StableMsg k)) b) out long refl
-
-abbrev entry_steps : ℕ → EntryHead → List ℕ → List ℕ
-entry_steps index e out =
-    put 44 (number_bytes 4 e.acked) (put 40 (number_bytes 4 e.reads) (put 39 (number_bytes 1 (flag e.done)) (put 38 (number_bytes 1 (flag e.fin)) (
-    put 34 (number_bytes 4 e.length) (put 32 (number_bytes 2 e.mss) (put 28 (number_bytes 4 e.sisn) (put 24 (number_bytes 4 e.cisn) (
-    put 22 (number_bytes 2 e.key.port) (put 18 (number_bytes 4 e.key.ip) (put 16 (number_bytes 2 index) out))))))))))
-
-pub entry_put : (index : ℕ) (e : EntryHead) (out : List ℕ) → 48 ≤ length out → entry_steps index e out ≡ put 16 (body_bytes (bodies.EntryMsg index e)) out
-unfolding put number_bytes body_bytes
-entry_put index e out long = by_cells 48 (λ b. entry_steps index e b ≡ put 16 (body_bytes (bodies.EntryMsg index e)) b) out long refl
-
--- the fields of a Data, and with its bytes
-abbrev pub part_numbers : Part → List ℕ
-part_numbers p = numbers_bytes (fields_of kinds.Data) (numbers_of (bodies.DataMsg p))
-
-abbrev part_steps : Part → List ℕ → List ℕ
-part_steps p out =
-    put 30 (number_bytes 1 (flag p.fin)) (put 26 (number_bytes 4 p.acked) (put 22 (number_bytes 4 p.offset) (put 20 (number_bytes 2 p.key.port) (
-    put 16 (number_bytes 4 p.key.ip) out))))
-
-pub part_fields_put : (p : Part) (out : List ℕ) → 31 ≤ length out → part_steps p out ≡ put 16 (part_numbers p) out
-unfolding put number_bytes
-part_fields_put p out long = by_cells 31 (λ b. part_steps p b ≡ put 16 (part_numbers p) b) out long refl
-
-pub part_put : (p : Part) (out : List ℕ) → 31 + length p.bytes ≤ length out
-    → put 31 p.bytes (put 16 (part_numbers p) out) ≡ put 16 (body_bytes (bodies.DataMsg p)) out
-unfolding number_bytes body_bytes
-part_put p out long = put_put 16 31 (part_numbers p) p.bytes out refl long
-
--- a key and where bytes or lengths start, and these after them
-abbrev start_numbers : Key → ℕ → List ℕ
-start_numbers key start = numbers_bytes (fields_of kinds.Bytes) (numbers_of (bodies.BytesMsg key start))
-
-abbrev start_steps : Key → ℕ → List ℕ → List ℕ
-start_steps key start out =
-    put 22 (number_bytes 4 start) (put 20 (number_bytes 2 key.port) (put 16 (number_bytes 4 key.ip) out))
-
-start_put : (key : Key) (start : ℕ) (out : List ℕ) → 26 ≤ length out → start_steps key start out ≡ put 16 (start_numbers key start) out
-unfolding put number_bytes
-start_put key start out long = by_cells 26 (λ b. start_steps key start b ≡ put 16 (start_numbers key start) b) out long refl
-
-pub from_put : (key : Key) (start : ℕ) (behind out : List ℕ) → 26 + length behind ≤ length out
-    → put 26 behind (start_steps key start out) ≡ put 16 (body_bytes (bodies.PartMsg key start behind)) out
-unfolding number_bytes body_bytes
-from_put key start behind out long =
-    ap (put 26 behind) (start_put key start out (omega arith)) ∙ put_put 16 26 (start_numbers key start) behind out refl long
+pub body_put : (body : Body) (out : List ℕ) → message_length body ≤ length out
+    → put (behind_at (kind_of body)) (behind_of body) (put_fields body out) ≡ put 16 (body_bytes body) out
+body_put body out room =
+    ap (put (behind_at (kind_of body)) (behind_of body)) (fields_put body out (omega arith)) ∙ behind_put body out room

@@ -1,11 +1,11 @@
 -- What the code's records say, as plain records of messages.
-use Rattle.std.specs.Prelude.{ℕ, List, [], ◌∷◌, length, drop, Result, Ok, Err}
+use Rattle.std.specs.Prelude.{ℕ, List, ◌∷◌, length, drop, ◌+◌, Result, Ok, Err}
 use Rattle.seq_arith.specs.declared.kinds.BadMsg.{BadMsg}
 use Rattle.seq_arith.specs.declared.kinds.Kind.TheVariants as kinds
 use Rattle.seq_arith.specs.declared.kinds.Field.{Field}
 use Rattle.seq_arith.specs.declared.kinds.Field.TheVariants as fields
 use Rattle.seq_arith.specs.Message as said
-use Rattle.seq_arith.specs.MessageGrammar.{with_key, opening, kept, fields_of, all_in_range, opening_in, kept_in, entry_in, part_in}
+use Rattle.seq_arith.specs.MessageGrammar.{width, behind_at, opening, kept, fields_of, all_in_range, opening_in, kept_in, entry_in, part_in}
 use Rattle.logger_wire.specs.Places.{numbers_at, checked}
 use Rattle.logger_wire.specs.declared.records.Numbers.{Numbers}
 use Rattle.logger_wire.specs.declared.records.Kept.{Kept}
@@ -43,15 +43,16 @@ kept_at bytes = let numbers = numbers_at kept 16 bytes in checked (all_in_range 
 
 -- the fields of an entry after its place
 abbrev pub entry_fields : List Field
-entry_fields = with_key (fields.Initial ∷ fields.Initial ∷ fields.Mss ∷ fields.Length ∷ fields.Flag ∷ fields.Flag ∷ fields.Units ∷ fields.Units ∷ [])
+entry_fields = drop 1 (fields_of kinds.Entry)
 
 abbrev pub entry_at : List ℕ → Result said.EntryHead BadMsg
-entry_at bytes = let numbers = numbers_at entry_fields 18 bytes in checked (all_in_range 0 0 entry_fields numbers) (entry_in (0 ∷ numbers))
+entry_at bytes =
+    let numbers = numbers_at entry_fields (16 + width fields.Place) bytes in checked (all_in_range 0 0 entry_fields numbers) (entry_in (0 ∷ numbers))
 
 abbrev pub part_at : List ℕ → Result said.Part BadMsg
 part_at bytes =
     let numbers = numbers_at (fields_of kinds.Data) 16 bytes
-    in let behind = drop 31 bytes
+    in let behind = drop (behind_at kinds.Data) bytes
     in checked (all_in_range 0 (length behind) (fields_of kinds.Data) numbers) (part_in numbers behind)
 
 -- what a reading says

@@ -4,12 +4,21 @@ ghost use Rattle.std.specs.Prelude.{◌≡◌, ◌≤◌, ◌<◌, ◌+◌, ◌=
 ghost use Rattle.seq_arith.specs.MessageGrammar.{is_in_range};
 ghost use Rattle.logger_wire.specs.Places.{number_at, checked};
 
+use crate::layout::{KEY, PORT};
 use byteorder::{BigEndian, ByteOrder};
 use ft_io::Key;
 use seq_arith::{BadMsg, Field};
 
+/// How many entries a log may have.
+const ENTRIES: u16 = 64;
 /// The longest stream, in bytes.
 const STREAM: u32 = 1 << 24;
+/// The smallest and the largest segment size, in bytes.
+const SHORTEST_SEGMENT: u16 = 64;
+
+pub(crate) const LONGEST_SEGMENT: u16 = 1460;
+/// The longest read, in bytes.
+pub(crate) const LONGEST_READ: u16 = 2048;
 
 #[tactic(auto, using(crate::proofs::Numbers::byte_is), unfolding(crate::specs::Places::number_at))]
 pub(crate) fn byte(bytes: &[u8], at: usize) -> u8
@@ -55,13 +64,13 @@ pub(crate) fn behind(bytes: &[u8], at: usize) -> &[u8]
 
 /// A key: its address, and then its port.
 pub(crate) fn key(bytes: &[u8], at: usize) -> Key
-    requires { at + 6 ≤ length bytes.now }
+    requires { at + KEY ≤ length bytes.now }
     ensures ip { result.ip ≡ number_at 4 at bytes.now }
-    ensures port { result.port ≡ number_at 2 (at + 4) bytes.now }
+    ensures port { result.port ≡ number_at 2 (at + PORT) bytes.now }
 {
     Key {
         ip: long(bytes, at),
-        port: word(bytes, at + 4),
+        port: word(bytes, at + PORT),
     }
 }
 
@@ -71,7 +80,11 @@ pub(crate) fn count(bytes: &[u8], at: usize) -> Result<u16, BadMsg>
     ensures { result ≡ checked (is_in_range 0 0 Field.Count (number_at 2 at bytes.now)) (number_at 2 at bytes.now) }
 {
     let n = word(bytes, at);
-    if n <= 64 { Ok(n) } else { Err(BadMsg::Field) }
+    if n <= ENTRIES {
+        Ok(n)
+    } else {
+        Err(BadMsg::Field)
+    }
 }
 
 /// The place of a log entry.
@@ -80,7 +93,11 @@ pub(crate) fn place(bytes: &[u8], at: usize) -> Result<u16, BadMsg>
     ensures { result ≡ checked (is_in_range 0 0 Field.Place (number_at 2 at bytes.now)) (number_at 2 at bytes.now) }
 {
     let n = word(bytes, at);
-    if n <= 63 { Ok(n) } else { Err(BadMsg::Field) }
+    if n < ENTRIES {
+        Ok(n)
+    } else {
+        Err(BadMsg::Field)
+    }
 }
 
 pub(crate) fn segment_size(bytes: &[u8], at: usize) -> Result<u16, BadMsg>
@@ -88,7 +105,7 @@ pub(crate) fn segment_size(bytes: &[u8], at: usize) -> Result<u16, BadMsg>
     ensures { result ≡ checked (is_in_range 0 0 Field.Mss (number_at 2 at bytes.now)) (number_at 2 at bytes.now) }
 {
     let n = word(bytes, at);
-    if 64 <= n && n <= 1460 {
+    if SHORTEST_SEGMENT <= n && n <= LONGEST_SEGMENT {
         Ok(n)
     } else {
         Err(BadMsg::Field)
@@ -100,7 +117,11 @@ pub(crate) fn read_length(bytes: &[u8], at: usize) -> Result<u16, BadMsg>
     ensures { result ≡ checked (is_in_range 0 0 Field.ReadLength (number_at 2 at bytes.now)) (number_at 2 at bytes.now) }
 {
     let n = word(bytes, at);
-    if n <= 2048 { Ok(n) } else { Err(BadMsg::Field) }
+    if n <= LONGEST_READ {
+        Ok(n)
+    } else {
+        Err(BadMsg::Field)
+    }
 }
 
 /// A count of logged bytes.

@@ -12,15 +12,13 @@ pub use seq_arith::BadMsg;
 pub use writing::{checksum_of_both, put_msg, write_msg};
 
 mod fields;
+mod layout;
 mod places;
 mod reading;
 mod records;
 #[cfg(test)]
 mod tests;
 mod writing;
-
-/// The version of every message.
-const VERSION: u8 = 1;
 
 /// A message, with the boot number of the server that sends it or that it answers.
 #[derive(Clone, Copy, Debug)]

@@ -4,6 +4,7 @@ ghost use Rattle.std.specs.Prelude.{◌≡◌, ◌≤◌, ◌<◌, ◌+◌, ◌+
 ghost use Rattle.seq_arith.specs.MessageGrammar.{number_bytes, flag};
 ghost use Rattle.logger_wire.specs.Spelling.{put};
 
+use crate::layout::{KEY, PORT};
 use byteorder::{BigEndian, ByteOrder};
 use ft_io::Key;
 
@@ -44,9 +45,9 @@ pub(crate) fn put_huge(out: &mut [u8], at: usize, n: u64)
 
 /// A key: its address, and then its port.
 pub(crate) fn put_key(out: &mut [u8], at: usize, key: Key)
-    requires { at + 6 ≤ length out.old }
-    ensures { out.new ≡ put (at + 4) (number_bytes 2 key.port) (put at (number_bytes 4 key.ip) out.old) }
+    requires { at + KEY ≤ length out.old }
+    ensures { out.new ≡ put (at + PORT) (number_bytes 2 key.port) (put at (number_bytes 4 key.ip) out.old) }
 {
     put_long(out, at, key.ip);
-    put_word(out, at + 4, key.port);
+    put_word(out, at + PORT, key.port);
 }

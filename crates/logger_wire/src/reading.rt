@@ -10,15 +10,20 @@ ghost use Rattle.logger_wire.specs.Value.{seen, IsSendable};
 ghost use Rattle.logger_wire.specs.Places.{opened, placed, IsPlain};
 
 use crate::fields::{
-    behind, count, flag, huge, key, long, newer, offset, place, read_length, segment_size, units,
+    LONGEST_READ, LONGEST_SEGMENT, behind, count, flag, huge, key, long, newer, offset, place,
+    read_length, segment_size, units,
+};
+use crate::layout::{
+    AFTER_COUNT, AFTER_KEY, AFTER_LENGTH, AFTER_NEWER, AFTER_START, BOOT_AT, HEADER, KIND_AT,
+    LENGTH_AT, MAGIC, MAGIC_AT, VERSION, VERSION_AT,
 };
 use crate::records::{EntryHead, Kept, Numbers, Part};
-use crate::{Body, Msg, VERSION};
+use crate::{Body, Msg};
 use byteorder::{BigEndian, ByteOrder};
 use seq_arith::{BadMsg, Kind, Sum16};
 
-/// What every message begins with: "FT".
-const MAGIC: u16 = 0x4654;
+/// The most bytes that a Part brings, and that the lengths of a Lens take.
+const MOST_LOGGED: usize = 1024;
 
 /// Reads a message, or says which test of the grammar it fails first. It copies none of its bytes.
 #[tactic(auto, unfolding(seq_arith::specs::MessageGrammar::reading))]
@@ -27,16 +32,16 @@ pub fn read_msg(bytes: &[u8]) -> Result<Msg<'_>, BadMsg>
     // What is read may be sent.
     ensures sendable { IfOk result (λ msg. IsSendable msg) }
 {
-    if bytes.len() < 16 {
+    if bytes.len() < HEADER {
         return Err(BadMsg::Short);
     }
-    if word_at(bytes, 0) != MAGIC {
+    if word_at(bytes, MAGIC_AT) != MAGIC {
         return Err(BadMsg::Magic);
     }
-    if bytes[2] != VERSION {
+    if bytes[VERSION_AT] != VERSION {
         return Err(BadMsg::Version);
     }
-    match kind_of_number(bytes[3]) {
+    match kind_of_number(bytes[KIND_AT]) {
         Some(kind) => read_kind(kind, bytes),
         None => Err(BadMsg::Kind),
     }
@@ -91,7 +96,7 @@ fn kind_of_number(number: u8) -> Option<Kind>
 
 /// Reads a message of a kind.
 fn read_kind(kind: Kind, bytes: &[u8]) -> Result<Msg<'_>, BadMsg>
-    requires { 16 ≤ length bytes.now }
+    requires { HEADER ≤ length bytes.now }
     ensures value { seen result ≡ placed kind bytes.now }
     ensures plain { IfOk result (λ msg. IsPlain msg.body) }
 {
@@ -117,22 +122,32 @@ fn read_kind(kind: Kind, bytes: &[u8]) -> Result<Msg<'_>, BadMsg>
     }
 }
 
+/// The boot number of a message of this length.
+fn open(bytes: &[u8], len: usize) -> Result<u64, BadMsg>
+    requires { HEADER ≤ length bytes.now }
+    ensures value { result ≡ opened len len bytes.now }
+    ensures long { IfOk result (λ _. len ≤ length bytes.now) }
+    ensures short { IfOk result (λ _. length bytes.now ≤ 65535) }
+{
+    open_within(bytes, len, len)
+}
+
 /// The boot number of a message, whose length is within these bounds and as it says, and which sums to its checksum.
 #[tactic(auto, unfolding(crate::specs::Places::opened))]
-fn open(bytes: &[u8], least: usize, most: usize) -> Result<u64, BadMsg>
-    requires { 16 ≤ length bytes.now }
+fn open_within(bytes: &[u8], least: usize, most: usize) -> Result<u64, BadMsg>
+    requires { HEADER ≤ length bytes.now }
     ensures value { result ≡ opened least most bytes.now }
     ensures long { IfOk result (λ _. least ≤ length bytes.now) }
     ensures short { IfOk result (λ _. length bytes.now ≤ 65535) }
 {
     let len = bytes.len();
-    if usize::from(word_at(bytes, 4)) != len || len < least || most < len {
+    if usize::from(word_at(bytes, LENGTH_AT)) != len || len < least || most < len {
         return Err(BadMsg::Length);
     }
     if checksum_of(bytes) != 0 {
         return Err(BadMsg::Sum);
     }
-    let boot = huge(bytes, 8);
+    let boot = huge(bytes, BOOT_AT);
     if boot == 0 {
         return Err(BadMsg::Field);
     }
@@ -140,46 +155,46 @@ fn open(bytes: &[u8], least: usize, most: usize) -> Result<u64, BadMsg>
 }
 
 fn read_hello(bytes: &[u8]) -> Result<Msg<'_>, BadMsg>
-    requires { 16 ≤ length bytes.now }
+    requires { HEADER ≤ length bytes.now }
     ensures value { seen result ≡ placed Kind.Hello bytes.now }
     ensures plain { IfOk result (λ msg. IsPlain msg.body) }
 {
-    let boot = open(bytes, 16, 16)?;
+    let boot = open(bytes, HEADER)?;
     let body = Body::HelloMsg;
     Ok(Msg { boot, body })
 }
 
 fn read_summary(bytes: &[u8]) -> Result<Msg<'_>, BadMsg>
-    requires { 16 ≤ length bytes.now }
+    requires { HEADER ≤ length bytes.now }
     ensures value { seen result ≡ placed Kind.Summary bytes.now }
     ensures plain { IfOk result (λ msg. IsPlain msg.body) }
 {
-    let boot = open(bytes, 18, 18)?;
+    let boot = open(bytes, AFTER_COUNT)?;
     let body = Body::SummaryMsg {
-        count: count(bytes, 16)?,
+        count: count(bytes, HEADER)?,
     };
     Ok(Msg { boot, body })
 }
 
 fn read_list(bytes: &[u8]) -> Result<Msg<'_>, BadMsg>
-    requires { 16 ≤ length bytes.now }
+    requires { HEADER ≤ length bytes.now }
     ensures value { seen result ≡ placed Kind.List bytes.now }
     ensures plain { IfOk result (λ msg. IsPlain msg.body) }
 {
-    let boot = open(bytes, 18, 18)?;
+    let boot = open(bytes, AFTER_COUNT)?;
     let body = Body::ListMsg {
-        index: place(bytes, 16)?,
+        index: place(bytes, HEADER)?,
     };
     Ok(Msg { boot, body })
 }
 
 fn read_entry(bytes: &[u8]) -> Result<Msg<'_>, BadMsg>
-    requires { 16 ≤ length bytes.now }
+    requires { HEADER ≤ length bytes.now }
     ensures value { seen result ≡ placed Kind.Entry bytes.now }
     ensures plain { IfOk result (λ msg. IsPlain msg.body) }
 {
-    let boot = open(bytes, 48, 48)?;
-    let index = place(bytes, 16)?;
+    let boot = open(bytes, EntryHead::END)?;
+    let index = place(bytes, HEADER)?;
     let entry = EntryHead::read(bytes)?;
     let body = Body::EntryMsg {
         index,
@@ -197,72 +212,72 @@ fn read_entry(bytes: &[u8]) -> Result<Msg<'_>, BadMsg>
 }
 
 fn read_bytes(bytes: &[u8]) -> Result<Msg<'_>, BadMsg>
-    requires { 16 ≤ length bytes.now }
+    requires { HEADER ≤ length bytes.now }
     ensures value { seen result ≡ placed Kind.Bytes bytes.now }
     ensures plain { IfOk result (λ msg. IsPlain msg.body) }
 {
-    let boot = open(bytes, 26, 26)?;
+    let boot = open(bytes, AFTER_START)?;
     let body = Body::BytesMsg {
-        key: key(bytes, 16),
-        offset: offset(bytes, 22, 26)?,
+        key: key(bytes, HEADER),
+        offset: offset(bytes, AFTER_KEY, AFTER_START)?,
     };
     Ok(Msg { boot, body })
 }
 
 fn read_part(bytes: &[u8]) -> Result<Msg<'_>, BadMsg>
-    requires { 16 ≤ length bytes.now }
+    requires { HEADER ≤ length bytes.now }
     ensures value { seen result ≡ placed Kind.Part bytes.now }
     ensures plain { IfOk result (λ msg. IsPlain msg.body) }
 {
-    let boot = open(bytes, 27, 1050)?;
+    let boot = open_within(bytes, AFTER_START + 1, AFTER_START + MOST_LOGGED)?;
     let body = Body::PartMsg {
-        key: key(bytes, 16),
-        offset: offset(bytes, 22, 26)?,
-        bytes: behind(bytes, 26),
+        key: key(bytes, HEADER),
+        offset: offset(bytes, AFTER_KEY, AFTER_START)?,
+        bytes: behind(bytes, AFTER_START),
     };
     Ok(Msg { boot, body })
 }
 
 fn read_cuts(bytes: &[u8]) -> Result<Msg<'_>, BadMsg>
-    requires { 16 ≤ length bytes.now }
+    requires { HEADER ≤ length bytes.now }
     ensures value { seen result ≡ placed Kind.Cuts bytes.now }
     ensures plain { IfOk result (λ msg. IsPlain msg.body) }
 {
-    let boot = open(bytes, 26, 26)?;
+    let boot = open(bytes, AFTER_START)?;
     let body = Body::CutsMsg {
-        key: key(bytes, 16),
-        first: units(bytes, 22)?,
+        key: key(bytes, HEADER),
+        first: units(bytes, AFTER_KEY)?,
     };
     Ok(Msg { boot, body })
 }
 
 fn read_lens(bytes: &[u8]) -> Result<Msg<'_>, BadMsg>
-    requires { 16 ≤ length bytes.now }
+    requires { HEADER ≤ length bytes.now }
     ensures value { seen result ≡ placed Kind.Lens bytes.now }
     ensures plain { IfOk result (λ msg. IsPlain msg.body) }
 {
     if bytes.len() % 2 != 0 {
         return Err(BadMsg::Length);
     }
-    let boot = open(bytes, 28, 1050)?;
-    let lens = behind(bytes, 26);
+    let boot = open_within(bytes, AFTER_START + 2, AFTER_START + MOST_LOGGED)?;
+    let lens = behind(bytes, AFTER_START);
     if !lens_in_range(lens) {
         return Err(BadMsg::Field);
     }
     let body = Body::LensMsg {
-        key: key(bytes, 16),
-        first: units(bytes, 22)?,
+        key: key(bytes, HEADER),
+        first: units(bytes, AFTER_KEY)?,
         lens,
     };
     Ok(Msg { boot, body })
 }
 
 fn read_open(bytes: &[u8]) -> Result<Msg<'_>, BadMsg>
-    requires { 16 ≤ length bytes.now }
+    requires { HEADER ≤ length bytes.now }
     ensures value { seen result ≡ placed Kind.Open bytes.now }
     ensures plain { IfOk result (λ msg. IsPlain msg.body) }
 {
-    let boot = open(bytes, 32, 32)?;
+    let boot = open(bytes, Numbers::END)?;
     let numbers = Numbers::read(bytes)?;
     let body = Body::OpenMsg {
         key: numbers.key,
@@ -274,11 +289,11 @@ fn read_open(bytes: &[u8]) -> Result<Msg<'_>, BadMsg>
 }
 
 fn read_opened(bytes: &[u8]) -> Result<Msg<'_>, BadMsg>
-    requires { 16 ≤ length bytes.now }
+    requires { HEADER ≤ length bytes.now }
     ensures value { seen result ≡ placed Kind.Opened bytes.now }
     ensures plain { IfOk result (λ msg. IsPlain msg.body) }
 {
-    let boot = open(bytes, 32, 32)?;
+    let boot = open(bytes, Numbers::END)?;
     let numbers = Numbers::read(bytes)?;
     let body = Body::OpenedMsg {
         key: numbers.key,
@@ -290,11 +305,11 @@ fn read_opened(bytes: &[u8]) -> Result<Msg<'_>, BadMsg>
 }
 
 fn read_data(bytes: &[u8]) -> Result<Msg<'_>, BadMsg>
-    requires { 16 ≤ length bytes.now }
+    requires { HEADER ≤ length bytes.now }
     ensures value { seen result ≡ placed Kind.Data bytes.now }
     ensures plain { IfOk result (λ msg. IsPlain msg.body) }
 {
-    let boot = open(bytes, 31, 1491)?;
+    let boot = open_within(bytes, Part::END, Part::END + usize::from(LONGEST_SEGMENT))?;
     let part = Part::read(bytes)?;
     let body = Body::DataMsg {
         key: part.key,
@@ -307,11 +322,11 @@ fn read_data(bytes: &[u8]) -> Result<Msg<'_>, BadMsg>
 }
 
 fn read_stable(bytes: &[u8]) -> Result<Msg<'_>, BadMsg>
-    requires { 16 ≤ length bytes.now }
+    requires { HEADER ≤ length bytes.now }
     ensures value { seen result ≡ placed Kind.Stable bytes.now }
     ensures plain { IfOk result (λ msg. IsPlain msg.body) }
 {
-    let boot = open(bytes, 31, 31)?;
+    let boot = open(bytes, Kept::END)?;
     let kept = Kept::read(bytes)?;
     let body = Body::StableMsg {
         key: kept.key,
@@ -323,25 +338,25 @@ fn read_stable(bytes: &[u8]) -> Result<Msg<'_>, BadMsg>
 }
 
 fn read_read(bytes: &[u8]) -> Result<Msg<'_>, BadMsg>
-    requires { 16 ≤ length bytes.now }
+    requires { HEADER ≤ length bytes.now }
     ensures value { seen result ≡ placed Kind.Read bytes.now }
     ensures plain { IfOk result (λ msg. IsPlain msg.body) }
 {
-    let boot = open(bytes, 28, 28)?;
+    let boot = open(bytes, AFTER_LENGTH)?;
     let body = Body::ReadMsg {
-        key: key(bytes, 16),
-        index: units(bytes, 22)?,
-        length: read_length(bytes, 26)?,
+        key: key(bytes, HEADER),
+        index: units(bytes, AFTER_KEY)?,
+        length: read_length(bytes, AFTER_START)?,
     };
     Ok(Msg { boot, body })
 }
 
 fn read_reads(bytes: &[u8]) -> Result<Msg<'_>, BadMsg>
-    requires { 16 ≤ length bytes.now }
+    requires { HEADER ≤ length bytes.now }
     ensures value { seen result ≡ placed Kind.Reads bytes.now }
     ensures plain { IfOk result (λ msg. IsPlain msg.body) }
 {
-    let boot = open(bytes, 31, 31)?;
+    let boot = open(bytes, Kept::END)?;
     let kept = Kept::read(bytes)?;
     let body = Body::ReadsMsg {
         key: kept.key,
@@ -353,49 +368,49 @@ fn read_reads(bytes: &[u8]) -> Result<Msg<'_>, BadMsg>
 }
 
 fn read_done(bytes: &[u8]) -> Result<Msg<'_>, BadMsg>
-    requires { 16 ≤ length bytes.now }
+    requires { HEADER ≤ length bytes.now }
     ensures value { seen result ≡ placed Kind.Done bytes.now }
     ensures plain { IfOk result (λ msg. IsPlain msg.body) }
 {
-    let boot = open(bytes, 22, 22)?;
+    let boot = open(bytes, AFTER_KEY)?;
     let body = Body::DoneMsg {
-        key: key(bytes, 16),
+        key: key(bytes, HEADER),
     };
     Ok(Msg { boot, body })
 }
 
 fn read_ended(bytes: &[u8]) -> Result<Msg<'_>, BadMsg>
-    requires { 16 ≤ length bytes.now }
+    requires { HEADER ≤ length bytes.now }
     ensures value { seen result ≡ placed Kind.Ended bytes.now }
     ensures plain { IfOk result (λ msg. IsPlain msg.body) }
 {
-    let boot = open(bytes, 22, 22)?;
+    let boot = open(bytes, AFTER_KEY)?;
     let body = Body::EndedMsg {
-        key: key(bytes, 16),
+        key: key(bytes, HEADER),
     };
     Ok(Msg { boot, body })
 }
 
 fn read_stale(bytes: &[u8]) -> Result<Msg<'_>, BadMsg>
-    requires { 16 ≤ length bytes.now }
+    requires { HEADER ≤ length bytes.now }
     ensures value { seen result ≡ placed Kind.Stale bytes.now }
     ensures plain { IfOk result (λ msg. IsPlain msg.body) }
 {
-    let boot = open(bytes, 24, 24)?;
+    let boot = open(bytes, AFTER_NEWER)?;
     let body = Body::StaleMsg {
-        newer: newer(bytes, 16, boot)?,
+        newer: newer(bytes, HEADER, boot)?,
     };
     Ok(Msg { boot, body })
 }
 
 fn read_full(bytes: &[u8]) -> Result<Msg<'_>, BadMsg>
-    requires { 16 ≤ length bytes.now }
+    requires { HEADER ≤ length bytes.now }
     ensures value { seen result ≡ placed Kind.Full bytes.now }
     ensures plain { IfOk result (λ msg. IsPlain msg.body) }
 {
-    let boot = open(bytes, 22, 22)?;
+    let boot = open(bytes, AFTER_KEY)?;
     let body = Body::FullMsg {
-        key: key(bytes, 16),
+        key: key(bytes, HEADER),
     };
     Ok(Msg { boot, body })
 }
@@ -407,7 +422,7 @@ fn lens_in_range(lens: &[u8]) -> bool
 {
     let mut rest = lens;
     while rest.len() >= 2 {
-        if BigEndian::read_u16(rest) > 2048 {
+        if BigEndian::read_u16(rest) > LONGEST_READ {
             return false;
         }
         rest = &rest[2..];

@@ -2,13 +2,14 @@
 
 ghost use Rattle.std.specs.Prelude.{◌≡◌, ◌≤◌, true, length};
 ghost use Rattle.seq_arith.specs.Message.Body.{EntryMsg, OpenMsg, DataMsg, StableMsg};
-ghost use Rattle.seq_arith.specs.MessageGrammar.{fields_of, numbers_of, numbers_bytes};
+ghost use Rattle.seq_arith.specs.MessageGrammar.{fields_of, numbers_of, numbers_bytes, behind_at};
 ghost use Rattle.logger_wire.specs.Value.{body_of as said_body};
 ghost use Rattle.logger_wire.specs.Spelling.{put, body_bytes, has_numbers, has_kept, has_entry, has_part};
 ghost use Rattle.logger_wire.specs.Records.{numbers_said, kept_said, entry_said, part_said, opening_at, kept_at, entry_at, part_at, read_as};
 
 use crate::Body;
 use crate::fields::{behind, flag, key, long, offset, segment_size, stream_length, units};
+use crate::layout::{AFTER_KEY, HEADER, KEY};
 use crate::places::{put_flag, put_key, put_long, put_word};
 use ft_io::Key;
 use seq_arith::{BadMsg, Kind};
@@ -56,16 +57,25 @@ pub(crate) struct Part<'a> {
 }
 
 impl Numbers {
+    const CISN: usize = AFTER_KEY;
+
+    const SISN: usize = Self::CISN + 4;
+
+    const MSS: usize = Self::SISN + 4;
+
+    /// How long an Open and an Opened are.
+    pub(crate) const END: usize = Self::MSS + 2;
+
     /// What an Open or an Opened says.
     pub(crate) fn read(bytes: &[u8]) -> Result<Numbers, BadMsg>
-        requires { 32 ≤ length bytes.now }
+        requires { behind_at Kind.Open ≤ length bytes.now }
         ensures { read_as numbers_said result ≡ opening_at bytes.now }
     {
         Ok(Numbers {
-            key: key(bytes, 16),
-            cisn: long(bytes, 22),
-            sisn: long(bytes, 26),
-            mss: segment_size(bytes, 30)?,
+            key: key(bytes, HEADER),
+            cisn: long(bytes, Self::CISN),
+            sisn: long(bytes, Self::SISN),
+            mss: segment_size(bytes, Self::MSS)?,
         })
     }
 
@@ -99,27 +109,36 @@ impl Numbers {
 
     /// Writes it after a header.
     pub(crate) fn put(&self, out: &mut [u8])
-        requires { 32 ≤ length out.old }
+        requires { behind_at Kind.Open ≤ length out.old }
         ensures { out.new ≡ put 16 (body_bytes (OpenMsg (numbers_said self.now))) out.old }
     {
-        put_key(out, 16, self.key);
-        put_long(out, 22, self.cisn);
-        put_long(out, 26, self.sisn);
-        put_word(out, 30, self.mss);
+        put_key(out, HEADER, self.key);
+        put_long(out, Self::CISN, self.cisn);
+        put_long(out, Self::SISN, self.sisn);
+        put_word(out, Self::MSS, self.mss);
     }
 }
 
 impl Kept {
+    const LENGTH: usize = AFTER_KEY;
+
+    const FIN: usize = Self::LENGTH + 4;
+
+    const READS: usize = Self::FIN + 1;
+
+    /// How long a Stable and a Reads are.
+    pub(crate) const END: usize = Self::READS + 4;
+
     /// What a Stable or a Reads says.
     pub(crate) fn read(bytes: &[u8]) -> Result<Kept, BadMsg>
-        requires { 31 ≤ length bytes.now }
+        requires { behind_at Kind.Stable ≤ length bytes.now }
         ensures { read_as kept_said result ≡ kept_at bytes.now }
     {
         Ok(Kept {
-            key: key(bytes, 16),
-            length: stream_length(bytes, 22)?,
-            fin: flag(bytes, 26)?,
-            reads: units(bytes, 27)?,
+            key: key(bytes, HEADER),
+            length: stream_length(bytes, Self::LENGTH)?,
+            fin: flag(bytes, Self::FIN)?,
+            reads: units(bytes, Self::READS)?,
         })
     }
 
@@ -153,32 +172,53 @@ impl Kept {
 
     /// Writes it after a header.
     pub(crate) fn put(&self, out: &mut [u8])
-        requires { 31 ≤ length out.old }
+        requires { behind_at Kind.Stable ≤ length out.old }
         ensures { out.new ≡ put 16 (body_bytes (StableMsg (kept_said self.now))) out.old }
     {
-        put_key(out, 16, self.key);
-        put_long(out, 22, self.length);
-        put_flag(out, 26, self.fin);
-        put_long(out, 27, self.reads);
+        put_key(out, HEADER, self.key);
+        put_long(out, Self::LENGTH, self.length);
+        put_flag(out, Self::FIN, self.fin);
+        put_long(out, Self::READS, self.reads);
     }
 }
 
 impl EntryHead {
+    const KEY: usize = HEADER + 2;
+
+    const CISN: usize = Self::KEY + KEY;
+
+    const SISN: usize = Self::CISN + 4;
+
+    const MSS: usize = Self::SISN + 4;
+
+    const LENGTH: usize = Self::MSS + 2;
+
+    const FIN: usize = Self::LENGTH + 4;
+
+    const DONE: usize = Self::FIN + 1;
+
+    const READS: usize = Self::DONE + 1;
+
+    const ACKED: usize = Self::READS + 4;
+
+    /// How long an Entry is.
+    pub(crate) const END: usize = Self::ACKED + 4;
+
     /// What an Entry says after its place.
     pub(crate) fn read(bytes: &[u8]) -> Result<EntryHead, BadMsg>
-        requires { 48 ≤ length bytes.now }
+        requires { behind_at Kind.Entry ≤ length bytes.now }
         ensures { read_as entry_said result ≡ entry_at bytes.now }
     {
         Ok(EntryHead {
-            key: key(bytes, 18),
-            cisn: long(bytes, 24),
-            sisn: long(bytes, 28),
-            mss: segment_size(bytes, 32)?,
-            length: stream_length(bytes, 34)?,
-            fin: flag(bytes, 38)?,
-            done: flag(bytes, 39)?,
-            reads: units(bytes, 40)?,
-            acked: units(bytes, 44)?,
+            key: key(bytes, Self::KEY),
+            cisn: long(bytes, Self::CISN),
+            sisn: long(bytes, Self::SISN),
+            mss: segment_size(bytes, Self::MSS)?,
+            length: stream_length(bytes, Self::LENGTH)?,
+            fin: flag(bytes, Self::FIN)?,
+            done: flag(bytes, Self::DONE)?,
+            reads: units(bytes, Self::READS)?,
+            acked: units(bytes, Self::ACKED)?,
         })
     }
 
@@ -219,35 +259,44 @@ impl EntryHead {
 
     /// Writes it after a header, with its place before it.
     pub(crate) fn put(&self, index: u16, out: &mut [u8])
-        requires { 48 ≤ length out.old }
+        requires { behind_at Kind.Entry ≤ length out.old }
         ensures { out.new ≡ put 16 (body_bytes (EntryMsg index (entry_said self.now))) out.old }
     {
-        put_word(out, 16, index);
-        put_key(out, 18, self.key);
-        put_long(out, 24, self.cisn);
-        put_long(out, 28, self.sisn);
-        put_word(out, 32, self.mss);
-        put_long(out, 34, self.length);
-        put_flag(out, 38, self.fin);
-        put_flag(out, 39, self.done);
-        put_long(out, 40, self.reads);
-        put_long(out, 44, self.acked);
+        put_word(out, HEADER, index);
+        put_key(out, Self::KEY, self.key);
+        put_long(out, Self::CISN, self.cisn);
+        put_long(out, Self::SISN, self.sisn);
+        put_word(out, Self::MSS, self.mss);
+        put_long(out, Self::LENGTH, self.length);
+        put_flag(out, Self::FIN, self.fin);
+        put_flag(out, Self::DONE, self.done);
+        put_long(out, Self::READS, self.reads);
+        put_long(out, Self::ACKED, self.acked);
     }
 }
 
 impl<'a> Part<'a> {
+    const OFFSET: usize = AFTER_KEY;
+
+    const ACKED: usize = Self::OFFSET + 4;
+
+    const FIN: usize = Self::ACKED + 4;
+
+    /// Where the bytes of a Data begin.
+    pub(crate) const END: usize = Self::FIN + 1;
+
     /// What a Data says.
     pub(crate) fn read(bytes: &'a [u8]) -> Result<Part<'a>, BadMsg>
-        requires long { 31 ≤ length bytes.now }
+        requires long { behind_at Kind.Data ≤ length bytes.now }
         requires short { length bytes.now ≤ 65535 }
         ensures { read_as part_said result ≡ part_at bytes.now }
     {
         Ok(Part {
-            key: key(bytes, 16),
-            offset: offset(bytes, 22, 31)?,
-            acked: units(bytes, 26)?,
-            fin: flag(bytes, 30)?,
-            bytes: behind(bytes, 31),
+            key: key(bytes, HEADER),
+            offset: offset(bytes, Self::OFFSET, Self::END)?,
+            acked: units(bytes, Self::ACKED)?,
+            fin: flag(bytes, Self::FIN)?,
+            bytes: behind(bytes, Self::END),
         })
     }
 
@@ -276,12 +325,12 @@ impl<'a> Part<'a> {
 
     /// Writes its fields after a header.
     pub(crate) fn put(&self, out: &mut [u8])
-        requires { 31 ≤ length out.old }
+        requires { behind_at Kind.Data ≤ length out.old }
         ensures { out.new ≡ put 16 (numbers_bytes (fields_of Kind.Data) (numbers_of (DataMsg (part_said self.now)))) out.old }
     {
-        put_key(out, 16, self.key);
-        put_long(out, 22, self.offset);
-        put_long(out, 26, self.acked);
-        put_flag(out, 30, self.fin);
+        put_key(out, HEADER, self.key);
+        put_long(out, Self::OFFSET, self.offset);
+        put_long(out, Self::ACKED, self.acked);
+        put_flag(out, Self::FIN, self.fin);
     }
 }

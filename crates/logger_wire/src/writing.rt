@@ -4,15 +4,19 @@
 ghost use Rattle.std.specs.Prelude.{◌≡◌, ◌≤◌, ◌<◌, ◌+◌, ◌%◌, ◌^◌, ◌++◌, length, take, drop, Ok, true};
 ghost use Rattle.seq_arith.specs.Checksum.{checksum};
 ghost use Rattle.seq_arith.specs.Message.Body.{HelloMsg, SummaryMsg, PartMsg, ReadMsg, DoneMsg, StaleMsg};
-ghost use Rattle.seq_arith.specs.MessageGrammar.{kind_of as kind_lem, kind_number, lens_in, lens_bytes, message_length};
+ghost use Rattle.seq_arith.specs.MessageGrammar.{kind_of as kind_lem, kind_number, lens_in, lens_bytes, message_length, behind_at};
 ghost use Rattle.seq_arith.specs.MessageGrammar.{header, spelling, reading};
 ghost use Rattle.logger_wire.specs.Spelling.{put, body_bytes, sealed, framed, has_numbers, has_kept, has_entry, has_part};
 ghost use Rattle.logger_wire.specs.Value.{body_of as said_body, message_of, left_over, IsSendable};
 
+use crate::layout::{
+    AFTER_COUNT, AFTER_KEY, AFTER_LENGTH, AFTER_NEWER, AFTER_START, BOOT_AT, CHECKSUM_AT, HEADER,
+    LENGTH_AT, MAGIC, MAGIC_AT, VERSION, VERSION_AT,
+};
 use crate::places::{put_bytes, put_huge, put_key, put_long, put_word};
 use crate::reading::checksum_of;
 use crate::records::{EntryHead, Kept, Numbers, Part};
-use crate::{Body, Msg, VERSION};
+use crate::{Body, Msg};
 use ft_io::Key;
 use seq_arith::{Kind, Sum16};
 
@@ -44,7 +48,7 @@ pub fn put_msg(m: &Msg<'_>, out: &mut [u8]) -> usize
 #[tactic(auto, unfolding(crate::specs::Spelling::body_bytes))]
 fn put_kind(m: &Msg<'_>, out: &mut [u8]) -> usize
     requires lens { left_over m.now.body ≡ 0 }
-    requires short { message_length (said_body m.now.body) ≤ 1491 }
+    requires short { message_length (said_body m.now.body) < 2 ^ 16 }
     requires room { message_length (said_body m.now.body) ≤ length out.old }
     ensures length { result ≡ message_length (said_body m.now.body) }
     ensures bytes { out.new ≡ put 0 (sealed (kind_lem (said_body m.now.body)) m.now.boot (body_bytes (said_body m.now.body))) out.old }
@@ -83,113 +87,113 @@ fn two_bytes_each(lens: &[u8]) -> &[u8]
 }
 
 fn put_hello(boot: u64, out: &mut [u8]) -> usize
-    requires { 16 ≤ length out.old }
-    ensures length { result ≡ 16 }
+    requires { behind_at Kind.Hello ≤ length out.old }
+    ensures length { result ≡ behind_at Kind.Hello }
     ensures bytes { out.new ≡ put 0 (sealed Kind.Hello boot (body_bytes HelloMsg)) out.old }
 {
-    finish(Kind::Hello, boot, 16, out)
+    finish(Kind::Hello, boot, HEADER, out)
 }
 
 /// Writes a Summary, or a List.
 fn put_count(kind: Kind, boot: u64, n: u16, out: &mut [u8]) -> usize
-    requires { 18 ≤ length out.old }
-    ensures length { result ≡ 18 }
+    requires { behind_at Kind.Summary ≤ length out.old }
+    ensures length { result ≡ behind_at Kind.Summary }
     ensures bytes { out.new ≡ put 0 (sealed kind boot (body_bytes (SummaryMsg n))) out.old }
 {
-    put_word(out, 16, n);
-    finish(kind, boot, 18, out)
+    put_word(out, HEADER, n);
+    finish(kind, boot, AFTER_COUNT, out)
 }
 
 fn put_entry(m: &Msg<'_>, out: &mut [u8]) -> usize
     requires entry { has_entry (said_body m.now.body) ≡ true }
-    requires room { 48 ≤ length out.old }
-    ensures length { result ≡ 48 }
+    requires room { behind_at Kind.Entry ≤ length out.old }
+    ensures length { result ≡ behind_at Kind.Entry }
     ensures bytes { out.new ≡ put 0 (sealed Kind.Entry m.now.boot (body_bytes (said_body m.now.body))) out.old }
 {
     let (index, entry) = EntryHead::of(&m.body);
     entry.put(index, out);
-    finish(Kind::Entry, m.boot, 48, out)
+    finish(Kind::Entry, m.boot, EntryHead::END, out)
 }
 
 /// Writes a kind that begins with a key and where its bytes or lengths start.
 fn put_from(kind: Kind, boot: u64, key: Key, start: u32, behind: &[u8], out: &mut [u8]) -> usize
-    requires short { 26 + length behind.now ≤ 1491 }
-    requires room { 26 + length behind.now ≤ length out.old }
-    ensures length { result ≡ 26 + length behind.now }
+    requires short { message_length (PartMsg key start behind.now) < 2 ^ 16 }
+    requires room { message_length (PartMsg key start behind.now) ≤ length out.old }
+    ensures length { result ≡ message_length (PartMsg key start behind.now) }
     ensures bytes { out.new ≡ put 0 (sealed kind boot (body_bytes (PartMsg key start behind.now))) out.old }
 {
-    put_key(out, 16, key);
-    put_long(out, 22, start);
-    finish_with(kind, boot, 26, behind, out)
+    put_key(out, HEADER, key);
+    put_long(out, AFTER_KEY, start);
+    finish_with(kind, boot, AFTER_START, behind, out)
 }
 
 /// Writes an Open, or an Opened.
 fn put_opening(kind: Kind, m: &Msg<'_>, out: &mut [u8]) -> usize
     requires numbers { has_numbers (said_body m.now.body) ≡ true }
-    requires room { 32 ≤ length out.old }
-    ensures length { result ≡ 32 }
+    requires room { behind_at Kind.Open ≤ length out.old }
+    ensures length { result ≡ behind_at Kind.Open }
     ensures bytes { out.new ≡ put 0 (sealed kind m.now.boot (body_bytes (said_body m.now.body))) out.old }
 {
     Numbers::of(&m.body).put(out);
-    finish(kind, m.boot, 32, out)
+    finish(kind, m.boot, Numbers::END, out)
 }
 
 fn put_data(m: &Msg<'_>, out: &mut [u8]) -> usize
     requires part { has_part (said_body m.now.body) ≡ true }
-    requires short { message_length (said_body m.now.body) ≤ 1491 }
+    requires short { message_length (said_body m.now.body) < 2 ^ 16 }
     requires room { message_length (said_body m.now.body) ≤ length out.old }
     ensures length { result ≡ message_length (said_body m.now.body) }
     ensures bytes { out.new ≡ put 0 (sealed Kind.Data m.now.boot (body_bytes (said_body m.now.body))) out.old }
 {
     let part = Part::of(&m.body);
     part.put(out);
-    finish_with(Kind::Data, m.boot, 31, part.bytes, out)
+    finish_with(Kind::Data, m.boot, Part::END, part.bytes, out)
 }
 
 /// Writes a Stable, or a Reads.
 fn put_kept(kind: Kind, m: &Msg<'_>, out: &mut [u8]) -> usize
     requires kept { has_kept (said_body m.now.body) ≡ true }
-    requires room { 31 ≤ length out.old }
-    ensures length { result ≡ 31 }
+    requires room { behind_at Kind.Stable ≤ length out.old }
+    ensures length { result ≡ behind_at Kind.Stable }
     ensures bytes { out.new ≡ put 0 (sealed kind m.now.boot (body_bytes (said_body m.now.body))) out.old }
 {
     Kept::of(&m.body).put(out);
-    finish(kind, m.boot, 31, out)
+    finish(kind, m.boot, Kept::END, out)
 }
 
 fn put_read(boot: u64, key: Key, index: u32, len: u16, out: &mut [u8]) -> usize
-    requires { 28 ≤ length out.old }
-    ensures length { result ≡ 28 }
+    requires { behind_at Kind.Read ≤ length out.old }
+    ensures length { result ≡ behind_at Kind.Read }
     ensures bytes { out.new ≡ put 0 (sealed Kind.Read boot (body_bytes (ReadMsg key index len))) out.old }
 {
-    put_key(out, 16, key);
-    put_long(out, 22, index);
-    put_word(out, 26, len);
-    finish(Kind::Read, boot, 28, out)
+    put_key(out, HEADER, key);
+    put_long(out, AFTER_KEY, index);
+    put_word(out, AFTER_START, len);
+    finish(Kind::Read, boot, AFTER_LENGTH, out)
 }
 
 /// Writes a kind that has only a key.
 fn put_only_key(kind: Kind, boot: u64, key: Key, out: &mut [u8]) -> usize
-    requires { 22 ≤ length out.old }
-    ensures length { result ≡ 22 }
+    requires { behind_at Kind.Done ≤ length out.old }
+    ensures length { result ≡ behind_at Kind.Done }
     ensures bytes { out.new ≡ put 0 (sealed kind boot (body_bytes (DoneMsg key))) out.old }
 {
-    put_key(out, 16, key);
-    finish(kind, boot, 22, out)
+    put_key(out, HEADER, key);
+    finish(kind, boot, AFTER_KEY, out)
 }
 
 fn put_stale(boot: u64, newer: u64, out: &mut [u8]) -> usize
-    requires { 24 ≤ length out.old }
-    ensures length { result ≡ 24 }
+    requires { behind_at Kind.Stale ≤ length out.old }
+    ensures length { result ≡ behind_at Kind.Stale }
     ensures bytes { out.new ≡ put 0 (sealed Kind.Stale boot (body_bytes (StaleMsg newer))) out.old }
 {
-    put_huge(out, 16, newer);
-    finish(Kind::Stale, boot, 24, out)
+    put_huge(out, HEADER, newer);
+    finish(Kind::Stale, boot, AFTER_NEWER, out)
 }
 
 /// Writes the header before a body that is already in its place, and returns how long the message is.
 fn finish(kind: Kind, boot: u64, len: usize, out: &mut [u8]) -> usize
-    requires long { 16 ≤ len }
+    requires long { HEADER ≤ len }
     requires short { len < 2 ^ 16 }
     requires room { len ≤ length out.old }
     ensures length { result ≡ len }
@@ -197,14 +201,14 @@ fn finish(kind: Kind, boot: u64, len: usize, out: &mut [u8]) -> usize
 {
     put_header(kind, boot, len as u16, out);
     let check = checksum_of(&out[..len]);
-    put_word(out, 6, check);
+    put_word(out, CHECKSUM_AT, check);
     len
 }
 
 /// Writes the header, and the bytes after the fields too. The checksum is computed over these where they come from: reading back what was just written is
 /// slower.
 fn finish_with(kind: Kind, boot: u64, at: usize, behind: &[u8], out: &mut [u8]) -> usize
-    requires long { 16 ≤ at }
+    requires long { HEADER ≤ at }
     requires short { at + length behind.now < 2 ^ 16 }
     requires room { at + length behind.now ≤ length out.old }
     ensures length { result ≡ at + length behind.now }
@@ -214,19 +218,20 @@ fn finish_with(kind: Kind, boot: u64, at: usize, behind: &[u8], out: &mut [u8]) 
     put_bytes(out, at, behind);
     put_header(kind, boot, len as u16, out);
     let check = checksum_of_both(&out[..at], behind);
-    put_word(out, 6, check);
+    put_word(out, CHECKSUM_AT, check);
     len
 }
 
 /// Writes a header, with zero in its checksum's place.
 fn put_header(kind: Kind, boot: u64, len: u16, out: &mut [u8])
-    requires { 16 ≤ length out.old }
+    requires { HEADER ≤ length out.old }
     ensures { out.new ≡ put 0 (header kind len 0 boot) out.old }
 {
-    put_bytes(out, 0, &[b'F', b'T', VERSION, number_of(kind)]);
-    put_word(out, 4, len);
-    put_word(out, 6, 0);
-    put_huge(out, 8, boot);
+    put_word(out, MAGIC_AT, MAGIC);
+    put_bytes(out, VERSION_AT, &[VERSION, number_of(kind)]);
+    put_word(out, LENGTH_AT, len);
+    put_word(out, CHECKSUM_AT, 0);
+    put_huge(out, BOOT_AT, boot);
 }
 
 /// A kind's number on the wire.

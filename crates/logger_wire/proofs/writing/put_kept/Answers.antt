@@ -1,9 +1,12 @@
 use Rattle.std.proofs.Common.{refl}
+use Rattle.seq_arith.specs.Message.{Body}
 use Rattle.seq_arith.specs.Message.{Body as bodies}
+use Rattle.seq_arith.specs.MessageGrammar.{message_length}
 use Rattle.logger_wire.specs.Records.{kept_said}
 use Rattle.logger_wire.proofs.OneSpelling.{written}
 use Rattle.logger_wire.proofs.writing.put_kept.Goals as goal
 
 pub returns-clause-bytes : goal.returns-clause-bytes
 returns-clause-bytes c =
-    cc (written c.args.kind c.args.m.now.boot 31 (bodies.StableMsg (kept_said c.of.result)) c.args.out.now refl c.requires.room)
+    let body : Body = bodies.StableMsg (kept_said c.of.result)
+    in cc (written c.args.kind c.args.m.now.boot (message_length body) body c.args.out.now refl c.requires.room)

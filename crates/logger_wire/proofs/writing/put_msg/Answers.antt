@@ -1,4 +1,4 @@
-use Rattle.std.proofs.Common.{◌++◌, ◌∙◌, ap, sym, take, drop}
+use Rattle.std.proofs.Common.{◌++◌, ◌∙◌, ap, sym, take, drop, arith}
 use Rattle.seq_arith.specs.Message.{Message}
 use Rattle.seq_arith.specs.MessageGrammar.{spelling, reading}
 use Rattle.logger_wire.specs.Value.{message_of}
@@ -6,7 +6,7 @@ use Rattle.logger_wire.proofs.OneSpelling.{not_longer, message_written, read_bac
 use Rattle.logger_wire.proofs.writing.put_msg.Goals as goal
 
 pub put_kind-requires-clause-short : goal.put_kind-requires-clause-short
-put_kind-requires-clause-short c = not_longer (message_of c.args.m.now) c.requires.sendable.spellable
+put_kind-requires-clause-short c = omega (arith, not_longer (message_of c.args.m.now) c.requires.sendable.spellable)
 
 pub returns-clause-bytes : goal.returns-clause-bytes
 returns-clause-bytes c =

@@ -1,9 +1,12 @@
 use Rattle.std.proofs.Common.{refl}
+use Rattle.seq_arith.specs.Message.{Body}
 use Rattle.seq_arith.specs.Message.{Body as bodies}
+use Rattle.seq_arith.specs.MessageGrammar.{message_length}
 use Rattle.logger_wire.proofs.OneSpelling.{written}
-use Rattle.logger_wire.proofs.Putting.{key_put}
+use Rattle.logger_wire.proofs.Putting.{fields_are_all}
 use Rattle.logger_wire.proofs.writing.put_only_key.Goals as goal
 
 pub returns-clause-bytes : goal.returns-clause-bytes
 returns-clause-bytes c =
-    cc (key_put c.args.key c.args.out.now c.requires, written c.args.kind c.args.boot 22 (bodies.DoneMsg c.args.key) c.args.out.now refl c.requires)
+    let body : Body = bodies.DoneMsg c.args.key
+    in cc (fields_are_all body c.args.out.now refl c.requires, written c.args.kind c.args.boot (message_length body) body c.args.out.now refl c.requires)

@@ -2,11 +2,12 @@ use Rattle.std.proofs.Common.{refl}
 use Rattle.seq_arith.specs.declared.kinds.Kind.TheVariants as kinds
 use Rattle.seq_arith.specs.Message.{Body}
 use Rattle.seq_arith.specs.Message.{Body as bodies}
+use Rattle.seq_arith.specs.MessageGrammar.{message_length}
 use Rattle.logger_wire.proofs.OneSpelling.{written}
-use Rattle.logger_wire.proofs.Putting.{read_put}
+use Rattle.logger_wire.proofs.Putting.{fields_are_all}
 use Rattle.logger_wire.proofs.writing.put_read.Goals as goal
 
 pub returns-clause-bytes : goal.returns-clause-bytes
 returns-clause-bytes c =
     let body : Body = bodies.ReadMsg c.args.key c.args.index c.args.len
-    in cc (read_put c.args.key c.args.index c.args.len c.args.out.now c.requires, written kinds.Read c.args.boot 28 body c.args.out.now refl c.requires)
+    in cc (fields_are_all body c.args.out.now refl c.requires, written kinds.Read c.args.boot (message_length body) body c.args.out.now refl c.requires)

@@ -1,6 +1,8 @@
+use Rattle.std.proofs.Common.{refl}
+use Rattle.seq_arith.specs.Message.{Body as bodies}
 use Rattle.logger_wire.specs.Records.{kept_said}
-use Rattle.logger_wire.proofs.Putting.{kept_put}
+use Rattle.logger_wire.proofs.Putting.{fields_are_all}
 use Rattle.logger_wire.proofs.records.Kept.put.Goals as goal
 
 pub returns : goal.returns
-returns c = cc (kept_put (kept_said c.args.self.now) c.args.out.now c.requires)
+returns c = cc (fields_are_all (bodies.StableMsg (kept_said c.args.self.now)) c.args.out.now refl c.requires)
