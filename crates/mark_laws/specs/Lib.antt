@@ -2,4 +2,5 @@ pub mod MarkedLog
 pub mod Runs
 pub mod Quiet
 pub mod Front
+pub mod Marking
 pub mod WorkedLog

@@ -1,5 +1,5 @@
 -- When a connection is quiet, so that its service's state can be logged in place of the reads that led to it.
-use Rattle.std.specs.Prelude.{◌≡◌, false, length}
+use Rattle.std.specs.Prelude.{◌≡◌, ◌==◌, Bool, false, ◌&&◌, not, length}
 use Rattle.seq_arith.specs.Mark.{Mark}
 use Rattle.server_trait.specs.Service.{Machine}
 use Rattle.server_trait.specs.Saved.{Writing}
@@ -12,6 +12,10 @@ pub record IsQuiet {State : Type 0} (service : Machine State) (p : Point) : Type
   pub acknowledged : p.una ≡ made service p
   pub reads_on : has_closing p.lengths ≡ false
   pub running : (whole_run service p).closed ≡ false
+
+-- whether it is
+abbrev pub is_quiet : {State : Type 0} → Machine State → Point → Bool
+is_quiet service p = p.reads_answered == length p.lengths && p.una == made service p && not (has_closing p.lengths) && not (whole_run service p).closed
 
 -- the mark of a quiet point
 abbrev pub mark_of : {State : Type 0} → Machine State → Writing State → Point → Mark

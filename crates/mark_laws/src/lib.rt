@@ -2,20 +2,27 @@
 //! assume. Nothing here runs; each function is a theorem.
 #![tactic(auto)]
 
-ghost use Rattle.std.specs.Prelude.{◌≡◌, ℕ, ◌≤◌, List, Some, None, length, sum};
-ghost use Rattle.server_trait.specs.Service.{machine, AreBytes};
+ghost use Rattle.std.specs.Prelude.{◌≡◌, ℕ, ◌≤◌, false, List, Some, None, length, sum};
+ghost use Rattle.server_trait.specs.Service.{machine, reference, AreBytes};
 ghost use Rattle.server_trait.specs.Saved.{Writing, ReadsBack};
 ghost use Rattle.seq_arith.specs.Mark.{Mark};
 ghost use Rattle.ft_model.specs.Log.{Entry};
 ghost use Rattle.ft_model.specs.Growth.{EntryGrows, IsPrefix};
 ghost use Rattle.ft_model.specs.Point.{Point};
-ghost use Rattle.mark_laws.specs.MarkedLog.{after_mark, answer_to_mark, answer_above};
+ghost use Rattle.mark_laws.specs.MarkedLog.{has_closing, after_mark, answer_to_mark, answer_above};
 ghost use Rattle.mark_laws.specs.Runs.{IsRunOf};
 ghost use Rattle.mark_laws.specs.Quiet.{IsQuiet, mark_of};
 ghost use Rattle.mark_laws.specs.Front.{IsBelow, bytes_below, lengths_below};
 ghost use Rattle.mark_laws.specs.WorkedLog.{before, kept, marking, two_are_marked, asking, held, bytes_from, lengths_from, last_part, last_length};
 
 use server_trait::Service;
+
+pub mod marking;
+
+/// While the service hasn't closed, no closing read was made: the end of input closes it, and it stays closed.
+pub fn running_services_read_on<S: Service>()
+    ensures { (fresh : S) (bytes lengths : List ℕ) → (reference (machine fresh S.after) bytes lengths).closed ≡ false → has_closing lengths ≡ false }
+{}
 
 /// What a mark says stays true while the log grows.
 pub fn marks_stay_true<S: Service>()

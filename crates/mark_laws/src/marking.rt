@@ -1,0 +1,74 @@
+//! Laws of the marks that a node sends: when one goes out, where it stands in a turn, and that each is true.
+
+ghost use Rattle.std.specs.Prelude.{◌≡◌, ℕ, ◌≤◌, ◌++◌, ◌↔◌, true, None, List, length, map, sum};
+ghost use Rattle.ft_io.specs.declared.Addr.{Addr};
+ghost use Rattle.server_trait.specs.Service.{machine};
+ghost use Rattle.server_trait.specs.Saved.{Writing};
+ghost use Rattle.ft_model.specs.Connection.{ConnectionTurn, sent_by, told_by};
+ghost use Rattle.ft_model.specs.Copy.{copies};
+ghost use Rattle.ft_model.specs.ResetAndEnd.{dones};
+ghost use Rattle.ft_model.specs.Growth.{IsPrefix};
+ghost use Rattle.ft_model.specs.Log.{Entry};
+ghost use Rattle.ft_model.specs.Network.Packet.{To_client};
+ghost use Rattle.ft_model.specs.News.{News};
+ghost use Rattle.ft_model.specs.News.News.{Ticks};
+ghost use Rattle.ft_model.specs.Point.{Point};
+ghost use Rattle.ft_model.specs.Reads.{reads_told};
+ghost use Rattle.ft_model.specs.Segments.{segments_of};
+ghost use Rattle.mark_laws.specs.Quiet.{IsQuiet, is_quiet};
+ghost use Rattle.mark_laws.specs.Marking.{Marking, outstanding_in, Outgoing, with_marks, without_marks, MarkingTurn, MarkedTurn, IsSettled, MarksNothing, OnlyRepeats};
+ghost use Rattle.mark_laws.specs.Marking.{AreTrue, TellsTruth};
+ghost use Rattle.mark_laws.specs.Marking.Outgoing.{Plain};
+
+use server_trait::Service;
+
+/// The test of a point finds whether it is quiet.
+pub fn quiet_points_are_found<S: Service>()
+    ensures { (fresh : S) (p : Point) → (is_quiet (machine fresh S.after) p ≡ true) ↔ IsQuiet (machine fresh S.after) p }
+{}
+
+/// A turn with marks is, without them, one that the laws of a connection without marks allow.
+pub fn turns_without_their_marks_are_lawful<S: Service>()
+    ensures { (fresh : S) (writing : Writing S) (every : ℕ) (server : Addr) (boot : ℕ) (news : News) (p q : Point) (m n : Marking) (sent : List Outgoing)
+        → MarkingTurn (machine fresh S.after) writing every server boot news p q m n sent
+        → ConnectionTurn (machine fresh S.after) server boot news p q (without_marks sent) }
+{}
+
+/// A node that marks nothing sends what it sent.
+pub fn nodes_may_mark_nothing<S: Service>()
+    ensures { (fresh : S) (writing : Writing S) (server : Addr) (boot : ℕ) (news : News) (p q : Point) (m n : Marking) (sent : List Outgoing)
+        → m.outstanding ≡ None → (turn : MarkingTurn (machine fresh S.after) writing 0 server boot news p q m n sent) → MarksNothing turn.packets m n sent }
+{}
+
+/// Marks go out behind the Reads of their turn, and before its Done.
+pub fn marks_stand_before_done<S: Service>()
+    ensures { (fresh : S) (server : Addr) (boot : ℕ) (news : News) (p q : Point) (marks : List Outgoing)
+        → with_marks (length (dones news p q)) marks (sent_by (machine fresh S.after) server boot news p q)
+        ≡ map Plain (map To_client (segments_of (machine fresh S.after) server news p q) ++ map (told_by boot) (copies news p q ++ reads_told news p q))
+        ++ (marks ++ map Plain (map (told_by boot) (dones news p q))) }
+{}
+
+/// After a turn no mark is due: it has gone out.
+pub fn turns_leave_no_mark_due<S: Service>()
+    ensures turn { (fresh : S) (writing : Writing S) (every : ℕ) (server : Addr) (boot : ℕ) (news : News) (p q : Point) (m n : Marking) (sent : List Outgoing)
+        → MarkingTurn (machine fresh S.after) writing every server boot news p q m n sent → IsSettled (machine fresh S.after) every n q }
+    ensures answer { (fresh : S) (writing : Writing S) (every boot reads : ℕ) (p : Point) (m n : Marking) (sent : List Outgoing)
+        → IsSettled (machine fresh S.after) every m p
+        → MarkedTurn (machine fresh S.after) writing every boot reads p m n sent → IsSettled (machine fresh S.after) every n p }
+{}
+
+/// A tick makes no new mark: only the one that isn't answered goes out again.
+pub fn ticks_make_no_new_mark<S: Service>()
+    ensures { (fresh : S) (writing : Writing S) (every : ℕ) (server : Addr) (boot : ℕ) (p q : Point) (m n : Marking) (sent : List Outgoing)
+        → IsSettled (machine fresh S.after) every m p
+        → (turn : MarkingTurn (machine fresh S.after) writing every server boot Ticks p q m n sent)
+        → OnlyRepeats (length (dones Ticks p q)) boot q turn.packets m n sent }
+{}
+
+/// The marks that go out are true of the log, where those before were. The premises are those of `quiet_points_mark_the_log`, of the point after the turn.
+pub fn marks_that_go_out_are_true<S: Service>()
+    ensures { (fresh : S) (writing : Writing S) (every : ℕ) (news : News) (script : List ℕ) (m : Marking) (q : Point) (e : Entry) → IsPrefix q.taken script
+        → sum q.lengths ≤ length q.taken → IsPrefix e.bytes script → sum e.lengths ≤ length e.bytes → IsPrefix e.lengths q.lengths
+        → q.reads_answered ≤ length e.lengths → AreTrue (machine fresh S.after) writing e (outstanding_in m)
+        → TellsTruth (machine fresh S.after) writing every news m q e }
+{}
