@@ -3,7 +3,7 @@
 ghost use Rattle.std.specs.Prelude.{◌≡◌, ◌∷◌, ◌||◌, false, ℕ, ◌+◌, ◌-◌, ◌^◌, ◌<◌, ◌≤◌, ◌==◌, ◌&&◌, Some, List, [], ◌++◌, length, take, drop, OnOk, IfSome};
 ghost use Rattle.server_trait.specs.Service.{machine};
 ghost use Rattle.ft_model.specs.Offset.{one_if};
-ghost use Rattle.ft_model.specs.Point.{Point, released};
+ghost use Rattle.ft_model.specs.Point.{Point, released, whole_run};
 ghost use Rattle.north_wrap.specs.Refinement.{NorthStands, SocketStands, NorthTurn, with_answered};
 ghost use Rattle.north_wrap.specs.RunState.{run_on};
 ghost use Rattle.north_wrap.specs.Sockets.{reader, writer};
@@ -353,11 +353,20 @@ impl<S: Service> North<S> {
         &self.reads
     }
 
-    /// The service, in its state after all reads.
+    /// The service, in its state after all reads: that of the uncrashed server after them.
     pub fn service(&self) -> &S
-        ensures { result.now ≡ self.now.run.service }
+        ensures value { result.now ≡ self.now.run.service }
+        ensures law { (fresh : S) (p : Point) (given : ℕ) → NorthStands (machine fresh S.after) p given self.now
+            → result.now ≡ (whole_run (machine fresh S.after) p).state }
     {
         self.run.service()
+    }
+
+    /// Whether the service has closed.
+    pub fn is_closed(&self) -> bool
+        ensures { result ≡ self.now.run.closed }
+    {
+        self.run.is_closed()
     }
 
     /// The bytes of all output.

@@ -26,3 +26,4 @@ pub mod Hearing
 pub mod Ticking
 pub mod Joining
 pub mod Lending
+pub mod Quieting

@@ -8,3 +8,4 @@ pub mod LoggerMessages
 pub mod Turn
 pub mod Sound
 pub mod Refinement
+pub mod Quiet

@@ -97,3 +97,10 @@ most_text = 1460 + 65535
 -- .. and headers of at most 64 bytes
 abbrev pub AreShort : List (List ℕ) → Type 0
 AreShort messages = byte_count messages ≤ 64 * length messages + most_text
+
+-- a message about a mark may stand before Done: its state has at most so many bytes
+abbrev pub most_state : ℕ
+most_state = 1100
+
+abbrev pub AreShortWithMark : List (List ℕ) → Type 0
+AreShortWithMark messages = byte_count messages ≤ 64 * length messages + most_text + most_state

@@ -3,9 +3,12 @@
 ghost use Rattle.std.specs.Prelude.{◌≡◌, ◌<◌, ◌≤◌, ◌-◌, ◌%◌, ◌^◌, ◌+◌, false, Some, [], IfOk};
 ghost use Rattle.seq_arith.specs.Offset.{one_if};
 ghost use Rattle.segment_codec.specs.Value.{said};
+ghost use Rattle.server_trait.specs.Service.{machine};
+ghost use Rattle.ft_model.specs.Point.{Point, whole_run};
 ghost use Rattle.wrapped_conn.specs.NewConnection.{first_conn, joined_conn, syn};
 ghost use Rattle.wrapped_conn.specs.Numbers.{has_fin as has_fin_lem, is_over as is_over_lem};
 ghost use Rattle.wrapped_conn.specs.Sound.{IsSound};
+ghost use Rattle.wrapped_conn.specs.Refinement.{Stands};
 
 use crate::stage::ConnStage;
 use ft_io::{Addr, Key, NoMemory};
@@ -141,6 +144,14 @@ impl<S: Service> Conn<S> {
         ensures { result.now ≡ self.now.north }
     {
         &self.north
+    }
+
+    /// Its service, in its state after all reads: that of the uncrashed server after them.
+    pub fn service(&self) -> &S
+        ensures value { result.now ≡ self.now.north.run.service }
+        ensures law { (fresh : S) (p : Point) → Stands (machine fresh S.after) self.now p → result.now ≡ (whole_run (machine fresh S.after) p).state }
+    {
+        self.north.service()
     }
 
     /// How far it has come: live, ending or done.

@@ -4,6 +4,7 @@
 
 pub use conn::Conn;
 pub use inside::Inside;
+pub use quiet::Quiet;
 pub use stage::ConnStage;
 pub use turn_out::TurnOut;
 
@@ -13,6 +14,7 @@ mod inside;
 pub mod laws;
 mod leaving;
 mod numbers;
+mod quiet;
 mod stage;
 mod telling;
 #[cfg(test)]

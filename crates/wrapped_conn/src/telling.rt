@@ -6,7 +6,7 @@ ghost use Rattle.seq_arith.specs.Message.Body.{DataMsg};
 ghost use Rattle.logger_wire.specs.Value.{body_of, message_of, IsSendable};
 ghost use Rattle.north_wrap.specs.Refinement.{messages_of};
 ghost use Rattle.tcp_endpoint.specs.Packets.{byte_count};
-ghost use Rattle.wrapped_conn.specs.LoggerMessages.{spelled, dones, text_length, most_text, AreShort, AreTellable, with_done};
+ghost use Rattle.wrapped_conn.specs.LoggerMessages.{spelled, dones, text_length, most_text, AreShort, AreTellable, with_done, most_state, AreShortWithMark};
 
 use crate::conn::Conn;
 use crate::stage::ConnStage;
@@ -76,8 +76,8 @@ impl<S: Service> Conn<S> {
     /// Reports that the connection has ended, until that is logged.
     pub(crate) fn tell_done(&mut self, out: &mut Outbox)
         requires boot { 1 ≤ self.old.boot }
-        requires few { length out.old ≤ 78 }
-        requires short { AreShort out.old }
+        requires few { length out.old ≤ 79 }
+        requires short { AreShortWithMark out.old }
         ensures state { self.new ≡ with_done self.old }
         ensures told { out.new ≡ out.old ++ spelled self.old.boot (dones self.old) }
     {
@@ -100,7 +100,7 @@ fn tell(boot: u64, body: Body<'_>, room: &mut [u8], out: &mut Outbox)
     requires sendable { IsSendable (record { boot = boot; body = body }) }
     requires room { message_length (body_of body) ≤ length room.old }
     requires few { length out.old ≤ 80 }
-    requires short { byte_count out.old + text_length body ≤ 64 * length out.old + most_text }
+    requires short { byte_count out.old + text_length body ≤ 64 * length out.old + most_text + most_state }
     ensures told { out.new ≡ out.old ++ spelling (message_of (record { boot = boot; body = body.entry })) ∷ [] }
     ensures few { length out.new ≡ length out.old + 1 }
     ensures short { byte_count out.new ≤ byte_count out.old + 64 + text_length body.entry }

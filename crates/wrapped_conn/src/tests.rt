@@ -7,9 +7,10 @@ ghost use Rattle.wrapped_conn.specs.Sound.{IsSound};
 use super::*;
 use ft_io::{Addr, Key, NoMemory};
 use logger_wire::read_msg;
-use sample_servers::Echo;
+use sample_servers::{Echo, Line};
 use segment_codec::read_packet;
 use seq_arith::Seq;
+use server_trait::{Saved, Service};
 use std::alloc::Global;
 use std::test::Fail;
 use tcp_endpoint::Outbox;
@@ -36,9 +37,9 @@ enum News<'a> {
 type Turn<'a> = (News<'a>, &'a [u8], &'a [u8]);
 
 /// One turn. Nothing is done where the bytes aren't accepted.
-fn take(
+fn take<S: Service>(
     alloc: Global,
-    conn: &mut Conn<Echo>,
+    conn: &mut Conn<S>,
     news: News<'_>,
     out: &mut TurnOut,
 ) -> Result<(), NoMemory>
@@ -59,9 +60,9 @@ fn take(
     }
 }
 
-fn take_packet(
+fn take_packet<S: Service>(
     alloc: Global,
-    conn: &mut Conn<Echo>,
+    conn: &mut Conn<S>,
     bytes: &[u8],
     out: &mut TurnOut,
 ) -> Result<(), NoMemory>
@@ -102,7 +103,7 @@ fn first_other(
     turns: &[Turn<'_>],
 ) -> Result<Option<usize>, NoMemory> {
     let mut out = TurnOut::new(alloc)?;
-    let mut conn = Conn::first(alloc, 1, CLIENT, SERVER, Seq(cisn), Seq(5000), 536, 1)?;
+    let mut conn: Conn<Echo> = Conn::first(alloc, 1, CLIENT, SERVER, Seq(cisn), Seq(5000), 536, 1)?;
     conn.start(alloc, &mut out)?;
     if !holds(&out.segments, syn_ack) {
         return Ok(Some(turns.len()));
@@ -411,5 +412,91 @@ fn held(rt: HostRuntime) -> Result<(), Fail> {
         ],
     )?;
     assert_eq!(rt; other, None);
+    Ok(())
+}
+
+/// The client sends `hello`, with the initial number 1000.
+const HELLO: &[u8] =
+    b"\x45\x00\x00\x2d\x00\x00\x40\x00\x40\x06\xb6\x65\xc0\x00\x02\x01\xc0\x00\x02\x64\x9c\x40\x00\x07\x00\x00\x03\xe9\x00\x00\x13\x89\x50\x10\xff\xff\x33\xde\x00\x00\x68\x65\x6c\x6c\x6f";
+
+/// The first turn, from 0, after which the connection's answer to whether it is quiet is another than is wanted.
+fn first_not_so_quiet(
+    alloc: Global,
+    turns: &[(News<'_>, Option<Quiet>)],
+) -> Result<Option<usize>, NoMemory> {
+    let mut out = TurnOut::new(alloc)?;
+    let mut conn: Conn<Echo> = Conn::first(alloc, 1, CLIENT, SERVER, Seq(1000), Seq(5000), 536, 1)?;
+    conn.start(alloc, &mut out)?;
+    for i in 0..turns.len() {
+        let (news, quiet) = turns[i];
+        take(alloc, &mut conn, news, &mut out)?;
+        if conn.quiet() != quiet {
+            return Ok(Some(i));
+        }
+    }
+    Ok(None)
+}
+
+/// It is quiet before its first read, and again once its read is logged and the echo acknowledged. It isn't between, nor once the client has closed, though
+/// that is logged.
+#[test]
+fn quiet(rt: HostRuntime) -> Result<(), Fail> {
+    let other = first_not_so_quiet(
+        rt.alloc(),
+        &[
+            (
+                News::Tick,
+                Some(Quiet {
+                    reads: 0,
+                    length: 0,
+                    made: 0,
+                }),
+            ),
+            (News::Packet(HELLO), None),
+            (
+                News::Message(
+                    &b"\x46\x54\x01\x0e\x00\x1f\x59\x36\x00\x00\x00\x00\x00\x00\x00\x01\xc0\x00\x02\x01\x9c\x40\x00\x00\x00\x05\x00\x00\x00\x00\x01"[..],
+                ),
+                None,
+            ),
+            (
+                News::Packet(
+                    &b"\x45\x00\x00\x28\x00\x00\x40\x00\x40\x06\xb6\x6a\xc0\x00\x02\x01\xc0\x00\x02\x64\x9c\x40\x00\x07\x00\x00\x03\xee\x00\x00\x13\x8e\x50\x10\xff\xff\x77\xab\x00\x00"[..],
+                ),
+                Some(Quiet {
+                    reads: 1,
+                    length: 5,
+                    made: 5,
+                }),
+            ),
+            (
+                News::Packet(
+                    &b"\x45\x00\x00\x28\x00\x00\x40\x00\x40\x06\xb6\x6a\xc0\x00\x02\x01\xc0\x00\x02\x64\x9c\x40\x00\x07\x00\x00\x03\xee\x00\x00\x13\x8e\x50\x11\xff\xff\x77\xaa\x00\x00"[..],
+                ),
+                None,
+            ),
+            (
+                News::Message(
+                    &b"\x46\x54\x01\x0e\x00\x1f\x58\x35\x00\x00\x00\x00\x00\x00\x00\x01\xc0\x00\x02\x01\x9c\x40\x00\x00\x00\x05\x01\x00\x00\x00\x02"[..],
+                ),
+                None,
+            ),
+        ],
+    )?;
+    assert_eq!(rt; other, None);
+    Ok(())
+}
+
+/// The service is in its state after all reads, also those that aren't logged.
+#[test]
+fn service(rt: HostRuntime) -> Result<(), Fail> {
+    let alloc = rt.alloc();
+    let mut out = TurnOut::new(alloc)?;
+    let mut conn: Conn<Line> = Conn::first(alloc, 1, CLIENT, SERVER, Seq(1000), Seq(5000), 536, 2)?;
+    conn.start(alloc, &mut out)?;
+    take(alloc, &mut conn, News::Packet(HELLO), &mut out)?;
+    let mut form = Vec::new(alloc);
+    conn.service().save(&mut form)?;
+    assert_eq!(rt; form.as_slice(), &b"\0\0\0\0\0\0\0\0hello"[..]);
     Ok(())
 }

@@ -6,7 +6,8 @@ use ft_io::NoMemory;
 use std::alloc::Global;
 use tcp_endpoint::Outbox;
 
-/// The segments and the messages that a connection sends in one turn, each list in order, in room that is allocated once. A turn has at most 79 messages.
+/// The segments and the messages that a connection sends in one turn, each list in order, in room that is allocated once. A turn has at most 79 messages,
+/// and there is room for 80: one about a mark may stand before Done.
 #[derive(Drop)]
 pub struct TurnOut {
     /// To the client, in order.
