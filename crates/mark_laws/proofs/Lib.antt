@@ -1,3 +1,4 @@
 mod Runs
 pub mod Closing
 mod MarksSent
+mod Answered

@@ -3,4 +3,7 @@ pub mod Runs
 pub mod Quiet
 pub mod Front
 pub mod Marking
+pub mod Restart
+pub mod Answers
 pub mod WorkedLog
+pub mod WorkedRestart

@@ -68,10 +68,10 @@ is_below l _ = false
 unfoldable pub answer_above : MarkedLog → Message → Option Message
 answer_above l message = if message.boot == l.log.boot && is_below l message.body then None else answer_to l.log message
 
--- what is answered to a message about marks: such a message, or that a newer server has started
-pub data Reply : Type 0 where
-  About_mark : MarkMessage → Reply
-  Of_log : Message → Reply
+-- a message between a server and its log with marks: one about marks, or any other
+pub data AnyMessage : Type 0 where
+  About_mark : MarkMessage → AnyMessage
+  Of_log : Message → AnyMessage
 
 -- only the logger sends such a body
 abbrev pub is_mark_answer : MarkBody → Bool
@@ -85,11 +85,11 @@ told_of_mark (MarkMsg key mark) l = option_map (λ e. MarkedMsg key (l.marks key
 told_of_mark (AskMsg key) l = option_map (λ e. HeldMsg key (l.marks key)) (entry_of key l.log)
 told_of_mark _ l = None
 
-abbrev pub about_mark : ℕ → MarkBody → Reply
+abbrev pub about_mark : ℕ → MarkBody → AnyMessage
 about_mark boot body = About_mark (record { boot = boot; body = body })
 
 -- The answer to a message about marks, once the log has taken it. An older boot gets Stale, a newer one nothing.
-unfoldable pub answer_to_mark : MarkedLog → MarkMessage → Option Reply
+unfoldable pub answer_to_mark : MarkedLog → MarkMessage → Option AnyMessage
 answer_to_mark l message =
     if is_mark_answer message.body then None
     else (if nat_lt message.boot l.log.boot then Some (Of_log (record { boot = message.boot; body = StaleMsg l.log.boot }))

@@ -7,7 +7,7 @@ use Rattle.seq_arith.specs.Mark.MarkBody.{MarkMsg, MarkedMsg, AskMsg, HeldMsg}
 use Rattle.seq_arith.specs.Message.{Message}
 use Rattle.seq_arith.specs.Message.Body.{BytesMsg, PartMsg, CutsMsg, LensMsg}
 use Rattle.ft_model.specs.Log.{Entry}
-use Rattle.mark_laws.specs.MarkedLog.{MarkedLog, Reply, no_mark, with_mark, about_mark}
+use Rattle.mark_laws.specs.MarkedLog.{MarkedLog, AnyMessage, no_mark, with_mark, about_mark}
 
 -- 192.0.2.1, port 40000
 abbrev pub client : Key
@@ -36,13 +36,13 @@ marking reads bytes made = record { boot = 1; body = MarkMsg client (record { re
 abbrev pub kept : MarkedLog
 kept = with_mark client (record { reads = 2; length = 4096; made = 10; state = [] }) before
 
-abbrev pub two_are_marked : Reply
+abbrev pub two_are_marked : AnyMessage
 two_are_marked = about_mark 1 (MarkedMsg client 2)
 
 abbrev pub asking : MarkMessage
 asking = record { boot = 1; body = AskMsg client }
 
-abbrev pub held : Reply
+abbrev pub held : AnyMessage
 held = about_mark 1 (HeldMsg client (record { reads = 2; length = 4096; made = 10; state = [] }))
 
 abbrev pub bytes_from : ℕ → Message

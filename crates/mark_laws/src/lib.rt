@@ -2,18 +2,25 @@
 //! assume. Nothing here runs; each function is a theorem.
 #![tactic(auto)]
 
-ghost use Rattle.std.specs.Prelude.{◌≡◌, ℕ, ◌≤◌, false, List, Some, None, length, sum};
+ghost use Rattle.std.specs.Prelude.{◌≡◌, ℕ, Bool, true, false, ◌≤◌, List, [], ◌∷◌, Some, None, length, sum, slice_get};
 ghost use Rattle.server_trait.specs.Service.{machine, reference, AreBytes};
 ghost use Rattle.server_trait.specs.Saved.{Writing, ReadsBack};
 ghost use Rattle.seq_arith.specs.Mark.{Mark};
 ghost use Rattle.ft_model.specs.Log.{Entry};
 ghost use Rattle.ft_model.specs.Growth.{EntryGrows, IsPrefix};
 ghost use Rattle.ft_model.specs.Point.{Point};
-ghost use Rattle.mark_laws.specs.MarkedLog.{has_closing, after_mark, answer_to_mark, answer_above};
+ghost use Rattle.mark_laws.specs.MarkedLog.{MarkedLog, AnyMessage, has_closing, after_mark, answer_to_mark, answer_above};
 ghost use Rattle.mark_laws.specs.Runs.{IsRunOf};
 ghost use Rattle.mark_laws.specs.Quiet.{IsQuiet, mark_of};
 ghost use Rattle.mark_laws.specs.Front.{IsBelow, bytes_below, lengths_below};
-ghost use Rattle.mark_laws.specs.WorkedLog.{before, kept, marking, two_are_marked, asking, held, bytes_from, lengths_from, last_part, last_length};
+ghost use Rattle.ft_model.specs.Restart.{Fetched, wanted, point_of};
+ghost use Rattle.ft_model.specs.Lawful.{all_restored};
+ghost use Rattle.ft_model.specs.Node.Place.{Lives};
+ghost use Rattle.mark_laws.specs.Restart.{FetchedSoFar, Leads, next_question, fetched_on, mark_reported};
+ghost use Rattle.mark_laws.specs.WorkedRestart.{plain, entry_message, nothing_fetched, entry_fetched, mark, holding, mark_fetched, question_for_mark};
+ghost use Rattle.mark_laws.specs.Answers.{answer_of, IsQuestion, HasTrueMarks};
+ghost use Rattle.ft_model.proofs.Fetching.{AreFetched};
+ghost use Rattle.mark_laws.specs.WorkedLog.{client, before, kept, marking, two_are_marked, asking, held, bytes_from, lengths_from, last_part, last_length};
 
 use server_trait::Service;
 
@@ -46,6 +53,22 @@ pub fn true_marks_are_read_back<S: Service>()
         → IsBelow (machine (S.started kind) S.after) writing mark (bytes_below mark e) (lengths_below mark e) }
 {}
 
+/// A log whose marks are true leads a restart, with each of its answers, from prefixes of its entries to prefixes of them: what is below a mark is the entry's own.
+pub fn answers_fetch_the_log<S: Service>()
+    ensures { (kind : ℕ) (writing : Writing S) (l : MarkedLog) (marks : Bool) (boot count : ℕ) (asked answer : AnyMessage) (before : FetchedSoFar)
+        → ReadsBack (machine (S.started kind) S.after) writing → HasTrueMarks (machine (S.started kind) S.after) writing l
+        → AreFetched l.log.entries before.entries → IsQuestion l asked → answer_of l asked ≡ Some answer
+        → (after : FetchedSoFar) × Leads (machine (S.started kind) S.after) writing marks boot count answer before after
+        × AreFetched l.log.entries after.entries }
+{}
+
+/// When a restart has fetched such prefixes and nothing is missing any more, each entry that isn't done continues at the point of the whole entry.
+pub fn restarts_end_at_the_points<S: Service>()
+    ensures { (kind : ℕ) (entries : List Entry) (fetched : List Fetched) → AreFetched entries fetched → wanted (length entries) fetched ≡ None
+        → (i : ℕ) (e : Entry) → slice_get entries i ≡ Some e → e.done ≡ false
+        → slice_get (all_restored (machine (S.started kind) S.after) fetched) i ≡ Some (Lives (point_of (machine (S.started kind) S.after) e)) }
+{}
+
 /// A mark of two reads is kept. A mark of fewer reads, one whose length isn't the sum of its reads, and one beyond the reads get the same answer and change
 /// nothing.
 pub fn worked_marks_are_kept()
@@ -65,4 +88,26 @@ pub fn worked_questions_are_answered_above()
     ensures bytes { answer_above kept (bytes_from 4096) ≡ Some last_part }
     ensures lengths_below { answer_above kept (lengths_from 1) ≡ None }
     ensures lengths { answer_above kept (lengths_from 2) ≡ Some last_length }
+{}
+
+/// The mark of an entry is asked for directly after it, and nothing else is then missing of an entry that is all below its mark.
+pub fn worked_restarts_ask_for_the_mark()
+    ensures entry { fetched_on true 2 1 entry_message nothing_fetched ≡ Some entry_fetched }
+    ensures question { next_question 2 1 entry_fetched ≡ Some question_for_mark }
+    ensures waits { fetched_on true 2 1 entry_message entry_fetched ≡ None }
+    ensures answer { mark_reported plain 2 (holding client mark) entry_fetched ≡ Some mark }
+    ensures end { next_question 2 1 mark_fetched ≡ None }
+    ensures without { fetched_on false 2 1 entry_message nothing_fetched ≡ Some (record entry_fetched { awaits_mark = false }) }
+{}
+
+/// A mark of another key or another boot, one of more reads, bytes or output than its entry has, one of more reads than bytes, and one whose state isn't read back
+/// are no answers.
+pub fn worked_marks_that_do_not_fit()
+    ensures key { mark_reported plain 2 (holding (record client { port = 40001 }) mark) entry_fetched ≡ None }
+    ensures boot { mark_reported plain 3 (holding client mark) entry_fetched ≡ None }
+    ensures reads { mark_reported plain 2 (holding client (record mark { reads = 2 })) entry_fetched ≡ None }
+    ensures length { mark_reported plain 2 (holding client (record mark { length = 6 })) entry_fetched ≡ None }
+    ensures made { mark_reported plain 2 (holding client (record mark { made = 6 })) entry_fetched ≡ None }
+    ensures empty { mark_reported plain 2 (holding client (record mark { length = 0 })) entry_fetched ≡ None }
+    ensures state { mark_reported plain 2 (holding client (record mark { state = 0 ∷ [] })) entry_fetched ≡ None }
 {}

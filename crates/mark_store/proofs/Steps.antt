@@ -24,7 +24,7 @@ use Rattle.logger_store.specs.Trim.{TrimmedLog, no_trim, trim_at, trim_of, is_tr
 use Rattle.logger_store.specs.declared.trimming.Trim.{Trim}
 use Rattle.logger_store.proofs.LeftLogs.{after_left, answers_left, trim_left, more_acknowledged, none_trimmed, same_front, same_closing, count_left, size_left}
 use Rattle.mark_laws.specs.MarkedLog.{MarkedLog, no_mark, nothing_logged, after_mark, after_message, answer_above, answer_to_mark, about_mark, is_below, is_mark_answer, told_of_mark, acknowledging, with_mark, with_mark_body, keeps, may_follow, has_closing}
-use Rattle.mark_laws.specs.MarkedLog.Reply.{Of_log}
+use Rattle.mark_laws.specs.MarkedLog.AnyMessage.{Of_log}
 use Rattle.mark_store.specs.Bytes.{reply_bytes, kept_at}
 use Rattle.mark_store.specs.Refinement.{TrimmedAtMarks, IsLeftOfMarked, mark_at}
 use Rattle.mark_store.proofs.Places.{alike, at_more, nowhere, put_at_key, found_left, left_at, IsSameEntry, IsLeftAt}

@@ -8,8 +8,8 @@ use Rattle.seq_arith.specs.MessageGrammar as messages
 use Rattle.seq_arith.specs.declared.mark.BadMark.{BadMark}
 use Rattle.seq_arith.specs.declared.kinds.BadMsg.{BadMsg}
 use Rattle.logger_store.specs.Pages.{pages}
-use Rattle.mark_laws.specs.MarkedLog.{MarkedLog, Reply, after_mark, after_message, answer_above, answer_to_mark}
-use Rattle.mark_laws.specs.MarkedLog.Reply.{About_mark, Of_log}
+use Rattle.mark_laws.specs.MarkedLog.{MarkedLog, AnyMessage, after_mark, after_message, answer_above, answer_to_mark}
+use Rattle.mark_laws.specs.MarkedLog.AnyMessage.{About_mark, Of_log}
 
 -- bytes are a message, one about marks, or neither
 abbrev pub after_reading : Result Message BadMsg → Result MarkMessage BadMark → MarkedLog → MarkedLog
@@ -20,12 +20,12 @@ after_reading (Err _) (Err _) l = l
 abbrev pub after_bytes : List ℕ → MarkedLog → MarkedLog
 after_bytes bytes l = after_reading (messages.reading bytes) (marks.reading bytes) l
 
-abbrev pub reply_to_reading : Result Message BadMsg → Result MarkMessage BadMark → MarkedLog → Option Reply
+abbrev pub reply_to_reading : Result Message BadMsg → Result MarkMessage BadMark → MarkedLog → Option AnyMessage
 reply_to_reading (Ok message) _ l = option_map Of_log (answer_above l message)
 reply_to_reading (Err _) (Ok message) l = answer_to_mark l message
 reply_to_reading (Err _) (Err _) l = None
 
-abbrev pub reply_bytes : Option Reply → List ℕ
+abbrev pub reply_bytes : Option AnyMessage → List ℕ
 reply_bytes (Some (About_mark message)) = marks.spelling message
 reply_bytes (Some (Of_log message)) = messages.spelling message
 reply_bytes None = []

@@ -11,7 +11,7 @@ ghost use Rattle.logger_store.specs.Trim.{trim_at, MayTrim};
 ghost use Rattle.mark_laws.specs.MarkedLog.{MarkedLog, after_mark, answer_to_mark, is_mark_answer, may_follow, no_mark, nothing_logged, told_of_mark, with_mark_body};
 ghost use Rattle.seq_arith.specs.Message.Body.{StaleMsg};
 ghost use Rattle.mark_laws.specs.MarkedLog.{about_mark};
-ghost use Rattle.mark_laws.specs.MarkedLog.Reply.{Of_log};
+ghost use Rattle.mark_laws.specs.MarkedLog.AnyMessage.{Of_log};
 ghost use Rattle.mark_store.specs.Bytes.{after_bytes, kept_at, reply_bytes, reply_to};
 ghost use Rattle.mark_store.specs.New.{mark_value};
 ghost use Rattle.mark_store.specs.Refinement.{IsLeftOfMarked, mark_at};

@@ -2,7 +2,7 @@ use Rattle.std.proofs.Common.{◌≡◌, ◌∙◌, ◌==◌, ◌&&◌, not, nat
 use Rattle.seq_arith.specs.Message.Body.{StaleMsg}
 use Rattle.checkpoint.specs.Value.{body_of, message_of}
 use Rattle.mark_laws.specs.MarkedLog.{with_mark_body, is_mark_answer}
-use Rattle.mark_laws.specs.MarkedLog.Reply.{Of_log}
+use Rattle.mark_laws.specs.MarkedLog.AnyMessage.{Of_log}
 use Rattle.mark_store.specs.Bytes.{reply_bytes}
 use Rattle.mark_store.specs.Refinement.{IsLeftOfMarked}
 use Rattle.mark_store.proofs.Steps.{own_after, own_answer, other_after, other_answer, some_boot}
