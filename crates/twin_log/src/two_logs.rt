@@ -33,6 +33,8 @@ pub struct TwinLog {
     number: u64,
     /// The last of these that aren't confirmed; none of a tail.
     waiting: Waiting,
+    /// What its log answers in a turn.
+    answer: MsgOut,
 }
 
 impl Model for TwinLog {
@@ -57,6 +59,7 @@ impl TwinLog {
             log: LogStore::new(alloc),
             number: 0,
             waiting: Waiting::new(alloc)?,
+            answer: MsgOut::new(),
         })
     }
 
@@ -212,9 +215,8 @@ impl TwinLog {
         ensures refused { OnErr result (self.new ≡ self.old) }
         ensures empty { OnErr result (out.new ≡ []) }
     {
-        let mut answer = MsgOut::new();
-        self.log.answer(alloc, msg, &mut answer)?;
-        send_answer(&answer, out);
+        self.log.answer(alloc, msg, &mut self.answer)?;
+        send_answer(&self.answer, out);
         Ok(())
     }
 
@@ -274,8 +276,7 @@ impl TwinLog {
         ensures refused { OnErr result (self.new ≡ self.old) }
     {
         let message = bytes.to_vec(alloc)?;
-        let mut answer = MsgOut::new();
-        self.log.answer(alloc, msg, &mut answer)?;
+        self.log.answer(alloc, msg, &mut self.answer)?;
         self.waiting.push(message);
         self.number += 1;
         Ok(())
