@@ -24,18 +24,10 @@ use Rattle.net_schedule.specs.Actors.{ActorsStand, ActorsGoOn, ActorsAdvance}
 use Rattle.net_schedule.specs.AtNumber.{at_number}
 use Rattle.net_schedule.specs.StoredPackets.{with_wires, way_along}
 use Rattle.net_schedule.specs.Premises.{Premises, ComesAs}
-use Rattle.net_schedule.specs.Refinement.{Kept, Server, WorldStands, ReachesNext, Advances, Refuses, IsForMemory}
-use Rattle.net_schedule.specs.declared.end.StepEnd.{StepEnd}
-use Rattle.net_schedule.specs.declared.end.StepEnd.TheVariants.{NoMemory, BadEvent, PacketLimit}
+use Rattle.net_schedule.specs.Refinement.{Kept, Server, WorldStands, ReachesNext, Advances}
 use Rattle.net_schedule.proofs.PacketStore.{Found, found, none_sent}
 use Rattle.net_schedule.proofs.Goings.{down, both_up}
 use Rattle.net_schedule.proofs.Bringing.{comes_whole, comes_changed, goes_whole}
-
--- memory may run out at each event
-pub refuses_nothing : (v : Seen) (event : Event) (end : StepEnd) → IsForMemory end → Refuses v event end
-refuses_nothing v event NoMemory h = tt
-refuses_nothing v event (BadEvent w) h = absurd h
-refuses_nothing v event PacketLimit h = absurd h
 
 -- a packet of this number has its bytes
 pub all_numbered : (P : Packet → Type 0) (ps : List Packet) (n : ℕ) (p : Packet) → AllByRecursion P ps → packet_at ps n ≡ Some p → P p
@@ -158,16 +150,6 @@ module _ {State : Type 0} (service : Machine State) where
         scripted = no_move v (events.Deliver n) g.sent g.world refl;
       }
 
-  -- what isn't refused by the tests is not for want of a packet
-  pub delivers_end : (w : Kept State) (v : Seen) (n : ℕ) (way : Way) (bytes : List ℕ) (end : StepEnd) → WorldStands service w v → Premises service v
-      → at_number w.packets.ways n ≡ Some way → at_number w.packets.bytes n ≡ Some bytes
-      → ((packet : Packet) → way ≡ way_along w.keys (wire_of packet) → ComesAs v packet bytes → IsForMemory end) → Refuses v (events.Deliver n) end
-  delivers_end w v n way bytes end st p e f brings =
-      let x : Found w.keys v.packets n way bytes = found w.keys w.packets v.packets n way bytes st.packets e f in
-      let wire : HasWire x.packet = all_numbered HasWire v.packets n x.packet p.wires x.is in
-      let came : ComesAs v x.packet bytes = subst (ComesAs v x.packet) (sym x.spells) (comes_whole service v x.packet wire (n, x.is)) in
-      refuses_nothing v (events.Deliver n) end (brings x.packet x.goes came)
-
   pub refuses_packet : (v : Seen) (n : ℕ) → packet_at v.packets n ≡ None → refusal v (events.Deliver n) ≡ Some why.Packet
   refuses_packet v n e = rw e refl
 
@@ -189,16 +171,6 @@ module _ {State : Type 0} (service : Machine State) where
         allowed = ap (λ o. refusal_of_flip o bit) x.is ∙ ap (λ b. cond b (Some why.Bit) None) has;
         scripted = no_move v (events.Flip n bit) g.sent g.world refl;
       }
-
-  pub flips_end : (w : Kept State) (v : Seen) (n bit : ℕ) (way : Way) (bytes : List ℕ) (end : StepEnd) → WorldStands service w v → Premises service v
-      → at_number w.packets.ways n ≡ Some way → at_number w.packets.bytes n ≡ Some bytes → bit < 8 * length bytes
-      → ((packet : Packet) → way ≡ way_along w.keys (wire_of packet) → ComesAs v packet (flipped bit bytes) → IsForMemory end) → Refuses v (events.Flip n bit) end
-  flips_end w v n bit way bytes end st p e f within brings =
-      let x : Found w.keys v.packets n way bytes = found w.keys w.packets v.packets n way bytes st.packets e f in
-      let wire : HasWire x.packet = all_numbered HasWire v.packets n x.packet p.wires x.is in
-      let inside : bit < 8 * length (wire_of x.packet).bytes = subst (λ b. bit < 8 * length b) x.spells within in
-      let came : ComesAs v x.packet (flipped bit bytes) = subst (λ b. ComesAs v x.packet (flipped bit b)) (sym x.spells) (comes_changed service v x.packet bit wire inside) in
-      refuses_nothing v (events.Flip n bit) end (brings x.packet x.goes came)
 
   pub refuses_no_packet : (v : Seen) (n bit : ℕ) → packet_at v.packets n ≡ None → refusal v (events.Flip n bit) ≡ Some why.Packet
   refuses_no_packet v n bit e = ap (λ o. refusal_of_flip o bit) e

@@ -14,5 +14,6 @@ pub mod Parcels
 pub mod TwinActors
 pub mod TwinLoggers
 pub mod TwinEvents
+pub mod Brought
 pub mod TwinTrace
 pub mod TwinSent

@@ -1,16 +1,9 @@
--- What is kept where a step fails, and a server's part of it.
+-- Whether there is a server, and the error that a conversion gives.
 use Rattle.std.proofs.Common.{◌≡◌, ◌∙◌, sym, ap, subst, not, Bool, true, false, is_some, Option, Some, None, option_map, Result, Ok, Err, refl, true≢false}
 use Rattle.std.specs.Prelude.{IfErr, IsErrAnd}
 use Rattle.ft_model.specs.declared.event.EventWhy.{EventWhy}
-use Rattle.net_schedule.specs.Refinement.{Kept, IsForMemory, KeepsAtRefusal}
 use Rattle.net_schedule.specs.declared.end.StepEnd.{StepEnd}
-use Rattle.net_schedule.specs.declared.end.StepEnd.TheVariants.{NoMemory, BadEvent, PacketLimit}
-
--- without memory nothing is kept
-pub keeps_nothing : {State : Type 0} (before after : Kept State) (end : StepEnd) → IsForMemory end → KeepsAtRefusal before after end
-keeps_nothing before after NoMemory h = tt
-keeps_nothing before after (BadEvent why) h = absurd h
-keeps_nothing before after PacketLimit h = tt
+use Rattle.net_schedule.specs.declared.end.StepEnd.TheVariants.{BadEvent}
 
 pub not_there : {X Y : Type 0} (f : X → Y) (o : Option X) → is_some o ≡ false → option_map f o ≡ None
 not_there f None h = refl
@@ -25,6 +18,10 @@ is_up f o none e n = same_there f o ∙ (e ∙ ap not n)
 
 pub is_down : {X Y : Type 0} (f : X → Y) (o : Option X) (none : Bool) → is_some o ≡ not none → none ≡ true → is_some (option_map f o) ≡ false
 is_down f o none e n = same_there f o ∙ (e ∙ ap not n)
+
+pub none_there : {X : Type 0} (o : Option X) (none : Bool) → is_some o ≡ not none → none ≡ true → o ≡ None
+none_there None none e n = refl
+none_there (Some x) none e n = absurd (true≢false (e ∙ ap not n))
 
 -- the error that a conversion gives
 pub converted : (r : Result (Unit {0}) StepEnd) (why : EventWhy) (Q : StepEnd → Type 0) → IsErrAnd r (λ e. e ≡ BadEvent why) → Q (BadEvent why) → IfErr r Q

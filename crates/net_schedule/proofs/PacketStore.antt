@@ -113,3 +113,6 @@ as_many keys kept ps k = ap (λ c. length c.bytes) k ∙ length-map (map wire_of
 
 pub wires_grow : (keys : List Key) (kept : Carried) (wires : List Wire) → length kept.bytes ≤ length (with_wires keys kept wires).bytes
 wires_grow keys kept wires = omega (arith, length-append kept.bytes (map (λ w. w.bytes) wires))
+
+pub packet_grows : (kept : Carried) (way : Way) (bytes : List ℕ) → length kept.bytes ≤ length (with_packet kept way bytes).bytes
+packet_grows kept way bytes = omega (arith, length-append kept.bytes (bytes ∷ []))

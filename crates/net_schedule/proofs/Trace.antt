@@ -3,6 +3,7 @@ use Rattle.std.proofs.Common.{◌≡◌, ◌∙◌, sym, ap, subst, refl, ℕ, �
 use Rattle.std.specs.List.{AllByRecursion}
 use Rattle.std.specs.Prelude.{IfOk, IfErr, OnOk}
 use Rattle.server_trait.specs.Service.{Machine}
+use Rattle.server_trait.specs.declared.Service.{Ghosts}
 use Rattle.ft_model.specs.Client.{received}
 use Rattle.ft_model.specs.Lawful.{IsNearInput, IsSoundInput, fence}
 use Rattle.ft_model.specs.Legal.{Legal, IsLegalFor, start_of}
@@ -18,12 +19,16 @@ use Rattle.ft_model.proofs.FaithfulKept.{received_same}
 use Rattle.ft_model.proofs.Happened.{Happened, holds_after}
 use Rattle.ft_model.proofs.Happened.Happened.{log_heard, client_heard, client_moved, server_turned, server_booted, server_down}
 use Rattle.ft_model.proofs.Lists.{same_key}
+use Rattle.net_schedule.specs.WorldView.{kept, services_of}
 use Rattle.net_schedule.specs.Premises.{Premises}
-use Rattle.net_schedule.specs.Refinement.{Kept, WorldStands, Advances, Refuses}
+use Rattle.net_schedule.specs.Refinement.{Kept, WorldStands, Advances, KeepsAtRefusal}
 use Rattle.net_schedule.specs.Step.{StandsAfter, Extends, Steps, EndsStep}
+use Rattle.net_schedule.specs.Along.{EndsAlong}
+use Rattle.net_schedule.specs.Turns.{Declines}
 use Rattle.net_schedule.specs.declared.end.StepEnd.{StepEnd}
 use Rattle.net_schedule.specs.declared.end.StepEnd.TheVariants.{NoMemory, BadEvent, PacketLimit}
 use Rattle.net_schedule.specs.declared.step_out.StepOut.{StepOut}
+use Rattle.net_schedule.specs.declared.world.World.{World}
 use Rattle.net_schedule.proofs.PacketStore.{as_many}
 use Rattle.net_schedule.proofs.Peers.{keys_in, keys_stay}
 
@@ -120,9 +125,15 @@ module _ {State : Type 0} (services : ℕ → Machine State) where
       let x : Extends services schedule events trace event w' = extends schedule events trace event w w' s same (advances v s.stands (premises laws schedule events trace w s)) in
       (x, subst (λ n. 200000 < n) (as_many w'.keys w'.packets x.moment.world.packets x.stands.stands.packets) h.1))
 
-  -- an event that isn't done ends the step
-  pub ends_so : AreLaws services → (end : StepEnd) (w w' : Kept State) (event : Event) → ((v : Seen) → WorldStands (services w.kind) w v → Premises (services w.kind) v → Refuses v event end)
-      → (schedule : Schedule) (events : List Event) (trace : List Moment) → StandsAfter services schedule events trace w → EndsStep services schedule events trace event w' end
-  ends_so laws NoMemory w w' event refuses schedule events trace s = tt
-  ends_so laws (BadEvent why) w w' event refuses schedule events trace s = refuses (world_after (start_of schedule) trace) s.stands (premises laws schedule events trace w s)
-  ends_so laws PacketLimit w w' event refuses schedule events trace s = absurd (refuses (world_after (start_of schedule) trace) s.stands (premises laws schedule events trace w s))
+-- an event that isn't done ends the step
+pub ends_so : {State : Type 0} {ghosts : Ghosts State} (w w' : World State ghosts) (event : Event) (end : StepEnd) → AreLaws (services_of w) → Declines event w w' end → EndsAlong event end w w'
+ends_so w w' event NoMemory laws ends = λ schedule events trace s. tt
+ends_so w w' event (BadEvent why) laws ends =
+    λ schedule events trace s. ends.0.one (world_after (start_of schedule) trace) s.stands (premises (services_of w) laws schedule events trace (kept w) s)
+ends_so w w' event PacketLimit laws ends = absurd ends
+
+-- what is refused changes nothing
+pub keeps_refused : {State : Type 0} {ghosts : Ghosts State} (w w' : World State ghosts) (event : Event) (end : StepEnd) → Declines event w w' end → KeepsAtRefusal (kept w) (kept w') end
+keeps_refused w w' event NoMemory ends = tt
+keeps_refused w w' event (BadEvent why) ends = ends.1
+keeps_refused w w' event PacketLimit ends = absurd ends

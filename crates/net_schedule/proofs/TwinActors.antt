@@ -4,6 +4,7 @@ use Rattle.std.specs.Prelude.{OnOk, IfErr}
 use Rattle.std.proofs.lemmas.Result.{on_ok_weaker}
 use Rattle.ft_io.proofs.Outcomes.{if_err}
 use Rattle.server_trait.specs.Service.{Machine}
+use Rattle.server_trait.specs.declared.Service.{Ghosts}
 use Rattle.ft_model.specs.Client.{mover_of}
 use Rattle.ft_model.specs.Legal.{refusal, IsScripted}
 use Rattle.ft_model.specs.Network.{Packet, destination_of}
@@ -21,12 +22,14 @@ use Rattle.twin_laws.specs.TwinWorld.TwinEvent.{Usual}
 use Rattle.twin_laws.specs.TwinLegal.{twin_refusal}
 use Rattle.twin_laws.proofs.Elsewhere.{with_packets, happens_elsewhere, server_elsewhere, client_reads_elsewhere, NamesNone}
 use Rattle.twin_laws.proofs.Numbering.{outside_of}
-use Rattle.net_schedule.specs.Actors.{ActorsStand, ActorsGoOn, ActorsAdvance, ActorsDo, ActorsDecline}
-use Rattle.net_schedule.specs.Methods.{Does, Declines}
-use Rattle.net_schedule.specs.Refinement.{Kept, Refuses}
-use Rattle.net_schedule.specs.TwinRefinement.{TwinWorldStands, TwinGoesOn, TwinAdvances, TwinDoes, TwinDeclines, TwinRefuses, ParcelComesAs, carried_parcels}
+use Rattle.net_schedule.specs.Actors.{ActorsStand, ActorsGoOn, ActorsAdvance}
+use Rattle.net_schedule.specs.WorldView.{kept, service_of}
+use Rattle.net_schedule.specs.Refinement.{Kept}
+use Rattle.net_schedule.specs.Turns.{ActorsDo, ActorsDecline, Does, Declines}
+use Rattle.net_schedule.specs.TwinRefinement.{TwinWorldStands, TwinGoesOn, TwinAdvances, ParcelComesAs, carried_parcels}
 use Rattle.net_schedule.specs.declared.end.StepEnd.{StepEnd}
 use Rattle.net_schedule.specs.declared.end.StepEnd.TheVariants.{NoMemory, BadEvent, PacketLimit}
+use Rattle.net_schedule.specs.declared.world.World.{World}
 use Rattle.net_schedule.proofs.Goings.{actors_of, one_advances}
 use Rattle.net_schedule.proofs.Parcels.{packets_after}
 
@@ -162,37 +165,29 @@ module _ {State : Type 0} (service : Machine State) where
       at (From_logger message) n g = g
 
 -- An event of server or clients, with one logger and with two.
-module _ {State : Type 0} (services : ℕ → Machine State) where
-  pub one_does : (event : Event) (w w' : Kept State) → ActorsDo services event w w' → Does services event w w'
-  one_does event w w' does = λ v st p. one_advances (services w.kind) event w w' v st (does v (actors_of (services w.kind) w v st) p)
+module _ {State : Type 0} {ghosts : Ghosts State} (w w' : World State ghosts) where
+  acts : (event : Event) → IsOfActors event → ActorsDo event w w' → Does event w w'
+  acts event actors done = record {
+    continues = done.continues;
+    one = λ v st p. one_advances (service_of w) event (kept w) (kept w') v st (done.advances v (actors_of (service_of w) (kept w) v st) p);
+    two = λ v st p. two_advances (service_of w) event (kept w) (kept w') v p.packets actors st
+        (done.advances (seen v p.packets) (twin_actors_of (service_of w) (kept w) v p.packets st) p.premises);
+  }
 
-  pub one_declines : (event : Event) (w : Kept State) (end : StepEnd) → ActorsDecline services event w end → Declines services event w end
-  one_declines event w end declines = λ v st p. declines v (actors_of (services w.kind) w v st) p
-
-  pub two_does : (event : Event) (w w' : Kept State) → IsOfActors event → ActorsDo services event w w' → TwinDoes services event w w'
-  two_does event w w' actors does = λ v st p.
-      two_advances (services w.kind) event w w' v p.packets actors st (does (seen v p.packets) (twin_actors_of (services w.kind) w v p.packets st) p.premises)
-
-  refused_so : (v : TwinWorld) (ps : List Packet) (event : Event) (end : StepEnd) → IsOfActors event → Refuses (seen v ps) event end → TwinRefuses v event end
-  refused_so v ps event NoMemory actors r = tt
-  refused_so v ps event (BadEvent why) actors r = refused_alike v ps event actors ∙ r
-  refused_so v ps event PacketLimit actors r = r
-
-  pub two_declines : (event : Event) (w : Kept State) (end : StepEnd) → IsOfActors event → ActorsDecline services event w end → TwinDeclines services event w end
-  two_declines event w end actors declines = λ v st p.
-      refused_so v p.packets event end actors (declines (seen v p.packets) (twin_actors_of (services w.kind) w v p.packets st) p.premises)
+  acts_not : (event : Event) (end : StepEnd) → IsOfActors event → ActorsDecline event w w' end → Declines event w w' end
+  acts_not event NoMemory actors ends = tt
+  acts_not event (BadEvent why) actors ends = (
+    record {
+      one = λ v st p. ends.0 v (actors_of (service_of w) (kept w) v st) p;
+      two = λ v st p. refused_alike v p.packets event actors ∙ ends.0 (seen v p.packets) (twin_actors_of (service_of w) (kept w) v p.packets st) p.premises;
+    },
+    ends.1,
+  )
+  acts_not event PacketLimit actors ends = ends
 
   -- .. where the event is named in another way
-  pub one_done : (r : Result (Unit {0}) StepEnd) (event named : Event) (w w' : Kept State) → event ≡ named → OnOk r (ActorsDo services named w w') → OnOk r (Does services event w w')
-  one_done r event named w w' is h = on_ok_weaker r (λ does. subst (λ e. Does services e w w') (sym is) (one_does named w w' does)) h
+  pub acted : (r : Result (Unit {0}) StepEnd) (event named : Event) → event ≡ named → IsOfActors named → OnOk r (ActorsDo named w w') → OnOk r (Does event w w')
+  acted r event named is actors h = on_ok_weaker r (λ done. subst (λ e. Does e w w') (sym is) (acts named actors done)) h
 
-  pub one_ended : (r : Result (Unit {0}) StepEnd) (event named : Event) (w : Kept State) → event ≡ named → IfErr r (ActorsDecline services named w) → IfErr r (Declines services event w)
-  one_ended r event named w is h = if_err r (λ end ends. subst (λ e. Declines services e w end) (sym is) (one_declines named w end ends)) h
-
-  pub two_done : (r : Result (Unit {0}) StepEnd) (event named : Event) (w w' : Kept State) → event ≡ named → IsOfActors named → OnOk r (ActorsDo services named w w')
-      → OnOk r (TwinDoes services event w w')
-  two_done r event named w w' is actors h = on_ok_weaker r (λ does. subst (λ e. TwinDoes services e w w') (sym is) (two_does named w w' actors does)) h
-
-  pub two_ended : (r : Result (Unit {0}) StepEnd) (event named : Event) (w : Kept State) → event ≡ named → IsOfActors named → IfErr r (ActorsDecline services named w)
-      → IfErr r (TwinDeclines services event w)
-  two_ended r event named w is actors h = if_err r (λ end ends. subst (λ e. TwinDeclines services e w end) (sym is) (two_declines named w end actors ends)) h
+  pub acted_not : (r : Result (Unit {0}) StepEnd) (event named : Event) → event ≡ named → IsOfActors named → IfErr r (ActorsDecline named w w') → IfErr r (Declines event w w')
+  acted_not r event named is actors h = if_err r (λ end ends. subst (λ e. Declines e w w' end) (sym is) (acts_not named end actors ends)) h

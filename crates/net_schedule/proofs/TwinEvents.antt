@@ -35,10 +35,8 @@ use Rattle.net_schedule.specs.AtNumber.{at_number}
 use Rattle.net_schedule.specs.StoredPackets.{way_along}
 use Rattle.net_schedule.specs.Loggers.{Loggers, serving_log, stopped, part_numbered}
 use Rattle.net_schedule.specs.Premises.{ComesAs}
-use Rattle.net_schedule.specs.Refinement.{Kept, IsForMemory}
-use Rattle.net_schedule.specs.TwinRefinement.{stored_way, LoggersStand, TwinWorldStands, TwinGoesOn, TwinAdvances, TwinPremises, TwinRefuses, ParcelComesAs, MayComeAs}
-use Rattle.net_schedule.specs.declared.end.StepEnd.{StepEnd}
-use Rattle.net_schedule.specs.declared.end.StepEnd.TheVariants.{NoMemory, BadEvent, PacketLimit}
+use Rattle.net_schedule.specs.Refinement.{Kept}
+use Rattle.net_schedule.specs.TwinRefinement.{stored_way, LoggersStand, TwinWorldStands, TwinGoesOn, TwinAdvances, TwinPremises, ParcelComesAs, MayComeAs}
 use Rattle.net_schedule.proofs.Bringing.{comes_whole, comes_changed, as_whole}
 use Rattle.net_schedule.proofs.Events.{no_move}
 use Rattle.net_schedule.proofs.Parcels.{FoundParcel, found_parcel, none_after}
@@ -64,11 +62,6 @@ by_outside P keys v (Inside (Got number)) way bytes leads is comes so = absurd (
 pub written_at : (xs : List Parcel) (n : ℕ) (x : Parcel) → AllByRecursion IsWritten xs → parcel_at xs n ≡ Some x → IsWritten x
 written_at xs zero x a e = none_is_some x e
 written_at xs (suc n) x a e = all_slice_get IsWritten xs n x a e
-
-pub twin_refuses_nothing : (v : TwinWorld) (event : Event) (end : StepEnd) → IsForMemory end → TwinRefuses v event end
-twin_refuses_nothing v event NoMemory h = tt
-twin_refuses_nothing v event (BadEvent w) h = absurd h
-twin_refuses_nothing v event PacketLimit h = absurd h
 
 module _ {State : Type 0} (service : Machine State) where
   -- a parcel's own bytes are the parcel
@@ -109,15 +102,6 @@ module _ {State : Type 0} (service : Machine State) where
         allowed = rw x.is refl;
         scripted = no_move (seen v []) (events.Deliver n) _ (seen g.world []) refl;
       }
-
-  pub twin_delivers_end : (w : Kept State) (v : TwinWorld) (n : ℕ) (way : Way) (bytes : List ℕ) (end : StepEnd) → TwinWorldStands service w v → (p : TwinPremises service v)
-      → at_number w.packets.ways n ≡ Some way → at_number w.packets.bytes n ≡ Some bytes
-      → ((parcel : Parcel) → way ≡ stored_way w.keys parcel → MayComeAs (seen v p.packets) parcel bytes → IsForMemory end) → TwinRefuses v (events.Deliver n) end
-  twin_delivers_end w v n way bytes end st p e f brings =
-      let x : FoundParcel w.keys v.parcels n way bytes = found_parcel w.keys w.packets v.parcels n way bytes st.packets e f in
-      let wire : IsWritten x.parcel = written_at v.parcels n x.parcel p.written x.is in
-      let came : MayComeAs (seen v p.packets) x.parcel bytes = subst (MayComeAs (seen v p.packets) x.parcel) (sym x.spells) (may_come v p n x.parcel x.is wire) in
-      twin_refuses_nothing v (events.Deliver n) end (brings x.parcel x.goes came)
 
   pub twin_refuses_packet : (v : TwinWorld) (n : ℕ) → parcel_at v.parcels n ≡ None → twin_refusal v (events.Deliver n) ≡ Some why.Packet
   twin_refuses_packet v n e = rw e refl
@@ -160,17 +144,6 @@ module _ {State : Type 0} (service : Machine State) where
         allowed = ap (λ o. refusal_of_twin_flip o bit) x.is ∙ ap (λ b. cond b (Some why.Bit) None) has;
         scripted = no_move (seen v []) (events.Flip n bit) _ (seen g.world []) refl;
       }
-
-  pub twin_flips_end : (w : Kept State) (v : TwinWorld) (n bit : ℕ) (way : Way) (bytes : List ℕ) (end : StepEnd) → TwinWorldStands service w v → (p : TwinPremises service v)
-      → at_number w.packets.ways n ≡ Some way → at_number w.packets.bytes n ≡ Some bytes → bit < 8 * length bytes
-      → ((parcel : Parcel) → way ≡ stored_way w.keys parcel → MayComeAs (seen v p.packets) parcel (flipped bit bytes) → IsForMemory end) → TwinRefuses v (events.Flip n bit) end
-  twin_flips_end w v n bit way bytes end st p e f within brings =
-      let x : FoundParcel w.keys v.parcels n way bytes = found_parcel w.keys w.packets v.parcels n way bytes st.packets e f in
-      let wire : IsWritten x.parcel = written_at v.parcels n x.parcel p.written x.is in
-      let inside : bit < 8 * length (bytes_of_parcel x.parcel) = subst (λ b. bit < 8 * length b) x.spells within in
-      let came : MayComeAs (seen v p.packets) x.parcel (flipped bit bytes) =
-      subst (λ b. MayComeAs (seen v p.packets) x.parcel (flipped bit b)) (sym x.spells) (may_come_changed (seen v p.packets) x.parcel bit wire inside) in
-      twin_refuses_nothing v (events.Flip n bit) end (brings x.parcel x.goes came)
 
   pub twin_refuses_no_packet : (v : TwinWorld) (n bit : ℕ) → parcel_at v.parcels n ≡ None → twin_refusal v (events.Flip n bit) ≡ Some why.Packet
   twin_refuses_no_packet v n bit e = ap (λ o. refusal_of_twin_flip o bit) e

@@ -3,6 +3,7 @@ use Rattle.std.proofs.Common.{◌≡◌, ◌∙◌, sym, ap, subst, ℕ, ◌+◌
 use Rattle.std.specs.List.{AllByRecursion}
 use Rattle.std.specs.Prelude.{IfOk, IfErr, OnOk}
 use Rattle.server_trait.specs.Service.{Machine}
+use Rattle.server_trait.specs.declared.Service.{Ghosts}
 use Rattle.ft_model.specs.Legal.{IsLegalFor, IsScripted, start_of}
 use Rattle.ft_model.specs.Network.{Packet}
 use Rattle.ft_model.specs.Schedule.{kind_of}
@@ -15,13 +16,17 @@ use Rattle.twin_laws.specs.TwinLegal.{IsTwinLegalFor, event_of, twin_start, twin
 use Rattle.twin_laws.specs.TwinWorld.{TwinWorld, TwinMoment, TwinJoint, TwinHappens, seen, parcel_at, twin_after}
 use Rattle.twin_laws.specs.TwinWorld.Parcel.{Outside}
 use Rattle.twin_laws.specs.SentBytes.{IsWritten}
+use Rattle.net_schedule.specs.WorldView.{kept, services_of}
 use Rattle.net_schedule.specs.Premises.{Premises}
 use Rattle.net_schedule.specs.Refinement.{Kept}
-use Rattle.net_schedule.specs.TwinRefinement.{TwinWorldStands, TwinAdvances, TwinPremises, TwinRefuses}
+use Rattle.net_schedule.specs.TwinRefinement.{TwinWorldStands, TwinAdvances, TwinPremises}
 use Rattle.net_schedule.specs.TwinStep.{TwinStandsAfter, TwinExtends, TwinSteps, TwinEndsStep}
+use Rattle.net_schedule.specs.Along.{TwinEndsAlong}
+use Rattle.net_schedule.specs.Turns.{Declines}
 use Rattle.net_schedule.specs.declared.end.StepEnd.{StepEnd}
 use Rattle.net_schedule.specs.declared.end.StepEnd.TheVariants.{NoMemory, BadEvent, PacketLimit}
 use Rattle.net_schedule.specs.declared.step_out.StepOut.{StepOut}
+use Rattle.net_schedule.specs.declared.world.World.{World}
 use Rattle.net_schedule.proofs.Parcels.{as_many_parcels}
 use Rattle.net_schedule.proofs.Trace.{AreLaws, premises_at}
 
@@ -110,13 +115,10 @@ module _ {State : Type 0} (services : ℕ → Machine State) (laws : AreLaws ser
       twin_extends schedule events trace event w w' s same (advances v s.stands (twin_premises schedule events trace w s)) in
       (x, subst (λ n. 200000 < n) (as_many_parcels w'.keys w'.packets x.moment.world.parcels x.stands.stands.packets) h.1))
 
-  -- an event that isn't done ends the step
-  pub twin_ends_so : (end : StepEnd) (w w' : Kept State) (event : Event)
-      → ((v : TwinWorld) → TwinWorldStands (services w.kind) w v → TwinPremises (services w.kind) v → TwinRefuses v event end)
-      → (schedule : Schedule) (events : List Event) (trace : List TwinMoment) → TwinStandsAfter services schedule events trace w
-      → TwinEndsStep services schedule events trace event w' end
-  twin_ends_so NoMemory w w' event refuses schedule events trace s = tt
-  twin_ends_so (BadEvent why) w w' event refuses schedule events trace s =
-      refuses (twin_after (twin_start schedule) trace) s.stands (twin_premises schedule events trace w s)
-  twin_ends_so PacketLimit w w' event refuses schedule events trace s =
-      absurd (refuses (twin_after (twin_start schedule) trace) s.stands (twin_premises schedule events trace w s))
+-- an event that isn't done ends the step
+pub twin_ends_so : {State : Type 0} {ghosts : Ghosts State} (w w' : World State ghosts) (event : Event) (end : StepEnd) → AreLaws (services_of w) → AreTwinLaws (services_of w) → Declines event w w' end
+    → TwinEndsAlong event end w w'
+twin_ends_so w w' event NoMemory laws twins ends = λ schedule events trace s. tt
+twin_ends_so w w' event (BadEvent why) laws twins ends =
+    λ schedule events trace s. ends.0.two (twin_after (twin_start schedule) trace) s.stands (twin_premises (services_of w) laws twins schedule events trace (kept w) s)
+twin_ends_so w w' event PacketLimit laws twins ends = absurd ends

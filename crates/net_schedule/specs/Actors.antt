@@ -1,16 +1,13 @@
--- What server and clients do: they don't look at the log, so it is the same with one logger and with two.
-use Rattle.std.specs.Prelude.{◌≡◌, ℕ, None, List, ◌++◌, map}
+-- Server and clients, and what an event does to them: they don't look at the log, so it is the same with one logger and with two.
+use Rattle.std.specs.Prelude.{◌≡◌, None, List, ◌++◌, map}
 use Rattle.server_trait.specs.Service.{Machine}
 use Rattle.ft_model.specs.Legal.{refusal, IsScripted}
 use Rattle.ft_model.specs.Network.{Packet}
-use Rattle.ft_model.specs.Node.{Input}
 use Rattle.ft_model.specs.Wire.{wire_of}
-use Rattle.ft_model.specs.World.{World as Seen, Happens, MayCome, ServerMoves}
+use Rattle.ft_model.specs.World.{World as Seen, Happens}
 use Rattle.ft_model.specs.declared.event.Event.{Event}
 use Rattle.net_schedule.specs.StoredPackets.{with_wires}
-use Rattle.net_schedule.specs.Premises.{Premises}
-use Rattle.net_schedule.specs.Refinement.{Kept, NodeStands, Refuses, IsForMemory}
-use Rattle.net_schedule.specs.declared.end.StepEnd.{StepEnd}
+use Rattle.net_schedule.specs.Refinement.{Kept, NodeStands}
 
 -- server and clients of the code's world are at those of a world of the definitions
 pub record ActorsStand {State : Type 0} (service : Machine State) (w : Kept State) (v : Seen) : Type 0 where
@@ -38,24 +35,3 @@ pub record ActorsAdvance {State : Type 0} (service : Machine State) (v : Seen) (
   pub happens : ActorsGoOn service (Happens service v event) v before after
   pub allowed : refusal v event ≡ None
   pub scripted : IsScripted v event happens.sent happens.world
-
--- the event is allowed and happens
-abbrev pub ActorsDo : {State : Type 0} → (ℕ → Machine State) → Event → (before after : Kept State) → Type 0
-ActorsDo services event before after =
-    (v : Seen) → ActorsStand (services before.kind) before v → Premises (services before.kind) v → ActorsAdvance (services before.kind) v event before after
-
--- the event isn't done: it is refused, or an allocation failed
-abbrev pub ActorsDecline : {State : Type 0} → (ℕ → Machine State) → Event → Kept State → StepEnd → Type 0
-ActorsDecline services event before end =
-    (v : Seen) → ActorsStand (services before.kind) before v → Premises (services before.kind) v → Refuses v event end
-
--- the server takes its turn on what may come
-abbrev pub Serves : {State : Type 0} → (ℕ → Machine State) → Input → (before after : Kept State) → Type 0
-Serves services input before after =
-    (v : Seen) → ActorsStand (services before.kind) before v → Premises (services before.kind) v → MayCome v input
-    → ActorsGoOn (services before.kind) (ServerMoves (services before.kind) input v) v before after
-
--- only a failed allocation prevents that
-abbrev pub ServesNot : {State : Type 0} → (ℕ → Machine State) → Input → Kept State → StepEnd → Type 0
-ServesNot services input before end =
-    (v : Seen) → ActorsStand (services before.kind) before v → Premises (services before.kind) v → MayCome v input → IsForMemory end

@@ -9,6 +9,7 @@ pub mod Premises
 pub mod Step
 pub mod WorldView
 pub mod SentPackets
-pub mod Methods
 pub mod TwinRefinement
 pub mod TwinStep
+pub mod Turns
+pub mod Along

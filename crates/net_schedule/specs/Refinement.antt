@@ -18,7 +18,7 @@ use Rattle.server_node.specs.declared.stage.Stage.{Stage as Holds}
 use Rattle.net_schedule.specs.StoredPackets.{Carried, carried}
 use Rattle.net_schedule.specs.Loggers.{Loggers}
 use Rattle.net_schedule.specs.declared.end.StepEnd.{StepEnd}
-use Rattle.net_schedule.specs.declared.end.StepEnd.TheVariants.{NoMemory, BadEvent, PacketLimit}
+use Rattle.net_schedule.specs.declared.end.StepEnd.TheVariants.{BadEvent}
 
 -- a server that is up: what never changes of it, and what it holds
 pub record Server (State : Type 0) : Type 0 where
@@ -74,17 +74,6 @@ pub record Advances {State : Type 0} (service : Machine State) (v : Seen) (event
   pub happens : ReachesNext service (Happens service v event) v w
   pub allowed : refusal v event ≡ None
   pub scripted : IsScripted v event happens.sent happens.world
-
--- an allocation failed
-abbrev pub IsForMemory : StepEnd → Type 0
-IsForMemory NoMemory = Unit {0}
-IsForMemory _ = ⊥
-
--- an event that isn't done is refused by the events' tests, or an allocation failed
-abbrev pub Refuses : Seen → Event → StepEnd → Type 0
-Refuses v event NoMemory = Unit {0}
-Refuses v event (BadEvent why) = refusal v event ≡ Some why
-Refuses v event PacketLimit = ⊥
 
 -- the world may only be dropped, or is as it was before
 abbrev pub KeepsAtRefusal : {State : Type 0} → Kept State → Kept State → StepEnd → Type 0

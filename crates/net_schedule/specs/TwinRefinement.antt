@@ -24,9 +24,7 @@ use Rattle.net_schedule.specs.Actors.{ActorsStand}
 use Rattle.net_schedule.specs.StoredPackets.{Carried, way_along}
 use Rattle.net_schedule.specs.Loggers.{Loggers}
 use Rattle.net_schedule.specs.Premises.{Premises, ComesAs}
-use Rattle.net_schedule.specs.Refinement.{Kept, IsForMemory}
-use Rattle.net_schedule.specs.declared.end.StepEnd.{StepEnd}
-use Rattle.net_schedule.specs.declared.end.StepEnd.TheVariants.{NoMemory, BadEvent, PacketLimit}
+use Rattle.net_schedule.specs.Refinement.{Kept}
 
 -- the direction of a parcel
 abbrev pub stored_way : List Key → Parcel → Way
@@ -67,12 +65,6 @@ pub record TwinAdvances {State : Type 0} (service : Machine State) (v : TwinWorl
   pub allowed : twin_refusal v event ≡ None
   pub scripted : IsScripted (seen v []) event (outside happens.sent) (seen happens.world [])
 
--- an event that isn't done is refused by the events' tests, or an allocation failed
-abbrev pub TwinRefuses : TwinWorld → Event → StepEnd → Type 0
-TwinRefuses v event NoMemory = Unit {0}
-TwinRefuses v event (BadEvent why) = twin_refusal v event ≡ Some why
-TwinRefuses v event PacketLimit = ⊥
-
 -- What every legal trace guarantees of the world at its end: in the flat trace were sent the packets, and for them the premises of a step hold; whatever was
 -- sent is written; and each logger knows whether it serves alone.
 pub record TwinPremises {State : Type 0} (service : Machine State) (v : TwinWorld) : Type 0 where
@@ -81,16 +73,6 @@ pub record TwinPremises {State : Type 0} (service : Machine State) (v : TwinWorl
   pub sent : (number : ℕ) (packet : Packet) → parcel_at v.parcels number ≡ Some (Outside packet) → WasSent (seen v packets) packet
   pub written : AllByRecursion IsWritten v.parcels
   pub paired : IsPaired v.pair
-
--- the event is allowed and happens
-abbrev pub TwinDoes : {State : Type 0} → (ℕ → Machine State) → Event → (before after : Kept State) → Type 0
-TwinDoes services event before after =
-    (v : TwinWorld) → TwinWorldStands (services before.kind) before v → TwinPremises (services before.kind) v → TwinAdvances (services before.kind) v event after
-
--- the event isn't done: it is refused, or an allocation failed
-abbrev pub TwinDeclines : {State : Type 0} → (ℕ → Machine State) → Event → Kept State → StepEnd → Type 0
-TwinDeclines services event before end =
-    (v : TwinWorld) → TwinWorldStands (services before.kind) before v → TwinPremises (services before.kind) v → TwinRefuses v event end
 
 -- these bytes reach the addressee of a parcel in place of its own
 abbrev pub ParcelComesAs : {State : Type 0} → Machine State → Parcel → List ℕ → TwinWorld → List Parcel → TwinWorld → Type 0
@@ -104,16 +86,3 @@ ParcelComesAs service (Inside (Got number)) bytes before sent after = HeadHas (c
 abbrev pub MayComeAs : Seen → Parcel → List ℕ → Type 0
 MayComeAs v (Outside packet) bytes = ComesAs v packet bytes
 MayComeAs v (Inside between) bytes = Unit {0}
-
--- bytes reach the addressee of a parcel that has this direction
-abbrev pub TwinBrings : {State : Type 0} → (ℕ → Machine State) → Way → List ℕ → (before after : Kept State) → Type 0
-TwinBrings services way bytes before after =
-    (v : TwinWorld) (parcel : Parcel) → TwinWorldStands (services before.kind) before v → (p : TwinPremises (services before.kind) v)
-    → way ≡ stored_way before.keys parcel → MayComeAs (seen v p.packets) parcel bytes
-    → TwinGoesOn (services before.kind) (ParcelComesAs (services before.kind) parcel bytes v) v after
-
--- only a failed allocation prevents that
-abbrev pub TwinBringsNot : {State : Type 0} → (ℕ → Machine State) → Way → List ℕ → Kept State → StepEnd → Type 0
-TwinBringsNot services way bytes before end =
-    (v : TwinWorld) (parcel : Parcel) → TwinWorldStands (services before.kind) before v → (p : TwinPremises (services before.kind) v)
-    → way ≡ stored_way before.keys parcel → MayComeAs (seen v p.packets) parcel bytes → IsForMemory end

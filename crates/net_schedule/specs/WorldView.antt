@@ -1,6 +1,8 @@
--- What the code's world stores, as its contracts see it.
-use Rattle.std.specs.Prelude.{option_map}
+-- What the code's world stores, and the service that it runs, as its contracts see them.
+use Rattle.std.specs.Prelude.{ℕ, option_map}
+use Rattle.server_trait.specs.Service.{Machine}
 use Rattle.server_trait.specs.declared.Service.{Ghosts}
+use Rattle.ft_model.specs.Legal.{machines}
 use Rattle.server_node.specs.declared.node.Node.{Node}
 use Rattle.net_schedule.specs.declared.world.World.{World}
 use Rattle.net_schedule.specs.Logs.{log_in, loggers_in}
@@ -21,3 +23,10 @@ kept w = record {
   boot = w.boot;
   node = option_map server_of w.node;
 }
+
+-- the services among which it can run one, by their kinds
+abbrev pub services_of : {State : Type 0} {ghosts : Ghosts State} → World State ghosts → ℕ → Machine State
+services_of {ghosts = ghosts} w = machines ghosts.started ghosts.after
+
+abbrev pub service_of : {State : Type 0} {ghosts : Ghosts State} → World State ghosts → Machine State
+service_of w = services_of w w.kind

@@ -10,6 +10,7 @@ mod clients;
 mod end;
 pub mod laws;
 mod logs;
+mod only;
 mod packets;
 mod pair;
 mod sending;

@@ -75,37 +75,34 @@ pub struct World<S: Service> {
     node: Option<Node<S>>,
     /// A copy of the packet that is being delivered.
     copy: Vec<u8>,
+    /// Room for the packet that a client sends.
+    room: [u8; PACKET_ROOM],
     ghost few: { length keys.items ≤ 16 },
 }
 
 impl<S: Service> World<S> {
-    ghost use Rattle.std.specs.Prelude.{◌≡◌, ◌≤◌, ◌<◌, ◌+◌, ◌-◌, ℕ, true, false, [], List, option_copied, length, Some, IfOk, IfErr, OnOk};
+    ghost use Rattle.std.specs.Prelude.{◌≡◌, ◌≤◌, ◌<◌, ◌+◌, ◌-◌, true, false, [], option_copied, length, Some, IfOk, IfErr, OnOk};
+    ghost use Rattle.net_schedule.specs.Along.{StepsAlong, EndsAlong, TwinStepsAlong, TwinEndsAlong};
     ghost use Rattle.net_schedule.specs.AtNumber.{at_number};
-    ghost use Rattle.net_schedule.specs.WorldView.{kept};
+    ghost use Rattle.net_schedule.specs.WorldView.{kept, services_of};
     ghost use Rattle.ft_model.specs.Client.{mover_of};
-    ghost use Rattle.ft_model.specs.Legal.{machines};
     ghost use Rattle.ft_model.specs.Playable.{IsPlayable};
-    ghost use Rattle.ft_model.specs.World.{Moment, client_at};
-    ghost use Rattle.ft_model.specs.declared.event.Event.{Event};
+    ghost use Rattle.ft_model.specs.World.{client_at};
     ghost use Rattle.ft_model.specs.declared.event.Event.TheVariants.{Boot, Crash, Tick, Deliver, Flip, Stop};
-    ghost use Rattle.ft_model.specs.declared.schedule.Schedule.{Schedule};
     ghost use Rattle.server_node.specs.Inputs.{input_of};
-    ghost use Rattle.net_schedule.specs.Actors.{ActorsDo, ActorsDecline, Serves, ServesNot};
-    ghost use Rattle.net_schedule.specs.Methods.{Does, Declines, Brings, BringsNot};
     ghost use Rattle.net_schedule.specs.Delivery.{delivered_to, with_logs};
     ghost use Rattle.net_schedule.specs.Logs.{logs_hear};
-    ghost use Rattle.net_schedule.specs.Refinement.{IsForMemory, KeepsAtRefusal};
-    ghost use Rattle.net_schedule.specs.Step.{StandsAfter, Steps, EndsStep};
-    ghost use Rattle.net_schedule.specs.TwinRefinement.{TwinDoes, TwinDeclines, TwinBrings, TwinBringsNot};
-    ghost use Rattle.net_schedule.specs.TwinStep.{TwinStandsAfter, TwinSteps, TwinEndsStep};
-    ghost use Rattle.twin_laws.specs.TwinWorld.{TwinMoment};
+    ghost use Rattle.net_schedule.specs.Refinement.{KeepsAtRefusal};
+    ghost use Rattle.net_schedule.specs.Step.{StandsAfter};
+    ghost use Rattle.net_schedule.specs.Turns.{Serves, ActorsDo, ActorsDecline, Brings, Does, Declines};
+    ghost use Rattle.net_schedule.specs.TwinStep.{TwinStandsAfter};
 
     /// The world in which a schedule starts: nothing was sent, nothing is logged, and the server is down.
     pub fn new(alloc: Global, schedule: &Schedule) -> Result<World<S>, NoMemory>
         requires playable { IsPlayable schedule.now }
         requires few { length schedule.now.clients ≤ 16 }
-        ensures one { IfOk result (λ w. schedule.now.twin ≡ false → StandsAfter (machines S.started S.after) schedule.now [] [] (kept w)) }
-        ensures two { IfOk result (λ w. schedule.now.twin ≡ true → TwinStandsAfter (machines S.started S.after) schedule.now [] [] (kept w)) }
+        ensures one { IfOk result (λ w. schedule.now.twin ≡ false → StandsAfter (services_of w) schedule.now [] [] (kept w)) }
+        ensures two { IfOk result (λ w. schedule.now.twin ≡ true → TwinStandsAfter (services_of w) schedule.now [] [] (kept w)) }
     {
         playable_schedules_start();
         let lines = schedule.clients.as_slice();
@@ -119,6 +116,7 @@ impl<S: Service> World<S> {
             boot: 0,
             node: None,
             copy: Vec::new(alloc),
+            room: [0; PACKET_ROOM],
         })
     }
 
@@ -162,11 +160,8 @@ impl<S: Service> World<S> {
 
     /// The server starts.
     fn boot(&mut self, alloc: Global, boot: u64, isn: u32) -> Result<(), StepEnd>
-        ensures done { OnOk result (ActorsDo (machines S.started S.after) (Boot boot isn) (kept self.old) (kept self.new)) }
-        ensures ends { IfErr result (ActorsDecline (machines S.started S.after) (Boot boot isn) (kept self.old)) }
-        ensures keeps { IfErr result (KeepsAtRefusal (kept self.old) (kept self.new)) }
-        ensures grows { OnOk result (length self.old.packets.bytes ≤ length self.new.packets.bytes) }
-        ensures kind { self.new.kind ≡ self.old.kind }
+        ensures done { OnOk result (ActorsDo (Boot boot isn) self.old self.new) }
+        ensures ends { IfErr result (ActorsDecline (Boot boot isn) self.old self.new) }
     {
         if self.node.is_some() {
             return Err(StepEnd::BadEvent(EventWhy::Up));
@@ -183,60 +178,48 @@ impl<S: Service> World<S> {
 
     /// The server goes down, and all that it held is lost.
     fn crash(&mut self) -> Result<(), StepEnd>
-        ensures done { OnOk result (ActorsDo (machines S.started S.after) Crash (kept self.old) (kept self.new)) }
-        ensures ends { IfErr result (ActorsDecline (machines S.started S.after) Crash (kept self.old)) }
-        ensures keeps { IfErr result (KeepsAtRefusal (kept self.old) (kept self.new)) }
+        ensures done { OnOk result (ActorsDo Crash self.old self.new) }
+        ensures ends { IfErr result (ActorsDecline Crash self.old self.new) }
         ensures same { self.new.packets ≡ self.old.packets }
-        ensures kind { self.new.kind ≡ self.old.kind }
     {
-        if self.node.is_none() {
+        if self.node.take().is_none() {
             return Err(StepEnd::BadEvent(EventWhy::Down));
         }
-        self.node = None;
         Ok(())
     }
 
-    /// The server takes its turn on what arrives, if it is up.
-    fn serve(&mut self, alloc: Global, input: Input<'_>) -> Result<(), StepEnd>
-        ensures done { OnOk result (Serves (machines S.started S.after) (input_of input.entry) (kept self.old) (kept self.new)) }
-        ensures ends { IfErr result (ServesNot (machines S.started S.after) (input_of input.entry) (kept self.old)) }
-        ensures keeps { IfErr result (KeepsAtRefusal (kept self.old) (kept self.new)) }
-        ensures grows { OnOk result (length self.old.packets.bytes ≤ length self.new.packets.bytes) }
-        ensures kind { self.new.kind ≡ self.old.kind }
+    /// The server takes its turn on what arrives, if it is up. A fenced server stops; no server of a legal trace is fenced.
+    fn serve(&mut self, alloc: Global, input: Input<'_>) -> Result<(), NoMemory>
+        ensures { OnOk result (Serves (input_of input.entry) self.old self.new) }
     {
         let Some(node) = &mut self.node else {
             return Ok(());
         };
         match node.turn(alloc, input) {
-            Ok(sent) => {
-                keep_sent(&self.keys, sent, &mut self.packets)?;
+            Ok(sent) => keep_sent(&self.keys, sent, &mut self.packets),
+            Err(TurnEnd::NoMemory) => Err(NoMemory),
+            Err(TurnEnd::Fenced { .. }) => {
+                self.node = None;
                 Ok(())
             }
-            Err(TurnEnd::NoMemory) => Err(StepEnd::NoMemory),
-            // No server of a legal trace is fenced. This isn't reported as `NoMemory`, so that the contract says so.
-            Err(TurnEnd::Fenced { .. }) => Err(StepEnd::PacketLimit),
         }
     }
 
     /// A tick of the server's clock.
     fn tick(&mut self, alloc: Global) -> Result<(), StepEnd>
-        ensures done { OnOk result (ActorsDo (machines S.started S.after) Tick (kept self.old) (kept self.new)) }
-        ensures ends { IfErr result (ActorsDecline (machines S.started S.after) Tick (kept self.old)) }
-        ensures keeps { IfErr result (KeepsAtRefusal (kept self.old) (kept self.new)) }
-        ensures grows { OnOk result (length self.old.packets.bytes ≤ length self.new.packets.bytes) }
-        ensures kind { self.new.kind ≡ self.old.kind }
+        ensures done { OnOk result (ActorsDo Tick self.old self.new) }
+        ensures ends { IfErr result (ActorsDecline Tick self.old self.new) }
     {
         if self.node.is_none() {
             return Err(StepEnd::BadEvent(EventWhy::Down));
         }
-        self.serve(alloc, Input::Tick)
+        self.serve(alloc, Input::Tick)?;
+        Ok(())
     }
 
     /// Bytes arrive at a client, if there is one with this number.
-    fn tell_client(&mut self, alloc: Global, number: u8, bytes: &[u8]) -> Result<(), StepEnd>
-        ensures done { OnOk result (kept self.new ≡ record (kept self.old) { clients = delivered_to number bytes.now self.old.clients.items }) }
-        ensures ends { IfErr result IsForMemory }
-        ensures kind { self.new.kind ≡ self.old.kind }
+    fn tell_client(&mut self, alloc: Global, number: u8, bytes: &[u8]) -> Result<(), NoMemory>
+        ensures { OnOk result (kept self.new ≡ record (kept self.old) { clients = delivered_to number bytes.now self.old.clients.items }) }
     {
         if number == 0 {
             return Ok(());
@@ -246,30 +229,19 @@ impl<S: Service> World<S> {
         if place > count {
             return Ok(());
         }
-        self.clients[place - 1].deliver(alloc, bytes)?;
-        Ok(())
+        self.clients[place - 1].deliver(alloc, bytes)
     }
 
     /// Bytes of this direction arrive at a logger, and what it sends is stored.
-    fn tell_logger(&mut self, alloc: Global, way: Way, bytes: &[u8]) -> Result<(), StepEnd>
-        ensures done { OnOk result (kept self.new ≡ with_logs (kept self.old) (logs_hear way bytes.now (self.old.logs, self.old.packets))) }
-        ensures ends { IfErr result IsForMemory }
-        ensures grows { OnOk result (length self.old.packets.bytes ≤ length self.new.packets.bytes) }
-        ensures kind { self.new.kind ≡ self.old.kind }
+    fn tell_logger(&mut self, alloc: Global, way: Way, bytes: &[u8]) -> Result<(), NoMemory>
+        ensures { OnOk result (kept self.new ≡ with_logs (kept self.old) (logs_hear way bytes.now (self.old.logs, self.old.packets))) }
     {
-        self.logs.hear(alloc, way, bytes, &mut self.packets)?;
-        Ok(())
+        self.logs.hear(alloc, way, bytes, &mut self.packets)
     }
 
     /// Bytes reach the addressee of a packet that has this direction.
-    fn bring(&mut self, alloc: Global, way: Way, bytes: &[u8]) -> Result<(), StepEnd>
-        ensures done { OnOk result (Brings (machines S.started S.after) way bytes.now (kept self.old) (kept self.new)) }
-        ensures ends { IfErr result (BringsNot (machines S.started S.after) way bytes.now (kept self.old)) }
-        ensures twin_done { OnOk result (TwinBrings (machines S.started S.after) way bytes.now (kept self.old) (kept self.new)) }
-        ensures twin_ends { IfErr result (TwinBringsNot (machines S.started S.after) way bytes.now (kept self.old)) }
-        ensures keeps { IfErr result (KeepsAtRefusal (kept self.old) (kept self.new)) }
-        ensures grows { OnOk result (length self.old.packets.bytes ≤ length self.new.packets.bytes) }
-        ensures kind { self.new.kind ≡ self.old.kind }
+    fn bring(&mut self, alloc: Global, way: Way, bytes: &[u8]) -> Result<(), NoMemory>
+        ensures { OnOk result (Brings way bytes.now self.old self.new) }
     {
         match way {
             Way::ServerToClient(number) => self.tell_client(alloc, number, bytes),
@@ -283,13 +255,8 @@ impl<S: Service> World<S> {
 
     /// A packet reaches its addressee. A server that is down gets nothing.
     fn deliver(&mut self, alloc: Global, number: u32) -> Result<(), StepEnd>
-        ensures done { OnOk result (Does (machines S.started S.after) (Deliver number) (kept self.old) (kept self.new)) }
-        ensures ends { IfErr result (Declines (machines S.started S.after) (Deliver number) (kept self.old)) }
-        ensures twin_done { OnOk result (TwinDoes (machines S.started S.after) (Deliver number) (kept self.old) (kept self.new)) }
-        ensures twin_ends { IfErr result (TwinDeclines (machines S.started S.after) (Deliver number) (kept self.old)) }
-        ensures keeps { IfErr result (KeepsAtRefusal (kept self.old) (kept self.new)) }
-        ensures grows { OnOk result (length self.old.packets.bytes ≤ length self.new.packets.bytes) }
-        ensures kind { self.new.kind ≡ self.old.kind }
+        ensures done { OnOk result (Does (Deliver number) self.old self.new) }
+        ensures ends { IfErr result (Declines (Deliver number) self.old self.new) }
     {
         let Some(way) = self.packets.way(number) else {
             return Err(StepEnd::BadEvent(EventWhy::Packet));
@@ -299,20 +266,15 @@ impl<S: Service> World<S> {
         };
         let mut copy = mem::replace(&mut self.copy, Vec::new(alloc));
         refill(&mut copy, bytes)?;
-        let done = self.bring(alloc, way, copy.as_slice());
+        self.bring(alloc, way, copy.as_slice())?;
         self.copy = copy;
-        done
+        Ok(())
     }
 
     /// A packet reaches its addressee with one bit changed.
     fn flip(&mut self, alloc: Global, number: u32, bit: u32) -> Result<(), StepEnd>
-        ensures done { OnOk result (Does (machines S.started S.after) (Flip number bit) (kept self.old) (kept self.new)) }
-        ensures ends { IfErr result (Declines (machines S.started S.after) (Flip number bit) (kept self.old)) }
-        ensures twin_done { OnOk result (TwinDoes (machines S.started S.after) (Flip number bit) (kept self.old) (kept self.new)) }
-        ensures twin_ends { IfErr result (TwinDeclines (machines S.started S.after) (Flip number bit) (kept self.old)) }
-        ensures keeps { IfErr result (KeepsAtRefusal (kept self.old) (kept self.new)) }
-        ensures grows { OnOk result (length self.old.packets.bytes ≤ length self.new.packets.bytes) }
-        ensures kind { self.new.kind ≡ self.old.kind }
+        ensures done { OnOk result (Does (Flip number bit) self.old self.new) }
+        ensures ends { IfErr result (Declines (Flip number bit) self.old self.new) }
     {
         let Some(way) = self.packets.way(number) else {
             return Err(StepEnd::BadEvent(EventWhy::Packet));
@@ -325,19 +287,16 @@ impl<S: Service> World<S> {
         }
         let mut copy = mem::replace(&mut self.copy, Vec::new(alloc));
         refill_flipped(&mut copy, bytes, bit)?;
-        let done = self.bring(alloc, way, copy.as_slice());
+        self.bring(alloc, way, copy.as_slice())?;
         self.copy = copy;
-        done
+        Ok(())
     }
 
     /// A client makes the move that an event asks for.
     fn make(&mut self, number: u8, event: &Event) -> Result<(), StepEnd>
         requires { mover_of event.now ≡ Some number }
-        ensures done { OnOk result (ActorsDo (machines S.started S.after) event.now (kept self.old) (kept self.new)) }
-        ensures ends { IfErr result (ActorsDecline (machines S.started S.after) event.now (kept self.old)) }
-        ensures keeps { IfErr result (KeepsAtRefusal (kept self.old) (kept self.new)) }
-        ensures grows { OnOk result (length self.old.packets.bytes ≤ length self.new.packets.bytes) }
-        ensures kind { self.new.kind ≡ self.old.kind }
+        ensures done { OnOk result (ActorsDo event.now self.old self.new) }
+        ensures ends { IfErr result (ActorsDecline event.now self.old self.new) }
     {
         if number == 0 {
             return Err(StepEnd::BadEvent(EventWhy::Client));
@@ -347,22 +306,19 @@ impl<S: Service> World<S> {
         if place > count {
             return Err(StepEnd::BadEvent(EventWhy::Client));
         }
-        let mut room = [0; PACKET_ROOM];
-        let len = self.clients[place - 1].step(event, &mut room)?;
-        self.packets
-            .push(Way::ClientToServer(number), &room[..len.min(PACKET_ROOM)])?;
+        let len = self.clients[place - 1].step(event, &mut self.room)?;
+        self.packets.push(
+            Way::ClientToServer(number),
+            &self.room[..len.min(PACKET_ROOM)],
+        )?;
         Ok(())
     }
 
     /// One of two loggers stops, and the other serves alone from now on.
     fn stop(&mut self, part: u8) -> Result<(), StepEnd>
-        ensures done { OnOk result (Does (machines S.started S.after) (Stop part) (kept self.old) (kept self.new)) }
-        ensures ends { IfErr result (Declines (machines S.started S.after) (Stop part) (kept self.old)) }
-        ensures twin_done { OnOk result (TwinDoes (machines S.started S.after) (Stop part) (kept self.old) (kept self.new)) }
-        ensures twin_ends { IfErr result (TwinDeclines (machines S.started S.after) (Stop part) (kept self.old)) }
-        ensures keeps { IfErr result (KeepsAtRefusal (kept self.old) (kept self.new)) }
+        ensures done { OnOk result (Does (Stop part) self.old self.new) }
+        ensures ends { IfErr result (Declines (Stop part) self.old self.new) }
         ensures same { self.new.packets ≡ self.old.packets }
-        ensures kind { self.new.kind ≡ self.old.kind }
     {
         let Some(part) = part_of(part) else {
             return Err(StepEnd::BadEvent(EventWhy::Stop));
@@ -379,13 +335,8 @@ impl<S: Service> World<S> {
 
     /// Does one event, however many packets were sent. After `BadEvent` the world is as before. After another end it may only be dropped.
     fn act(&mut self, alloc: Global, event: &Event) -> Result<(), StepEnd>
-        ensures done { OnOk result (Does (machines S.started S.after) event.now (kept self.old) (kept self.new)) }
-        ensures ends { IfErr result (Declines (machines S.started S.after) event.now (kept self.old)) }
-        ensures twin_done { OnOk result (TwinDoes (machines S.started S.after) event.now (kept self.old) (kept self.new)) }
-        ensures twin_ends { IfErr result (TwinDeclines (machines S.started S.after) event.now (kept self.old)) }
-        ensures keeps { IfErr result (KeepsAtRefusal (kept self.old) (kept self.new)) }
-        ensures grows { OnOk result (length self.old.packets.bytes ≤ length self.new.packets.bytes) }
-        ensures kind { self.new.kind ≡ self.old.kind }
+        ensures done { OnOk result (Does event.now self.old self.new) }
+        ensures ends { IfErr result (Declines event.now self.old self.new) }
     {
         match *event {
             Event::Boot { boot, isn } => self.boot(alloc, boot, isn),
@@ -423,18 +374,10 @@ impl<S: Service> World<S> {
     /// Does one event, which extends a legal trace by it. After `BadEvent` the world is as before. After another end it may only be dropped.
     pub fn step(&mut self, alloc: Global, event: &Event) -> Result<StepOut, StepEnd>
         ensures numbered { IfOk result (λ answer. answer.first + answer.count ≤ 200001) }
-        ensures done { IfOk result (λ answer. (schedule : Schedule) (events : List Event) (trace : List Moment)
-            → StandsAfter (machines S.started S.after) schedule events trace (kept self.old)
-            → Steps (machines S.started S.after) schedule events trace event.now answer (kept self.new)) }
-        ensures ends { IfErr result (λ end. (schedule : Schedule) (events : List Event) (trace : List Moment)
-            → StandsAfter (machines S.started S.after) schedule events trace (kept self.old)
-            → EndsStep (machines S.started S.after) schedule events trace event.now (kept self.new) end) }
-        ensures twin_done { IfOk result (λ answer. (schedule : Schedule) (events : List Event) (trace : List TwinMoment)
-            → TwinStandsAfter (machines S.started S.after) schedule events trace (kept self.old)
-            → TwinSteps (machines S.started S.after) schedule events trace event.now answer (kept self.new)) }
-        ensures twin_ends { IfErr result (λ end. (schedule : Schedule) (events : List Event) (trace : List TwinMoment)
-            → TwinStandsAfter (machines S.started S.after) schedule events trace (kept self.old)
-            → TwinEndsStep (machines S.started S.after) schedule events trace event.now (kept self.new) end) }
+        ensures done { IfOk result (λ answer. StepsAlong event.now answer self.old self.new) }
+        ensures ends { IfErr result (λ end. EndsAlong event.now end self.old self.new) }
+        ensures twin_done { IfOk result (λ answer. TwinStepsAlong event.now answer self.old self.new) }
+        ensures twin_ends { IfErr result (λ end. TwinEndsAlong event.now end self.old self.new) }
         ensures keeps { IfErr result (KeepsAtRefusal (kept self.old) (kept self.new)) }
     {
         premises_hold::<S>();

@@ -1,15 +1,25 @@
-use Rattle.std.proofs.Common.{refl}
-use Rattle.server_trait.specs.Service.{machine}
+use Rattle.std.proofs.Common.{◌≡◌, ◌∙◌, sym, ap, subst, refl, le_refl, not, is_some, option_map}
 use Rattle.ft_model.specs.declared.event.Event.TheVariants.{Crash}
-use Rattle.net_schedule.specs.WorldView.{kept, server_of}
+use Rattle.net_schedule.specs.WorldView.{kept, server_of, service_of}
 use Rattle.net_schedule.proofs.Events.{crashes, refuses_down}
-use Rattle.net_schedule.proofs.Outcomes.{is_up, is_down}
+use Rattle.net_schedule.proofs.Outcomes.{is_up, is_down, none_there}
 use Rattle.net_schedule.proofs.world.World.crash.Goals as goal
 
 pub returns-then-is_none-clause-ends : goal.returns-then-is_none-clause-ends
-returns-then-is_none-clause-ends g c = λ v st p.
-    refuses_down (machine (g.S.Service.started c.args.self.now.kind) g.S.Service.after) (kept c.args.self.now) v Crash st (is_down server_of c.args.self.now.node c.is_none.result c.is_none.ensures c.if-is_none.true) refl
+returns-then-is_none-clause-ends g c =
+    let w = c.args.self.now in
+    let was : is_some w.node ≡ not c.is_none.result = subst (λ o. is_some o ≡ not c.is_none.result) c.take.ensures.value c.is_none.ensures in (
+      (λ v st p. refuses_down (service_of w) (kept w) v Crash st (is_down server_of w.node c.is_none.result was c.if-is_none.true) refl),
+      ap (λ n. record (kept w) { node = option_map server_of n }) (c.take.ensures.after ∙ sym (none_there w.node c.is_none.result was c.if-is_none.true)),
+    )
 
 pub returns-clause-done : goal.returns-clause-done
-returns-clause-done g c = λ v st p.
-    crashes (machine (g.S.Service.started c.args.self.now.kind) g.S.Service.after) (kept c.args.self.now) _ v st (is_up server_of c.args.self.now.node c.is_none.result c.is_none.ensures c.if-is_none.false) refl
+returns-clause-done g c =
+    let w = c.args.self.now in
+    let was : is_some w.node ≡ not c.is_none.result = subst (λ o. is_some o ≡ not c.is_none.result) c.take.ensures.value c.is_none.ensures in
+    record {
+      continues = record { same_kind = refl; grew = le_refl _ };
+      advances = λ v st p.
+          crashes (service_of w) (kept w) _ v st (is_up server_of w.node c.is_none.result was c.if-is_none.false)
+          (ap (λ n. record (kept w) { node = option_map server_of n }) c.take.ensures.after);
+    }

@@ -1,0 +1,37 @@
+-- A step of the code's world along every legal trace at whose end it is.
+use Rattle.std.specs.Prelude.{List}
+use Rattle.server_trait.specs.declared.Service.{Ghosts}
+use Rattle.ft_model.specs.World.{Moment}
+use Rattle.ft_model.specs.declared.event.Event.{Event}
+use Rattle.ft_model.specs.declared.schedule.Schedule.{Schedule}
+use Rattle.twin_laws.specs.TwinWorld.{TwinMoment}
+use Rattle.net_schedule.specs.WorldView.{kept, services_of}
+use Rattle.net_schedule.specs.Step.{StandsAfter, Steps, EndsStep}
+use Rattle.net_schedule.specs.TwinStep.{TwinStandsAfter, TwinSteps, TwinEndsStep}
+use Rattle.net_schedule.specs.declared.end.StepEnd.{StepEnd}
+use Rattle.net_schedule.specs.declared.step_out.StepOut.{StepOut}
+use Rattle.net_schedule.specs.declared.world.World.{World}
+
+-- With one logger: the step extends the trace by the event, ..
+abbrev pub StepsAlong : {State : Type 0} {ghosts : Ghosts State} → Event → StepOut → (before after : World State ghosts) → Type 0
+StepsAlong event answer before after =
+    (schedule : Schedule) (events : List Event) (trace : List Moment) → StandsAfter (services_of before) schedule events trace (kept before)
+    → Steps (services_of before) schedule events trace event answer (kept after)
+
+-- .. or it ends for the definitions' reason
+abbrev pub EndsAlong : {State : Type 0} {ghosts : Ghosts State} → Event → StepEnd → (before after : World State ghosts) → Type 0
+EndsAlong event end before after =
+    (schedule : Schedule) (events : List Event) (trace : List Moment) → StandsAfter (services_of before) schedule events trace (kept before)
+    → EndsStep (services_of before) schedule events trace event (kept after) end
+
+-- With two loggers: the step extends the trace by the event, ..
+abbrev pub TwinStepsAlong : {State : Type 0} {ghosts : Ghosts State} → Event → StepOut → (before after : World State ghosts) → Type 0
+TwinStepsAlong event answer before after =
+    (schedule : Schedule) (events : List Event) (trace : List TwinMoment) → TwinStandsAfter (services_of before) schedule events trace (kept before)
+    → TwinSteps (services_of before) schedule events trace event answer (kept after)
+
+-- .. or it ends for the definitions' reason
+abbrev pub TwinEndsAlong : {State : Type 0} {ghosts : Ghosts State} → Event → StepEnd → (before after : World State ghosts) → Type 0
+TwinEndsAlong event end before after =
+    (schedule : Schedule) (events : List Event) (trace : List TwinMoment) → TwinStandsAfter (services_of before) schedule events trace (kept before)
+    → TwinEndsStep (services_of before) schedule events trace event (kept after) end

@@ -1,0 +1,91 @@
+//! The only logger of a world.
+
+ghost use Rattle.std.specs.Prelude.{◌≡◌, Ok, OnOk};
+ghost use Rattle.seq_arith.specs.MessageGrammar.{reading};
+ghost use Rattle.ft_model.specs.Log.{empty_log};
+ghost use Rattle.logger_wire.specs.Value.{message_of, IsSendable};
+ghost use Rattle.net_schedule.specs.Logs.{log_reads, log_hears};
+
+use crate::packets::Packets;
+use crate::sending::keep_answer;
+use ft_io::NoMemory;
+use ft_model::Way;
+use logger_store::{LogStore, MsgOut};
+use logger_wire::{Msg, read_msg};
+use std::alloc::Global;
+use std::marker::Model;
+
+/// A logger that serves alone from the start. In contracts it is its log.
+#[derive(Drop)]
+pub struct OnlyLogger {
+    log: LogStore,
+    /// What it answers in a turn.
+    answer: MsgOut,
+}
+
+impl Model for OnlyLogger {
+    ghost use Rattle.ft_model.specs.Log.{Log};
+
+    ghost Value = { Log };
+
+    ghost view = { λ l. l.log };
+}
+
+impl OnlyLogger {
+    /// Its log is empty. Nothing is allocated.
+    pub fn new(alloc: Global) -> OnlyLogger
+        ensures { result ≡ empty_log }
+    {
+        OnlyLogger {
+            log: LogStore::new(alloc),
+            answer: MsgOut::new(),
+        }
+    }
+
+    /// Its log.
+    pub fn log(&self) -> &LogStore
+        ensures { result.now ≡ self.now }
+    {
+        &self.log
+    }
+
+    /// A message arrives, and the answer is stored.
+    fn take(
+        &mut self,
+        alloc: Global,
+        message: &Msg<'_>,
+        packets: &mut Packets,
+    ) -> Result<(), NoMemory>
+        requires { IsSendable message.now }
+        ensures { OnOk result ((self.new, packets.new) ≡ log_reads (Ok (message_of message.now)) (self.old, packets.old)) }
+    {
+        self.log.answer(alloc, message, &mut self.answer)?;
+        keep_answer(&self.answer, packets)
+    }
+
+    /// Bytes arrive. Bytes that are no message change nothing.
+    fn read(&mut self, alloc: Global, bytes: &[u8], packets: &mut Packets) -> Result<(), NoMemory>
+        ensures { OnOk result ((self.new, packets.new) ≡ log_reads (reading bytes.now) (self.old, packets.old)) }
+    {
+        match read_msg(bytes) {
+            Ok(message) => self.take(alloc, &message, packets),
+            Err(_) => Ok(()),
+        }
+    }
+
+    /// Bytes of this direction arrive, if it leads to the logger.
+    pub fn hear(
+        &mut self,
+        alloc: Global,
+        way: Way,
+        bytes: &[u8],
+        packets: &mut Packets,
+    ) -> Result<(), NoMemory>
+        ensures { OnOk result ((self.new, packets.new) ≡ log_hears way bytes.now (self.old, packets.old)) }
+    {
+        if way == Way::ServerToLogger {
+            return self.read(alloc, bytes, packets);
+        }
+        Ok(())
+    }
+}
