@@ -1,0 +1,11 @@
+-- A polynomial hash at 31, modulo 2^32.
+use Rattle.std.specs.Prelude.{ℕ, ◌+◌, ◌*◌, ◌%◌, ◌^◌, List}
+use Rattle.std.specs.List.{fold}
+
+-- the hash of what a hash is the hash of, and one byte after it
+abbrev pub with_byte : ℕ → ℕ → ℕ
+with_byte hash byte = (hash * 31 + byte) % 2 ^ 32
+
+-- the same for many bytes
+abbrev pub with_bytes : ℕ → List ℕ → ℕ
+with_bytes hash bytes = fold with_byte hash bytes

@@ -1,0 +1,17 @@
+//! Data for tests and for programs with cases: numbers that follow from a seed, streams in which a byte at a wrong place is seen, bytes in hexadecimal, a hash
+//! of what came of them, and lines.
+#![tactic(auto)]
+
+pub use draws::Draws;
+pub use hashing::hashed;
+pub use hexadecimal::{bytes_of_hex, bytes_of_word, word_of_bytes};
+pub use lines::push_line;
+pub use pattern::{Pattern, PatternTable};
+
+mod draws;
+mod hashing;
+mod hexadecimal;
+mod lines;
+mod pattern;
+#[cfg(test)]
+mod tests;
