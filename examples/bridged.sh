@@ -1,4 +1,4 @@
-# Sourced by real_client.sh, own.sh and logger_crash.sh. It runs a kernel's TCP client in one network namespace, and a server, its logger and tools/bridge.py in
+# Sourced by real_client.sh, own.sh, logger_crash.sh and web.sh. It runs a kernel's TCP client in one network namespace, and a server, its logger and tools/bridge.py in
 # another. The script sets `name`, `program` (a built one), `loss` (in percent) and the array `service` (the server's words that choose its service, or none).
 program=$(realpath "$program") client_ip=10.77.0.1 server=10.77.0.2:7 logger=10.77.0.3:7008
 inside=ftclient$$ outside=ftnode$$ room=$(mktemp -d) started=()
@@ -49,28 +49,42 @@ start_all() {
     start_bridge
 }
 
-# The client sends the bytes of $room/sent and must receive those of $room/wanted. The server is killed (kill -9) when a quarter, a half and three quarters of
-# them have arrived, and is started again with the next boot number.
+stop_bridge() {
+    kill -TERM "$bridge_process" && wait "$bridge_process"
+    tail -n 1 "$room/bridge"
+}
+
+# Kills the server (kill -9) each time that so many bytes have come to the process $client, by the function `came`, and starts it again with the next boot number.
+kill_at() { # BYTES..
+    local boot=1 bytes
+    kills=0
+    for bytes in "$@"; do
+        boot=$((boot + 1))
+        while kill -0 "$client" 2>/dev/null && [ "$(came)" -lt "$bytes" ] 2>/dev/null; do sleep 0.02; done
+        kill -0 "$client" 2>/dev/null || break
+        { kill -9 "$server_process" && wait "$server_process"; } 2>/dev/null
+        kills=$((kills + 1))
+        echo "killed the server when $(came) bytes had come; boot $boot"
+        sleep 0.2
+        start_server "$boot"
+    done
+}
+
+# The client sends the bytes of $room/sent and must receive those of $room/wanted. The server is killed when a quarter, a half and three quarters of them have
+# arrived.
 through_three_kills() {
-    local bytes client boot status
+    local bytes client status
+    came() { cat "$room/progress"; }
     bytes=$(stat -c %s "$room/wanted")
     echo 0 >"$room/progress"
     SECONDS=0
     ip netns exec "$inside" examples/socket_client.py "$room/sent" "$room/wanted" "${server%:*}" "${server#*:}" "$room/progress" &
     client=$!
     started+=("$client")
-    for boot in 2 3 4; do
-        while kill -0 "$client" 2>/dev/null && [ "$(cat "$room/progress")" -lt $((bytes * (boot - 1) / 4)) ] 2>/dev/null; do sleep 0.02; done
-        kill -0 "$client" 2>/dev/null || break
-        { kill -9 "$server_process" && wait "$server_process"; } 2>/dev/null
-        echo "killed the server when $(cat "$room/progress") bytes had come; boot $boot"
-        sleep 0.2
-        start_server "$boot"
-    done
+    kill_at $((bytes / 4)) $((bytes * 2 / 4)) $((bytes * 3 / 4))
     wait "$client"
     status=$?
-    kill -TERM "$bridge_process" && wait "$bridge_process"
-    tail -n 1 "$room/bridge"
+    stop_bridge
     echo "$name: $([ $status = 0 ] && echo passed || echo FAILED), $SECONDS seconds"
     [ $status = 0 ] || cat "$room"/server.* "$room/logger"
     return $status

@@ -16,24 +16,15 @@ came() { cat "$room"/got.* 2>/dev/null | wc -c; }
 start_all
 for _ in 1 2 3 4; do tools/web_model.py bytes 1000000; done | md5sum >"$room/wanted"
 ip netns exec "$inside" sh -c 'echo 4096 65536 65536 >/proc/sys/net/ipv4/tcp_rmem' || missing "the kernel's room for bytes can't be set"
-SECONDS=0 kills=0
+SECONDS=0
 ip netns exec "$inside" curl --silent --show-error --no-buffer --limit-rate 1000000 --max-time 300 --output "$room/got.#1" --write-out '%{num_connects}\n' \
     "http://$server/bytes/1000000?[1-4]" >"$room/connects" &
 client=$!
 started+=("$client")
-for boot in 2 3 4; do
-    while kill -0 "$client" 2>/dev/null && [ "$(came)" -lt $((1000000 * (boot - 2) + 500000)) ]; do sleep 0.02; done
-    kill -0 "$client" 2>/dev/null || break
-    { kill -9 "$server_process" && wait "$server_process"; } 2>/dev/null
-    kills=$((kills + 1))
-    echo "killed the server when $(came) bytes had come; boot $boot"
-    sleep 0.2
-    start_server "$boot"
-done
+kill_at 500000 1500000 2500000
 wait "$client"
 status=$?
-kill -TERM "$bridge_process" && wait "$bridge_process"
-tail -n 1 "$room/bridge"
+stop_bridge
 cat "$room"/got.[1-4] | md5sum >"$room/came"
 connects=$(awk '{ all += $1 } END { print all + 0 }' "$room/connects")
 echo "4,000,000 bytes wanted, $(came) came over $connects connection(s); their MD5 $(cut -c 1-32 "$room/came")"
