@@ -17,7 +17,8 @@ use Rattle.ft_model.specs.WorkedRuns.FirstPath as path
 use Rattle.ft_model.specs.WorkedRuns.ChangedBit as run
 use Rattle.ft_model.proofs.Lists.{some_is}
 use Rattle.ft_model.proofs.Happened.{flip_is_quiet, nothing_read, message_bit_changed}
-use Rattle.ft_model.proofs.FirstPath.{opening_is_joint, happens_11, happens_12, hello_bytes}
+use Rattle.ft_model.proofs.AllowedMoments.{hello_bytes}
+use Rattle.ft_model.proofs.FirstPath.{opening_is_joint, happens_11, happens_12}
 
 -- the Data of the client's text
 abbrev data_message : Message

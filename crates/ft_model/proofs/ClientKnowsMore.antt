@@ -1,52 +1,21 @@
 -- Each turn is lawful: each equation computes.
-use Rattle.std.proofs.Common.{refl, [], ◌∷◌}
-use Rattle.ft_model.specs.News.News.{Comes, Begins}
-use Rattle.ft_model.specs.Restart.{point_of, entry_in}
-use Rattle.ft_model.specs.Node.{Node, booted}
-use Rattle.ft_model.specs.Node.Place.{Lives}
-use Rattle.ft_model.specs.Lawful.{LawfulTurn, Lawful, Revives, Turn, hello}
-use Rattle.ft_model.specs.WorkedRuns.Common.{echo, server, hello_text}
+use Rattle.std.proofs.Common.{refl}
+use Rattle.ft_model.specs.News.News.{Comes}
+use Rattle.ft_model.specs.Node.{booted}
+use Rattle.ft_model.specs.Lawful.{Lawful, hello}
+use Rattle.ft_model.specs.WorkedRuns.Common.{echo, server}
 use Rattle.ft_model.specs.WorkedRuns.ClientKnowsMore as run
-use Rattle.ft_model.proofs.Turns.{laws, alone, goes, serves}
+use Rattle.ft_model.specs.WorkedRuns.RestartFromHello as start
+use Rattle.ft_model.proofs.RestartFromHello.{Turns, asks_entry, asks_lengths, asks_bytes, serves_again}
+use Rattle.ft_model.proofs.Turns.{laws, goes, serves}
 
--- a turn of the run, from where the server stands
-abbrev Happens : Node → Turn → Type 0
-Happens before turn = LawfulTurn echo before turn.input turn.sent turn.node
-
-restart_1 : Happens (booted server 2 900000) run.restart_1
+restart_5 : Turns echo start.serves_again.node run.restart_5
 unfolding laws
-restart_1 = record { server = refl; boot = refl; isn = refl; live = refl; stage = (refl, refl) }
+restart_5 = serves echo 2 900000 run.restart_5.input start.restarted start.resumed run.restart_5.sent refl refl refl (start.resumed, refl, goes echo server 2 (Comes run.known) start.restarted start.resumed run.restart_5.sent refl refl refl refl)
 
-restart_2 : Happens run.restart_1.node run.restart_2
+restart_6 : Turns echo run.restart_5.node run.restart_6
 unfolding laws
-restart_2 = record { server = refl; boot = refl; isn = refl; live = refl; stage = (refl, refl) }
-
-restart_3 : Happens run.restart_2.node run.restart_3
-unfolding laws
-restart_3 = record { server = refl; boot = refl; isn = refl; live = refl; stage = (refl, refl) }
-
-restart_4 : Happens run.restart_3.node run.restart_4
-unfolding laws
-restart_4 = record {
-  server = refl;
-  boot = refl;
-  isn = refl;
-  live = refl;
-  stage = (
-    Lives run.restarted ∷ [],
-    refl,
-    alone (Revives echo run.restart_3.node) (Lives (point_of echo (entry_in (record run.entry_with_lengths { bytes = hello_text })))) (Lives run.restarted ∷ []) run.restart_4.sent
-        (run.restarted, refl, goes echo server 2 Begins (point_of echo (entry_in (record run.entry_with_lengths { bytes = hello_text }))) run.restarted run.restart_4.sent refl refl refl refl),
-  );
-}
-
-restart_5 : Happens run.restart_4.node run.restart_5
-unfolding laws
-restart_5 = serves echo 2 900000 run.restart_5.input run.restarted run.resumed run.restart_5.sent refl refl refl (run.resumed, refl, goes echo server 2 (Comes run.known) run.restarted run.resumed run.restart_5.sent refl refl refl refl)
-
-restart_6 : Happens run.restart_5.node run.restart_6
-unfolding laws
-restart_6 = serves echo 2 900000 run.restart_6.input run.resumed run.acknowledged run.restart_6.sent refl refl refl (run.acknowledged, refl, goes echo server 2 (Comes run.known) run.resumed run.acknowledged run.restart_6.sent refl refl refl refl)
+restart_6 = serves echo 2 900000 run.restart_6.input start.resumed start.acknowledged run.restart_6.sent refl refl refl (start.acknowledged, refl, goes echo server 2 (Comes run.known) start.resumed start.acknowledged run.restart_6.sent refl refl refl refl)
 
 pub restart_is_lawful : Lawful echo server 2 900000 (hello (booted server 2 900000)) run.restart_turns
-restart_is_lawful = (refl, ((((((tt, restart_1), restart_2), restart_3), restart_4), restart_5), restart_6))
+restart_is_lawful = (refl, ((((((tt, asks_entry echo), asks_lengths echo), asks_bytes echo), serves_again), restart_5), restart_6))

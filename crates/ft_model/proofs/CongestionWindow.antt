@@ -14,10 +14,11 @@ use Rattle.ft_model.specs.WorkedRuns.Common.{server, numbers, kept_with, client_
 use Rattle.ft_model.specs.WorkedRuns.FirstPath as path
 use Rattle.ft_model.specs.WorkedRuns.CongestionWindow as run
 use Rattle.ft_model.specs.WorkedRuns.CongestionWindow.{pattern, given}
+use Rattle.ft_model.proofs.AllowedMoments.{starts_with}
+use Rattle.ft_model.proofs.AskedMoves.{scripted, still}
 use Rattle.ft_model.proofs.FirstPath.{turn_3, turn_5, turn_7, turn_10}
 use Rattle.ft_model.proofs.Turns.{laws, goes, serves, segment_in}
 use Rattle.ft_model.proofs.WrongTurns.{refused}
-use Rattle.ft_model.proofs.ZeroWindowTrace.{unmoved, scripted}
 
 -- the requests are taken and read
 turn_12 : LawfulTurn run.transfer (path.node_live path.open_point) (Packet_comes (segment_in run.asking)) run.moment_12.sent (path.node_live run.asked_point)
@@ -79,26 +80,7 @@ are_bytes = (
 
 starts : IsStart run.start
 unfolding IsLe
-starts = record {
-  ip = le_by_compare 3221226085 (2 ^ 32) tt;
-  port = le_by_compare 8 (2 ^ 16) tt;
-  apart = refl;
-  clients = (
-    record {
-      new = refl;
-      ip = le_by_compare 3221225986 (2 ^ 32) tt;
-      port = le_by_compare 40001 (2 ^ 16) tt;
-      number = le_by_compare 1001 (2 ^ 32) tt;
-      bytes = are_bytes;
-      short = le_by_compare 8 (2 ^ 24) tt;
-    },
-    tt,
-  );
-  log = refl;
-  packets = refl;
-  boot = refl;
-  node = refl;
-}
+starts = starts_with run.requests are_bytes (le_by_compare 8 (2 ^ 24) tt)
 
 abbrev Follows : Moment → Moment → Type 0
 Follows before after = Happens run.transfer before.world after.event after.sent after.world
@@ -208,63 +190,18 @@ is_joint : Joint run.transfer run.start run.trace
 is_joint = (((((((((((((((((((((((((starts, happens_1), happens_2), happens_3), happens_4), happens_5), happens_6), happens_7), happens_8), happens_9), happens_10), happens_11), happens_12), happens_13), happens_14), happens_15), happens_16), happens_17), happens_18), happens_19), happens_20), happens_21), happens_22), happens_23), happens_24), happens_25)
 
 -- and is allowed
-allowed_1 : IsAllowed run.start run.moment_1
-allowed_1 = record { allowed = refl; scripted = unmoved run.start run.moment_1.event run.moment_1.sent run.moment_1.world refl }
-
-allowed_2 : IsAllowed run.moment_1.world run.moment_2
-allowed_2 = record { allowed = refl; scripted = unmoved run.moment_1.world run.moment_2.event run.moment_2.sent run.moment_2.world refl }
-
-allowed_3 : IsAllowed run.moment_2.world run.moment_3
-allowed_3 = record { allowed = refl; scripted = unmoved run.moment_2.world run.moment_3.event run.moment_3.sent run.moment_3.world refl }
-
 allowed_4 : IsAllowed run.moment_3.world run.moment_4
 allowed_4 = record { allowed = refl; scripted = scripted run.moment_3.world run.moment_4.event (client_with run.requests) (Syn None) 1 run.moment_4.world refl refl refl }
-
-allowed_5 : IsAllowed run.moment_4.world run.moment_5
-allowed_5 = record { allowed = refl; scripted = unmoved run.moment_4.world run.moment_5.event run.moment_5.sent run.moment_5.world refl }
-
-allowed_6 : IsAllowed run.moment_5.world run.moment_6
-allowed_6 = record { allowed = refl; scripted = unmoved run.moment_5.world run.moment_6.event run.moment_6.sent run.moment_6.world refl }
-
-allowed_7 : IsAllowed run.moment_6.world run.moment_7
-allowed_7 = record { allowed = refl; scripted = unmoved run.moment_6.world run.moment_7.event run.moment_7.sent run.moment_7.world refl }
-
-allowed_8 : IsAllowed run.moment_7.world run.moment_8
-allowed_8 = record { allowed = refl; scripted = unmoved run.moment_7.world run.moment_8.event run.moment_8.sent run.moment_8.world refl }
 
 allowed_9 : IsAllowed run.moment_8.world run.moment_9
 allowed_9 = record { allowed = refl; scripted = scripted run.moment_8.world run.moment_9.event run.open_client Acknowledge 1 run.moment_9.world refl refl refl }
 
-allowed_10 : IsAllowed run.moment_9.world run.moment_10
-allowed_10 = record { allowed = refl; scripted = unmoved run.moment_9.world run.moment_10.event run.moment_10.sent run.moment_10.world refl }
-
 allowed_11 : IsAllowed run.moment_10.world run.moment_11
 allowed_11 = record { allowed = refl; scripted = scripted run.moment_10.world run.moment_11.event run.open_client (Text 0 8) 1 run.moment_11.world refl refl refl }
-
-allowed_12 : IsAllowed run.moment_11.world run.moment_12
-allowed_12 = record { allowed = refl; scripted = unmoved run.moment_11.world run.moment_12.event run.moment_12.sent run.moment_12.world refl }
-
-allowed_13 : IsAllowed run.moment_12.world run.moment_13
-allowed_13 = record { allowed = refl; scripted = unmoved run.moment_12.world run.moment_13.event run.moment_13.sent run.moment_13.world refl }
-
-allowed_14 : IsAllowed run.moment_13.world run.moment_14
-allowed_14 = record { allowed = refl; scripted = unmoved run.moment_13.world run.moment_14.event run.moment_14.sent run.moment_14.world refl }
-
-allowed_15 : IsAllowed run.moment_14.world run.moment_15
-allowed_15 = record { allowed = refl; scripted = unmoved run.moment_14.world run.moment_15.event run.moment_15.sent run.moment_15.world refl }
-
-allowed_16 : IsAllowed run.moment_15.world run.moment_16
-allowed_16 = record { allowed = refl; scripted = unmoved run.moment_15.world run.moment_16.event run.moment_16.sent run.moment_16.world refl }
-
-allowed_17 : IsAllowed run.moment_16.world run.moment_17
-allowed_17 = record { allowed = refl; scripted = unmoved run.moment_16.world run.moment_17.event run.moment_17.sent run.moment_17.world refl }
 
 allowed_18 : IsAllowed run.moment_17.world run.moment_18
 unfolding pattern
 allowed_18 = record { allowed = refl; scripted = scripted run.moment_17.world run.moment_18.event run.served_client Acknowledge 1 run.moment_18.world refl refl refl }
-
-allowed_19 : IsAllowed run.moment_18.world run.moment_19
-allowed_19 = record { allowed = refl; scripted = unmoved run.moment_18.world run.moment_19.event run.moment_19.sent run.moment_19.world refl }
 
 allowed_20 : IsAllowed run.moment_19.world run.moment_20
 unfolding pattern
@@ -278,20 +215,11 @@ allowed_22 : IsAllowed run.moment_21.world run.moment_22
 unfolding pattern
 allowed_22 = record { allowed = refl; scripted = scripted run.moment_21.world run.moment_22.event run.acknowledging_client Acknowledge 1 run.moment_22.world refl refl refl }
 
-allowed_23 : IsAllowed run.moment_22.world run.moment_23
-allowed_23 = record { allowed = refl; scripted = unmoved run.moment_22.world run.moment_23.event run.moment_23.sent run.moment_23.world refl }
-
-allowed_24 : IsAllowed run.moment_23.world run.moment_24
-allowed_24 = record { allowed = refl; scripted = unmoved run.moment_23.world run.moment_24.event run.moment_24.sent run.moment_24.world refl }
-
-allowed_25 : IsAllowed run.moment_24.world run.moment_25
-allowed_25 = record { allowed = refl; scripted = unmoved run.moment_24.world run.moment_25.event run.moment_25.sent run.moment_25.world refl }
-
 pub is_legal : Legal (λ kind. run.transfer) run.schedule run.trace
 is_legal = record {
   joint = is_joint;
   events_are = refl;
-  allowed = (((((((((((((((((((((((((tt, allowed_1), allowed_2), allowed_3), allowed_4), allowed_5), allowed_6), allowed_7), allowed_8), allowed_9), allowed_10), allowed_11), allowed_12), allowed_13), allowed_14), allowed_15), allowed_16), allowed_17), allowed_18), allowed_19), allowed_20), allowed_21), allowed_22), allowed_23), allowed_24), allowed_25);
+  allowed = (((((((((((((((((((((((((tt, still run.start run.moment_1 refl refl), still run.moment_1.world run.moment_2 refl refl), still run.moment_2.world run.moment_3 refl refl), allowed_4), still run.moment_4.world run.moment_5 refl refl), still run.moment_5.world run.moment_6 refl refl), still run.moment_6.world run.moment_7 refl refl), still run.moment_7.world run.moment_8 refl refl), allowed_9), still run.moment_9.world run.moment_10 refl refl), allowed_11), still run.moment_11.world run.moment_12 refl refl), still run.moment_12.world run.moment_13 refl refl), still run.moment_13.world run.moment_14 refl refl), still run.moment_14.world run.moment_15 refl refl), still run.moment_15.world run.moment_16 refl refl), still run.moment_16.world run.moment_17 refl refl), allowed_18), still run.moment_18.world run.moment_19 refl refl), allowed_20), allowed_21), allowed_22), still run.moment_22.world run.moment_23 refl refl), still run.moment_23.world run.moment_24 refl refl), still run.moment_24.world run.moment_25 refl refl);
 }
 
 -- the wrong turns: past the first window, a segment sent again at the second duplicate, and none at the third

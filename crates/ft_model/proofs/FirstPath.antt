@@ -1,7 +1,7 @@
 -- Every moment of the first path happens: each equation computes.
 use Rattle.std.proofs.Common.{◌^◌, refl, None, List, [], ◌∷◌}
 use native.Mathlib.Bridge.{le_by_compare, IsLe}
-use Rattle.server_trait.specs.Service.{Machine, AreBytes}
+use Rattle.server_trait.specs.Service.{Machine}
 use Rattle.ft_model.specs.News.{News}
 use Rattle.ft_model.specs.News.News.{Comes, Logged, Begins}
 use Rattle.ft_model.specs.Point.{Point}
@@ -15,38 +15,11 @@ use Rattle.ft_model.specs.Node.Place.{Opens, Lives}
 use Rattle.ft_model.specs.ServingTurn.{PlaceTurn}
 use Rattle.ft_model.specs.Lawful.{LawfulTurn}
 use Rattle.ft_model.specs.Client.Move.{Syn, Text, Acknowledge}
-use Rattle.ft_model.specs.World.{Joint, Happens, IsStart}
+use Rattle.ft_model.specs.World.{Joint, Happens}
 use Rattle.ft_model.specs.WorkedRuns.Common.{echo, server, numbers, hello_text, client_with}
 use Rattle.ft_model.specs.WorkedRuns.FirstPath as run
+use Rattle.ft_model.proofs.AllowedMoments.{starts_with_hello}
 use Rattle.ft_model.proofs.Turns.{laws, alone, goes, segment_in, message_in, kept_in}
-
-pub hello_bytes : AreBytes hello_text
-unfolding IsLe
-hello_bytes =
-    (le_by_compare 105 256 tt, (le_by_compare 102 256 tt, (le_by_compare 109 256 tt, (le_by_compare 109 256 tt, (le_by_compare 112 256 tt, tt)))))
-
-starts : IsStart run.start
-unfolding IsLe
-starts = record {
-  ip = le_by_compare 3221226085 (2 ^ 32) tt;
-  port = le_by_compare 8 (2 ^ 16) tt;
-  apart = refl;
-  clients = (
-    record {
-      new = refl;
-      ip = le_by_compare 3221225986 (2 ^ 32) tt;
-      port = le_by_compare 40001 (2 ^ 16) tt;
-      number = le_by_compare 1001 (2 ^ 32) tt;
-      bytes = hello_bytes;
-      short = le_by_compare 5 (2 ^ 24) tt;
-    },
-    tt,
-  );
-  log = refl;
-  packets = refl;
-  boot = refl;
-  node = refl;
-}
 
 -- a turn of the one live connection
 abbrev Goes : {State : Type 0} → Machine State → News → Point → Point → List Packet → Type 0
@@ -178,7 +151,7 @@ happens_17 = (run.packet_15, refl, (refl, refl))
 -- up to the open connection it is the same for every service, ..
 pub opening_is_joint : {State : Type 0} (service : Machine State) → Joint service run.start run.opening_trace
 opening_is_joint service =
-    ((((((((((starts, happens_1 service), happens_2 service), happens_3 service), happens_4 service), happens_5 service), happens_6 service), happens_7 service), happens_8 service), happens_9 service), happens_10 service)
+    ((((((((((starts_with_hello, happens_1 service), happens_2 service), happens_3 service), happens_4 service), happens_5 service), happens_6 service), happens_7 service), happens_8 service), happens_9 service), happens_10 service)
 
 -- .. and whole with echo
 pub is_joint : Joint echo run.start run.trace

@@ -1,19 +1,20 @@
 -- The run with two segments in the wrong order, whole: each moment happens and is allowed.
-use Rattle.std.proofs.Common.{◌≡◌, false, refl, None, List}
+use Rattle.std.proofs.Common.{◌≡◌, false, refl, List}
 use native.Mathlib.Bridge.{IsLe}
-use Rattle.ft_model.specs.Client.Move.{Syn, Text, Acknowledge}
+use Rattle.ft_model.specs.Client.Move.{Text}
 use Rattle.ft_model.specs.News.News.{Comes}
 use Rattle.ft_model.specs.Network.{Packet}
 use Rattle.ft_model.specs.Node.Input.{Packet_comes}
 use Rattle.ft_model.specs.World.{Joint, Happens}
 use Rattle.ft_model.specs.Legal.{IsAllowed, Legal}
 use Rattle.ft_model.specs.Lawful.{LawfulTurn}
-use Rattle.ft_model.specs.WorkedRuns.Common.{echo, server, hello_text, client_with, IsUnlawful}
+use Rattle.ft_model.specs.WorkedRuns.Common.{echo, server, IsUnlawful}
 use Rattle.ft_model.specs.WorkedRuns.FirstPath as path
 use Rattle.ft_model.specs.WorkedRuns.HeldSegments as run
+use Rattle.ft_model.proofs.AllowedMoments.{opening_allowed}
+use Rattle.ft_model.proofs.AskedMoves.{scripted, still}
 use Rattle.ft_model.proofs.FirstPath.{opening_is_joint}
 use Rattle.ft_model.proofs.Turns.{laws, goes, serves, segment_in}
-use Rattle.ft_model.proofs.ZeroWindowTrace.{unmoved, scripted}
 use Rattle.ft_model.proofs.WrongTurns.{marks, are_same, refused}
 
 -- the second text is held
@@ -46,53 +47,17 @@ is_joint : Joint echo path.start run.trace
 is_joint = ((((opening_is_joint echo, happens_11), happens_12), happens_13), happens_14)
 
 -- and is allowed
-allowed_1 : IsAllowed path.start path.moment_1
-allowed_1 = record { allowed = refl; scripted = unmoved path.start path.moment_1.event path.moment_1.sent path.moment_1.world refl }
-
-allowed_2 : IsAllowed path.moment_1.world path.moment_2
-allowed_2 = record { allowed = refl; scripted = unmoved path.moment_1.world path.moment_2.event path.moment_2.sent path.moment_2.world refl }
-
-allowed_3 : IsAllowed path.moment_2.world path.moment_3
-allowed_3 = record { allowed = refl; scripted = unmoved path.moment_2.world path.moment_3.event path.moment_3.sent path.moment_3.world refl }
-
-allowed_4 : IsAllowed path.moment_3.world path.moment_4
-allowed_4 = record { allowed = refl; scripted = scripted path.moment_3.world path.moment_4.event (client_with hello_text) (Syn None) 1 path.moment_4.world refl refl refl }
-
-allowed_5 : IsAllowed path.moment_4.world path.moment_5
-allowed_5 = record { allowed = refl; scripted = unmoved path.moment_4.world path.moment_5.event path.moment_5.sent path.moment_5.world refl }
-
-allowed_6 : IsAllowed path.moment_5.world path.moment_6
-allowed_6 = record { allowed = refl; scripted = unmoved path.moment_5.world path.moment_6.event path.moment_6.sent path.moment_6.world refl }
-
-allowed_7 : IsAllowed path.moment_6.world path.moment_7
-allowed_7 = record { allowed = refl; scripted = unmoved path.moment_6.world path.moment_7.event path.moment_7.sent path.moment_7.world refl }
-
-allowed_8 : IsAllowed path.moment_7.world path.moment_8
-allowed_8 = record { allowed = refl; scripted = unmoved path.moment_7.world path.moment_8.event path.moment_8.sent path.moment_8.world refl }
-
-allowed_9 : IsAllowed path.moment_8.world path.moment_9
-allowed_9 = record { allowed = refl; scripted = scripted path.moment_8.world path.moment_9.event path.open_client Acknowledge 1 path.moment_9.world refl refl refl }
-
-allowed_10 : IsAllowed path.moment_9.world path.moment_10
-allowed_10 = record { allowed = refl; scripted = unmoved path.moment_9.world path.moment_10.event path.moment_10.sent path.moment_10.world refl }
-
 allowed_11 : IsAllowed path.moment_10.world run.moment_11
 allowed_11 = record { allowed = refl; scripted = scripted path.moment_10.world run.moment_11.event path.open_client (Text 0 2) 1 run.moment_11.world refl refl refl }
 
 allowed_12 : IsAllowed run.moment_11.world run.moment_12
 allowed_12 = record { allowed = refl; scripted = scripted run.moment_11.world run.moment_12.event run.telling_client (Text 2 3) 1 run.moment_12.world refl refl refl }
 
-allowed_13 : IsAllowed run.moment_12.world run.moment_13
-allowed_13 = record { allowed = refl; scripted = unmoved run.moment_12.world run.moment_13.event run.moment_13.sent run.moment_13.world refl }
-
-allowed_14 : IsAllowed run.moment_13.world run.moment_14
-allowed_14 = record { allowed = refl; scripted = unmoved run.moment_13.world run.moment_14.event run.moment_14.sent run.moment_14.world refl }
-
 pub is_legal : Legal (λ kind. echo) run.schedule run.trace
 is_legal = record {
   joint = is_joint;
   events_are = refl;
-  allowed = ((((((((((((((tt, allowed_1), allowed_2), allowed_3), allowed_4), allowed_5), allowed_6), allowed_7), allowed_8), allowed_9), allowed_10), allowed_11), allowed_12), allowed_13), allowed_14);
+  allowed = ((((opening_allowed, allowed_11), allowed_12), still run.moment_12.world run.moment_13 refl refl), still run.moment_13.world run.moment_14 refl refl);
 }
 
 -- the wrong turns of the gap's filling

@@ -5,9 +5,12 @@ pub mod TurnOnce
 pub mod TurnTells
 pub mod TurnExists
 pub mod Turns
+pub mod AskedMoves
+pub mod AllowedMoments
 pub mod FirstPath
 pub mod ReportOnLiterals
 pub mod WrongTurns
+pub mod RestartFromHello
 pub mod CrashAfterLogged
 pub mod ClientKinds
 pub mod Closing

@@ -26,11 +26,11 @@ Runs service before [] after = after ≡ before
 Runs service before (event ∷ events) after = (next : World) × Goes service before event next × Runs service next events after
 
 -- two ways to cut a list in two: one front begins with the other
-data Fronts {A : Type 0} (xs ys zs us : List A) : Type 0 where
+pub data Fronts {A : Type 0} (xs ys zs us : List A) : Type 0 where
   longer : (middle : List A) → zs ≡ xs ++ middle → ys ≡ middle ++ us → Fronts xs ys zs us
   shorter : (middle : List A) → xs ≡ zs ++ middle → us ≡ middle ++ ys → Fronts xs ys zs us
 
-fronts : {A : Type 0} (xs ys zs us : List A) → xs ++ ys ≡ zs ++ us → Fronts xs ys zs us
+pub fronts : {A : Type 0} (xs ys zs us : List A) → xs ++ ys ≡ zs ++ us → Fronts xs ys zs us
 fronts [] ys zs us e = longer zs refl e
 fronts (x ∷ xs) ys [] us e = shorter (x ∷ xs) refl (sym e)
 fronts (x ∷ xs) ys (z ∷ zs) us e = further (fronts xs ys zs us (cc))

@@ -3,42 +3,35 @@ use Rattle.std.proofs.Common.{refl, [], ◌∷◌}
 use Rattle.ft_model.specs.News.News.{Begins}
 use Rattle.ft_model.specs.Point.{Point}
 use Rattle.ft_model.specs.Restart.{point_of, entry_in}
-use Rattle.ft_model.specs.Node.{Node, booted}
+use Rattle.ft_model.specs.Node.{booted}
 use Rattle.ft_model.specs.Node.Place.{Lives}
-use Rattle.ft_model.specs.Lawful.{LawfulTurn, Lawful, Revives, Turn, hello}
+use Rattle.ft_model.specs.Lawful.{Lawful, Revives, hello}
 use Rattle.ft_model.specs.WorkedRuns.Common.{echo, server, hello_text, fetched_with}
 use Rattle.ft_model.specs.WorkedRuns.RestartInTurns as run
+use Rattle.ft_model.proofs.RestartFromHello.{Turns, asks_entry}
 use Rattle.ft_model.proofs.Turns.{laws, alone, goes}
 
--- a turn of the run, from where the server stands
-abbrev Happens : Node → Turn → Type 0
-Happens before turn = LawfulTurn echo before turn.input turn.sent turn.node
-
-turn_1 : Happens (booted server 2 900000) run.turn_1
-unfolding laws
-turn_1 = record { server = refl; boot = refl; isn = refl; live = refl; stage = (refl, refl) }
-
-pub turn_2 : Happens run.turn_1.node run.turn_2
+pub turn_2 : Turns echo run.turn_1.node run.turn_2
 unfolding laws
 turn_2 = record { server = refl; boot = refl; isn = refl; live = refl; stage = (refl, refl) }
 
-pub turn_3 : Happens run.turn_2.node run.turn_3
+pub turn_3 : Turns echo run.turn_2.node run.turn_3
 unfolding laws
 turn_3 = record { server = refl; boot = refl; isn = refl; live = refl; stage = (refl, refl) }
 
-turn_4 : Happens run.turn_3.node run.turn_4
+turn_4 : Turns echo run.turn_3.node run.turn_4
 unfolding laws
 turn_4 = record { server = refl; boot = refl; isn = refl; live = refl; stage = (refl, refl) }
 
-turn_5 : Happens run.turn_4.node run.turn_5
+turn_5 : Turns echo run.turn_4.node run.turn_5
 unfolding laws
 turn_5 = record { server = refl; boot = refl; isn = refl; live = refl; stage = (refl, refl) }
 
-turn_6 : Happens run.turn_5.node run.turn_6
+turn_6 : Turns echo run.turn_5.node run.turn_6
 unfolding laws
 turn_6 = record { server = refl; boot = refl; isn = refl; live = refl; stage = (refl, refl) }
 
-turn_7 : Happens run.turn_6.node run.turn_7
+turn_7 : Turns echo run.turn_6.node run.turn_7
 unfolding laws
 turn_7 = record { server = refl; boot = refl; isn = refl; live = refl; stage = (refl, refl) }
 
@@ -46,7 +39,7 @@ turn_7 = record { server = refl; boot = refl; isn = refl; live = refl; stage = (
 abbrev fetched_point : Point
 fetched_point = point_of echo (entry_in (fetched_with run.head hello_text (2 ∷ 1 ∷ [])))
 
-turn_8 : Happens run.turn_7.node run.turn_8
+turn_8 : Turns echo run.turn_7.node run.turn_8
 unfolding laws
 turn_8 = record {
   server = refl;
@@ -62,4 +55,4 @@ turn_8 = record {
 }
 
 pub restart_is_lawful : Lawful echo server 2 900000 (hello (booted server 2 900000)) run.turns
-restart_is_lawful = (refl, ((((((((tt, turn_1), turn_2), turn_3), turn_4), turn_5), turn_6), turn_7), turn_8))
+restart_is_lawful = (refl, ((((((((tt, asks_entry echo), turn_2), turn_3), turn_4), turn_5), turn_6), turn_7), turn_8))

@@ -31,6 +31,7 @@ use Rattle.ft_model.specs.declared.event.Event.TheVariants.{Boot, Crash, Tick, D
 use Rattle.ft_model.specs.declared.event.EventWhy.{EventWhy}
 use Rattle.ft_model.specs.declared.event.EventWhy.TheVariants as why
 use Rattle.ft_model.specs.declared.schedule.Schedule.{Schedule}
+use Rattle.ft_model.proofs.AskedMoves.{quiet_event}
 use Rattle.ft_model.proofs.Lists.{none_is_some, some_is}
 use Rattle.ft_model.proofs.Running.{HasSmallOutputs}
 use Rattle.ft_model.proofs.Happened.{all_sent}
@@ -41,10 +42,6 @@ use Rattle.ft_model.proofs.FormedWorld.{wires_after}
 -- the event can happen, with scripted clients
 abbrev CanHappen : {State : Type 0} → Machine State → World → Event → Type 0
 CanHappen service w event = (sent : List Packet) × (after : World) × Happens service w event sent after × IsScripted w event sent after
-
--- no client is asked to move
-quiet_event : (w : World) (event : Event) (sent : List Packet) (after : World) → move_asked event ≡ None → IsScripted w event sent after
-quiet_event w event sent after none number move client is at = none_is_some (number, move) (sym none ∙ is)
 
 pub is_none : {A : Type 0} (o : Option A) → is_some o ≡ false → o ≡ None
 is_none (Some x) e = absurd (cc)

@@ -27,7 +27,8 @@ use Rattle.ft_model.proofs.FirstPath.{turn_5, turn_12, turn_14}
 use Rattle.ft_model.proofs.Turns.{laws, goes, serves}
 use Rattle.ft_model.proofs.Closing.{first_5, first_6}
 use Rattle.ft_model.proofs.ZeroWindow.{probe_7, probe_8, probe_9}
-use Rattle.ft_model.proofs.SegmentWhileRestarting.{restart_3, restart_5}
+use Rattle.ft_model.proofs.SegmentWhileRestarting.{restart_3}
+use Rattle.ft_model.proofs.RestartFromHello.{serves_again}
 use Rattle.ft_model.proofs.RestartInTurns.{turn_2, turn_3}
 
 -- what tells packets apart: their count, and the kind, flags, acknowledgement, length, index or place of each
@@ -140,4 +141,4 @@ pub silent_meanwhile : IsUnlawful restart.restart_2.node restart.restart_3.input
 silent_meanwhile = refused echo restart.restart_2.node restart.restart_3.node restart.restart_3.input restart.restart_3.sent [] restart_3 refl refl
 
 pub stays_restarting : IsUnlawful restart.restart_4.node restart.restart_5.input []
-stays_restarting = refused echo restart.restart_4.node restart.restart_5.node restart.restart_5.input restart.restart_5.sent [] restart_5 refl refl
+stays_restarting = refused echo restart.restart_4.node restart.restart_5.node restart.restart_5.input restart.restart_5.sent [] serves_again refl refl

@@ -3,6 +3,7 @@
 pub mod Common
 pub mod FirstPath
 pub mod ChangedBit
+pub mod RestartFromHello
 pub mod CrashAfterLogged
 pub mod Closing
 pub mod ZeroWindow

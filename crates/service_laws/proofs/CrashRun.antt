@@ -1,83 +1,69 @@
 -- The run with a crash, whole: each moment happens and is allowed.
-use Rattle.std.proofs.Common.{◌≡◌, ℕ, zero, suc, ◌^◌, refl, None, List, [], ◌∷◌}
+use Rattle.std.proofs.Common.{ℕ, zero, suc, ◌^◌, refl, List, [], ◌∷◌}
 use native.Mathlib.Bridge.{le_by_compare, IsLe}
 use Rattle.server_trait.specs.Service.{Machine}
 use Rattle.sample_servers.specs.declared.any_service.AnyService.{AnyService}
 use Rattle.sample_servers.specs.AnyService.{any_machine}
-use Rattle.ft_model.specs.Client.{move_asked}
-use Rattle.ft_model.specs.Client.Move.{Syn, Text, Acknowledge}
+use Rattle.ft_model.specs.Client.Move.{Text, Acknowledge}
 use Rattle.ft_model.specs.News.News.{Comes, Begins}
 use Rattle.ft_model.specs.Network.{Packet}
-use Rattle.ft_model.specs.Node.{Node, booted}
 use Rattle.ft_model.specs.Node.Place.{Lives}
 use Rattle.ft_model.specs.Restart.{point_of, entry_in}
 use Rattle.ft_model.specs.Point.{Point}
-use Rattle.ft_model.specs.Lawful.{LawfulTurn, Revives, Turn}
-use Rattle.ft_model.specs.World.{World, Moment, Joint, Happens}
-use Rattle.ft_model.specs.Legal.{IsAllowed, AllAllowed, Legal, refusal}
-use Rattle.ft_model.specs.WorkedRuns.Common.{server, hello_text, client_with, serving_at, on_segment}
+use Rattle.ft_model.specs.Lawful.{Revives, Turn}
+use Rattle.ft_model.specs.World.{Moment, Joint, Happens}
+use Rattle.ft_model.specs.Legal.{IsAllowed, AllAllowed, Legal}
+use Rattle.ft_model.specs.WorkedRuns.Common.{server, hello_text, serving_at, on_segment}
 use Rattle.ft_model.specs.WorkedRuns.FirstPath as first
 use Rattle.ft_model.specs.WorkedRuns.CrashAfterLogged as turn
+use Rattle.ft_model.specs.WorkedRuns.RestartFromHello as start
+use Rattle.ft_model.proofs.AllowedMoments.{opening_allowed}
+use Rattle.ft_model.proofs.AskedMoves.{scripted, still}
+use Rattle.ft_model.proofs.RestartFromHello.{Turns, asks_entry, asks_lengths, asks_bytes}
 use Rattle.ft_model.proofs.FirstPath.{opening_is_joint}
 use Rattle.ft_model.proofs.Turns.{laws, alone, goes, serves, segment_in}
-use Rattle.ft_model.proofs.ZeroWindowTrace.{unmoved, scripted}
 use Rattle.service_laws.specs.CrashRun as run
 
 abbrev echo : Machine AnyService
 echo = any_machine 1
 
-abbrev Turns : Node → Turn → Type 0
-Turns before turn = LawfulTurn echo before turn.input turn.sent turn.node
-
 -- the text is taken and read
-text_comes : Turns (serving_at 1 5000 first.open_point) (on_segment (segment_in first.packet_8) first.moment_12.sent (serving_at 1 5000 first.taken_point))
+text_comes : Turns echo (serving_at 1 5000 first.open_point) (on_segment (segment_in first.packet_8) first.moment_12.sent (serving_at 1 5000 first.taken_point))
 unfolding laws
 text_comes = serves echo 1 5000 first.text_comes first.open_point first.taken_point first.moment_12.sent refl refl refl
     (first.taken_point, refl, goes echo server 1 (Comes (segment_in first.packet_8)) first.open_point first.taken_point first.moment_12.sent refl refl refl refl)
 
 -- the second boot's turns
-restart_1 : Turns (booted server 2 900000) turn.restart_1
+serves_again : Turns echo start.asks_bytes.node start.serves_again
 unfolding laws
-restart_1 = record { server = refl; boot = refl; isn = refl; live = refl; stage = (refl, refl) }
-
-restart_2 : Turns turn.restart_1.node turn.restart_2
-unfolding laws
-restart_2 = record { server = refl; boot = refl; isn = refl; live = refl; stage = (refl, refl) }
-
-restart_3 : Turns turn.restart_2.node turn.restart_3
-unfolding laws
-restart_3 = record { server = refl; boot = refl; isn = refl; live = refl; stage = (refl, refl) }
-
-restart_4 : Turns turn.restart_3.node turn.restart_4
-unfolding laws
-restart_4 =
-    let p : Point = point_of echo (entry_in (record turn.entry_with_lengths { bytes = hello_text })) in
+serves_again =
+    let p : Point = point_of echo (entry_in (record start.entry_with_lengths { bytes = hello_text })) in
     record {
       server = refl;
       boot = refl;
       isn = refl;
       live = refl;
       stage = (
-        Lives turn.restarted ∷ [],
+        Lives start.restarted ∷ [],
         refl,
-        alone (Revives echo turn.restart_3.node) (Lives p) (Lives turn.restarted ∷ []) turn.restart_4.sent
-            (turn.restarted, refl, goes echo server 2 Begins p turn.restarted turn.restart_4.sent refl refl refl refl),
+        alone (Revives echo start.asks_bytes.node) (Lives p) (Lives start.restarted ∷ []) start.serves_again.sent
+            (start.restarted, refl, goes echo server 2 Begins p start.restarted start.serves_again.sent refl refl refl refl),
       );
     }
 
-restart_5 : Turns turn.restart_4.node turn.restart_5
+restart_5 : Turns echo start.serves_again.node turn.restart_5
 unfolding laws
-restart_5 = serves echo 2 900000 turn.restart_5.input turn.restarted turn.resumed turn.restart_5.sent refl refl refl
-    (turn.resumed, refl, goes echo server 2 (Comes turn.room) turn.restarted turn.resumed turn.restart_5.sent refl refl refl refl)
+restart_5 = serves echo 2 900000 turn.restart_5.input start.restarted start.resumed turn.restart_5.sent refl refl refl
+    (start.resumed, refl, goes echo server 2 (Comes turn.room) start.restarted start.resumed turn.restart_5.sent refl refl refl refl)
 
 -- the output is acknowledged
 abbrev last : Turn
-last = on_segment run.last_ack run.moment_30.sent (serving_at 2 900000 run.acknowledged)
+last = on_segment run.last_ack run.moment_30.sent (serving_at 2 900000 start.acknowledged)
 
-acknowledged : Turns turn.restart_5.node last
+acknowledged : Turns echo turn.restart_5.node last
 unfolding laws
-acknowledged = serves echo 2 900000 last.input turn.resumed run.acknowledged last.sent refl refl refl
-    (run.acknowledged, refl, goes echo server 2 (Comes run.last_ack) turn.resumed run.acknowledged last.sent refl refl refl refl)
+acknowledged = serves echo 2 900000 last.input start.resumed start.acknowledged last.sent refl refl refl
+    (start.acknowledged, refl, goes echo server 2 (Comes run.last_ack) start.resumed start.acknowledged last.sent refl refl refl refl)
 
 abbrev Follows : Moment → Moment → Type 0
 Follows before after = Happens echo before.world after.event after.sent after.world
@@ -119,7 +105,7 @@ happens_17 = (nth 0 run.moment_16.sent, refl, (refl, refl))
 
 happens_18 : Follows run.moment_17 run.moment_18
 unfolding laws IsLe
-happens_18 = (nth 0 run.moment_17.sent, refl, ((turn.restart_1.node, refl, restart_1), refl))
+happens_18 = (nth 0 run.moment_17.sent, refl, ((start.asks_entry.node, refl, asks_entry echo), refl))
 
 happens_19 : Follows run.moment_18 run.moment_19
 unfolding laws IsLe
@@ -127,7 +113,7 @@ happens_19 = (nth 0 run.moment_18.sent, refl, (refl, refl))
 
 happens_20 : Follows run.moment_19 run.moment_20
 unfolding laws IsLe
-happens_20 = (nth 0 run.moment_19.sent, refl, ((turn.restart_2.node, refl, restart_2), refl))
+happens_20 = (nth 0 run.moment_19.sent, refl, ((start.asks_lengths.node, refl, asks_lengths echo), refl))
 
 happens_21 : Follows run.moment_20 run.moment_21
 unfolding laws IsLe
@@ -135,7 +121,7 @@ happens_21 = (nth 0 run.moment_20.sent, refl, (refl, refl))
 
 happens_22 : Follows run.moment_21 run.moment_22
 unfolding laws IsLe
-happens_22 = (nth 0 run.moment_21.sent, refl, ((turn.restart_3.node, refl, restart_3), refl))
+happens_22 = (nth 0 run.moment_21.sent, refl, ((start.asks_bytes.node, refl, asks_bytes echo), refl))
 
 happens_23 : Follows run.moment_22 run.moment_23
 unfolding laws IsLe
@@ -143,7 +129,7 @@ happens_23 = (nth 0 run.moment_22.sent, refl, (refl, refl))
 
 happens_24 : Follows run.moment_23 run.moment_24
 unfolding laws IsLe
-happens_24 = (nth 0 run.moment_23.sent, refl, ((turn.restart_4.node, refl, restart_4), refl))
+happens_24 = (nth 0 run.moment_23.sent, refl, ((start.serves_again.node, refl, serves_again), refl))
 
 happens_25 : Follows run.moment_24 run.moment_25
 unfolding laws IsLe
@@ -167,22 +153,12 @@ happens_29 = record { client = run.echoed; segment = run.last_ack; later = run.s
 
 happens_30 : Follows run.moment_29 run.moment_30
 unfolding laws IsLe
-happens_30 = (nth 0 run.moment_29.sent, refl, ((serving_at 2 900000 run.acknowledged, refl, acknowledged), refl))
+happens_30 = (nth 0 run.moment_29.sent, refl, ((serving_at 2 900000 start.acknowledged, refl, acknowledged), refl))
 
 is_joint : Joint echo first.start run.trace
 is_joint = ((((((((((((((((((((opening_is_joint echo, happens_11), happens_12), happens_13), happens_14), happens_15), happens_16), happens_17), happens_18), happens_19), happens_20), happens_21), happens_22), happens_23), happens_24), happens_25), happens_26), happens_27), happens_28), happens_29), happens_30)
 
--- and is allowed: what is no client's move as it is, ..
-still : (w : World) (m : Moment) → refusal w m.event ≡ None → move_asked m.event ≡ None → IsAllowed w m
-still w m allowed none = record { allowed = allowed; scripted = unmoved w m.event m.sent m.world none }
-
--- .. and a move as the one that is asked for
-allowed_4 : IsAllowed first.moment_3.world first.moment_4
-allowed_4 = record { allowed = refl; scripted = scripted first.moment_3.world first.moment_4.event (client_with hello_text) (Syn None) 1 first.moment_4.world refl refl refl }
-
-allowed_9 : IsAllowed first.moment_8.world first.moment_9
-allowed_9 = record { allowed = refl; scripted = scripted first.moment_8.world first.moment_9.event first.open_client Acknowledge 1 first.moment_9.world refl refl refl }
-
+-- and is allowed
 allowed_11 : IsAllowed first.moment_10.world first.moment_11
 allowed_11 = record { allowed = refl; scripted = scripted first.moment_10.world first.moment_11.event first.open_client (Text 0 5) 1 first.moment_11.world refl refl refl }
 
@@ -191,39 +167,6 @@ allowed_26 = record { allowed = refl; scripted = scripted run.moment_25.world ru
 
 allowed_29 : IsAllowed run.moment_28.world run.moment_29
 allowed_29 = record { allowed = refl; scripted = scripted run.moment_28.world run.moment_29.event run.echoed Acknowledge 1 run.moment_29.world refl refl refl }
-
-allowed_opening : AllAllowed first.start first.opening_trace
-allowed_opening = (
-  (
-    (
-      (
-        (
-          (
-            (
-              (
-                (
-                  (
-                    tt,
-                    still first.start first.moment_1 refl refl,
-                  ),
-                  still first.moment_1.world first.moment_2 refl refl,
-                ),
-                still first.moment_2.world first.moment_3 refl refl,
-              ),
-              allowed_4,
-            ),
-            still first.moment_4.world first.moment_5 refl refl,
-          ),
-          still first.moment_5.world first.moment_6 refl refl,
-        ),
-        still first.moment_6.world first.moment_7 refl refl,
-      ),
-      still first.moment_7.world first.moment_8 refl refl,
-    ),
-    allowed_9,
-  ),
-  still first.moment_9.world first.moment_10 refl refl,
-)
 
 all_allowed : AllAllowed first.start run.trace
 all_allowed = (
@@ -246,7 +189,7 @@ all_allowed = (
                                   (
                                     (
                                       (
-                                        allowed_opening,
+                                        opening_allowed,
                                         allowed_11,
                                       ),
                                       still first.moment_11.world first.moment_12 refl refl,

@@ -7,11 +7,11 @@ use Rattle.ft_model.specs.Client.{Client}
 use Rattle.ft_model.specs.Log.{Log}
 use Rattle.ft_model.specs.Node.{booted}
 use Rattle.ft_model.specs.Network.Packet.{To_server}
-use Rattle.ft_model.specs.Point.{Point}
 use Rattle.ft_model.specs.World.{Moment}
-use Rattle.ft_model.specs.WorkedRuns.Common.{server, key, hello_text, client_segment, to_log, from_log, kept_with, part_with, serving_at, congestion_with}
+use Rattle.ft_model.specs.WorkedRuns.Common.{server, key, hello_text, client_segment, to_log, from_log, kept_with, part_with, serving_at}
 use Rattle.ft_model.specs.WorkedRuns.FirstPath.{moment, log_with, read_entry, told_client, moment_11, moment_12, moment_13, opening_trace}
-use Rattle.ft_model.specs.WorkedRuns.CrashAfterLogged.{head, room, resumed, restart_1, restart_2, restart_3, restart_4, restart_5}
+use Rattle.ft_model.specs.WorkedRuns.CrashAfterLogged.{room, restart_5}
+use Rattle.ft_model.specs.WorkedRuns.RestartFromHello.{head, acknowledged, asks_entry, asks_lengths, asks_bytes, serves_again}
 use Rattle.ft_model.specs.declared.event.Event.TheVariants.{Boot, Crash, Deliver, Begin, Send, Ack}
 use Rattle.ft_model.specs.declared.schedule.Schedule.{Schedule}
 use Rattle.ft_model.specs.declared.schedule.Script.TheVariants.{Bytes}
@@ -46,10 +46,6 @@ served = record echoed { edge = 65540 }
 abbrev pub last_ack : Segment
 last_ack = client_segment 16 1006 5006 65535 []
 
--- the connection once the output is acknowledged
-abbrev pub acknowledged : Point
-acknowledged = record resumed { una = 5; edge = 65540; wl2 = 5; congestion = congestion_with 2149 65535 0; rest = 0 }
-
 -- the read is logged too, and the server crashes before it receives either answer
 abbrev pub moment_14 : Moment
 moment_14 = moment (Deliver 11) (from_log 1 (ReadsMsg (kept_with 5 false 1)) ∷ []) (record moment_13.world { log = log_with (read_entry ∷ []) })
@@ -65,26 +61,26 @@ abbrev pub moment_17 : Moment
 moment_17 = moment (Deliver 14) (from_log 2 (SummaryMsg 1) ∷ []) (record moment_16.world { log = second_log })
 
 abbrev pub moment_18 : Moment
-moment_18 = moment (Deliver 15) restart_1.sent (record moment_17.world { node = Some restart_1.node })
+moment_18 = moment (Deliver 15) asks_entry.sent (record moment_17.world { node = Some asks_entry.node })
 
 abbrev pub moment_19 : Moment
 moment_19 = moment (Deliver 16) (from_log 2 (EntryMsg 0 head) ∷ []) moment_18.world
 
 abbrev pub moment_20 : Moment
-moment_20 = moment (Deliver 17) restart_2.sent (record moment_19.world { node = Some restart_2.node })
+moment_20 = moment (Deliver 17) asks_lengths.sent (record moment_19.world { node = Some asks_lengths.node })
 
 abbrev pub moment_21 : Moment
 moment_21 = moment (Deliver 18) (from_log 2 (LensMsg key 0 (5 ∷ [])) ∷ []) moment_20.world
 
 abbrev pub moment_22 : Moment
-moment_22 = moment (Deliver 19) restart_3.sent (record moment_21.world { node = Some restart_3.node })
+moment_22 = moment (Deliver 19) asks_bytes.sent (record moment_21.world { node = Some asks_bytes.node })
 
 abbrev pub moment_23 : Moment
 moment_23 = moment (Deliver 20) (from_log 2 (PartMsg key 0 hello_text) ∷ []) moment_22.world
 
 -- with the last answer the connection continues: the text is acknowledged
 abbrev pub moment_24 : Moment
-moment_24 = moment (Deliver 21) restart_4.sent (record moment_23.world { node = Some restart_4.node })
+moment_24 = moment (Deliver 21) serves_again.sent (record moment_23.world { node = Some serves_again.node })
 
 abbrev pub moment_25 : Moment
 moment_25 = moment (Deliver 22) [] (record moment_24.world { clients = heard ∷ [] })

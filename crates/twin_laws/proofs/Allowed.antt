@@ -4,8 +4,7 @@ use Rattle.std.proofs.lemmas.Bool.Decides.{nat_tests}
 use Rattle.ft_io.proofs.Choices.{holds_either_way}
 use Rattle.seq_arith.specs.Message.{Message, is_answer}
 use Rattle.server_trait.specs.Service.{Machine}
-use Rattle.ft_model.specs.Client.{move_asked}
-use Rattle.ft_model.specs.Legal.{refusal_of_flip, IsScripted, IsAllowed, AllAllowed}
+use Rattle.ft_model.specs.Legal.{refusal_of_flip, IsAllowed, AllAllowed}
 use Rattle.ft_model.specs.Network.{Packet}
 use Rattle.ft_model.specs.Network.Packet.{To_server, To_client, To_logger, From_logger}
 use Rattle.ft_model.specs.Wire.{wire_of}
@@ -14,7 +13,7 @@ use Rattle.ft_model.specs.declared.event.Event.{Event}
 use Rattle.ft_model.specs.declared.event.Event.TheVariants.{Boot, Crash, Tick, Deliver, Flip, Begin, Send, Fin, Ack, Reset}
 use Rattle.ft_model.specs.declared.event.Event.TheVariants as events
 use Rattle.ft_model.specs.declared.event.EventWhy.TheVariants as why
-use Rattle.ft_model.proofs.Lists.{none_is_some}
+use Rattle.ft_model.proofs.AskedMoves.{quiet_event}
 use Rattle.twin_laws.specs.declared.part.Part.TheVariants as parts
 use Rattle.twin_laws.specs.Twin.{Request, has_room}
 use Rattle.twin_laws.specs.Twin.Between.{Forward, Got}
@@ -26,14 +25,10 @@ use Rattle.twin_laws.specs.Flat.{Flat, flat, flat_step, kept_as, kept_alone, lef
 use Rattle.twin_laws.proofs.Elsewhere.{NamesNone}
 use Rattle.twin_laws.proofs.Flattening.{moment_of, flattens}
 
--- no client is asked for a move
-no_move : (w : World) (event : Event) (sent : List Packet) (after : World) → move_asked event ≡ None → IsScripted w event sent after
-no_move w event sent after none number move client is at = none_is_some (number, move) (sym none ∙ is)
-
 module _ {State : Type 0} (service : Machine State) where
   delivery_allowed : (w : World) (n : ℕ) (sent : List Packet) (after : World) → Happens service w (Deliver n) sent after
       → IsAllowed w (record { event = Deliver n; sent = sent; world = after })
-  delivery_allowed w n sent after h = record { allowed = rw h.1 refl; scripted = no_move w (Deliver n) sent after refl }
+  delivery_allowed w n sent after h = record { allowed = rw h.1 refl; scripted = quiet_event w (Deliver n) sent after refl }
 
   flip_allowed : (w : World) (n bit : ℕ) (sent : List Packet) (after : World) → Happens service w (Flip n bit) sent after
       → IsAllowed w (record { event = Flip n bit; sent = sent; world = after })
@@ -42,7 +37,7 @@ module _ {State : Type 0} (service : Machine State) where
       let has : nat_le (8 * length (wire_of h.0).bytes) bit ≡ false = grind (arith, nat_tests) in
       record {
         allowed = ap (λ o. refusal_of_flip o bit) h.1 ∙ ap (λ b. cond b (Some why.Bit) None) has;
-        scripted = no_move w (Flip n bit) sent after refl;
+        scripted = quiet_event w (Flip n bit) sent after refl;
       }
 
   -- what happens is allowed where it names a packet

@@ -5,6 +5,8 @@ use Rattle.server_trait.specs.Service.{Machine}
 use Rattle.ft_model.specs.Schedule.{kind_of}
 use Rattle.ft_model.specs.declared.event.Event.{Event}
 use Rattle.ft_model.specs.declared.schedule.Schedule.{Schedule}
+use Rattle.ft_model.proofs.Outcomes.{Fronts, fronts}
+use Rattle.ft_model.proofs.Outcomes.Fronts.{longer, shorter}
 use Rattle.twin_laws.specs.TwinWorld.{TwinWorld, TwinMoment, TwinHappens, TwinJoint, twin_after}
 use Rattle.twin_laws.specs.TwinLegal.{twin_start, twin_refusal, twin_events_of, event_of, IsTwinAllowed, AllTwinAllowed, IsTwinLegalFor, twin_packets_sent}
 use Rattle.twin_laws.specs.TwinOutcome.{IsTwinWhole, IsTwinRefused, IsTwinPastPackets}
@@ -22,23 +24,6 @@ record Goes {State : Type 0} (service : Machine State) (before : TwinWorld) (eve
 abbrev Runs : {State : Type 0} → Machine State → TwinWorld → List Event → TwinWorld → Type 0
 Runs service before [] after = after ≡ before
 Runs service before (event ∷ events) after = (next : TwinWorld) × Goes service before event next × Runs service next events after
-
--- two ways to cut a list in two: one front begins with the other
-data Fronts {A : Type 0} (xs ys zs us : List A) : Type 0 where
-  longer : (middle : List A) → zs ≡ xs ++ middle → ys ≡ middle ++ us → Fronts xs ys zs us
-  shorter : (middle : List A) → xs ≡ zs ++ middle → us ≡ middle ++ ys → Fronts xs ys zs us
-
-fronts : {A : Type 0} (xs ys zs us : List A) → xs ++ ys ≡ zs ++ us → Fronts xs ys zs us
-fronts [] ys zs us e = longer zs refl e
-fronts (x ∷ xs) ys [] us e = shorter (x ∷ xs) refl (sym e)
-fronts (x ∷ xs) ys (z ∷ zs) us e = further (fronts xs ys zs us (cc))
-  where
-    first : x ≡ z
-    first = cc
-
-    further : Fronts xs ys zs us → Fronts (x ∷ xs) ys (z ∷ zs) us
-    further (longer middle p q) = longer middle (ap (λ w. w ∷ zs) (sym first) ∙ ap (λ ws. x ∷ ws) p) q
-    further (shorter middle p q) = shorter middle (ap (λ w. w ∷ xs) first ∙ ap (λ ws. z ∷ ws) p) q
 
 module _ {State : Type 0} (service : Machine State) where
   goes_once : (event : Event) (before w x : TwinWorld) → Goes service before event w → Goes service before event x → w ≡ x

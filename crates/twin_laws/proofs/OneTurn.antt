@@ -1,10 +1,9 @@
 -- A turn of the world with two loggers is determined by the event and by the world before it, and what was sent stays.
-use Rattle.std.proofs.Common.{◌≡◌, ◌∙◌, ℕ, refl, sym, ap, ap₂, subst, Bool, true, false, None, List, [], ◌∷◌, ◌++◌, map}
+use Rattle.std.proofs.Common.{◌≡◌, ◌∙◌, ℕ, refl, sym, ap, ap₂, subst, Bool, true, false, List, [], ◌∷◌, ◌++◌, map}
 use Rattle.seq_arith.specs.Damage.{flipped}
 use Rattle.seq_arith.specs.TwinGrammar as twins
 use Rattle.server_trait.specs.Service.{Machine}
 use Rattle.std.proofs.lemmas.List.{append_cancel_left}
-use Rattle.ft_model.specs.Client.{move_asked}
 use Rattle.ft_model.specs.Legal.{IsScripted}
 use Rattle.ft_model.specs.Network.{Packet}
 use Rattle.ft_model.specs.Network.Packet.{To_server, To_client, To_logger, From_logger}
@@ -12,7 +11,8 @@ use Rattle.ft_model.specs.World.{World, Happens, Delivered, Flipped}
 use Rattle.ft_model.specs.declared.event.Event.{Event}
 use Rattle.ft_model.specs.declared.event.Event.TheVariants.{Boot, Crash, Tick, Deliver, Flip, Begin, Send, Fin, Ack, Reset}
 use Rattle.ft_model.specs.declared.event.Event.TheVariants as events
-use Rattle.ft_model.proofs.Lists.{some_is, none_is_some}
+use Rattle.ft_model.proofs.AskedMoves.{quiet_event}
+use Rattle.ft_model.proofs.Lists.{some_is}
 use Rattle.ft_model.proofs.OneTrace.{happens_once}
 use Rattle.twin_laws.specs.declared.part.Part.{Part}
 use Rattle.twin_laws.specs.declared.part.Part.TheVariants as parts
@@ -54,25 +54,21 @@ elsewhere_once Goes front before w x s t once p q =
     let packets : p.0 ≡ q.0 = append_cancel_left front p.0 q.0 (ap (λ v. v.packets) same) in
     alike w x (front ++ p.0) (front ++ q.0) same (p.3 ∙ sym q.3) (p.4 ∙ (ap (λ ps. before.parcels ++ ps) (p.1 ∙ ap (map Outside) packets ∙ sym q.1) ∙ sym q.4))
 
--- no client is asked for a move
-no_move : (event : Event) (before after : World) (sent : List Packet) → move_asked event ≡ None → IsScripted before event sent after
-no_move event before after sent none number move client is at = none_is_some (number, move) (sym none ∙ is)
-
 module _ {State : Type 0} (service : Machine State) where
   -- what reaches server or client is determined as with one log in which this packet alone was sent
   brought_once : (packet : Packet) (before w x : World) (ps qs : List Packet) → Delivered service (record before { packets = packet ∷ [] }) packet ps (record w { packets = packet ∷ ps })
       → Delivered service (record before { packets = packet ∷ [] }) packet qs (record x { packets = packet ∷ qs }) → record w { packets = packet ∷ ps } ≡ record x { packets = packet ∷ qs }
   brought_once packet before w x ps qs c d =
       happens_once service (Deliver 1) (record before { packets = packet ∷ [] }) (record w { packets = packet ∷ ps }) (record x { packets = packet ∷ qs }) ps qs
-      (packet, refl, c) (packet, refl, d) (no_move (Deliver 1) (record before { packets = packet ∷ [] }) (record w { packets = packet ∷ ps }) ps refl)
-      (no_move (Deliver 1) (record before { packets = packet ∷ [] }) (record x { packets = packet ∷ qs }) qs refl)
+      (packet, refl, c) (packet, refl, d) (quiet_event (record before { packets = packet ∷ [] }) (Deliver 1) ps (record w { packets = packet ∷ ps }) refl)
+      (quiet_event (record before { packets = packet ∷ [] }) (Deliver 1) qs (record x { packets = packet ∷ qs }) refl)
 
   changed_once : (packet : Packet) (bit : ℕ) (before w x : World) (ps qs : List Packet) → Flipped service (record before { packets = packet ∷ [] }) packet bit ps (record w { packets = packet ∷ ps })
       → Flipped service (record before { packets = packet ∷ [] }) packet bit qs (record x { packets = packet ∷ qs }) → record w { packets = packet ∷ ps } ≡ record x { packets = packet ∷ qs }
   changed_once packet bit before w x ps qs c d =
       happens_once service (Flip 1 bit) (record before { packets = packet ∷ [] }) (record w { packets = packet ∷ ps }) (record x { packets = packet ∷ qs }) ps qs
-      (packet, refl, c) (packet, refl, d) (no_move (Flip 1 bit) (record before { packets = packet ∷ [] }) (record w { packets = packet ∷ ps }) ps refl)
-      (no_move (Flip 1 bit) (record before { packets = packet ∷ [] }) (record x { packets = packet ∷ qs }) qs refl)
+      (packet, refl, c) (packet, refl, d) (quiet_event (record before { packets = packet ∷ [] }) (Flip 1 bit) ps (record w { packets = packet ∷ ps }) refl)
+      (quiet_event (record before { packets = packet ∷ [] }) (Flip 1 bit) qs (record x { packets = packet ∷ qs }) refl)
 
   parcel_once : (parcel : Parcel) (before w x : TwinWorld) (s t : List Parcel) → ParcelComes service parcel before s w → ParcelComes service parcel before t x → w ≡ x
   parcel_once (Outside (To_logger message)) before w x s t p q = logger_once before.pair.head_stopped (Asks (request_of message)) before w x s t p q

@@ -1,58 +1,15 @@
 -- A client acknowledges more than the restarted server has sent. Its acknowledgement is lowered to what was sent, and used in full once the same output is
 -- retransmitted.
-use Rattle.std.specs.Prelude.{pos, true, false, None, List, [], ◌∷◌}
+use Rattle.std.specs.Prelude.{false, None, List, [], ◌∷◌}
 use Rattle.seq_arith.specs.Packet.{Segment}
-use Rattle.seq_arith.specs.Message.{EntryHead}
-use Rattle.seq_arith.specs.Message.Body.{SummaryMsg, ListMsg, EntryMsg, BytesMsg, PartMsg, CutsMsg, LensMsg, DataMsg}
-use Rattle.ft_model.specs.Point.{Point, blank_point}
-use Rattle.ft_model.specs.Restart.{Fetched}
+use Rattle.seq_arith.specs.Message.Body.{DataMsg}
 use Rattle.ft_model.specs.Lawful.{Turn}
-use Rattle.ft_model.specs.WorkedRuns.Common.{key, hello_text, client_segment, to_client, to_log, part_with, on_message, on_segment, serving_at, fetching, head_with, fetched_with, congestion_with}
+use Rattle.ft_model.specs.WorkedRuns.Common.{hello_text, client_segment, to_client, to_log, part_with, on_segment, serving_at}
+use Rattle.ft_model.specs.WorkedRuns.RestartFromHello.{resumed, acknowledged, asks_entry, asks_lengths, asks_bytes, serves_again}
 
 -- the client has all five bytes
 abbrev pub known : Segment
 known = client_segment 16 1006 5006 65535 []
-
--- the log's entry, and as its parts come
-abbrev pub head : EntryHead
-head = head_with 5 false 1 0
-
-abbrev pub bare_entry : Fetched
-bare_entry = fetched_with head [] []
-
-abbrev pub entry_with_lengths : Fetched
-entry_with_lengths = fetched_with head [] (5 ∷ [])
-
--- the connection after the restart, when the output is retransmitted, and when it is acknowledged
-abbrev pub restarted : Point
-restarted = record (blank_point key 1000 5000 536) {
-  fetched = 5;
-  taken = hello_text;
-  answered = 5;
-  lengths = 5 ∷ [];
-  reads_answered = 1;
-  wl1 = pos 5;
-  syn_acked = true;
-  rest = 1;
-}
-
-abbrev pub resumed : Point
-resumed = record restarted { edge = 65535; sent = 5 }
-
-abbrev pub acknowledged : Point
-acknowledged = record resumed { una = 5; edge = 65540; wl2 = 5; congestion = congestion_with 2149 65535 0; rest = 0 }
-
-abbrev pub restart_1 : Turn
-restart_1 = on_message 2 (SummaryMsg 1) (to_log 2 (ListMsg 0) ∷ []) (fetching 2 900000 [])
-
-abbrev pub restart_2 : Turn
-restart_2 = on_message 2 (EntryMsg 0 head) (to_log 2 (CutsMsg key 0) ∷ []) (fetching 2 900000 (bare_entry ∷ []))
-
-abbrev pub restart_3 : Turn
-restart_3 = on_message 2 (LensMsg key 0 (5 ∷ [])) (to_log 2 (BytesMsg key 0) ∷ []) (fetching 2 900000 (entry_with_lengths ∷ []))
-
-abbrev pub restart_4 : Turn
-restart_4 = on_message 2 (PartMsg key 0 hello_text) (to_client 16 5001 1006 65535 None [] ∷ []) (serving_at 2 900000 restarted)
 
 abbrev pub restart_5 : Turn
 restart_5 = on_segment known (to_client 16 5001 1006 65535 None hello_text ∷ []) (serving_at 2 900000 resumed)
@@ -63,4 +20,4 @@ restart_6 = on_segment known (to_log 2 (DataMsg (part_with 5 5 false [])) ∷ []
 
 -- the second incarnation's turns, newest first
 abbrev pub restart_turns : List Turn
-restart_turns = restart_6 ∷ restart_5 ∷ restart_4 ∷ restart_3 ∷ restart_2 ∷ restart_1 ∷ []
+restart_turns = restart_6 ∷ restart_5 ∷ serves_again ∷ asks_bytes ∷ asks_lengths ∷ asks_entry ∷ []

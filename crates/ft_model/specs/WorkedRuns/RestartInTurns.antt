@@ -1,12 +1,13 @@
 -- A restart asks for lengths and bytes in turns, so that each read can be replayed as soon as it is complete: the bytes of the reads whose lengths have come,
 -- then further lengths, and at last the bytes after all reads. The log's answers are short here.
-use Rattle.std.specs.Prelude.{pos, true, false, None, List, [], ◌∷◌}
+use Rattle.std.specs.Prelude.{false, None, List, [], ◌∷◌}
 use Rattle.seq_arith.specs.Message.{EntryHead}
-use Rattle.seq_arith.specs.Message.Body.{SummaryMsg, ListMsg, EntryMsg, BytesMsg, PartMsg, CutsMsg, LensMsg, ReadMsg}
+use Rattle.seq_arith.specs.Message.Body.{EntryMsg, BytesMsg, PartMsg, CutsMsg, LensMsg, ReadMsg}
 use Rattle.ft_model.specs.Network.{Packet}
-use Rattle.ft_model.specs.Point.{Point, blank_point}
+use Rattle.ft_model.specs.Point.{Point}
 use Rattle.ft_model.specs.Lawful.{Turn}
-use Rattle.ft_model.specs.WorkedRuns.Common.{key, hello_text, to_client, to_log, on_message, serving_at, fetching, head_with, fetched_with}
+use Rattle.ft_model.specs.WorkedRuns.Common.{key, to_client, to_log, on_message, serving_at, fetching, head_with, fetched_with}
+use Rattle.ft_model.specs.WorkedRuns.RestartFromHello.{restarted as one_read, asks_entry}
 
 -- five bytes, of which two reads have taken two and one
 abbrev pub head : EntryHead
@@ -14,19 +15,10 @@ head = head_with 5 false 2 0
 
 -- the connection when all has come: the bytes after the logged reads are read in the same turn
 abbrev pub restarted : Point
-restarted = record (blank_point key 1000 5000 536) {
-  fetched = 5;
-  taken = hello_text;
-  answered = 5;
-  lengths = 2 ∷ 1 ∷ 2 ∷ [];
-  reads_answered = 2;
-  wl1 = pos 5;
-  syn_acked = true;
-  rest = 1;
-}
+restarted = record one_read { lengths = 2 ∷ 1 ∷ 2 ∷ []; reads_answered = 2 }
 
 abbrev pub turn_1 : Turn
-turn_1 = on_message 2 (SummaryMsg 1) (to_log 2 (ListMsg 0) ∷ []) (fetching 2 900000 [])
+turn_1 = asks_entry
 
 abbrev pub turn_2 : Turn
 turn_2 = on_message 2 (EntryMsg 0 head) (to_log 2 (CutsMsg key 0) ∷ []) (fetching 2 900000 (fetched_with head [] [] ∷ []))
