@@ -2,9 +2,8 @@
 
 ghost use Rattle.std.specs.Prelude.{◌≤◌};
 
-use crate::dice::Dice;
 use crate::joined::{CLIENT, SERVER};
-use crate::rules::{Kept, Rule, anything, may_follow, require, servers_byte};
+use crate::rules::{Kept, Rule, SERVERS, anything, may_follow, require};
 use ft_io::{Key, NoMemory};
 use ft_model::Event;
 use peer_client::{Client, LiveClient, Phase};
@@ -12,6 +11,7 @@ use segment_codec::{Head, read_packet, write_packet};
 use seq_arith::{ACK, FIN, RST, SYN, Seq, has};
 use std::alloc::Global;
 use tcp_endpoint::Outbox;
+use test_data::Draws;
 
 const SEED: u64 = 1;
 
@@ -55,9 +55,9 @@ impl Tally {
     }
 }
 
-fn flags(dice: &mut Dice) -> u8 {
-    match dice.roll(6) {
-        0 | 1 => dice.byte(),
+fn flags(draws: &mut Draws) -> u8 {
+    match draws.below(6) {
+        0 | 1 => draws.byte(),
         2 => FIN | ACK,
         _ => ACK,
     }
@@ -72,7 +72,7 @@ struct Known {
 }
 
 /// Writes a packet to the client, whose text is the server's at its place, and answers its length.
-fn packet(dice: &mut Dice, known: Known, out: &mut [u8; 1_500]) -> usize
+fn packet(draws: &mut Draws, known: Known, out: &mut [u8; 1_500]) -> usize
     ensures { result ≤ 1500 }
 {
     let head = Head {
@@ -80,19 +80,15 @@ fn packet(dice: &mut Dice, known: Known, out: &mut [u8; 1_500]) -> usize
         dst: CLIENT.ip,
         sport: SERVER.port,
         dport: CLIENT.port,
-        seq: dice.near(known.next),
-        ack: dice.near(known.sent),
-        flags: flags(dice),
-        window: dice.roll(65_536) as u16,
+        seq: draws.perturbed(known.next),
+        ack: draws.perturbed(known.sent),
+        flags: flags(draws),
+        window: draws.below(65_536) as u16,
         mss: None,
     };
-    let mut place = head.seq.minus(known.base.add(1));
     let mut text = [0u8; 60];
-    for byte in text.iter_mut() {
-        *byte = servers_byte(place);
-        place = place.wrapping_add(1);
-    }
-    let len = dice.roll(61) as usize;
+    SERVERS.fill(head.seq.minus(known.base.add(1)), &mut text);
+    let len = draws.below(61) as usize;
     write_packet(&head, &text[..len], out)
 }
 
@@ -115,11 +111,11 @@ fn syn_ack(out: &mut [u8; 1_500]) -> usize
 }
 
 /// Every second datagram is a packet.
-fn datagram(dice: &mut Dice, number: u32, known: Known, out: &mut [u8; 1_500]) -> usize {
+fn datagram(draws: &mut Draws, number: u32, known: Known, out: &mut [u8; 1_500]) -> usize {
     if number % 2 == 0 {
-        anything(dice, out)
+        anything(draws, out)
     } else {
-        packet(dice, known, out)
+        packet(draws, known, out)
     }
 }
 
@@ -128,17 +124,6 @@ fn opening(bytes: &[u8]) -> Option<Seq> {
     let head = read_packet(bytes).ok()?.head;
     let answers = has(head.flags, SYN) && has(head.flags, ACK) && !has(head.flags, RST);
     (answers && head.ack == Seq(ISN).add(1)).then_some(head.seq)
-}
-
-fn is_servers(bytes: &[u8], from: u32) -> bool {
-    let mut place = from;
-    for byte in bytes {
-        if *byte != servers_byte(place) {
-            return false;
-        }
-        place = place.wrapping_add(1);
-    }
-    true
 }
 
 /// A scripted client that has sent its SYN, and in three of four cases, where it is open, some of its script.
@@ -200,7 +185,7 @@ fn check_scripted(before: Told, client: &Client, is_packet: bool) -> Kept {
     let after = readers_of(client);
     require(is_packet || after == before, Rule::Silence)?;
     require(before.accepted <= after.accepted, Rule::Text)?;
-    require(is_servers(client.accepted(), 0), Rule::Text)?;
+    require(SERVERS.is_part(0, client.accepted()), Rule::Text)?;
     require(after.accepted <= usize::from(WINDOW), Rule::Window)?;
     require(
         after.sent == before.sent && before.acked <= after.acked,
@@ -212,7 +197,7 @@ fn check_scripted(before: Told, client: &Client, is_packet: bool) -> Kept {
 
 /// Hands all datagrams to scripted clients, one after another.
 pub(crate) fn attack_scripted(alloc: Global) -> Result<Tally, NoMemory> {
-    let mut dice = Dice::new(SEED);
+    let mut draws = Draws::new(SEED);
     let mut tally = Tally::new();
     let mut client = scripted(alloc, true)?;
     let mut base = Some(Seq(SERVER_ISN));
@@ -220,7 +205,7 @@ pub(crate) fn attack_scripted(alloc: Global) -> Result<Tally, NoMemory> {
     let mut out = [0u8; 1_500];
     for i in 0..DATAGRAMS {
         if age >= AGE || client.phase() == Phase::Reset {
-            let is_open = dice.roll(4) > 0;
+            let is_open = draws.below(4) > 0;
             client = scripted(alloc, is_open)?;
             base = is_open.then_some(Seq(SERVER_ISN));
             age = 0;
@@ -232,7 +217,7 @@ pub(crate) fn attack_scripted(alloc: Global) -> Result<Tally, NoMemory> {
             next: from.add(1).add((before.accepted % 65_536) as u32),
             sent: Seq(ISN).add(1).add(before.sent),
         };
-        let len = datagram(&mut dice, i, known, &mut out);
+        let len = datagram(&mut draws, i, known, &mut out);
         let bytes = &out[..len.min(1_500)];
         client.deliver(alloc, bytes)?;
         base = base.or(opening(bytes));
@@ -255,7 +240,7 @@ struct Target {
 }
 
 impl Target {
-    fn new(alloc: Global, dice: &mut Dice) -> Result<Target, NoMemory> {
+    fn new(alloc: Global, draws: &mut Draws) -> Result<Target, NoMemory> {
         let script = SCRIPT.to_vec(alloc)?;
         let script = if script.len() <= 1 << 24 {
             script
@@ -270,7 +255,7 @@ impl Target {
             age: 0,
         };
         target.flush();
-        if dice.roll(4) > 0 {
+        if draws.below(4) > 0 {
             let mut packet = [0u8; 1_500];
             let len = syn_ack(&mut packet);
             target.client.on_packet(&packet[..len]);
@@ -286,11 +271,11 @@ impl Target {
     }
 
     /// Checks that the bytes handed out are those that the server sends at that place, and returns how many they are.
-    fn accept_some(&mut self, dice: &mut Dice) -> Result<usize, Rule> {
+    fn accept_some(&mut self, draws: &mut Draws) -> Result<usize, Rule> {
         let mut buf = [0u8; 50];
-        let most = dice.roll(51) as usize;
+        let most = draws.below(51) as usize;
         let count = self.client.accept(&mut buf[..most]).min(most);
-        require(is_servers(&buf[..count], self.handed), Rule::Text)?;
+        require(SERVERS.is_part(self.handed, &buf[..count]), Rule::Text)?;
         self.handed = self.handed.saturating_add(count as u32);
         Ok(count)
     }
@@ -318,20 +303,20 @@ impl Target {
     }
 
     /// A datagram comes, some bytes are accepted, and the turn ends.
-    fn meet(&mut self, bytes: &[u8], is_packet: bool, dice: &mut Dice) -> Kept {
+    fn meet(&mut self, bytes: &[u8], is_packet: bool, draws: &mut Draws) -> Kept {
         let before = self.client.outcome();
         self.client.on_packet(bytes);
         self.base = self.base.or(opening(bytes));
         let after = self.client.outcome();
         require(before.is_none() || after == before, Rule::End)?;
         require(is_packet || after == before, Rule::Silence)?;
-        let count = self.accept_some(dice)?;
+        let count = self.accept_some(draws)?;
         self.flush();
         require(is_packet || count > 0 || self.out.is_empty(), Rule::Silence)?;
         if before.is_none() {
             self.check_leaving()?;
         }
-        if dice.roll(20) == 0 {
+        if draws.below(20) == 0 {
             self.client.on_tick();
             self.flush();
         }
@@ -342,24 +327,24 @@ impl Target {
 
 /// Hands all datagrams to live clients, one after another.
 pub(crate) fn attack_live(alloc: Global) -> Result<Tally, NoMemory> {
-    let mut dice = Dice::new(SEED);
+    let mut draws = Draws::new(SEED);
     let mut tally = Tally::new();
-    let mut target = Target::new(alloc, &mut dice)?;
+    let mut target = Target::new(alloc, &mut draws)?;
     let mut out = [0u8; 1_500];
     for i in 0..DATAGRAMS {
         if target.age >= AGE {
-            target = Target::new(alloc, &mut dice)?;
+            target = Target::new(alloc, &mut draws)?;
         }
         let base = target.base.unwrap_or(Seq(SERVER_ISN));
         let known = Known {
             base,
             next: base.add(1).add(target.handed),
-            sent: Seq(ISN).add(1).add(dice.roll(22)),
+            sent: Seq(ISN).add(1).add(draws.below(22)),
         };
-        let len = datagram(&mut dice, i, known, &mut out);
+        let len = datagram(&mut draws, i, known, &mut out);
         let bytes = &out[..len.min(1_500)];
         let is_packet = read_packet(bytes).is_ok();
-        let kept = target.meet(bytes, is_packet, &mut dice);
+        let kept = target.meet(bytes, is_packet, &mut draws);
         tally.note(is_packet, kept);
     }
     Ok(tally)

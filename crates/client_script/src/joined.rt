@@ -1,6 +1,5 @@
 //! A live client and an endpoint of `listen`, joined by ways that lose, repeat and reorder. Each sends a text to the other.
 
-use crate::dice::Dice;
 use ft_io::{Addr, NoMemory};
 use peer_client::{ClientEnd, LiveClient};
 use segment_codec::read_packet;
@@ -8,6 +7,7 @@ use seq_arith::Seq;
 use socket_layer::Socket;
 use std::alloc::Global;
 use tcp_endpoint::{Endpoint, Outbox};
+use test_data::{Draws, Pattern};
 
 pub(crate) const CLIENT: Addr = Addr {
     ip: 0xC000_0201,
@@ -24,22 +24,14 @@ const LIMIT: u32 = 1 << 24;
 /// How many bytes each sends.
 const LENGTH: usize = 100_000;
 
-/// The periods of the client's text and of the server's, in bytes.
-const CLIENT_PERIOD: usize = 251;
+/// The client's text.
+const CLIENTS: Pattern = Pattern::Numbers;
 
-const SERVER_PERIOD: usize = 241;
+/// The server's text.
+const SERVERS: Pattern = Pattern::Letters;
 
 /// A turn of both is made at most so often.
 const TURNS: u32 = 1_000_000;
-
-/// A text of bytes that count up from 0 and begin again at the period.
-fn text(alloc: Global, period: usize) -> Result<Vec<u8>, NoMemory> {
-    let mut bytes = Vec::with_capacity(alloc, LENGTH)?;
-    for i in 0..LENGTH {
-        bytes.push((i % period.max(1) % 256) as u8)?;
-    }
-    Ok(bytes)
-}
 
 /// A way that loses, repeats and reorders: the packets that may still arrive.
 #[derive(Drop)]
@@ -49,9 +41,9 @@ struct Way {
 
 impl Way {
     /// Puts what was sent on its path. One packet in six is lost.
-    fn carry(&mut self, alloc: Global, out: &Outbox, dice: &mut Dice) -> Result<(), NoMemory> {
+    fn carry(&mut self, alloc: Global, out: &Outbox, draws: &mut Draws) -> Result<(), NoMemory> {
         for i in 0..out.len() {
-            if dice.roll(6) > 0 {
+            if draws.below(6) > 0 {
                 self.packets.push(out.packet(i).to_vec(alloc)?)?;
             }
         }
@@ -59,12 +51,12 @@ impl Way {
     }
 
     /// One of the first three packets arrives. One in six stays and may arrive again.
-    fn arrival(&mut self, alloc: Global, dice: &mut Dice) -> Result<Option<Vec<u8>>, NoMemory> {
-        let place = dice.roll(3) as usize;
+    fn arrival(&mut self, alloc: Global, draws: &mut Draws) -> Result<Option<Vec<u8>>, NoMemory> {
+        let place = draws.below(3) as usize;
         if place >= self.packets.len() {
             return Ok(None);
         }
-        if dice.roll(6) == 0 {
+        if draws.below(6) == 0 {
             return Ok(Some(self.packets[place].to_vec(alloc)?));
         }
         Ok(Some(self.packets.remove(place)))
@@ -118,12 +110,12 @@ struct Exchange {
     to_client: Way,
     to_server: Way,
     out: Outbox,
-    dice: Dice,
+    draws: Draws,
 }
 
 impl Exchange {
     fn new(alloc: Global, seed: u64) -> Result<Exchange, NoMemory> {
-        let script = text(alloc, CLIENT_PERIOD)?;
+        let script = CLIENTS.part(alloc, 0, LENGTH)?;
         let script = if script.len() <= 1 << 24 {
             script
         } else {
@@ -134,7 +126,7 @@ impl Exchange {
             accepted: Vec::new(alloc),
             server: Server {
                 endpoint: Endpoint::listen(alloc, SERVER, Seq(5_000), LIMIT)?,
-                text: text(alloc, SERVER_PERIOD)?,
+                text: SERVERS.part(alloc, 0, LENGTH)?,
                 written: 0,
                 heard: Vec::new(alloc),
             },
@@ -145,18 +137,18 @@ impl Exchange {
                 packets: Vec::new(alloc),
             },
             out: Outbox::new(alloc)?,
-            dice: Dice::new(seed),
+            draws: Draws::new(seed),
         })
     }
 
     fn client_turn(&mut self, alloc: Global) -> Result<(), NoMemory> {
-        if self.dice.roll(3) == 0 {
+        if self.draws.below(3) == 0 {
             self.client.on_tick();
-        } else if let Some(packet) = self.to_client.arrival(alloc, &mut self.dice)? {
+        } else if let Some(packet) = self.to_client.arrival(alloc, &mut self.draws)? {
             self.client.on_packet(packet.as_slice());
         }
         let mut buf = [0u8; 3_000];
-        let most = self.dice.roll(3_001) as usize;
+        let most = self.draws.below(3_001) as usize;
         let count = self.client.accept(&mut buf[..most]).min(most);
         self.accepted.extend_from_slice(&buf[..count])?;
         self.flush_client(alloc)
@@ -165,13 +157,13 @@ impl Exchange {
     fn flush_client(&mut self, alloc: Global) -> Result<(), NoMemory> {
         self.out.clear();
         self.client.flush(&mut self.out);
-        self.to_server.carry(alloc, &self.out, &mut self.dice)
+        self.to_server.carry(alloc, &self.out, &mut self.draws)
     }
 
     fn server_turn(&mut self, alloc: Global) -> Result<(), NoMemory> {
-        if self.dice.roll(3) == 0 {
+        if self.draws.below(3) == 0 {
             self.server.endpoint.on_tick();
-        } else if let Some(packet) = self.to_server.arrival(alloc, &mut self.dice)? {
+        } else if let Some(packet) = self.to_server.arrival(alloc, &mut self.draws)? {
             if let Ok(p) = read_packet(packet.as_slice()) {
                 self.server.endpoint.on_packet(p);
             }
@@ -179,7 +171,7 @@ impl Exchange {
         self.server.act()?;
         self.out.clear();
         self.server.endpoint.flush(&mut self.out);
-        self.to_client.carry(alloc, &self.out, &mut self.dice)
+        self.to_client.carry(alloc, &self.out, &mut self.draws)
     }
 
     /// The client has an outcome, and the rest of what it accepted was handed out.
@@ -204,7 +196,7 @@ impl Exchange {
 pub(crate) fn join(alloc: Global, seed: u64) -> Result<Joined, NoMemory> {
     let mut exchange = Exchange::new(alloc, seed)?;
     exchange.run(alloc)?;
-    let sent = text(alloc, CLIENT_PERIOD)?;
+    let sent = CLIENTS.part(alloc, 0, LENGTH)?;
     let heard = exchange.server.heard.as_slice() == sent.as_slice();
     let accepted = exchange.accepted.as_slice() == exchange.server.text.as_slice();
     Ok(Joined {

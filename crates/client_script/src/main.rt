@@ -8,7 +8,6 @@ use joined::{Joined, join};
 use std::io;
 use std::process::ExitCode;
 
-mod dice;
 mod hostile;
 mod joined;
 mod rules;

@@ -1,7 +1,7 @@
 //! What must hold of a client whatever arrives.
 
-use crate::dice::Dice;
 use peer_client::Phase;
+use test_data::{Draws, Pattern};
 
 /// A rule that a hostile datagram broke.
 #[derive(Clone, Copy, Debug, PartialEq, Eq)]
@@ -28,10 +28,8 @@ pub(crate) fn require(holds: bool, rule: Rule) -> Kept {
     if holds { Ok(()) } else { Err(rule) }
 }
 
-/// The server's byte at a place of its stream.
-pub(crate) fn servers_byte(place: u32) -> u8 {
-    97 + (place % 26) as u8
-}
+/// The server's stream.
+pub(crate) const SERVERS: Pattern = Pattern::Letters;
 
 /// A phase that follows another where a packet comes.
 pub(crate) fn may_follow(before: Phase, after: Phase) -> bool {
@@ -44,10 +42,8 @@ pub(crate) fn may_follow(before: Phase, after: Phase) -> bool {
 }
 
 /// Fills a datagram of 0 to 100 bytes with anything, and answers its length.
-pub(crate) fn anything(dice: &mut Dice, out: &mut [u8; 1_500]) -> usize {
-    let len = dice.roll(101) as usize;
-    for byte in out[..len].iter_mut() {
-        *byte = dice.byte();
-    }
+pub(crate) fn anything(draws: &mut Draws, out: &mut [u8; 1_500]) -> usize {
+    let len = draws.below(101) as usize;
+    draws.fill(&mut out[..len]);
     len
 }

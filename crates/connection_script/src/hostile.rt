@@ -3,14 +3,14 @@
 
 ghost use Rattle.std.specs.Prelude.{◌≤◌};
 
-use crate::dice::Dice;
 use crate::peers::{CISN, CLIENT, SERVER, SISN, take_packet};
-use crate::rules::{Kept, Rule, check, clients_byte};
+use crate::rules::{CLIENTS, Kept, Rule, check};
 use crate::situations::{Situation, arranged, log_all};
 use ft_io::NoMemory;
 use segment_codec::{Head, read_packet, write_packet};
 use seq_arith::{ACK, FIN, RST, Seq, has};
 use std::alloc::Global;
+use test_data::Draws;
 use wrapped_conn::{Inside, TurnOut};
 
 const SEED: u64 = 1;
@@ -45,19 +45,17 @@ impl Tally {
 }
 
 /// Fills a datagram of 0 to 100 bytes with anything, and answers its length.
-fn anything(dice: &mut Dice, out: &mut [u8; 1_500]) -> usize
+fn anything(draws: &mut Draws, out: &mut [u8; 1_500]) -> usize
     ensures { result ≤ 1500 }
 {
-    let len = dice.roll(101) as usize;
-    for byte in out[..len].iter_mut() {
-        *byte = dice.byte();
-    }
+    let len = draws.below(101) as usize;
+    draws.fill(&mut out[..len]);
     len
 }
 
-fn flags(dice: &mut Dice) -> u8 {
-    match dice.roll(6) {
-        0 | 1 => dice.byte(),
+fn flags(draws: &mut Draws) -> u8 {
+    match draws.below(6) {
+        0 | 1 => draws.byte(),
         2 => FIN | ACK,
         3 => RST,
         _ => ACK,
@@ -65,7 +63,7 @@ fn flags(dice: &mut Dice) -> u8 {
 }
 
 /// Writes a packet of the client with these numbers, whose text is the client's at its place, and answers its length.
-fn packet(dice: &mut Dice, seq: Seq, ack: Seq, out: &mut [u8; 1_500]) -> usize
+fn packet(draws: &mut Draws, seq: Seq, ack: Seq, out: &mut [u8; 1_500]) -> usize
     ensures { result ≤ 1500 }
 {
     let head = Head {
@@ -75,35 +73,31 @@ fn packet(dice: &mut Dice, seq: Seq, ack: Seq, out: &mut [u8; 1_500]) -> usize
         dport: SERVER.port,
         seq,
         ack,
-        flags: flags(dice),
-        window: dice.roll(65_536) as u16,
+        flags: flags(draws),
+        window: draws.below(65_536) as u16,
         mss: None,
     };
-    let mut place = seq.minus(CISN.add(1));
     let mut text = [0u8; 60];
-    for byte in text.iter_mut() {
-        *byte = clients_byte(place);
-        place = place.wrapping_add(1);
-    }
-    let len = dice.roll(61) as usize;
+    CLIENTS.fill(seq.minus(CISN.add(1)), &mut text);
+    let len = draws.below(61) as usize;
     write_packet(&head, &text[..len], out)
 }
 
 /// Every second datagram is a packet, and every second of these is near to the connection's numbers.
-fn datagram(dice: &mut Dice, number: u32, inside: Inside, out: &mut [u8; 1_500]) -> usize
+fn datagram(draws: &mut Draws, number: u32, inside: Inside, out: &mut [u8; 1_500]) -> usize
     ensures { result ≤ 1500 }
 {
     match number % 4 {
         1 => {
-            let (seq, ack) = (dice.anywhere(), dice.anywhere());
-            packet(dice, seq, ack, out)
+            let (seq, ack) = (draws.number(), draws.number());
+            packet(draws, seq, ack, out)
         }
         3 => {
-            let seq = dice.near(CISN.add(1).add(inside.taken));
-            let ack = dice.near(SISN.add(1).add(inside.sent));
-            packet(dice, seq, ack, out)
+            let seq = draws.perturbed(CISN.add(1).add(inside.taken));
+            let ack = draws.perturbed(SISN.add(1).add(inside.sent));
+            packet(draws, seq, ack, out)
         }
-        _ => anything(dice, out),
+        _ => anything(draws, out),
     }
 }
 
@@ -122,7 +116,7 @@ fn kind_of(bytes: &[u8], inside: Inside) -> (bool, bool) {
 fn attack_one(
     alloc: Global,
     situation: Situation,
-    dice: &mut Dice,
+    draws: &mut Draws,
     out: &mut TurnOut,
     tally: &mut Tally,
 ) -> Result<(), NoMemory> {
@@ -131,7 +125,7 @@ fn attack_one(
     let mut bytes = [0u8; 1_500];
     for i in 0..DATAGRAMS {
         let before = conn.inside();
-        let len = datagram(dice, i, before, &mut bytes);
+        let len = datagram(draws, i, before, &mut bytes);
         let (is_packet, resets) = kind_of(&bytes[..len], before);
         is_reset = is_reset || resets;
         take_packet(alloc, &mut conn, &mut bytes[..len], out)?;
@@ -148,7 +142,7 @@ fn attack_one(
 
 /// Hands all datagrams to connections in this situation, one after another.
 pub(crate) fn attack(alloc: Global, situation: Situation) -> Result<Tally, NoMemory> {
-    let mut dice = Dice::new(SEED);
+    let mut draws = Draws::new(SEED);
     let mut out = TurnOut::new(alloc)?;
     let mut tally = Tally {
         datagrams: 0,
@@ -157,7 +151,7 @@ pub(crate) fn attack(alloc: Global, situation: Situation) -> Result<Tally, NoMem
         broken: None,
     };
     for _ in 0..CONNECTIONS {
-        attack_one(alloc, situation, &mut dice, &mut out, &mut tally)?;
+        attack_one(alloc, situation, &mut draws, &mut out, &mut tally)?;
     }
     Ok(tally)
 }

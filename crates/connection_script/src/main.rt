@@ -15,7 +15,6 @@ use std::process::ExitCode;
 use tcp_endpoint::StateName;
 use wrapped_conn::{ConnStage, TurnOut};
 
-mod dice;
 mod hostile;
 mod limits;
 mod meter;

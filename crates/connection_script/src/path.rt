@@ -6,6 +6,7 @@ use logger_wire::{Body, read_msg};
 use segment_codec::read_packet;
 use seq_arith::ACK;
 use std::alloc::Global;
+use test_data::word_of_bytes;
 use wrapped_conn::TurnOut;
 
 /// The letters of the flags that a connection sends.
@@ -18,14 +19,6 @@ pub(crate) fn letters(flags: u8) -> &'static str {
     }
 }
 
-/// Bytes in hexadecimal, and `-` where there are none.
-fn hexadecimal(alloc: Global, bytes: &[u8]) -> Result<String, NoMemory> {
-    if bytes.is_empty() {
-        return Ok(format!(in alloc; "-")?);
-    }
-    Ok(hex::encode(alloc, bytes)?)
-}
-
 /// A segment as a line.
 fn segment_line(alloc: Global, bytes: &[u8]) -> Result<String, NoMemory> {
     let Ok(packet) = read_packet(bytes) else {
@@ -33,7 +26,7 @@ fn segment_line(alloc: Global, bytes: &[u8]) -> Result<String, NoMemory> {
     };
     let head = packet.head;
     let (flags, seq, ack) = (letters(head.flags), head.seq.0, head.ack.0);
-    let (window, text) = (head.window, hexadecimal(alloc, packet.payload)?);
+    let (window, text) = (head.window, word_of_bytes(alloc, packet.payload)?);
     Ok(format!(in alloc; "{flags} seq {seq} ack {ack} window {window} data {text}\n")?)
 }
 
@@ -50,7 +43,7 @@ fn message_line(alloc: Global, bytes: &[u8]) -> Result<String, NoMemory> {
             bytes,
             ..
         } => {
-            let text = hexadecimal(alloc, bytes)?;
+            let text = word_of_bytes(alloc, bytes)?;
             Ok(format!(in alloc; "Data offset {offset} acked {acked} fin {fin} bytes {text}\n")?)
         }
         Body::ReadMsg { index, length, .. } => {

@@ -7,6 +7,7 @@ use logger_wire::{Body, read_msg};
 use sample_servers::AnyService;
 use segment_codec::read_packet;
 use seq_arith::{RST, has};
+use test_data::Pattern;
 use wrapped_conn::{Conn, ConnStage, Inside, TurnOut};
 
 /// A rule that a hostile datagram broke.
@@ -34,21 +35,8 @@ fn require(holds: bool, rule: Rule) -> Kept {
     if holds { Ok(()) } else { Err(rule) }
 }
 
-/// The client's byte at a place of its stream.
-pub(crate) fn clients_byte(place: u32) -> u8 {
-    97 + (place % 26) as u8
-}
-
-fn is_clients(bytes: &[u8], from: u32) -> bool {
-    let mut place = from;
-    for byte in bytes {
-        if *byte != clients_byte(place) {
-            return false;
-        }
-        place = place.wrapping_add(1);
-    }
-    true
-}
+/// The client's stream.
+pub(crate) const CLIENTS: Pattern = Pattern::Letters;
 
 /// The rules on a segment.
 fn check_segment(bytes: &[u8], after: Inside) -> Kept {
@@ -64,7 +52,7 @@ fn check_segment(bytes: &[u8], after: Inside) -> Kept {
     )?;
     require(head.ack.minus(CISN.add(1)) <= after.answered, Rule::Ack)?;
     require(
-        is_clients(packet.payload, head.seq.minus(SISN.add(1))),
+        CLIENTS.is_part(head.seq.minus(SISN.add(1)), packet.payload),
         Rule::Text,
     )
 }
@@ -84,7 +72,7 @@ fn check_message(bytes: &[u8], after: Inside, has_ended: bool) -> Kept {
             place <= taken
                 && bytes.len() <= taken - place
                 && acked == after.una
-                && is_clients(bytes, offset)
+                && CLIENTS.is_part(offset, bytes)
         }
         Body::ReadMsg { index, .. } => index < after.reads,
         Body::DoneMsg { .. } => has_ended,

@@ -2,10 +2,9 @@
 
 ghost use Rattle.std.specs.Prelude.{◌≤◌};
 
-use crate::dice::Dice;
 use crate::rules::{
-    Kept, Known, Rule, Seen, check_leaving, check_numbers, check_reset, check_used, is_behind_fin,
-    own_byte, require, resets,
+    Kept, Known, OWN, Rule, Seen, check_leaving, check_numbers, check_reset, check_used,
+    is_behind_fin, require, resets,
 };
 use crate::scene::Scene;
 use crate::script::Counted;
@@ -13,6 +12,7 @@ use segment_codec::{Head, PacketRef, read_packet, write_packet};
 use seq_arith::{ACK, FIN, Seq};
 use socket_layer::Socket;
 use tcp_endpoint::StateName;
+use test_data::{Draws, Pattern};
 
 const STATES: [StateName; 11] = [
     StateName::Closed,
@@ -106,65 +106,53 @@ pub(crate) struct Target {
     closed: u32,
 }
 
-/// The byte at a place of the peer's stream.
-fn peers_byte(place: u32) -> u8 {
-    97 + (place % 26) as u8
-}
+/// The peer's stream.
+const PEERS: Pattern = Pattern::Letters;
 
-fn anywhere(dice: &mut Dice) -> Seq {
-    Seq(dice.roll(65_536) * 65_536).add(dice.roll(65_536))
-}
-
-/// A number at most this far before this one or after it.
-fn near(dice: &mut Dice, number: Seq, most: u8) -> Seq {
-    let most = u32::from(most);
-    Seq(number.0.wrapping_sub(most)).add(dice.roll(2 * most + 1))
-}
-
-fn hostile_seq(dice: &mut Dice, target: &Target) -> Seq {
+fn hostile_seq(draws: &mut Draws, target: &Target) -> Seq {
     let next = target.next();
-    match dice.roll(8) {
-        0 => anywhere(dice),
+    match draws.below(8) {
+        0 => draws.number(),
         1..=3 => next,
-        4 | 5 => near(dice, next, 3),
-        6 => near(dice, next, 120),
-        _ => near(dice, next.add(u32::from(target.window())), 3),
+        4 | 5 => draws.near(next, 3),
+        6 => draws.near(next, 120),
+        _ => draws.near(next.add(u32::from(target.window())), 3),
     }
 }
 
-fn hostile_ack(dice: &mut Dice, seen: Seen) -> Seq {
-    match dice.roll(8) {
-        0 => anywhere(dice),
+fn hostile_ack(draws: &mut Draws, seen: Seen) -> Seq {
+    match draws.below(8) {
+        0 => draws.number(),
         1..=3 => seen.sent,
         4 => seen.acked,
-        5 => near(dice, seen.acked, 3),
-        6 => near(dice, seen.sent, 40),
-        _ => near(dice, seen.sent, 2),
+        5 => draws.near(seen.acked, 3),
+        6 => draws.near(seen.sent, 40),
+        _ => draws.near(seen.sent, 2),
     }
 }
 
-fn hostile_flags(dice: &mut Dice) -> u8 {
-    match dice.roll(6) {
-        0 | 1 => dice.roll(256) as u8,
+fn hostile_flags(draws: &mut Draws) -> u8 {
+    match draws.below(6) {
+        0 | 1 => draws.below(256) as u8,
         2 => FIN | ACK,
         _ => ACK,
     }
 }
 
-fn hostile_head(dice: &mut Dice, target: &Target) -> Head {
-    let sides = if dice.roll(2) == 0 { 20 } else { 65_536 };
+fn hostile_head(draws: &mut Draws, target: &Target) -> Head {
+    let sides = if draws.below(2) == 0 { 20 } else { 65_536 };
     let (from, to) = (target.scene.peer, target.scene.local);
     Head {
         src: from.ip,
         dst: to.ip,
         sport: from.port,
         dport: to.port,
-        seq: hostile_seq(dice, target),
-        ack: hostile_ack(dice, target.seen()),
-        flags: hostile_flags(dice),
-        window: dice.roll(sides) as u16,
-        mss: if dice.roll(2) == 0 {
-            Some(dice.roll(65_536) as u16)
+        seq: hostile_seq(draws, target),
+        ack: hostile_ack(draws, target.seen()),
+        flags: hostile_flags(draws),
+        window: draws.below(sides) as u16,
+        mss: if draws.below(2) == 0 {
+            Some(draws.below(65_536) as u16)
         } else {
             None
         },
@@ -172,26 +160,22 @@ fn hostile_head(dice: &mut Dice, target: &Target) -> Head {
 }
 
 /// Writes a datagram whose text is that of the peer's stream at its number, and returns its length.
-fn hostile(dice: &mut Dice, target: &Target, out: &mut [u8; 1_500]) -> usize
+fn hostile(draws: &mut Draws, target: &Target, out: &mut [u8; 1_500]) -> usize
     ensures { result ≤ 1500 }
 {
-    let head = hostile_head(dice, target);
-    let mut place = head.seq.minus(target.scene.peer_isn.add(1));
+    let head = hostile_head(draws, target);
     let mut text = [0u8; 100];
-    for byte in text.iter_mut() {
-        *byte = peers_byte(place);
-        place = place.wrapping_add(1);
-    }
-    let len = dice.roll(101) as usize;
-    let len = if dice.roll(3) == 0 { 0 } else { len };
+    PEERS.fill(head.seq.minus(target.scene.peer_isn.add(1)), &mut text);
+    let len = draws.below(101) as usize;
+    let len = if draws.below(3) == 0 { 0 } else { len };
     write_packet(&head, &text[..len], out)
 }
 
 /// Changes one byte.
-fn damage(dice: &mut Dice, packet: &mut [u8]) {
-    let place = dice.roll(1_500) as usize % packet.len().max(1);
+fn damage(draws: &mut Draws, packet: &mut [u8]) {
+    let place = draws.below(1_500) as usize % packet.len().max(1);
     if place < packet.len() {
-        packet[place] = packet[place].wrapping_add(1 + dice.roll(255) as u8);
+        packet[place] = packet[place].wrapping_add(1 + draws.below(255) as u8);
     }
 }
 
@@ -242,36 +226,31 @@ impl Target {
     }
 
     /// What is read is, in place, what some datagram carried.
-    fn read_some(&mut self, dice: &mut Dice) -> Kept {
+    fn read_some(&mut self, draws: &mut Draws) -> Kept {
         let mut read = [0u8; 150];
-        let size = dice.roll(151) as usize;
+        let size = draws.below(151) as usize;
         let count = self.scene.endpoint.read(&mut read[..size]);
         require(count <= size, Rule::Counts)?;
-        for byte in &read[..count.min(size)] {
-            require(*byte == peers_byte(self.read), Rule::ReadText)?;
-            self.read = self.read.wrapping_add(1);
-        }
+        let read = &read[..count.min(size)];
+        require(PEERS.is_part(self.read, read), Rule::ReadText)?;
+        self.read = self.read.wrapping_add(read.len() as u32);
         Ok(())
     }
 
-    fn write_some(&mut self, dice: &mut Dice) -> Kept {
+    fn write_some(&mut self, draws: &mut Draws) -> Kept {
         let mut text = [0u8; 40];
-        let mut place = self.written;
-        for byte in text.iter_mut() {
-            *byte = own_byte(place);
-            place = place.wrapping_add(1);
-        }
-        let size = dice.roll(41) as usize;
+        OWN.fill(self.written, &mut text);
+        let size = draws.below(41) as usize;
         let count = self.scene.endpoint.write(&text[..size]);
         self.written = self.written.wrapping_add(count as u32);
         require(count <= size, Rule::Counts)
     }
 
     /// The user reads, writes a little, or closes, at some of the turns.
-    fn act(&mut self, dice: &mut Dice) -> Kept {
-        match dice.roll(40) {
-            0..=11 => self.read_some(dice),
-            12..=19 => self.write_some(dice),
+    fn act(&mut self, draws: &mut Draws) -> Kept {
+        match draws.below(40) {
+            0..=11 => self.read_some(draws),
+            12..=19 => self.write_some(draws),
             20 => {
                 self.scene.endpoint.close();
                 Ok(())
@@ -306,7 +285,7 @@ impl Target {
     }
 
     /// A datagram is handed over, the user acts, and the turn ends.
-    fn take_in(&mut self, p: PacketRef<'_>, dice: &mut Dice) -> Kept {
+    fn take_in(&mut self, p: PacketRef<'_>, draws: &mut Draws) -> Kept {
         let before = self.seen();
         let resets = resets(before, self.scene.isn.add(1), self.next(), p.head);
         self.scene.endpoint.on_packet(p);
@@ -316,7 +295,7 @@ impl Target {
         }
         check_reset(before, self.seen(), resets)?;
         check_used(before, self.seen(), p.head.flags)?;
-        self.act(dice)?;
+        self.act(draws)?;
         self.end_turn()?;
         check_numbers(before, self.seen(), p.head.ack)
     }
@@ -333,8 +312,8 @@ impl Target {
     }
 
     /// A tick passes at some of the turns.
-    fn grow_older(&mut self, dice: &mut Dice) -> Kept {
-        if dice.roll(20) == 0 {
+    fn grow_older(&mut self, draws: &mut Draws) -> Kept {
+        if draws.below(20) == 0 {
             self.scene.endpoint.on_tick();
             self.end_turn()?;
         }
@@ -346,23 +325,23 @@ impl Target {
     }
 
     /// One datagram, damaged or not, arrives at the target.
-    pub(crate) fn attack(&mut self, dice: &mut Dice, tally: &mut Tally) -> Kept {
+    pub(crate) fn attack(&mut self, draws: &mut Draws, tally: &mut Tally) -> Kept {
         let mut packet = [0u8; 1_500];
-        let len = hostile(dice, self, &mut packet);
-        let is_damaged = dice.roll(2) == 0;
+        let len = hostile(draws, self, &mut packet);
+        let is_damaged = draws.below(2) == 0;
         if is_damaged {
-            damage(dice, &mut packet[..len]);
+            damage(draws, &mut packet[..len]);
         }
         if let Ok(p) = read_packet(&packet[..len]) {
             require(!is_damaged, Rule::Damage)?;
             tally.note_met(self.name());
-            self.take_in(p, dice)?;
+            self.take_in(p, draws)?;
         } else {
             require(is_damaged, Rule::Damage)?;
             tally.refused = tally.refused.wrapping_add(1);
             self.stay()?;
         }
-        self.grow_older(dice)?;
+        self.grow_older(draws)?;
         if self.is_old() {
             tally.note_end(self);
         }

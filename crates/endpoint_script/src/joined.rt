@@ -1,6 +1,5 @@
 //! Two endpoints that hand their packets to one another, over ways that lose, repeat and reorder.
 
-use crate::dice::Dice;
 use crate::scene::{Met, Miss};
 use crate::script::{Join, Joiner, Text};
 use ft_io::{Addr, NoMemory};
@@ -9,6 +8,7 @@ use seq_arith::Seq;
 use socket_layer::Socket;
 use std::alloc::{AllocError, Global};
 use tcp_endpoint::{Endpoint, Outbox, StateName};
+use test_data::Draws;
 
 const CLIENT: Addr = Addr {
     ip: 0xC000_0201,
@@ -38,12 +38,12 @@ impl Way {
         alloc: Global,
         from: &mut Endpoint,
         out: &mut Outbox,
-        dice: &mut Dice,
+        draws: &mut Draws,
     ) -> Result<(), AllocError> {
         out.clear();
         from.flush(out);
         for i in 0..out.len() {
-            if dice.roll(4) > 0 && i < out.len() {
+            if draws.below(4) > 0 && i < out.len() {
                 self.packets.push(out.packet(i).to_vec(alloc)?)?;
             }
         }
@@ -51,8 +51,8 @@ impl Way {
     }
 
     /// One of the last six packets arrives. One in four stays and may arrive again.
-    fn deliver(&mut self, to: &mut Endpoint, dice: &mut Dice) {
-        let back = dice.roll(6) as usize + 1;
+    fn deliver(&mut self, to: &mut Endpoint, draws: &mut Draws) {
+        let back = draws.below(6) as usize + 1;
         let place = self.packets.len().saturating_sub(back);
         if place >= self.packets.len() {
             return;
@@ -60,7 +60,7 @@ impl Way {
         if let Ok(p) = read_packet(&self.packets[place]) {
             to.on_packet(p);
         }
-        if dice.roll(4) > 0 {
+        if draws.below(4) > 0 {
             let _gone = self.packets.remove(place);
         }
     }
@@ -127,18 +127,18 @@ impl Side {
         alloc: Global,
         to: &mut Way,
         out: &mut Outbox,
-        dice: &mut Dice,
+        draws: &mut Draws,
     ) -> Result<(), AllocError> {
-        if dice.roll(3) == 0 {
+        if draws.below(3) == 0 {
             self.endpoint.on_tick();
         } else {
-            self.way.deliver(&mut self.endpoint, dice);
+            self.way.deliver(&mut self.endpoint, draws);
         }
         let name = self.endpoint.state().name;
         if name != StateName::SynSent && name != StateName::Listen {
             self.user.act(&mut self.endpoint)?;
         }
-        to.carry(alloc, &mut self.endpoint, out, dice)
+        to.carry(alloc, &mut self.endpoint, out, draws)
     }
 
     /// All of a text must have come, and nothing else, and the endpoint must be CLOSED without a reset.
@@ -156,17 +156,17 @@ impl Side {
 /// Joins two endpoints. Each user must read all that the other writes.
 pub(crate) fn join(alloc: Global, join: Join) -> Met {
     let mut out = Outbox::new(alloc)?;
-    let mut dice = Dice::new(join.seed);
+    let mut draws = Draws::new(join.seed);
     let client = Endpoint::connect(alloc, CLIENT, SERVER, Seq(join.client.isn), LIMIT)?;
     let mut client = Side::new(alloc, client, join.client, 0)?;
     let server = Endpoint::listen(alloc, SERVER, Seq(join.server.isn), LIMIT)?;
     let mut server = Side::new(alloc, server, join.server, SERVER_PLACE)?;
     server
         .way
-        .carry(alloc, &mut client.endpoint, &mut out, &mut dice)?;
+        .carry(alloc, &mut client.endpoint, &mut out, &mut draws)?;
     for _ in 0..join.turns {
-        client.turn(alloc, &mut server.way, &mut out, &mut dice)?;
-        server.turn(alloc, &mut client.way, &mut out, &mut dice)?;
+        client.turn(alloc, &mut server.way, &mut out, &mut draws)?;
+        server.turn(alloc, &mut client.way, &mut out, &mut draws)?;
     }
     client.meets(alloc, "client", server.user.text.as_slice())?;
     server.meets(alloc, "server", client.user.text.as_slice())

@@ -12,7 +12,6 @@ use script::Script;
 use std::io;
 use std::process::ExitCode;
 
-mod dice;
 mod hostile;
 mod joined;
 mod line;

@@ -1,6 +1,5 @@
 //! The playing of a case, step by step.
 
-use crate::dice::Dice;
 use crate::hostile::{Tally, Target};
 use crate::joined::join;
 use crate::read::Refused;
@@ -9,6 +8,7 @@ use crate::script::{Action, Hostile, Part, Script, Step};
 use crate::words::Why;
 use std::alloc::Global;
 use std::fmt;
+use test_data::Draws;
 
 /// The first line of a case at which something else is seen, and what that is.
 #[derive(Drop)]
@@ -75,11 +75,11 @@ fn target(alloc: Global, ways: &[Part<'_>], turn: usize) -> Result<Target, Miss>
 /// Sends hostile datagrams to endpoints that begin as the ways leave them.
 fn be_hostile(alloc: Global, ways: &[Part<'_>], hostile: Hostile, tally: &mut Tally) -> Met {
     let ways = ways.get(..hostile.ways).unwrap_or(ways);
-    let mut dice = Dice::new(hostile.seed);
+    let mut draws = Draws::new(hostile.seed);
     let mut turn = 0usize;
     let mut target_now = target(alloc, ways, turn)?;
     for number in 0..hostile.count {
-        if let Err(rule) = target_now.attack(&mut dice, tally) {
+        if let Err(rule) = target_now.attack(&mut draws, tally) {
             let found = format!(in alloc; "datagram {number} breaks a rule: {rule}")?;
             return Err(Miss::Differs(found));
         }

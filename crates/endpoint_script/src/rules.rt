@@ -4,6 +4,7 @@ use segment_codec::{Head, PacketRef};
 use seq_arith::{ACK, FIN, RST, SYN, Seq, has};
 use std::fmt;
 use tcp_endpoint::{State, StateName};
+use test_data::Pattern;
 
 /// A SYN with ACK.
 const SYN_ACK: u8 = 18;
@@ -112,10 +113,8 @@ pub(crate) fn is_behind_fin(name: StateName) -> bool {
     matches!(name, CloseWait | Closing | LastAck | TimeWait)
 }
 
-/// The byte at a place of the own stream.
-pub(crate) fn own_byte(place: u32) -> u8 {
-    65 + (place % 26) as u8
-}
+/// The own stream.
+pub(crate) const OWN: Pattern = Pattern::Capitals;
 
 /// Whether a segment resets, by RFC 9293, 3.10.7.3 and 3.10.7.4. `first` is the number after the own SYN, `next` the peer's next one.
 pub(crate) fn resets(before: Seen, first: Seq, next: Seq, head: Head) -> bool {
@@ -178,7 +177,7 @@ fn check_text(known: Known, p: PacketRef<'_>) -> Kept {
     let mut place = p.head.seq.minus(known.isn.add(1));
     for byte in p.payload {
         require(place < known.written, Rule::OwnText)?;
-        require(*byte == own_byte(place), Rule::OwnText)?;
+        require(*byte == OWN.byte(place), Rule::OwnText)?;
         place = place.wrapping_add(1);
     }
     if !has(p.head.flags, FIN) {

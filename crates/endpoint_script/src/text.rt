@@ -6,39 +6,7 @@ use segment_codec::Head;
 use seq_arith::{ACK, CWR, ECE, FIN, PSH, RST, SYN, URG, has};
 use std::alloc::Global;
 use std::fmt;
-
-/// The byte at a place of the pattern.
-pub(crate) fn pattern(place: u32) -> u8 {
-    (place % 251) as u8
-}
-
-/// The value of a hexadecimal digit.
-fn digit(letter: u8) -> u8 {
-    match letter {
-        b'0'..=b'9' => letter - b'0',
-        b'a'..=b'f' => letter - b'a' + 10,
-        b'A'..=b'F' => letter - b'A' + 10,
-        _ => 0,
-    }
-}
-
-fn hex_bytes(alloc: Global, digits: &[u8]) -> Result<Vec<u8>, NoMemory> {
-    let mut bytes = Vec::new(alloc);
-    for pair in digits.chunks(2) {
-        if let [high, low] = pair {
-            bytes.push(digit(*high) << 4 | digit(*low))?;
-        }
-    }
-    Ok(bytes)
-}
-
-fn fill_bytes(alloc: Global, count: u16, place: u32) -> Result<Vec<u8>, NoMemory> {
-    let mut bytes = Vec::new(alloc);
-    for i in 0..u32::from(count) {
-        bytes.push(pattern(place.wrapping_add(i)))?;
-    }
-    Ok(bytes)
-}
+use test_data::{Pattern, bytes_of_hex};
 
 impl Text<'_> {
     /// How many bytes it has.
@@ -53,8 +21,8 @@ impl Text<'_> {
     pub(crate) fn bytes(self, alloc: Global) -> Result<Vec<u8>, NoMemory> {
         match self {
             Text::Word(word) => Ok(Vec::from_slice(alloc, word.as_bytes())?),
-            Text::Hex(digits) => hex_bytes(alloc, digits.as_bytes()),
-            Text::Fill { count, place } => fill_bytes(alloc, count, place),
+            Text::Hex(digits) => Ok(bytes_of_hex(alloc, digits)?.unwrap_or(Vec::new(alloc))),
+            Text::Fill { count, place } => Pattern::Numbers.part(alloc, place, usize::from(count)),
         }
     }
 }

@@ -13,7 +13,6 @@ use std::io;
 
 mod client;
 mod exchange;
-mod pattern;
 mod server;
 
 /// How many connections there are.

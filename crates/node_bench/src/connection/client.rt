@@ -1,6 +1,5 @@
 //! A client: an endpoint whose user writes a stream and compares what comes back. One segment is under way at a time.
 
-use crate::connection::pattern::Pattern;
 use crate::connection::server::SERVER;
 use crate::logger::CLIENT_ISN;
 use ft_io::{Addr, Key, NoMemory};
@@ -8,6 +7,7 @@ use segment_codec::read_packet;
 use socket_layer::Socket;
 use std::alloc::Global;
 use tcp_endpoint::{Endpoint, Outbox, StateName};
+use test_data::PatternTable;
 
 /// A connection's receive edge never passes this.
 const LIMIT: u32 = 1 << 24;
@@ -25,7 +25,7 @@ pub(crate) struct Work {
 pub(crate) struct Client {
     endpoint: Endpoint,
     work: Work,
-    pattern: Pattern,
+    pattern: PatternTable,
     buf: [u8; 1_460],
     written: u32,
     /// How many bytes came back.
@@ -45,7 +45,7 @@ impl Client {
         Ok(Client {
             endpoint: Endpoint::connect(alloc, local, SERVER, CLIENT_ISN, LIMIT)?,
             work,
-            pattern: Pattern::new(),
+            pattern: PatternTable::new(),
             buf: [0; 1_460],
             written: 0,
             echoed: 0,
