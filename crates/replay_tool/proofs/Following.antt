@@ -1,23 +1,21 @@
 -- Lines that follow one another: those of packets, of clients and of the log's entries.
-use Rattle.std.proofs.Common.{◌≡◌, ◌∙◌, ℕ, zero, suc, ◌+◌, ◌<◌, ◌≤◌, ◌==◌, Option, None, Some, is_some, IsSome, IfSome, option_map, List, [], ◌∷◌, ◌++◌, length, drop, slice_get, refl, sym, ap, ap₂, subst, arith, append_assoc, append-nil}
+use Rattle.std.proofs.Common.{◌≡◌, ◌∙◌, ℕ, zero, suc, ◌+◌, ◌<◌, ◌≤◌, ◌==◌, Option, None, Some, option_map, List, [], ◌∷◌, ◌++◌, length, drop, slice_get, refl, sym, ap, ap₂, arith, append_assoc, append-nil}
 use Rattle.std.proofs.Math.ListN.{drop_of_length-le}
 use Rattle.seq_arith.proofs.Spelling.{spelling_is_read}
 use Rattle.seq_arith.proofs.MessageSpelling.{message_is_read}
 use Rattle.ft_model.specs.Client.{Client}
 use Rattle.ft_model.specs.Log.{Entry, head_of}
-use Rattle.ft_model.specs.Network.{Packet, packet_at}
+use Rattle.ft_model.specs.Network.{Packet}
 use Rattle.ft_model.specs.Network.Packet.{To_server, To_client, To_logger, From_logger}
-use Rattle.ft_model.specs.Report.{packet_line, packet_lines, way_of, log_line, entry_line}
+use Rattle.ft_model.specs.Report.{log_line, entry_line}
 use Rattle.ft_model.specs.Wire.{wire_of, HasWire}
-use Rattle.ft_model.specs.World.{Moment, client_at}
+use Rattle.ft_model.specs.World.{client_at}
 use Rattle.ft_model.specs.declared.schedule.Schedule.{Schedule}
-use Rattle.ft_model.specs.declared.way.Way.{Way}
 use Rattle.ft_model.proofs.Lists.{some_is, none_is_some}
 use Rattle.logger_store.specs.StoreState.{head_value, lengths_of}
 use Rattle.logger_store.specs.declared.entry_head.EntryHead.{EntryHead}
-use Rattle.net_schedule.specs.SentPackets.{packets_of, reported_way, WasSentAs}
-use Rattle.schedule_text.specs.Bytes.{packet_in, content_in, said_as}
-use Rattle.schedule_text.proofs.Contents.{content_of_packet}
+use Rattle.net_schedule.specs.SentPackets.{reported_way}
+use Rattle.schedule_text.specs.Bytes.{packet_in, said_as}
 use Rattle.net_schedule.proofs.Peers.{within as is_within}
 
 -- lines of a list's elements, numbered on from n

@@ -8,7 +8,7 @@ use Rattle.ft_model.specs.Client.{Client}
 use Rattle.ft_model.specs.Legal.{IsLegalFor, start_of}
 use Rattle.ft_model.specs.Network.{Packet}
 use Rattle.ft_model.specs.Outcome.{packets_sent}
-use Rattle.ft_model.specs.Report.{header, event_line, packet_line, packet_lines, line_of_packet, content_words, packet_count, event_lines, client_lines, log_line, end_line, closing_lines, report, way_of}
+use Rattle.ft_model.specs.Report.{header, event_line, packet_line, packet_lines, line_of_packet, content_words, packet_count, event_lines, client_lines, log_line, end_line, report}
 use Rattle.ft_model.specs.Schedule.{clients_of, kind_of}
 use Rattle.ft_model.specs.Wire.{wire_of, HasWire}
 use Rattle.ft_model.specs.World.{World, Moment, Joint, events_of, world_after}
@@ -21,10 +21,7 @@ use Rattle.net_schedule.specs.AtNumber.{at_number}
 use Rattle.net_schedule.specs.StoredPackets.{Carried}
 use Rattle.net_schedule.specs.SentPackets.{packets_of, reported_way, KeepsAllSent}
 use Rattle.net_schedule.specs.Refinement.{Kept}
-use Rattle.net_schedule.specs.Step.{StandsAfter, Extends, Steps, EndsStep}
-use Rattle.net_schedule.specs.declared.end.StepEnd.{StepEnd}
-use Rattle.net_schedule.specs.declared.end.StepEnd.TheVariants.{NoMemory, BadEvent, PacketLimit}
-use Rattle.net_schedule.specs.declared.step_out.StepOut.{StepOut}
+use Rattle.net_schedule.specs.Step.{StandsAfter}
 use Rattle.schedule_text.specs.Bytes.{content_in}
 use Rattle.schedule_text.proofs.Contents.{content_of_packet}
 use Rattle.replay_tool.specs.PacketLines.{line_of, stored_lines}

@@ -1,6 +1,6 @@
 -- The traces of the world with two loggers: what a step of the code's world does is one event more of them.
-use Rattle.std.proofs.Common.{◌≡◌, ◌∙◌, ℕ, ◌+◌, Result, Ok, Err, Some, is_some, IsSome, List, [], ◌∷◌, ◌++◌, length, map, refl, sym, ap, ap₂, arith, length-append}
-use Rattle.std.specs.List.{flat_map, AllByRecursion}
+use Rattle.std.proofs.Common.{◌≡◌, ◌∙◌, ℕ, ◌+◌, Result, Ok, Err, Some, is_some, IsSome, List, [], ◌∷◌, ◌++◌, length, refl, sym, ap, ap₂, arith, length-append}
+use Rattle.std.specs.List.{flat_map}
 use Rattle.std.specs.Option.{option_map_or}
 use Rattle.seq_arith.specs.Message.{Message}
 use Rattle.seq_arith.specs.MessageGrammar as messages

@@ -1,5 +1,5 @@
 -- The lines of packets, as the world has stored them.
-use Rattle.std.specs.Prelude.{ℕ, zero, suc, ◌+◌, Option, None, Some, List, [], ◌++◌}
+use Rattle.std.specs.Prelude.{ℕ, zero, suc, ◌+◌, Option, Some, List, [], ◌++◌}
 use Rattle.std.specs.Option.{option_map_or}
 use Rattle.ft_model.specs.Report.{line_of_packet}
 use Rattle.ft_model.specs.declared.way.Way.{Way}
