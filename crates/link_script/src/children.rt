@@ -1,8 +1,8 @@
 //! The calls that a spawner in memory has recorded.
 
-use crate::say;
 use ft_io::{NoMemory, SpawnCall};
 use std::alloc::Global;
+use test_data::push_line;
 
 /// Says the calls on a spawner, each in a line.
 pub fn say_children(
@@ -15,7 +15,7 @@ pub fn say_children(
             SpawnCall::Started(words) => say_start(words.as_slice(), said)?,
             SpawnCall::Ended(child, status) => {
                 let line = format!(in alloc; "ended {child} {status}")?;
-                say(line.as_str(), said)?;
+                push_line(line.as_str(), said)?;
             }
         }
     }

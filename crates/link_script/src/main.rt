@@ -20,7 +20,6 @@
 
 use faults::Faults;
 use ft_io::{Addr, Arrival, NoMemory, Octets, WriteSink, write_all};
-use hex::FromHexError;
 use node_link::{Role, read_role};
 use process::Meeting;
 use run::{Setting, Way};
@@ -32,6 +31,7 @@ use std::process::{ExitCode, Processes};
 use std::rt::Env;
 use std::time::Clock;
 use std::{env, io, mem};
+use test_data::{bytes_of_hex, push_line};
 use twin_link::{TwinRole, read_twin_role, run_ftnode};
 use twin_log::Part;
 
@@ -89,7 +89,7 @@ impl Script {
         let alloc = system.alloc();
         let (word, rest) = line.split_once(' ').unwrap_or((line, ""));
         match word.as_bytes() {
-            b"#" => say(line, &mut self.said),
+            b"#" => push_line(line, &mut self.said),
             b"ask" => ask(alloc, rest, &mut self.said),
             b"come" => self.come(alloc, rest),
             b"nothing" => {
@@ -109,7 +109,7 @@ impl Script {
             b"hold" => self.meeting.hold(alloc, rest),
             b"answer" => self.answer(alloc, rest),
             b"start" => self.start(system, rest),
-            _ => say("no such line", &mut self.said),
+            _ => push_line("no such line", &mut self.said),
         }
     }
 
@@ -139,25 +139,23 @@ impl Script {
 
     /// Adds an answer of the next process's peer.
     fn answer(&mut self, alloc: Global, text: &str) -> Result<(), NoMemory> {
-        match hex::decode(alloc, text) {
-            Ok(bytes) => {
+        match bytes_of_hex(alloc, text)? {
+            Some(bytes) => {
                 self.meeting.answers.push(bytes)?;
                 Ok(())
             }
-            Err(FromHexError::OutOfMemory) => Err(NoMemory),
-            Err(_) => say("no answer", &mut self.said),
+            None => push_line("no answer", &mut self.said),
         }
     }
 
     /// Sets the input.
     fn give(&mut self, alloc: Global, text: &str) -> Result<(), NoMemory> {
-        match hex::decode(alloc, text) {
-            Ok(bytes) => {
+        match bytes_of_hex(alloc, text)? {
+            Some(bytes) => {
                 self.input = bytes;
                 Ok(())
             }
-            Err(FromHexError::OutOfMemory) => Err(NoMemory),
-            Err(_) => say("no input", &mut self.said),
+            None => push_line("no input", &mut self.said),
         }
     }
 
@@ -168,7 +166,7 @@ impl Script {
                 self.statuses.push(status)?;
                 Ok(())
             }
-            Err(_) => say("no status", &mut self.said),
+            Err(_) => push_line("no status", &mut self.said),
         }
     }
 
@@ -181,7 +179,7 @@ impl Script {
                 self.arrivals.push(Arrival::Datagram { from, bytes })?;
                 Ok(())
             }
-            None => say("no datagram", &mut self.said),
+            None => push_line("no datagram", &mut self.said),
         }
     }
 }
@@ -191,18 +189,7 @@ fn datagram(alloc: Global, from: &str, text: &str) -> Result<Option<(Addr, Vec<u
     let Some(from) = read_addr(from.as_bytes()) else {
         return Ok(None);
     };
-    match hex::decode(alloc, text) {
-        Ok(bytes) => Ok(Some((from, bytes))),
-        Err(FromHexError::OutOfMemory) => Err(NoMemory),
-        Err(_) => Ok(None),
-    }
-}
-
-/// Appends a line.
-fn say(line: &str, said: &mut Vec<u8>) -> Result<(), NoMemory> {
-    said.extend_from_slice(line.as_bytes())?;
-    said.push(b'\n')?;
-    Ok(())
+    Ok(bytes_of_hex(alloc, text)?.map(|bytes| (from, bytes)))
 }
 
 /// Says which role the words ask for.
@@ -214,7 +201,7 @@ fn ask(alloc: Global, text: &str, said: &mut Vec<u8>) -> Result<(), NoMemory> {
         Some(twin) => name_of_twin(twin),
         None => name_of(&role),
     };
-    say(name, said)
+    push_line(name, said)
 }
 
 /// The name of a role that has to do with two loggers.

@@ -1,6 +1,5 @@
 //! A run of `ftnode` as a process. This program with words is `ftnode`, by the one call that `ftnode` itself makes, so it starts itself again.
 
-use crate::say;
 use disk::FileDisk;
 use ft_io::{Addr, Heard, Link, NoMemory, UdpLink};
 use std::alloc::Global;
@@ -10,6 +9,7 @@ use std::process::{Command, Output, Processes, Stdio};
 use std::rt::Env;
 use std::time::Clock;
 use std::{env, io};
+use test_data::push_line;
 
 /// Where the peer of a process is.
 const PEER: Addr = Addr {
@@ -71,12 +71,12 @@ pub fn start<R: AllocGlobal + Env + Net + Clock + Files<File = File> + Processes
         Ok(output) => {
             let code = output.status.code().unwrap_or(-1);
             let line = format!(in system.alloc(); "status {code}")?;
-            say(line.as_str(), said)?;
+            push_line(line.as_str(), said)?;
             said.extend_from_slice(output.stdout.as_slice())?;
             said.extend_from_slice(output.stderr.as_slice())?;
             Ok(())
         }
-        Err(_) => say("not started", said),
+        Err(_) => push_line("not started", said),
     }
 }
 

@@ -2,12 +2,12 @@
 
 use crate::children::say_children;
 use crate::faults::Faults;
-use crate::say;
 use counter_service::Counter;
 use disk::{MemDesk, MemDisk};
 use ft_io::{Addr, Arrival, LinkCall, MemLink, MemSink, MemSource, MemSpawner, NoMemory};
 use node_link::node_of;
 use std::alloc::Global;
+use test_data::{push_line, word_of_bytes};
 use twin_link::node_in_pair;
 
 /// What is run, and how its calls on the link are printed.
@@ -132,11 +132,11 @@ pub fn run(
 fn say_run(alloc: Global, ran: &Finished, way: Way, said: &mut Vec<u8>) -> Result<(), NoMemory> {
     let code = ran.code;
     let line = format!(in alloc; "status {code}")?;
-    say(line.as_str(), said)?;
+    push_line(line.as_str(), said)?;
     said.extend_from_slice(ran.out.written())?;
     said.extend_from_slice(ran.err.written())?;
     let (Some(calls), Some(children)) = (ran.link.told(), ran.kids.told()) else {
-        return say("nothing told", said);
+        return push_line("nothing told", said);
     };
     match way {
         Way::Brief => say_counts(alloc, calls, said)?,
@@ -157,7 +157,7 @@ fn say_counts(alloc: Global, calls: &[LinkCall], said: &mut Vec<u8>) -> Result<(
         }
     }
     let line = format!(in alloc; "receives {receives} sends {sends}")?;
-    say(line.as_str(), said)
+    push_line(line.as_str(), said)
 }
 
 /// Says the calls on a link, each in a line.
@@ -166,8 +166,8 @@ fn say_calls(alloc: Global, calls: &[LinkCall], said: &mut Vec<u8>) -> Result<()
         match call {
             LinkCall::Bound(at) => say_bytes(alloc, "bound", *at, b"", said)?,
             LinkCall::Came(from, bytes) => say_bytes(alloc, "came", *from, bytes.as_slice(), said)?,
-            LinkCall::Silent => say("silent", said)?,
-            LinkCall::Missed => say("missed", said)?,
+            LinkCall::Silent => push_line("silent", said)?,
+            LinkCall::Missed => push_line("missed", said)?,
             LinkCall::Handed(to, bytes, is_lost) => {
                 let name = if *is_lost { "lost" } else { "sent" };
                 say_bytes(alloc, name, *to, bytes.as_slice(), said)?
@@ -189,8 +189,5 @@ fn say_bytes(
     let port = at.port;
     let line = format!(in alloc; "{name} {a}.{b}.{c}.{d}:{port} ")?;
     said.extend_from_slice(line.as_bytes())?;
-    if bytes.is_empty() {
-        return say("-", said);
-    }
-    say(hex::encode(alloc, bytes)?.as_str(), said)
+    push_line(word_of_bytes(alloc, bytes)?.as_str(), said)
 }

@@ -14,9 +14,14 @@ use ft_io::NoMemory;
 use std::alloc::Global;
 use std::io;
 
-mod draws;
 mod messages;
 mod services;
+
+/// The count and the seed of a line.
+fn count_and_seed(text: &str) -> Option<(u32, u64)> {
+    let (count, seed) = text.split_once(' ')?;
+    Some((count.parse().ok()?, seed.parse().ok()?))
+}
 
 /// Plays a line, and answers what it prints.
 fn play(alloc: Global, line: &str) -> Result<String, NoMemory> {

@@ -2,11 +2,12 @@
 
 ghost use Rattle.std.specs.Prelude.{◌≤◌, ◌<◌};
 
-use crate::draws::{below, count_and_seed, folded, spell, spelled};
+use crate::count_and_seed;
 use checkpoint::{BadMark, MarkBody, MarkMsg, read_mark, write_mark};
 use ft_io::NoMemory;
-use seq_arith::{Generator, Sum16, flip};
+use seq_arith::{Sum16, flip};
 use std::alloc::Global;
+use test_data::{Draws, bytes_of_word, hashed, word_of_bytes};
 
 /// The most that a length may be, in bytes.
 const STREAM: u32 = 1 << 24;
@@ -16,7 +17,7 @@ const ROOM: usize = 2_048;
 
 /// Reads the message of a line, and answers what it says.
 pub(crate) fn mark_line(alloc: Global, text: &str) -> Result<String, NoMemory> {
-    let Some(bytes) = spelled(alloc, text)? else {
+    let Some(bytes) = bytes_of_word(alloc, text)? else {
         return Ok(format!(in alloc; "no such line")?);
     };
     let bytes = bytes.as_slice();
@@ -43,7 +44,7 @@ fn said(alloc: Global, msg: &MarkMsg<'_>) -> Result<String, NoMemory> {
             made,
             state,
         } => {
-            let state = spell(alloc, state)?;
+            let state = word_of_bytes(alloc, state)?;
             Ok(format!(in alloc;
                 "Mark boot {boot} ip {} port {} reads {reads} length {length} made {made} state {state}",
                 key.ip, key.port
@@ -64,7 +65,7 @@ fn said(alloc: Global, msg: &MarkMsg<'_>) -> Result<String, NoMemory> {
             made,
             state,
         } => {
-            let state = spell(alloc, state)?;
+            let state = word_of_bytes(alloc, state)?;
             Ok(format!(in alloc;
                 "Held boot {boot} ip {} port {} reads {reads} length {length} made {made} state {state}",
                 key.ip, key.port
@@ -101,13 +102,13 @@ pub(crate) fn random_line(alloc: Global, text: &str) -> Result<String, NoMemory>
     let Some((count, seed)) = count_and_seed(text) else {
         return Ok(format!(in alloc; "no such line")?);
     };
-    let mut generator = Generator::new(seed);
+    let mut draws = Draws::new(seed);
     let mut tally = Tally {
         counts: [0; 8],
         bytes: 0,
     };
     for _message in 0..count {
-        let message = any_message(alloc, &mut generator)?;
+        let message = any_message(alloc, &mut draws)?;
         read_one(message.as_slice(), &mut tally);
     }
     let Tally { counts, bytes } = tally;
@@ -123,7 +124,7 @@ fn read_one(message: &[u8], tally: &mut Tally) {
         Ok(msg) => {
             let mut room = [0; ROOM];
             let len = write_mark(&msg, &mut room);
-            tally.bytes = folded(tally.bytes, &room[..len]);
+            tally.bytes = hashed(tally.bytes, &room[..len]);
             tally.counts[7] = tally.counts[7].wrapping_add(1);
         }
         Err(bad) => {
@@ -134,34 +135,34 @@ fn read_one(message: &[u8], tally: &mut Tally) {
 }
 
 /// A number at or near the ends of a range that ends at `most`, or any below that.
-fn any_number(generator: &mut Generator, most: u32) -> u32
+fn any_number(draws: &mut Draws, most: u32) -> u32
     requires { most ≤ 16777217 }
 {
-    match below(generator, 8) {
+    match draws.below(8) {
         0 => 0,
         1 => 1,
         2 => most,
         3 => most + 1,
-        _ => below(generator, most + 1),
+        _ => draws.below(most + 1),
     }
 }
 
 /// A message of any kind, most of them damaged in some way.
-fn any_message(alloc: Global, generator: &mut Generator) -> Result<Vec<u8>, NoMemory> {
-    let kind = 1 + below(generator, 4) as u8;
+fn any_message(alloc: Global, draws: &mut Draws) -> Result<Vec<u8>, NoMemory> {
+    let kind = 1 + draws.below(4) as u8;
     let mut bytes = Vec::from_slice(alloc, &[0x46, 0x56, 1, kind, 0, 0, 0, 0, 0, 0, 0, 0])?;
-    put(&mut bytes, below(generator, 8))?;
+    put(&mut bytes, draws.below(8))?;
     put(&mut bytes, 0xC000_0201)?;
-    bytes.extend_from_slice(&(40_000 + below(generator, 3) as u16).to_be_bytes())?;
+    bytes.extend_from_slice(&(40_000 + draws.below(3) as u16).to_be_bytes())?;
     if kind != 3 {
-        put(&mut bytes, any_number(generator, STREAM + 1))?;
+        put(&mut bytes, any_number(draws, STREAM + 1))?;
     }
     if kind == 1 || kind == 4 {
-        put(&mut bytes, any_number(generator, STREAM))?;
-        put(&mut bytes, any_number(generator, STREAM))?;
-        put_state(generator, &mut bytes)?;
+        put(&mut bytes, any_number(draws, STREAM))?;
+        put(&mut bytes, any_number(draws, STREAM))?;
+        put_state(draws, &mut bytes)?;
     }
-    damage(generator, &mut bytes)?;
+    damage(draws, &mut bytes)?;
     Ok(bytes)
 }
 
@@ -171,13 +172,13 @@ fn put(bytes: &mut Vec<u8>, n: u32) -> Result<(), NoMemory> {
 }
 
 /// A state of few bytes, or of about as many as one may have.
-fn put_state(generator: &mut Generator, bytes: &mut Vec<u8>) -> Result<(), NoMemory> {
-    let len = if below(generator, 8) == 0 {
-        1_098 + below(generator, 5)
+fn put_state(draws: &mut Draws, bytes: &mut Vec<u8>) -> Result<(), NoMemory> {
+    let len = if draws.below(8) == 0 {
+        1_098 + draws.below(5)
     } else {
-        below(generator, 40)
+        draws.below(40)
     };
-    let first = below(generator, 256);
+    let first = draws.below(256);
     for i in 0..len {
         bytes.push(((first + i) % 256) as u8)?;
     }
@@ -185,10 +186,10 @@ fn put_state(generator: &mut Generator, bytes: &mut Vec<u8>) -> Result<(), NoMem
 }
 
 /// Changes a byte of the header, or cuts or lengthens the message, before its length and checksum are put in their places; or changes a bit or cuts it after that.
-fn damage(generator: &mut Generator, bytes: &mut Vec<u8>) -> Result<(), NoMemory> {
-    let way = below(generator, 8);
-    let place = below(generator, 16) as usize;
-    let byte = below(generator, 6) as u8;
+fn damage(draws: &mut Draws, bytes: &mut Vec<u8>) -> Result<(), NoMemory> {
+    let way = draws.below(8);
+    let place = draws.below(16) as usize;
+    let byte = draws.below(6) as u8;
     match way {
         0 if place < bytes.len() => bytes[place] = byte,
         1 => bytes.push(byte)?,
@@ -202,7 +203,7 @@ fn damage(generator: &mut Generator, bytes: &mut Vec<u8>) -> Result<(), NoMemory
         3 => {
             let bits = 8 * bytes.len().min(4_096) as u32;
             if bits > 0 {
-                let bit = below(generator, bits);
+                let bit = draws.below(bits);
                 flip(bytes.as_mut_slice(), bit as usize);
             }
         }

@@ -1,12 +1,12 @@
 //! Services that are kept as bytes and read back.
 
-use crate::draws::{below, count_and_seed, folded, spell, spelled};
+use crate::count_and_seed;
 use counter_service::Counter;
 use ft_io::NoMemory;
 use sample_servers::AnyService;
-use seq_arith::Generator;
 use server_trait::{CHUNK_LIMIT, Next, Saved, Service};
 use std::alloc::Global;
+use test_data::{Draws, bytes_of_word, hashed, word_of_bytes};
 
 /// The kind of the sample service of a name, and 0 for the counter.
 fn kind_of(name: &str) -> Option<u8> {
@@ -23,7 +23,7 @@ fn kind_of(name: &str) -> Option<u8> {
 /// Loads a service, and returns the form that it then has.
 pub(crate) fn load_line(alloc: Global, text: &str) -> Result<String, NoMemory> {
     let (name, text) = text.split_once(' ').unwrap_or((text, ""));
-    let (Some(kind), Some(bytes)) = (kind_of(name), spelled(alloc, text)?) else {
+    let (Some(kind), Some(bytes)) = (kind_of(name), bytes_of_word(alloc, text)?) else {
         return Ok(format!(in alloc; "no such line")?);
     };
     let form = if kind == 0 {
@@ -33,7 +33,7 @@ pub(crate) fn load_line(alloc: Global, text: &str) -> Result<String, NoMemory> {
     };
     match form {
         Some(form) => {
-            let text = spell(alloc, form.as_slice())?;
+            let text = word_of_bytes(alloc, form.as_slice())?;
             Ok(format!(in alloc; "{name} {text}")?)
         }
         None => Ok(format!(in alloc; "{name} none")?),
@@ -89,7 +89,7 @@ pub(crate) fn runs_line(alloc: Global, text: &str) -> Result<String, NoMemory> {
 }
 
 fn play_runs<S: Saved>(alloc: Global, kind: u8, count: u32, seed: u64) -> Result<Tally, NoMemory> {
-    let mut generator = Generator::new(seed);
+    let mut draws = Draws::new(seed);
     let mut tally = Tally {
         closed: 0,
         read_back: 0,
@@ -97,8 +97,8 @@ fn play_runs<S: Saved>(alloc: Global, kind: u8, count: u32, seed: u64) -> Result
         bytes: 0,
     };
     for _run in 0..count {
-        match run::<S>(alloc, &mut generator, kind)? {
-            Some(service) => check(alloc, &mut generator, kind, service, &mut tally)?,
+        match run::<S>(alloc, &mut draws, kind)? {
+            Some(service) => check(alloc, &mut draws, kind, service, &mut tally)?,
             None => tally.closed = tally.closed.wrapping_add(1),
         }
     }
@@ -106,15 +106,11 @@ fn play_runs<S: Saved>(alloc: Global, kind: u8, count: u32, seed: u64) -> Result
 }
 
 /// A service after one to five chunks, where it hasn't closed.
-fn run<S: Saved>(
-    alloc: Global,
-    generator: &mut Generator,
-    kind: u8,
-) -> Result<Option<S>, NoMemory> {
+fn run<S: Saved>(alloc: Global, draws: &mut Draws, kind: u8) -> Result<Option<S>, NoMemory> {
     let mut service = S::fresh(alloc, kind);
     let mut closed = false;
-    for _chunk in 0..1 + below(generator, 5) {
-        let chunk = any_chunk(alloc, generator, kind)?;
+    for _chunk in 0..1 + draws.below(5) {
+        let chunk = any_chunk(alloc, draws, kind)?;
         if !closed {
             let (next, _output) = taken(alloc, &mut service, chunk.as_slice())?;
             closed = next == Next::Close;
@@ -137,18 +133,18 @@ fn taken<S: Saved>(
 /// Saves a service, reads it back, and loads what is damaged of its form.
 fn check<S: Saved>(
     alloc: Global,
-    generator: &mut Generator,
+    draws: &mut Draws,
     kind: u8,
     service: S,
     tally: &mut Tally,
 ) -> Result<(), NoMemory> {
     let mut form = form_of(alloc, &service)?;
-    tally.bytes = folded(tally.bytes, form.as_slice());
-    let chunk = any_chunk(alloc, generator, kind)?;
+    tally.bytes = hashed(tally.bytes, form.as_slice());
+    let chunk = any_chunk(alloc, draws, kind)?;
     if is_read_back(alloc, kind, service, form.as_slice(), chunk.as_slice())? {
         tally.read_back = tally.read_back.wrapping_add(1);
     }
-    damage(generator, &mut form)?;
+    damage(draws, &mut form)?;
     if S::load(alloc, kind, form.as_slice())?.is_none() {
         tally.refused = tally.refused.wrapping_add(1);
     }
@@ -174,10 +170,10 @@ fn is_read_back<S: Saved>(
 }
 
 /// Changes a byte of a form, drops its last or appends one.
-fn damage(generator: &mut Generator, form: &mut Vec<u8>) -> Result<(), NoMemory> {
-    let way = below(generator, 4);
-    let byte = below(generator, 256) as u8;
-    let place = below(generator, 1 + form.len().min(2_000) as u32) as usize;
+fn damage(draws: &mut Draws, form: &mut Vec<u8>) -> Result<(), NoMemory> {
+    let way = draws.below(4);
+    let byte = draws.below(256) as u8;
+    let place = draws.below(1 + form.len().min(2_000) as u32) as usize;
     if way == 0 {
         form.pop();
     } else if way == 1 || place >= form.len() {
@@ -189,30 +185,30 @@ fn damage(generator: &mut Generator, form: &mut Vec<u8>) -> Result<(), NoMemory>
 }
 
 /// A chunk of one to four pieces.
-fn any_chunk(alloc: Global, generator: &mut Generator, kind: u8) -> Result<Vec<u8>, NoMemory> {
+fn any_chunk(alloc: Global, draws: &mut Draws, kind: u8) -> Result<Vec<u8>, NoMemory> {
     let mut chunk = Vec::new(alloc);
-    for _piece in 0..1 + below(generator, 4) {
-        put_piece(generator, kind, &mut chunk)?;
+    for _piece in 0..1 + draws.below(4) {
+        put_piece(draws, kind, &mut chunk)?;
     }
     Ok(chunk)
 }
 
 /// A line feed, the line `quit`, many bytes of one letter, a request, or a few bytes. Transfer, which gives much for little, is given few of the letters.
-fn put_piece(generator: &mut Generator, kind: u8, chunk: &mut Vec<u8>) -> Result<(), NoMemory> {
-    match below(generator, 6) {
+fn put_piece(draws: &mut Draws, kind: u8, chunk: &mut Vec<u8>) -> Result<(), NoMemory> {
+    match draws.below(6) {
         0 => chunk.push(b'\n')?,
         1 => chunk.extend_from_slice(b"quit\n")?,
         2 => {
-            let len = below(generator, if kind == 3 { 8 } else { 500 });
+            let len = draws.below(if kind == 3 { 8 } else { 500 });
             chunk.resize(chunk.len().saturating_add(len as usize), b'a')?;
         }
         3 => {
-            let size = below(generator, 2_048).to_be_bytes();
+            let size = draws.below(2_048).to_be_bytes();
             chunk.extend_from_slice(&size)?;
         }
         _ => {
-            for _byte in 0..1 + below(generator, 5) {
-                chunk.push(below(generator, 256) as u8)?;
+            for _byte in 0..1 + draws.below(5) {
+                chunk.push(draws.below(256) as u8)?;
             }
         }
     }

@@ -7,9 +7,10 @@ use ft_io::{Key, NoMemory};
 use logger_wire::{Body, Msg, write_msg};
 use sample_servers::AnyService;
 use segment_codec::{Head, read_packet, write_packet};
-use seq_arith::{ACK, Generator, RST, Seq, has};
+use seq_arith::{ACK, RST, Seq, has};
 use server_node::{Input, Node, OutPacket, To};
 use std::alloc::Global;
+use test_data::Draws;
 
 /// The clients of hostile packets have this address, and four ports from this one on.
 const FROM: Key = Key {
@@ -17,59 +18,49 @@ const FROM: Key = Key {
     port: 40_000,
 };
 
-/// Below a bound.
-pub(crate) fn below(draws: &mut Generator, bound: u32) -> u32
-    requires { 0 < bound }
-    ensures { result < bound }
-{
-    draws.draw() % bound
-}
-
 /// A number near this one, or any.
-fn number(draws: &mut Generator, near: u32) -> Seq {
-    match below(draws, 4) {
+fn number(draws: &mut Draws, near: u32) -> Seq {
+    match draws.below(4) {
         0 => Seq(draws.draw()),
-        1 => Seq(near).add(below(draws, 70_000)),
-        _ => Seq(near).add(below(draws, 12)),
+        1 => Seq(near).add(draws.below(70_000)),
+        _ => Seq(near).add(draws.below(12)),
     }
 }
 
 /// Of a segment of one of the clients: mostly an acknowledgement, else with any flags.
-fn head(draws: &mut Generator) -> Head
+fn head(draws: &mut Draws) -> Head
     ensures { result.mss ≡ None }
 {
-    let any = below(draws, 256) as u8;
-    let flags = if below(draws, 3) == 0 { any } else { ACK };
+    let any = draws.byte();
+    let flags = if draws.below(3) == 0 { any } else { ACK };
     Head {
         src: FROM.ip,
         dst: LOCAL.ip,
-        sport: 40_000 + below(draws, 4) as u16,
+        sport: 40_000 + draws.below(4) as u16,
         dport: LOCAL.port,
         seq: number(draws, 1_000),
         ack: number(draws, 5_000),
         flags,
-        window: below(draws, 65_536) as u16,
+        window: draws.below(65_536) as u16,
         mss: None,
     }
 }
 
 /// Writes a Stale of another incarnation, which would end a server that took it for its own.
-fn write_stale(draws: &mut Generator, out: &mut [u8; 2_048]) -> usize
+fn write_stale(draws: &mut Draws, out: &mut [u8; 2_048]) -> usize
     ensures { result ≤ 2048 }
 {
-    let boot = u64::from(below(draws, 1_000)) + 1_000;
+    let boot = u64::from(draws.below(1_000)) + 1_000;
     let body = Body::StaleMsg { newer: boot + 1 };
     write_msg(&Msg { boot, body }, out).min(2_048)
 }
 
 /// Writes any bytes, at most 100.
-fn write_bytes(draws: &mut Generator, out: &mut [u8; 2_048]) -> usize
+fn write_bytes(draws: &mut Draws, out: &mut [u8; 2_048]) -> usize
     ensures { result ≤ 2048 }
 {
-    let len = below(draws, 101) as usize;
-    for byte in out[..len].iter_mut() {
-        *byte = below(draws, 256) as u8;
-    }
+    let len = draws.below(101) as usize;
+    draws.fill(&mut out[..len]);
     len
 }
 
@@ -113,14 +104,14 @@ pub(crate) fn attack(
     times: u64,
     seed: u64,
 ) -> Result<Tally, NoMemory> {
-    let mut draws = Generator::new(seed);
+    let mut draws = Draws::new(seed);
     let mut tally = Tally { sent: 0, wrong: 0 };
     let mut bytes = [0u8; 2_048];
     let text = [b'?'; 60];
     for _ in 0..times {
-        let input = match below(&mut draws, 4) {
+        let input = match draws.below(4) {
             0 => {
-                let size = below(&mut draws, 61) as usize;
+                let size = draws.below(61) as usize;
                 let len = write_packet(&head(&mut draws), &text[..size], &mut bytes).min(1_500);
                 Input::Packet(&bytes[..len])
             }

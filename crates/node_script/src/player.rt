@@ -7,6 +7,7 @@ use sample_servers::AnyService;
 use seq_arith::Seq;
 use server_node::{Input, Node, OutPacket, To, TurnEnd};
 use std::alloc::Global;
+use test_data::bytes_of_hex;
 
 /// The server's address.
 pub(crate) const LOCAL: Addr = Addr {
@@ -65,7 +66,7 @@ impl Player {
 
     /// A datagram from a client or from the logger.
     fn give(&mut self, alloc: Global, digits: &str, is_packet: bool) -> Result<(), NoMemory> {
-        let Ok(bytes) = hex::decode(alloc, digits) else {
+        let Some(bytes) = bytes_of_hex(alloc, digits)? else {
             return Ok(self.out.push_str("no digits")?);
         };
         if is_packet {

@@ -2,14 +2,14 @@
 
 ghost use Rattle.std.specs.Prelude.{◌≡◌, ◌<◌, None};
 
-use crate::attack::below;
 use crate::player::LOCAL;
 use ft_io::{Key, NoMemory};
 use sample_servers::AnyService;
 use segment_codec::{Head, write_packet};
-use seq_arith::{ACK, FIN, Generator, RST, SYN, Seq};
+use seq_arith::{ACK, FIN, RST, SYN, Seq};
 use server_node::{Input, Node, OutPacket, To};
 use std::alloc::Global;
+use test_data::Draws;
 
 /// The client that strikes.
 const FROM: Key = Key {
@@ -37,34 +37,34 @@ struct Blow {
 }
 
 /// An acknowledgement up to 2^30 ahead, without text.
-fn far_acknowledgement(draws: &mut Generator, strikes: Strikes) -> Blow
+fn far_acknowledgement(draws: &mut Draws, strikes: Strikes) -> Blow
     ensures { (0 < result.room) × (result.room < 21) }
 {
     Blow {
         flags: ACK,
         seq: strikes.seq,
-        ack: strikes.ack.add(1 + below(draws, 1 << 30)),
+        ack: strikes.ack.add(1 + draws.below(1 << 30)),
         room: 1,
     }
 }
 
 /// At the right edge of a full window, or next to it, with at most one byte.
-fn wrong_edge(draws: &mut Generator, strikes: Strikes) -> Blow
+fn wrong_edge(draws: &mut Draws, strikes: Strikes) -> Blow
     ensures { (0 < result.room) × (result.room < 21) }
 {
     Blow {
         flags: ACK,
-        seq: strikes.seq.add(65_534 + below(draws, 4)),
+        seq: strikes.seq.add(65_534 + draws.below(4)),
         ack: strikes.ack,
         room: 2,
     }
 }
 
 /// A RST near the next number, but past any value that the other segments of the same line can give it.
-fn wrong_reset(draws: &mut Generator, strikes: Strikes) -> Blow
+fn wrong_reset(draws: &mut Draws, strikes: Strikes) -> Blow
     ensures { (0 < result.room) × (result.room < 21) }
 {
-    let past = match below(draws, 5) {
+    let past = match draws.below(5) {
         0 => 4_294_967_295,
         1 => 64,
         2 => 65,
@@ -80,22 +80,22 @@ fn wrong_reset(draws: &mut Generator, strikes: Strikes) -> Blow
 }
 
 /// Text that begins up to twelve bytes before the number, and acknowledges less.
-fn overlap(draws: &mut Generator, strikes: Strikes) -> Blow
+fn overlap(draws: &mut Draws, strikes: Strikes) -> Blow
     ensures { (0 < result.room) × (result.room < 21) }
 {
     Blow {
         flags: ACK,
-        seq: strikes.seq.add(4_294_967_284 + below(draws, 12)),
-        ack: strikes.ack.add(4_294_967_293 + below(draws, 3)),
+        seq: strikes.seq.add(4_294_967_284 + draws.below(12)),
+        ack: strikes.ack.add(4_294_967_293 + draws.below(3)),
         room: 20,
     }
 }
 
 /// Text past the number, with any acknowledgement and odd flags.
-fn odd_flags(draws: &mut Generator, strikes: Strikes) -> Blow
+fn odd_flags(draws: &mut Draws, strikes: Strikes) -> Blow
     ensures { (0 < result.room) × (result.room < 21) }
 {
-    let flags = match below(draws, 5) {
+    let flags = match draws.below(5) {
         0 => ACK | FIN,
         1 => ACK | RST,
         2 => ACK | SYN,
@@ -104,17 +104,17 @@ fn odd_flags(draws: &mut Generator, strikes: Strikes) -> Blow
     };
     Blow {
         flags,
-        seq: strikes.seq.add(2 + below(draws, 7)),
+        seq: strikes.seq.add(2 + draws.below(7)),
         ack: Seq(draws.draw()),
         room: 20,
     }
 }
 
 /// A SYN with the client's initial number, or one next to it.
-fn opening(draws: &mut Generator, strikes: Strikes) -> Blow
+fn opening(draws: &mut Draws, strikes: Strikes) -> Blow
     ensures { (0 < result.room) × (result.room < 21) }
 {
-    let past = match below(draws, 4) {
+    let past = match draws.below(4) {
         0 | 1 => 4_294_967_295,
         2 => 0,
         _ => 69_999,
@@ -127,10 +127,10 @@ fn opening(draws: &mut Generator, strikes: Strikes) -> Blow
     }
 }
 
-fn draw_blow(draws: &mut Generator, strikes: Strikes) -> Blow
+fn draw_blow(draws: &mut Draws, strikes: Strikes) -> Blow
     ensures { (0 < result.room) × (result.room < 21) }
 {
-    match below(draws, strikes.kinds.max(1)) {
+    match draws.below(strikes.kinds.max(1)) {
         0 => far_acknowledgement(draws, strikes),
         1 => wrong_edge(draws, strikes),
         2 => wrong_reset(draws, strikes),
@@ -140,7 +140,7 @@ fn draw_blow(draws: &mut Generator, strikes: Strikes) -> Blow
     }
 }
 
-fn head(draws: &mut Generator, blow: Blow) -> Head
+fn head(draws: &mut Draws, blow: Blow) -> Head
     ensures { result.mss ≡ None }
 {
     Head {
@@ -151,7 +151,7 @@ fn head(draws: &mut Generator, blow: Blow) -> Head
         seq: blow.seq,
         ack: blow.ack,
         flags: blow.flags,
-        window: below(draws, 65_536) as u16,
+        window: draws.below(65_536) as u16,
         mss: None,
     }
 }
@@ -191,14 +191,14 @@ pub(crate) fn strike(
     node: &mut Node<AnyService>,
     strikes: Strikes,
 ) -> Result<Digest, NoMemory> {
-    let mut draws = Generator::new(strikes.seed);
+    let mut draws = Draws::new(strikes.seed);
     let mut digest = Digest { sent: 0, sum: 0 };
     let mut bytes = [0u8; 2_048];
     for _ in 0..strikes.times {
         let blow = draw_blow(&mut draws, strikes);
         let head = head(&mut draws, blow);
-        let text = [below(&mut draws, 256) as u8; 20];
-        let size = below(&mut draws, blow.room) as usize;
+        let text = [draws.byte(); 20];
+        let size = draws.below(blow.room) as usize;
         let len = write_packet(&head, &text[..size], &mut bytes).min(1_500);
         if node.turn(alloc, Input::Packet(&bytes[..len])).is_err() {
             return Err(NoMemory);

@@ -1,7 +1,7 @@
 //! One restart.
 
 use crate::logged::{Logged, answer};
-use crate::text::{hex_of, question_line};
+use crate::text::question_line;
 use ft_io::{Addr, NoMemory};
 use logger_wire::read_msg;
 use reincarnate::{Asked, Fetching, LostIn, Replayed, Spliced};
@@ -120,7 +120,7 @@ fn tell(
 }
 
 fn join(alloc: Global, replayed: Replayed<AnyService>, out: &mut String) -> Result<(), NoMemory> {
-    let pending = hex_of(alloc, replayed.pending())?;
+    let pending = hex::encode(alloc, replayed.pending())?;
     match replayed.splice(alloc, u64::from(BOOT), LOCAL, ISN) {
         Ok(spliced) => tell(alloc, &spliced, pending.as_str(), out),
         Err(end) => Err(lost(end)),

@@ -13,21 +13,3 @@ pub(crate) fn question_line(alloc: Global, question: &Msg<'_>) -> Result<String,
         _ => format!(in alloc; "another\n")?,
     })
 }
-
-/// Bytes as hexadecimal digits.
-pub(crate) fn hex_of(alloc: Global, bytes: &[u8]) -> Result<String, NoMemory> {
-    let mut digits = String::new(alloc);
-    for byte in bytes {
-        digits.push(digit(byte >> 4))?;
-        digits.push(digit(byte & 15))?;
-    }
-    Ok(digits)
-}
-
-fn digit(n: u8) -> char {
-    match n {
-        0..=9 => char::from(b'0' + n),
-        10..=15 => char::from(b'a' + (n - 10)),
-        _ => '?',
-    }
-}

@@ -11,11 +11,11 @@
 #![tactic(auto)]
 
 use ft_io::NoMemory;
-use hex::FromHexError;
 use pair::Pair;
 use random::play_random;
 use std::alloc::Global;
 use std::io;
+use test_data::bytes_of_hex;
 use twin_log::{Part, Side, TwinOut};
 
 mod messages;
@@ -60,10 +60,8 @@ fn given(
     let Some(part) = part_of(name) else {
         return Ok(format!(in alloc; "no such part")?);
     };
-    let datagram = match hex::decode(alloc, text) {
-        Ok(datagram) => datagram,
-        Err(FromHexError::OutOfMemory) => return Err(NoMemory),
-        Err(_) => return Ok(format!(in alloc; "no datagram")?),
+    let Some(datagram) = bytes_of_hex(alloc, text)? else {
+        return Ok(format!(in alloc; "no datagram")?);
     };
     pair.deliver(alloc, part, from, datagram.as_slice(), out)?;
     sent_line(alloc, name, out)

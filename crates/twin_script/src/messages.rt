@@ -2,21 +2,14 @@
 
 ghost use Rattle.std.specs.Prelude.{◌≡◌, ◌<◌, ◌≤◌, length};
 
-use seq_arith::{Generator, Sum16};
+use seq_arith::Sum16;
+use test_data::Draws;
 
 /// Room for the longest message that is drawn.
 pub(crate) const ROOM: usize = 64;
 
 /// The kinds that are drawn, each as often as it is listed here.
 const KINDS: [u8; 16] = [1, 1, 1, 9, 9, 9, 13, 13, 15, 5, 7, 16, 11, 11, 11, 11];
-
-/// A number below a bound.
-pub(crate) fn below(generator: &mut Generator, bound: u32) -> u32
-    requires { 0 < bound }
-    ensures { result < bound }
-{
-    generator.draw() % bound
-}
 
 /// Bytes that are appended one number after another.
 #[derive(Clone, Copy)]
@@ -63,21 +56,21 @@ fn begin(kind: u8, boot: u8) -> Draft {
 }
 
 /// Writes a message, determined by what is drawn, at the beginning of `bytes`, and returns its length.
-pub(crate) fn any_message(generator: &mut Generator, bytes: &mut [u8; ROOM]) -> usize
+pub(crate) fn any_message(draws: &mut Draws, bytes: &mut [u8; ROOM]) -> usize
     ensures { result ≤ 64 }
 {
-    let kind = KINDS[below(generator, 16) as usize];
-    let port = 40_000 + below(generator, 3);
-    let draft = drawn(generator, kind, port);
+    let kind = KINDS[draws.below(16) as usize];
+    let port = 40_000 + draws.below(3);
+    let draft = drawn(draws, kind, port);
     let message = draft.bytes;
     *bytes = message;
     draft.len.min(ROOM)
 }
 
 /// A message of a kind, of the connection with this port.
-fn drawn(generator: &mut Generator, kind: u8, port: u32) -> Draft {
+fn drawn(draws: &mut Draws, kind: u8, port: u32) -> Draft {
     if kind == 1 {
-        let mut draft = begin(1, 1 + (below(generator, 8) / 7) as u8);
+        let mut draft = begin(1, 1 + (draws.below(8) / 7) as u8);
         draft.seal();
         return draft;
     }
@@ -85,14 +78,14 @@ fn drawn(generator: &mut Generator, kind: u8, port: u32) -> Draft {
     draft.put(0xC000_0201, 4);
     draft.put(port, 2);
     match kind {
-        9 => put_numbers(generator, &mut draft),
+        9 => put_numbers(draws, &mut draft),
         13 => {
-            draft.put(below(generator, 4), 4);
-            draft.put(below(generator, 8), 2);
+            draft.put(draws.below(4), 4);
+            draft.put(draws.below(8), 2);
         }
-        5 => draft.put(below(generator, 16), 4),
-        7 => draft.put(below(generator, 4), 4),
-        11 => put_data(generator, &mut draft),
+        5 => draft.put(draws.below(16), 4),
+        7 => draft.put(draws.below(4), 4),
+        11 => put_data(draws, &mut draft),
         _ => (),
     }
     draft.seal();
@@ -100,18 +93,18 @@ fn drawn(generator: &mut Generator, kind: u8, port: u32) -> Draft {
 }
 
 /// The numbers of a connection.
-fn put_numbers(generator: &mut Generator, draft: &mut Draft) {
-    draft.put(below(generator, 256), 4);
-    draft.put(below(generator, 256), 4);
+fn put_numbers(draws: &mut Draws, draft: &mut Draft) {
+    draft.put(draws.below(256), 4);
+    draft.put(draws.below(256), 4);
     draft.put(536, 2);
 }
 
 /// A part of a stream.
-fn put_data(generator: &mut Generator, draft: &mut Draft) {
-    draft.put(below(generator, 16), 4);
-    draft.put(below(generator, 64), 4);
-    draft.put(below(generator, 8) / 7, 1);
-    for _more in 0..below(generator, 12) {
-        draft.put(97 + below(generator, 26), 1);
+fn put_data(draws: &mut Draws, draft: &mut Draft) {
+    draft.put(draws.below(16), 4);
+    draft.put(draws.below(64), 4);
+    draft.put(draws.below(8) / 7, 1);
+    for _more in 0..draws.below(12) {
+        draft.put(97 + draws.below(26), 1);
     }
 }

@@ -2,11 +2,12 @@
 
 ghost use Rattle.std.specs.Prelude.{◌<◌};
 
-use crate::messages::{ROOM, any_message, below};
+use crate::messages::{ROOM, any_message};
 use crate::pair::Pair;
 use ft_io::NoMemory;
-use seq_arith::{Generator, flip};
+use seq_arith::flip;
 use std::alloc::Global;
+use test_data::{Draws, hashed};
 use twin_log::{Part, Side, TwinOut};
 
 /// What came of many lists.
@@ -18,7 +19,7 @@ struct Tally {
     others: u32,
     /// The sum of both loggers' numbers at the end of each list.
     numbers: u64,
-    /// 31 times the number before, and the byte, for each byte of each datagram; modulo 2^32.
+    /// The hash of all datagrams.
     bytes: u32,
 }
 
@@ -29,16 +30,14 @@ impl Tally {
                 Side::Server => self.answers = self.answers.wrapping_add(1),
                 Side::Other => self.others = self.others.wrapping_add(1),
             }
-            for byte in out.bytes(i) {
-                self.bytes = self.bytes.wrapping_mul(31).wrapping_add(u32::from(*byte));
-            }
+            self.bytes = hashed(self.bytes, out.bytes(i));
         }
     }
 }
 
 /// To which part a server's message is sent: mostly the head, and the tail once the head has stopped.
-fn part_asked(generator: &mut Generator, pair: &Pair) -> Part {
-    if pair.stopped() == Some(Part::Head) || below(generator, 16) == 0 {
+fn part_asked(draws: &mut Draws, pair: &Pair) -> Part {
+    if pair.stopped() == Some(Part::Head) || draws.below(16) == 0 {
         Part::Tail
     } else {
         Part::Head
@@ -47,20 +46,20 @@ fn part_asked(generator: &mut Generator, pair: &Pair) -> Part {
 
 /// The place of what is delivered to a part of so many datagrams, from 0: mostly the next in order, now and then without the one before it, and
 /// else any.
-fn place_of(generator: &mut Generator, pair: &mut Pair, part: Part, count: u32) -> usize
+fn place_of(draws: &mut Draws, pair: &mut Pair, part: Part, count: u32) -> usize
     requires { 0 < count }
 {
-    if below(generator, 4) == 0 {
-        return below(generator, count) as usize;
+    if draws.below(4) == 0 {
+        return draws.below(count) as usize;
     }
-    let lost = (below(generator, 8) / 7) as usize;
+    let lost = (draws.below(8) / 7) as usize;
     pair.pass(part, lost, count as usize - 1)
 }
 
 /// Delivers to a part something that the other sent, with one bit changed where that is wanted.
 fn deliver_some(
     alloc: Global,
-    generator: &mut Generator,
+    draws: &mut Draws,
     pair: &mut Pair,
     part: Part,
     changed: bool,
@@ -71,14 +70,14 @@ fn deliver_some(
     if count == 0 {
         return Ok(());
     }
-    let place = place_of(generator, pair, part, count);
+    let place = place_of(draws, pair, part, count);
     let Some(sent) = pair.sent_to(part).get(place) else {
         return Ok(());
     };
     let mut bytes = sent.to_vec(alloc)?;
     let bits = 8 * bytes.len().min(2_048) as u32;
     if changed && bits > 0 {
-        let bit = below(generator, bits);
+        let bit = draws.below(bits);
         flip(&mut bytes, bit as usize);
     }
     pair.deliver(alloc, part, Side::Other, bytes.as_slice(), out)
@@ -87,14 +86,14 @@ fn deliver_some(
 /// One delivery.
 fn deliver_one(
     alloc: Global,
-    generator: &mut Generator,
+    draws: &mut Draws,
     pair: &mut Pair,
     out: &mut TwinOut,
 ) -> Result<(), NoMemory> {
-    let kind = below(generator, 40);
-    if kind == 0 && below(generator, 4) == 0 {
+    let kind = draws.below(40);
+    if kind == 0 && draws.below(4) == 0 {
         out.clear();
-        pair.stop(if below(generator, 2) == 0 {
+        pair.stop(if draws.below(2) == 0 {
             Part::Head
         } else {
             Part::Tail
@@ -102,13 +101,13 @@ fn deliver_one(
         return Ok(());
     }
     if kind < 8 {
-        let part = part_asked(generator, pair);
+        let part = part_asked(draws, pair);
         let mut bytes = [0; ROOM];
-        let len = any_message(generator, &mut bytes);
+        let len = any_message(draws, &mut bytes);
         return pair.deliver(alloc, part, Side::Server, &bytes[..len], out);
     }
     let part = if kind < 16 { Part::Head } else { Part::Tail };
-    deliver_some(alloc, generator, pair, part, kind == 39, out)
+    deliver_some(alloc, draws, pair, part, kind == 39, out)
 }
 
 /// Plays this many lists, each with a new pair.
@@ -119,7 +118,7 @@ fn play_lists(
     seed: u64,
     out: &mut TwinOut,
 ) -> Result<Tally, NoMemory> {
-    let mut generator = Generator::new(seed);
+    let mut draws = Draws::new(seed);
     let mut tally = Tally {
         answers: 0,
         others: 0,
@@ -129,7 +128,7 @@ fn play_lists(
     for _list in 0..count {
         let mut pair = Pair::new(alloc)?;
         for _delivery in 0..len {
-            deliver_one(alloc, &mut generator, &mut pair, out)?;
+            deliver_one(alloc, &mut draws, &mut pair, out)?;
             tally.count(out);
         }
         let (head, tail) = (pair.logger(Part::Head), pair.logger(Part::Tail));
