@@ -21,7 +21,6 @@ mod file_disk;
 mod host_desk;
 mod mem_desk;
 mod mem_disk;
-mod numbered;
 mod shelf_end;
 #[cfg(test)]
 mod tests;

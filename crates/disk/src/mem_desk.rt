@@ -15,9 +15,8 @@ ghost use Rattle.disk.specs.Remains.{LeftBy};
 ghost use Rattle.disk.specs.CallRecord.{on_link, disk_calls};
 ghost use Rattle.disk.specs.MemDesk.{fresh_desk, told_of, file_of, noted, starved, IsStarved};
 
-use crate::numbered::NumberedCalls;
 use crate::{Death, Desk, DeskCall, Disk, MemDisk, ShelfEnd};
-use ft_io::{Addr, Failed, Heard, Link, LinkCall, MemLink, NoMemory, Octets};
+use ft_io::{Addr, Failed, Heard, Link, LinkCall, MemLink, NoMemory, NumberedCalls, Octets};
 use std::alloc::Global;
 use std::marker::Model;
 

@@ -16,9 +16,8 @@ ghost use Rattle.disk.specs.CallRecord.{disk_calls};
 ghost use Rattle.disk.specs.MemDisk.{fresh_disk, told_of, noted, starved, failed, changing, made_anew};
 
 use crate::death::left_behind;
-use crate::numbered::NumberedCalls;
 use crate::{Death, DeskCall, Disk, DiskCall};
-use ft_io::{Failed, NoMemory, Octets};
+use ft_io::{Failed, NoMemory, NumberedCalls, Octets};
 use std::alloc::Global;
 use std::marker::Model;
 

@@ -10,6 +10,7 @@ pub use mem_sink::MemSink;
 pub use mem_source::MemSource;
 pub use mem_spawner::MemSpawner;
 pub use memory::NoMemory;
+pub use numbered::NumberedCalls;
 pub use octets::Octets;
 pub use process_spawner::ProcessSpawner;
 pub use reading::{ReadEnd, read_to_limit};

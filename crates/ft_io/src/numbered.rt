@@ -7,7 +7,7 @@ use std::marker::Model;
 
 /// How many calls were made, and the numbers of those that fail.
 #[derive(Debug, Drop)]
-pub(crate) struct NumberedCalls {
+pub struct NumberedCalls {
     fails: Vec<u32>,
     made: u64,
 }
