@@ -1,1 +1,1 @@
-pub mod TwoLists
+pub mod MemSocket

@@ -4,6 +4,9 @@
 
 ghost use Rattle.std.specs.Prelude.{◌≡◌, ℕ, ◌-◌, ◌==◌, ◌&&◌, Bool, true, List, ◌++◌, length, min, take, drop};
 
+pub use mem_socket::MemSocket;
+
+mod mem_socket;
 #[cfg(test)]
 mod tests;
 
