@@ -14,7 +14,7 @@ use Rattle.seq_arith.specs.Mark.{MarkMessage}
 use Rattle.seq_arith.specs.MessageGrammar.{number_bytes, numbers_bytes, key_and}
 use Rattle.seq_arith.specs.MarkGrammar.{kind_of, kind_number, marking, fields_of, most_behind, behind_at, behind_of, numbers_of, behind_header, has_length, message_length, spelled, spelling, reading, IsSpellable}
 use Rattle.seq_arith.proofs.Headed.{headed_length}
-use Rattle.seq_arith.proofs.MarkSpelling.{mark_is_read}
+use Rattle.seq_arith.proofs.MarkSpelling.{mark_is_read, room}
 use Rattle.seq_arith.proofs.MessageSpelling.{numbers_length}
 use Rattle.checkpoint.specs.Spelling.{header_of, sealed}
 
@@ -51,12 +51,6 @@ marked_numbers key reads = refl
 pub ask_numbers : (key : Key) → take 6 (numbers_bytes marking (key_and key (0 ∷ 0 ∷ 0 ∷ []))) ≡ numbers_bytes (fields_of kinds.Ask) (key_and key [])
 unfolding number_bytes
 ask_numbers key = refl
-
-room : (kind : MarkKind) → behind_at kind + most_behind kind ≤ 1134
-room kinds.Mark = omega arith
-room kinds.Marked = omega arith
-room kinds.Ask = omega arith
-room kinds.Held = omega arith
 
 -- no message is longer than this
 pub message_fits : (m : MarkMessage) → IsSpellable m → message_length m.body ≤ 1134

@@ -10,12 +10,13 @@ use Rattle.seq_arith.specs.Bytes.{word_at}
 use Rattle.seq_arith.specs.Checksum.{checksum}
 use Rattle.seq_arith.specs.Mark.{Mark, MarkBody}
 use Rattle.seq_arith.specs.Mark.{MarkBody as bodies}
-use Rattle.seq_arith.specs.MessageGrammar.{number_in, width, numbers_in, key_at, AllFit}
+use Rattle.seq_arith.specs.MessageGrammar.{number_in, numbers_in, key_at, AllFit}
 use Rattle.seq_arith.specs.MarkGrammar.{marking, fields_of, behind_at, has_length, kind_of, numbers_of, behind_of, mark_in, body_in, message_in, message_length, is_sound, is_sound_in, reading_of, IsSpellable}
 use Rattle.seq_arith.proofs.Passing.{no_difference}
 use Rattle.logger_wire.specs.Places.{number_at}
 use Rattle.logger_wire.proofs.Placed.{numbers_placed}
-use Rattle.logger_wire.proofs.Numbers.{AreBytes, bytes_left, number_small}
+use Rattle.logger_wire.proofs.Numbers.{AreBytes, bytes_left}
+use Rattle.logger_wire.proofs.Sendable.{read_fit}
 
 -- the numbers of a mark, and the first of them
 abbrev marking_at : List ℕ → List ℕ
@@ -95,10 +96,6 @@ unfolding message_in
 is_read kind bytes boot body says size sum boot_is body_is is =
     sym (tested kind bytes says size sum ∙ ap (λ b. if b then Ok (message_in kind bytes) else Err bad.Field) (sound_is kind bytes boot body true boot_is body_is is)
     ∙ ap₂ (λ n b. Ok (record { boot = n; body = b })) (sym boot_is) (sym body_is))
-
-read_fit : (fields : List Field) (bytes : List ℕ) → AreBytes bytes → AllFit fields (numbers_in fields bytes)
-read_fit [] bytes are = tt
-read_fit (field ∷ rest) bytes are = (number_small (width field) bytes are, read_fit rest (drop (width field) bytes) (bytes_left (width field) bytes are))
 
 fit : (kind : MarkKind) (bytes : List ℕ) → AreBytes bytes → AllFit (fields_of (kind_of (said_in kind bytes))) (numbers_of (said_in kind bytes))
 fit kinds.Mark bytes are = read_fit marking (drop 16 bytes) (bytes_left 16 bytes are)

@@ -127,7 +127,7 @@ numbers_again kinds.Stale bytes behind flags = refl
 numbers_again kinds.Full bytes behind flags = refl
 
 -- numbers that were read fit their fields
-read_fit : (fields : List Field) (bytes : List ℕ) → AreBytes bytes → AllFit fields (numbers_in fields bytes)
+pub read_fit : (fields : List Field) (bytes : List ℕ) → AreBytes bytes → AllFit fields (numbers_in fields bytes)
 read_fit [] bytes are = tt
 read_fit (field ∷ rest) bytes are = (number_small (width field) bytes are, read_fit rest (drop (width field) bytes) (bytes_left (width field) bytes are))
 

@@ -30,7 +30,7 @@ body_back (bodies.AskMsg key) = refl
 body_back (bodies.HeldMsg key mark) = refl
 
 -- no message about marks is longer than this
-room : (kind : MarkKind) → behind_at kind + most_behind kind ≤ 1134
+pub room : (kind : MarkKind) → behind_at kind + most_behind kind ≤ 1134
 room kinds.Mark = omega arith
 room kinds.Marked = omega arith
 room kinds.Ask = omega arith
