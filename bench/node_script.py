@@ -343,7 +343,7 @@ say(pkt(packet(client_key(1), SERVER, "A", 1001, 5002, 65535, None, b"")), to_cl
 say(conn(client_key(2)), numbers((5002 - (900000 + 65536)) % 2**32, 0, 0, 0, 0, 0, 0))
 say(conn(client_key(1)), "none")
 
-say("# at the right edge a bare segment is used and owed nothing, and a RST is owed an ACK; a byte there, or a segment one past it, is not acceptable")
+say("# at the right edge a bare segment is used and needs no reply, and a RST needs an ACK; a byte there, or a segment one past it, is not acceptable")
 say("boot 1 1 5000", to_logger(HELLO))
 say(msg(SUMMARY))
 say(pkt(syn(A)), to_logger(opening("Open", 1, A, 1000, 5000)))

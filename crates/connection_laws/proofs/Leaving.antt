@@ -270,7 +270,7 @@ passed_is service server news inner p q u i delta ack_pending above s =
     passed_or delta q ack_pending (bare_segment server (inside u i q)) _ refl (full_quiet (swallowing u service) server inner (inside u i p) (inside u i q))
     ∙ (λ j. or_bare ack_pending (bare_is server u i delta q s.shift above j) (full_is service server news inner p q u i delta s j))
 
--- a segment without data that is owed besides
+-- a segment without data that is pending besides
 pub or_besides : (a b : Bool) (bare : Segment) (xs : List Segment) → or_bare b bare (or_bare a bare xs) ≡ or_bare (a || b) bare xs
 or_besides true b bare [] = refl
 or_besides false b bare [] = refl

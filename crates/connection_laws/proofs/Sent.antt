@@ -1,4 +1,4 @@
--- What a wrapped connection sends: TCP's segments mapped outward, the kept SYN-ACK, and the segments without data that are owed besides.
+-- What a wrapped connection sends: TCP's segments mapped outward, the kept SYN-ACK, and the segments without data that are pending besides.
 use Rattle.std.proofs.Common.{◌≡◌, ℕ, ◌≤◌, ◌+◌, ◌-◌, ◌^◌, Bool, true, false, not, Option, Some, None, List, [], ◌∷◌, ◌++◌, length, sum, min, max, inl, inr, refl, sym, ap, arith, append-nil, ◌∙◌}
 use Rattle.std.specs.Prelude.{ℤ, pos, ◌==◌, ◌&&◌, ◌||◌, nat_lt, nat_le, int_lt, int_le, if◌then◌else◌}
 use Rattle.std.specs.List.{list_any}

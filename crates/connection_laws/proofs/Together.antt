@@ -99,7 +99,7 @@ or_off : (a c o : Bool) → c ≡ false → (a || (c && o)) ≡ a
 or_off true c o h = refl
 or_off false c o h = ap (λ b. b && o) h
 
--- what the connection adds where TCP is CLOSED is what the law owes
+-- what the connection adds where TCP is CLOSED is what the law requires
 besides_ack_pending : (o b r x y : Bool) → (((b || r) || ((((o || b) || r) || x) || y))) ≡ ((((o || b) || r) || x) || y)
 besides_ack_pending true true r x y = refl
 besides_ack_pending true false true x y = refl
@@ -482,7 +482,7 @@ ticks_together service boot u i delta given p n e r =
       north = hears service Ticks p q given n refl (append-nil p.lengths) refl refl st.north;
     }) refl (goes service e.local boot Ticks p [] (no_more service p (p.lengths ++ []) r.no_read))
 
--- at a tick nothing is owed besides
+-- at a tick nothing is pending besides
 ticks_need_no_ack : {S : Type 0} (service : Machine S) (server : Addr) (boot : ℕ) (p q : Point) (sent : List Packet) → LiveTurn service server boot Ticks p q sent → q.lengths ≡ p.lengths ++ []
     → is_ack_pending service Ticks p q ≡ false
 unfolding is_ack_pending answered_after taken_after fin_after

@@ -163,7 +163,7 @@ fin_last_kept s m fin closed sent order una held last = λ h.
       held_kept s.una (length s.held) s.sent m.una (length m.held) m.sent order una held sent k.1 k.2,
     )
 
--- the model's words for what is refused and owed
+-- the model's words for what is refused and pending
 less_is : (p : Point) (e : Tcb) (segment : Segment) → Meets p e segment → rule.is_refused p segment ≡ acknowledges_less e segment
 less_is p e segment m = λ i. not (m.sends.syn_acked i) && has_ack segment && int_lt (ack_is p e segment m i) (pos 0)
 
@@ -223,7 +223,7 @@ none_chosen : (b : Bool) (x : Segment) → (if b then x ∷ [] else []) ≡ [] �
 none_chosen true x h = absurd (cons_is_not_nil x [] h)
 none_chosen false x h = refl
 
--- what is owed once the news have come
+-- what is pending once the news have come
 pub ack_pending_is : (news : News) (p : Point) (e : Tcb) → has_begun e.name ≡ true → IsBetweenTurns e → StandsAt p e → IsUsualNews news e
     → refusals e.local news p ≡ [] → (arrived news e).ack_pending ≡ news_needs_ack news p
 unfolding after_tick timer_ticked waited

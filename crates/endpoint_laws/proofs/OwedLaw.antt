@@ -121,7 +121,7 @@ acceptable_ack_pending e p b usual none unrefused h =
     ∙ if_when (has_syn p) _ true _ _ (λ is_syn. false_or e.ack_pending true none) (λ no_syn. plain_ack_pending e p b usual none
     (not_less_of (accepts e p) (has_rst p) (has_syn p) (acknowledges_less e p) unrefused h no_rst no_syn)))
 
--- .. and of one that is only allowed: its length is owed an answer
+-- .. and of one that is only allowed: its length calls for an answer
 allowed_ack_pending : (e : Tcb) (p : Segment) → IsBounded e → IsUsual e p → e.ack_pending ≡ false → check.accepts e p ≡ false → check.is_allowed e p ≡ true
     → (check_rst (with_time_wait_restarted e p) p).ack_pending ≡ not (has_rst p)
 unfolding check_rst check_syn with_time_wait_restarted check.accepts check.is_allowed

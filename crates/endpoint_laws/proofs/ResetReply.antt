@@ -123,7 +123,7 @@ acked_of f e enters =
     part_of_if f (fin_acked e.sending) (entering (after_fin_acked e.name) e) e
     ∙ ap (λ x. if fin_acked e.sending then x else f e) (enters e (after_fin_acked e.name)) ∙ same_if (fin_acked e.sending) (f e)
 
--- what neither state, buffers, numbers, the owed segment nor the one that is due again have a part in
+-- what neither state, buffers, numbers, the pending acknowledgement nor the one that is due again have a part in
 pub record IsApart {X : Type 0} (f : Tcb → X) : Type 0 where
   pub waits : (e : Tcb) (ticks : ℕ) → f (record e { wait = ticks }) ≡ f e
   pub enters : (e : Tcb) (name : StateName) (ticks : ℕ) → f (record e { name = name; wait = ticks }) ≡ f e

@@ -72,7 +72,7 @@ sent_bool e p b usual is_ack =
 abbrev pub segment_taken : Tcb → Segment → Receiving
 segment_taken e p = with_segment e.receiving (first e p) p.payload (has_fin p)
 
--- a part of the endpoint that neither the state nor what is owed touches
+-- a part of the endpoint that neither the state nor what is pending touches
 pub record Aside {X : Type 0} (f : Tcb → X) : Type 0 where
   pub with_reset : (e : Tcb) → f (with_reset e) ≡ f e
   pub pending : (b : Bool) (e : Tcb) → f (with_ack_pending_if b e) ≡ f e

@@ -21,7 +21,7 @@ use Rattle.endpoint_laws.proofs.Bounding.{text_facts, two_more_off, three_off, f
 use Rattle.endpoint_laws.proofs.TurnLaw.{after_steps, sent_law, timed_sent, by_probe}
 use Rattle.ft_io.proofs.Booleans.{or_other}
 
--- a turn's end sends a segment without data where one is owed
+-- a turn's end sends a segment without data where one is pending
 pub leaving_by : (u : Tcb) (ack_pending : Bool) → has_begun u.name ≡ true → u.ack_pending ≡ ack_pending
     → leaving u ≡ or_bare (asks ack_pending u) (bare_segment (after_full u)) (full_out u)
 unfolding leaving is_ack_pending after_full with_fin_out with_text_sent with_probe

@@ -243,7 +243,7 @@ fin_steps u c written edge s x f h w low =
     })
     (λ k. stays u c written edge s x f w)
 
--- what was announced last is the edge, where nothing is owed
+-- what was announced last is the edge, where nothing is pending
 same_edge : (before now : ℕ) (f g : Bool) (told edge : ℕ) → before ≤ now → (f ≡ true → g ≡ true) → before + one_if f ≡ now + one_if g → told + one_if f ≡ edge + one_if g
     → told ≡ edge
 same_edge before now true true told edge less stays_taken units edges = omega (arith, edges)

@@ -1,9 +1,9 @@
 -- What is read from a connection is its point's: whether it is quiet, the numbers of its mark, and the service's state.
-use Rattle.std.proofs.Common.{◌≡◌, ℕ, ◌+◌, ◌==◌, Bool, true, false, true≢false, not, ◌&&◌, refl, sym, ap, subst, arith, ◌∙◌, Option, Some, None, [], length, if◌then◌else◌}
+use Rattle.std.proofs.Common.{◌≡◌, ℕ, ◌+◌, ◌==◌, Bool, true, false, true≢false, not, ◌&&◌, refl, sym, ap, arith, ◌∙◌, Some, None, [], length, if◌then◌else◌}
 use Rattle.std.proofs.lemmas.Option.{none-some}
 use Rattle.server_trait.specs.Service.{Machine}
-use Rattle.ft_model.specs.Point.{Point, made, whole_run, bytes_read}
-use Rattle.ft_io.proofs.Choices.{by_cases, if_false}
+use Rattle.ft_model.specs.Point.{Point, made, whole_run}
+use Rattle.ft_io.proofs.Choices.{by_cases}
 use Rattle.north_wrap.specs.Refinement.{NorthStands}
 use Rattle.mark_laws.specs.Quiet.{IsQuiet}
 use Rattle.mark_laws.proofs.Closing.{running_reads_on}
