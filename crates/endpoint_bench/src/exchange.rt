@@ -1,13 +1,13 @@
 //! Two connected endpoints that hand their packets to one another, and their users. A user's turn is: what came is taken, read and
 //! answered, and the turn's segments go out. One segment is under way at a time, and it acknowledges the one before; or a window of them is.
 
-use crate::pattern::Pattern;
 use ft_io::{Addr, NoMemory};
 use segment_codec::read_packet;
 use seq_arith::Seq;
 use socket_layer::Socket;
 use std::alloc::Global;
 use tcp_endpoint::{Endpoint, Outbox, State, StateName};
+use test_data::PatternTable;
 
 const CLIENT: Addr = Addr {
     ip: 0xC000_0201,
@@ -120,7 +120,7 @@ impl Side {
 pub(crate) struct Exchange {
     pub(crate) client: Side,
     pub(crate) server: Side,
-    pattern: Pattern,
+    pattern: PatternTable,
     buf: [u8; 1_460],
     way: Way,
     /// The ticks that passed since nothing else came.
@@ -147,7 +147,7 @@ impl Exchange {
         Ok(Exchange {
             client: Side::new(alloc, client)?,
             server: Side::new(alloc, server)?,
-            pattern: Pattern::new(),
+            pattern: PatternTable::new(),
             buf: [0; 1_460],
             way,
             ticks: 0,

@@ -12,7 +12,6 @@ use std::{env, io};
 
 mod echo;
 mod exchange;
-mod pattern;
 mod service;
 
 fn main(rt: HostRuntime) -> io::Result<ExitCode> {

@@ -4,12 +4,12 @@ use crate::datagrams::long_data;
 use crate::text::{bytes_text, call_count, calls_text, entry_text, log_text, opening_text};
 use disk::{Death, MemDisk};
 use ft_io::NoMemory;
-use hex::FromHexError;
 use journal::KeepEnd;
 use kept_log::{KeptLog, OpenEnd};
 use logger_store::MsgOut;
 use logger_wire::read_msg;
 use std::alloc::Global;
+use test_data::bytes_of_hex;
 
 /// Which calls fail of the files that are opened.
 #[derive(Clone, Copy)]
@@ -27,15 +27,6 @@ pub(crate) struct Bench {
     log: Option<KeptLog>,
     /// How many calls of the disk were printed.
     shown: usize,
-}
-
-/// The bytes of a text, if it is hexadecimal.
-fn decoded(alloc: Global, text: &str) -> Result<Option<Vec<u8>>, NoMemory> {
-    match hex::decode(alloc, text) {
-        Ok(bytes) => Ok(Some(bytes)),
-        Err(FromHexError::OutOfMemory) => Err(NoMemory),
-        Err(_) => Ok(None),
-    }
 }
 
 /// Two numbers, separated by a space.
@@ -91,7 +82,7 @@ impl Bench {
     }
 
     pub(crate) fn set_file(&mut self, alloc: Global, text: &str) -> Result<String, NoMemory> {
-        let Some(file) = decoded(alloc, text)? else {
+        let Some(file) = bytes_of_hex(alloc, text)? else {
             return Ok(format!(in alloc; "no bytes")?);
         };
         self.file = file;
@@ -161,7 +152,7 @@ impl Bench {
     }
 
     pub(crate) fn take(&mut self, alloc: Global, text: &str) -> Result<String, NoMemory> {
-        let Some(bytes) = decoded(alloc, text)? else {
+        let Some(bytes) = bytes_of_hex(alloc, text)? else {
             return Ok(format!(in alloc; "no datagram")?);
         };
         let Some(log) = &mut self.log else {

@@ -5,26 +5,18 @@ use ft_io::NoMemory;
 use kept_log::{KeptLog, OpenEnd};
 use logger_store::{EntryHead, LogStore};
 use std::alloc::Global;
+use test_data::hashed;
 
 /// Up to how many bytes are printed in full.
 const SHOWN: usize = 256;
 
-/// 31 times the number before, and the byte, for each byte; modulo 2^32.
-fn number_of(bytes: &[u8]) -> u32 {
-    let mut number = 0u32;
-    for byte in bytes {
-        number = number.wrapping_mul(31).wrapping_add(u32::from(*byte));
-    }
-    number
-}
-
-/// Bytes in hexadecimal, or how many they are and a number that follows from them all.
+/// Bytes in hexadecimal, or how many they are and their hash.
 pub(crate) fn bytes_text(alloc: Global, bytes: &[u8]) -> Result<String, NoMemory> {
     if bytes.len() <= SHOWN {
         return Ok(hex::encode(alloc, bytes)?);
     }
-    let (len, number) = (bytes.len(), number_of(bytes));
-    Ok(format!(in alloc; "{len} bytes {number}")?)
+    let (len, hash) = (bytes.len(), hashed(0, bytes));
+    Ok(format!(in alloc; "{len} bytes {hash}")?)
 }
 
 /// A call that changes a file, after a semicolon.

@@ -13,7 +13,6 @@
 #![tactic(auto)]
 
 use ft_io::NoMemory;
-use hex::FromHexError;
 use logger_store::{MsgOut, TrimStore};
 use logger_wire::read_msg;
 use mark_store::MarkStore;
@@ -22,6 +21,7 @@ use random::give_random;
 use readers::{byte_at, entry_at, kept_at, length_at};
 use std::alloc::Global;
 use std::io;
+use test_data::{bytes_of_hex, word_of_bytes};
 use trimming::trim_at;
 
 mod marking;
@@ -59,19 +59,13 @@ fn give(
 
 /// The log's answer to a datagram in hexadecimal, as a line.
 fn answer_to(alloc: Global, log: &mut TrimStore, text: &str) -> Result<String, NoMemory> {
-    let datagram = match hex::decode(alloc, text) {
-        Ok(datagram) => datagram,
-        Err(FromHexError::OutOfMemory) => return Err(NoMemory),
-        Err(_) => return Ok(format!(in alloc; "no datagram")?),
+    let Some(datagram) = bytes_of_hex(alloc, text)? else {
+        return Ok(format!(in alloc; "no datagram")?);
     };
     let mut out = MsgOut::new();
-    match give(alloc, log, datagram.as_slice(), &mut out)? {
-        Given::Answered => {
-            let answer = hex::encode(alloc, out.bytes())?;
-            Ok(format!(in alloc; "out {answer}")?)
-        }
-        Given::Refused | Given::Silent => Ok(format!(in alloc; "out -")?),
-    }
+    give(alloc, log, datagram.as_slice(), &mut out)?;
+    let answer = word_of_bytes(alloc, out.bytes())?;
+    Ok(format!(in alloc; "out {answer}")?)
 }
 
 /// The logs of a script: one that is trimmed by lines, and one with marks.

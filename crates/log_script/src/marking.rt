@@ -2,10 +2,10 @@
 
 use checkpoint::{MarkBody, MarkMsg, write_mark};
 use ft_io::{Key, NoMemory};
-use hex::FromHexError;
 use logger_store::MsgOut;
 use mark_store::MarkStore;
 use std::alloc::Global;
+use test_data::{bytes_of_word, word_of_bytes};
 
 /// The most that a length and the output may be, in bytes.
 const STREAM: u32 = 1 << 24;
@@ -13,26 +13,11 @@ const STREAM: u32 = 1 << 24;
 /// The longest state, in bytes.
 const STATE: usize = 1_100;
 
-/// The bytes that a text in hexadecimal means; `-` means none.
-fn bytes_of(alloc: Global, text: &str) -> Result<Option<Vec<u8>>, NoMemory> {
-    if text == "-" {
-        return Ok(Some(Vec::new(alloc)));
-    }
-    match hex::decode(alloc, text) {
-        Ok(bytes) => Ok(Some(bytes)),
-        Err(FromHexError::OutOfMemory) => Err(NoMemory),
-        Err(_) => Ok(None),
-    }
-}
-
 /// Gives bytes to the log, and answers what it answers, as a line.
 fn answer_to(alloc: Global, log: &mut MarkStore, bytes: &[u8]) -> Result<String, NoMemory> {
     let mut out = MsgOut::new();
     log.answer(alloc, bytes, &mut out)?;
-    if out.bytes().is_empty() {
-        return Ok(format!(in alloc; "out -")?);
-    }
-    let answer = hex::encode(alloc, out.bytes())?;
+    let answer = word_of_bytes(alloc, out.bytes())?;
     Ok(format!(in alloc; "out {answer}")?)
 }
 
@@ -42,7 +27,7 @@ pub(crate) fn give_bytes(
     log: &mut MarkStore,
     text: &str,
 ) -> Result<String, NoMemory> {
-    match bytes_of(alloc, text)? {
+    match bytes_of_word(alloc, text)? {
         Some(bytes) => answer_to(alloc, log, bytes.as_slice()),
         None => Ok(format!(in alloc; "no datagram")?),
     }
@@ -120,7 +105,7 @@ pub(crate) fn mark_line(
     let words: Vec<&str> = text.split(' ').collect(alloc)?;
     if let [numbers @ .., state] = words.as_slice()
         && let Some(numbers) = numbers_of(numbers)
-        && let Some(state) = bytes_of(alloc, state)?
+        && let Some(state) = bytes_of_word(alloc, state)?
     {
         return give_mark(alloc, log, &numbers, state.as_slice());
     }

@@ -6,8 +6,9 @@ ghost use Rattle.std.specs.Prelude.{◌≡◌, ◌<◌, ◌≤◌, length};
 use crate::{Given, give};
 use ft_io::NoMemory;
 use logger_store::{MsgOut, TrimStore};
-use seq_arith::{Generator, Sum16};
+use seq_arith::Sum16;
 use std::alloc::Global;
+use test_data::{Draws, hashed};
 
 /// How long a message of each kind is, in bytes, from the first kind on: Part and Lens with one byte or length.
 const LENGTHS: [u8; 18] = [
@@ -20,7 +21,7 @@ struct Tally {
     refused: u32,
     answered: u32,
     silent: u32,
-    /// 31 times the number before, and the byte, for each byte of each answer; modulo 2^32.
+    /// The hash of all answers.
     answers: u32,
 }
 
@@ -32,50 +33,34 @@ impl Tally {
             Given::Answered => self.answered = self.answered.wrapping_add(1),
         }
         if given == Given::Answered {
-            for byte in answer {
-                self.answers = self.answers.wrapping_mul(31).wrapping_add(u32::from(*byte));
-            }
+            self.answers = hashed(self.answers, answer);
         }
     }
 }
 
-/// A number below a bound.
-fn below(generator: &mut Generator, bound: u32) -> u32
-    requires { 0 < bound }
-    ensures { result < bound }
-{
-    generator.draw() % bound
-}
-
 /// Any bytes, at most 100, at the beginning of `bytes`; returns how many.
-fn any_bytes(generator: &mut Generator, bytes: &mut [u8; 128]) -> usize
+fn any_bytes(draws: &mut Draws, bytes: &mut [u8; 128]) -> usize
     ensures { result ≤ 100 }
 {
-    let len = below(generator, 101) as usize;
-    for byte in bytes[..len].iter_mut() {
-        *byte = below(generator, 256) as u8;
-    }
+    let len = draws.below(101) as usize;
+    draws.fill(&mut bytes[..len]);
     len
 }
 
 /// A message of a kind from 1 to 18, most of whose numbers are small, at the beginning of `bytes`; returns its length. A Data has up to 69 bytes.
-fn any_message(generator: &mut Generator, boot: u8, bytes: &mut [u8; 128]) -> usize
+fn any_message(draws: &mut Draws, boot: u8, bytes: &mut [u8; 128]) -> usize
     ensures { result ≤ 100 }
 {
-    let kind = below(generator, 18) as usize;
+    let kind = draws.below(18) as usize;
     let more = if kind == 10 {
-        below(generator, 70) as usize
+        draws.below(70) as usize
     } else {
         0
     };
     let len = (usize::from(LENGTHS[kind]) + more).min(100);
-    let other = below(generator, 16);
+    let other = draws.below(16);
     for byte in bytes[..len].iter_mut() {
-        *byte = if below(generator, 4) == 0 {
-            below(generator, 256) as u8
-        } else {
-            0
-        };
+        *byte = if draws.below(4) == 0 { draws.byte() } else { 0 };
     }
     bytes[..16].copy_from_slice(&[
         0x46,
@@ -109,7 +94,7 @@ fn any_message(generator: &mut Generator, boot: u8, bytes: &mut [u8; 128]) -> us
 
 /// Gives the log so many datagrams from a seed. The boot number of messages grows by one every 2,000 datagrams.
 fn give_all(alloc: Global, log: &mut TrimStore, count: u32, seed: u64) -> Result<Tally, NoMemory> {
-    let mut generator = Generator::new(seed);
+    let mut draws = Draws::new(seed);
     let mut tally = Tally {
         refused: 0,
         answered: 0,
@@ -120,10 +105,10 @@ fn give_all(alloc: Global, log: &mut TrimStore, count: u32, seed: u64) -> Result
     let mut out = MsgOut::new();
     for i in 0..count {
         let boot = (i / 2_000 % 100) as u8 + 1;
-        let len = if below(&mut generator, 2) == 0 {
-            any_bytes(&mut generator, &mut bytes)
+        let len = if draws.below(2) == 0 {
+            any_bytes(&mut draws, &mut bytes)
         } else {
-            any_message(&mut generator, boot, &mut bytes)
+            any_message(&mut draws, boot, &mut bytes)
         };
         let given = give(alloc, log, &bytes[..len], &mut out)?;
         tally.count(given, out.bytes());

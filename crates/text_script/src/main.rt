@@ -10,7 +10,6 @@
 #![tactic(auto)]
 
 use ft_io::{NoMemory, WriteSink, write_all};
-use hex::FromHexError;
 use percent_encoding::percent_decode;
 use schedule_text::{
     Schedule, ScheduleEnd, Script, Way, is_packet, read_schedule, read_script, write_event,
@@ -18,6 +17,7 @@ use schedule_text::{
 };
 use std::alloc::Global;
 use std::io;
+use test_data::{bytes_of_hex, push_line};
 
 const HEAD: &[u8] = b"service echo\nserver 192.0.2.100:7\n";
 
@@ -39,20 +39,13 @@ fn main(rt: HostRuntime) -> io::Result<()> {
 fn play(alloc: Global, line: &str, out: &mut Vec<u8>) -> Result<(), NoMemory> {
     let (word, rest) = line.split_once(' ').unwrap_or((line, ""));
     match word.as_bytes() {
-        b"#" => say(line, out),
+        b"#" => push_line(line, out),
         b"read" => read(alloc, rest, out),
         b"many" => read_many(alloc, rest, out),
         b"script" => say_script(alloc, rest, out),
         b"packet" => say_packet(alloc, rest, out),
-        _ => say("no such line", out),
+        _ => push_line("no such line", out),
     }
-}
-
-/// Appends a line.
-fn say(line: &str, out: &mut Vec<u8>) -> Result<(), NoMemory> {
-    out.extend_from_slice(line.as_bytes())?;
-    out.push(b'\n')?;
-    Ok(())
 }
 
 /// Reads a schedule, and says what it spells.
@@ -80,11 +73,11 @@ fn say_end(alloc: Global, end: ScheduleEnd, out: &mut Vec<u8>) -> Result<(), NoM
         ScheduleEnd::NoMemory => Err(NoMemory),
         ScheduleEnd::BadLine { line, why } => {
             let text = format!(in alloc; "line {line}: {why:?}")?;
-            say(text.as_str(), out)
+            push_line(text.as_str(), out)
         }
         ScheduleEnd::TooLong { what } => {
             let text = format!(in alloc; "too long: {what:?}")?;
-            say(text.as_str(), out)
+            push_line(text.as_str(), out)
         }
     }
 }
@@ -93,14 +86,14 @@ fn say_end(alloc: Global, end: ScheduleEnd, out: &mut Vec<u8>) -> Result<(), NoM
 fn read_many(alloc: Global, rest: &str, out: &mut Vec<u8>) -> Result<(), NoMemory> {
     let (count, line) = rest.split_once(' ').unwrap_or((rest, ""));
     let Ok(count) = count.parse::<u32>() else {
-        return say("no count", out);
+        return push_line("no count", out);
     };
     let text = many(alloc, count, line.as_bytes())?;
     match read_schedule(alloc, text.as_slice()) {
         Ok(schedule) => {
             let count = schedule.events.as_slice().len();
             let said = format!(in alloc; "{count} events")?;
-            say(said.as_str(), out)
+            push_line(said.as_str(), out)
         }
         Err(end) => say_end(alloc, end, out),
     }
@@ -121,13 +114,13 @@ fn say_script(alloc: Global, word: &str, out: &mut Vec<u8>) -> Result<(), NoMemo
     match read_script(alloc, word.as_bytes())? {
         Some(Script::Bytes(bytes)) => {
             let text = hex::encode(alloc, bytes.as_slice())?;
-            say(text.as_str(), out)
+            push_line(text.as_str(), out)
         }
         Some(Script::Fill { len }) => {
             let text = format!(in alloc; "{len} letters")?;
-            say(text.as_str(), out)
+            push_line(text.as_str(), out)
         }
-        None => say("no script", out),
+        None => push_line("no script", out),
     }
 }
 
@@ -142,11 +135,10 @@ fn say_packet(alloc: Global, rest: &str, out: &mut Vec<u8>) -> Result<(), NoMemo
         b"back" => Way::TailToHead,
         _ => Way::LoggerToServer,
     };
-    match hex::decode(alloc, text) {
-        Ok(bytes) if is_packet(way, bytes.as_slice()) => {
+    match bytes_of_hex(alloc, text)? {
+        Some(bytes) if is_packet(way, bytes.as_slice()) => {
             write_packet_line(alloc, 7, way, bytes.as_slice(), out)
         }
-        Err(FromHexError::OutOfMemory) => Err(NoMemory),
-        _ => say("no packet", out),
+        _ => push_line("no packet", out),
     }
 }

@@ -3,16 +3,8 @@
 ghost use Rattle.std.specs.Prelude.{◌<◌};
 
 use ft_io::NoMemory;
-use seq_arith::Generator;
 use std::alloc::Global;
-
-/// A number below a bound.
-pub(crate) fn below(generator: &mut Generator, bound: u32) -> u32
-    requires { 0 < bound }
-    ensures { result < bound }
-{
-    generator.draw() % bound
-}
+use test_data::Draws;
 
 /// The pieces of each part of a request.
 #[derive(Drop)]
@@ -57,29 +49,25 @@ impl Parts {
 /// Draws what a client says on a connection: one to five requests, of which one in eight is damaged at one place.
 pub(crate) fn draw_connection(
     alloc: Global,
-    generator: &mut Generator,
+    draws: &mut Draws,
     parts: &Parts,
 ) -> Result<Vec<u8>, NoMemory> {
     let mut text = Vec::new(alloc);
-    for _ in 0..1 + below(generator, 5) {
-        draw_request(generator, parts, &mut text)?;
+    for _ in 0..1 + draws.below(5) {
+        draw_request(draws, parts, &mut text)?;
     }
-    if below(generator, 8) == 0 {
-        return damaged(alloc, generator, text.as_slice());
+    if draws.below(8) == 0 {
+        return damaged(alloc, draws, text.as_slice());
     }
     Ok(text)
 }
 
 /// Appends a request: a piece of each part.
-fn draw_request(
-    generator: &mut Generator,
-    parts: &Parts,
-    text: &mut Vec<u8>,
-) -> Result<(), NoMemory> {
+fn draw_request(draws: &mut Draws, parts: &Parts, text: &mut Vec<u8>) -> Result<(), NoMemory> {
     for part in &parts.parts {
         let count = part.len().min(10_000) as u32;
         if count > 0 {
-            if let Some(piece) = part.get(below(generator, count) as usize) {
+            if let Some(piece) = part.get(draws.below(count) as usize) {
                 text.extend_from_slice(piece)?;
             }
         }
@@ -88,10 +76,10 @@ fn draw_request(
 }
 
 /// A text that lacks a byte at some place, or has another there, or one more, or a line end.
-fn damaged(alloc: Global, generator: &mut Generator, text: &[u8]) -> Result<Vec<u8>, NoMemory> {
-    let at = below(generator, text.len().min(100_000) as u32 + 1) as usize;
-    let kind = below(generator, 4);
-    let byte = below(generator, 256) as u8;
+fn damaged(alloc: Global, draws: &mut Draws, text: &[u8]) -> Result<Vec<u8>, NoMemory> {
+    let at = draws.below(text.len().min(100_000) as u32 + 1) as usize;
+    let kind = draws.below(4);
+    let byte = draws.byte();
     let (front, back) = text.split_at(at.min(text.len()));
     let mut changed = front.to_vec(alloc)?;
     if kind == 3 {

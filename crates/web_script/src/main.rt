@@ -13,10 +13,10 @@ use drawn::{Parts, draw_connection};
 use ft_io::{NoMemory, WriteSink, write_all};
 use md5::{Digest, Md5};
 use percent_encoding::percent_decode;
-use seq_arith::Generator;
 use server_trait::{CHUNK_LIMIT, Next, Service};
 use std::alloc::Global;
 use std::io;
+use test_data::{Draws, push_line};
 use web_service::Web;
 
 mod drawn;
@@ -40,20 +40,13 @@ fn main(rt: HostRuntime) -> io::Result<()> {
 fn play(alloc: Global, line: &str, parts: &mut Parts, out: &mut Vec<u8>) -> Result<(), NoMemory> {
     let (word, rest) = line.split_once(' ').unwrap_or((line, ""));
     match word.as_bytes() {
-        b"#" => say(line, out),
+        b"#" => push_line(line, out),
         b"part" => parts.begin(number(rest)),
         b"piece" => add_piece(alloc, rest, parts),
         b"say" => say_one(alloc, rest, out),
         b"random" => play_random(alloc, rest, parts, out),
-        _ => say("no such line", out),
+        _ => push_line("no such line", out),
     }
-}
-
-/// Appends a line.
-fn say(line: &str, out: &mut Vec<u8>) -> Result<(), NoMemory> {
-    out.extend_from_slice(line.as_bytes())?;
-    out.push(b'\n')?;
-    Ok(())
 }
 
 /// A number, or 0 where there is none.
@@ -111,7 +104,7 @@ impl Tally {
         let line = format!(in alloc;
             "{answers} answers, {bytes} bytes, {closed} closed, {digest}"
         )?;
-        say(line.as_str(), out)
+        push_line(line.as_str(), out)
     }
 }
 
@@ -152,11 +145,11 @@ fn play_random(
     out: &mut Vec<u8>,
 ) -> Result<(), NoMemory> {
     let (count, seed) = words.split_once(' ').unwrap_or((words, "0"));
-    let mut generator = Generator::new(u64::from(number(seed)));
+    let mut draws = Draws::new(u64::from(number(seed)));
     let mut tally = Tally::new();
     for _ in 0..number(count) {
-        let text = draw_connection(alloc, &mut generator, parts)?;
-        play_cut(alloc, &mut generator, text.as_slice(), &mut tally)?;
+        let text = draw_connection(alloc, &mut draws, parts)?;
+        play_cut(alloc, &mut draws, text.as_slice(), &mut tally)?;
     }
     tally.say(alloc, out)
 }
@@ -167,12 +160,12 @@ const LONGEST: [u32; 8] = [1, 5, 20, 100, 500, 2_048, 2_048, 2_048];
 /// Plays a connection in chunks that are drawn, some of them with the end of input.
 fn play_cut(
     alloc: Global,
-    generator: &mut Generator,
+    draws: &mut Draws,
     text: &[u8],
     tally: &mut Tally,
 ) -> Result<(), NoMemory> {
-    let longest = LONGEST[drawn::below(generator, 8) as usize];
-    let ends = drawn::below(generator, 8) == 0;
+    let longest = LONGEST[draws.below(8) as usize];
+    let ends = draws.below(8) == 0;
     let mut web = Web::fresh(alloc, 0);
     let mut rest = text;
     for at in 0..u32::MAX {
@@ -182,7 +175,7 @@ fn play_cut(
             }
             return Ok(());
         }
-        let size = 1 + drawn::below(generator, longest.max(1)) as usize;
+        let size = 1 + draws.below(longest.max(1)) as usize;
         let (chunk, more) = rest.split_at(size.min(rest.len()));
         if take(alloc, &mut web, at, chunk, tally)? == Next::Close {
             return Ok(());
