@@ -1,5 +1,5 @@
 -- An answer leads a restart as the law Restart says, and what is asked is the law's question.
-use Rattle.std.proofs.Common.{◌≡◌, ℕ, ◌+◌, ◌==◌, ◌&&◌, ◌||◌, not, ◌∙◌, Bool, true, false, true≢false, is_none, nat_lt, nat_le, Option, Some, None, MatchOption, List, [], ◌∷◌, ◌++◌, length, find, option_map, refl, ap, sym, subst, arith, eqb-true, if◌then◌else◌}
+use Rattle.std.proofs.Common.{◌≡◌, ℕ, ◌+◌, ◌==◌, ◌&&◌, ◌||◌, not, ◌∙◌, Bool, true, false, true≢false, is_none, nat_lt, nat_le, Option, Some, None, List, [], ◌∷◌, ◌++◌, length, find, option_map, refl, ap, sym, subst, arith, eqb-true, if◌then◌else◌}
 use Rattle.std.proofs.lemmas.Bool.{and_parts}
 use Rattle.ft_io.specs.declared.Key.{Key}
 use Rattle.ft_io.specs.Key.{key_eq}
@@ -12,10 +12,11 @@ use Rattle.ft_model.proofs.Lists.{none_is_some}
 use Rattle.reincarnate.specs.declared.cuts.Cuts.{Cuts}
 use Rattle.reincarnate.specs.declared.lack.Lack.{Lack}
 use Rattle.reincarnate.specs.declared.lack.Lack.TheVariants as lack
+use Rattle.reincarnate.specs.declared.marks.Marks.{Marks}
 use Rattle.reincarnate.specs.ReadLengths.{cuts_of, cuts_through}
 use Rattle.reincarnate.specs.Progress.{EntryState, lacks, asked_for, asks_bytes, asks_lengths, with_bytes, with_lengths, cuts_with}
 use Rattle.reincarnate.specs.Questions.{FetchingState, entries_of, asked_of, asked, or_else, entry_known, head_fits, with_head, with_newest, part_on, lens_on, answered, after_answer}
-use Rattle.reincarnate.specs.Refinement.{StandsFor, StandFor, StandsFetching, AreWhole, AnswerLeads, fetched_then}
+use Rattle.reincarnate.specs.Refinement.{StandsFor, StandFor, StandsFetching, AreWhole, fetched_then}
 use Rattle.reincarnate.proofs.EntryLaw.{lack_of, lacks_is, wanted_when, wanted_is, nothing_lacks, head_stands, bytes_stand, lengths_stand, cuts_are, follow_within}
 
 -- what the law makes of an answer, and what the code does
@@ -38,7 +39,7 @@ mapped_choice : {S : Type 0} (f : EntryState S → FetchingState S) (b : Bool) (
 mapped_choice f true e = refl
 mapped_choice f false e = refl
 
-cons_is_not_nil : {A : Type 0} (x : A) (xs : List A) → (x ∷ xs) ≡ [] → ⊥
+pub cons_is_not_nil : {A : Type 0} (x : A) (xs : List A) → (x ∷ xs) ≡ [] → ⊥
 cons_is_not_nil x xs e = let size : length (x ∷ xs) ≡ 0 = ap length e in absurd (omega (arith, size))
 
 as_many : {S : Type 0} (service : Machine S) (fetched : List Fetched) (entries : List (EntryState S)) → StandFor service fetched entries → length entries ≡ length fetched
@@ -201,85 +202,76 @@ lens_lead service s e f earlier key first lens st rest whole is =
     record { entries = (lengths_stand service f e lens all st (grind (arith, within)) enough refl, rest); newest = λ q. none_is_some _ (sym q); whole = whole }))
 
 -- by what is missing of the newest entry
-by_lack : {S : Type 0} (started : ℕ → S) (after : S → List ℕ → Served S) (boot kind count : ℕ) (e : EntryState S) (before : List (EntryState S)) (f : Fetched) (earlier : List Fetched)
+by_lack : {S : Type 0} (started : ℕ → S) (after : S → List ℕ → Served S) (boot kind count : ℕ) (marks : Marks) (e : EntryState S) (before : List (EntryState S)) (f : Fetched) (earlier : List Fetched)
     → StandsFor (machine (started kind) after) f e → StandFor (machine (started kind) after) earlier before → AreWhole earlier → (l : Lack) → lacks e ≡ l → lack_of f ≡ l → (body : Body)
     → Leads (machine (started kind) after) (fetched_after (wanted_when l count f earlier) body (f ∷ earlier))
-    (answered started after (record { boot = boot; kind = kind; count = count; newest = Some e; earlier = before }) body)
-by_lack started after boot kind count e before f earlier st rest whole lack.Bytes is law (EntryMsg index head) =
-    let s : FetchingState _ = record { boot = boot; kind = kind; count = count; newest = Some e; earlier = before } in
+    (answered started after (record { boot = boot; kind = kind; count = count; marks = marks; newest = Some e; earlier = before }) body)
+by_lack started after boot kind count marks e before f earlier st rest whole lack.Bytes is law (EntryMsg index head) =
+    let s : FetchingState _ = record { boot = boot; kind = kind; count = count; marks = marks; newest = Some e; earlier = before } in
     unled (machine (started kind) after) (head_fits index head.key s) (with_head (started kind) head s) (head_unfit s e index head.key refl (ap (λ l. is_none (asked_for l e)) is))
-by_lack started after boot kind count e before f earlier st rest whole lack.Bytes is law (PartMsg key offset bytes) =
-    part_leads (machine (started kind) after) (record { boot = boot; kind = kind; count = count; newest = Some e; earlier = before }) e f earlier key offset bytes st rest whole is
-by_lack started after boot kind count e before f earlier st rest whole lack.Bytes is law (LensMsg key first lens) =
-    let s : FetchingState _ = record { boot = boot; kind = kind; count = count; newest = Some e; earlier = before } in
+by_lack started after boot kind count marks e before f earlier st rest whole lack.Bytes is law (PartMsg key offset bytes) =
+    part_leads (machine (started kind) after) (record { boot = boot; kind = kind; count = count; marks = marks; newest = Some e; earlier = before }) e f earlier key offset bytes st rest whole is
+by_lack started after boot kind count marks e before f earlier st rest whole lack.Bytes is law (LensMsg key first lens) =
+    let s : FetchingState _ = record { boot = boot; kind = kind; count = count; marks = marks; newest = Some e; earlier = before } in
     subst (Leads (machine (started kind) after) None) (sym (lens_unfit (with_newest s) (λ c. with_lengths after c lens e) e key first lens (ap asks_lengths is))) tt
-by_lack started after boot kind count e before f earlier st rest whole lack.Bytes is law _ = tt
-by_lack started after boot kind count e before f earlier st rest whole lack.Lengths is law (EntryMsg index head) =
-    let s : FetchingState _ = record { boot = boot; kind = kind; count = count; newest = Some e; earlier = before } in
+by_lack started after boot kind count marks e before f earlier st rest whole lack.Bytes is law _ = tt
+by_lack started after boot kind count marks e before f earlier st rest whole lack.Lengths is law (EntryMsg index head) =
+    let s : FetchingState _ = record { boot = boot; kind = kind; count = count; marks = marks; newest = Some e; earlier = before } in
     unled (machine (started kind) after) (head_fits index head.key s) (with_head (started kind) head s) (head_unfit s e index head.key refl (ap (λ l. is_none (asked_for l e)) is))
-by_lack started after boot kind count e before f earlier st rest whole lack.Lengths is law (PartMsg key offset bytes) =
-    let s : FetchingState _ = record { boot = boot; kind = kind; count = count; newest = Some e; earlier = before } in
+by_lack started after boot kind count marks e before f earlier st rest whole lack.Lengths is law (PartMsg key offset bytes) =
+    let s : FetchingState _ = record { boot = boot; kind = kind; count = count; marks = marks; newest = Some e; earlier = before } in
     subst (Leads (machine (started kind) after) None) (sym (part_unfit (with_newest s) e (with_bytes after bytes e) key offset (length bytes) (ap asks_bytes is))) tt
-by_lack started after boot kind count e before f earlier st rest whole lack.Lengths is law (LensMsg key first lens) =
-    lens_lead (machine (started kind) after) (record { boot = boot; kind = kind; count = count; newest = Some e; earlier = before }) e f earlier key first lens st rest whole is
-by_lack started after boot kind count e before f earlier st rest whole lack.Lengths is law _ = tt
-by_lack started after boot kind count e before f earlier st rest whole lack.Nothing is law (EntryMsg index head) =
-    heads_lead (machine (started kind) after) (record { boot = boot; kind = kind; count = count; newest = Some e; earlier = before }) (f ∷ earlier) index head (st, rest) (nothing_lacks f law, whole)
+by_lack started after boot kind count marks e before f earlier st rest whole lack.Lengths is law (LensMsg key first lens) =
+    lens_lead (machine (started kind) after) (record { boot = boot; kind = kind; count = count; marks = marks; newest = Some e; earlier = before }) e f earlier key first lens st rest whole is
+by_lack started after boot kind count marks e before f earlier st rest whole lack.Lengths is law _ = tt
+by_lack started after boot kind count marks e before f earlier st rest whole lack.Nothing is law (EntryMsg index head) =
+    heads_lead (machine (started kind) after) (record { boot = boot; kind = kind; count = count; marks = marks; newest = Some e; earlier = before }) (f ∷ earlier) index head (st, rest) (nothing_lacks f law, whole)
     (ap (λ l. asked_for l e) is)
-by_lack started after boot kind count e before f earlier st rest whole lack.Nothing is law (PartMsg key offset bytes) =
-    let s : FetchingState _ = record { boot = boot; kind = kind; count = count; newest = Some e; earlier = before } in
+by_lack started after boot kind count marks e before f earlier st rest whole lack.Nothing is law (PartMsg key offset bytes) =
+    let s : FetchingState _ = record { boot = boot; kind = kind; count = count; marks = marks; newest = Some e; earlier = before } in
     subst (Leads (machine (started kind) after) (fetched_after (next_entry count (length (f ∷ earlier))) (PartMsg key offset bytes) (f ∷ earlier)))
     (sym (part_unfit (with_newest s) e (with_bytes after bytes e) key offset (length bytes) (ap asks_bytes is)))
     (no_head (machine (started kind) after) (nat_lt (length (f ∷ earlier)) count) (length (f ∷ earlier)) (PartMsg key offset bytes) (f ∷ earlier) refl)
-by_lack started after boot kind count e before f earlier st rest whole lack.Nothing is law (LensMsg key first lens) =
-    let s : FetchingState _ = record { boot = boot; kind = kind; count = count; newest = Some e; earlier = before } in
+by_lack started after boot kind count marks e before f earlier st rest whole lack.Nothing is law (LensMsg key first lens) =
+    let s : FetchingState _ = record { boot = boot; kind = kind; count = count; marks = marks; newest = Some e; earlier = before } in
     subst (Leads (machine (started kind) after) (fetched_after (next_entry count (length (f ∷ earlier))) (LensMsg key first lens) (f ∷ earlier)))
     (sym (lens_unfit (with_newest s) (λ c. with_lengths after c lens e) e key first lens (ap asks_lengths is)))
     (no_head (machine (started kind) after) (nat_lt (length (f ∷ earlier)) count) (length (f ∷ earlier)) (LensMsg key first lens) (f ∷ earlier) refl)
-by_lack started after boot kind count e before f earlier st rest whole lack.Nothing is law body =
+by_lack started after boot kind count marks e before f earlier st rest whole lack.Nothing is law body =
     no_head (machine (started kind) after) (nat_lt (length (f ∷ earlier)) count) (length (f ∷ earlier)) body (f ∷ earlier) refl
 
 -- before the first entry has come
-first_leads : {S : Type 0} (started : ℕ → S) (after : S → List ℕ → Served S) (boot kind count : ℕ) (body : Body)
-    → Leads (machine (started kind) after) (fetched_after (next_entry count 0) body []) (answered started after (record { boot = boot; kind = kind; count = count; newest = None; earlier = [] }) body)
-first_leads started after boot kind count (EntryMsg index head) =
-    heads_lead (machine (started kind) after) (record { boot = boot; kind = kind; count = count; newest = None; earlier = [] }) [] index head tt tt refl
-first_leads started after boot kind count body = no_head (machine (started kind) after) (nat_lt 0 count) 0 body [] refl
+first_leads : {S : Type 0} (started : ℕ → S) (after : S → List ℕ → Served S) (boot kind count : ℕ) (marks : Marks) (body : Body)
+    → Leads (machine (started kind) after) (fetched_after (next_entry count 0) body []) (answered started after (record { boot = boot; kind = kind; count = count; marks = marks; newest = None; earlier = [] }) body)
+first_leads started after boot kind count marks (EntryMsg index head) =
+    heads_lead (machine (started kind) after) (record { boot = boot; kind = kind; count = count; marks = marks; newest = None; earlier = [] }) [] index head tt tt refl
+first_leads started after boot kind count marks body = no_head (machine (started kind) after) (nat_lt 0 count) 0 body [] refl
 
-by_newest : {S : Type 0} (started : ℕ → S) (after : S → List ℕ → Served S) (boot kind count : ℕ) (newest : Option (EntryState S)) (before : List (EntryState S)) (fetched : List Fetched) (body : Body)
-    → StandsFetching (machine (started kind) after) fetched (record { boot = boot; kind = kind; count = count; newest = newest; earlier = before })
-    → Leads (machine (started kind) after) (fetched_after (wanted count fetched) body fetched) (answered started after (record { boot = boot; kind = kind; count = count; newest = newest; earlier = before }) body)
-by_newest started after boot kind count None [] [] body st = first_leads started after boot kind count body
-by_newest started after boot kind count None [] (f ∷ fetched) body st = absurd st.entries
-by_newest started after boot kind count None (e ∷ before) fetched body st = absurd (cons_is_not_nil e before (st.newest refl))
-by_newest started after boot kind count (Some e) before [] body st = absurd st.entries
-by_newest started after boot kind count (Some e) before (f ∷ earlier) body st =
+by_newest : {S : Type 0} (started : ℕ → S) (after : S → List ℕ → Served S) (boot kind count : ℕ) (marks : Marks) (newest : Option (EntryState S)) (before : List (EntryState S)) (fetched : List Fetched) (body : Body)
+    → StandsFetching (machine (started kind) after) fetched (record { boot = boot; kind = kind; count = count; marks = marks; newest = newest; earlier = before })
+    → Leads (machine (started kind) after) (fetched_after (wanted count fetched) body fetched) (answered started after (record { boot = boot; kind = kind; count = count; marks = marks; newest = newest; earlier = before }) body)
+by_newest started after boot kind count marks None [] [] body st = first_leads started after boot kind count marks body
+by_newest started after boot kind count marks None [] (f ∷ fetched) body st = absurd st.entries
+by_newest started after boot kind count marks None (e ∷ before) fetched body st = absurd (cons_is_not_nil e before (st.newest refl))
+by_newest started after boot kind count marks (Some e) before [] body st = absurd st.entries
+by_newest started after boot kind count marks (Some e) before (f ∷ earlier) body st =
     let service : Machine _ = machine (started kind) after in
-    let s : FetchingState _ = record { boot = boot; kind = kind; count = count; newest = Some e; earlier = before } in
+    let s : FetchingState _ = record { boot = boot; kind = kind; count = count; marks = marks; newest = Some e; earlier = before } in
     let same : lacks e ≡ lack_of f = lacks_is service f e st.entries.0 in
     subst (λ w. Leads service (fetched_after w body (f ∷ earlier)) (answered started after s body)) (sym (wanted_is count f earlier))
-    (by_lack started after boot kind count e before f earlier st.entries.0 st.entries.1 st.whole (lack_of f) same refl body)
+    (by_lack started after boot kind count marks e before f earlier st.entries.0 st.entries.1 st.whole (lack_of f) same refl body)
 
 by_boot : {S : Type 0} (service : Machine S) (c : Bool) (told : Option (List Fetched)) (now : Option (FetchingState S)) → Leads service told now
     → Leads service (if c then told else None) (if c then now else None)
 by_boot service true told now l = l
 by_boot service false told now l = tt
 
-done_so : {S : Type 0} (service : Machine S) (told : Option (List Fetched)) (now : Option (FetchingState S)) (fits : Bool) (old new : FetchingState S) → Leads service told now
-    → MatchOption now ((fits ≡ false) × (new ≡ old)) (λ s. (fits ≡ true) × (new ≡ s)) → AnswerLeads service told fits old new
-done_so service None None fits old new l m = m
-done_so service None (Some s) fits old new l m = absurd l
-done_so service (Some more) None fits old new l m = absurd l
-done_so service (Some more) (Some s) fits old new l m = (m.0, subst (StandsFetching service more) (sym m.1) l)
-
--- the whole law of an answer
-pub answers_lead : {S : Type 0} (started : ℕ → S) (after : S → List ℕ → Served S) (s : FetchingState S) (fetched : List Fetched) (message : Message) (fits : Bool) (new : FetchingState S)
-    → StandsFetching (machine (started s.kind) after) fetched s → MatchOption (after_answer started after message s) ((fits ≡ false) × (new ≡ s)) (λ x. (fits ≡ true) × (new ≡ x))
-    → AnswerLeads (machine (started s.kind) after) (fetched_then s.boot s.count message fetched) fits s new
-answers_lead started after s fetched message fits new st m =
-    done_so (machine (started s.kind) after) (fetched_then s.boot s.count message fetched) (after_answer started after message s) fits s new
-    (by_boot (machine (started s.kind) after) (message.boot == s.boot) (fetched_after (wanted s.count fetched) message.body fetched) (answered started after s message.body)
-    (by_newest started after s.boot s.kind s.count s.newest s.earlier fetched message.body st)) m
+-- the law of an answer, where no mark is awaited
+pub log_leads : {S : Type 0} (started : ℕ → S) (after : S → List ℕ → Served S) (s : FetchingState S) (fetched : List Fetched) (message : Message)
+    → StandsFetching (machine (started s.kind) after) fetched s → Leads (machine (started s.kind) after) (fetched_then s.boot s.count message fetched) (after_answer started after message s)
+log_leads started after s fetched message st =
+    by_boot (machine (started s.kind) after) (message.boot == s.boot) (fetched_after (wanted s.count fetched) message.body fetched) (answered started after s message.body)
+    (by_newest started after s.boot s.kind s.count s.marks s.newest s.earlier fetched message.body st)
 
 entry_asked : (b : Bool) (n : ℕ) → (if b then Some (ListMsg n) else None) ≡ option_map question (if b then Some (An_entry n) else None)
 entry_asked true n = refl
@@ -291,14 +283,14 @@ asked_by service e f earlier count n st size lack.Bytes = λ j. Some (BytesMsg (
 asked_by service e f earlier count n st size lack.Lengths = λ j. Some (CutsMsg (st.head j).key (st.cuts j).count)
 asked_by service e f earlier count n st size lack.Nothing = entry_asked (nat_lt n count) n ∙ ap (λ k. option_map question (next_entry count k)) size
 
-asked_when : {S : Type 0} (service : Machine S) (boot kind count : ℕ) (newest : Option (EntryState S)) (before : List (EntryState S)) (fetched : List Fetched)
-    → StandsFetching service fetched (record { boot = boot; kind = kind; count = count; newest = newest; earlier = before })
-    → asked (record { boot = boot; kind = kind; count = count; newest = newest; earlier = before }) ≡ option_map question (wanted count fetched)
-asked_when service boot kind count None [] [] st = entry_asked (nat_lt 0 count) 0
-asked_when service boot kind count None [] (f ∷ fetched) st = absurd st.entries
-asked_when service boot kind count None (e ∷ before) fetched st = absurd (cons_is_not_nil e before (st.newest refl))
-asked_when service boot kind count (Some e) before [] st = absurd st.entries
-asked_when service boot kind count (Some e) before (f ∷ earlier) st =
+asked_when : {S : Type 0} (service : Machine S) (boot kind count : ℕ) (marks : Marks) (newest : Option (EntryState S)) (before : List (EntryState S)) (fetched : List Fetched)
+    → StandsFetching service fetched (record { boot = boot; kind = kind; count = count; marks = marks; newest = newest; earlier = before })
+    → asked (record { boot = boot; kind = kind; count = count; marks = marks; newest = newest; earlier = before }) ≡ option_map question (wanted count fetched)
+asked_when service boot kind count marks None [] [] st = entry_asked (nat_lt 0 count) 0
+asked_when service boot kind count marks None [] (f ∷ fetched) st = absurd st.entries
+asked_when service boot kind count marks None (e ∷ before) fetched st = absurd (cons_is_not_nil e before (st.newest refl))
+asked_when service boot kind count marks (Some e) before [] st = absurd st.entries
+asked_when service boot kind count marks (Some e) before (f ∷ earlier) st =
     let same : lacks e ≡ lack_of f = lacks_is service f e st.entries.0 in
     let n : ℕ = length (e ∷ before) in
     asked_by service e f earlier count n st.entries.0 (as_many service (f ∷ earlier) (e ∷ before) st.entries) (lacks e)
@@ -306,4 +298,4 @@ asked_when service boot kind count (Some e) before (f ∷ earlier) st =
 
 -- what is asked is the law's question
 pub asked_is : {S : Type 0} (service : Machine S) (s : FetchingState S) (fetched : List Fetched) → StandsFetching service fetched s → asked s ≡ option_map question (wanted s.count fetched)
-asked_is service s fetched st = asked_when service s.boot s.kind s.count s.newest s.earlier fetched st
+asked_is service s fetched st = asked_when service s.boot s.kind s.count s.marks s.newest s.earlier fetched st

@@ -12,3 +12,5 @@ pub mod Forging
 pub mod Joined
 pub mod Startable
 pub mod Questions
+pub mod MarkLaw
+pub mod Hearing

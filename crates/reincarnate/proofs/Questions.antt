@@ -1,7 +1,9 @@
 -- What a restart asks may be sent.
-use Rattle.std.proofs.Common.{◌≡◌, ℕ, ◌<◌, ◌≤◌, ◌+◌, ◌^◌, Bool, true, false, ◌&&◌, nat_le, refl, arith}
+use Rattle.std.proofs.Common.{ℕ, ◌<◌, ◌≤◌, ◌+◌, ◌^◌, Bool, true, false, ◌&&◌, nat_le, refl, arith}
 use Rattle.std.proofs.lemmas.Bool.{and_from, le-leb}
 use Rattle.ft_io.specs.declared.Key.{Key}
+use Rattle.seq_arith.specs.Mark.MarkBody.{AskMsg}
+use Rattle.seq_arith.specs.MarkGrammar as marks
 use Rattle.seq_arith.specs.MessageGrammar.{is_sound, has_length}
 use Rattle.ft_model.specs.Offset.{one_if}
 use Rattle.logger_wire.specs.declared.Body.TheVariants as body
@@ -66,4 +68,13 @@ cuts_askable key first k few boot live fits = record {
         (and_from (nat_le 1 boot) _ (le-leb 1 boot live) (and_from _ _ (le-leb first (2 ^ 24 + 1) few) refl)) refl;
     size = refl;
   };
+}
+
+pub ask_spellable : (boot : ℕ) (key : Key) → 1 ≤ boot → boot < 2 ^ 64 → FitsKey key → marks.IsSpellable (record { boot = boot; body = AskMsg key })
+unfolding marks.is_sound marks.has_length
+ask_spellable boot key live fits k = record {
+  boot = omega (arith, fits);
+  numbers = (omega (arith, k.ip), (omega (arith, k.port), tt));
+  sound = and_from (nat_le 1 boot && true) true (and_from (nat_le 1 boot) true (le-leb 1 boot live) refl) refl;
+  size = refl;
 }

@@ -10,6 +10,11 @@ use Rattle.logger_wire.specs.declared.Msg.{Msg}
 use Rattle.logger_wire.specs.declared.Body.{Body}
 use Rattle.logger_wire.specs.declared.Body.TheVariants as body
 use Rattle.logger_wire.specs.Value.{body_of, IsSendable}
+use Rattle.seq_arith.specs.MarkGrammar as marks
+use Rattle.checkpoint.specs.declared.mark_msg.MarkMsg.{MarkMsg}
+use Rattle.checkpoint.specs.declared.mark_msg.MarkBody.{MarkBody}
+use Rattle.checkpoint.specs.declared.mark_msg.MarkBody.TheVariants as mark_body
+use Rattle.checkpoint.specs.Value as checkpoint
 
 sound_of : (m : Msg) (b : Body) → IsSendable m → m.body ≡ b
     → is_sound (kind_of (body_of b)) m.boot (length (behind_of (body_of b))) (numbers_of (body_of b)) (lens_of (body_of b)) ≡ true
@@ -84,3 +89,24 @@ lens_in_range m key first lens sendable is =
     let fields : Bool = all_in_range m.boot (length (behind_of (body_of b))) (fields_of kinds.Lens) (numbers_of (body_of b)) in
     let sound = sound_of m b sendable is in
     all_short (lens_in lens.now) (and_parts (nat_le 1 m.boot && fields) (list_all (λ k. nat_le k 2048) (lens_in lens.now)) sound).1
+
+-- A mark
+fifth : (a b c d e rest : Bool) → (a && (b && (c && (d && (e && rest))))) ≡ true → e ≡ true
+fifth a b c d e rest all =
+    let tail = (and_parts a (b && (c && (d && (e && rest)))) all).1 in
+    let tail = (and_parts b (c && (d && (e && rest))) tail).1 in
+    let tail = (and_parts c (d && (e && rest)) tail).1 in
+    let tail = (and_parts d (e && rest) tail).1 in
+    (and_parts e rest tail).0
+
+pub held_in_range : (m : MarkMsg) (key : Key) (reads len made : ℕ) (state : _) → marks.IsSpellable (checkpoint.message_of m)
+    → m.body ≡ mark_body.Held key reads len made state → made ≤ 2 ^ 24
+unfolding marks.is_sound
+held_in_range m key reads len made state spellable is =
+    let b : MarkBody = mark_body.Held key reads len made state in
+    let sound : marks.is_sound (marks.kind_of (checkpoint.body_of b)) m.boot (length (marks.behind_of (checkpoint.body_of b))) (marks.numbers_of (checkpoint.body_of b)) ≡ true =
+    subst (λ x. marks.is_sound (marks.kind_of (checkpoint.body_of x)) m.boot (length (marks.behind_of (checkpoint.body_of x))) (marks.numbers_of (checkpoint.body_of x)) ≡ true) is spellable.sound in
+    let fields : Bool = all_in_range m.boot (length state.now) marks.marking (marks.numbers_of (checkpoint.body_of b)) in
+    let all : fields ≡ true = (and_parts (nat_le 1 m.boot) fields (and_parts (nat_le 1 m.boot && fields) (nat_le 0 reads) sound).0).1 in
+    let most = fifth true true (nat_le reads (2 ^ 24 + 1)) (nat_le len (2 ^ 24)) (nat_le made (2 ^ 24)) true all in
+    grind (arith, most)

@@ -1,7 +1,11 @@
 -- The counts of an entry go on to hang together.
-use Rattle.std.proofs.Common.{◌≡◌, ◌⊎◌, ℕ, ◌+◌, ◌^◌, ◌<◌, ◌≤◌, ◌/◌, ◌==◌, ◌&&◌, ◌∙◌, Bool, true, false, None, true≢false, nat_le, List, [], ◌∷◌, ◌++◌, length, sum, refl, ap, sym, arith, length-append, inl, inr, ⊎_elim, if◌then◌else◌}
+use Rattle.std.proofs.Common.{◌≡◌, ◌⊎◌, ℕ, ◌+◌, ◌^◌, ◌<◌, ◌≤◌, ◌/◌, ◌==◌, ◌&&◌, ◌∙◌, Bool, true, false, None, nat_le, List, [], ◌∷◌, ◌++◌, length, sum, refl, ap, sym, arith, length-append, inl, inr, ⊎_elim, if◌then◌else◌}
 use Rattle.std.specs.List.{AllByRecursion}
+use Rattle.std.proofs.lemmas.Bool.{and_parts}
+use Rattle.seq_arith.specs.Mark.{Mark}
 use Rattle.seq_arith.specs.Message.{EntryHead}
+use Rattle.mark_laws.specs.Restart.{lies_within}
+use Rattle.reincarnate.specs.Marking.{begun_at}
 use Rattle.server_trait.specs.Service.{Served}
 use Rattle.ft_model.proofs.Services.{sum_more}
 use Rattle.reincarnate.specs.declared.cuts.Cuts.{Cuts}
@@ -28,6 +32,36 @@ begun_sized fresh head h segments = record {
   next = tt;
   few = λ w. omega arith;
 }
+
+-- the numbers of a mark that an entry can have
+pub record LiesWithin (head : EntryHead) (m : Mark) : Type 0 where
+  pub reads : m.reads ≤ head.reads
+  pub bytes : m.length ≤ head.length
+  pub made : m.made ≤ head.acked
+  pub each : m.reads ≤ m.length
+
+pub within_is : (head : EntryHead) (m : Mark) → lies_within head m ≡ true → LiesWithin head m
+within_is head m within =
+    let all = and_parts (nat_le m.reads head.reads && nat_le m.length head.length && nat_le m.made head.acked) (nat_le m.reads m.length) within in
+    let three = and_parts (nat_le m.reads head.reads && nat_le m.length head.length) (nat_le m.made head.acked) all.0 in
+    let two = and_parts (nat_le m.reads head.reads) (nat_le m.length head.length) three.0 in
+    record { reads = grind (arith, two.0); bytes = grind (arith, two.1); made = grind (arith, three.1); each = grind (arith, all.1) }
+
+-- an entry that begins at a mark
+pub marked_sized : {S : Type 0} (head : EntryHead) (m : Mark) (state : S) → head.length ≤ 2 ^ 24 → IsSegmentSize head.mss → lies_within head m ≡ true → IsSized (begun_at head m state)
+marked_sized head m state stream segments within =
+    let w = within_is head m within in
+    record {
+      stream = stream;
+      segments = segments;
+      bytes = w.bytes;
+      cuts = w.bytes;
+      have = omega (arith, w.each);
+      balance = omega arith;
+      most = tt;
+      next = tt;
+      few = λ missing. omega arith;
+    }
 
 -- a read that waits is longer than what is held
 few_held : (ws : List ℕ) (held : ℕ) → AllByRecursion (λ k. k ≤ 2048) ws → IsShort ws held → 0 < length ws → held ≤ 2047

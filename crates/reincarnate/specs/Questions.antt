@@ -3,11 +3,19 @@ use Rattle.std.specs.Prelude.{ℕ, ◌≤◌, ◌<◌, ◌^◌, ◌==◌, Bool, 
 use Rattle.std.specs.Option.{option_to_list}
 use Rattle.ft_io.specs.declared.Key.{Key}
 use Rattle.ft_io.specs.Key.{key_eq}
+use Rattle.seq_arith.specs.Mark.{MarkBody, MarkMessage}
+use Rattle.seq_arith.specs.Mark.MarkBody.{AskMsg, HeldMsg}
 use Rattle.seq_arith.specs.Message.{EntryHead, Body, Message}
 use Rattle.seq_arith.specs.Message.Body.{ListMsg, EntryMsg, PartMsg, LensMsg}
 use Rattle.logger_wire.specs.declared.Body as wire
 use Rattle.logger_wire.specs.Value.{IsSendable}
 use Rattle.server_trait.specs.Service.{Served}
+use Rattle.mark_laws.specs.MarkedLog.{AnyMessage}
+use Rattle.mark_laws.specs.MarkedLog.AnyMessage.{About_mark, Of_log}
+use Rattle.mark_laws.specs.Restart as law
+use Rattle.reincarnate.specs.declared.marks.Marks.{Marks}
+use Rattle.reincarnate.specs.declared.marks.Marks.TheVariants as marks
+use Rattle.reincarnate.specs.Marking.{used_if, awaits, marks_after, marked_on}
 use Rattle.reincarnate.specs.Progress.{EntryState, begun_entry, lacks, asked_for, part_fits, with_bytes, cuts_with, with_lengths}
 
 -- a question that a server of any boot number may send
@@ -18,11 +26,13 @@ pub record FetchingState (S : Type 0) : Type 0 where
   pub boot : ℕ  -- the server's boot number
   pub kind : ℕ  -- the kind of its service
   pub count : ℕ  -- how many entries the log has
+  pub marks : Marks  -- whether marks are asked for
   pub newest : Option (EntryState S)  -- the entry that was fetched last, or is being fetched
   pub earlier : List (EntryState S)  -- those fetched before it, the newest first
 
-abbrev pub begun_fetching : {S : Type 0} → (boot kind count : ℕ) → FetchingState S
-begun_fetching boot kind count = record { boot = boot; kind = kind; count = count; newest = None; earlier = [] }
+abbrev pub begun_fetching : {S : Type 0} → (boot kind count : ℕ) → (uses_marks : Bool) → FetchingState S
+begun_fetching boot kind count uses_marks =
+    record { boot = boot; kind = kind; count = count; marks = used_if uses_marks; newest = None; earlier = [] }
 
 abbrev pub entries_of : {S : Type 0} → FetchingState S → List (EntryState S)
 entries_of s = option_to_list s.newest ++ s.earlier
@@ -74,3 +84,38 @@ answered started after s _ = None
 -- an answer to another boot doesn't fit
 abbrev pub after_answer : {S : Type 0} → (ℕ → S) → (S → List ℕ → Served S) → Message → FetchingState S → Option (FetchingState S)
 after_answer started after message s = if message.boot == s.boot then answered started after s message.body else None
+
+-- Marks: the newest entry's is asked for first, where it is awaited
+abbrev pub mark_asked : {S : Type 0} → (boot : ℕ) → Option (EntryState S) → Option AnyMessage
+mark_asked boot None = None
+mark_asked boot (Some e) = Some (About_mark (record { boot = boot; body = AskMsg e.head.key }))
+
+abbrev pub any_asked : {S : Type 0} → FetchingState S → Option AnyMessage
+any_asked s =
+    law.or_else (if awaits s.marks then mark_asked s.boot s.newest else None) (option_map (λ body. Of_log (record { boot = s.boot; body = body })) (asked s))
+
+-- an answer that isn't about marks, unless one is awaited
+abbrev pub noted : {S : Type 0} → Marks → FetchingState S → FetchingState S
+noted marks s = record s { marks = marks }
+
+abbrev pub log_heard : {S : Type 0} → (ℕ → S) → (S → List ℕ → Served S) → Message → FetchingState S → Option (FetchingState S)
+log_heard started after message s =
+    if awaits s.marks then None else option_map (noted (marks_after s.marks message.body)) (after_answer started after message s)
+
+-- the mark of the newest entry
+abbrev pub with_marked : {S : Type 0} → FetchingState S → EntryState S → FetchingState S
+with_marked s e = record s { newest = Some e; marks = marks.Used }
+
+abbrev pub held_heard : {S : Type 0} → (ℕ → S) → (ℕ → List ℕ → Option S) → MarkBody → FetchingState S → Option (FetchingState S)
+held_heard started state_of (HeldMsg key m) s =
+    option_map (with_marked s) (marked_on (started s.kind) (state_of s.kind) key m s.newest)
+held_heard started state_of _ s = None
+
+-- .. while it is awaited
+abbrev pub mark_heard : {S : Type 0} → (ℕ → S) → (ℕ → List ℕ → Option S) → MarkMessage → FetchingState S → Option (FetchingState S)
+mark_heard started state_of message s = if message.boot == s.boot && awaits s.marks then held_heard started state_of message.body s else None
+
+-- what is known after any message, if it is an answer
+abbrev pub any_heard : {S : Type 0} → (ℕ → S) → (S → List ℕ → Served S) → (ℕ → List ℕ → Option S) → AnyMessage → FetchingState S → Option (FetchingState S)
+any_heard started after state_of (Of_log message) s = log_heard started after message s
+any_heard started after state_of (About_mark message) s = mark_heard started state_of message s

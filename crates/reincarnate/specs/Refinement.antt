@@ -5,6 +5,11 @@ use Rattle.seq_arith.specs.Message.{Message}
 use Rattle.server_trait.specs.Service.{Machine, reference}
 use Rattle.ft_model.specs.Log.{Entry, head_of}
 use Rattle.ft_model.specs.Restart.{Fetched, wanted, fetched_after, is_whole, entry_in, run_of}
+use Rattle.server_trait.specs.Saved.{Writing}
+use Rattle.mark_laws.specs.MarkedLog.{AnyMessage}
+use Rattle.mark_laws.specs.MarkedLog.AnyMessage.{About_mark, Of_log}
+use Rattle.mark_laws.specs.Restart.{FetchedSoFar, fetched_on, mark_reported, IsFront, begun_on}
+use Rattle.reincarnate.specs.Marking.{uses, awaits}
 use Rattle.reincarnate.specs.ReadLengths.{cuts_of}
 use Rattle.reincarnate.specs.Replay.{ReplayState, RunsTo}
 use Rattle.reincarnate.specs.declared.entries.Restored.{Restored}
@@ -56,6 +61,20 @@ AnswerLeads service (Some more) fits before after = (fits ≡ true) × StandsFet
 -- the law's answer: what is fetched after a message
 abbrev pub fetched_then : (boot count : ℕ) → Message → List Fetched → Option (List Fetched)
 fetched_then boot count message fetched = if message.boot == boot then fetched_after (wanted count fetched) message.body fetched else None
+
+-- Marks: it has fetched this much, where what is below a mark counts as fetched
+pub record StandsSoFar {S : Type 0} (service : Machine S) (so_far : FetchedSoFar) (s : FetchingState S) : Type 0 where
+  pub fetched : StandsFetching service so_far.entries s
+  pub awaits : awaits s.marks ≡ so_far.awaits_mark
+
+-- Where any message leads, as the law says. A mark says how many bytes and reads lie below it, and not which: so this holds for all that it can be the mark of
+abbrev pub AnyLeads : {S : Type 0} → Machine S → Writing S → FetchedSoFar → AnyMessage → (fits : Bool) → (before after : FetchingState S) → Type 0
+AnyLeads service writing so_far (Of_log message) fits before after =
+    MatchOption (fetched_on (uses before.marks) before.boot before.count message so_far) ((fits ≡ false) × (after ≡ before))
+    (λ more. (fits ≡ true) × StandsSoFar service more after)
+AnyLeads service writing so_far (About_mark message) fits before after =
+    MatchOption (mark_reported writing before.boot message so_far) ((fits ≡ false) × (after ≡ before))
+    (λ m. (fits ≡ true) × ((bytes lengths : List ℕ) → IsFront service writing m bytes lengths → StandsSoFar service (begun_on bytes lengths so_far) after))
 
 abbrev pub held_of : {S : Type 0} → Option (EntryState S) → ℕ
 held_of None = 0

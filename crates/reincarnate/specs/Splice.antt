@@ -24,7 +24,7 @@ pub record SplicedState (S : Type 0) : Type 0 where
   pub endpoint : Tcb  -- TCP, which has never seen the client
   pub north : NorthState S  -- the wrapper between TCP and the service
 
--- the connection as which it is handed on
+-- the connection that `hand_on` makes of the parts
 abbrev pub conn_of : {S : Type 0} → SplicedState S → ConnState S
 conn_of s = joined_conn s.boot s.key s.local s.south s.endpoint s.north
 

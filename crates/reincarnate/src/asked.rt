@@ -1,17 +1,18 @@
 //! The first step of a restart.
 
-ghost use Rattle.std.specs.Prelude.{◌≡◌, ◌≤◌, [], Ok, IfOk};
+ghost use Rattle.std.specs.Prelude.{◌≡◌, ◌≤◌, ◌&&◌, false, [], Ok, IfOk};
 ghost use Rattle.seq_arith.specs.Message.Body.{HelloMsg};
 ghost use Rattle.logger_wire.specs.Value.{message_of, IsSendable};
 ghost use Rattle.reincarnate.specs.Questions.{begun_fetching};
-ghost use Rattle.reincarnate.specs.Refinement.{StandsFetching};
+ghost use Rattle.reincarnate.specs.Refinement.{StandsSoFar};
 ghost use Rattle.server_trait.specs.Service.{machine};
 
 use crate::fetching::Fetching;
 use crate::lost::LostIn;
+use crate::marks::Marks;
 use crate::ranges::fit_boot;
 use logger_wire::{Body, Msg};
-use server_trait::Service;
+use server_trait::Saved;
 use std::alloc::Global;
 use std::marker::Model;
 
@@ -53,18 +54,21 @@ impl Asked {
         }
     }
 
-    /// The log has `count` entries. The services of this restart are of this kind.
-    pub fn on_summary<S: Service>(
+    /// The next step, once it is known that the log has `count` entries. `kind` is the kind of the service. With `marks`, and where the service's states can be
+    /// saved, the restart asks for the marks of entries and begins there.
+    pub fn on_summary<S: Saved>(
         self,
         alloc: Global,
         kind: u8,
         count: u16,
+        marks: bool,
     ) -> Result<Fetching<S>, LostIn>
         requires { count ≤ 64 }
-        ensures value { result ≡ Ok (begun_fetching self kind count) }
+        ensures value { result ≡ Ok (begun_fetching self kind count (marks && S.is_savable)) }
         // Nothing is fetched yet.
-        ensures law { IfOk result (λ f. StandsFetching (machine (S.started kind) S.after) [] f) }
+        ensures law { IfOk result (λ f. StandsSoFar (machine (S.started kind) S.after) (record { entries = []; awaits_mark = false }) f) }
     {
-        Ok(Fetching::begin(alloc, self.boot, kind, count))
+        let marks = Marks::used_if(marks && S::savable());
+        Ok(Fetching::begin(alloc, self.boot, kind, count, marks))
     }
 }

@@ -1,17 +1,17 @@
-//! What is known of the fetched reads, as far as further ones depend on it.
+//! What is known of the fetched reads, as far as it decides which reads may follow.
 
-ghost use Rattle.std.specs.Prelude.{◌≡◌, ◌≤◌, ◌+◌, ◌^◌, length, sum, Some, None, IfSome, if◌then◌else◌};
+ghost use Rattle.std.specs.Prelude.{◌≡◌, ◌≤◌, ◌+◌, ◌^◌, length, sum, false, Some, None, IfSome, if◌then◌else◌};
 ghost use Rattle.seq_arith.specs.MessageGrammar.{lens_in};
 ghost use Rattle.reincarnate.specs.ReadLengths.{may_cut, cut_on, cuts_through, HaveBytes};
 
 use logger_wire::len_at;
 
-/// How many reads are fetched, their bytes, and whether the closing one, of length 0, is among them.
+/// How many reads are fetched, how many bytes they took, and whether the closing one, of length 0, is among them.
 #[derive(Clone, Copy, Debug)]
 pub(crate) struct Cuts {
     /// How many reads are fetched.
     pub count: u32,
-    /// Their bytes.
+    /// How many bytes they took.
     pub sum: u32,
     /// Whether the closing one, of length 0, is among them.
     pub ended: bool,
@@ -23,6 +23,17 @@ impl Cuts {
         sum: 0,
         ended: false,
     };
+
+    /// The reads below a mark, each of which has a byte.
+    pub(crate) fn below(count: u32, sum: u32) -> Cuts
+        ensures { result ≡ record { count = count; sum = sum; ended = false } }
+    {
+        Cuts {
+            count,
+            sum,
+            ended: false,
+        }
+    }
 
     /// With one more read, if the log's rule lets it follow in a stream of `len` bytes.
     fn with(self, n: u16, len: u32, fin: bool) -> Option<Cuts>

@@ -7,19 +7,22 @@ ghost use Rattle.logger_wire.specs.Value.{body_of};
 ghost use Rattle.ft_io.specs.Key.{key_eq};
 ghost use Rattle.reincarnate.specs.ReadLengths.{HaveBytes};
 ghost use Rattle.logger_store.specs.StoreState.{head_value};
+ghost use Rattle.mark_laws.specs.Restart.{lies_within};
 ghost use Rattle.reincarnate.specs.Questions.{IsAskable};
+ghost use Rattle.reincarnate.specs.Marking.{begun_at, begun_from, mark_value};
 ghost use Rattle.reincarnate.specs.Progress.{begun_entry, lacks, asked_for, asks_bytes, asks_lengths, part_fits, lengths_fit, with_bytes, cuts_with};
 ghost use Rattle.reincarnate.specs.Progress.{with_lengths, first_whole, replayed_from, replayed_state, IsSegmentSize};
 
 use crate::cuts::Cuts;
 use crate::lack::Lack;
+use crate::logged_mark::LoggedMark;
 use crate::ranges::fit_key;
 use crate::replay::Replay;
 use crate::replayed::Replayed;
 use ft_io::{Key, NoMemory};
 use logger_store::EntryHead;
 use logger_wire::{Body, len_at};
-use server_trait::Service;
+use server_trait::{Saved, Service};
 use std::alloc::Global;
 use std::collections::VecDeque;
 use std::marker::Model;
@@ -69,6 +72,29 @@ impl<S: Service> FetchedEntry<S> {
             cuts: Cuts::NONE,
             waiting: VecDeque::new(alloc),
             replay: Replay::new(alloc, kind, head.acked),
+        }
+    }
+
+    /// An entry that begins at a mark.
+    #[tactic(auto, using(crate::proofs::Sized::marked_sized))]
+    fn begin_at(
+        alloc: Global,
+        head: EntryHead,
+        mark: &LoggedMark<'_>,
+        service: S,
+    ) -> FetchedEntry<S>
+        requires stream { head.length ≤ 2 ^ 24 }
+        requires segments { IsSegmentSize head.mss }
+        requires made { mark.now.made ≤ 2 ^ 24 }
+        requires within { lies_within (head_value head) (mark_value mark.now) ≡ true }
+        ensures { result ≡ begun_at (head_value head) (mark_value mark.now) service }
+    {
+        FetchedEntry {
+            head,
+            bytes: mark.length,
+            cuts: Cuts::below(mark.reads, mark.length),
+            waiting: VecDeque::new(alloc),
+            replay: Replay::resumed(alloc, service, mark.made, head.acked),
         }
     }
 
@@ -122,7 +148,7 @@ impl<S: Service> FetchedEntry<S> {
         }
     }
 
-    /// The fetched bytes that aren't replayed.
+    /// How many fetched bytes aren't replayed.
     pub(crate) fn held(&self) -> usize
         ensures value { result ≡ length self.now.replay.held }
         ensures few { (0 < length self.now.waiting) ⊎ (self.now.cuts.count < self.now.head.reads) → result ≤ 2047 }
@@ -241,6 +267,30 @@ impl<S: Service> FetchedEntry<S> {
             replay,
         } = self;
         Replayed::new(head, cuts, replay)
+    }
+}
+
+impl<S: Saved> FetchedEntry<S> {
+    /// The entry from its mark on, if it can have the mark and the service's state is read back. Where there is no mark it begins at its start.
+    pub(crate) fn from_mark(
+        &self,
+        alloc: Global,
+        kind: u8,
+        mark: &LoggedMark<'_>,
+    ) -> Result<Option<FetchedEntry<S>>, NoMemory>
+        requires { mark.now.made ≤ 2 ^ 24 }
+        ensures { IfOk result (λ begun. begun ≡ begun_from (S.started kind) (S.state_of kind) (mark_value mark.now) self.now.head) }
+    {
+        if !mark.lies_within(&self.head) {
+            return Ok(None);
+        }
+        if mark.reads == 0 {
+            return Ok(Some(FetchedEntry::begin(alloc, kind, self.head)));
+        }
+        match S::load(alloc, kind, mark.state)? {
+            Some(service) => Ok(Some(FetchedEntry::begin_at(alloc, self.head, mark, service))),
+            None => Ok(None),
+        }
     }
 }
 

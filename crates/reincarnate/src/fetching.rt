@@ -1,27 +1,39 @@
 //! The restart while it asks for the log's entries.
 
-ghost use Rattle.std.specs.Prelude.{◌≡◌, ◌⊎◌, ◌<◌, ◌≤◌, ◌^◌, true, false, length, option_map, find, OnOk, IfOk, IfNone, IfSome, MatchOption, None, List, ◌++◌};
+ghost use Rattle.std.specs.Prelude.{◌≡◌, ◌⊎◌, ◌<◌, ◌≤◌, ◌^◌, true, false, length, option_map, find, OnOk, IfOk, IfNone, IfSome, MatchOption, None, [], List, ◌++◌};
 ghost use Rattle.std.specs.Prelude.{reverse, if◌then◌else◌};
 ghost use Rattle.std.specs.List.{AllByRecursion};
 ghost use Rattle.std.specs.Option.{option_to_list};
 ghost use Rattle.seq_arith.specs.MessageGrammar.{lens_in};
 ghost use Rattle.server_trait.specs.Service.{machine};
 ghost use Rattle.ft_io.specs.Key.{key_eq};
-ghost use Rattle.ft_model.specs.Restart.{Fetched, wanted, question};
+ghost use Rattle.ft_model.specs.Restart.{Fetched};
+ghost use Rattle.server_trait.specs.Saved.{writing};
+ghost use Rattle.seq_arith.specs.Mark.MarkBody.{AskMsg, HeldMsg};
+ghost use Rattle.seq_arith.specs.MarkGrammar.{IsSpellable};
+ghost use Rattle.checkpoint.specs.Value.{message_of as mark_message_of};
+ghost use Rattle.mark_laws.specs.MarkedLog.AnyMessage.{About_mark};
+ghost use Rattle.mark_laws.specs.Restart.{FetchedSoFar, next_question};
+ghost use Rattle.reincarnate.specs.Marking.{any_of, IsAnySendable, mark_value, awaits, marks_after, marked_on};
 ghost use Rattle.logger_wire.specs.Value.{body_of, message_of, IsSendable};
 ghost use Rattle.logger_store.specs.StoreState.{head_value};
 ghost use Rattle.reincarnate.specs.Progress.{AreReady, IsSegmentSize};
-ghost use Rattle.reincarnate.specs.Questions.{IsAskable, begun_fetching, entries_of, asked_of, asked_entry, asked, entry_known, head_fits, with_head, with_newest};
+ghost use Rattle.reincarnate.specs.Questions.{any_asked, any_heard, log_heard, noted, held_heard, mark_heard, mark_asked};
+ghost use Rattle.reincarnate.specs.Questions.{IsAskable, entries_of, asked_of, asked_entry, asked, entry_known, head_fits, with_head, with_newest};
 ghost use Rattle.reincarnate.specs.Questions.{part_on, lens_on, answered, after_answer};
-ghost use Rattle.reincarnate.specs.Refinement.{StandsFetching, StandsWhole, AnswerLeads, fetched_then, held_of};
+ghost use Rattle.reincarnate.specs.Refinement.{StandsFetching, StandsSoFar, StandsWhole, AnyLeads, held_of};
 
+use crate::any_msg::AnyMsg;
 use crate::entries::Entries;
 use crate::fetched_entry::FetchedEntry;
-use crate::ranges::fit_boot;
+use crate::logged_mark::LoggedMark;
+use crate::marks::Marks;
+use crate::ranges::{fit_boot, fit_key};
+use checkpoint::{MarkBody, MarkMsg};
 use ft_io::{Key, NoMemory};
 use logger_store::EntryHead;
 use logger_wire::{Body, Msg};
-use server_trait::Service;
+use server_trait::{Saved, Service};
 use std::alloc::Global;
 use std::marker::Model;
 
@@ -35,6 +47,8 @@ pub struct Fetching<S: Service> {
     kind: u8,
     /// How many entries the log has.
     count: u16,
+    /// Whether marks are asked for.
+    marks: Marks,
     /// The entry that was fetched last, or is being fetched.
     newest: Option<FetchedEntry<S>>,
     /// Those before it, the newest first.
@@ -49,21 +63,22 @@ impl<S: Service> Model for Fetching<S> {
 
     ghost Value = { FetchingState S };
 
-    ghost view = { λ f. record { boot = f.boot; kind = f.kind; count = f.count; newest = f.newest; earlier = f.earlier.items } };
+    ghost view = { λ f. record { boot = f.boot; kind = f.kind; count = f.count; marks = f.marks; newest = f.newest; earlier = f.earlier.items } };
 
     ghost invariant = { λ f. (1 ≤ f.boot) × (f.count ≤ 64) × AreReady f.earlier.items };
 }
 
 impl<S: Service> Fetching<S> {
-    pub(crate) fn begin(alloc: Global, boot: u64, kind: u8, count: u16) -> Fetching<S>
+    pub(crate) fn begin(alloc: Global, boot: u64, kind: u8, count: u16, marks: Marks) -> Fetching<S>
         requires boot { 1 ≤ boot }
         requires count { count ≤ 64 }
-        ensures { result ≡ begun_fetching boot kind count }
+        ensures { result ≡ record { boot = boot; kind = kind; count = count; marks = marks; newest = None; earlier = [] } }
     {
         Fetching {
             boot,
             kind,
             count,
+            marks,
             newest: None,
             earlier: Vec::new(alloc),
         }
@@ -111,18 +126,45 @@ impl<S: Service> Fetching<S> {
     }
 
     /// What is asked now, or None where nothing is missing.
-    pub fn question(&self) -> Option<Msg<'_>>
-        ensures value { option_map message_of result ≡ option_map (λ body. record { boot = self.now.boot; body = body }) (asked self.now) }
-        ensures law { (fetched : List Fetched) → StandsFetching (machine (S.started self.now.kind) S.after) fetched self.now
-            → option_map message_of result
-            ≡ option_map (λ body. record { boot = self.now.boot; body = body }) (option_map question (wanted self.now.count fetched)) }
+    pub fn question(&self) -> Option<AnyMsg<'_>>
+        ensures value { option_map any_of result ≡ any_asked self.now }
+        ensures law { (so_far : FetchedSoFar) → StandsSoFar (machine (S.started self.now.kind) S.after) so_far self.now
+            → option_map any_of result ≡ next_question self.now.boot self.now.count so_far }
         ensures end { IfNone result (asked self.now ≡ None) }
-        ensures sendable { IfSome result (λ m. IsSendable m) }
+        ensures sendable { IfSome result (λ m. IsAnySendable m) }
     {
         self.ask()
     }
 
-    fn ask(&self) -> Option<Msg<'_>>
+    fn ask(&self) -> Option<AnyMsg<'_>>
+        ensures value { option_map any_of result ≡ any_asked self.now }
+        ensures end { IfNone result (asked self.now ≡ None) }
+        ensures sendable { IfSome result (λ m. IsAnySendable m) }
+    {
+        if let Some(mark) = self.ask_mark() {
+            return Some(AnyMsg::Mark(mark));
+        }
+        match self.ask_log() {
+            Some(m) => Some(AnyMsg::Log(m)),
+            None => None,
+        }
+    }
+
+    /// The question for the mark of the newest entry, where it is awaited.
+    fn ask_mark(&self) -> Option<MarkMsg<'_>>
+        ensures value { option_map (λ m. About_mark (mark_message_of m)) result ≡ (if awaits self.now.marks then mark_asked self.now.boot self.now.newest else None) }
+        ensures sendable { IfSome result (λ m. IsSpellable (mark_message_of m)) }
+    {
+        if !self.marks.are_awaited() {
+            return None;
+        }
+        match &self.newest {
+            Some(entry) => Some(mark_question(self.boot, entry.head().key)),
+            None => None,
+        }
+    }
+
+    fn ask_log(&self) -> Option<Msg<'_>>
         ensures sendable { IfSome result (λ m. IsSendable m) }
         ensures end { IfNone result (asked self.now ≡ None) }
         ensures value { option_map message_of result ≡ option_map (λ body. record { boot = self.now.boot; body = body }) (asked self.now) }
@@ -155,7 +197,7 @@ impl<S: Service> Fetching<S> {
         }
     }
 
-    /// The bytes of the newest entry that are fetched and not replayed: at most 3,071 while one of its reads isn't replayed or its length is
+    /// How many bytes of the newest entry are fetched and not replayed: at most 3,071 while one of its reads isn't replayed or its length is
     /// missing.
     pub fn held(&self) -> usize
         ensures value { result ≡ held_of self.now.newest }
@@ -167,18 +209,34 @@ impl<S: Service> Fetching<S> {
         }
     }
 
-    /// Takes an answer, if it fits the question, and returns whether it does. After `NoMemory` it may only be dropped.
-    pub fn on_answer(&mut self, alloc: Global, m: &Msg<'_>) -> Result<bool, NoMemory>
+    /// Takes a message that isn't about marks. It is no answer while a mark is awaited.
+    fn hear_log(&mut self, alloc: Global, m: &Msg<'_>) -> Result<bool, NoMemory>
         requires { IsSendable m.now }
-        ensures value { IfOk result (λ fits. MatchOption (after_answer S.started S.after (message_of m.now) self.old)
+        ensures value { IfOk result (λ fits. MatchOption (log_heard S.started S.after (message_of m.now) self.old)
             ((fits ≡ false) × (self.new ≡ self.old)) (λ s. (fits ≡ true) × (self.new ≡ s))) }
-        ensures law { IfOk result (λ fits. (fetched : List Fetched) → StandsFetching (machine (S.started self.old.kind) S.after) fetched self.old
-            → AnswerLeads (machine (S.started self.old.kind) S.after)
-            (fetched_then self.old.boot self.old.count (message_of m.now) fetched) fits self.old self.new) }
     {
-        self.hear(alloc, m)
+        if self.marks.are_awaited() {
+            return Ok(false);
+        }
+        self.take_answer(alloc, m)
     }
 
+    /// The same where no mark is awaited. After an entry's head its mark may be awaited.
+    fn take_answer(&mut self, alloc: Global, m: &Msg<'_>) -> Result<bool, NoMemory>
+        requires { IsSendable m.now }
+        ensures value { IfOk result (λ fits. MatchOption
+            (option_map (noted (marks_after self.old.marks (body_of m.now.body))) (after_answer S.started S.after (message_of m.now) self.old))
+            ((fits ≡ false) × (self.new ≡ self.old)) (λ s. (fits ≡ true) × (self.new ≡ s))) }
+    {
+        let marks = self.marks.after(&m.body);
+        if !self.hear(alloc, m)? {
+            return Ok(false);
+        }
+        self.marks = marks;
+        Ok(true)
+    }
+
+    /// The same, apart from whether a mark is awaited afterwards.
     fn hear(&mut self, alloc: Global, m: &Msg<'_>) -> Result<bool, NoMemory>
         requires { IsSendable m.now }
         ensures value { IfOk result (λ fits. MatchOption (after_answer S.started S.after (message_of m.now) self.old)
@@ -229,7 +287,7 @@ impl<S: Service> Fetching<S> {
         }
     }
 
-    /// The head of an entry.
+    /// Takes the head of an entry, if it is an answer.
     #[tactic(auto, using(crate::proofs::Ready::fits_asked))]
     fn on_head(&mut self, alloc: Global, index: u16, head: EntryHead) -> Result<bool, NoMemory>
         requires stream { head.length ≤ 2 ^ 24 }
@@ -254,7 +312,7 @@ impl<S: Service> Fetching<S> {
             && self.head_of(key).is_none()
     }
 
-    /// Bytes of the newest entry.
+    /// Takes bytes of the newest entry, if they are an answer.
     fn on_part(&mut self, key: Key, offset: u32, bytes: &[u8]) -> Result<bool, NoMemory>
         requires { length bytes.now ≤ 1024 }
         ensures { IfOk result (λ fits. MatchOption (part_on S.after key offset bytes.now self.old.newest)
@@ -272,7 +330,7 @@ impl<S: Service> Fetching<S> {
         }
     }
 
-    /// Lengths of the newest entry's reads, of two bytes each.
+    /// Takes lengths of the newest entry's reads, of two bytes each, if they are an answer.
     fn on_lens(&mut self, key: Key, first: u32, lens: &[u8]) -> Result<bool, NoMemory>
         requires { AllByRecursion (λ n. n ≤ 2048) (lens_in lens.now) }
         ensures { IfOk result (λ fits. MatchOption (lens_on S.after key first (lens_in lens.now) self.old.newest)
@@ -304,10 +362,111 @@ impl<S: Service> Fetching<S> {
             boot: _,
             kind: _,
             count: _,
+            marks: _,
             newest,
             earlier,
         } = self;
         Entries::begin(newest, earlier)
+    }
+}
+
+impl<S: Saved> Fetching<S> {
+    /// Takes an answer, if it fits the question, and returns whether it does. After `NoMemory` it may only be dropped.
+    pub fn on_answer(&mut self, alloc: Global, m: &AnyMsg<'_>) -> Result<bool, NoMemory>
+        requires { IsAnySendable m.now }
+        ensures value { IfOk result (λ fits. MatchOption (any_heard S.started S.after S.state_of (any_of m.now) self.old)
+            ((fits ≡ false) × (self.new ≡ self.old)) (λ s. (fits ≡ true) × (self.new ≡ s))) }
+        ensures law { IfOk result (λ fits. (so_far : FetchedSoFar) → StandsSoFar (machine (S.started self.old.kind) S.after) so_far self.old
+            → AnyLeads (machine (S.started self.old.kind) S.after) (writing S.form (S.state_of self.old.kind)) so_far (any_of m.now) fits self.old self.new) }
+    {
+        self.hear_any(alloc, m)
+    }
+
+    fn hear_any(&mut self, alloc: Global, m: &AnyMsg<'_>) -> Result<bool, NoMemory>
+        requires { IsAnySendable m.now }
+        ensures value { IfOk result (λ fits. MatchOption (any_heard S.started S.after S.state_of (any_of m.now) self.old)
+            ((fits ≡ false) × (self.new ≡ self.old)) (λ s. (fits ≡ true) × (self.new ≡ s))) }
+    {
+        match m {
+            AnyMsg::Log(m) => self.hear_log(alloc, m),
+            AnyMsg::Mark(m) => self.hear_mark(alloc, m),
+        }
+    }
+
+    /// Takes a message about marks.
+    #[tactic(auto, using(crate::proofs::Sendable::held_in_range))]
+    fn hear_mark(&mut self, alloc: Global, m: &MarkMsg<'_>) -> Result<bool, NoMemory>
+        requires { IsSpellable (mark_message_of m.now) }
+        ensures value { IfOk result (λ fits. MatchOption (mark_heard S.started S.state_of (mark_message_of m.now) self.old)
+            ((fits ≡ false) × (self.new ≡ self.old)) (λ s. (fits ≡ true) × (self.new ≡ s))) }
+    {
+        if m.boot != self.boot || !self.marks.are_awaited() {
+            return Ok(false);
+        }
+        match m.body {
+            MarkBody::Held {
+                key,
+                reads,
+                length,
+                made,
+                state,
+            } => self.on_held(
+                alloc,
+                key,
+                &LoggedMark {
+                    reads,
+                    length,
+                    made,
+                    state,
+                },
+            ),
+            _ => Ok(false),
+        }
+    }
+
+    /// Takes the mark of the newest entry: if it is an answer, the entry begins there.
+    fn on_held(&mut self, alloc: Global, key: Key, mark: &LoggedMark<'_>) -> Result<bool, NoMemory>
+        requires { mark.now.made ≤ 2 ^ 24 }
+        ensures value { IfOk result (λ fits. MatchOption (held_heard S.started S.state_of (HeldMsg key (mark_value mark.now)) self.old)
+            ((fits ≡ false) × (self.new ≡ self.old)) (λ s. (fits ≡ true) × (self.new ≡ s))) }
+    {
+        let Some(entry) = self.begun_from(alloc, key, mark)? else {
+            return Ok(false);
+        };
+        self.newest = Some(entry);
+        self.marks = Marks::Used;
+        Ok(true)
+    }
+
+    /// The newest entry from its mark on, if the mark is of its key and an answer.
+    fn begun_from(
+        &self,
+        alloc: Global,
+        key: Key,
+        mark: &LoggedMark<'_>,
+    ) -> Result<Option<FetchedEntry<S>>, NoMemory>
+        requires { mark.now.made ≤ 2 ^ 24 }
+        ensures { IfOk result (λ begun. begun ≡ marked_on (S.started self.now.kind) (S.state_of self.now.kind) key (mark_value mark.now) self.now.newest) }
+    {
+        match &self.newest {
+            Some(entry) if entry.has_key(key) => entry.from_mark(alloc, self.kind, mark),
+            _ => Ok(None),
+        }
+    }
+}
+
+/// The question for the mark of a connection.
+#[tactic(auto, using(crate::proofs::Questions::ask_spellable))]
+fn mark_question<'a>(boot: u64, key: Key) -> MarkMsg<'a>
+    requires { 1 ≤ boot }
+    ensures value { mark_message_of result ≡ record { boot = boot; body = AskMsg key } }
+    ensures sendable { IsSpellable (mark_message_of result) }
+{
+    fit_boot(boot);
+    fit_key(key);
+    MarkMsg {
+        boot,
+        body: MarkBody::Ask { key },
     }
 }
 

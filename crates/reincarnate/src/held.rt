@@ -55,7 +55,7 @@ impl Held {
         self.at += n;
     }
 
-    /// Moves the waiting bytes to the beginning of their room.
+    /// Moves the waiting bytes to the beginning of the buffer.
     fn forget(&mut self)
         ensures { self.new ≡ self.old }
     {

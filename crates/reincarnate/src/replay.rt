@@ -23,7 +23,7 @@ pub(crate) struct Replay<S: Service> {
     service: S,
     /// Whether the service has closed.
     closed: bool,
-    /// The bytes of all output.
+    /// How many bytes of output the service has made.
     made: u32,
     /// The units of output that the client has acknowledged.
     acked: u32,
@@ -62,7 +62,23 @@ impl<S: Service> Replay<S> {
         }
     }
 
-    /// The fetched bytes that aren't replayed.
+    /// A service at a mark, by which it had written `made` bytes of output, all of which the client has acknowledged.
+    pub(crate) fn resumed(alloc: Global, service: S, made: u32, acked: u32) -> Replay<S>
+        requires { made ≤ 2 ^ 24 }
+        ensures { result ≡ record { service = service; closed = false; made = made; acked = acked; pending = []; held = [] } }
+    {
+        Replay {
+            service,
+            closed: false,
+            made,
+            acked,
+            output: Vec::new(alloc),
+            fresh: Vec::new(alloc),
+            held: Held::new(alloc),
+        }
+    }
+
+    /// How many fetched bytes aren't replayed.
     pub(crate) fn held(&self) -> usize
         ensures { result ≡ length self.now.held }
     {
@@ -76,7 +92,7 @@ impl<S: Service> Replay<S> {
         &self.output
     }
 
-    /// The bytes of all output.
+    /// How many bytes of output the service has made.
     pub(crate) fn made(&self) -> u32
         ensures value { result ≡ self.now.made }
         ensures most { result ≤ 2 ^ 24 }
@@ -113,7 +129,7 @@ impl<S: Service> Replay<S> {
         )
     }
 
-    /// Holds fetched bytes.
+    /// Adds fetched bytes to those that wait.
     pub(crate) fn hold(&mut self, bytes: &[u8]) -> Result<(), NoMemory>
         ensures { OnOk result (self.new ≡ record self.old { held = self.old.held ++ bytes.now }) }
     {

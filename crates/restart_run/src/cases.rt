@@ -1,16 +1,19 @@
 //! The restarts that are played.
 
 use crate::hostile::attack;
-use crate::logged::Logged;
+use crate::logged::{Logged, NO_MARK};
+use crate::marked::marked_cases;
 use crate::play::{begin, fetch, hand, restore};
 use ft_io::{Key, NoMemory};
+use reincarnate::Fetching;
+use sample_servers::AnyService;
 use std::alloc::Global;
 
-const ECHO: u8 = 1;
+pub(crate) const ECHO: u8 = 1;
 
-const METER: u8 = 4;
+pub(crate) const METER: u8 = 4;
 
-const KEY: Key = Key {
+pub(crate) const KEY: Key = Key {
     ip: 0xC000_0201,
     port: 40_000,
 };
@@ -23,10 +26,20 @@ fn one(
     entry: Logged<'_>,
     out: &mut String,
 ) -> Result<(), NoMemory> {
+    restart(alloc, name, begin(alloc, kind, 1, false)?, entry, out)
+}
+
+/// One connection that is restored by this restart, with what is asked for it.
+pub(crate) fn restart(
+    alloc: Global,
+    name: &str,
+    mut fetching: Fetching<AnyService>,
+    entry: Logged<'_>,
+    out: &mut String,
+) -> Result<(), NoMemory> {
     out.push_str("case ")?;
     out.push_str(name)?;
     out.push_str("\n")?;
-    let mut fetching = begin(alloc, kind, 1)?;
     let entries = [entry];
     fetch(alloc, &mut fetching, &entries, out)?;
     restore(alloc, fetching, out)?;
@@ -34,7 +47,7 @@ fn one(
 }
 
 /// An entry of the worked runs' client.
-fn logged<'a>(bytes: &'a [u8], fin: u8, reads: &'a [u16], acked: u32) -> Logged<'a> {
+pub(crate) fn logged<'a>(bytes: &'a [u8], fin: u8, reads: &'a [u16], acked: u32) -> Logged<'a> {
     Logged {
         key: KEY,
         bytes,
@@ -42,6 +55,7 @@ fn logged<'a>(bytes: &'a [u8], fin: u8, reads: &'a [u16], acked: u32) -> Logged<
         done: 0,
         reads,
         acked,
+        mark: NO_MARK,
     }
 }
 
@@ -56,9 +70,10 @@ fn many(alloc: Global, out: &mut String) -> Result<(), NoMemory> {
             done: (i % 2) as u8,
             reads: &[1],
             acked: 0,
+            mark: NO_MARK,
         })?;
     }
-    let mut fetching = begin(alloc, ECHO, 64)?;
+    let mut fetching = begin(alloc, ECHO, 64, false)?;
     let mut passed = String::new(alloc);
     fetch(alloc, &mut fetching, &entries, &mut passed)?;
     let count = restore(alloc, fetching, &mut passed)?;
@@ -70,7 +85,7 @@ fn many(alloc: Global, out: &mut String) -> Result<(), NoMemory> {
 fn hostile(alloc: Global, bytes: &[u8], out: &mut String) -> Result<(), NoMemory> {
     let entry = logged(bytes, 0, &[2_048, 452], 5);
     let entries = [entry];
-    let mut fetching = begin(alloc, METER, 1)?;
+    let mut fetching = begin(alloc, METER, 1, false)?;
     let head = crate::logged::head_of(alloc, crate::play::BOOT, 0, &entry)?;
     hand(alloc, &mut fetching, &head)?;
     let lens = crate::logged::lens_of(alloc, crate::play::BOOT, &entry, 0)?;
@@ -141,5 +156,6 @@ pub(crate) fn play_all(alloc: Global) -> Result<String, NoMemory> {
     ending_cases(alloc, &mut out)?;
     many(alloc, &mut out)?;
     hostile(alloc, &long, &mut out)?;
+    marked_cases(alloc, &mut out)?;
     Ok(out)
 }

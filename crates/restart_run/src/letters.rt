@@ -47,13 +47,28 @@ impl Fields {
 
     /// The message of this kind with these fields, or no bytes where it would be longer than any.
     pub(crate) fn letter(&self, alloc: Global, kind: u8, boot: u8) -> Result<Vec<u8>, NoMemory> {
+        self.letter_of(alloc, b'T', kind, boot)
+    }
+
+    /// The same for a message about marks.
+    pub(crate) fn mark_letter(
+        &self,
+        alloc: Global,
+        kind: u8,
+        boot: u8,
+    ) -> Result<Vec<u8>, NoMemory> {
+        self.letter_of(alloc, b'V', kind, boot)
+    }
+
+    /// A message whose magic ends with this letter.
+    fn letter_of(&self, alloc: Global, magic: u8, kind: u8, boot: u8) -> Result<Vec<u8>, NoMemory> {
         let mut letter = Vec::new(alloc);
         if self.bytes.len() > 1_475 {
             return Ok(letter);
         }
         let size = 16 + self.bytes.len() as u16;
-        let check = sum_of(&header(kind, size, 0, boot), &self.bytes);
-        letter.extend_from_slice(&header(kind, size, check, boot))?;
+        let check = sum_of(&header(magic, kind, size, 0, boot), &self.bytes);
+        letter.extend_from_slice(&header(magic, kind, size, check, boot))?;
         letter.extend_from_slice(&self.bytes)?;
         Ok(letter)
     }
@@ -70,10 +85,10 @@ fn sum_of(front: &[u8], rest: &[u8]) -> u16
     sum.check()
 }
 
-fn header(kind: u8, size: u16, check: u16, boot: u8) -> [u8; 16] {
+fn header(magic: u8, kind: u8, size: u16, check: u16, boot: u8) -> [u8; 16] {
     let (size, check) = (bytes_of(size), bytes_of(check));
     [
-        b'F', b'T', 1, kind, size.0, size.1, check.0, check.1, 0, 0, 0, 0, 0, 0, 0, boot,
+        b'F', magic, 1, kind, size.0, size.1, check.0, check.1, 0, 0, 0, 0, 0, 0, 0, boot,
     ]
 }
 

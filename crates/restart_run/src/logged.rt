@@ -1,8 +1,10 @@
 //! A log in memory, as far as a restart asks for it.
 
 use crate::letters::Fields;
+use checkpoint::{MarkBody, MarkMsg};
 use ft_io::{Key, NoMemory};
 use logger_wire::{Body, Msg};
+use reincarnate::AnyMsg;
 use std::alloc::Global;
 
 const ENTRY: u8 = 4;
@@ -10,6 +12,25 @@ const ENTRY: u8 = 4;
 const PART: u8 = 6;
 
 const LENS: u8 = 8;
+
+/// The kind of a Held, among the messages about marks.
+const HELD: u8 = 4;
+
+/// A mark, of no reads where there is none.
+#[derive(Clone, Copy)]
+pub(crate) struct Marked<'a> {
+    pub reads: u32,
+    pub length: u32,
+    pub made: u32,
+    pub state: &'a [u8],
+}
+
+pub(crate) const NO_MARK: Marked<'static> = Marked {
+    reads: 0,
+    length: 0,
+    made: 0,
+    state: b"",
+};
 
 /// An entry.
 #[derive(Clone, Copy)]
@@ -20,10 +41,33 @@ pub(crate) struct Logged<'a> {
     pub done: u8,
     pub reads: &'a [u16],
     pub acked: u32,
+    pub mark: Marked<'a>,
+}
+
+/// The log's answer to a question of either kind.
+pub(crate) fn any_answer(
+    alloc: Global,
+    boot: u8,
+    entries: &[Logged<'_>],
+    question: &AnyMsg<'_>,
+) -> Result<Vec<u8>, NoMemory> {
+    match question {
+        AnyMsg::Log(question) => answer(alloc, boot, entries, question),
+        AnyMsg::Mark(
+            MarkMsg {
+                body: MarkBody::Ask { key },
+                ..
+            },
+        ) => match entry_of(entries, *key) {
+            Some(entry) => held_of(alloc, boot, *key, entry.mark),
+            None => Ok(Vec::new(alloc)),
+        },
+        AnyMsg::Mark(_) => Ok(Vec::new(alloc)),
+    }
 }
 
 /// The log's answer to a question, as bytes; none where it has no answer.
-pub(crate) fn answer(
+fn answer(
     alloc: Global,
     boot: u8,
     entries: &[Logged<'_>],
@@ -101,4 +145,20 @@ pub(crate) fn lens_of(
         fields.word(*length)?;
     }
     fields.letter(alloc, LENS, boot)
+}
+
+/// The mark of a connection.
+pub(crate) fn held_of(
+    alloc: Global,
+    boot: u8,
+    key: Key,
+    mark: Marked<'_>,
+) -> Result<Vec<u8>, NoMemory> {
+    let mut fields = Fields::new(alloc);
+    fields.key(key)?;
+    fields.long(mark.reads)?;
+    fields.long(mark.length)?;
+    fields.long(mark.made)?;
+    fields.all(mark.state)?;
+    fields.mark_letter(alloc, HELD, boot)
 }

@@ -10,6 +10,7 @@ mod cases;
 mod hostile;
 mod letters;
 mod logged;
+mod marked;
 mod play;
 mod text;
 

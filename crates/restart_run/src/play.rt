@@ -1,10 +1,11 @@
 //! One restart.
 
-use crate::logged::{Logged, answer};
-use crate::text::question_line;
+use crate::logged::{Logged, any_answer};
+use crate::text::any_line;
+use checkpoint::read_mark;
 use ft_io::{Addr, NoMemory};
 use logger_wire::read_msg;
-use reincarnate::{Asked, Fetching, LostIn, Replayed, Spliced};
+use reincarnate::{AnyMsg, Asked, Fetching, LostIn, Replayed, Spliced};
 use sample_servers::AnyService;
 use seq_arith::Seq;
 use std::alloc::Global;
@@ -32,23 +33,27 @@ pub(crate) fn begin(
     alloc: Global,
     kind: u8,
     count: usize,
+    marks: bool,
 ) -> Result<Fetching<AnyService>, NoMemory> {
     let asked = Asked::new(u64::from(BOOT));
     let count = count.min(64) as u16;
-    match asked.on_summary(alloc, kind, count) {
+    match asked.on_summary(alloc, kind, count, marks) {
         Ok(fetching) => Ok(fetching),
         Err(end) => Err(lost(end)),
     }
 }
 
-/// Hands over bytes, if they are a message. Whether it fits.
+/// Hands over bytes, if they are a message of either kind. Whether it fits.
 pub(crate) fn hand(
     alloc: Global,
     fetching: &mut Fetching<AnyService>,
     bytes: &[u8],
 ) -> Result<bool, NoMemory> {
-    match read_msg(bytes) {
-        Ok(message) => fetching.on_answer(alloc, &message),
+    if let Ok(message) = read_msg(bytes) {
+        return fetching.on_answer(alloc, &AnyMsg::Log(message));
+    }
+    match read_mark(bytes) {
+        Ok(message) => fetching.on_answer(alloc, &AnyMsg::Mark(message)),
         Err(_) => Ok(false),
     }
 }
@@ -61,8 +66,8 @@ fn step(
 ) -> Result<Option<String>, NoMemory> {
     let (line, bytes) = match fetching.question() {
         Some(question) => (
-            question_line(alloc, &question)?,
-            answer(alloc, BOOT, entries, &question)?,
+            any_line(alloc, &question)?,
+            any_answer(alloc, BOOT, entries, &question)?,
         ),
         None => return Ok(None),
     };

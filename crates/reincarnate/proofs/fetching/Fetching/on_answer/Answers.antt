@@ -1,8 +1,9 @@
-use Rattle.reincarnate.proofs.AnswerLaw.{answers_lead}
-use Rattle.logger_wire.specs.Value.{message_of}
+use Rattle.reincarnate.proofs.MarkLaw.{any_leads}
+use Rattle.reincarnate.specs.Marking.{any_of}
 use Rattle.reincarnate.proofs.fetching.Fetching.on_answer.Goals as goal
 use Rattle.ft_io.proofs.Outcomes.{if_ok}
 
 pub returns-clause-law : goal.returns-clause-law
 returns-clause-law g c =
-    if_ok c.hear.result (λ fits told fetched st. answers_lead g.S.Service.started g.S.Service.after c.args.self.now fetched (message_of c.args.m.now) fits c.hear.new.self st told) c.hear.ensures.value
+    if_ok c.hear_any.result (λ fits told so_far st. any_leads g.S.Service.started g.S.Service.after g.S.Saved.form g.S.Saved.state_of c.args.self.now so_far (any_of c.args.m.now) fits
+    c.hear_any.new.self st told) c.hear_any.ensures.value

@@ -1,0 +1,13 @@
+//! A message between a server and its log, of either kind.
+
+use checkpoint::MarkMsg;
+use logger_wire::Msg;
+
+/// A message to the logger or from it: one about marks, or any other.
+#[derive(Clone, Copy, Debug)]
+pub enum AnyMsg<'a> {
+    /// Any other message.
+    Log(Msg<'a>),
+    /// A message about marks.
+    Mark(MarkMsg<'a>),
+}
