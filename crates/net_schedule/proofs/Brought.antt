@@ -1,5 +1,5 @@
 -- Bytes that a method of the world hands to a client, to the server or to a logger reach the addressee of the packet or parcel that has this direction.
-use Rattle.std.proofs.Common.{◌≡◌, ◌∙◌, sym, ap, subst, refl, ℕ, ◌≤◌, le_refl, true, List, length}
+use Rattle.std.proofs.Common.{◌≡◌, ◌∙◌, sym, ap, subst, refl, ℕ, ◌≤◌, le_refl, List, length}
 use Rattle.seq_arith.specs.PacketGrammar as segments
 use Rattle.seq_arith.specs.MessageGrammar as messages
 use Rattle.server_trait.specs.declared.Service.{Ghosts}

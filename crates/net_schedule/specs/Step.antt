@@ -19,7 +19,7 @@ pub record StandsAfter {State : Type 0} (services : ℕ → Machine State) (sche
   pub legal : IsLegalFor services schedule events trace
   pub stands : WorldStands (services w.kind) w (world_after (start_of schedule) trace)
 
--- So it is with one more event, after a trace.
+-- The same with one more event: the trace is extended by a moment.
 pub record Extends {State : Type 0} (services : ℕ → Machine State) (schedule : Schedule) (events : List Event) (trace : List Moment)
     (event : Event) (w : Kept State) : Type 0 where
   pub moment : Moment

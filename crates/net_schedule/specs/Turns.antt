@@ -1,4 +1,4 @@
--- What the methods of the code's world do, a relation for each layer. It speaks of whichever world of the definitions it is at which the code's world is: one
+-- What the methods of the code's world do, a relation for each layer. It holds for each world of the definitions to which the code's world may correspond: one
 -- with one logger or with two, which a legal trace can reach.
 use Rattle.std.specs.Prelude.{◌≡◌, ℕ, ◌≤◌, Some, List, length}
 use Rattle.server_trait.specs.declared.Service.{Ghosts}
@@ -22,7 +22,7 @@ use Rattle.net_schedule.specs.declared.end.StepEnd.{StepEnd}
 use Rattle.net_schedule.specs.declared.end.StepEnd.TheVariants.{NoMemory, BadEvent, PacketLimit}
 use Rattle.net_schedule.specs.declared.world.World.{World}
 
--- in every turn the service stays, and packets are only added
+-- in every turn the service stays the same, and packets are only added
 pub record Continues {State : Type 0} {ghosts : Ghosts State} (before after : World State ghosts) : Type 0 where
   pub same_kind : after.kind ≡ before.kind
   pub grew : length before.packets.bytes ≤ length after.packets.bytes

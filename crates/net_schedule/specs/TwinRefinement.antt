@@ -1,4 +1,5 @@
--- The code's world with two loggers, the world of the definitions at which it is, and what an event does to both.
+-- The code's world with two loggers, the world of the definitions at which it is, and what an event does to both. A parcel is what that world sends: a packet, or
+-- a datagram between the two loggers.
 use Rattle.std.specs.Prelude.{◌≡◌, ℕ, None, Some, List, [], ◌++◌, map}
 use Rattle.std.specs.List.{AllByRecursion}
 use Rattle.ft_io.specs.declared.Key.{Key}

@@ -19,7 +19,7 @@ pub record TwinStandsAfter {State : Type 0} (services : ℕ → Machine State) (
   pub legal : IsTwinLegalFor services schedule events trace
   pub stands : TwinWorldStands (services w.kind) w (twin_after (twin_start schedule) trace)
 
--- So it is with one more event, after a trace.
+-- The same with one more event: the trace is extended by a moment.
 pub record TwinExtends {State : Type 0} (services : ℕ → Machine State) (schedule : Schedule) (events : List Event) (trace : List TwinMoment)
     (event : Event) (w : Kept State) : Type 0 where
   pub moment : TwinMoment

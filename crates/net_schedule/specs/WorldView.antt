@@ -24,7 +24,7 @@ kept w = record {
   node = option_map server_of w.node;
 }
 
--- the services among which it can run one, by their kinds
+-- the services that it can run, by their kinds
 abbrev pub services_of : {State : Type 0} {ghosts : Ghosts State} → World State ghosts → ℕ → Machine State
 services_of {ghosts = ghosts} w = machines ghosts.started ghosts.after
 

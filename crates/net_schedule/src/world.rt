@@ -19,7 +19,7 @@ use logger_store::LogStore;
 use peer_client::Client;
 use seq_arith::flip;
 use server_node::{Input, Node, TurnEnd};
-use server_trait::Service;
+use server_trait::{Saved, Service};
 use std::alloc::Global;
 use std::mem;
 use trace_laws::premises_hold;
@@ -75,12 +75,12 @@ pub struct World<S: Service> {
     node: Option<Node<S>>,
     /// A copy of the packet that is being delivered.
     copy: Vec<u8>,
-    /// Room for the packet that a client sends.
+    /// The buffer for the packet that a client sends.
     room: [u8; PACKET_ROOM],
     ghost few: { length keys.items ≤ 16 },
 }
 
-impl<S: Service> World<S> {
+impl<S: Saved> World<S> {
     ghost use Rattle.std.specs.Prelude.{◌≡◌, ◌≤◌, ◌<◌, ◌+◌, ◌-◌, true, false, [], option_copied, length, Some, IfOk, IfErr, OnOk};
     ghost use Rattle.net_schedule.specs.Along.{StepsAlong, EndsAlong, TwinStepsAlong, TwinEndsAlong};
     ghost use Rattle.net_schedule.specs.AtNumber.{at_number};

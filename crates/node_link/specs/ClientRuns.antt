@@ -56,7 +56,7 @@ abbrev pub RunsScript : ClientRole → (left_old left_new : Option (List ℕ)) �
     → (Option ClientEnd → ℕ → Type 0) → Type 0
 RunsScript role left_old left_new old new Writes Ends = (script : List ℕ) × IsScript role.script left_old left_new script × IsClient role script old new Writes Ends
 
--- why there is no script: the words give none, and a read failed or the source has more bytes than a script may have; or memory is wanting
+-- why there is no script: the words give none, and a read failed or the source has more bytes than a script may have; or memory ran out
 abbrev pub ScriptStops : Option Script → (left_old : Option (List ℕ)) → NodeEnd → Type 0
 ScriptStops script left_old Usage = (script ≡ None) × IfSome left_old (λ left. 2 ^ 24 < length left)
 ScriptStops script left_old ReadFault = script ≡ None

@@ -35,7 +35,7 @@ name_of Part = codes "part"
 name_of Other = codes "other"
 name_of To = codes "to"
 
--- an option that its role can't do without
+-- an option that its role requires
 abbrev pub is_required : OptionName → Bool
 is_required Script = false
 is_required SecondLogger = false

@@ -62,7 +62,7 @@ module _ {State : Type 0} (services : ℕ → Machine State) where
   LivesAs (Pair role) (Err end) before after =
       (after.left ≡ before.left) × (after.calls ≡ before.calls) × PairStops role before.started before.spawned after.spawned before.out after.out end
 
-  -- by the role that the words ask for. Words that aren't allowed are reported as such, and memory may be lacking to read them
+  -- by the role that the words ask for. Words that aren't allowed are reported as such, and reading them may run out of memory
   abbrev pub Lives : Option Role → Result (Unit {0}) NodeEnd → (before after : Given) → Type 0
   Lives None end before after = ((end ≡ Err Usage) ⊎ (end ≡ Err NoMemory)) × HasDoneNothing before after
   Lives (Some role) end before after = LivesAs role end before after ⊎ ((end ≡ Err NoMemory) × HasDoneNothing before after)

@@ -77,7 +77,7 @@ StepsStop steps before old new out_old out_new Child =
     (count : ℕ) × (count < length steps) × IsPair (take count steps) before old new (Appends out_old out_new)
 StepsStop steps before old new out_old out_new Write = (count : ℕ) × IsPair (take count steps) before old new (AppendsFront out_old out_new)
 
--- how a pair stops early: where memory is wanting, before the first start
+-- how a pair stops early: where memory runs out, before the first start
 abbrev pub PairStops : PairRole → ℕ → (old new : Option (List SpawnCall)) → (out_old out_new : Option (List ℕ)) → NodeEnd → Type 0
 PairStops role before old new out_old out_new NoMemory = Tells old new [] × (out_new ≡ out_old)
 PairStops role before old new out_old out_new ChildFault = StepsStop (steps_of role) before old new out_old out_new Child

@@ -69,7 +69,7 @@ fn script_of<I: Source>(
     }
 }
 
-/// Room for all that a client's TCP holds for its user.
+/// A buffer for all that a client's TCP holds for its user.
 fn accept_room(alloc: Global) -> Result<Vec<u8>, NoMemory>
     ensures { IfOk result (λ room. vec_len room ≡ ACCEPT_ROOM) }
 {
@@ -86,7 +86,7 @@ fn send_all<L: Link>(link: &mut L, to: Addr, outbox: &Outbox)
     }
 }
 
-/// Ends a turn of the client: what leaves then is handed to send.
+/// Ends a turn of the client by a flush, whose packets are handed to send.
 fn flush<L: Link>(link: &mut L, to: Addr, client: &mut LiveClient, outbox: &mut Outbox)
     ensures sent { AreHanded to (packets_lem (sent_by client.old)) (L.told link.old) (L.told link.new) }
     ensures state { client.new ≡ turned client.old }
@@ -97,7 +97,7 @@ fn flush<L: Link>(link: &mut L, to: Addr, client: &mut LiveClient, outbox: &mut 
     send_all(link, to, outbox);
 }
 
-/// Receives once: the client sees what comes, or else a tick.
+/// Receives once: the client gets what arrives, or else a tick.
 fn receive<L: Link>(link: &mut L, client: &mut LiveClient)
     requires { IsShort client.old.tcb.sending }
     ensures received { HasReceived client.old client.new (L.told link.old) (L.told link.new) }

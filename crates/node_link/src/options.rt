@@ -34,11 +34,11 @@ pub enum OptionName {
     Second,
     /// The file in which a logger keeps its log. No role of `node` has this option.
     Journal,
-    /// Of no role of `node`: which of two loggers it is.
+    /// Which of two loggers it is. No role of `node` has this option.
     Part,
-    /// Of no role of `node`: the other logger.
+    /// The other logger. No role of `node` has this option.
     Other,
-    /// Of no role of `node`: the logger that serves alone from now on.
+    /// The logger that serves alone from now on. No role of `node` has this option.
     To,
 }
 
@@ -68,7 +68,7 @@ impl OptionName {
         }
     }
 
-    /// Whether its role can't do without it.
+    /// Whether its role requires it.
     fn is_required(self) -> bool
         ensures { result ≡ is_required_lem self }
     {

@@ -8,7 +8,7 @@ ghost use Rattle.node_link.specs.Receipt.{Received, datagram, received_as, IsQui
 use crate::counts::Counts;
 use ft_io::{Addr, Heard, Link};
 
-/// Room for a datagram, in bytes: no packet and no message is longer.
+/// The length of the buffer for a datagram, in bytes: no packet and no message is longer.
 pub const DATAGRAM_ROOM: usize = 2_048;
 
 /// Receives once: how many bytes were written at the beginning of the buffer, and who sent them. None is a tick.

@@ -76,13 +76,13 @@ pub struct ServerRole {
     pub local: Addr,
     /// The addresses of its logger, or of both.
     pub loggers: Loggers,
-    /// One of the four, or none where the program has a service of its own.
+    /// The service: one of the four, or None where the program has a service of its own.
     pub service: Option<ServiceKind>,
-    /// At least 1.
+    /// The boot number, at least 1.
     pub boot: u64,
-    /// From which its connections' initial numbers are made.
+    /// The number from which its connections' initial sequence numbers are counted.
     pub isn: u32,
-    /// 1 to 1,000,000.
+    /// How many turns it takes, 1 to 1,000,000.
     pub turns: u32,
 }
 
@@ -91,7 +91,7 @@ pub struct ServerRole {
 pub struct LoggerRole {
     /// Its own address and port.
     pub local: Addr,
-    /// 1 to 1,000,000.
+    /// How many turns it takes, 1 to 1,000,000.
     pub turns: u32,
 }
 
@@ -104,7 +104,7 @@ pub struct ClientRole {
     pub server: Addr,
     /// Its initial number.
     pub isn: u32,
-    /// At most so many, 1 to 1,000,000.
+    /// The most turns that it takes, 1 to 1,000,000.
     pub turns: u32,
     /// None where the script is the input.
     pub script: Option<Script>,

@@ -25,10 +25,10 @@ use crate::role::{Loggers, ServerRole};
 use crate::status::NodeEnd;
 use ft_io::{Addr, Failed, Link, NoMemory, Sink};
 use server_node::{Input, Node, OutPacket, To, TurnEnd};
-use server_trait::Service;
+use server_trait::Saved;
 use std::alloc::Global;
 
-/// Where a packet is sent: to its client's own address, or to the logger's, the first of two.
+/// Where a packet is sent: to its client's own address, or to the logger's; of two loggers, to the first one's.
 fn address_of(logger: Addr, to: To) -> Addr
     ensures { result ≡ address_lem logger (party_of to) }
 {
@@ -41,7 +41,7 @@ fn address_of(logger: Addr, to: To) -> Addr
     }
 }
 
-/// The second logger, where a packet is a message.
+/// The second logger's address, if there is one and the packet is a message.
 fn second_for(loggers: Loggers, to: To) -> Option<Addr>
     ensures { result ≡ second_lem loggers (party_of to) }
 {
@@ -61,7 +61,7 @@ fn hand<L: Link>(link: &mut L, to: Addr, bytes: &[u8], counts: &mut Counts)
     counts.note_sent(&sent);
 }
 
-/// Hands a packet to send: a message to each logger, the first of them first.
+/// Hands a packet to send: a message to the first logger, and then to the second, if there is one.
 fn send_one<L: Link>(link: &mut L, loggers: Loggers, packet: &OutPacket, counts: &mut Counts)
     requires { HasRoom 2 counts.old }
     ensures sent { HasSent loggers (packet.now ∷ []) (L.told link.old) (L.told link.new) counts.old counts.new }
@@ -123,8 +123,8 @@ fn input_of<'a>(loggers: Loggers, came: Option<(usize, Addr)>, buffer: &'a [u8])
     }
 }
 
-/// One turn: a receive, and all that the node sends at what came.
-fn take_turn<S: Service, L: Link>(
+/// One turn: a receive, and all that the node sends in answer to what arrived.
+fn take_turn<S: Saved, L: Link>(
     alloc: Global,
     loggers: Loggers,
     node: &mut Node<S>,
@@ -144,7 +144,7 @@ fn take_turn<S: Service, L: Link>(
 }
 
 /// Boots, and sends what the boot sends.
-fn boot<S: Service, L: Link>(
+fn boot<S: Saved, L: Link>(
     alloc: Global,
     role: &ServerRole,
     link: &mut L,
@@ -162,7 +162,7 @@ fn boot<S: Service, L: Link>(
 }
 
 /// So many turns, and their calls counted.
-fn serve<S: Service, L: Link>(
+fn serve<S: Saved, L: Link>(
     alloc: Global,
     role: &ServerRole,
     link: &mut L,
@@ -181,7 +181,7 @@ fn serve<S: Service, L: Link>(
 }
 
 /// A server after its bind: its turns, and the line that it ends with.
-fn serve_and_tell<S: Service, L: Link, O: Sink>(
+fn serve_and_tell<S: Saved, L: Link, O: Sink>(
     alloc: Global,
     role: &ServerRole,
     link: &mut L,
@@ -205,7 +205,7 @@ fn serve_and_tell<S: Service, L: Link, O: Sink>(
 }
 
 /// A server: it binds, boots, does its turns, and writes the counts of their calls.
-pub(crate) fn run_server<S: Service, L: Link, O: Sink>(
+pub(crate) fn run_server<S: Saved, L: Link, O: Sink>(
     alloc: Global,
     role: &ServerRole,
     link: &mut L,

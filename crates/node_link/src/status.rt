@@ -12,7 +12,7 @@ pub struct Status {
     pub code: u8,
 }
 
-/// How a process ends that wasn't done to its end.
+/// How a process ends early.
 #[derive(Clone, Copy, Debug, PartialEq, Eq)]
 pub enum NodeEnd {
     /// The words aren't allowed.

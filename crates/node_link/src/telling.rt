@@ -1,4 +1,4 @@
-//! What a process that wasn't done to its end writes to the error sink, and its status.
+//! What a process that ends early writes to the error sink, and its status.
 
 ghost use Rattle.std.specs.Prelude.{◌≡◌, false, OnOk, OnErr};
 ghost use Rattle.std.specs.Io.KnownBytes.{Appends};

@@ -23,7 +23,7 @@ use crate::status::{NodeEnd, Status};
 use crate::telling::tell;
 use ft_io::{Link, Sink, Source, Spawner};
 use sample_servers::AnyService;
-use server_trait::Service;
+use server_trait::Saved;
 use std::alloc::Global;
 
 /// Does what the words ask for.
@@ -62,7 +62,7 @@ fn run<L: Link, I: Source, O: Sink, P: Spawner>(
 /// `ftnode` with these words: a server, a logger or a client of FT-TCP over the link, or a pair, which starts these as programs of their own. What ended it
 /// early is written to `err`. The status is 0 where all was done: the turns of a server or a logger, both ends of a client's connection, the waits of a pair; 2
 /// where the words aren't allowed or the client's input is longer than a stream, 3 because memory ran out, 4 where the bind failed, 5 for a fault of a sink, 6
-/// where a newer server fenced this one, 7 where the client was reset, 8 where its turns ended before, 9 for a fault of the source, and 10 where a start or a
+/// where a newer server fenced this one, 7 where the client was reset, 8 where its turns ended first, 9 for a fault of the source, and 10 where a start or a
 /// wait of a pair failed.
 pub fn node<L: Link, I: Source, O: Sink, E: Sink, P: Spawner>(
     alloc: Global,
@@ -73,7 +73,7 @@ pub fn node<L: Link, I: Source, O: Sink, E: Sink, P: Spawner>(
     err: &mut E,
     kids: &mut P,
 ) -> Status
-    // What was read, called on the link and on kids, and written to out by the role of the words, and what was written to err of the end.
+    // By the role of the words: what was read, which calls were made on the link and on kids, and what was written to out. By the end: what was written to err.
     ensures ended { HasEnded (role_of (map string_bytes words.now))
         (record { left = I.left input.old; calls = L.told link.old; started = P.started kids.old; spawned = P.told kids.old; out = O.taken out.old })
         (record { left = I.left input.new; calls = L.told link.new; started = P.started kids.new; spawned = P.told kids.new; out = O.taken out.new })
@@ -120,7 +120,7 @@ pub fn node<L: Link, I: Source, O: Sink, E: Sink, P: Spawner>(
 }
 
 /// Does what the words ask for of a program with this service.
-fn run_own<S: Service, L: Link, O: Sink>(
+fn run_own<S: Saved, L: Link, O: Sink>(
     alloc: Global,
     words: &[String],
     link: &mut L,
@@ -143,14 +143,14 @@ fn run_own<S: Service, L: Link, O: Sink>(
 /// A server with a service of one's own, or its logger, over the link. The words are those of a server or a logger of [`node`], without `--service`: the
 /// service is `S`, whose kind is 0. What ended it early is written to `err`. The status is 0 where all turns were done, 2 where the words aren't allowed, 3 for
 /// a lack of memory, 4 where the bind failed, 5 for a fault of a sink, and 6 where a newer server fenced this one.
-pub fn node_of<S: Service, L: Link, O: Sink, E: Sink>(
+pub fn node_of<S: Saved, L: Link, O: Sink, E: Sink>(
     alloc: Global,
     words: &[String],
     link: &mut L,
     out: &mut O,
     err: &mut E,
 ) -> Status
-    // What was called on the link and written to out by the role of the words, and what was written to err of the end.
+    // By the role of the words: which calls were made on the link, and what was written to out. By the end: what was written to err.
     ensures ended { HasEndedWith (machines S.started S.after) (own_role_of (map string_bytes words.now))
         (with_link (L.told link.old) (O.taken out.old)) (with_link (L.told link.new) (O.taken out.new)) (E.taken err.old) (E.taken err.new) result.code }
 

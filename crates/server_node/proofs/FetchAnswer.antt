@@ -14,7 +14,7 @@ use Rattle.ft_model.specs.Lawful.{fetched_then}
 use Rattle.reincarnate.specs.Questions.{FetchingState, entry_known, entries_of, after_answer, answered, head_fits, with_head, with_newest, part_on, lens_on}
 use Rattle.reincarnate.specs.Progress.{EntryState}
 use Rattle.server_node.specs.declared.identity.Identity.{Identity}
-use Rattle.server_node.specs.FetchStage.{AreDistinct, FetchingStands, IsOwn}
+use Rattle.server_node.specs.FetchStage.{AreDistinct, FetchingStands, IsOwn, UsesNone}
 use Rattle.ft_io.proofs.Booleans.{not_true}
 use Rattle.ft_model.proofs.Lists.{same_key, none_is_some, some_is, found_passes}
 
@@ -50,19 +50,20 @@ pub record IsSame {S : Type 0} (s t : FetchingState S) : Type 0 where
   pub boot : t.boot ≡ s.boot
   pub kind : t.kind ≡ s.kind
   pub so_many : t.count ≡ s.count
+  pub marks : t.marks ≡ s.marks
 
 newest_same : {S : Type 0} (s : FetchingState S) (o : Option (EntryState S)) → IfSome (option_map (with_newest s) o) (IsSame s)
-newest_same s (Some e) = record { boot = refl; kind = refl; so_many = refl }
+newest_same s (Some e) = record { boot = refl; kind = refl; so_many = refl; marks = refl }
 newest_same s None = tt
 
 body_same : {S : Type 0} (started : ℕ → S) (after : S → List ℕ → Served S) (body : Body) (s : FetchingState S) → IfSome (answered started after s body) (IsSame s)
 body_same started after (EntryMsg index head) s =
-    chosen (IsSame s) (head_fits index head.key s) (with_head (started s.kind) head s) (λ e. record { boot = refl; kind = refl; so_many = refl })
+    chosen (IsSame s) (head_fits index head.key s) (with_head (started s.kind) head s) (λ e. record { boot = refl; kind = refl; so_many = refl; marks = refl })
 body_same started after (PartMsg key offset bytes) s = newest_same s (part_on after key offset bytes s.newest)
 body_same started after (LensMsg key first lens) s = newest_same s (lens_on after key first lens s.newest)
 body_same started after _ s = tt
 
-heard_same : {S : Type 0} (started : ℕ → S) (after : S → List ℕ → Served S) (message : Message) (s : FetchingState S) → IfSome (after_answer started after message s) (IsSame s)
+pub heard_same : {S : Type 0} (started : ℕ → S) (after : S → List ℕ → Served S) (message : Message) (s : FetchingState S) → IfSome (after_answer started after message s) (IsSame s)
 heard_same started after message s = go (message.boot == s.boot)
   where
     go : (b : Bool) → IfSome (if b then answered started after s message.body else None) (IsSame s)
@@ -74,7 +75,7 @@ pub answer_same : {S : Type 0} (started : ℕ → S) (after : S → List ℕ →
 answer_same {S} started after message s t fits = go (after_answer started after message s) (heard_same started after message s)
   where
     go : (o : Option (FetchingState S)) → IfSome o (IsSame s) → MatchOption o ((fits ≡ false) × (t ≡ s)) (λ x. (fits ≡ true) × (t ≡ x)) → IsSame s t
-    go None h (unfit, is) = subst (IsSame s) (sym is) (record { boot = refl; kind = refl; so_many = refl })
+    go None h (unfit, is) = subst (IsSame s) (sym is) (record { boot = refl; kind = refl; so_many = refl; marks = refl })
     go (Some x) h (fit, is) = subst (IsSame s) (sym is) h
 
 -- the entry of a key, unless it is done
@@ -129,7 +130,7 @@ heads_of g (Some f) = refl
 heads_of g None = refl
 
 pub still_own : {S : Type 0} (who : Identity) (s t : FetchingState S) → IsSame s t → IsOwn who s → IsOwn who t
-still_own who s t same own = record { boot = same.boot ∙ own.boot; kind = same.kind ∙ own.kind }
+still_own who s t same own = record { boot = same.boot ∙ own.boot; kind = same.kind ∙ own.kind; unmarked = subst UsesNone (sym same.marks) own.unmarked }
 
 -- an outcome is one value
 pub same_ok : {X E : Type 0} (r : Result X E) (x y : X) → r ≡ Ok x → r ≡ Ok y → x ≡ y

@@ -35,3 +35,4 @@ pub mod Strange
 pub mod StagedApart
 pub mod Runs
 pub mod RestoredAlone
+mod Unmarked

@@ -1,4 +1,4 @@
--- What each key has of a turn, whatever the clients of the other keys send and whether their connections stand: its turn is that of a server
+-- What a turn is for one key, whatever the clients of the other keys send and in whatever state their connections are: it is the turn of a server
 -- that serves this key alone.
 use Rattle.std.specs.Prelude.{◌≡◌, ◌≤◌, ◌⊎◌, ◌==◌, not, ℕ, Bool, true, false, Option, Some, None, List, [], ◌++◌, map, if◌then◌else◌}
 use Rattle.std.specs.List.{AllByRecursion}
@@ -33,17 +33,17 @@ abbrev pub slot_in : {S : Type 0} → Key → Stage S → Option (Slot S)
 slot_in key (stage.Serving s) = slot_of key s
 slot_in key _ = None
 
--- a packet is that of a key which the input is about: a packet for this server is about the key of its client, a message of this boot about
--- the key that it names, a tick about each
+-- a packet that is sent belongs to a key that the input is about: a packet for this server is about the key of its client, a message of this
+-- boot about the key that it names, a tick about each key
 abbrev pub IsForSubject : Node → Input → Wire → Type 0
 IsForSubject node input wire = (key : Key) × (concerns node input key ≡ true) × IsFor key wire
 
--- A turn leaves the slots of all keys as they are that the input isn't about, and sends nothing but packets of those that it is about
+-- A turn leaves the slots of the keys that the input isn't about as they are, and sends only packets of the keys that it is about
 pub record LeavesOthers {S : Type 0} (node : Node) (input : Input) (was now : Serving S) (sent : List Wire) : Type 0 where
   pub slots : (key : Key) → concerns node input key ≡ false → slot_of key now ≡ slot_of key was
   pub whose : AllByRecursion (IsForSubject node input) sent
 
--- the slot of one key stands at that key's place, or the key has neither
+-- the slot of one key corresponds to that key's place, or the key has neither
 abbrev pub StandsFor : {S : Type 0} → Machine S → Node → Key → Option (Slot S) → Option Place → Type 0
 StandsFor service node key (Some slot) (Some place) = SlotStands service node key slot place
 StandsFor service node key None None = Unit {0}
@@ -58,15 +58,15 @@ IsNearFor server _ _ = Unit {0}
 abbrev pub coming_to : Node → Key → Input → Input
 coming_to node key input = if concerns node input key then input else Noise_comes
 
--- a SYN is passed over while 64 openings are pending
+-- a SYN is ignored while 64 openings are pending
 pub record IsPassedOver (pending : ℕ) (place after : Option Place) (sent : List Packet) : Type 0 where
   pub full : 64 ≤ pending
   pub unknown : place ≡ None
   pub still : after ≡ None
   pub silent : sent ≡ []
 
--- a key's turn, by the law: that of a server that has this key alone, where so many initial numbers are used up. Only a SYN may be passed over
--- for the sake of others
+-- a key's turn, by the law: that of a server that has this key alone, where so many initial numbers are used up. The one exception is a SYN that
+-- is ignored because of the openings of others
 abbrev pub KeyTurn : {S : Type 0} → Machine S → Node → Input → Key → (opened pending : ℕ) → Option Place → Option Place → List Packet → Type 0
 KeyTurn service node input key opened pending place after sent =
     ServingTurn service node (coming_to node key input) opened (option_to_list place) (option_to_list after) sent ⊎ IsPassedOver pending place after sent
@@ -84,7 +84,7 @@ pub record KeyMeets {S : Type 0} (service : Machine S) (node : Node) (input : In
   pub wires : of_key key sent ≡ map wire_of packets
   pub spelled : AllByRecursion HasWire packets
 
--- the slots of all keys, each alone: what is told comes after what was sent before
+-- the slots of all keys, each alone; `told` is what the turn has sent, after what was sent before
 pub record SlotsAlone {S : Type 0} (service : Machine S) (node : Node) (input : Input) (was now : List (Key × Slot S)) (old new : List Wire) : Type 0 where
   pub told : List Wire
   pub put : new ≡ old ++ told
@@ -134,7 +134,7 @@ Alone service node input (stage.Serving was) (stage.Serving now) sent = GoAlone 
 Alone service node input (stage.Serving was) _ sent = ⊥
 Alone service node input _ _ sent = Unit {0}
 
--- what comes is for nobody here: bytes that spell nothing, a packet for another server, a message of another boot
+-- what arrives is for nobody here: bytes that spell nothing, a packet for another server, a message of another boot
 abbrev pub is_for_nobody : Node → Input → Bool
 is_for_nobody node (Packet_comes segment) = not (is_for node.server segment)
 is_for_nobody node (Message_comes message) = not (message.boot == node.boot)

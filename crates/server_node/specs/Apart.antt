@@ -1,4 +1,4 @@
--- What holds of a node's turn whatever came, wherever its connections stood, and whatever its log's entries are.
+-- What holds of a node's turn whatever arrives, in whatever state its connections are, and whatever its log's entries are.
 use Rattle.std.specs.Prelude.{List}
 use Rattle.server_trait.specs.Service.{Machine}
 use Rattle.ft_model.specs.Node.{Input}

@@ -1,4 +1,4 @@
--- An incarnation by what never changes of it.
+-- An incarnation's constants, and the model's node and the service that they determine.
 use Rattle.server_trait.specs.Service.{Machine, machine}
 use Rattle.server_trait.specs.declared.Service.{Ghosts}
 use Rattle.ft_model.specs.Node.{Node, Stage}

@@ -1,4 +1,4 @@
--- What comes to the node as bytes, as the law's inputs: what no codec reads is noise.
+-- The bytes that arrive at the node, as the law's inputs: bytes that the codec refuses are noise.
 use Rattle.seq_arith.specs.PacketGrammar as packets
 use Rattle.seq_arith.specs.MessageGrammar as messages
 use Rattle.ft_model.specs.Node as law

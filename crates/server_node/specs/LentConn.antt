@@ -1,4 +1,4 @@
--- What a connection that the node lends tells of its point.
+-- What the connection that `Node::conn` returns shows of its point.
 use Rattle.std.specs.Prelude.{◌≡◌, ◌≤◌, ℕ, true, false, ◌+◌, ◌-◌, ◌%◌, ◌^◌}
 use Rattle.seq_arith.specs.Number.{number_at, distance}
 use Rattle.server_trait.specs.Service.{Machine}

@@ -1,4 +1,4 @@
--- The connection that a node lends of a key.
+-- The connection of a key that `Node::conn` returns.
 use Rattle.std.specs.Prelude.{Option, Some, None}
 use Rattle.ft_io.specs.declared.Key.{Key}
 use Rattle.server_trait.specs.Service.{Machine}
@@ -14,7 +14,7 @@ abbrev pub conn_in : {S : Type 0} → Option (Slot S) → Option (ConnState S)
 conn_in (Some (slot.Live c)) = Some c
 conn_in _ = None
 
--- what a node has for a key. While it doesn't serve, nothing is lent
+-- what a node has for a key. While it doesn't serve, there is no connection to return
 abbrev pub place_in : Key → Stage → Option Place
 place_in key (Serving opened places) = place_at key places
 place_in key _ = None

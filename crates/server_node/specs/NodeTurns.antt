@@ -11,7 +11,7 @@ use Rattle.server_node.specs.Apart.{TurnsApart}
 use Rattle.server_node.specs.Identity.{service_of}
 use Rattle.server_node.specs.Turns.{StageTurns}
 
--- a node's turn by this input, and what it lends of what it has sent: it stays the same incarnation, and goes by the law and each key by itself
+-- a node's turn at this input, with the sent packets that it returns: it stays the same incarnation, and its turn is lawful, and lawful for each key by itself
 pub record NodeTurns {S : Type 0} {s : Ghosts S} (input : Input) (was now : Node S s) (lent : List Wire) : Type 0 where
   pub who : now.who ≡ was.who
   pub sent : now.turn.sent.items ≡ lent
@@ -19,6 +19,6 @@ pub record NodeTurns {S : Type 0} {s : Ghosts S} (input : Input) (was now : Node
   pub apart : TurnsApart (service_of s was.who) was.who input was.stage now.stage lent
 
 module _ (S : RattleType) (s : Ghosts S.Denot) where
-  -- A turn returns packets that the node lends, so what it leaves is said of the time after that loan: then the node is one of which this holds
+  -- A turn returns a borrow of the packets that it sent. So the node after the turn is described as it is when that borrow ends: then this holds of it
   abbrev pub Leaves : MutBor (Node S.Denot s) → (Node S.Denot s → Type 0) → Fml
   Leaves node Holds = follows_so (the_row S s) (the_row S s) node.ghost_name none (λ _ _. ⊤) Holds

@@ -1,4 +1,4 @@
--- Whose a packet of the node is: it goes to a client, or tells the logger something of one connection.
+-- The key to which a packet of the node belongs: it goes to that client, or it is a message to the logger about that client's connection.
 use Rattle.std.specs.Prelude.{◌≡◌, ◌++◌, ℕ, Bool, true, false, IfOk, List, filter, Result, Ok, Err}
 use Rattle.std.specs.List.{AllByRecursion}
 use Rattle.ft_io.specs.declared.Key.{Key}
@@ -28,7 +28,7 @@ goes_to key (A_client client) bytes = key_eq client key
 goes_to key The_logger bytes = is_told_of key (messages.reading bytes)
 goes_to key The_server bytes = false
 
--- a packet is this key's: it goes to its client, or the logger reads of it there
+-- a packet is this key's: it goes to this client, or it is a message to the logger about it
 abbrev pub is_of : Key → Wire → Bool
 is_of key wire = goes_to key wire.to wire.bytes
 
@@ -36,7 +36,7 @@ is_of key wire = goes_to key wire.to wire.bytes
 abbrev pub of_key : Key → List Wire → List Wire
 of_key key sent = filter (is_of key) sent
 
--- a packet is this key's alone: only its client gets it, or the logger, and what that reads there, if it reads anything, is of this key
+-- a packet is this key's alone: only its client gets it, or the logger, and the message that the logger reads there, if it reads one, is about this key
 abbrev pub IsBetween : Key → Party → List ℕ → Type 0
 IsBetween key (A_client client) bytes = key_eq client key ≡ true
 IsBetween key The_logger bytes = IfOk (messages.reading bytes) (λ message. tells_of message.body key ≡ true)
@@ -45,7 +45,7 @@ IsBetween key The_server bytes = ⊥
 abbrev pub IsFor : Key → Wire → Type 0
 IsFor key wire = IsBetween key wire.to wire.bytes
 
--- after what was sent stands nothing but packets of this key alone
+-- after what was sent before come only packets of this key alone
 pub record IsOnlyFor (key : Key) (old new : List Wire) : Type 0 where
   pub told : List Wire
   pub put : new ≡ old ++ told

@@ -42,8 +42,8 @@ pub record AreRestored {S : Type 0} (service : Machine S) (node : Node) (fetched
   pub wires : new ≡ old ++ map wire_of packets
   pub spelled : AllByRecursion HasWire packets
 
--- a stage's turn by this law: it stands elsewhere, having restored these entries if it serves then, and the packets of the turn are after what
--- was sent, each in its one spelling
+-- a stage's turn by this law: it corresponds to a next stage of the model, having restored these entries if it serves then, and the packets of the
+-- turn are sent after what was sent before, each in its one spelling
 pub record StageGoes {S : Type 0} (service : Machine S) (who : Identity) (restored : List Fetched) (Goes : law.Stage → List Packet → Type 0) (now : Stage S) (old new : List Wire) : Type 0 where
   pub after : law.Stage
   pub packets : List Packet

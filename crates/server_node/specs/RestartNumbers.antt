@@ -1,4 +1,4 @@
--- Under which numbers the connections of a restart go on: each TCP inside has an initial number of its own, of this incarnation.
+-- The numbers of the connections that a restart restores: each inner TCP has an initial number of its own, of this incarnation.
 use Rattle.std.specs.Prelude.{◌≡◌, ℕ, false, Option, Some, None, unwrap_or, List, [], ◌∷◌}
 use Rattle.std.specs.Map.{lookup}
 use Rattle.ft_io.specs.declared.Key.{Key}
@@ -18,8 +18,8 @@ use Rattle.server_node.specs.declared.stage.Stage.{Stage}
 use Rattle.server_node.specs.declared.stage.Stage.TheVariants as stage
 use Rattle.server_node.specs.Loan.{conn_in}
 
--- the TCP inside a connection has this initial number, and delta is the way from it to the client's number of the unit of output with which
--- the entry goes on: sisn + u - i, modulo 2^32
+-- the inner TCP has this initial number i, and delta is the difference from it to the number that the client knows for the unit of output at which
+-- the entry continues: sisn + u - i, modulo 2^32
 pub record GoesOnUnder {S : Type 0} (service : Machine S) (e : Entry) (i : ℕ) (c : ConnState S) : Type 0 where
   pub number : c.endpoint.sending.iss ≡ i
   pub delta : c.south.delta ≡ delta_from service e i
@@ -45,7 +45,7 @@ abbrev pub fetched_by : Node → law_stage → Input → List Fetched
 fetched_by node (Fetching count fetched) input = fetched_in node count fetched input
 fetched_by node _ input = []
 
--- a node that serves after it has restored these entries
+-- of a node that serves after it has restored these entries
 abbrev pub AllNumbered : {S : Type 0} → Machine S → (isn : ℕ) → List Fetched → Stage S → Type 0
 AllNumbered service isn fetched (stage.Serving s) = AreNumbered service isn fetched s.slots.entries
 AllNumbered service isn fetched _ = Unit {0}

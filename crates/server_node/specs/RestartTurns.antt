@@ -120,7 +120,7 @@ module _ {S : Type 0} (s : Ghosts S) (who : Identity) where
       → SlotRevives (service_of s who) (node_of who standing) e.key (Lives (point_of (service_of s who) e)) now
       old.sent.items new.sent.items
 
-  -- .. and goes on under this initial number inside
+  -- .. and its inner TCP has this initial number
   abbrev pub IsNumberedFrom : ReplayedState S → (number : ℕ) → (now : Slot S) → Type 0
   IsNumberedFrom replayed number now =
       (fresh : S) (e : Entry) → IsReplayed (machine fresh s.after) e replayed → IsSoundEntry (machine fresh s.after) e

@@ -25,7 +25,7 @@ message_to_logger bytes = sent_to Logger bytes
 abbrev pub wires_of : Key → (segments messages : List (List ℕ)) → List Wire
 wires_of key segments messages = map (segment_to key) segments ++ map message_to_logger messages
 
--- these packets are after what was sent, each in its one spelling
+-- these packets are sent, after what was sent before, each in its one spelling
 pub record ArePut (packets : List Packet) (old new : List Wire) : Type 0 where
   pub wires : new ≡ old ++ map wire_of packets
   pub spelled : AllByRecursion HasWire packets

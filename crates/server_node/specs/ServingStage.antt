@@ -1,4 +1,4 @@
--- Where a node stands that serves, and its turn.
+-- How a node that serves corresponds to the model's, and its turn.
 use Rattle.std.specs.Prelude.{◌≡◌, ℕ, ◌+◌, List, ◌++◌, map, length}
 use Rattle.std.specs.List.{AllByRecursion}
 use Rattle.server_trait.specs.Service.{Machine}
@@ -10,12 +10,12 @@ use Rattle.ft_model.specs.Wire.{Wire, wire_of, HasWire}
 use Rattle.server_node.specs.declared.serving.Serving.{Serving}
 use Rattle.server_node.specs.Slots.{AllStand}
 
--- so many initial numbers are used up, and the slots stand at these places
+-- so many initial numbers are used up, and the slots correspond to these places
 pub record ServingStands {S : Type 0} (service : Machine S) (node : Node) (opened : ℕ) (places : List Place) (now : Serving S) : Type 0 where
   pub number : now.next.0 ≡ initial_number node.isn opened
   pub slots : AllStand service node now.slots.entries places
 
--- a turn by the law: it stands elsewhere, and the packets of the turn are after what was sent, each in its one spelling
+-- a turn by the law: the node corresponds to a next one of the model's, and the packets of the turn are sent after what was sent before, each in its one spelling
 pub record ServingGoes {S : Type 0} (service : Machine S) (node : Node) (input : Input) (opened : ℕ) (places : List Place) (now : Serving S) (old new : List Wire) : Type 0 where
   pub later : List Place
   pub packets : List Packet

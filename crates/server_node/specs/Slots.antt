@@ -1,4 +1,4 @@
--- What the node keeps for its keys, and at which places of the law that stands.
+-- The slots of the node's keys, and the model's places to which they correspond.
 use Rattle.std.specs.Prelude.{◌≡◌, ◌≤◌, ℕ, List, [], ◌∷◌, ◌++◌, map, length}
 use Rattle.std.specs.Coded.{×_prop, Unit-prop, le_prop}
 use Rattle.std.specs.List.{AllByRecursion}
@@ -25,7 +25,7 @@ SlotStands service node key (slot.Live c) (Lives p) = (p.key ≡ key) × IsOursA
 SlotStands service node key slot.Done (Ended k) = k ≡ key
 SlotStands service node key _ _ = ⊥
 
--- each slot stands at its place, in order
+-- each slot corresponds to its place, in order
 abbrev pub AllStand : {S : Type 0} → Machine S → Node → List (Key × Slot S) → List Place → Type 0
 AllStand service node [] [] = Unit {0}
 AllStand service node (e ∷ es) (q ∷ qs) = SlotStands service node e.0 e.1 q × AllStand service node es qs

@@ -1,4 +1,4 @@
--- Where a node stands, and its turn by the law.
+-- How a node corresponds to the model's, and its turn by the law.
 use Rattle.std.specs.Prelude.{◌≡◌, ◌%◌, ℕ, List, map}
 use Rattle.std.specs.Coded.{×_prop, Unit-prop, le_prop}
 use Rattle.std.proofs.Math.Nat.{ℕ_set}
@@ -41,8 +41,8 @@ IsSoundStage-prop who (stage.Serving s) =
     ×_prop (AllByRecursion-prop (λ e. IsSoundSlot who e.0 e.1) (λ e. IsSoundSlot-prop who e.0 e.1) s.slots.entries) (×_prop (ℕ_set (s.next.0 % 65536) (who.isn % 65536)) le_prop)
 IsSoundStage-prop who stage.Lost = Unit-prop
 
--- a turn by the law: it stands elsewhere, and the packets of the turn are what it sent, each in its one spelling. Where it ends a restart, the
--- nth connection that is restored has the nth initial number of this incarnation inside
+-- a turn by the law: the node corresponds to a next one of the model's, and the packets of the turn are what it sent, each in its one spelling.
+-- Where the turn ends a restart, the inner TCP of the nth restored connection has the nth initial number of this incarnation
 pub record NodeGoes {S : Type 0} (service : Machine S) (node : law.Node) (input : law.Input) (who : Identity) (now : Stage S) (sent : List Wire) : Type 0 where
   pub after : law.Stage
   pub packets : List Packet
@@ -52,7 +52,7 @@ pub record NodeGoes {S : Type 0} (service : Machine S) (node : law.Node) (input 
   pub wires : sent ≡ map wire_of packets
   pub spelled : AllByRecursion HasWire packets
 
--- an end names a larger boot number, or is because memory ran out
+-- a turn ended by a fence, and this holds of the larger boot number; or because memory ran out
 abbrev pub IsFence : TurnEnd → (ℕ → Type 0) → Type 0
 IsFence (end.Fenced newer) Holds = Holds newer
 IsFence end.NoMemory Holds = Unit {0}

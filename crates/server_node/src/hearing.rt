@@ -48,7 +48,7 @@ fn tell_slot<S: Service>(
     }
 }
 
-/// How much of a connection is logged.
+/// Handles a message that says how much of a connection is logged.
 pub(crate) fn tell_known<S: Service>(
     who: Identity,
     key: Key,
@@ -79,7 +79,7 @@ fn end_slot<S: Service>(slot: &mut Slot<S>)
     }
 }
 
-/// The end of a connection is logged.
+/// Handles the message that the end of a connection is logged.
 pub(crate) fn end_known<S: Service>(key: Key, slots: &mut IndexMap<Key, Slot<S>>)
     ensures turn { (service : Machine S) (node : Node) (places : List Place) (message : Message) (told : List Wire)
         → message ≡ record { boot = node.boot; body = EndedMsg key }
@@ -111,7 +111,7 @@ fn opening_of<S: Service>(slot: &Slot<S>) -> Option<Opening>
     }
 }
 
-/// What a key has is replaced.
+/// Replaces the slot of a key.
 fn put_slot<S: Service>(key: Key, slots: &mut IndexMap<Key, Slot<S>>, slot: Slot<S>)
     requires { IsSome (lookup (key_eq key) slots.old.entries) }
     ensures { slots.new.entries ≡ set_value (key_eq key) slots.old.entries slot }
@@ -121,15 +121,15 @@ fn put_slot<S: Service>(key: Key, slots: &mut IndexMap<Key, Slot<S>>, slot: Slot
     }
 }
 
-/// What a key has is dropped, and the others keep their order.
+/// Removes the slot of a key. The others keep their order.
 fn drop_slot<S: Service>(key: Key, slots: &mut IndexMap<Key, Slot<S>>)
     ensures { slots.new.entries ≡ remove_entry (key_eq key) slots.old.entries }
 {
     let _ = slots.shift_remove(&key);
 }
 
-/// The log has an entry for a key, with these numbers: a pending opening with the client's number becomes a connection, one with another
-/// number is dropped.
+/// The log has an entry for a key, with these numbers: a pending opening with the same initial number of the client becomes a connection, one with another
+/// is dropped.
 pub(crate) fn open_known<S: Service>(
     who: Identity,
     key: Key,
@@ -181,7 +181,7 @@ pub(crate) fn refuse_known<S: Service>(
     Ok(())
 }
 
-/// A message of this boot.
+/// Handles a message of this boot.
 pub(crate) fn hear<S: Service>(
     who: Identity,
     m: &Msg<'_>,

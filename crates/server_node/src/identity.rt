@@ -1,15 +1,15 @@
-//! What never changes of an incarnation.
+//! The constants of an incarnation.
 
 use ft_io::Addr;
 
-/// What never changes of an incarnation of the server.
+/// What never changes in an incarnation of the server.
 #[derive(Clone, Copy, Debug)]
 pub(crate) struct Identity {
     /// At least 1.
     pub boot: u64,
     /// The number from which its initial sequence numbers are counted.
     pub isn: u32,
-    /// Of the service.
+    /// The kind of the service.
     pub kind: u8,
     pub local: Addr,
 }

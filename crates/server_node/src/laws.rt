@@ -19,14 +19,14 @@ ghost use Rattle.server_node.specs.Stages.{StageStands};
 
 use server_trait::Service;
 
-/// A connection that a node lends shows its point: `inside` returns the point's numbers, the south wrapper's delta and stable number and the north wrapper's
-/// counts agree with it, and until the connection is over or reset its TCP is neither CLOSED nor reset, and its numbers are the point's, each less delta.
+/// The connection that `Node::conn` returns shows its point: `inside` returns the point's numbers, the south wrapper's delta and stable number and the north wrapper's
+/// counts agree with it, and until the connection is over or reset its TCP is neither CLOSED nor reset, and its numbers are the point's, each minus delta.
 pub fn lent_connections_tell_their_point<S: Service>()
     ensures { (fresh : S) (server : Addr) (boot : ℕ) (p : Point) (c : ConnState S) → IsSound c → IsOursAt (machine fresh S.after) server boot c p
         → TellsItsPoint (machine fresh S.after) p c }
 {}
 
-/// At a node's place in the model each key has its own place: its slot is there, or it has neither slot nor place.
+/// Where a node corresponds to the model's, so does each key: its slot corresponds to its place there, or it has neither slot nor place.
 pub fn standing_nodes_stand_for_each_key<S: Service>()
     ensures { (service : Machine S) (node : Node) (at : Stage S) (key : Key) → StageStands service node at
         → StandsFor service node key (slot_in key at) (place_in key node.stage) }

@@ -9,7 +9,7 @@ use crate::out_packet::OutPacket;
 use crate::stage::{Stage, conn_in, go, send_hello};
 use crate::turn::Turn;
 use ft_io::{Addr, Key, NoMemory};
-use server_trait::Service;
+use server_trait::{Saved, Service};
 use std::alloc::Global;
 use std::mem;
 use wrapped_conn::Conn;
@@ -24,7 +24,7 @@ pub struct Node<S: Service> {
     ghost sound: { IsSoundStage who stage } by { IsSoundStage-prop who stage },
 }
 
-impl<S: Service> Node<S> {
+impl<S: Saved> Node<S> {
     ghost use Rattle.std.specs.Prelude.{◌≡◌, ◌≤◌, map, IfOk, IfErr, IsErrOf, IfSome, OnOk, option_copied};
     ghost use Rattle.std.specs.Borrow.{sem};
     ghost use Rattle.ft_model.specs.Node.{Stage as Standing, booted};
@@ -39,8 +39,7 @@ impl<S: Service> Node<S> {
     ghost use Rattle.server_node.specs.Turns.{IsUnfenced, IsFenceOf};
     ghost use Rattle.server_trait.specs.Service.{machine};
 
-    /// Boots, with this boot number, at least 1, the number from which initial sequence numbers are counted, and the kind of the service. `sent` then has the
-    /// Hello.
+    /// Boots. The boot number is at least 1; initial sequence numbers are counted from `isn`; `kind` chooses the service. `sent` then has the Hello.
     pub fn boot(
         alloc: Global,
         boot: u64,
@@ -68,7 +67,7 @@ impl<S: Service> Node<S> {
         })
     }
 
-    /// The connection of a key, while it is live. It is at the key's point, and each of its calls may be made.
+    /// The connection of a key, while it is live. It is at the point that the model has for the key, and each of its calls may be made.
     #[tactic(auto, unfolding(crate::specs::Conn::IsSound))]
     pub fn conn(&self, key: Key) -> Option<&Conn<S>>
         ensures stands { (standing : Standing) → StageStands (service_of S.Service self.now.who) (node_of self.now.who standing) self.now.stage
@@ -85,7 +84,7 @@ impl<S: Service> Node<S> {
         self.turn.sent.as_slice()
     }
 
-    /// One turn. A packet to a live connection is taken to be near (as a premise of the law), and a fetched entry to be sound.
+    /// One turn. It is lawful under two premises: a packet to a live connection is near, and a fetched entry is sound.
     fn advance(&mut self, alloc: Global, input: Input<'_>) -> Result<(), TurnEnd>
         ensures turn { OnOk result (NodeTurns (input_of input.entry) self.old self.new self.new.turn.sent.items) }
         ensures unfenced { OnOk result (IsUnfenced self.old.who (input_of input.entry)) }
@@ -100,9 +99,9 @@ impl<S: Service> Node<S> {
         Ok(())
     }
 
-    /// One turn. Returns what it sends. Whatever the input is, it leaves the keys unchanged that the input isn't about. Each key continues by the law whose own
-    /// packets are near, and at the end of a restart so does each key whose own entry is sound. After an error the node may only be dropped. A Stale of its
-    /// boot that names a larger one ends it by `Fenced`, even if no memory is left, and nothing else ends it so.
+    /// One turn. Returns what it sends. Whatever the input is, keys that it isn't about stay unchanged. The turn of each key whose own packets are near is lawful,
+    /// and at the end of a restart so is that of each key whose own entry is sound. After an error the node may only be dropped. A Stale of its boot that names a
+    /// larger one ends it by `Fenced`, even if no memory is left, and nothing else ends it so.
     pub fn turn(&mut self, alloc: Global, input: Input<'_>) -> Result<&[OutPacket], TurnEnd>
         ensures* after { sem 𝓛 (Leaves S.row S.Service self.entry
             (λ node. IfOk result (λ sent. NodeTurns (input_of input.entry) self.old node sent.now))) }

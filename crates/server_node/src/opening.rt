@@ -1,4 +1,4 @@
-//! Openings: a SYN of a client that isn't known asks the log to keep an entry, and goes on asking until the log answers.
+//! Openings: at a SYN of a client that isn't known the node asks the log for an entry, and asks again until the log answers.
 
 ghost use Rattle.std.specs.Prelude.{◌==◌, ◌&&◌, ◌≡◌, ◌≤◌, ◌∷◌, [], None, OnOk, true, nat_lt};
 ghost use Rattle.std.specs.Map.{lookup, keys_of};

@@ -39,7 +39,7 @@ impl OutPacket {
         Ok(OutPacket { to, text })
     }
 
-    /// Another packet takes its place, in the same room where that suffices.
+    /// Replaces the packet by another, in the same buffer if that is long enough.
     pub(crate) fn refill(&mut self, to: To, bytes: &[u8]) -> Result<(), NoMemory>
         ensures { OnOk result (self.new ≡ sent_to to bytes.now) }
     {

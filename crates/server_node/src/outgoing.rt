@@ -1,4 +1,4 @@
-//! What the node sends in a turn, in rooms that are kept from turn to turn.
+//! What the node sends in a turn, in buffers that are kept from turn to turn.
 
 ghost use Rattle.std.specs.Prelude.{◌≡◌, ◌+◌, ◌≤◌, ◌++◌, ◌∷◌, [], length, take, OnOk};
 ghost use Rattle.server_node.specs.SentBytes.{sent_to};
@@ -8,7 +8,7 @@ use ft_io::NoMemory;
 use std::alloc::Global;
 use std::marker::Model;
 
-/// The packets of a turn, in order. After them stand packets of earlier turns, whose rooms are filled again. Contracts see the turn's.
+/// The packets of a turn, in order. After them in the list are packets of earlier turns, whose buffers are used again. Contracts see only the turn's.
 #[derive(Drop)]
 pub(crate) struct Outgoing {
     packets: Vec<OutPacket>,
@@ -28,7 +28,7 @@ impl Model for Outgoing {
 }
 
 impl Outgoing {
-    /// No packet, and no room yet.
+    /// No packets. Nothing is allocated.
     pub(crate) fn new(alloc: Global) -> Outgoing
         ensures { result.items ≡ [] }
     {
@@ -38,14 +38,14 @@ impl Outgoing {
         }
     }
 
-    /// Takes all packets out, and keeps their rooms.
+    /// Removes all packets, and keeps their buffers.
     pub(crate) fn clear(&mut self)
         ensures { self.new.items ≡ [] }
     {
         self.count = 0;
     }
 
-    /// Puts a packet after the others.
+    /// Appends a packet.
     pub(crate) fn send(&mut self, alloc: Global, to: To, bytes: &[u8]) -> Result<(), NoMemory>
         ensures { OnOk result (self.new.items ≡ self.old.items ++ sent_to to bytes.now ∷ []) }
     {
@@ -61,7 +61,7 @@ impl Outgoing {
     }
 }
 
-/// Puts a packet after so many others: into the room there, if there is one.
+/// Puts a packet after the first `count`: into the buffer there, if there is one.
 #[tactic(auto, using(std::proofs::lemmas::List::take_more_set))]
 fn put(
     alloc: Global,

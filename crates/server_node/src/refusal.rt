@@ -1,4 +1,4 @@
-//! The RSTs of the node's own: to clients that have no connection (RFC 9293, 3.10.7.1 and 3.10.7.2).
+//! The RSTs that the node itself sends, to clients that have no connection (RFC 9293, 3.10.7.1 and 3.10.7.2).
 
 ghost use Rattle.std.specs.Prelude.{◌≡◌, ◌≤◌, ◌∷◌, [], OnOk, length};
 ghost use Rattle.seq_arith.specs.Offset.{length_of};
@@ -29,7 +29,7 @@ pub(crate) fn send_bare(head: Head, turn: &mut Turn) -> Result<(), NoMemory>
     turn.sent.send(turn.alloc, to, &text[..len])
 }
 
-/// The length of a segment in units of its stream: data and FIN, or the SYN alone; none with a RST.
+/// The length of a segment in units of its stream: data and FIN, or the SYN alone; 0 with a RST.
 fn length_of(segment: &PacketRef<'_>) -> u32
     requires { length segment.now.payload.now ≤ 1460 }
     ensures { result ≡ length_of (segment_of segment.now) }
@@ -63,7 +63,7 @@ pub(crate) fn refuse_closed(
     send_bare(segment.head.reset_behind(who.local, len), turn)
 }
 
-/// The answer of LISTEN to a segment of a client that isn't known: a RST to an acknowledgement, none to a RST.
+/// The answer of LISTEN to a segment of a client that isn't known: a RST if it has ACK and no RST, and otherwise nothing.
 pub(crate) fn refuse_unknown(
     who: Identity,
     segment: &PacketRef<'_>,

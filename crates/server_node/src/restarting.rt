@@ -1,18 +1,20 @@
 //! The stage of a node that fetches the log: one question after another, until nothing is missing.
 
-ghost use Rattle.std.specs.Prelude.{◌≡◌, ◌≤◌, ◌&&◌, not, ℕ, List, [], is_some, option_map, false, IfOk, IfSome, OnOk};
+ghost use Rattle.std.specs.Prelude.{◌≡◌, ◌≤◌, ◌&&◌, not, ℕ, List, [], is_some, option_map, MatchOption, Some, true, false, IfOk, IfSome, OnOk};
 ghost use Rattle.server_trait.specs.Service.{machine};
 ghost use Rattle.seq_arith.specs.Packet.{has_rst};
 ghost use Rattle.seq_arith.specs.Value.{said};
 ghost use Rattle.segment_codec.specs.Value.{segment_of};
 ghost use Rattle.logger_wire.specs.Value.{message_of, IsSendable};
 ghost use Rattle.logger_store.specs.StoreState.{head_value};
-ghost use Rattle.reincarnate.specs.Questions.{asked as asked_of};
-ghost use Rattle.ft_model.specs.Restart.{Fetched, wanted, live_entry, holding_segment};
+ghost use Rattle.reincarnate.specs.Questions.{asked as asked_of, after_answer};
+ghost use Rattle.reincarnate.specs.Marking.{any_of, IsAnySendable};
+ghost use Rattle.reincarnate.specs.Refinement.{StandsFetching, AnswerLeads, fetched_then};
+ghost use Rattle.ft_model.specs.Restart.{Fetched, wanted, question, live_entry, holding_segment};
 ghost use Rattle.ft_model.specs.Network.{source_of};
 ghost use Rattle.ft_model.specs.Node.{is_for};
 ghost use Rattle.server_node.specs.Identity.{service_of};
-ghost use Rattle.server_node.specs.FetchStage.{FetchingStands, IsOwn};
+ghost use Rattle.server_node.specs.FetchStage.{FetchingStands, IsOwn, UsesNone, of_log};
 ghost use Rattle.server_node.specs.RestartTurns.{FetchingBegins, FetchingBeginsAlone, FetchingTurns, FetchingTurnsAlone, AnswerTurns, AnswerTurnsAlone, SendsWanted, SendsHeld};
 ghost use Rattle.server_node.specs.Stages.{IsSoundStage};
 ghost use Rattle.server_node.specs.Turns.{SendsFor};
@@ -26,13 +28,14 @@ use crate::turn::Turn;
 use ft_io::{Key, NoMemory};
 use logger_store::EntryHead;
 use logger_wire::Msg;
-use reincarnate::{Asked, Fetching};
+use reincarnate::{AnyMsg, Asked, Fetching};
 use segment_codec::{Head, PacketRef};
 use seq_arith::{ACK, RST, Seq, has};
-use server_trait::Service;
+use server_trait::{Saved, Service};
+use std::alloc::Global;
 
-/// The log has so many entries: the first is asked for.
-pub(crate) fn begin_fetching<S: Service>(
+/// The log has `count` entries: asks for the first, if there is one.
+pub(crate) fn begin_fetching<S: Saved>(
     who: Identity,
     count: u16,
     turn: &mut Turn,
@@ -43,14 +46,14 @@ pub(crate) fn begin_fetching<S: Service>(
     ensures alone { IfOk result (λ after. FetchingBeginsAlone S.Service who count after turn.old turn.new) }
     ensures sound { IfOk result (λ after. IsSoundStage who after) }
 {
-    let Ok(fetching) = Asked::new(who.boot).on_summary(turn.alloc, who.kind, count) else {
+    let Ok(fetching) = Asked::new(who.boot).on_summary(turn.alloc, who.kind, count, false) else {
         return Err(NoMemory);
     };
     go_on(who, fetching, turn)
 }
 
 /// A message that may be an answer: one that fits the question is taken, and what is missing then is asked for.
-pub(crate) fn take_answer<S: Service>(
+pub(crate) fn take_answer<S: Saved>(
     who: Identity,
     mut fetching: Fetching<S>,
     m: &Msg<'_>,
@@ -63,13 +66,56 @@ pub(crate) fn take_answer<S: Service>(
     ensures alone { IfOk result (λ after. AnswerTurnsAlone S.Service who (message_of m.now) fetching after turn.old turn.new) }
     ensures sound { IfOk result (λ after. IsSoundStage who after) }
 {
-    if !fetching.on_answer(turn.alloc, m)? {
+    if !hear_answer(turn.alloc, &mut fetching, m)? {
         return Ok(Stage::Fetching(fetching));
     }
     go_on(who, fetching, turn)
 }
 
-/// What is missing is asked for. Once nothing is, the log is restored.
+/// Takes a message in a restart without marks, and returns whether it answers the question. One that doesn't changes nothing.
+fn hear_answer<S: Saved>(
+    alloc: Global,
+    fetching: &mut Fetching<S>,
+    m: &Msg<'_>,
+) -> Result<bool, NoMemory>
+    requires sendable { IsSendable m.now }
+    requires unmarked { UsesNone fetching.old.marks }
+    ensures value { IfOk result (λ fits. MatchOption (after_answer S.started S.after (message_of m.now) fetching.old)
+        ((fits ≡ false) × (fetching.new ≡ fetching.old)) (λ s. (fits ≡ true) × (fetching.new ≡ s))) }
+    ensures law { IfOk result (λ fits. (fetched : List Fetched) → StandsFetching (machine (S.started fetching.old.kind) S.after) fetched fetching.old
+        → AnswerLeads (machine (S.started fetching.old.kind) S.after)
+        (fetched_then fetching.old.boot fetching.old.count (message_of m.now) fetched) fits fetching.old fetching.new) }
+{
+    fetching.on_answer(alloc, &AnyMsg::Log(*m))
+}
+
+/// The question that the restart asks now, if anything is missing. It isn't about marks.
+fn question_of<S: Service>(fetching: &Fetching<S>) -> Option<Msg<'_>>
+    requires { UsesNone fetching.now.marks }
+    ensures value { option_map message_of result ≡ option_map (λ body. record { boot = fetching.now.boot; body = body }) (asked_of fetching.now) }
+    ensures law { (fetched : List Fetched) → StandsFetching (machine (S.started fetching.now.kind) S.after) fetched fetching.now
+        → option_map message_of result
+        ≡ option_map (λ body. record { boot = fetching.now.boot; body = body }) (option_map question (wanted fetching.now.count fetched)) }
+    ensures sendable { IfSome result (λ m. IsSendable m) }
+{
+    match fetching.question() {
+        Some(question) => log_message(question),
+        None => None,
+    }
+}
+
+/// The message, if it isn't about marks.
+fn log_message(m: AnyMsg<'_>) -> Option<Msg<'_>>
+    ensures value { option_map message_of result ≡ of_log (Some (any_of m.entry)) }
+    ensures sendable { IsAnySendable m.entry → IfSome result (λ m. IsSendable m) }
+{
+    match m {
+        AnyMsg::Log(m) => Some(m),
+        AnyMsg::Mark(_) => None,
+    }
+}
+
+/// Asks for what is missing. Once nothing is, restores the whole log.
 fn go_on<S: Service>(
     who: Identity,
     fetching: Fetching<S>,
@@ -101,14 +147,14 @@ pub(crate) fn ask<S: Service>(
         → asks ≡ is_some (wanted count fetched)) }
     ensures asks { IfOk result (λ asks. asks ≡ is_some (asked_of fetching.now)) }
 {
-    let Some(question) = fetching.question() else {
+    let Some(question) = question_of(fetching) else {
         return Ok(false);
     };
     tell(&question, turn)?;
     Ok(true)
 }
 
-/// The answer to a client whose entry has come: the logged length and FIN, with window 0.
+/// The answer to a client whose entry has come: it acknowledges the logged bytes and FIN, with window 0.
 fn holding(who: Identity, entry: &EntryHead) -> Head
     ensures { record { head = said result; payload = [] } ≡ holding_segment who.local (head_value entry.now) }
 {
@@ -134,7 +180,7 @@ fn may_be_held(who: Identity, segment: &PacketRef<'_>) -> bool
     head.dst == who.local.ip && head.dport == who.local.port && !has(head.flags, RST)
 }
 
-/// The head of a key's entry, unless that is done.
+/// The head of a key's entry, unless its connection has ended.
 fn live_head<S: Service>(fetching: &Fetching<S>, key: Key) -> Option<EntryHead>
     ensures law { (count : ℕ) (fetched : List Fetched) → FetchingStands (machine (S.started fetching.now.kind) S.after) count fetched fetching.now
         → option_map head_value result ≡ option_map (λ f. f.head) (live_entry key fetched) }
@@ -149,7 +195,7 @@ fn live_head<S: Service>(fetching: &Fetching<S>, key: Key) -> Option<EntryHead>
     Some(entry)
 }
 
-/// A packet while the log is fetched. Until a client's entry has come it gets no answer, nor if that is done, nor for a RST.
+/// Answers a packet while the log is fetched. A client gets no answer until its entry has come, nor if its connection has ended, nor to a RST.
 pub(crate) fn hold<S: Service>(
     who: Identity,
     fetching: &Fetching<S>,

@@ -53,7 +53,7 @@ pub(crate) fn serve_tick<S: Service>(
     ask_all(who, &serving.slots, turn)
 }
 
-/// A message of this boot.
+/// Handles a message of this boot.
 pub(crate) fn serve_message<S: Service>(
     who: Identity,
     m: &Msg<'_>,
@@ -82,7 +82,7 @@ fn is_for(local: Addr, segment: &PacketRef<'_>) -> bool
     head.dst == local.ip && head.dport == local.port
 }
 
-/// A packet that the codec reads: `packet` has its bytes, which the connection changes in place.
+/// Handles a packet that the codec has read: `packet` has its bytes, which the connection changes in place.
 pub(crate) fn serve_packet<S: Service>(
     who: Identity,
     segment: &PacketRef<'_>,
@@ -135,7 +135,7 @@ fn serve_known<S: Service>(
     ask_again(who, segment, &serving.slots, turn)
 }
 
-/// A packet of a client that isn't known: it is refused, or opens.
+/// A packet of a client that isn't known: it may get a RST, and a SYN may open a connection.
 fn serve_strange<S: Service>(
     who: Identity,
     segment: &PacketRef<'_>,

@@ -81,7 +81,7 @@ pub(crate) fn conn_at<S: Service>(slots: &IndexMap<Key, Slot<S>>, key: Key) -> O
     live_conn(slots.get(&key)?)
 }
 
-/// A slot more. A key that is there already, as none is that comes here, gets it in the place of its own.
+/// Adds a slot at the end. The callers' keys have none yet; a key that had one would have it replaced.
 pub(crate) fn add_slot<S: Service>(
     slots: &mut IndexMap<Key, Slot<S>>,
     key: Key,

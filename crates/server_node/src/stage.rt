@@ -1,4 +1,4 @@
-//! How far a node is, and what an input does to it.
+//! The stage of a node, and what an input does to it.
 
 ghost use Rattle.std.specs.Prelude.{◌≡◌, ◌≤◌, ◌∷◌, [], length, Ok, None, Some, IfSome, OnOk, IfOk, IfErr, IsErrOf, option_copied, false};
 ghost use Rattle.seq_arith.specs.PacketGrammar.{reading};
@@ -33,13 +33,13 @@ use ft_io::{Key, NoMemory};
 use logger_wire::{Body, Msg, read_msg};
 use reincarnate::Fetching;
 use segment_codec::{PacketRef, read_packet};
-use server_trait::Service;
+use server_trait::{Saved, Service};
 use wrapped_conn::Conn;
 
 /// A packet of at most so many bytes is short.
 const SHORT_PACKET: usize = 128;
 
-/// How far a node is.
+/// The stage of a node.
 #[derive(Drop)]
 pub(crate) enum Stage<S: Service> {
     /// The logger was asked how many entries it has.
@@ -92,8 +92,8 @@ fn on_tick<S: Service>(
     }
 }
 
-/// A message of this boot that is no fence.
-fn on_message<S: Service>(
+/// Handles a message of this boot that doesn't fence the node.
+fn on_message<S: Saved>(
     who: Identity,
     stage: Stage<S>,
     m: &Msg<'_>,
@@ -120,7 +120,7 @@ fn on_message<S: Service>(
     }
 }
 
-/// How many entries the log has, if a message tells it.
+/// How many entries the log has, if a message is a Summary, which says it.
 fn count_in(body: &Body<'_>) -> Option<u16>
     ensures { result ≡ summary_count (body_of body.now) }
 {
@@ -130,8 +130,8 @@ fn count_in(body: &Body<'_>) -> Option<u16>
     }
 }
 
-/// A message of this boot that is no fence, while the logger is asked how many entries it has.
-fn on_summary<S: Service>(who: Identity, m: &Msg<'_>, turn: &mut Turn) -> Result<Stage<S>, NoMemory>
+/// Handles a message of this boot that doesn't fence the node, while the logger is asked how many entries it has.
+fn on_summary<S: Saved>(who: Identity, m: &Msg<'_>, turn: &mut Turn) -> Result<Stage<S>, NoMemory>
     requires boot { 1 ≤ who.boot }
     requires sendable { IsSendable m.now }
     requires empty { turn.old.sent.items ≡ [] }
@@ -146,7 +146,7 @@ fn on_summary<S: Service>(who: Identity, m: &Msg<'_>, turn: &mut Turn) -> Result
     begin_fetching(who, count, turn)
 }
 
-/// A larger boot number than this one, if a body tells it.
+/// The boot number that a Stale names, if it is larger than this one.
 fn newer_than(boot: u64, body: &Body<'_>) -> Option<u64>
     ensures { result ≡ newer_than boot (body_of body.now) }
 {
@@ -156,7 +156,7 @@ fn newer_than(boot: u64, body: &Body<'_>) -> Option<u64>
     }
 }
 
-/// The larger boot number with which a message ends a node.
+/// The larger boot number by which a message fences the node, if it does.
 fn newer_in(who: Identity, m: &Msg<'_>) -> Option<u64>
     ensures { (standing : Standing) → result ≡ fence (node_of who standing) (Message_comes (message_of m.now)) }
 {
@@ -166,8 +166,8 @@ fn newer_in(who: Identity, m: &Msg<'_>) -> Option<u64>
     newer_than(who.boot, &m.body)
 }
 
-/// What a message says that the codec reads. A Stale of this boot that names a larger one ends the node.
-fn hear<S: Service>(
+/// Handles a message that the codec has read. A Stale of this boot that names a larger one ends the node.
+fn hear<S: Saved>(
     who: Identity,
     stage: Stage<S>,
     m: &Msg<'_>,
@@ -193,7 +193,7 @@ fn hear<S: Service>(
     Ok(on_message(who, stage, m, turn)?)
 }
 
-/// A segment, with its bytes. While nothing is fetched, clients get no answer.
+/// Handles a segment, of which `packet` has the bytes. Before the log is fetched clients get no answer.
 fn on_packet<S: Service>(
     who: Identity,
     stage: Stage<S>,
@@ -223,7 +223,8 @@ fn on_packet<S: Service>(
     }
 }
 
-/// The same on a copy, whose numbers the connection changes in place. A short packet is copied into a short room, which takes less time to clear.
+/// Hands the packet to the stage that serves, as a copy whose numbers the connection changes in place. A short packet is copied into a short buffer, which
+/// takes less time to clear.
 #[tactic(auto, using(crate::proofs::Came::packet_fits))]
 fn serve_bytes<S: Service>(
     who: Identity,
@@ -249,7 +250,7 @@ fn serve_bytes<S: Service>(
     serve_packet(who, segment, copied(packet, &mut [0; 1_500]), serving, turn)
 }
 
-/// The bytes of a packet at the front of this room.
+/// Copies a packet to the front of this buffer.
 fn copied<'a>(packet: &[u8], room: &'a mut [u8]) -> &'a mut [u8]
     requires { length packet.now ≤ length room.old }
     ensures { result.now ≡ packet.now }
@@ -272,7 +273,7 @@ pub(crate) fn conn_in<S: Service>(stage: &Stage<S>, key: Key) -> Option<&Conn<S>
 }
 
 /// What an input does to a node. After an error the node may only be dropped.
-pub(crate) fn go<S: Service>(
+pub(crate) fn go<S: Saved>(
     who: Identity,
     stage: Stage<S>,
     input: Input<'_>,

@@ -7,12 +7,12 @@ use ft_io::NoMemory;
 use std::alloc::Global;
 use wrapped_conn::TurnOut;
 
-/// What each function of a turn is given. Both rooms are kept from turn to turn.
+/// What each function of a turn is given. The memory of `out` and `sent` is kept from turn to turn.
 #[derive(Drop)]
 pub(crate) struct Turn {
-    /// Gives the memory.
+    /// The allocator.
     pub alloc: Global,
-    /// What the connection whose turn it is gives out.
+    /// What the connection sends whose turn it is.
     pub out: TurnOut,
     /// What the turn sends, in order.
     pub sent: Outgoing,

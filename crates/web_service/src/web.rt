@@ -10,7 +10,7 @@ use crate::answer::{Reply, Status, write_head};
 use crate::reader::Reader;
 use crate::request::Request;
 use ft_io::NoMemory;
-use server_trait::{Next, Service};
+use server_trait::{Next, Saved, Service};
 use std::alloc::Global;
 use std::marker::Model;
 
@@ -122,4 +122,34 @@ impl Service for Web {
     ghost is_short = { length-web_after-le };
 
     ghost writes_bytes = { λ _. bytes-web };
+}
+
+/// Its states aren't saved: a request that is read in part is kept with its place in the text, and has no form.
+impl Saved for Web {
+    ghost use Rattle.std.specs.Prelude.{false};
+    ghost use Rattle.server_trait.specs.Saved.{no_form, no_state, unsaved_reads_back, unsaved_one_form};
+    ghost use Rattle.server_trait.specs.Service.{machine};
+    ghost use Rattle.web_service.specs.Web.{web_started, web_after};
+
+    ghost is_savable = { false };
+
+    ghost form = { no_form };
+
+    ghost state_of = { no_state };
+
+    fn savable() -> bool {
+        false
+    }
+
+    fn save(&self, _out: &mut Vec<u8>) -> Result<(), NoMemory> {
+        Ok(())
+    }
+
+    fn load(_alloc: Global, _kind: u8, _bytes: &[u8]) -> Result<Option<Web>, NoMemory> {
+        Ok(None)
+    }
+
+    ghost reads_back = { unsaved_reads_back (λ _. machine web_started web_after) };
+
+    ghost one_form = { unsaved_one_form };
 }

@@ -5,7 +5,7 @@ ghost use Rattle.std.specs.Prelude.{◌≤◌};
 use crate::logger::Logger;
 use ft_io::{Addr, NoMemory};
 use logger_wire::{Body, Msg, read_msg};
-use reincarnate::{Asked, Entries, Fetching, LostIn, Replayed};
+use reincarnate::{AnyMsg, Asked, Entries, Fetching, LostIn, Replayed};
 use sample_servers::AnyService;
 use seq_arith::Seq;
 use std::alloc::Global;
@@ -66,7 +66,7 @@ pub(crate) fn restart(
         ) => count.min(64),
         _ => 0,
     };
-    let mut fetching: Fetching<AnyService> = match asked.on_summary(alloc, kind, count) {
+    let mut fetching: Fetching<AnyService> = match asked.on_summary(alloc, kind, count, false) {
         Ok(fetching) => fetching,
         Err(end) => return Err(lost(end)),
     };
@@ -85,13 +85,13 @@ fn fetch(
     restored: &mut Restored,
 ) -> Result<(), NoMemory> {
     for _ in 0..QUESTIONS {
-        let Some(question) = fetching.question() else {
+        let Some(AnyMsg::Log(question)) = fetching.question() else {
             return Ok(());
         };
         logger.say(alloc, &question)?;
         restored.questions = restored.questions.saturating_add(1);
         if let Ok(message) = read_msg(logger.answer()) {
-            fetching.on_answer(alloc, &message)?;
+            fetching.on_answer(alloc, &AnyMsg::Log(message))?;
         }
     }
     Ok(())
