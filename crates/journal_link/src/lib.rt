@@ -1,5 +1,5 @@
-//! `node_with`: the top call of `ftnode`. With the option `--journal FILE` it is a logger that keeps its log in a file and survives its own death; all other
-//! words are those of `node`.
+//! `node_with`: `ftnode` except for one of two loggers and `alone` (`twin_link`). With the option `--journal FILE` it is a logger that keeps its log in a file and survives its
+//! own death; all other words are those of `node`.
 #![tactic(auto)]
 
 pub use role::{FileName, JournalRole};

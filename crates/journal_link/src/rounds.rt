@@ -22,7 +22,7 @@ use logger_wire::read_msg;
 use node_link::Counts;
 use std::alloc::Global;
 
-/// Room for a datagram, in bytes: no message is longer.
+/// The length of the buffer for a datagram, in bytes: no message is longer.
 const DATAGRAM_ROOM: usize = 2_048;
 
 /// The most turns of a round.

@@ -23,7 +23,7 @@ pub enum JournalEnd {
     Node(NodeEnd),
     /// A call on the journal's file failed.
     JournalFault,
-    /// The file is no journal, or is damaged: at this place, in bytes, begins what is no block.
+    /// The file is no journal, or is damaged: `at`, in bytes, is where something begins that is neither a block nor the closed gate.
     BadJournal { at: u64 },
     /// Another process has the file open.
     InUse,

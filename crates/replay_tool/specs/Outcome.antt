@@ -17,7 +17,7 @@ IsTold (Err end) err code =
     ((code ≡ code_of end) × Appends err.before err.after (text_of end) × HasNotFailed err)
     ⊎ ((code ≡ 5) × HasFailed err × WroteFront err.before err.after (text_of end))
 
--- one end is both: what was done ended so, and that was told
+-- there is one end, with which what was done ended, and which was reported
 pub record HasEnded (Did : Result (Unit {0}) RunEnd → Type 0) (err : Stream) (code : ℕ) : Type 0 where
   pub end : Result (Unit {0}) RunEnd
   pub did : Did end

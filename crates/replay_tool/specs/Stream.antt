@@ -2,8 +2,8 @@
 use Rattle.std.specs.Prelude.{◌≡◌, ℕ, List, Option}
 use Rattle.ft_io.specs.Faults.{Rose}
 
--- Its content, which is what a source has left or a sink has taken; how many of its calls have failed; and what it is for it to be the same, so that nothing
--- was asked of it
+-- Its content, which is what a source has left or a sink has taken; how many of its calls have failed; and the statement that it is unchanged, so that no call
+-- was made on it
 pub record Stream : Type 1 where
   pub before : Option (List ℕ)
   pub after : Option (List ℕ)

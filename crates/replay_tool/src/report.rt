@@ -7,7 +7,7 @@ ghost use Rattle.replay_tool.specs.Playback.{piece};
 use ft_io::{Failed, Sink, write_all};
 use std::alloc::Global;
 
-/// How many bytes are held before they are written: fewer are held back, more are not.
+/// A piece: as soon as this many bytes are held, they are written.
 const PIECE: usize = 65_536;
 
 /// What is still to be written of a report, and the lines of one event, or of the end, until they are complete.
@@ -45,7 +45,7 @@ pub(crate) fn flush<O: Sink>(report: &mut Report, out: &mut O) -> Result<(), Fai
     Ok(())
 }
 
-/// Writes what is held, where it is a piece. So less than a piece is held back.
+/// Writes what is held, if it is at least a piece. So less than a piece is held afterwards.
 pub(crate) fn flush_piece<O: Sink>(report: &mut Report, out: &mut O) -> Result<(), Failed>
     ensures held_back { OnOk result (length report.new.held.items < piece) }
     ensures ok { OnOk result ((old : Option (List ℕ)) (text : List ℕ) → IsOnItsWay old (O.taken out.old) report.old.held.items text

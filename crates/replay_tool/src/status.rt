@@ -26,7 +26,7 @@ pub(crate) enum TooMuch {
     Packets,
 }
 
-/// How a run ends that wasn't completed.
+/// How a run ends early.
 #[derive(Clone, Copy, Debug, PartialEq, Eq)]
 pub(crate) enum RunEnd {
     Usage,

@@ -1,4 +1,4 @@
-//! What a run that wasn't completed writes to the error sink.
+//! What a run that ends early writes to the error sink.
 
 ghost use Rattle.std.specs.Prelude.{◌≡◌, ◌⊎◌, ◌++◌, ◌∷◌, [], OnOk, OnErr};
 ghost use Rattle.std.specs.Io.KnownBytes.{Appends};

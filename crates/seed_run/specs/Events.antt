@@ -40,7 +40,7 @@ abbrev pub text_event : ℕ → ℕ → Client → Drawn
 text_event state number client =
     record { event = Send number (text_start state client) (min 536 (length client.script - text_start state client)); state = stepped state }
 
--- what advances a client: its SYN, text while some isn't acknowledged, then its FIN. Where none of these does, the server has its event
+-- what advances a client: its SYN, text while some isn't acknowledged, then its FIN. Where there is nothing to advance, it is an event of the server instead
 abbrev pub progress : ℕ → ℕ → Client → ServerNow → Drawn
 progress state number client server =
     if is_new client.phase || is_opening client.phase then record { event = Begin number 65535; state = state }
@@ -53,7 +53,7 @@ abbrev pub acknowledgement : ℕ → ℕ → Client → ServerNow → Drawn
 acknowledgement state number client server =
     if is_open client.phase then record { event = Ack number 65535; state = state } else server_event state server
 
--- the event of a client: two of its four sides of the die advance it, and all four where it isn't open yet
+-- the event of a client: by two of its four sides of the die it advances, and by all four where it isn't open yet; otherwise it acknowledges
 abbrev pub client_event : (die : ℕ) → ℕ → ℕ → Option Client → ServerNow → Drawn
 client_event die state number None server = server_event state server
 client_event die state number (Some client) server =

@@ -106,7 +106,7 @@ impl Dice {
         }
     }
 
-    /// What advances a client: its SYN, its text, its FIN. Where none of these does, the server has its event.
+    /// What advances a client: its SYN, its text, its FIN. Where there is nothing to advance, it is an event of the server instead.
     fn progress(&mut self, number: u8, client: &Client, total: u32, server: ServerNow) -> Event
         requires total { total ≡ length client.now.script }
         requires boots { server.boots < 2 ^ 32 }
@@ -144,7 +144,7 @@ impl Dice {
         }
     }
 
-    /// The event of a client: half of its sides of the die advance it, and all of them where it isn't open yet.
+    /// The event of a client: by two of its four sides of the die it advances, and by all four where it isn't open yet; otherwise it acknowledges.
     fn client_event(
         &mut self,
         die: u32,

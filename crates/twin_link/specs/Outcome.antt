@@ -1,4 +1,4 @@
--- What a process did that has to do with two loggers, and how that is told.
+-- What a process of one of this crate's roles did, and how that is reported.
 use Rattle.std.specs.Prelude.{◌≡◌, ◌⊎◌, ℕ, Option, Result, Ok, Err, List}
 use Rattle.std.specs.Io.KnownBytes.{Appends}
 use Rattle.ft_io.specs.declared.link_call.LinkCall.{LinkCall}
@@ -17,11 +17,11 @@ LivesAs (Logger role) (Err end) old new out_old out_new = PartStops role old new
 LivesAs (Alone role) (Ok _) old new out_old out_new = IsTeller role old new (Appends out_old out_new)
 LivesAs (Alone role) (Err end) old new out_old out_new = TellerStops role old new out_old out_new end
 
--- memory may be wanting to read its words
+-- reading its words may run out of memory
 abbrev pub Lives : TwinRole → Result (Unit {0}) NodeEnd → (old new : Option (List LinkCall)) → (out_old out_new : Option (List ℕ)) → Type 0
 Lives role end old new out_old out_new = LivesAs role end old new out_old out_new ⊎ ((end ≡ Err NoMemory) × (new ≡ old) × (out_new ≡ out_old))
 
--- what was done and what was told agree
+-- what was done and what was reported agree
 pub record HasLived (role : TwinRole) (old new : Option (List LinkCall)) (out_old out_new err_old err_new : Option (List ℕ)) (code : ℕ) : Type 0 where
   pub end : Result (Unit {0}) NodeEnd
   pub lives : Lives role end old new out_old out_new

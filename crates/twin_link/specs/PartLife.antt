@@ -19,7 +19,7 @@ pub record IsPart (role : PartRole) (old new : Option (List LinkCall)) (Writes :
   pub tells : Tells old new (Bound role.logger.local ∷ calls_of turns)
   pub written : Writes (count_line (counts_of (calls_of turns)))
 
--- a life that ended because memory ran out: it sent nothing at what it received last
+-- a life that ended because memory ran out: it sent nothing after its last receive
 pub record IsCutPart (role : PartRole) (old new : Option (List LinkCall)) : Type 0 where
   pub turns : List PartTurn
   pub cut : List LinkCall
@@ -28,7 +28,7 @@ pub record IsCutPart (role : PartRole) (old new : Option (List LinkCall)) : Type
   pub cut_off : (cut ≡ []) ⊎ IsCutOff cut
   pub tells : Tells old new (Bound role.logger.local ∷ (calls_of turns ++ cut))
 
--- how it stops early: nothing was told where the bind failed, and a front of the line was written where a write did
+-- how it stops early: nothing was written where the bind failed, and a prefix of the line where a write did
 abbrev pub PartStops : PartRole → (old new : Option (List LinkCall)) → (out_old out_new : Option (List ℕ)) → NodeEnd → Type 0
 PartStops role old new out_old out_new LinkFault = Tells old new [] × (out_new ≡ out_old)
 PartStops role old new out_old out_new NoMemory = IsCutPart role old new × (out_new ≡ out_old)

@@ -35,12 +35,12 @@ says_alone bytes = is_alone (twins.reading bytes)
 abbrev pub side_of : (other from : Addr) → Side
 side_of other from = if is_from other from then sides.Other else sides.Server
 
--- the server is at the address that last sent a datagram which isn't an Alone, but for the other logger's
+-- the server's address: the last one, apart from the other logger's, that sent a datagram which isn't an Alone
 abbrev pub server_after : Side → (from : Addr) → Option Addr → Option Addr
 server_after sides.Server from server = Some from
 server_after sides.Other from server = server
 
--- the next standing, and what is sent, each datagram with its side
+-- what the logger is next, and what it sends, each datagram with the side to which it goes
 pub record Hears : Type 0 where
   pub next : Standing
   pub sent : List (Side × List ℕ)

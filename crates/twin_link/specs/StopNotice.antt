@@ -26,7 +26,7 @@ pub record IsTeller (role : AloneRole) (old new : Option (List LinkCall)) (Write
   pub tells : Tells old new (Bound role.local ∷ Handed role.to (spelling datagrams.Alone) is_lost ∷ [])
   pub written : Writes (sent_line is_lost)
 
--- how it stops early: nothing was told where the bind failed, and a front of the line was written where a write did
+-- how it stops early: nothing was written where the bind failed, and a prefix of the line where a write did
 abbrev pub TellerStops : AloneRole → (old new : Option (List LinkCall)) → (out_old out_new : Option (List ℕ)) → NodeEnd → Type 0
 TellerStops role old new out_old out_new LinkFault = Tells old new [] × (out_new ≡ out_old)
 TellerStops role old new out_old out_new WriteFault = IsTeller role old new (AppendsFront out_old out_new)

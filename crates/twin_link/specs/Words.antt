@@ -36,7 +36,7 @@ alone_from _ _ = None
 abbrev pub alone_in : List Use → Option AloneRole
 alone_in uses = alone_from (addr_at uses option.Local) (addr_at uses option.To)
 
--- both options of a logger of a pair stand, or it is none
+-- the options of a logger of a pair, all of which are required
 abbrev pub part_options : List OptionName
 part_options = option.Local ∷ option.Turns ∷ option.Part ∷ option.Other ∷ []
 

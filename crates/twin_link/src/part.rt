@@ -1,4 +1,4 @@
-//! One of two loggers over a link. Each turn is one receive and what the logger sends at what came, which is handed to send before the next receive.
+//! One of two loggers over a link. Each turn is one receive, after which all that the logger then sends is handed to send, before the next receive.
 
 ghost use Rattle.std.specs.Prelude.{◌≡◌, ◌≤◌, ◌^◌, [], ◌∷◌, List, OnOk, OnErr, IfOk, IfErr, IsErrOf};
 ghost use Rattle.std.specs.Io.KnownBytes.{Appends};
@@ -26,7 +26,7 @@ use twin_log::{Part, Side, TwinLog, TwinMsg, TwinOut, read_twin};
 #[derive(Drop)]
 struct Twin {
     log: TwinLog,
-    /// Where the server is: the address that last sent a datagram which isn't an Alone, but for the other logger's.
+    /// The server's address: the last one, apart from the other logger's, that sent a datagram which isn't an Alone. None before the first.
     server: Option<Addr>,
     out: TwinOut,
 }
@@ -38,7 +38,7 @@ fn says_alone(bytes: &[u8]) -> bool
     matches!(read_twin(bytes), Ok(TwinMsg::Alone))
 }
 
-/// The other has stopped. Told again, it changes nothing.
+/// The other has stopped: this one serves alone. If it does already, nothing changes.
 fn serve_alone(log: &mut TwinLog)
     ensures { log.new ≡ left_alone log.old }
 {
@@ -67,7 +67,7 @@ fn server_after_side(side: Side, from: Addr, server: Option<Addr>) -> Option<Add
     }
 }
 
-/// Takes a datagram. What is sent at it stands in the logger's `out`.
+/// Takes a datagram. What is then to be sent is in the logger's `out`.
 fn take(
     alloc: Global,
     other: Addr,
@@ -88,7 +88,7 @@ fn take(
     twin.log.deliver(alloc, side, bytes, &mut twin.out)
 }
 
-/// One turn: a receive, and what the logger sends at what came.
+/// One turn: a receive, and what the logger sends in answer to what arrived.
 fn take_turn<L: Link>(
     alloc: Global,
     other: Addr,
@@ -159,7 +159,7 @@ fn serve_and_tell<L: Link, O: Sink>(
     }
 }
 
-/// A logger of a pair: it binds, does its turns, and tells the counts of their calls.
+/// A logger of a pair: it binds, does its turns, and writes the counts of their calls.
 pub(crate) fn run_part<L: Link, O: Sink>(
     alloc: Global,
     role: &PartRole,

@@ -37,7 +37,7 @@ pub struct AloneRole {
     pub to: Addr,
 }
 
-/// What a process that has to do with two loggers is to be.
+/// The roles that this crate adds: one of two loggers, and what tells one of them that it serves alone.
 #[derive(Clone, Copy, Debug)]
 pub enum TwinRole {
     Logger(PartRole),
@@ -103,7 +103,7 @@ fn read_alone(alloc: Global, words: &[String]) -> Result<Option<TwinRole>, NoMem
     }
 }
 
-/// Reads such a role from the words. None where they are others.
+/// Reads such a role from the words. None where they ask for another role.
 #[tactic(auto, unfolding(crate::specs::Words::twin_of))]
 pub fn read_twin_role(alloc: Global, words: &[String]) -> Result<Option<TwinRole>, NoMemory>
     ensures role { IfOk result (λ role. role ≡ twin_of (map string_bytes words.now)) }

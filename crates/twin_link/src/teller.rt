@@ -1,4 +1,4 @@
-//! What tells a logger that the other has stopped.
+//! `alone`: tells a logger that the other has stopped.
 
 ghost use Rattle.std.specs.Prelude.{◌≡◌, OnOk, IfErr, IsErrOf};
 ghost use Rattle.std.specs.Io.KnownBytes.{Appends};
@@ -15,7 +15,7 @@ use ft_io::{Addr, Failed, Link, Sink, write_all};
 use node_link::NodeEnd;
 use twin_log::{TwinMsg, write_twin};
 
-/// Room for a datagram between two loggers.
+/// The length of the buffer for a datagram between two loggers.
 const ROOM: usize = 2_048;
 
 /// Hands one Alone to send.
@@ -38,7 +38,7 @@ fn line_of<'a>(sent: &Result<(), Failed>) -> &'a [u8]
     }
 }
 
-/// Binds, hands one Alone to send, and says how that send ended.
+/// Binds, hands one Alone to send, and writes how that send ended.
 pub(crate) fn run_teller<L: Link, O: Sink>(
     role: &AloneRole,
     link: &mut L,
