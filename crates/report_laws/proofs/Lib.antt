@@ -1,0 +1,14 @@
+pub mod OneOutcome
+pub mod Rejection
+pub mod LineLemmas
+pub mod Fronts
+pub mod ReadLines
+pub mod Accepted
+pub mod EventLines
+pub mod Turns
+pub mod CutLines
+pub mod ClosingLines
+pub mod HeaderLines
+pub mod HeaderCut
+pub mod FirstLines
+pub mod WholeReports

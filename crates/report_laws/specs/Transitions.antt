@@ -1,0 +1,167 @@
+-- The checker of reports as a relation. It reads a report line by line; at each line, the report so far may continue, is rejected by a
+-- law, or is accepted. Nothing here parses: a line is what the report's own definitions would print.
+--
+-- | law | at this line |
+-- |---|---|
+-- | client, log, server | the packet lines of the last event end, and no legal trace has them; the law names the party whose turn the event is |
+-- | packet | they are complete, and another packet line follows |
+-- | text | a line of the header isn't in its one spelling, nor is the line of the next event |
+-- | event | the next event isn't allowed, or is the 100,001st |
+-- | end | a closing line is expected and another follows, the text ends early, or it continues after the last line |
+use Rattle.std.specs.Prelude.{◌≡◌, ℕ, Bool, false, ◌+◌, ◌≤◌, ◌&&◌, nat_eq, nat_le, ◌||◌, ◌⊎◌, codes, decimal, Option, Some, None, is_some, List, [], ◌∷◌, ◌++◌, length, if◌then◌else◌}
+use Rattle.std.specs.Bool.{MatchBool}
+use Rattle.std.specs.List.{starts_with, slice_split}
+use Rattle.std.specs.Str.{bytes_eq}
+use Rattle.server_trait.specs.Service.{Machine}
+use Rattle.ft_model.specs.Client.{Client, mover_of}
+use Rattle.ft_model.specs.Grammar.{with_line}
+use Rattle.ft_model.specs.Legal.{Legal, IsLegalFor, start_of, refusal}
+use Rattle.ft_model.specs.Network.{Packet, packet_at}
+use Rattle.ft_model.specs.Network.Packet.{To_client, To_logger}
+use Rattle.ft_model.specs.Readable.{IsReadable}
+use Rattle.ft_model.specs.Report.{report, header, event_line, event_lines, packet_line, packet_lines, way_of, packet_count, closing_lines}
+use Rattle.ft_model.specs.Schedule.{clients_of}
+use Rattle.ft_model.specs.Words.{is}
+use Rattle.ft_model.specs.World.{World, Moment, world_after}
+use Rattle.ft_model.specs.declared.event.Event.{Event}
+use Rattle.ft_model.specs.declared.event.Event.TheVariants.{Deliver, Flip}
+use Rattle.ft_model.specs.declared.line.Draft.{Draft}
+use Rattle.ft_model.specs.declared.line.Draft.TheVariants.{Empty, Named, Begun}
+use Rattle.ft_model.specs.declared.line.Line.TheVariants as says
+use Rattle.ft_model.specs.declared.schedule.Schedule.{Schedule}
+use Rattle.report_laws.specs.declared.Law.{Law}
+use Rattle.report_laws.specs.declared.Law.TheVariants as law
+use Rattle.report_laws.specs.Lines.{lines_in}
+use Rattle.report_laws.specs.Canonical.{IsWithinLimits, IsCanonical}
+
+abbrev pub clients_in : Schedule → List Client
+clients_in schedule = clients_of schedule.server schedule.clients
+
+-- The text is the report of a legal trace of at most 200,000 packets, for a schedule within the limits.
+pub record IsReport {State : Type 0} (service : ℕ → Machine State) (text : List ℕ) : Type 0 where
+  pub schedule : Schedule
+  pub trace : List Moment
+  pub within : IsWithinLimits schedule
+  pub legal : Legal service schedule trace
+  pub packets : packet_count trace ≤ 200000
+  pub text_is : text ≡ report schedule trace
+
+-- the lines read so far
+pub data Position : Type 0 where
+  AtStart : Position  -- none
+  InHeader : Draft → Position  -- the header's, which spell this
+  InTurn : Schedule → List Moment → Event → List Packet → Position  -- those of a schedule's legal trace, then an event's, and these packets'
+  InClosing : List (List ℕ) → Position  -- all but these closing lines
+
+-- what the next line does to the verdict. The end of the text counts as a line
+pub data Step : Type 0 where
+  Continues : Position → Step
+  Rejects : Law → Step
+  Accepts : Step
+
+-- where something with this property exists, its outcome; otherwise the other outcome
+abbrev pub IfExists : {A : Type 0} → (A → Type 0) → (A → Type 0) → Type 0 → Type 0
+IfExists {A} Is Outcome otherwise = ((a : A) × Is a × Outcome a) ⊎ (((a : A) → Is a → ⊥) × otherwise)
+
+-- the line of event n: its number, and the canonical line by which a schedule asks for it
+pub record IsEventLine (schedule : Schedule) (n : ℕ) (event : Event) (text : List ℕ) : Type 0 where
+  pub asked : List ℕ
+  pub spelled : text ≡ codes "event " ++ (decimal n ++ 32 ∷ asked)
+  pub canonical : IsCanonical (Begun schedule) (says.Event event) asked
+
+-- the line of packet n, between the server and a client of the schedule, or between the server and the logger
+pub record IsPacketLine (schedule : Schedule) (n : ℕ) (packet : Packet) (text : List ℕ) : Type 0 where
+  pub readable : IsReadable schedule.server (clients_in schedule) packet
+  pub number : n ≤ 200000
+  pub spelled : text ≡ packet_line n (way_of (clients_in schedule) packet) packet
+
+-- the law of the party that receives a packet
+abbrev pub receiver : Option Packet → Law
+receiver (Some (To_client segment)) = law.Client
+receiver (Some (To_logger message)) = law.Log
+receiver _ = law.Server
+
+-- .. of the party whose turn an event is: a client moves, a packet's receiver takes it, and the server has every other event
+abbrev pub actor : World → Event → Law
+actor w (Deliver number) = receiver (packet_at w.packets number)
+actor w (Flip number bit) = receiver (packet_at w.packets number)
+actor w event = if is_some (mover_of event) then law.Client else law.Server
+
+abbrev pub begins_with : List ℕ → List ℕ → Bool
+begins_with word text = starts_with nat_eq text word
+
+-- these closing lines remain
+abbrev pub ClosingLine : List (List ℕ) → Option (List ℕ) → Step → Type 0
+ClosingLine [] None step = step ≡ Accepts
+ClosingLine (due ∷ more) (Some text) step = MatchBool (bytes_eq text due) (step ≡ Continues (InClosing more)) (step ≡ Rejects law.End)
+ClosingLine _ _ step = step ≡ Rejects law.End
+
+-- the line begins `event `, where the next event may follow
+abbrev pub EventLine : Schedule → List Moment → List ℕ → Step → Type 0
+EventLine schedule trace text step =
+    IfExists (λ event. IsEventLine schedule (length trace + 1) event text)
+    (λ event. MatchBool (is_some (refusal (world_after (start_of schedule) trace) event) || nat_le 100000 (length trace)) (step ≡ Rejects law.Event)
+    (step ≡ Continues (InTurn (record schedule { events = schedule.events ++ event ∷ [] }) trace event [])))
+    (step ≡ Rejects law.Text)
+
+-- the lines that close the report of a trace
+abbrev pub closing_of : Schedule → List Moment → List (List ℕ)
+closing_of schedule trace = lines_in (closing_lines (world_after (start_of schedule) trace) (length trace))
+
+-- a line after the header and the turns of a legal trace
+abbrev pub AfterTurn : Schedule → List Moment → Option (List ℕ) → Step → Type 0
+AfterTurn schedule trace (Some text) step =
+    MatchBool (begins_with (codes "packet ") text && nat_le 1 (length trace)) (step ≡ Rejects law.Packet)
+    (MatchBool (begins_with (codes "event ") text) (EventLine schedule trace text step) (ClosingLine (closing_of schedule trace) (Some text) step))
+AfterTurn schedule trace None step = ClosingLine (closing_of schedule trace) None step
+
+-- A line of the header: the service's, the server's, or the next client's
+abbrev pub HeaderLine : Draft → List ℕ → Step → Type 0
+HeaderLine Empty text step =
+    IfExists (λ kind. IsCanonical Empty (says.Service kind) text) (λ kind. step ≡ Continues (InHeader (Named kind))) (step ≡ Rejects law.Text)
+HeaderLine (Named kind) text step =
+    IfExists (λ at. IsCanonical (Named kind) (says.Server at) text) (λ at. step ≡ Continues (InHeader (with_line (Named kind) (says.Server at)))) (step ≡ Rejects law.Text)
+HeaderLine (Begun schedule) text step =
+    IfExists (λ client. IsCanonical (Begun schedule) (says.Client client) text)
+    (λ client. step ≡ Continues (InHeader (with_line (Begun schedule) (says.Client client)))) (step ≡ Rejects law.Text)
+
+-- the words of a line, each before a space or the line feed
+abbrev pub pieces : List ℕ → List (List ℕ)
+pieces text = slice_split (λ c. is 32 c || is 10 c) text
+
+-- After the server's line, a line is the header's where it is for the next client. The words `twin` and `marks` are of schedules that aren't
+-- checked, so such a line is the header's too, and no line of its kind is accepted
+abbrev pub is_header_line : Schedule → List (List ℕ) → Bool
+is_header_line schedule [] = false
+is_header_line schedule (first ∷ []) = bytes_eq first (codes "twin") || bytes_eq first (codes "marks")
+is_header_line schedule (first ∷ second ∷ more) =
+    bytes_eq first (codes "twin") || bytes_eq first (codes "marks") || bytes_eq first (codes "client") && bytes_eq second (decimal (length schedule.clients + 1))
+
+-- What a line does at a position.
+abbrev pub LineGives : {State : Type 0} → (ℕ → Machine State) → Position → Option (List ℕ) → Step → Type 0
+LineGives service AtStart None step = step ≡ Rejects law.End
+LineGives service AtStart (Some text) step = MatchBool (bytes_eq text (codes "ftreplay 1\n")) (step ≡ Continues (InHeader Empty)) (step ≡ Rejects law.Text)
+LineGives service (InHeader (Begun schedule)) (Some text) step =
+    MatchBool (is_header_line schedule (pieces text)) (HeaderLine (Begun schedule) text step) (AfterTurn schedule [] (Some text) step)
+LineGives service (InHeader (Begun schedule)) None step = AfterTurn schedule [] None step
+LineGives service (InHeader draft) None step = step ≡ Rejects law.End
+LineGives service (InHeader draft) (Some text) step = HeaderLine draft text step
+-- a packet line continues the turn; any other ends it, and then its packets are judged together
+LineGives service (InTurn schedule trace event sent) text step =
+    IfExists (λ packet. (line : List ℕ) × (text ≡ Some line) × IsPacketLine schedule (packet_count trace + length sent + 1) packet line)
+    (λ packet. step ≡ Continues (InTurn schedule trace event (sent ++ packet ∷ [])))
+    (IfExists (λ w. IsLegalFor service schedule schedule.events (record { event = event; sent = sent; world = w } ∷ trace))
+    (λ w. AfterTurn schedule (record { event = event; sent = sent; world = w } ∷ trace) text step)
+    (step ≡ Rejects (actor (world_after (start_of schedule) trace) event)))
+LineGives service (InClosing due) text step = ClosingLine due text step
+
+-- the report up to the last turn of a trace
+abbrev pub report_so_far : Schedule → List Moment → List ℕ
+report_so_far schedule trace = header schedule ++ event_lines (clients_in schedule) trace
+
+-- an event's line and its packets'
+abbrev pub turn_so_far : Schedule → List Moment → Event → List Packet → List ℕ
+turn_so_far schedule trace event sent = event_line (length trace + 1) event ++ packet_lines (clients_in schedule) (packet_count trace + 1) sent
+
+abbrev pub report_with_turn : Schedule → List Moment → Event → List Packet → List ℕ
+report_with_turn schedule trace event sent = report_so_far schedule trace ++ turn_so_far schedule trace event sent
