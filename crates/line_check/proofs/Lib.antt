@@ -1,0 +1,11 @@
+pub mod Spelled
+pub mod Flags
+pub mod ColumnWords
+pub mod Messages
+pub mod LineWords
+pub mod PacketLines
+pub mod Taken
+pub mod EventWords
+pub mod EventRanges
+pub mod EventLines
+pub mod HeaderLines

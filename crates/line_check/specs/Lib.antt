@@ -1,0 +1,4 @@
+pub mod Words
+pub mod Left
+pub mod EventWords
+pub mod HeaderText

@@ -1,0 +1,9 @@
+//! The direction of a packet, as its line names it.
+
+/// Between which parties a packet goes. Clients are numbered from 1.
+#[derive(Clone, Copy)]
+pub(crate) enum Direction {
+    FromClient(u64),
+    ToClient(u64),
+    WithLogger,
+}

@@ -1,0 +1,327 @@
+//! The words of a message between server and logger: its kind, its boot number, its fields, and what follows them.
+
+ghost use Rattle.std.specs.Prelude.{◌≡◌, ◌+◌, ◌*◌, ◌≤◌, ◌<◌, ◌^◌, Some, [], ◌∷◌, codes, drop, length, IfSome};
+ghost use Rattle.seq_arith.specs.declared.kinds.Kind.TheVariants as kinds;
+ghost use Rattle.seq_arith.specs.MessageGrammar.{behind_at, fewest_behind, has_length, is_lens, most_behind};
+ghost use Rattle.line_check.specs.Left.{words_left};
+ghost use Rattle.line_check.specs.Words as spelled;
+ghost use Rattle.line_check.specs.Words.Column.{KeyColumn, NumberColumn};
+
+use crate::columns::{Limits, key_fits, number_fits};
+use crate::values::{byte_count, lens_count, number_word};
+use crate::words::{Words, last_named, next_word, skip};
+use seq_arith::{Field, Kind};
+
+/// The kind that a word names.
+#[tactic(auto, unfolding(crate::specs::Words::kind_named))]
+fn kind_named(word: &[u8]) -> Option<Kind>
+    ensures { result ≡ spelled.kind_named word.now }
+{
+    if word == b"Hello".as_slice() {
+        Some(Kind::Hello)
+    } else if word == b"Summary".as_slice() {
+        Some(Kind::Summary)
+    } else if word == b"List".as_slice() {
+        Some(Kind::List)
+    } else if word == b"Entry".as_slice() {
+        Some(Kind::Entry)
+    } else if word == b"Bytes".as_slice() {
+        Some(Kind::Bytes)
+    } else if word == b"Part".as_slice() {
+        Some(Kind::Part)
+    } else if word == b"Cuts".as_slice() {
+        Some(Kind::Cuts)
+    } else if word == b"Lens".as_slice() {
+        Some(Kind::Lens)
+    } else if word == b"Open".as_slice() {
+        Some(Kind::Open)
+    } else if word == b"Opened".as_slice() {
+        Some(Kind::Opened)
+    } else if word == b"Data".as_slice() {
+        Some(Kind::Data)
+    } else if word == b"Stable".as_slice() {
+        Some(Kind::Stable)
+    } else if word == b"Read".as_slice() {
+        Some(Kind::Read)
+    } else if word == b"Reads".as_slice() {
+        Some(Kind::Reads)
+    } else if word == b"Done".as_slice() {
+        Some(Kind::Done)
+    } else if word == b"Ended".as_slice() {
+        Some(Kind::Ended)
+    } else if word == b"Stale".as_slice() {
+        Some(Kind::Stale)
+    } else if word == b"Full".as_slice() {
+        Some(Kind::Full)
+    } else {
+        None
+    }
+}
+
+/// How many fields a kind's line names.
+fn column_count(kind: Kind) -> usize
+    ensures value { result ≡ length (spelled.columns_of kind) }
+    ensures most { result ≤ 10 }
+{
+    match kind {
+        Kind::Hello => 0,
+        Kind::Summary | Kind::List | Kind::Done | Kind::Ended | Kind::Stale | Kind::Full => 1,
+        Kind::Bytes | Kind::Part | Kind::Cuts | Kind::Lens => 2,
+        Kind::Read => 3,
+        Kind::Open | Kind::Opened | Kind::Data | Kind::Stable | Kind::Reads => 4,
+        Kind::Entry => 10,
+    }
+}
+
+/// Where a kind's fields end in a message.
+fn fields_end(kind: Kind) -> usize
+    ensures value { result ≡ behind_at kind }
+    ensures most { result ≤ 48 }
+{
+    match kind {
+        Kind::Hello => 16,
+        Kind::Summary | Kind::List => 18,
+        Kind::Done | Kind::Ended | Kind::Full => 22,
+        Kind::Stale => 24,
+        Kind::Bytes | Kind::Part | Kind::Cuts | Kind::Lens => 26,
+        Kind::Read => 28,
+        Kind::Data | Kind::Stable | Kind::Reads => 31,
+        Kind::Open | Kind::Opened => 32,
+        Kind::Entry => 48,
+    }
+}
+
+/// The fewest and the most bytes that may follow a kind's fields.
+fn behind_bounds(kind: Kind) -> (usize, usize)
+    ensures value { (result.0 ≡ fewest_behind kind) × (result.1 ≡ most_behind kind) }
+    ensures most { (result.0 ≤ 2) × (result.1 ≤ 1460) }
+{
+    match kind {
+        Kind::Part => (1, 1_024),
+        Kind::Lens => (2, 1_024),
+        Kind::Data => (0, 1_460),
+        _ => (0, 0),
+    }
+}
+
+fn is_of_lens(kind: Kind) -> bool
+    ensures { result ≡ is_lens kind }
+{
+    match kind {
+        Kind::Lens => true,
+        _ => false,
+    }
+}
+
+/// Whether so many bytes may follow a kind's fields.
+#[tactic(auto, unfolding(seq_arith::specs::MessageGrammar::has_length))]
+fn length_fits(kind: Kind, behind: usize) -> bool
+    requires { behind < 2 ^ 63 }
+    ensures { result ≡ has_length kind (behind_at kind + behind) }
+{
+    let (fewest, most) = behind_bounds(kind);
+    let start = fields_end(kind);
+    let len = start + behind;
+    if len < start + fewest {
+        return false;
+    }
+    if start + most < len {
+        return false;
+    }
+    !is_of_lens(kind) || len % 2 == 0
+}
+
+/// How many bytes follow a kind's fields, by the words after them.
+fn behind_in(kind: Kind, words: Words<'_>) -> Option<usize>
+    ensures value { result ≡ spelled.behind_in kind (words_left words.entry.rest) }
+    ensures most { IfSome result (λ n. n < 2 ^ 63) }
+{
+    match kind {
+        Kind::Part | Kind::Data => byte_count(last_named(b"bytes", words)?),
+        Kind::Lens => Some(2 * lens_count(last_named(b"lens", words)?)?),
+        _ => nothing_more(words),
+    }
+}
+
+/// Zero, where there are no more words.
+fn nothing_more(words: Words<'_>) -> Option<usize>
+    ensures value { result ≡ spelled.nothing_more (words_left words.entry.rest) }
+    ensures most { IfSome result (λ n. n ≤ 0) }
+{
+    let mut words = words;
+    match next_word(&mut words) {
+        Some(_) => None,
+        None => Some(0),
+    }
+}
+
+/// One number.
+#[tactic(auto, using(crate::proofs::Taken::last_column))]
+fn one_fits(limits: Limits, field: Field, name: &[u8], words: Words<'_>) -> bool
+    ensures { result ≡ spelled.columns_fit limits.boot limits.behind (NumberColumn name.now field ∷ []) (words_left words.entry.rest) }
+{
+    let mut words = words;
+    number_fits(limits, field, name, &mut words)
+}
+
+/// A key alone.
+#[tactic(auto, using(crate::proofs::Taken::last_column))]
+fn key_alone_fits(limits: Limits, words: Words<'_>) -> bool
+    ensures { result ≡ spelled.columns_fit limits.boot limits.behind (KeyColumn ∷ []) (words_left words.entry.rest) }
+{
+    let mut words = words;
+    key_fits(&mut words)
+}
+
+/// A key and one number.
+#[tactic(auto, using(crate::proofs::Taken::last_column))]
+fn key_and_one_fit(limits: Limits, field: Field, name: &[u8], words: Words<'_>) -> bool
+    ensures { result ≡ spelled.columns_fit limits.boot limits.behind (KeyColumn ∷ NumberColumn name.now field ∷ []) (words_left words.entry.rest) }
+{
+    let mut words = words;
+    key_fits(&mut words) && number_fits(limits, field, name, &mut words)
+}
+
+/// The numbers of a connection.
+#[tactic(auto, using(crate::proofs::Taken::last_column))]
+fn opening_fits(limits: Limits, words: Words<'_>) -> bool
+    ensures { result ≡ spelled.columns_fit limits.boot limits.behind (spelled.opening_columns []) (words_left words.entry.rest) }
+{
+    let mut words = words;
+    key_fits(&mut words)
+        && number_fits(limits, Field::Initial, b"cisn", &mut words)
+        && number_fits(limits, Field::Initial, b"sisn", &mut words)
+        && number_fits(limits, Field::Mss, b"mss", &mut words)
+}
+
+/// How much of a connection is logged.
+#[tactic(auto, using(crate::proofs::Taken::last_column))]
+fn kept_fits(limits: Limits, words: Words<'_>) -> bool
+    ensures { result ≡ spelled.columns_fit limits.boot limits.behind spelled.kept_columns (words_left words.entry.rest) }
+{
+    let mut words = words;
+    key_fits(&mut words)
+        && number_fits(limits, Field::Length, b"length", &mut words)
+        && number_fits(limits, Field::Flag, b"fin", &mut words)
+        && number_fits(limits, Field::Units, b"reads", &mut words)
+}
+
+/// A read.
+#[tactic(auto, using(crate::proofs::Taken::last_column))]
+fn read_fits(limits: Limits, words: Words<'_>) -> bool
+    ensures { result ≡ spelled.columns_fit limits.boot limits.behind (spelled.columns_of kinds.Read) (words_left words.entry.rest) }
+{
+    let mut words = words;
+    key_fits(&mut words)
+        && number_fits(limits, Field::Units, b"index", &mut words)
+        && number_fits(limits, Field::ReadLength, b"length", &mut words)
+}
+
+/// Bytes to be logged.
+#[tactic(auto, using(crate::proofs::Taken::last_column))]
+fn data_fits(limits: Limits, words: Words<'_>) -> bool
+    ensures { result ≡ spelled.columns_fit limits.boot limits.behind (spelled.columns_of kinds.Data) (words_left words.entry.rest) }
+{
+    let mut words = words;
+    key_fits(&mut words)
+        && number_fits(limits, Field::Offset, b"offset", &mut words)
+        && number_fits(limits, Field::Units, b"acked", &mut words)
+        && number_fits(limits, Field::Flag, b"fin", &mut words)
+}
+
+/// What an entry has beyond the numbers of its connection.
+#[tactic(auto, using(crate::proofs::Taken::last_column))]
+fn state_fits(limits: Limits, words: Words<'_>) -> bool
+    ensures { result ≡ spelled.columns_fit limits.boot limits.behind spelled.state_columns (words_left words.entry.rest) }
+{
+    let mut words = words;
+    number_fits(limits, Field::Length, b"length", &mut words)
+        && number_fits(limits, Field::Flag, b"fin", &mut words)
+        && number_fits(limits, Field::Flag, b"done", &mut words)
+        && number_fits(limits, Field::Units, b"reads", &mut words)
+        && number_fits(limits, Field::Units, b"acked", &mut words)
+}
+
+/// An entry of the log.
+fn entry_fits(limits: Limits, words: Words<'_>) -> bool
+    ensures { result ≡ spelled.columns_fit limits.boot limits.behind (spelled.columns_of kinds.Entry) (words_left words.entry.rest) }
+{
+    let mut words = words;
+    number_fits(limits, Field::Place, b"index", &mut words)
+        && key_fits(&mut words)
+        && number_fits(limits, Field::Initial, b"cisn", &mut words)
+        && number_fits(limits, Field::Initial, b"sisn", &mut words)
+        && number_fits(limits, Field::Mss, b"mss", &mut words)
+        && state_fits(limits, words)
+}
+
+/// Whether these words begin with the fields of a kind.
+fn columns_fit(kind: Kind, limits: Limits, words: Words<'_>) -> bool
+    ensures { result ≡ spelled.columns_fit limits.boot limits.behind (spelled.columns_of kind) (words_left words.entry.rest) }
+{
+    match kind {
+        Kind::Hello => true,
+        Kind::Summary => one_fits(limits, Field::Count, b"count", words),
+        Kind::List => one_fits(limits, Field::Place, b"index", words),
+        Kind::Entry => entry_fits(limits, words),
+        Kind::Bytes | Kind::Part => key_and_one_fit(limits, Field::Offset, b"offset", words),
+        Kind::Cuts | Kind::Lens => key_and_one_fit(limits, Field::Units, b"first", words),
+        Kind::Open | Kind::Opened => opening_fits(limits, words),
+        Kind::Data => data_fits(limits, words),
+        Kind::Stable | Kind::Reads => kept_fits(limits, words),
+        Kind::Read => read_fits(limits, words),
+        Kind::Done | Kind::Ended | Kind::Full => key_alone_fits(limits, words),
+        Kind::Stale => one_fits(limits, Field::Newer, b"newer", words),
+    }
+}
+
+/// Whether these are the fields of a kind and what follows them.
+fn rest_fits(kind: Kind, boot: u64, words: Words<'_>) -> bool
+    ensures { result ≡ spelled.rest_fits kind boot (spelled.behind_in kind (drop (2 * length (spelled.columns_of kind)) (words_left words.entry.rest))) (words_left words.entry.rest) }
+{
+    let Some(behind) = behind_in(kind, skip(2 * column_count(kind), words)) else {
+        return false;
+    };
+    if !length_fits(kind, behind) {
+        return false;
+    }
+    let limits = Limits {
+        boot,
+        behind: behind as u64,
+    };
+    columns_fit(kind, limits, words)
+}
+
+/// Whether these are a boot number and what follows it.
+fn body_fits(kind: Kind, boot: u64, words: Words<'_>) -> bool
+    ensures { result ≡ spelled.body_fits (Some kind) (Some boot) (words_left words.entry.rest) }
+{
+    1 <= boot && rest_fits(kind, boot, words)
+}
+
+/// Whether these are the words of a message.
+#[tactic(auto, unfolding(crate::specs::Words::is_message))]
+pub(crate) fn is_message(words: Words<'_>) -> bool
+    ensures { result ≡ spelled.is_message (words_left words.entry.rest) }
+{
+    let mut words = words;
+    let Some(name) = next_word(&mut words) else {
+        return false;
+    };
+    let Some(label) = next_word(&mut words) else {
+        return false;
+    };
+    let Some(number) = next_word(&mut words) else {
+        return false;
+    };
+    if label != b"boot".as_slice() {
+        return false;
+    }
+    let Some(kind) = kind_named(name) else {
+        return false;
+    };
+    match number_word(u64::MAX, number) {
+        Some(boot) => body_fits(kind, boot, words),
+        None => false,
+    }
+}
