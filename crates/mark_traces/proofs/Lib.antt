@@ -1,0 +1,16 @@
+mod Own
+mod Packets
+mod Steps
+mod Strip
+mod Turns
+mod Fronts
+mod Truth
+mod MarkSteps
+mod Noise
+mod LogSteps
+mod Traces
+mod OneTurn
+mod OneWorld
+mod OneOutcome
+mod WorkedTrace
+mod Premises
