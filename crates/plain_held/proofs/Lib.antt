@@ -1,0 +1,3 @@
+pub mod Fins
+pub mod FirstPlace
+pub mod Laying

@@ -1,0 +1,179 @@
+//! What the text and the FIN of a segment do to a stream. The rules apply in the order of the functions here.
+
+ghost use Rattle.std.specs.Prelude.{◌≡◌, ◌<◌, ◌+◌, ◌^◌, pos, ◌+ℤ◌, IfOk, OnOk, length};
+ghost use Rattle.seq_arith.specs.Coming.{Early, nothing_came, ahead as ahead_lem, new_text as new_lem, comes};
+
+use crate::held::Held;
+use crate::places::{behind, holds_some, take_front};
+use ft_io::NoMemory;
+use plain_segment::{part, place_of};
+use seq_arith::below;
+use std::alloc::Global;
+use std::marker::Model;
+
+/// The bytes that a segment adds to those taken, what is held then, and whether the FIN is taken.
+#[derive(Debug, Drop)]
+pub struct Coming {
+    pub added: Vec<u8>,
+    pub held: Held,
+    pub fin: bool,
+}
+
+impl Model for Coming {
+    ghost use Rattle.seq_arith.specs.Coming.{Came};
+
+    ghost Value = { Came };
+
+    ghost view = { λ c. record { added = c.added.items; early = c.held; fin = c.fin } };
+}
+
+/// How far past the end of the bytes taken a text begins.
+fn ahead(n: u64, first: i64) -> u64
+    ensures value { result ≡ ahead_lem n first }
+    ensures within { result < 2 ^ 63 }
+{
+    if first >= 0 {
+        (first as u64).saturating_sub(n)
+    } else {
+        0
+    }
+}
+
+impl Coming {
+    ghost use Rattle.seq_arith.specs.Coming.{with_text, holds_fin as holds_lem, with_fin, continued, with_fin_taken};
+
+    /// So far nothing is added, and what was held is held.
+    fn nothing(alloc: Global, held: Held, fin: bool) -> Coming
+        ensures { result ≡ nothing_came held fin }
+    {
+        Coming {
+            added: Vec::new(alloc),
+            held,
+            fin,
+        }
+    }
+
+    /// The new text of a segment: from the bytes taken up to the edge below which text counts.
+    #[tactic(auto, unfolding(seq_arith::specs::Coming::new_text))]
+    fn new_text<'a>(&self, n: u64, edge: u64, first: i64, text: &'a [u8]) -> &'a [u8]
+        requires { n < 2 ^ 63 }
+        ensures { result.now ≡ new_lem n edge self.now.fin self.now.early first text.now }
+    {
+        let edge = self.held.text_edge(n, edge, self.fin);
+        let room = edge.saturating_sub(n + ahead(n, first));
+        part(text, below(n, first), room)
+    }
+
+    /// New text that begins at the end of the bytes taken is added to them, and is no longer held. Other new text is held.
+    #[tactic(auto, unfolding(seq_arith::specs::Coming::with_text))]
+    fn take_text(
+        &mut self,
+        alloc: Global,
+        n: u64,
+        edge: u64,
+        first: i64,
+        text: &[u8],
+    ) -> Result<(), NoMemory>
+        requires { n < 2 ^ 63 }
+        ensures { OnOk result (self.new ≡ with_text n edge first text.now self.old) }
+    {
+        let new = self.new_text(n, edge, first, text);
+        let ahead = ahead(n, first);
+        if ahead > 0 {
+            return self.held.hold(alloc, ahead as usize, new);
+        }
+        let left = behind(self.held.text.as_slice(), new.len() as u64);
+        self.held.text = Vec::from_slice(alloc, left)?;
+        self.added = Vec::from_slice(alloc, new)?;
+        Ok(())
+    }
+
+    /// Whether a FIN at this place is held: it is below the receive edge and not below the bytes taken, no text at or past it is held, and no FIN is held or taken.
+    #[tactic(auto, unfolding(seq_arith::specs::Coming::holds_fin))]
+    fn holds_fin(&self, n: u64, edge: u64, place: u64) -> bool
+        requires { n < 2 ^ 63 }
+        ensures { result ≡ holds_lem n edge (pos place) self.now }
+    {
+        let end = n + self.added.len() as u64;
+        place < edge
+            && end <= place
+            && !holds_some(behind(self.held.text.as_slice(), place - end))
+            && self.held.fin.is_none()
+            && !self.fin
+    }
+
+    /// Holds the segment's FIN, which is `len` past `first`.
+    #[tactic(auto, using(crate::proofs::Fins::none_before), unfolding(seq_arith::specs::Coming::with_fin))]
+    fn hold_fin(&mut self, n: u64, edge: u64, first: i64, len: u64, has_fin: bool)
+        requires n { n < 2 ^ 63 }
+        requires len { len < 2 ^ 63 }
+        ensures { self.new ≡ with_fin n edge (first +ℤ pos len) has_fin self.old }
+    {
+        if !has_fin {
+            return;
+        }
+        let Some(place) = place_of(first, len) else {
+            return;
+        };
+        if self.holds_fin(n, edge, place) {
+            self.held.fin = Some(place);
+        }
+    }
+
+    /// The held bytes that continue those taken are added to them.
+    #[tactic(auto, unfolding(seq_arith::specs::Coming::continued))]
+    fn take_held(&mut self, alloc: Global) -> Result<(), NoMemory>
+        ensures { OnOk result (self.new ≡ continued self.old) }
+    {
+        let left = take_front(self.held.text.as_slice(), &mut self.added)?;
+        let left = Vec::from_slice(alloc, left)?;
+        self.held.text = left;
+        Ok(())
+    }
+
+    /// A FIN that is held at the end of the bytes taken is taken.
+    #[tactic(auto, unfolding(seq_arith::specs::Coming::with_fin_taken))]
+    fn take_fin(&mut self, n: u64)
+        requires { n < 2 ^ 63 }
+        ensures { self.new ≡ with_fin_taken n self.old }
+    {
+        let end = n + self.added.len() as u64;
+        if let Some(offset) = self.held.fin
+            && offset == end
+        {
+            self.held.fin = None;
+            self.fin = true;
+        }
+    }
+
+    /// What a segment does to a stream of which `n` bytes are taken, with the receive edge `edge`, where `fin` says whether its FIN is taken. The segment's text
+    /// begins at `first`.
+    #[tactic(auto, unfolding(seq_arith::specs::Coming::comes))]
+    pub fn of(
+        alloc: Global,
+        stream: Stream,
+        held: Held,
+        first: i64,
+        text: &[u8],
+        has_fin: bool,
+    ) -> Result<Coming, NoMemory>
+        requires { stream.taken < 2 ^ 63 }
+        ensures { IfOk result (λ c. c ≡ comes stream.taken stream.edge stream.fin held first text.now has_fin) }
+    {
+        let (n, edge) = (stream.taken, stream.edge);
+        let mut coming = Coming::nothing(alloc, held, stream.fin);
+        coming.take_text(alloc, n, edge, first, text)?;
+        coming.hold_fin(n, edge, first, text.len() as u64, has_fin);
+        coming.take_held(alloc)?;
+        coming.take_fin(n);
+        Ok(coming)
+    }
+}
+
+/// A stream before a segment: how many bytes are taken, the receive edge, and whether the FIN is taken.
+#[derive(Clone, Copy, Debug)]
+pub struct Stream {
+    pub taken: u64,
+    pub edge: u64,
+    pub fin: bool,
+}

@@ -1,0 +1,68 @@
+//! Out-of-order data: text after a gap, and a FIN.
+
+ghost use Rattle.std.specs.Prelude.{◌≡◌, OnOk};
+ghost use Rattle.seq_arith.specs.Coming.{nothing_early, text_edge as edge_lem};
+
+use crate::places::{lay, run_count};
+use ft_io::NoMemory;
+use std::alloc::Global;
+use std::marker::Model;
+
+/// The most runs of places that are held.
+const MOST_RUNS: usize = 16;
+
+/// Out-of-order data: text after the bytes taken, place by place, and at most one FIN, by its offset in the stream.
+#[derive(Debug, Drop)]
+pub struct Held {
+    pub(crate) text: Vec<Option<u8>>,
+    pub(crate) fin: Option<u64>,
+}
+
+impl Model for Held {
+    ghost use Rattle.seq_arith.specs.Coming.{Early};
+
+    ghost Value = { Early };
+
+    ghost view = { λ h. record { text = h.text.items; fin = h.fin } };
+}
+
+impl Held {
+    ghost use Rattle.std.specs.Prelude.{ℕ};
+    ghost use Rattle.seq_arith.specs.Early.{held_with};
+
+    /// Nothing is held. Nothing is allocated.
+    pub fn new(alloc: Global) -> Held
+        ensures { result ≡ nothing_early }
+    {
+        Held {
+            text: Vec::new(alloc),
+            fin: None,
+        }
+    }
+
+    /// Text counts below this offset: below the receive edge, and below a FIN that is held or taken.
+    pub(crate) fn text_edge(&self, n: u64, edge: u64, fin: bool) -> u64
+        ensures { result ≡ edge_lem n edge fin self.now }
+    {
+        if fin {
+            return n;
+        }
+        match self.fin {
+            Some(offset) => offset.min(edge),
+            None => edge,
+        }
+    }
+
+    /// Holds bytes from a place on, unless more than sixteen runs would be held. After `NoMemory` it may only be dropped.
+    #[tactic(auto, unfolding(seq_arith::specs::Early::held_with))]
+    pub(crate) fn hold(&mut self, alloc: Global, at: usize, bytes: &[u8]) -> Result<(), NoMemory>
+        ensures { OnOk result (self.new ≡ record self.old { text = held_with at bytes.now self.old.text }) }
+    {
+        let mut text = Vec::from_slice(alloc, self.text.as_slice())?;
+        lay(&mut text, at, bytes)?;
+        if run_count(text.as_slice()) <= MOST_RUNS {
+            self.text = text;
+        }
+        Ok(())
+    }
+}

@@ -1,0 +1,4 @@
+pub mod Lengths
+pub mod Mapped
+pub mod Ranges
+pub mod Replies

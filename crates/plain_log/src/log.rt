@@ -1,0 +1,298 @@
+//! The log of all connections.
+
+ghost use Rattle.std.specs.Prelude.{◌≡◌, ◌≤◌, OnOk, Some, option_map, option_copied, find, map, length, slice_get, ◌||◌, nat_le};
+ghost use Rattle.std.specs.List.{list_any};
+ghost use Rattle.ft_io.specs.Key.{key_eq};
+ghost use Rattle.seq_arith.specs.Message.{is_answer as answer_lem};
+ghost use Rattle.seq_arith.specs.Message.Body.{HelloMsg};
+ghost use Rattle.seq_arith.specs.MessageGrammar.{lens_in};
+ghost use Rattle.ft_model.specs.Log.{Log, empty_log, entry_of, opened, opened_answer, with_body, is_hello as hello_lem, log_after, answer_from, answer_to};
+ghost use Rattle.logger_wire.specs.Value.{body_of, message_of, IsSendable};
+ghost use Rattle.plain_log.specs.Parts.{numbers_in, logged_in, StaysInStream};
+ghost use Rattle.plain_log.specs.Reply.{reply, lengths_asked};
+
+use crate::entry::{Numbers, Part, PlainEntry};
+use ft_io::{Key, NoMemory};
+use logger_wire::{Body, Msg};
+use std::alloc::Global;
+use std::marker::Model;
+
+/// How many entries a log may have.
+const ENTRY_LIMIT: usize = 64;
+
+/// The log of a schedule's run.
+#[derive(Debug, Drop)]
+pub struct PlainLog {
+    /// The boot number of the newest server that has sent Hello.
+    boot: u64,
+    /// At most 64, in the order in which they were opened.
+    entries: Vec<PlainEntry>,
+}
+
+impl Model for PlainLog {
+    ghost use Rattle.std.specs.Prelude.{◌≤◌, length};
+    ghost use Rattle.ft_model.specs.Log.{Log};
+
+    ghost Value = { Log };
+
+    ghost view = { λ l. record { boot = l.boot; entries = l.entries.items } };
+
+    ghost invariant = { λ l. length l.entries.items ≤ 64 };
+}
+
+/// Whether only the logger sends such a body.
+fn is_answer(body: &Body<'_>) -> bool
+    ensures { result ≡ answer_lem (body_of body.now) }
+{
+    match body {
+        Body::SummaryMsg { .. }
+        | Body::EntryMsg { .. }
+        | Body::PartMsg { .. }
+        | Body::LensMsg { .. }
+        | Body::OpenedMsg { .. }
+        | Body::StableMsg { .. }
+        | Body::ReadsMsg { .. }
+        | Body::EndedMsg { .. }
+        | Body::StaleMsg { .. }
+        | Body::FullMsg { .. } => true,
+        _ => false,
+    }
+}
+
+/// Whether a body is Hello.
+fn is_hello(body: &Body<'_>) -> bool
+    ensures { result ≡ hello_lem (body_of body.now) }
+{
+    match body {
+        Body::HelloMsg => true,
+        _ => false,
+    }
+}
+
+/// Logs in an entry what a body says of its key. After `NoMemory` the entry may only be dropped.
+fn log_in(entry: &mut PlainEntry, body: &Body<'_>) -> Result<(), NoMemory>
+    requires { StaysInStream (body_of body.now) }
+    ensures { OnOk result (entry.new ≡ logged_in (body_of body.now) entry.old) }
+{
+    match *body {
+        Body::DataMsg {
+            key,
+            offset,
+            acked,
+            fin,
+            bytes,
+        } if entry.key() == key => entry.take_part(&Part {
+            key,
+            offset,
+            acked,
+            fin: fin == 1,
+            bytes,
+        }),
+        Body::ReadMsg { key, index, length } if entry.key() == key => {
+            entry.take_read(index, length)
+        }
+        Body::DoneMsg { key } if entry.key() == key => {
+            entry.end();
+            Ok(())
+        }
+        _ => Ok(()),
+    }
+}
+
+/// Logs in each entry what a body says of its key. After `NoMemory` the entries may only be dropped.
+fn log_in_all(entries: &mut [PlainEntry], body: &Body<'_>) -> Result<(), NoMemory>
+    requires { StaysInStream (body_of body.now) }
+    ensures { OnOk result (entries.new ≡ map (logged_in (body_of body.now)) entries.old) }
+{
+    for entry in entries.iter_mut() {
+        log_in(entry, body)?;
+    }
+    Ok(())
+}
+
+/// The entry of a key.
+fn find_entry(entries: &[PlainEntry], key: Key) -> Option<&PlainEntry>
+    ensures { option_copied result ≡ find (λ e. key_eq e.key key) entries.now }
+{
+    entries.iter().find(|entry| entry.key() == key)
+}
+
+/// Whether a key has an entry.
+fn has_entry(entries: &[PlainEntry], key: Key) -> bool
+    ensures { result ≡ list_any (λ e. key_eq e.key key) entries.now }
+{
+    entries.iter().any(|entry| entry.key() == key)
+}
+
+impl PlainLog {
+    /// A log of boot 0 without entries. Nothing is allocated yet.
+    pub fn new(alloc: Global) -> PlainLog
+        ensures { result ≡ empty_log }
+    {
+        PlainLog {
+            boot: 0,
+            entries: Vec::new(alloc),
+        }
+    }
+
+    /// The boot number of the newest server that has sent Hello; 0 before the first.
+    pub fn boot(&self) -> u64
+        ensures { result ≡ self.now.boot }
+    {
+        self.boot
+    }
+
+    /// The entries, in the order in which they were opened.
+    pub fn entries(&self) -> &[PlainEntry]
+        ensures { result.now ≡ self.now.entries }
+    {
+        self.entries.as_slice()
+    }
+
+    fn find(&self, key: Key) -> Option<&PlainEntry>
+        ensures { option_copied result ≡ entry_of key self.now }
+    {
+        find_entry(self.entries.as_slice(), key)
+    }
+
+    /// Whether no entry is added for a key: it has one, or the log is full.
+    fn turns_away(&self, key: Key) -> bool
+        ensures { result ≡ (list_any (λ e. key_eq e.key key) self.now.entries || nat_le 64 (length self.now.entries)) }
+    {
+        has_entry(self.entries.as_slice(), key) || self.entries.len() >= ENTRY_LIMIT
+    }
+
+    /// Adds an entry of an unknown key, while there is room.
+    fn open(&mut self, alloc: Global, numbers: &Numbers) -> Result<(), NoMemory>
+        ensures { OnOk result (self.new ≡ opened (numbers_in numbers.now) self.old) }
+    {
+        if !self.turns_away(numbers.key) {
+            self.entries.push(PlainEntry::new(alloc, numbers))?;
+        }
+        Ok(())
+    }
+
+    /// Logs what a body of the log's own boot says.
+    fn take_body(&mut self, alloc: Global, body: &Body<'_>) -> Result<(), NoMemory>
+        requires { StaysInStream (body_of body.now) }
+        ensures { OnOk result (self.new ≡ with_body (body_of body.now) self.old) }
+    {
+        match *body {
+            Body::OpenMsg {
+                key,
+                cisn,
+                sisn,
+                mss,
+            } => {
+                let numbers = Numbers {
+                    key,
+                    cisn,
+                    sisn,
+                    mss,
+                };
+                self.open(alloc, &numbers)
+            }
+            Body::DataMsg { .. } | Body::ReadMsg { .. } | Body::DoneMsg { .. } => {
+                log_in_all(&mut self.entries, body)
+            }
+            _ => Ok(()),
+        }
+    }
+
+    /// The log takes a message: what a codec reads may be sent. After `NoMemory` the log may only be dropped.
+    #[tactic(auto, using(crate::proofs::Ranges::stays_in_stream), unfolding(ft_model::specs::Log::log_after))]
+    pub fn take(&mut self, alloc: Global, msg: &Msg<'_>) -> Result<(), NoMemory>
+        requires { IsSendable msg.now }
+        ensures { OnOk result (self.new ≡ log_after self.old (message_of msg.now)) }
+    {
+        if is_answer(&msg.body) || msg.boot < self.boot {
+            return Ok(());
+        }
+        if is_hello(&msg.body) {
+            self.boot = msg.boot;
+            return Ok(());
+        }
+        if msg.boot == self.boot {
+            self.take_body(alloc, &msg.body)?;
+        }
+        Ok(())
+    }
+
+    /// How many entries there are.
+    fn summary<'a>(&self) -> Body<'a>
+        ensures { Some (body_of result) ≡ answer_from HelloMsg self.now }
+    {
+        Body::SummaryMsg {
+            count: self.entries.len() as u16,
+        }
+    }
+
+    /// The numbers with which a key was opened, or that the log is full.
+    fn opened<'a>(&self, key: Key) -> Body<'a>
+        ensures { Some (body_of result) ≡ opened_answer key (entry_of key self.now) }
+    {
+        match self.find(key) {
+            Some(entry) => entry.opened(),
+            None => Body::FullMsg { key },
+        }
+    }
+
+    /// What the log says once it has taken a body of its own boot.
+    fn answer_body<'a>(&'a self, body: &Body<'_>, lens: &'a [u8]) -> Option<Body<'a>>
+        requires { lens_in lens.now ≡ lengths_asked (body_of body.now) self.now }
+        ensures { option_map body_of result ≡ answer_from (body_of body.now) self.now }
+    {
+        match *body {
+            Body::HelloMsg => Some(self.summary()),
+            Body::ListMsg { index } => {
+                let entry = self.entries.get(usize::from(index))?;
+                Some(entry.head(index))
+            }
+            Body::BytesMsg { key, offset } => self.find(key)?.part(offset),
+            Body::CutsMsg { key, first } => self.find(key)?.lens(first, lens),
+            Body::OpenMsg { key, .. } => Some(self.opened(key)),
+            Body::DataMsg { key, .. } => Some(self.find(key)?.stable()),
+            Body::ReadMsg { key, .. } => Some(self.find(key)?.reads_told()),
+            Body::DoneMsg { key } => {
+                self.find(key)?;
+                Some(Body::EndedMsg { key })
+            }
+            _ => None,
+        }
+    }
+
+    /// Spells the lengths that a question asks for, with two bytes each, into an empty list. After `NoMemory` `lens` may only be dropped.
+    pub fn spell_lengths(&self, msg: &Msg<'_>, lens: &mut Vec<u8>) -> Result<(), NoMemory>
+        requires { length lens.old.items ≡ 0 }
+        ensures { OnOk result (lens_in lens.new.items ≡ lengths_asked (body_of msg.now.body) self.now) }
+    {
+        if let Body::CutsMsg { key, first } = msg.body
+            && let Some(entry) = self.find(key)
+        {
+            return entry.spell_lengths(first, lens);
+        }
+        Ok(())
+    }
+
+    /// The answer to a message that the log has just taken. `lens` spells the lengths that it asks for (`spell_lengths`).
+    #[tactic(auto, using(crate::proofs::Replies::reply_is_the_answer))]
+    pub fn answer<'a>(&'a self, msg: &Msg<'_>, lens: &'a [u8]) -> Option<Msg<'a>>
+        requires { lens_in lens.now ≡ lengths_asked (body_of msg.now.body) self.now }
+        ensures reply { option_map message_of result ≡ reply self.now (message_of msg.now) }
+        ensures answer { (before : Log) → self.now ≡ log_after before (message_of msg.now) → option_map message_of result ≡ answer_to before (message_of msg.now) }
+    {
+        let boot = msg.boot;
+        if is_answer(&msg.body) {
+            return None;
+        }
+        if boot < self.boot {
+            let body = Body::StaleMsg { newer: self.boot };
+            return Some(Msg { boot, body });
+        }
+        if boot > self.boot {
+            return None;
+        }
+        let body = self.answer_body(&msg.body, lens)?;
+        Some(Msg { boot, body })
+    }
+}
