@@ -5,23 +5,27 @@
 # compared. The connection also sends segments without text, and the text of each segment is sent to the log in a message and answered, and so is its read. So the
 # comparison is by the segments with text, of which both have as many; the number of all segments is printed too.
 #     bench/connection.sh [OLDER]
-# With OLDER, an older node_bench or a checkout that has one, both programs echo 1 GiB, in 8 runs of 8 connections with segments of 1,460 bytes, 21 times
-# alternately, and the minimum times are compared. Status 1 if the new one takes over 5 % longer.
+# With OLDER, an older node_bench or a checkout that has one, both programs echo 480 MB, in 4 runs of 8 connections with segments of 1,460 bytes, and then 64 MiB in
+# segments of 64 bytes, 21 times alternately (or ROUNDS times), and the minimum times are compared. Status 1 if one of the new times is over 5 % longer.
 set -eu
 before=${1:+$(realpath "$1")}
 . "$(dirname "$0")/common.sh"
 build node_bench connection 1460 1460
 endpoints="$PWD/crates/endpoint_bench/out/endpoint_bench"
 connections="$PWD/crates/node_bench/out/node_bench"
-eight_runs() { for _ in {1..8}; do "$@"; done; }
 are_ended() { [ "$(grep -c '^ended 8 connections$' "$work/out")" = "$1" ] || { echo "not ended"; exit 1; }; }
-all_ended() { are_ended 8; }
+all_ended() { are_ended 4; }
+one_ended() { are_ended 1; }
 
 if [ -n "$before" ]; then
     before=$(older node_bench "$before" connection 1460 1460)
     machine
-    compare_least "spent eight_runs" all_ended "$before" "$connections" connection 16777216 1460
-    exit
+    status=0
+    printf '1460 bytes: '
+    compare_least "spent four_times" all_ended "$before" "$connections" connection 15000000 1460 || status=1
+    printf '64 bytes: '
+    compare_least spent one_ended "$before" "$connections" connection 8388608 64 || status=1
+    exit $status
 fi
 build endpoint_bench echo 1460 1460
 

@@ -4,8 +4,8 @@
 # segment counts once: it is written, handed over, read, and its text echoed or compared. Then the same echo in segments of 1,460 bytes with a whole window in
 # flight: in order, with every two segments swapped, and with one packet of 100 lost; each compared with the first of these.
 #     bench/endpoint.sh [OLDER]
-# With OLDER, an older endpoint_bench or a checkout that has one, both programs echo 1 GiB (minus one byte, in segments of 1,460 bytes) 21 times alternately, and
-# the minimum times are compared. Status 1 if the new one takes over 5 % longer.
+# With OLDER, an older endpoint_bench or a checkout that has one, both programs echo 1 GiB (minus one byte, in segments of 1,460 bytes) 21 times alternately (or
+# ROUNDS times), and the minimum times are compared. Status 1 if the new one takes over 5 % longer.
 set -eu
 before=${1:+$(realpath "$1")}
 . "$(dirname "$0")/common.sh"

@@ -6,10 +6,39 @@
 # checks of as many packets of that size (gcc -O2), in the same run, and how often memory is allocated, counted by a library that is loaded before libc. Times are
 # the minimum CPU time of 5 runs each, which alternate, minus that of a run that only opens the connections. Then the memory of a live connection, from the peak
 # memory of runs with 64 connections and with one.
+#     bench/node.sh [OLDER]
+# With OLDER, an older node_bench or a checkout that has one, both programs take the same turns and ticks, 21 times alternately (or ROUNDS times), and the minimum
+# times, each minus that of a run that only opens the connections, are compared. Status 1 if one of the new times is over 5 % longer.
 set -eu
+before=${1:+$(realpath "$1")}
 . "$(dirname "$0")/common.sh"
 build node_bench node 1 1 64 1 0
 program="$PWD/crates/node_bench/out/node_bench"
+
+# what is timed, how a run is timed, connections, bytes of text, and rounds of segments and of ticks
+beside() {
+    local what=$1 measure=$2 words="node 1 $3 $4" rounds="$5 $6" whole opened
+    # shellcheck disable=SC2086
+    same_output "$before" "$program" $words $rounds
+    whole=$(in_turn "$ROUNDS" "$measure $before $words $rounds" "$measure $program $words $rounds") || exit 1
+    opened=$(in_turn "$ROUNDS" "$measure $before $words 0 0" "$measure $program $words 0 0") || exit 1
+    printf '%d connections, %s: ' "$3" "$what"
+    # shellcheck disable=SC2086
+    compare_times $((${whole% *} - ${opened% *})) $((${whole#* } - ${opened#* }))
+}
+
+if [ -n "$before" ]; then
+    before=$(older node_bench "$before" node 1 1 64 1 0)
+    machine
+    status=0
+    for clients in 1 16 64; do
+        beside "64 bytes" spent "$clients" 64 $((102400 / clients)) 0 || status=1
+        beside "1460 bytes, four runs" "spent four_times" "$clients" 1460 $((10240 / clients)) 0 || status=1
+        beside "an acknowledgement alone" spent "$clients" 0 $((409600 / clients)) 0 || status=1
+        beside "ticks" spent "$clients" 64 0 $((6400000 / clients)) || status=1
+    done
+    exit $status
+fi
 gcc -O2 -Wall -o "$work/packets" bench/packets.c
 gcc -O2 -Wall -shared -fPIC -o "$work/refuse.so" bench/refuse.c -ldl
 

@@ -2,16 +2,22 @@
 # Packets and messages by wire_bench, compared with plain C loops of the same checks and updates (gcc -O2), in one run: packets of 40 and of 1,500 bytes are read,
 # with their checksums; three fields of such a packet are set in place; and messages are read and written, a Data of 1,460 bytes and the length of a read. Printed
 # is the minimum CPU time of 7 runs each, which alternate.
+#     bench/packets.sh [OLDER]
+# With OLDER, an older wire_bench or a checkout that has one, both programs do the same 21 times alternately (or ROUNDS times), and the minimum times are compared,
+# of whole runs. Status 1 if one of the new times is over 5 % longer.
 set -eu
+before=${1:+$(realpath "$1")}
 . "$(dirname "$0")/common.sh"
 build wire_bench packets 40 1
 program=$PWD/crates/wire_bench/out/wire_bench
+[ -z "$before" ] || before=$(older wire_bench "$before" packets 40 1)
 gcc -O2 -Wall -o "$work/packets" bench/packets.c
 gcc -O2 -Wall -o "$work/messages" bench/messages.c
 
 # what is timed, the first word of ours and the C program of that name, their other words, and how many calls they make
 row() {
     local what=$1 word=$2 words=$3 calls=$4 least_ours=999999 least_c=999999 a b
+    [ -z "$before" ] || { beside "$what" "$word $words"; return; }
     for _ in 1 2 3 4 5 6 7; do
         # shellcheck disable=SC2086
         a=$(spent_in_user "$program" "$word" $words)
@@ -27,6 +33,18 @@ row() {
     }'
 }
 
+# what is timed, and the words of both programs
+beside() {
+    local least
+    # shellcheck disable=SC2086
+    same_output "$before" "$program" $2
+    least=$(in_turn "$ROUNDS" "spent_in_user $before $2" "spent_in_user $program $2") || exit 1
+    printf '%s: ' "$1"
+    # shellcheck disable=SC2086
+    compare_times $least || status=1
+}
+
+status=0
 machine
 row "packets of 40 bytes read" packets "40 200000" $((64 * 200000))
 row "packets of 1500 bytes read" packets "1500 20000" $((64 * 20000))
@@ -36,3 +54,4 @@ row "Data of 1460 bytes read" messages "read data 20000" $((64 * 20000))
 row "Data of 1460 bytes written" messages "write data 20000" $((64 * 20000))
 row "lengths of reads read" messages "read cut 200000" $((64 * 200000))
 row "lengths of reads written" messages "write cut 200000" $((64 * 200000))
+exit $status

@@ -4,7 +4,11 @@
 # 1,000th event the server crashes and restarts from the log (bench/crash_schedule.awk). Then the same with one client and no crash. Then the lines of the larger
 # report, without its first and last ones, as wire_bench writes them from events and packets as bytes, compared with a C loop of fprintf of the same lines (gcc
 # -O2); and the reading of a schedule of 8 MiB. Of each the minimum CPU time of 7 runs.
+#     bench/replay.sh [OLDER]
+# With OLDER, an older ftreplay or a checkout that has one, both programs run the schedules of 100,000 events four times, 21 times alternately (or ROUNDS times), with
+# their reports written to a file, and the events a second by the minimum CPU times are compared.
 set -eu
+before=${1:+$(realpath "$1")}
 . "$(dirname "$0")/common.sh"
 build ftreplay run <crates/ftreplay/stdin
 program=$PWD/crates/ftreplay/out/ftreplay
@@ -48,6 +52,28 @@ for events in 10000 100000; do
     awk -v events="$events" -f bench/crash_schedule.awk >"$schedules/crash$events"
 done
 machine
+playing() { "$1" run <"$schedules/$2"; }
+
+# the name of a schedule of 100,000 events, and what it is
+beside() {
+    local least
+    playing "$before" "$1" >"$work/older"
+    playing "$program" "$1" >"$work/newer"
+    cmp -s "$work/older" "$work/newer" || { echo "the older program writes another report of $2" >&2; exit 1; }
+    grep -q '^end ' "$work/newer" || { echo "the schedule isn't played to its end: $2" >&2; exit 1; }
+    least=$(out=$work/report in_turn "$ROUNDS" "spent four_times playing $before $1" "spent four_times playing $program $1") || exit 1
+    awk -v what="$2" -v a="${least% *}" -v b="${least#* }" -v rounds="$ROUNDS" 'BEGIN {
+        printf "%s, four runs: older %d ms, %d events a second, ", what, a, 4e8 / a
+        printf "newer %d ms, %d events a second, least of %d each: %.2f times as many\n", b, 4e8 / b, rounds, a / b
+    }'
+}
+
+if [ -n "$before" ]; then
+    before=$(older ftreplay "$before" run <crates/ftreplay/stdin)
+    beside crash100000 "eight clients, with crashes"
+    beside 9999 "one client, without a crash"
+    exit
+fi
 compare() {
     awk '
         NR == 1 { small = $1; printf "10,000 events: %.1f ms, %d MB\n", $1 / 1000000, $2 / 1000 }
@@ -90,20 +116,8 @@ sed -n '/^event 11 /,/^client /p' "$schedules/report" | sed '$d' >"$schedules/re
 cmp -s "$schedules/ours" "$schedules/reported" || { echo "wire_bench and the report differ"; exit 1; }
 cmp -s "$schedules/ours" "$schedules/theirs" || { echo "the two loops differ"; exit 1; }
 
-# the least of 7 turns of each of two commands, taken in turn
-least_of_two() {
-    local first=999999 second=999999 a b
-    for _ in 1 2 3 4 5 6 7; do
-        a=$(spent $1)
-        b=$(spent $2)
-        ((a < first)) && first=$a
-        ((b < second)) && second=$b
-    done
-    echo "$first $second"
-}
-
-read -r made written < <(least_of_two "lines write 9999 0" "lines write 9999 20")
-read -r none printed < <(least_of_two "$schedules/lines 9999 0" "$schedules/lines 9999 20")
+read -r made written < <(in_turn 7 "spent lines write 9999 0" "spent lines write 9999 20")
+read -r none printed < <(in_turn 7 "spent $schedules/lines 9999 0" "spent $schedules/lines 9999 20")
 awk -v n=$((20 * $(wc -l <"$schedules/ours"))) -v a=$((written - made)) -v b=$((printed - none)) 'BEGIN {
     printf "lines: %d a second, %.0f ns each; fprintf %d a second, %.0f ns each; %.2f times as many\n", n / a * 1000, a / n * 1e6, n / b * 1000, b / n * 1e6, b / a
 }'
@@ -119,5 +133,5 @@ awk 'BEGIN {
 awk -v left=$((8388608 - $(wc -c <"$schedules/large"))) 'BEGIN { for (i = 0; i < left; i++) printf "." }' >>"$schedules/large"
 reading() { lines read "$1" <"$schedules/large"; }
 [ "$(reading 1)" = 100000 ] || { echo "the schedule is refused"; exit 1; }
-read -r once often < <(least_of_two "reading 1" "reading 11")
+read -r once often < <(in_turn 7 "spent reading 1" "spent reading 11")
 awk -v a=$((often - once)) 'BEGIN { printf "reading of 8 MiB: %.1f ms, %.0f MB/s\n", a / 10, 83.88608 / a * 1000 }'
