@@ -3,6 +3,8 @@
 
     tools/ladder.py REPORT [--from E] [--to E] > PICTURE.svg      REPORT is a file, or - for standard input
 
+It also draws reports with marks, which tools/seed_model.py writes and `ftreplay` doesn't yet.
+
 Time runs downwards, with a row for each event and each packet; clients, server and log, or head and tail of two loggers, have vertical lines. An arrow leads from the sending of a packet to its
 delivery. The arrow of a packet that is never delivered, or that reaches a server that is down or a logger that has stopped, ends in a cross; that of a packet that is delivered again, or long
 after it was sent, begins at a small ring. A segment is labelled with its packet number, flags, sequence and acknowledgement number, bytes of text, and its window
@@ -25,7 +27,7 @@ GAP = 350  # between the last client and the server, between server and log, and
 TOP = 118  # the first row
 GROUNDS = ("even", "odd")  # the grounds of the events, in turn
 LATE_ROWS = 9  # a delivery this far below its sending isn't drawn as one line
-SHOWN = ("count", "index", "offset", "first", "length", "reads", "acked", "newer")  # the numbers of messages that are shown
+SHOWN = ("count", "index", "offset", "first", "length", "reads", "made", "acked", "newer")  # the numbers of messages that are shown
 
 LEGEND = (
     ("segment", "segment of a client or the server"),
@@ -172,6 +174,8 @@ def field_label(kind, name, value):
     """A field of a message in words, or nothing of one that the picture leaves out."""
     if name == "bytes":
         return [f"len {bytes_in(value)}"]
+    if name == "state":
+        return [f"state len {bytes_in(value)}"] if value != "-" else []
     if name == "lens":
         return [f"lens {value if len(value) < 16 else value[:12] + '..'}"]
     if name in ("fin", "done"):
@@ -265,6 +269,7 @@ class Ladder:
     def draw_actors(self):
         report, drawing = self.report, self.drawing
         names = [f"{len(report.clients)} client{'s' if len(report.clients) != 1 else ''}", f"{report.service} at {report.server}"]
+        names += [f"marks {report.marks}"] * (report.marks > 0)
         shown = "" if self.is_front and self.is_end else f", events {self.events[0].number} to {self.events[-1].number}" if self.events else ""
         drawing.text(20, 28, f"ftreplay: {', '.join(names)}{shown}", "title")
         for name, x in self.x.items():

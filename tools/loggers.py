@@ -1,4 +1,7 @@
-"""The loggers in plain Python, by the rules and not by the program: a log, and a head and a tail that are seen as one. tools/model.py has the rest."""
+"""The loggers in plain Python, by the rules and not by the program: a log, a log with marks, and a head and a tail that are seen as one.
+
+tools/model.py has the rest.
+"""
 from collections import namedtuple
 
 OPENINGS = 64  # the entries of a log, and the connections that a server opens at once
@@ -8,8 +11,12 @@ Message = namedtuple("Message", "name boot fields")
 Forward = namedtuple("Forward", "number message")  # what a head sends to the tail
 Got = namedtuple("Got", "number")  # .. and the tail to the head
 
+# A service's state after so many reads of a connection, which took `length` bytes, when the service had made so many bytes of output.
+Mark = namedtuple("Mark", "reads length made state")
+NO_MARK = Mark(0, 0, 0, b"")
+
 # The messages that a log sends, and no server.
-ANSWERS = {"Summary", "Entry", "Part", "Lens", "Opened", "Stable", "Reads", "Ended", "Stale", "Full"}
+ANSWERS = {"Summary", "Entry", "Part", "Lens", "Opened", "Stable", "Reads", "Ended", "Stale", "Full", "Marked", "Held"}
 
 
 class Entry:
@@ -97,6 +104,40 @@ class Log:
         return "Ended", {"key": entry.key}
 
 
+class MarkedLog(Log):
+    """A log that keeps at most one mark of each entry. It drops nothing, but no answer reports what is below a mark."""
+
+    def __init__(self):
+        super().__init__()
+        self.marks = {}
+
+    def mark(self, key):
+        return self.marks.get(key, NO_MARK)
+
+    def on_bytes(self, said):
+        return None if said["offset"] < self.mark(said["key"]).length else super().on_bytes(said)
+
+    def on_cuts(self, said):
+        return None if said["first"] < self.mark(said["key"]).reads else super().on_cuts(said)
+
+    def on_mark(self, said):
+        key, entry = said["key"], self.entries.get(said["key"])
+        if entry is None:
+            return None
+        mark = Mark(said["reads"], said["length"], said["made"], said["state"])
+        if self.keeps(entry, mark):
+            self.marks[key], entry.acked = mark, max(entry.acked, mark.made)
+        return "Marked", {"key": key, "reads": self.mark(key).reads}
+
+    def keeps(self, entry, mark):
+        """Whether a mark follows the one before: of more reads, all of them logged, and none the closing one."""
+        below = entry.lengths[: mark.reads]
+        return self.mark(entry.key).reads < mark.reads == len(below) and sum(below) == mark.length and 0 not in below
+
+    def on_ask(self, said):
+        return ("Held", {"key": said["key"], **self.mark(said["key"])._asdict()}) if said["key"] in self.entries else None
+
+
 class Alone:
     """The only logger of a world."""
 
@@ -106,6 +147,25 @@ class Alone:
     def deliver(self, _receiver, _sender, message):
         """What it sends where a message arrives: ways and contents."""
         return [("L>S", answer) for answer in answers_of(self.log, message)]
+
+
+class Journaled:
+    """The only logger of a world with marks: a log with marks, and a journal beside it, a log that has all that is logged."""
+
+    def __init__(self):
+        self.marked, self.log, self.stopped = MarkedLog(), Log(), None
+
+    def deliver(self, _receiver, _sender, message):
+        """What is sent where a message arrives. Of a mark that is kept the journal has what it says of acknowledged output, as a Data without bytes."""
+        key = message.fields.get("key")
+        before = self.marked.mark(key)
+        sent = answers_of(self.marked, message)
+        if message.name not in ("Mark", "Ask"):
+            answers_of(self.log, message)
+        elif self.marked.mark(key) != before:
+            length = len(self.marked.entries[key].data)
+            self.log.answer(Message("Data", message.boot, {"key": key, "offset": length, "acked": message.fields["made"], "fin": 0, "bytes": b""}))
+        return [("L>S", answer) for answer in sent]
 
 
 def answers_of(log, message):

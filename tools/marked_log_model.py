@@ -3,83 +3,54 @@
 marked_log_model.py lines      reads lines of `log_script` on marks from standard input, and writes what it must print
 marked_log_model.py cases      writes the lines on marks that are stored beside the program
 
-The log is that of model.py, messages are read and spelled by twin_model.py, and those about marks by mark_model.py.
+The log is that of loggers.py, messages are read and spelled by twin_model.py, and those about marks by mark_model.py.
 """
 import sys
-from struct import pack, unpack
+from struct import pack
 
-from mark_model import STREAM, reading, sealed, spelling
-from model import Log, Message
-from twin_model import ANSWERS, KINDS, Draws, read_message, spell_message, spelled
+from loggers import MarkedLog, Message, answers_of
+from mark_model import MESSAGES, STREAM, reading, sealed, spelling
+from twin_model import Draws, read_message, spell_message
 
 IP, PORT = 0xC0000201, 40000
 
 
-def key_of(said):
-    return pack(">IH", said["ip"], said["port"])
+def message_of(name, said):
+    """A message about marks, as the log has it: with one number for address and port."""
+    fields = {"key": said["ip"] << 16 | said["port"], **said}
+    return Message(name, said["boot"], {field: value for field, value in fields.items() if field not in ("boot", "ip", "port")})
 
 
-class MarkedLog:
-    """A log, and for each of its entries at most one mark: reads, length, made and state."""
+def bytes_of(message):
+    """The one spelling of an answer."""
+    if message.name not in MESSAGES:
+        return spell_message(message)
+    said = dict(message.fields)
+    key = said.pop("key")
+    return spelling(message.name, {"boot": message.boot, "ip": key >> 16, "port": key % 65536, **said})
+
+
+class MarkStore:
+    """The log with marks over bytes, and what a store of it keeps."""
 
     def __init__(self):
-        self.log, self.marks = Log(), {}
-
-    def mark(self, key):
-        return self.marks.get(key, (0, 0, 0, b""))
-
-    def entry(self, key):
-        return self.log.entries.get(unpack(">Q", b"\0\0" + key)[0])
+        self.log = MarkedLog()
 
     def answer(self, data):
         """The bytes of the answer to bytes, or none."""
-        message = read_message(data)
-        if message is not None:
-            return self.to_message(message)
-        read = reading(data)
-        return b"" if isinstance(read, str) else self.to_mark(*read)
-
-    def to_message(self, message):
-        if message.name in ANSWERS or (message.boot == self.log.boot and self.is_below(message)):
+        message, read = read_message(data), reading(data)
+        if message is None and isinstance(read, str):
             return b""
-        answer = self.log.answer(message)
-        return b"" if answer is None else spell_message(answer)
-
-    def is_below(self, message):
-        said = message.fields
-        reads, length, _, _ = self.mark(int(said.get("key", 0)).to_bytes(6, "big"))
-        return (message.name == "Bytes" and said["offset"] < length) or (message.name == "Cuts" and said["first"] < reads)
-
-    def to_mark(self, name, said):
-        boot, key = said["boot"], key_of(said)
-        if name in ("Marked", "Held"):
-            return b""
-        if boot < self.log.boot:
-            return spell_message(Message("Stale", boot, {"newer": self.log.boot}))
-        entry = self.entry(key)
-        if boot > self.log.boot or entry is None:
-            return b""
-        where = {"boot": boot, "ip": said["ip"], "port": said["port"]}
-        if name == "Mark":
-            self.keep(key, entry, said)
-            return spelling("Marked", {**where, "reads": self.mark(key)[0]})
-        reads, length, made, state = self.mark(key)
-        return spelling("Held", {**where, "reads": reads, "length": length, "made": made, "state": state})
-
-    def keep(self, key, entry, said):
-        front = entry.lengths[: said["reads"]]
-        if self.mark(key)[0] < said["reads"] == len(front) and sum(front) == said["length"] and 0 not in front:
-            self.marks[key] = said["reads"], said["length"], said["made"], said["state"]
-            entry.acked = max(entry.acked, said["made"])
+        return b"".join(bytes_of(answer) for answer in answers_of(self.log, message or message_of(*read)))
 
     def kept(self, place):
-        key, entry = list(self.log.entries.items())[place]
-        return len(entry.data) - self.mark(key.to_bytes(6, "big"))[1] // 4096 * 4096
+        entry = list(self.log.entries.values())[place]
+        return len(entry.data) - self.log.mark(entry.key).length // 4096 * 4096
 
 
 class Player:
     def __init__(self):
-        self.marked = MarkedLog()
+        self.marked = MarkStore()
 
     def out(self, data):
         return "out " + (self.marked.answer(data).hex() or "-")
@@ -89,7 +60,7 @@ class Player:
         if word == "#":
             return line
         if word == "marks":
-            self.marked = MarkedLog()
+            self.marked = MarkStore()
             return "marks"
         if word == "give":
             return self.out(bytes.fromhex(rest))

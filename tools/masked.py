@@ -5,29 +5,38 @@
 
 After each event: a client has a front of what a server that never failed sends it, for its script cut into reads as the log that serves has them, and all of it
 where its stream has ended. No segment acknowledges what isn't logged. A restart ends with what is logged. What a live connection has taken and knows to be
-logged is what its client was told last. The program ends with 1 at the first event that breaks one of these.
+logged is what its client was told last. A mark that is sent is true of the log. The program ends with 1 at the first event that breaks one of these.
 """
 import argparse
-import sys
 
-from model import Connection, Segment, Service, gap, number
+from loggers import NO_MARK, Mark
+from mark_model import FORMS
+from model import Connection, Segment, gap, number
 from seed_model import drawn_run
+from services import Service
 
 
-def unfailing(world, client):
-    """What a server that never failed sends, and whether it has closed."""
-    service, sent, at = Service(world.service), b"", 0
-    entry = world.log.entries.get(client.key)
-    for length in entry.lengths if entry else []:
-        sent, at = sent + service.take(client.script[at : at + length]), at + length
-    return sent, service.closed
+def unfailing(service, script, lengths):
+    """What a server that never failed has sent after reads of these lengths, and its service then."""
+    it, sent, at = Service(service), b"", 0
+    for length in lengths:
+        sent, at = sent + it.take(script[at : at + length]), at + length
+    return sent, it
 
 
-def sees_front(world, client):
-    if client.phase == "new":
-        return True
-    sent, closed = unfailing(world, client)
-    return sent.startswith(bytes(client.accepted)) and (client.phase != "ended" or closed and len(sent) == len(client.accepted))
+def sees_front(client, sent, closed):
+    """Whether a client has a front of what it must see, and all of it where its stream has ended."""
+    return client.phase == "new" or sent.startswith(bytes(client.accepted)) and (client.phase != "ended" or closed and len(sent) == len(client.accepted))
+
+
+def is_true(world, key, mark):
+    """Whether a mark has the state after its reads of the log, the bytes that these took, and the output that was made by then, which its client has."""
+    entry, client = world.log.entries[key], world.clients[world.of_key[key] - 1]
+    lengths = entry.lengths[: mark.reads]
+    sent, service = unfailing(world.service, entry.data, lengths)
+    taken = bytes(entry.data[: mark.length])
+    logged = len(lengths) == mark.reads and sum(lengths) == mark.length == len(taken) and 0 not in lengths
+    return logged and not service.closed and len(sent) == mark.made <= len(client.accepted) and FORMS[world.service](taken) == mark.state
 
 
 class Watch:
@@ -35,18 +44,35 @@ class Watch:
 
     def __init__(self):
         self.told, self.serves = {}, False  # the last acknowledgement that was sent to each client, and whether the server was serving
+        self.runs = {}  # of each client the lengths that were logged, and what a server that never failed has sent, and whether it has closed
 
     def faults(self, world, sent):
         """What the last event broke, in words."""
         for way, content in sent:
             if isinstance(content, Segment) and way.startswith("S>") and "A" in content.flags and "R" not in content.flags:
                 yield from self.note(world, world.clients[int(way[2:]) - 1], content)
-        yield from (f"client {client.key} sees a failure" for client in world.clients if not sees_front(world, client))
+            elif not isinstance(content, Segment) and getattr(content, "name", None) in ("Mark", "Held") and not self.tells_truth(world, content):
+                yield f"{content.name} of {content.fields['key']} isn't true"
+        yield from (f"client {client.key} sees a failure" for client in world.clients if not sees_front(client, *self.unfailing(world, client)))
         places = world.server.places if world.server else {}
         if world.server and world.server.serves and not self.serves:
-            yield from (f"{key} restarts otherwise" for key, entry in world.log.entries.items() if not entry.done and not resumes(entry, places.get(key)))
+            entries = world.log.entries.items()
+            yield from (f"{key} restarts otherwise" for key, entry in entries if not entry.done and not resumes(world.service, entry, places.get(key)))
         yield from (f"{key} was told otherwise" for key, place in places.items() if isinstance(place, Connection) and not self.is_told(key, place))
         self.serves = bool(world.server and world.server.serves)
+
+    def unfailing(self, world, client):
+        """What a server that never failed has sent to a client, for its script cut into reads as the log has them, and whether it has closed."""
+        entry = world.log.entries.get(client.key)
+        lengths = tuple(entry.lengths) if entry else ()
+        if self.runs.get(client.key, (None,))[0] != lengths:
+            sent, service = unfailing(world.service, client.script, lengths)
+            self.runs[client.key] = lengths, sent, service.closed
+        return self.runs[client.key][1:]
+
+    def tells_truth(self, world, said):
+        mark = Mark(*(said.fields[name] for name in Mark._fields))
+        return mark == NO_MARK and said.name == "Held" or is_true(world, said.fields["key"], mark)
 
     def note(self, world, client, segment):
         self.told[client.key] = segment.ack
@@ -58,9 +84,18 @@ class Watch:
         return place.reset or self.told.get(key) == number(place.cisn + 1 + min(place.taken(), place.answered))
 
 
-def resumes(entry, place):
-    """Whether a connection continues from what is logged. It may have made more reads in that turn."""
-    return isinstance(place, Connection) and place.data == entry.data and place.lengths[: len(entry.lengths)] == entry.lengths
+def resumes(service, entry, place):
+    """Whether a connection continues from what is logged, as if all of it had been read again. It may have made more reads in that turn."""
+    if not isinstance(place, Connection):
+        return False
+    front = place.lengths.count(None)  # reads below a mark, of which it knows nothing
+    below = entry.lengths[:front]
+    lengths = below + place.lengths[front:]
+    sent, now = unfailing(service, entry.data, lengths)
+    made = len(unfailing(service, entry.data, below)[0])
+    fetched = place.data[sum(below) :] == entry.data[sum(below) :] and lengths[: len(entry.lengths)] == entry.lengths
+    has_state = (now.closed, now.form()) == (place.service.closed, place.service.form())
+    return fetched and has_state and len(sent) == len(place.output) and sent[made:] == place.output[made:]
 
 
 def main():

@@ -5,7 +5,8 @@ report of a schedule is compared with that of `ftreplay` (tools/seed_model.py), 
 """
 from collections import namedtuple
 
-from loggers import OPENINGS, Alone, Forward, Got, Message, Pair
+from loggers import NO_MARK, OPENINGS, Alone, Forward, Got, Journaled, Mark, Message, Pair
+from services import Service
 
 LIMIT = 1 << 24  # bytes of a stream, each way
 WINDOW = 65535
@@ -19,6 +20,7 @@ PIECE = 1460  # the most bytes of a Data
 # The bytes of a message without what follows its fields.
 SIZES = {"Hello": 16, "Summary": 18, "List": 18, "Entry": 48, "Bytes": 26, "Part": 26, "Cuts": 26, "Lens": 26, "Open": 32, "Opened": 32}
 SIZES |= {"Data": 31, "Stable": 31, "Read": 28, "Reads": 31, "Done": 22, "Ended": 22, "Stale": 24, "Full": 22}
+SIZES |= {"Mark": 34, "Marked": 26, "Ask": 22, "Held": 34}
 
 Segment = namedtuple("Segment", "flags seq ack window mss text")
 
@@ -43,55 +45,8 @@ def size_of(content):
         return 40 + (4 if content.mss is not None else 0) + len(content.text)
     if isinstance(content, (Forward, Got)):
         return 16 + (size_of(content.message) if isinstance(content, Forward) else 0)
-    return SIZES[content.name] + len(content.fields.get("bytes", b"")) + 2 * len(content.fields.get("lens", []))
-
-
-class Service:
-    """One of the four services: what it makes of one chunk after another."""
-
-    def __init__(self, name):
-        self.name, self.closed, self.held, self.count, self.made = name, False, b"", 0, 0
-
-    def take(self, chunk):
-        if self.closed:
-            return b""
-        self.closed = not chunk
-        return getattr(self, self.name)(chunk)
-
-    def echo(self, chunk):
-        return chunk
-
-    def meter(self, chunk):
-        return b"%d\n" % len(chunk) if chunk else b""
-
-    def line(self, chunk):
-        out, held = b"", self.held
-        for byte in chunk:
-            held += bytes([byte])
-            if byte == 10 or len(held) == 1024:
-                out, held = out + self.finish_line(held.removesuffix(b"\n")), b""
-                if self.closed:
-                    return out
-        self.held = held
-        return out if chunk or not held else self.finish_line(held)
-
-    def finish_line(self, line):
-        if line == b"quit":
-            self.closed = True
-            return b"bye\n"
-        self.count = min(self.count + 1, 2**64 - 1)
-        return b"%d %s\n" % (self.count, line)
-
-    def transfer(self, chunk):
-        out, held = b"", self.held + chunk
-        while len(held) >= 4 and not self.closed:
-            asked, held = int.from_bytes(held[:4], "big"), held[4:]
-            self.closed = asked == 0
-            room = min(asked, 2047)
-            out += bytes((self.made + place) % 251 for place in range(room))
-            self.made += room
-        self.held = held
-        return out
+    said = content.fields
+    return SIZES[content.name] + len(said.get("bytes", b"")) + 2 * len(said.get("lens", [])) + len(said.get("state", b""))
 
 
 class Client:
@@ -267,10 +222,31 @@ class Congestion:
         self.window, self.dups = self.mss, 0
 
 
+class Marking:
+    """A connection's marks at a server that sends one after each `every` reads: how many reads the last one has, and which one isn't answered yet."""
+
+    def __init__(self, every, last=0):
+        self.every, self.last, self.outstanding = every, last, None
+
+    def hear(self, reads):
+        """The log has a mark of so many reads."""
+        if self.outstanding and self.outstanding.reads <= reads:
+            self.outstanding = None
+
+    def marks(self, place, is_tick):
+        """The marks that are sent in a turn after which a connection is like this: at a tick the outstanding one again, and a new one if it is due."""
+        again = [self.outstanding] if is_tick and self.outstanding else []
+        reads = len(place.lengths)
+        if not self.every or self.outstanding or reads < self.last + self.every or not place.is_quiet():
+            return again
+        self.last, self.outstanding = reads, Mark(reads, place.consumed, len(place.output), place.service.form())
+        return [*again, self.outstanding]
+
+
 class Connection(Stream):
     """A live connection of one incarnation, as its point: what is taken, logged, read, sent and acknowledged, in offsets."""
 
-    def __init__(self, key, cisn, sisn, mss, service):
+    def __init__(self, key, cisn, sisn, mss, service, every=0):
         super().__init__()
         self.key, self.cisn, self.sisn, self.mss = key, cisn, sisn, mss
         self.service, self.output, self.after_read = Service(service), bytearray(), [(0, False)]
@@ -280,12 +256,15 @@ class Connection(Stream):
         self.counted, self.interval, self.rest = False, 1, 1
         self.congestion, self.again = Congestion(mss), False
         self.end_ticks, self.reset = 0, False
+        self.marking = Marking(every)
 
     @classmethod
-    def of_entry(cls, entry, service):
+    def of_entry(cls, entry, service, every=0):
         """Where a connection stands that is restarted from what was fetched."""
-        it = cls(entry["key"], entry["cisn"], entry["sisn"], entry["mss"], service)
-        it.data, it.fin, it.fetched, it.answered = entry["data"], entry["fin"], entry["length"], entry["length"] + entry["fin"]
+        it = cls(entry["key"], entry["cisn"], entry["sisn"], entry["mss"], service, every)
+        it.begin_at(entry.get("mark", NO_MARK))
+        it.data += entry["data"]
+        it.fin, it.fetched, it.answered = entry["fin"], entry["length"], entry["length"] + entry["fin"]
         for length in entry["lengths"]:
             it.read(length)
         it.reads_answered = len(it.lengths)
@@ -293,6 +272,18 @@ class Connection(Stream):
         it.wl1, it.counted = it.fetched, True
         it.rest = int(it.must_run())
         return it
+
+    def begin_at(self, mark):
+        """What is below a mark isn't known: it is filled with zeros and `None`. The service continues from the mark's state."""
+        if mark.reads:
+            self.service = Service.of_form(self.service.name, mark.state)
+            self.data, self.consumed, self.lengths = bytearray(mark.length), mark.length, [None] * mark.reads
+            self.output, self.after_read = bytearray(mark.made), [None] * mark.reads + [(mark.made, False)]
+            self.marking.last = mark.reads
+
+    def is_quiet(self):
+        """Whether a mark may be made: all reads are known to be logged, all output is acknowledged, and the service hasn't closed."""
+        return self.reads_answered == len(self.lengths) and self.una == len(self.output) and not self.service.closed
 
     def read(self, length):
         self.output += self.service.take(bytes(self.data[self.consumed : self.consumed + length]))
@@ -336,7 +327,14 @@ class Connection(Stream):
         return name, {"key": self.key, **said}
 
     def turn(self, kind, came=None):
-        """One turn: `start`, `live` (behind a restart), `segment`, `logged` or `tick`. What leaves, segments and then messages."""
+        """One turn: `start`, `live` (behind a restart), `segment`, `logged`, `marked` or `tick`. It sends segments, then messages; marks precede a Done."""
+        if kind == "marked":
+            self.marking.hear(came.fields["reads"])
+        segments, told = ([], []) if kind == "marked" else self.turn_unmarked(kind, came)
+        marks = [self.message("Mark", **mark._asdict()) for mark in self.marking.marks(self, kind == "tick")]
+        return segments, [it for it in told if it[0] != "Done"] + marks + [it for it in told if it[0] == "Done"]
+
+    def turn_unmarked(self, kind, came):
         if self.reset:
             return self.turn_reset(kind, came)
         una, taken, right, answered, was_over = self.una, self.taken(), self.right(), self.answered, self.is_over()
@@ -496,10 +494,10 @@ class Connection(Stream):
 
 
 class Server:
-    """One incarnation: it asks for the log, restarts what is in it, and serves."""
+    """One incarnation: it asks for the log, restarts what is in it, and serves. It sends a mark after each `every` reads of a connection; 0 for none."""
 
-    def __init__(self, boot, isn, service):
-        self.boot, self.isn, self.service = boot, isn, service
+    def __init__(self, boot, isn, service, every=0):
+        self.boot, self.isn, self.service, self.every = boot, isn, service, every
         self.places, self.openings = {}, 0
         self.count, self.entries = None, []
         self.serves, self.question = False, ("Hello", {})
@@ -568,8 +566,8 @@ class Server:
         place = self.places.get(key)
         if isinstance(place, dict) and came.name in ("Opened", "Full"):
             return self.on_opening(key, place, came)
-        if isinstance(place, Connection) and came.name in ("Stable", "Reads"):
-            return self.sent_by(place, *place.turn("logged", came))
+        if isinstance(place, Connection) and came.name in ("Stable", "Reads", "Marked"):
+            return self.sent_by(place, *place.turn("marked" if came.name == "Marked" else "logged", came))
         if isinstance(place, Connection) and came.name == "Ended":
             self.places[key] = "done"
         return []
@@ -579,7 +577,7 @@ class Server:
         if came.name == "Full" or said["cisn"] != opening["cisn"]:
             del self.places[key]
             return [(key, refusal(0, opening["cisn"] + 1))] if came.name == "Full" else []
-        place = self.places[key] = Connection(key, said["cisn"], said["sisn"], said["mss"], self.service)
+        place = self.places[key] = Connection(key, said["cisn"], said["sisn"], said["mss"], self.service, self.every)
         return self.sent_by(place, *place.turn("start"))
 
     def fetch(self, came):
@@ -589,7 +587,10 @@ class Server:
         if (name, came.name) == ("Hello", "Summary"):
             self.count = said["count"]
         elif (name, came.name) == ("List", "Entry") and said["index"] == asked["index"] and said["key"] not in [it["key"] for it in self.entries]:
-            self.entries.append({**said, "data": bytearray(), "lengths": []})
+            has_mark = self.every and said["reads"] and not said["done"]
+            self.entries.append({**said, "data": bytearray(), "lengths": [], "mark": None if has_mark else NO_MARK})
+        elif (name, came.name) == ("Ask", "Held") and said["key"] == asked["key"] and may_hold(self.service, self.entries[-1], said):
+            self.entries[-1]["mark"] = Mark(*(said[field] for field in Mark._fields)) if said["reads"] else NO_MARK
         elif (name, came.name) == ("Bytes", "Part") and (said["key"], said["offset"]) == (asked["key"], asked["offset"]):
             self.entries[-1]["data"] += said["bytes"]
         elif (name, came.name) == ("Cuts", "Lens") and (said["key"], said["first"]) == (asked["key"], asked["first"]):
@@ -600,14 +601,16 @@ class Server:
         return self.asked() if self.question else self.go_live()
 
     def next_question(self):
-        """Lengths before bytes, but the bytes of the fetched lengths first; then the next entry; None where nothing is missing."""
+        """The mark first; lengths before bytes, but the bytes of the fetched lengths first; then the next entry; None where nothing is missing."""
         if self.entries and not self.entries[-1]["done"]:
-            entry = self.entries[-1]
-            have, covered = len(entry["data"]), sum(entry["lengths"])
-            if have < covered:
+            entry, mark = self.entries[-1], self.entries[-1]["mark"]
+            if mark is None:
+                return "Ask", {"key": entry["key"]}
+            have, reads = mark.length + len(entry["data"]), mark.reads + len(entry["lengths"])
+            if have < mark.length + sum(entry["lengths"]):
                 return "Bytes", {"key": entry["key"], "offset": have}
-            if len(entry["lengths"]) < entry["reads"]:
-                return "Cuts", {"key": entry["key"], "first": len(entry["lengths"])}
+            if reads < entry["reads"]:
+                return "Cuts", {"key": entry["key"], "first": reads}
             if have < entry["length"]:
                 return "Bytes", {"key": entry["key"], "offset": have}
         return ("List", {"index": len(self.entries)}) if len(self.entries) < self.count else None
@@ -619,23 +622,30 @@ class Server:
                 self.places[entry["key"]] = "done"
             else:
                 self.next_isn()
-                place = self.places[entry["key"]] = Connection.of_entry(entry, self.service)
+                place = self.places[entry["key"]] = Connection.of_entry(entry, self.service, self.every)
                 sent += self.sent_by(place, *place.turn("live"))
         return sent
 
 
-class World:
-    """Clients, one logger or two, network and server, event by event."""
+def may_hold(service, entry, said):
+    """Whether an entry can have a mark: no more reads and bytes than its own, a byte for each read, no unacknowledged output, and the state of some service."""
+    fits = said["reads"] <= min(entry["reads"], said["length"]) and said["length"] <= entry["length"] and said["made"] <= entry["acked"]
+    return fits and (said["reads"] == 0 or Service.of_form(service, said["state"]) is not None)
 
-    def __init__(self, service, server, clients, twin=False):
+
+class World:
+    """Clients, one logger or two, network and server, event by event. With `marks` there is one logger, and the server sends a mark after so many reads."""
+
+    def __init__(self, service, server, clients, twin=False, marks=0):
         self.service, self.address, self.clients = service, server, clients
         self.of_key = {client.key: place for place, client in enumerate(clients, 1)}
-        self.twin, self.loggers, self.server, self.packets = twin, Pair() if twin else Alone(), None, []
+        self.twin, self.marks, self.loggers = twin, marks, Pair() if twin else Journaled() if marks else Alone()
+        self.server, self.packets = None, []
         self.boots, self.crashes, self.last_boot = 0, 0, 0
 
     @property
     def log(self):
-        """The log that serves."""
+        """The log that serves; with marks the journal, which has all that was logged."""
         return self.loggers.log
 
     def refuses(self, verb, words):
@@ -665,7 +675,7 @@ class World:
 
     def happen(self, verb, words):
         if verb == "boot":
-            self.server, self.last_boot, self.boots = Server(*words, self.service), words[0], self.boots + 1
+            self.server, self.last_boot, self.boots = Server(*words, self.service, self.marks), words[0], self.boots + 1
             return self.by_server(self.server.asked())
         if verb == "crash":
             self.server, self.crashes = None, self.crashes + 1

@@ -9,10 +9,11 @@ import lossy
 from endpoint_model import play_script
 from loggers import Forward, Got, Head, Log, Message, Tail
 from masked import Watch
-from model import WIDEST, Client, Congestion, Connection, Segment, Server, Service, Stream, World, size_of
+from model import WIDEST, Client, Congestion, Connection, Segment, Server, Stream, World, size_of
 from reordered import drawn
 from replay_stored import FOLDER, printed
 from seed_model import drawn_run
+from services import Service
 
 KEY, SERVER = "192.0.2.1:40000", "192.0.2.100:7"
 FIRST_PATH = "boot 1 5000|deliver 1|deliver 2|open 1 65535|deliver 3|deliver 4|deliver 5|deliver 6|ack 1 65535|deliver 7|send 1 0 5|deliver 8|deliver 10"
@@ -387,7 +388,7 @@ class StoredRuns(unittest.TestCase):
     def test_replay_script(self):
         stored = [(FOLDER / name).read_text() for name in ("stdin", "stdout")]
         told = {name: (stands, wanted) for name, stands, wanted in printed(*stored)}
-        self.assertEqual(sum(wanted is not None for _, wanted in told.values()), 90)
+        self.assertEqual(sum(wanted is not None for _, wanted in told.values()), 108)
         for name, (stands, wanted) in told.items():
             self.assertIn(wanted, (None, stands), name)
 

@@ -3,33 +3,32 @@
 
     tools/replay_stored.py [FOLDER]   writes FOLDER/stdout (crates/replay_script) again, with the model's result of each order that the model can play
 
-The model plays whole schedules, seeds and crashes. The lines about failed calls, and about refused words and lines, stay as they are.
+The model plays whole schedules, seeds and crashes. The lines about failed calls and refused words stay as they are.
 """
 import pathlib
 import re
 import sys
 
 from model import Client, World
+from schedule_model import read_schedule
 from seed_model import play, script_of, summary
 
-EVENTS = 100_000  # of a schedule, and more of them are refused
-HEADS = ("service", "server", "twin", "client")
 FOLDER = pathlib.Path(__file__).parent.parent / "crates" / "replay_script"
 
 
 def orders(stored):
     """The orders of a script, each as its words and the schedule that it plays."""
     text = ""
-    for block in stored.removeprefix("= ").split("\n= "):
-        order, _, lines = block.removesuffix("\n").partition("\n")
-        text = re.sub(r"(?m)^\*(\d+) (.*)\n", lambda it: (it[2] + "\n") * int(it[1]), lines + "\n") if lines else text
+    for block in stored.removeprefix("= ").removesuffix("\n").split("\n= "):
+        order, feed, lines = block.partition("\n")
+        text = re.sub(r"(?m)^\*(\d+) (.*)\n", lambda it: (it[2] + "\n") * int(it[1]), lines + "\n") if feed else text
         yield order.split(), text
 
 
 def made(words, text):
     """What is printed of an order, or None where the model can't tell."""
     if words[0] == "crash":
-        return crashes(words[1], [["stop", *words[2:]]] if words[2:] else [], text)
+        return crashes(words[1], [("stop", [int(words[2])])] if words[2:] else [], text)
     _, name, spoken, *fails, last = words
     spoken = spoken.split("~")
     if fails != ["0", "0", "0"]:
@@ -38,29 +37,27 @@ def made(words, text):
         seed, count, events = map(int, spoken[1:])
         allowed = seed < 2**64 and max(map(len, spoken[1:])) <= 20 and 1 <= count <= 16 and 1 <= events <= 20000
         report, why = (summary(seed, count, events), None) if allowed else (None, None)
-    elif spoken == ["run"] and text.startswith("service ") and len(text.splitlines()) - text.count("\nclient ") - text.count("\ntwin\n") - 2 <= EVENTS:
-        try:
-            report, why = play(text)
-        except (IndexError, ValueError):
-            return None
+    elif spoken == ["run"]:
+        report, why = play(text)
     else:
         return None
-    if report is None or why and not why.startswith("event"):
+    if report is None:
         return None
+    status = {"line": 6, "event": 7, "too": 8}[why.split()[0]] if why else 0
     told = [f"ftreplay: {why}"] if why else []
-    return "\n".join([f"{name}: status {7 if why else 0}", *told, *report[-int(last) :]]) + "\n"
+    return "\n".join([f"{name}: status {status}", *told, *report[-int(last) :]]) + "\n"
 
 
 def crashes(name, stops, text):
     """The first events of a schedule, for each number of them, then a crash, or also a stop, and a restart, and the client goes on as far as it must."""
-    (_, service), (_, server), *twin, (_, _, key, isn, script) = heads = [line.split() for line in text.splitlines() if line.split()[0] in HEADS]
-    events = [line.split() for line in text.splitlines()[len(heads) :]]
+    schedule = read_schedule(text)
+    ((key, isn, script),) = schedule.clients
     told = ""
-    for count in range(1, len(events) + 1):
-        client = Client(key, int(isn), script_of(script))
-        world = World(service, server, [client], bool(twin))
-        for verb, *words in [*events[:count], ["crash"], *stops]:
-            world.step(verb, [int(word) for word in words])
+    for count in range(1, len(schedule.events) + 1):
+        client = Client(key, isn, script_of(script))
+        world = World(schedule.service, schedule.server, [client], schedule.twin, schedule.marks)
+        for verb, words in [*schedule.events[:count], ("crash", []), *stops]:
+            world.step(verb, words)
         go_on(world, client)
         entry = world.log.entries[key]
         told += f"{name}, crash after {count}: {client.accepted.decode()} in reads of {len(entry.data)} bytes, {len(entry.lengths)} reads\n"
@@ -94,8 +91,7 @@ def printed(stored, told):
     starts = [at for at, _, _ in marks if at is not None] + [len(told)]
     for at, words, text in marks:
         stands = told[at : starts[starts.index(at) + 1]] if at is not None else None
-        is_refused = stands is not None and stands.startswith(f"{words[1]}: status 6\n")  # the model reads no text word for word
-        yield " ".join(words[:2]), stands, None if is_refused else made(words, text)
+        yield " ".join(words[:2]), stands, made(words, text)
 
 
 def main():

@@ -63,6 +63,7 @@ class Report:
     service: str = ""
     server: str = ""
     twin: bool = False
+    marks: int = 0  # after how many reads the server marks a connection
     clients: dict = field(default_factory=dict)
     events: list = field(default_factory=list)
     closing: list = field(default_factory=list)
@@ -94,6 +95,8 @@ def take_line(report, words):
         report.server = words[1]
     elif head == "twin":
         report.twin = True
+    elif head == "marks":
+        report.marks = int(words[1])
     elif head == "client" and words[3] != "accepted":
         report.clients[words[1]] = words[2]
     elif head == "client":

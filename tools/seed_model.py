@@ -4,7 +4,7 @@
     tools/seed_model.py seed SEED CLIENTS EVENTS      the summary of a schedule that is drawn from a seed
     tools/seed_model.py schedule SEED CLIENTS EVENTS  that schedule as text, for `ftreplay run`
     tools/seed_model.py pair SEED CLIENTS EVENTS      one with two loggers: at drawn events one of them stops, and the server crashes if it is up
-    tools/seed_model.py run < SCHEDULE                the report of a schedule, up to its first event that isn't allowed
+    tools/seed_model.py run < SCHEDULE                the report of a schedule, up to its first event that isn't allowed; a refused line has none
     tools/seed_model.py compare PROGRAM [--seeds N] [--events N] [--first SEED] [--through seed|run|pair]
                                                       plays N seeds with 1 to 16 clients each by both, and compares what they write
 
@@ -18,6 +18,7 @@ import sys
 
 from loggers import Forward, Got, Message
 from model import LIMIT, PACKETS, Client, World
+from schedule_model import Refused, read_schedule
 
 MULTIPLIER, INCREMENT = 6364136223846793005, 1442695040888963407
 SERVER = "192.0.2.100:7"
@@ -105,7 +106,8 @@ def drawn_run(seed, count, events, twin=False, watch=None):
 
 def header(world, spelled):
     clients = [f"client {i} {it.key} {it.isn} {spelled[i - 1]}" for i, it in enumerate(world.clients, 1)]
-    return [f"service {world.service}", f"server {world.address}", *["twin"] * world.twin, *clients]
+    beside = ["twin"] * world.twin + [f"marks {world.marks}"] * (world.marks > 0)
+    return [f"service {world.service}", f"server {world.address}", *beside, *clients]
 
 
 def event_words(verb, words):
@@ -138,7 +140,7 @@ def packet_words(content):
     if isinstance(content, Message):
         words = [content.name, "boot", str(content.boot)]
         for name, value in content.fields.items():
-            words += [name, hexadecimal(value) if name == "bytes" else ",".join(map(str, value)) if name == "lens" else str(value)]
+            words += [name, hexadecimal(value) if name in ("bytes", "state") else ",".join(map(str, value)) if name == "lens" else str(value)]
         return " ".join(words)
     mss = "-" if content.mss is None else content.mss
     return f"{content.flags} seq {content.seq} ack {content.ack} window {content.window} mss {mss} data {hexadecimal(content.text)}"
@@ -160,15 +162,15 @@ def script_of(word):
 
 
 def play(text):
-    """The report of a schedule that is in order, and why it ended early, or None."""
-    lines = [line.split() for line in text.splitlines() if line.strip() and not line.startswith("#")]
-    twin = lines[2:3] == [["twin"]]
-    heads = [words for words in lines if words[0] == "client"]
-    clients = [Client(words[2], int(words[3]), script_of(words[4])) for words in heads]
-    world = World(lines[0][1], lines[1][1], clients, twin)
-    report, number, done = ["ftreplay 1", *header(world, [words[4].lower() for words in heads])], 0, 0
-    for verb, *words in lines[2 + twin + len(heads) :]:
-        words = [int(word) for word in words]
+    """The report of a schedule, and why it ended early, or None. A schedule that is refused has none."""
+    try:
+        schedule = read_schedule(text)
+    except Refused as why:
+        return [], str(why)
+    clients = [Client(key, isn, script_of(script)) for key, isn, script in schedule.clients]
+    world = World(schedule.service, schedule.server, clients, schedule.twin, schedule.marks)
+    report, number, done = ["ftreplay 1", *header(world, [script for _, _, script in schedule.clients])], 0, 0
+    for verb, words in schedule.events:
         why = world.refuses(verb, words)
         if why:
             return report + closing(world, done), f"event {done + 1}: {why}"
@@ -222,8 +224,8 @@ def main():
     if words.verb == "compare":
         compare(words)
     elif words.verb == "run":
-        report, why = play(sys.stdin.read())
-        print("\n".join(report))
+        report, why = play(sys.stdin.buffer.read().decode("latin-1"))
+        print(*report, sep="\n", end="\n" if report else "")
         sys.exit(why)
     else:
         drawn = words.seed, words.clients, words.events
