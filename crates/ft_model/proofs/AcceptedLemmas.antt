@@ -1,6 +1,6 @@
 -- A text is accepted line by line, and each accepted line keeps what every accepted schedule keeps.
 use Rattle.std.proofs.Common.{◌≡◌, ℕ, ◌+◌, ◌-◌, ◌*◌, ◌<◌, ◌≤◌, ◌^◌, List, [], ◌∷◌, ◌++◌, length, drop, refl, arith, append_assoc, length-append, Bool, true, false}
-use Rattle.std.specs.Prelude.{cond, Option, Some, None, option_map, Result, Ok, Err, nat_le, ◌&&◌}
+use Rattle.std.specs.Prelude.{cond, Option, Some, None, option_map, Result, Ok, Err, nat_le, ◌&&◌, not, is_none}
 use Rattle.std.specs.Option.{ok_or, option_and_then}
 use Rattle.std.specs.List.{AllByRecursion}
 use Rattle.std.proofs.lemmas.Bool.{ltb-true, leb-true, leb-false}
@@ -10,7 +10,7 @@ use Rattle.ft_io.specs.declared.Addr.{Addr}
 use Rattle.ft_model.specs.Words.{words_of, lines_of}
 use Rattle.ft_model.specs.Spelling.{numeral, number_of, within, addr_of, is_hex, hex_bytes, script_of}
 use Rattle.ft_model.specs.Grammar.Refusal.{TooLong}
-use Rattle.ft_model.specs.Grammar.{◌>>=◌, line_of, line_of_words, line_behind, line_from, may_stand, may_join, keyword_of, verb_of, names_no_service, is_printable, client_line, free_address, is_taken, service_line, server_line, bare_line, event_line, client_number, long_number, Objection, no_objection, unless_objected, after_line, read_lines, read_with, read_text, with_line, is_passed_over, is_too_much, at_line}
+use Rattle.ft_model.specs.Grammar.{◌>>=◌, line_of, line_of_words, line_behind, line_from, may_stand, may_join, keyword_of, verb_of, names_no_service, is_printable, client_line, free_address, is_taken, service_line, server_line, bare_line, marks_line, has_only_server, event_line, client_number, long_number, Objection, no_objection, unless_objected, after_line, read_lines, read_with, read_text, with_line, is_passed_over, is_too_much, at_line}
 use Rattle.ft_model.specs.Accepted.{AreApart, IsAccepted}
 use Rattle.ft_model.specs.Schedule.{bytes_of}
 use Rattle.ft_model.specs.declared.event.Event.{Event}
@@ -90,6 +90,7 @@ says_event : (draft : Draft) (k : Keyword) (words : List (List ℕ)) (e : Event)
 says_event draft keyword.Service words e h = let b = bind_ok (service_line words) (λ kind. Ok (line.Service kind)) (line.Event e) h in absurd (cc b.2)
 says_event draft keyword.Server words e h = let b = bind_ok (server_line words) (λ addr. Ok (line.Server addr)) (line.Event e) h in absurd (cc b.2)
 says_event draft keyword.Twin words e h = absurd (bare_says line.Twin words (line.Event e) (λ f. cc) h)
+says_event draft keyword.Marks words e h = let b = bind_ok (marks_line words) (λ every. Ok (line.Marks every)) (line.Event e) h in absurd (cc b.2)
 says_event draft keyword.Client words e h = let b = bind_ok (client_line draft words) (λ client. Ok (line.Client client)) (line.Event e) h in absurd (cc b.2)
 says_event draft (keyword.Event v) words e h = (v, refl)
 
@@ -97,6 +98,7 @@ pub says_client : (draft : Draft) (k : Keyword) (words : List (List ℕ)) (c : C
 says_client draft keyword.Service words c h = let b = bind_ok (service_line words) (λ kind. Ok (line.Service kind)) (line.Client c) h in absurd (cc b.2)
 says_client draft keyword.Server words c h = let b = bind_ok (server_line words) (λ addr. Ok (line.Server addr)) (line.Client c) h in absurd (cc b.2)
 says_client draft keyword.Twin words c h = absurd (bare_says line.Twin words (line.Client c) (λ f. cc) h)
+says_client draft keyword.Marks words c h = let b = bind_ok (marks_line words) (λ every. Ok (line.Marks every)) (line.Client c) h in absurd (cc b.2)
 says_client draft keyword.Client words c h = let b = bind_ok (client_line draft words) (λ client. Ok (line.Client client)) (line.Client c) h in (refl, (cc (b.1, b.2)))
 says_client draft (keyword.Event v) words c h = let b = bind_ok (event_line v words) (λ e. Ok (line.Event e)) (line.Client c) h in absurd (cc b.2)
 
@@ -110,7 +112,7 @@ verb_in None v e = absurd (cc)
 
 verb_behind : (word : List ℕ) (v : Verb) → keyword_of word ≡ Some (keyword.Event v) → verb_of word ≡ Some v
 unfolding keyword_of
-verb_behind word v e = verb_in (verb_of word) v (another _ keyword.Client (keyword.Event v) _ (λ h. cc) (another _ keyword.Twin (keyword.Event v) _ (λ h. cc) (another _ keyword.Server (keyword.Event v) _ (λ h. cc) (another _ keyword.Service (keyword.Event v) _ (λ h. cc) e))))
+verb_behind word v e = verb_in (verb_of word) v (another _ keyword.Client (keyword.Event v) _ (λ h. cc) (another _ keyword.Marks (keyword.Event v) _ (λ h. cc) (another _ keyword.Twin (keyword.Event v) _ (λ h. cc) (another _ keyword.Server (keyword.Event v) _ (λ h. cc) (another _ keyword.Service (keyword.Event v) _ (λ h. cc) e)))))
 
 -- A script has at most 2^24 bytes.
 half : (digits : List ℕ) → 2 * length (hex_bytes digits) ≤ length digits
@@ -142,6 +144,10 @@ hex_bound digits false s h e = absurd (cc)
 pub within_bound : (least most : ℕ) (o : Option ℕ) (n : ℕ) → option_and_then (within least most) o ≡ Some n → n ≤ most
 within_bound least most (Some m) n e = let is = cond_some (nat_le least m && nat_le m most) m n e in rw (← is.1) (leb-true _ _ (right_true _ _ is.0))
 within_bound least most None n e = absurd (cc)
+
+within_least : (least most : ℕ) (o : Option ℕ) (n : ℕ) → option_and_then (within least most) o ≡ Some n → least ≤ n
+within_least least most (Some m) n e = let is = cond_some (nat_le least m && nat_le m most) m n e in rw (← is.1) (leb-true _ _ (left_true _ _ is.0))
+within_least least most None n e = absurd (cc)
 
 pub number_bound : (least most : ℕ) (word : List ℕ) (n : ℕ) → number_of least most word ≡ Some n → n ≤ most
 unfolding number_of
@@ -193,6 +199,7 @@ with_client s c h room apart script = record {
   addresses = apart_push s [] s.clients c h.addresses apart;
   scripts = all_push (λ client. length (bytes_of client.script) ≤ 2 ^ 24) s.clients c h.scripts script;
   events = h.events;
+  marks = h.marks;
 }
 
 with_event : (s : Schedule) (e : Event) → IsAccepted s → length s.events < 100000 → IsAccepted (record s { events = s.events ++ e ∷ [] })
@@ -202,11 +209,71 @@ with_event s e h room = record {
   addresses = h.addresses;
   scripts = h.scripts;
   events = omega (arith, length-append {A = Event});
+  marks = h.marks;
 }
 
-with_pair : (s : Schedule) → IsAccepted s → IsAccepted (record s { twin = true })
+-- a line on two loggers or on marks is announced by its keyword
+says_twin : (draft : Draft) (k : Keyword) (words : List (List ℕ)) → line_from draft k words ≡ Ok line.Twin → k ≡ keyword.Twin
+says_twin draft keyword.Service words h = let b = bind_ok (service_line words) (λ kind. Ok (line.Service kind)) line.Twin h in absurd (cc b.2)
+says_twin draft keyword.Server words h = let b = bind_ok (server_line words) (λ addr. Ok (line.Server addr)) line.Twin h in absurd (cc b.2)
+says_twin draft keyword.Twin words h = refl
+says_twin draft keyword.Marks words h = let b = bind_ok (marks_line words) (λ every. Ok (line.Marks every)) line.Twin h in absurd (cc b.2)
+says_twin draft keyword.Client words h = let b = bind_ok (client_line draft words) (λ client. Ok (line.Client client)) line.Twin h in absurd (cc b.2)
+says_twin draft (keyword.Event v) words h = let b = bind_ok (event_line v words) (λ e. Ok (line.Event e)) line.Twin h in absurd (cc b.2)
+
+pub says_marks : (draft : Draft) (k : Keyword) (words : List (List ℕ)) (every : ℕ) → line_from draft k words ≡ Ok (line.Marks every)
+    → (k ≡ keyword.Marks) × (marks_line words ≡ Ok every)
+says_marks draft keyword.Service words every h = let b = bind_ok (service_line words) (λ kind. Ok (line.Service kind)) (line.Marks every) h in absurd (cc b.2)
+says_marks draft keyword.Server words every h = let b = bind_ok (server_line words) (λ addr. Ok (line.Server addr)) (line.Marks every) h in absurd (cc b.2)
+says_marks draft keyword.Twin words every h = absurd (bare_says line.Twin words (line.Marks every) (λ f. cc) h)
+says_marks draft keyword.Marks words every h = let b = bind_ok (marks_line words) (λ x. Ok (line.Marks x)) (line.Marks every) h in (refl, cc (b.1, b.2))
+says_marks draft keyword.Client words every h = let b = bind_ok (client_line draft words) (λ client. Ok (line.Client client)) (line.Marks every) h in absurd (cc b.2)
+says_marks draft (keyword.Event v) words every h = let b = bind_ok (event_line v words) (λ e. Ok (line.Event e)) (line.Marks every) h in absurd (cc b.2)
+
+pub every_bounds : (words : List (List ℕ)) (every : ℕ) → marks_line words ≡ Ok every → (0 < every) × (every ≤ 1000)
+unfolding marks_line number_of
+every_bounds (word ∷ []) every h =
+    let found : number_of 1 1000 word ≡ Some every = ok_or_ok (number_of 1 1000 word) why.Number every h in
+    (within_least 1 1000 (numeral 20 word) every found, number_bound 1 1000 word every found)
+every_bounds [] every h = absurd (cc)
+every_bounds (word ∷ other ∷ more) every h = absurd (cc)
+
+not_false : (b : Bool) → not b ≡ true → b ≡ false
+not_false true h = absurd (cc)
+not_false false h = refl
+
+no_number : (o : Option ℕ) (n : ℕ) → is_none o ≡ true → o ≡ Some n → ⊥
+no_number None n h e = cc
+no_number (Some m) n h e = cc
+
+-- where either may stand, there are neither two loggers nor marks yet
+is_single : (s : Schedule) → has_only_server s ≡ true → s.twin ≡ false
+unfolding has_only_server
+is_single s h = not_false s.twin (right_true _ _ (left_true _ _ h))
+
+is_unmarked : (s : Schedule) → has_only_server s ≡ true → is_none s.marks ≡ true
+unfolding has_only_server
+is_unmarked s h = right_true _ _ h
+
+with_pair : (s : Schedule) → IsAccepted s → is_none s.marks ≡ true → IsAccepted (record s { twin = true })
 unfolding is_taken
-with_pair s h = record { clients = h.clients; addresses = h.addresses; scripts = h.scripts; events = h.events }
+with_pair s h none = record {
+  clients = h.clients;
+  addresses = h.addresses;
+  scripts = h.scripts;
+  events = h.events;
+  marks = λ every e. absurd (no_number s.marks every none e);
+}
+
+with_marks : (s : Schedule) (every : ℕ) → IsAccepted s → s.twin ≡ false → (0 < every) × (every ≤ 1000) → IsAccepted (record s { marks = Some every })
+unfolding is_taken
+with_marks s every h single within = record {
+  clients = h.clients;
+  addresses = h.addresses;
+  scripts = h.scripts;
+  events = h.events;
+  marks = λ n e. let is : every ≡ n = cc e in rw (← is) (within.0, within.1, single);
+}
 
 abbrev Kept : Draft → Type 0
 Kept Empty = Unit {0}
@@ -225,16 +292,25 @@ line_kept : (draft : Draft) (text : List ℕ) (l : Line) → Kept draft → is_t
 line_kept Empty text (line.Service kind) h few p = tt
 line_kept Empty text (line.Server addr) h few p = tt
 line_kept Empty text line.Twin h few p = tt
+line_kept Empty text (line.Marks every) h few p = tt
 line_kept Empty text (line.Client c) h few p = tt
 line_kept Empty text (line.Event e) h few p = tt
 line_kept (Named kind) text (line.Service name) h few p = tt
-line_kept (Named kind) text (line.Server addr) h few p = record { clients = omega arith; addresses = tt; scripts = tt; events = omega arith }
+line_kept (Named kind) text (line.Server addr) h few p = record { clients = omega arith; addresses = tt; scripts = tt; events = omega arith; marks = λ every e. absurd (cc) }
 line_kept (Named kind) text line.Twin h few p = tt
+line_kept (Named kind) text (line.Marks every) h few p = tt
 line_kept (Named kind) text (line.Client c) h few p = tt
 line_kept (Named kind) text (line.Event e) h few p = tt
 line_kept (Begun s) text (line.Service kind) h few p = h
 line_kept (Begun s) text (line.Server addr) h few p = h
-line_kept (Begun s) text line.Twin h few p = with_pair s h
+line_kept (Begun s) text line.Twin h few p =
+    let said = says_twin (Begun s) p.k p.words p.says in
+    let stands : has_only_server s ≡ true = rw said at p.stands in
+    with_pair s h (is_unmarked s stands)
+line_kept (Begun s) text (line.Marks every) h few p =
+    let said = says_marks (Begun s) p.k p.words every p.says in
+    let stands : has_only_server s ≡ true = rw said.0 at p.stands in
+    with_marks s every h (is_single s stands) (every_bounds p.words every said.1)
 line_kept (Begun s) text (line.Client c) h few p =
     let said = says_client (Begun s) p.k p.words c p.says in
     let kept = client_kept (Begun s) p.words c said.1 in

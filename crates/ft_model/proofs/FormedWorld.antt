@@ -119,7 +119,7 @@ server_formed start w boot node sent f all n = record {
 }
 
 -- one moment
-moment_formed : {State : Type 0} (service : Machine State) (start w : World) (sent : List Packet) (after : World) → WritesBytes service → StartFormed start
+pub moment_formed : {State : Type 0} (service : Machine State) (start w : World) (sent : List Packet) (after : World) → WritesBytes service → StartFormed start
     → Knows start w → EntriesFit (script_of start) (isn_of start) after.log.entries → AllByRecursion AckedWithin after.log.entries → Happened service w sent after
     → Outcome start sent after
 moment_formed service start w sent after writes s k fits acked (log_heard message under is e) =
@@ -175,7 +175,7 @@ client_known : (clients : List Client) (i : ℕ) (c : Client) → slice_get clie
 client_known clients i c e =
     place_known (position_or_len (λ x. key_eq x.key c.key) clients) (length clients) (passes_within (λ x. key_eq x.key c.key) clients i c e (key_is c.key))
 
-world_start : (start : World) → IsStart start → WorldFormed start start
+pub world_start : (start : World) → IsStart start → WorldFormed start start
 world_start start s = record {
   server = refl;
   boot = subst (λ l. l.boot < 2 ^ 64) (sym s.log) (omega arith);
@@ -193,7 +193,7 @@ script_found : (server : Addr) (clients : List Client) (o : Option Client) (key 
 script_found server clients (Some c) key a e = let x = all_find (IsNewClient server) (λ c. key_eq c.key key) clients c a e in (x.bytes, x.number)
 script_found server clients None key a e = (tt, omega arith)
 
-start_formed : (start : World) → IsStart start → StartFormed start
+pub start_formed : (start : World) → IsStart start → StartFormed start
 start_formed start s = record {
   server = (s.ip, s.port);
   bytes = λ key. (script_found start.server start.clients (find (λ c. key_eq c.key key) start.clients) key s.clients refl).0;
@@ -210,7 +210,7 @@ output_within service script w a key =
     let one = one_at_most (logged_run service script w.log key).closed in
     omega (arith, size, small, one)
 
-entries_acked : {State : Type 0} (service : Machine State) (start w : World) → JointInvariant service start w → AllByRecursion AckedWithin w.log.entries
+pub entries_acked : {State : Type 0} (service : Machine State) (start w : World) → JointInvariant service start w → AllByRecursion AckedWithin w.log.entries
 entries_acked service start w o =
     all_weaker (EntryBacked service (script_of start) w.log) AckedWithin w.log.entries
     (λ e h. let small = output_within service (script_of start) w o.author e.key in omega (arith, h, small)) o.backed.entries
@@ -219,7 +219,7 @@ body_acked : {State : Type 0} (service : Machine State) (script : Key → List �
 body_acked service script w a (DataMsg part) h = let small = output_within service script w a part.key in omega (arith, h, small)
 body_acked service script w a _ h = tt
 
-packet_acked : {State : Type 0} (service : Machine State) (script : Key → List ℕ) (w : World) → HasAuthor service script w → (packet : Packet) → PacketBacked service script w.log packet → PacketAckWithin packet
+pub packet_acked : {State : Type 0} (service : Machine State) (script : Key → List ℕ) (w : World) → HasAuthor service script w → (packet : Packet) → PacketBacked service script w.log packet → PacketAckWithin packet
 packet_acked service script w a (To_logger m) h = body_acked service script w a m.body h
 packet_acked service script w a _ h = tt
 

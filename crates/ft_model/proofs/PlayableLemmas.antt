@@ -82,16 +82,19 @@ line_keeps : (draft : Draft) (text : List ℕ) (l : Line) → Keeps draft → is
 line_keeps Empty text (line.Service kind) h few p = tt
 line_keeps Empty text (line.Server addr) h few p = tt
 line_keeps Empty text line.Twin h few p = tt
+line_keeps Empty text (line.Marks every) h few p = tt
 line_keeps Empty text (line.Client c) h few p = tt
 line_keeps Empty text (line.Event e) h few p = tt
 line_keeps (Named kind) text (line.Service name) h few p = tt
 line_keeps (Named kind) text (line.Server addr) h few p = record { numbers = tt; apart = refl }
 line_keeps (Named kind) text line.Twin h few p = tt
+line_keeps (Named kind) text (line.Marks every) h few p = tt
 line_keeps (Named kind) text (line.Client c) h few p = tt
 line_keeps (Named kind) text (line.Event e) h few p = tt
 line_keeps (Begun s) text (line.Service kind) h few p = h
 line_keeps (Begun s) text (line.Server addr) h few p = h
 line_keeps (Begun s) text line.Twin h few p = record { numbers = h.numbers; apart = h.apart }
+line_keeps (Begun s) text (line.Marks every) h few p = record { numbers = h.numbers; apart = h.apart }
 line_keeps (Begun s) text (line.Client c) h few p =
     let kept = client_kept (Begun s) p.words c (says_client (Begun s) p.k p.words c p.says).1 in
     record { numbers = all_push (λ line. line.isn < 2 ^ 32) s.clients c h.numbers kept.2; apart = free_apart s c h.apart kept.0 }

@@ -1,5 +1,5 @@
 -- The header of a report tells what was asked: the service, the server's address, and the clients.
-use Rattle.std.proofs.Common.{◌≡◌, ℕ, Bool, true, false, ◌<◌, ◌≤◌, ◌^◌, ◌+◌, ◌/◌, List, [], ◌∷◌, ◌++◌, codes, decimal, length, drop, refl, sym, ap, ◌∙◌, subst, arith, append_assoc, Ok}
+use Rattle.std.proofs.Common.{◌≡◌, ℕ, Bool, true, false, Option, None, Some, ◌<◌, ◌≤◌, ◌^◌, ◌+◌, ◌/◌, List, [], ◌∷◌, ◌++◌, codes, decimal, length, drop, refl, sym, ap, ◌∙◌, subst, arith, append_assoc, Ok}
 use Rattle.std.specs.List.{AllByRecursion, flat_map}
 use Rattle.std.proofs.lemmas.Fmt.{decimal_injective, decimal_nonempty}
 use Rattle.std.proofs.lemmas.List.{append_cancel_left}
@@ -18,8 +18,8 @@ use Rattle.ft_model.specs.Client.{Client}
 use Rattle.ft_model.specs.Log.{Entry}
 use Rattle.ft_model.specs.World.{World, Moment}
 use Rattle.ft_model.specs.Texts.{spaced, line, address_text, key_text, hex_text, service_text, script_text, phase_text}
-use Rattle.ft_model.specs.Report.{schedule_line, schedule_lines, twin_line, header, event_lines, phase_line, client_line, client_lines, entry_line, log_line, end_line, closing_lines}
-use Rattle.ft_model.specs.Readable.{IsWord, FitsU64, FitsKey, FitsScript, FitsClient, FitsSchedule}
+use Rattle.ft_model.specs.Report.{schedule_line, schedule_lines, twin_line, marks_line, header, event_lines, phase_line, client_line, client_lines, entry_line, log_line, end_line, closing_lines}
+use Rattle.ft_model.specs.Readable.{IsWord, FitsU64, FitsOption, FitsKey, FitsScript, FitsClient, FitsSchedule}
 use Rattle.ft_model.proofs.ReportWords.{cut, all_append, IsDigit, digits_decimal, word_decimal}
 use Rattle.ft_model.proofs.ReportParts.{address_same}
 use Rattle.ft_model.proofs.ReportContent.{lit, word_key, word_encoded}
@@ -205,6 +205,29 @@ twin_cut true false r s nr ns e = absurd (ns (sym (ap mark e)))
 twin_cut false true r s nr ns e = absurd (nr (ap mark e))
 twin_cut false false r s nr ns e = (refl, e)
 
+-- a text that doesn't go on with the line on marks
+abbrev pub NoMarks : List ℕ → Type 0
+NoMarks text = mark text ≡ mark (codes "ma") → ⊥
+
+marks_mark : (every : ℕ) (r : List ℕ) → mark (marks_line (Some every) ++ r) ≡ mark (codes "ma")
+marks_mark every r = refl
+
+marks_cut : (a b : Option ℕ) (r s : List ℕ) → FitsOption a → FitsOption b → NoMarks r → NoMarks s → marks_line a ++ r ≡ marks_line b ++ s → (a ≡ b) × (r ≡ s)
+marks_cut None None r s p q nr ns e = (refl, e)
+marks_cut None (Some m) r s p q nr ns e = absurd (nr (ap mark e ∙ marks_mark m s))
+marks_cut (Some n) None r s p q nr ns e = absurd (ns (sym (ap mark e) ∙ marks_mark n r))
+marks_cut (Some n) (Some m) r s p q nr ns e =
+    let cut = line_cut (codes "marks") (decimal n ∷ []) (decimal m ∷ []) r s (word_decimal n p, tt) (word_decimal m q, tt) e in
+    (ap Some (decimal_injective n m p q (ap verb cut.0)), cut.1)
+
+clients_no_marks : (n : ℕ) (asked : List ClientLine) (r : List ℕ) → NoMarks r → NoMarks (schedule_lines n asked ++ r)
+clients_no_marks n [] r h = h
+clients_no_marks n (a ∷ asked) r h = λ f. omega (arith, f, ap mark (append_assoc (schedule_line n a) (schedule_lines (n + 1) asked) r) ∙ client_mark n a (schedule_lines (n + 1) asked ++ r))
+
+marks_no_twin : (marks : Option ℕ) (r : List ℕ) → NoTwin r → NoTwin (marks_line marks ++ r)
+marks_no_twin None r h = h
+marks_no_twin (Some every) r h = λ f. omega (arith, f, marks_mark every r)
+
 clients_no_twin : (n : ℕ) (asked : List ClientLine) (r : List ℕ) → NoTwin r → NoTwin (schedule_lines n asked ++ r)
 clients_no_twin n [] r h = h
 clients_no_twin n (a ∷ asked) r h = λ f. omega (arith, f, ap mark (append_assoc (schedule_line n a) (schedule_lines (n + 1) asked) r) ∙ client_mark n a (schedule_lines (n + 1) asked ++ r))
@@ -227,15 +250,16 @@ pub record IsClosing (text : List ℕ) : Type 0 where
   pub event : NoEvent text
   pub client : NoClient text
   pub twin : NoTwin text
+  pub marks : NoMarks text
 
-of_mark : (text : List ℕ) (m : ℕ) → mark text ≡ m → (m ≡ mark (codes "pa") → ⊥) → (m ≡ mark (codes "ev") → ⊥) → (m ≡ mark (codes "cl") → ⊥) → (m ≡ mark (codes "tw") → ⊥) → IsClosing text
-of_mark text m at p e c t = record { packet = λ f. p (sym at ∙ f); event = λ f. e (sym at ∙ f); client = other_mark text (λ f. c (sym at ∙ f)); twin = λ f. t (sym at ∙ f) }
+of_mark : (text : List ℕ) (m : ℕ) → mark text ≡ m → (m ≡ mark (codes "pa") → ⊥) → (m ≡ mark (codes "ev") → ⊥) → (m ≡ mark (codes "cl") → ⊥) → (m ≡ mark (codes "tw") → ⊥) → (m ≡ mark (codes "ma") → ⊥) → IsClosing text
+of_mark text m at p e c t k = record { packet = λ f. p (sym at ∙ f); event = λ f. e (sym at ∙ f); client = other_mark text (λ f. c (sym at ∙ f)); twin = λ f. t (sym at ∙ f); marks = λ f. k (sym at ∙ f) }
 
 ends : (clients : List Client) (entries : List Entry) (n : ℕ) → IsClosing (client_lines 1 clients ++ (flat_map log_line entries ++ end_line n))
-ends [] [] n = of_mark (end_line n) (mark (codes "en")) (end_mark n) (λ f. omega (arith, f)) (λ f. omega (arith, f)) (λ f. omega (arith, f)) (λ f. omega (arith, f))
+ends [] [] n = of_mark (end_line n) (mark (codes "en")) (end_mark n) (λ f. omega (arith, f)) (λ f. omega (arith, f)) (λ f. omega (arith, f)) (λ f. omega (arith, f)) (λ f. omega (arith, f))
 ends [] (e ∷ entries) n =
     of_mark _ (mark (codes "lo")) (ap mark (append_assoc (log_line e) (flat_map log_line entries) (end_line n)) ∙ entry_mark e _)
-    (λ f. omega (arith, f)) (λ f. omega (arith, f)) (λ f. omega (arith, f)) (λ f. omega (arith, f))
+    (λ f. omega (arith, f)) (λ f. omega (arith, f)) (λ f. omega (arith, f)) (λ f. omega (arith, f)) (λ f. omega (arith, f))
 ends (c ∷ clients) entries n =
     let rest : List ℕ = flat_map log_line entries ++ end_line n in
     let whole = append_assoc (client_line 1 c) (client_lines 2 clients) rest in
@@ -245,6 +269,7 @@ ends (c ∷ clients) entries n =
       event = λ f. omega (arith, at, f);
       client = λ n asked more fits client e. phase_apart 1 n c.phase c.accepted asked _ more (omega arith) fits client (sym whole ∙ e);
       twin = λ f. omega (arith, at, f);
+      marks = λ f. omega (arith, at, f);
     }
 
 pub closing_ends : (w : World) (n : ℕ) → IsClosing (closing_lines w n)
@@ -259,32 +284,39 @@ pub no_twin : (clients : List Client) (trace : List Moment) (r : List ℕ) → N
 no_twin clients [] r h = h
 no_twin clients (m ∷ earlier) r h = let at = events_lead clients m earlier r in λ f. omega (arith, at, f)
 
+pub no_marks : (clients : List Client) (trace : List Moment) (r : List ℕ) → NoMarks r → NoMarks (event_lines clients trace ++ r)
+no_marks clients [] r h = h
+no_marks clients (m ∷ earlier) r h = let at = events_lead clients m earlier r in λ f. omega (arith, at, f)
+
 -- the whole header
 header_then : (schedule : Schedule) (r : List ℕ)
     → header schedule ++ r ≡ line (codes "ftreplay") (codes "1" ∷ []) ++ (line (codes "service") (service_text schedule.service ∷ [])
     ++ (line (codes "server") (address_text schedule.server.ip schedule.server.port ∷ [])
-    ++ (twin_line schedule.twin ++ (schedule_lines 1 schedule.clients ++ r))))
+    ++ (twin_line schedule.twin ++ (marks_line schedule.marks ++ (schedule_lines 1 schedule.clients ++ r)))))
 unfolding header
 header_then schedule r =
     let first : List ℕ = line (codes "ftreplay") (codes "1" ∷ []) in
     let service : List ℕ = line (codes "service") (service_text schedule.service ∷ []) in
     let server : List ℕ = line (codes "server") (address_text schedule.server.ip schedule.server.port ∷ []) in
     let twin : List ℕ = twin_line schedule.twin in
+    let marks : List ℕ = marks_line schedule.marks in
     let clients : List ℕ = schedule_lines 1 schedule.clients in
-    append_assoc first (service ++ (server ++ (twin ++ clients))) r
-    ∙ ap (λ t. first ++ t) (append_assoc service (server ++ (twin ++ clients)) r
-    ∙ ap (λ t. service ++ t) (append_assoc server (twin ++ clients) r ∙ ap (λ t. server ++ t) (append_assoc twin clients r)))
+    append_assoc first (service ++ (server ++ (twin ++ (marks ++ clients)))) r
+    ∙ ap (λ t. first ++ t) (append_assoc service (server ++ (twin ++ (marks ++ clients))) r
+    ∙ ap (λ t. service ++ t) (append_assoc server (twin ++ (marks ++ clients)) r
+    ∙ ap (λ t. server ++ t) (append_assoc twin (marks ++ clients) r ∙ ap (λ t. twin ++ t) (append_assoc marks clients r))))
 
 -- the same was asked, but for the events
 pub record IsSameHeader (schedule other : Schedule) : Type 0 where
   pub service : schedule.service ≡ other.service
   pub server : schedule.server ≡ other.server
   pub twin : schedule.twin ≡ other.twin
+  pub marks : schedule.marks ≡ other.marks
   pub clients : schedule.clients ≡ other.clients
 
 pub header_cut : (schedule other : Schedule) (r s : List ℕ) → FitsSchedule schedule → FitsSchedule other → NoClient r → NoClient s
-    → NoTwin r → NoTwin s → header schedule ++ r ≡ header other ++ s → IsSameHeader schedule other × (r ≡ s)
-header_cut schedule other r s p q nr ns tr ts e =
+    → NoTwin r → NoTwin s → NoMarks r → NoMarks s → header schedule ++ r ≡ header other ++ s → IsSameHeader schedule other × (r ≡ s)
+header_cut schedule other r s p q nr ns tr ts mr ms e =
     let all = append_cancel_left (line (codes "ftreplay") (codes "1" ∷ [])) _ _ (sym (header_then schedule r) ∙ (e ∙ header_then other s)) in
     let service = line_cut (codes "service") (service_text schedule.service ∷ []) (service_text other.service ∷ []) _ _
     (word_service schedule.service, tt) (word_service other.service, tt) all in
@@ -293,13 +325,17 @@ header_cut schedule other r s p q nr ns tr ts e =
     (word_key (record { ip = other.server.ip; port = other.server.port }) (q.ip, q.port), tt) service.1 in
     let addresses : address_text schedule.server.ip schedule.server.port ≡ address_text other.server.ip other.server.port = ap verb server.0 in
     let address = address_same schedule.server.ip other.server.ip schedule.server.port other.server.port p.ip q.ip p.port q.port addresses in
-    let twin = twin_cut schedule.twin other.twin (schedule_lines 1 schedule.clients ++ r) (schedule_lines 1 other.clients ++ s)
-    (clients_no_twin 1 schedule.clients r tr) (clients_no_twin 1 other.clients s ts) server.1 in
-    let clients = clients_cut 1 schedule.clients other.clients r s p.clients q.clients (omega (arith, p.count)) (omega (arith, q.count)) nr ns twin.1 in (
+    let one : List ℕ = schedule_lines 1 schedule.clients ++ r in
+    let two : List ℕ = schedule_lines 1 other.clients ++ s in
+    let twin = twin_cut schedule.twin other.twin (marks_line schedule.marks ++ one) (marks_line other.marks ++ two)
+    (marks_no_twin schedule.marks one (clients_no_twin 1 schedule.clients r tr)) (marks_no_twin other.marks two (clients_no_twin 1 other.clients s ts)) server.1 in
+    let marks = marks_cut schedule.marks other.marks one two p.marks q.marks (clients_no_marks 1 schedule.clients r mr) (clients_no_marks 1 other.clients s ms) twin.1 in
+    let clients = clients_cut 1 schedule.clients other.clients r s p.clients q.clients (omega (arith, p.count)) (omega (arith, q.count)) nr ns marks.1 in (
       record {
         service = service_same schedule.service other.service (ap verb service.0);
         server = λ i. record { ip = address.0 i; port = address.1 i };
         twin = twin.0;
+        marks = marks.0;
         clients = clients.0;
       },
       clients.1,

@@ -14,7 +14,7 @@ use Rattle.ft_model.specs.Readable.{FitsEvent, FitsSchedule, IsReadableTurn}
 use Rattle.ft_model.proofs.OneTrace.{traces_once, moment_once}
 use Rattle.ft_model.proofs.ReportLines.{packets_cut}
 use Rattle.ft_model.proofs.ReportTurns.{HasFront, TellsPackets, turns_same, events_same}
-use Rattle.ft_model.proofs.ReportHeader.{IsClosing, closing_ends, no_client, no_twin, IsSameHeader, header_cut}
+use Rattle.ft_model.proofs.ReportHeader.{IsClosing, closing_ends, no_client, no_twin, no_marks, IsSameHeader, header_cut}
 use Rattle.ft_model.proofs.Lists.{all_front}
 
 -- the report of a trace after its header
@@ -35,7 +35,8 @@ told schedule other P fits too front tells trace also p q e =
     let two : IsClosing (behind other also) = closing_ends (world_after (start_of other) also) (length also) in
     let head = header_cut schedule other (event_lines cs trace ++ behind schedule trace) (event_lines ds also ++ behind other also) fits too
     (no_client cs trace (behind schedule trace) one.client) (no_client ds also (behind other also) two.client)
-    (no_twin cs trace (behind schedule trace) one.twin) (no_twin ds also (behind other also) two.twin) e in
+    (no_twin cs trace (behind schedule trace) one.twin) (no_twin ds also (behind other also) two.twin)
+    (no_marks cs trace (behind schedule trace) one.marks) (no_marks ds also (behind other also) two.marks) e in
     let same : IsSameHeader schedule other = head.0 in
     let lines : event_lines cs trace ++ behind schedule trace ≡ event_lines cs also ++ behind other also =
     head.1 ∙ ap (λ l. event_lines l also ++ behind other also) (sym (same_clients schedule other same)) in
@@ -60,10 +61,10 @@ played : {State : Type 0} (service : ℕ → Machine State) (schedule : Schedule
 played service schedule trace fits l = (l.joint, l.allowed, subst (AllByRecursion FitsEvent) (sym l.events_are) fits.events)
 
 same_start : (schedule other : Schedule) → IsSameHeader schedule other → start_of schedule ≡ start_of other
-same_start schedule other h = λ i. start_of (record { service = h.service i; server = h.server i; twin = h.twin i; clients = h.clients i; events = schedule.events })
+same_start schedule other h = λ i. start_of (record { service = h.service i; server = h.server i; twin = h.twin i; marks = h.marks i; clients = h.clients i; events = schedule.events })
 
 same_schedule : (schedule other : Schedule) → IsSameHeader schedule other → schedule.events ≡ other.events → schedule ≡ other
-same_schedule schedule other h e = λ i. record { service = h.service i; server = h.server i; twin = h.twin i; clients = h.clients i; events = e i }
+same_schedule schedule other h e = λ i. record { service = h.service i; server = h.server i; twin = h.twin i; marks = h.marks i; clients = h.clients i; events = e i }
 
 pub legal_told : {State : Type 0} (service : ℕ → Machine State) (schedule other : Schedule) (trace also : List Moment) → FitsSchedule schedule → FitsSchedule other
     → Legal service schedule trace → Legal service other also → report schedule trace ≡ report other also → (schedule ≡ other) × (trace ≡ also)
@@ -90,9 +91,9 @@ AreReadable schedule trace = AllByRecursion (IsReadableTurn schedule.server (cli
 
 pub readable_told : (schedule other : Schedule) (trace also : List Moment) → FitsSchedule schedule → FitsSchedule other
     → AreReadable schedule trace → AreReadable other also → report schedule trace ≡ report other also
-    → (schedule.service ≡ other.service) × (schedule.server ≡ other.server) × (schedule.twin ≡ other.twin) × (schedule.clients ≡ other.clients) × (turns_of trace ≡ turns_of also)
+    → (schedule.service ≡ other.service) × (schedule.server ≡ other.server) × (schedule.twin ≡ other.twin) × (schedule.marks ≡ other.marks) × (schedule.clients ≡ other.clients) × (turns_of trace ≡ turns_of also)
 readable_told schedule other trace also fits too p q e =
     let all = told schedule other (AreReadable schedule) fits too (readable_front schedule.server (clients_of schedule.server schedule.clients))
     (readable_tells schedule.server (clients_of schedule.server schedule.clients)) trace also p
     (λ h. subst₂ (λ server clients. AllByRecursion (IsReadableTurn server clients) also) (sym h.server) (sym (same_clients schedule other h)) q) e in
-    (all.0.service, all.0.server, all.0.twin, all.0.clients, all.1)
+    (all.0.service, all.0.server, all.0.twin, all.0.marks, all.0.clients, all.1)

@@ -73,12 +73,12 @@ by_concern : {State : Type 0} (service : Machine State) (node : Node) (input : I
 by_concern service node input true place now later sent other s t = meets_once service node input place now later sent other s t
 by_concern service node input false place now later sent other s t = (s.0 ∙ sym t.0, s.1 ∙ sym t.1)
 
-place_once : {State : Type 0} (service : Machine State) (node : Node) (input : Input) (place : Place) (now later : List Place) (sent other : List Packet)
+pub place_once : {State : Type 0} (service : Machine State) (node : Node) (input : Input) (place : Place) (now later : List Place) (sent other : List Packet)
     → PlaceTurn service node input place now sent → PlaceTurn service node input place later other → (now ≡ later) × (sent ≡ other)
 place_once service node input place now later sent other s t =
     by_concern service node input (concerns node input (key_of place)) place now later sent other s t
 
-revives_once : {State : Type 0} (service : Machine State) (node : Node) (place : Place) (now later : List Place) (sent other : List Packet)
+pub revives_once : {State : Type 0} (service : Machine State) (node : Node) (place : Place) (now later : List Place) (sent other : List Packet)
     → Revives service node place now sent → Revives service node place later other → (now ≡ later) × (sent ≡ other)
 revives_once service node (Lives p) now later sent other s t = lives_once service node Begins p now later sent other s t
 revives_once service node _ now later sent other s t = (s.0 ∙ sym t.0, s.1 ∙ sym t.1)

@@ -1,6 +1,6 @@
 -- The grammar of a schedule's text: the schedule that it spells, or the first line that is refused and why.
 --
--- First `service NAME`, then `server ADDRESS`, then `twin` where there are two loggers, then 0 to 16 times `client N ADDRESS ISN SCRIPT` with N from 1 in order,
+-- First `service NAME`, then `server ADDRESS`, then `twin` where there are two loggers or `marks EVERY` where the server marks the log, then 0 to 16 times `client N ADDRESS ISN SCRIPT` with N from 1 in order,
 -- then events: `boot BOOT ISN`, `crash`, `tick`, `deliver P`, `flip P BIT`, `open N W`, `send N FROM LEN`, `fin N`, `ack N W`, `reset N`, `stop PART`. A line
 -- without words, or whose first byte is `#`, is skipped, but counted.
 use Rattle.std.specs.Prelude.{ℕ, Bool, true, false, ◌+◌, ◌-◌, ◌^◌, ◌==◌, ◌&&◌, ◌||◌, not, nat_lt, nat_le, Option, Some, None, is_none, option_map, Result, Ok, Err, List, [], ◌∷◌, ◌++◌, length, codes, if◌then◌else◌}
@@ -58,6 +58,10 @@ window word = number 0 65535 word
 -- one of two loggers: 1 is the head, 2 the tail
 abbrev pub part_number : List ℕ → Result ℕ LineWhy
 part_number word = number 1 2 word
+
+-- after how many reads a mark is due
+abbrev pub every_number : List ℕ → Result ℕ LineWhy
+every_number word = number 1 1000 word
 
 -- a number of 32 bits: an initial number, a bit, an offset or a length
 abbrev pub long_number : List ℕ → Result ℕ LineWhy
@@ -138,6 +142,10 @@ unfoldable pub server_line : List (List ℕ) → Result Addr LineWhy
 server_line (address ∷ []) = ok_or (addr_of address) why.Address
 server_line _ = Err why.Count
 
+unfoldable pub marks_line : List (List ℕ) → Result ℕ LineWhy
+marks_line (every ∷ []) = every_number every
+marks_line _ = Err why.Count
+
 -- whether the server or an earlier client has the address
 unfoldable pub is_taken : Draft → Addr → Bool
 is_taken (Begun schedule) addr =
@@ -165,6 +173,7 @@ abbrev pub line_from : Draft → Keyword → List (List ℕ) → Result Line Lin
 line_from draft keyword.Service words = service_line words >>= λ kind. Ok (line.Service kind)
 line_from draft keyword.Server words = server_line words >>= λ addr. Ok (line.Server addr)
 line_from draft keyword.Twin words = bare_line line.Twin words
+line_from draft keyword.Marks words = marks_line words >>= λ every. Ok (line.Marks every)
 line_from draft keyword.Client words = client_line draft words >>= λ client. Ok (line.Client client)
 line_from draft (keyword.Event v) words = event_line v words >>= λ e. Ok (line.Event e)
 
@@ -198,8 +207,9 @@ keyword_of word =
     if bytes_eq word (codes "service") then Some keyword.Service
     else (if bytes_eq word (codes "server") then Some keyword.Server
     else (if bytes_eq word (codes "twin") then Some keyword.Twin
+    else (if bytes_eq word (codes "marks") then Some keyword.Marks
     else (if bytes_eq word (codes "client") then Some keyword.Client
-    else option_map keyword.Event (verb_of word))))
+    else option_map keyword.Event (verb_of word)))))
 
 -- a service line without a name is left to the test `count`
 unfoldable pub names_no_service : Keyword → List (List ℕ) → Bool
@@ -220,14 +230,15 @@ has_next_number count (client ∷ more) = is_next count (numeral 20 client)
 unfoldable pub may_join : Schedule → List (List ℕ) → Bool
 may_join schedule words = length schedule.events == 0 && nat_lt (length schedule.clients) 16 && has_next_number (length schedule.clients) words
 
--- that there are two loggers is said directly behind the server's line
-unfoldable pub may_pair : Schedule → Bool
-may_pair schedule = length schedule.events == 0 && length schedule.clients == 0 && not schedule.twin
+-- that there are two loggers, or that the server marks the log, is said directly behind the server's line
+unfoldable pub has_only_server : Schedule → Bool
+has_only_server schedule = length schedule.events == 0 && length schedule.clients == 0 && not schedule.twin && is_none schedule.marks
 
 abbrev pub may_stand : Draft → Keyword → List (List ℕ) → Bool
 may_stand Empty keyword.Service words = true
 may_stand (Named kind) keyword.Server words = true
-may_stand (Begun schedule) keyword.Twin words = may_pair schedule
+may_stand (Begun schedule) keyword.Twin words = has_only_server schedule
+may_stand (Begun schedule) keyword.Marks words = has_only_server schedule
 may_stand (Begun schedule) keyword.Client words = may_join schedule words
 may_stand (Begun schedule) (keyword.Event v) words = true
 may_stand _ _ words = false
@@ -254,8 +265,9 @@ line_of draft text = if is_printable text then line_of_words draft (words_of tex
 -- what a line adds to the lines before it
 abbrev pub with_line : Draft → Line → Draft
 with_line Empty (line.Service kind) = Named kind
-with_line (Named kind) (line.Server addr) = Begun (record { service = kind; server = addr; twin = false; clients = []; events = [] })
+with_line (Named kind) (line.Server addr) = Begun (record { service = kind; server = addr; twin = false; marks = None; clients = []; events = [] })
 with_line (Begun schedule) line.Twin = Begun (record schedule { twin = true })
+with_line (Begun schedule) (line.Marks every) = Begun (record schedule { marks = Some every })
 with_line (Begun schedule) (line.Client client) = Begun (record schedule { clients = schedule.clients ++ client ∷ [] })
 with_line (Begun schedule) (line.Event e) = Begun (record schedule { events = schedule.events ++ e ∷ [] })
 with_line draft _ = draft

@@ -88,6 +88,7 @@ FitsClient asked = FitsKey asked.key × FitsU64 asked.isn × FitsScript asked.sc
 pub record FitsSchedule (schedule : Schedule) : Type 0 where
   pub ip : schedule.server.ip < 2 ^ 32
   pub port : schedule.server.port < 2 ^ 16
+  pub marks : FitsOption schedule.marks
   pub clients : AllByRecursion FitsClient schedule.clients
   pub count : FitsU64 (length schedule.clients)
   pub events : AllByRecursion FitsEvent schedule.events

@@ -1,5 +1,5 @@
 -- The report of a run: what was asked for, each event with the packets that it sent, and the state of clients and log at the end.
-use Rattle.std.specs.Prelude.{ℕ, Bool, true, false, codes, ◌+◌, position, List, [], ◌∷◌, ◌++◌, length, map}
+use Rattle.std.specs.Prelude.{ℕ, Bool, true, false, codes, ◌+◌, position, Option, None, Some, List, [], ◌∷◌, ◌++◌, length, map}
 use Rattle.std.specs.List.{flat_map}
 use Rattle.std.specs.Option.{option_map_or}
 use Rattle.std.specs.Fmt.{decimal}
@@ -38,11 +38,16 @@ abbrev pub twin_line : Bool → List ℕ
 twin_line true = line (codes "twin") []
 twin_line false = []
 
+-- that the server marks the log
+abbrev pub marks_line : Option ℕ → List ℕ
+marks_line None = []
+marks_line (Some every) = line (codes "marks") (decimal every ∷ [])
+
 unfoldable pub header : Schedule → List ℕ
 header schedule =
     line (codes "ftreplay") (codes "1" ∷ []) ++ (line (codes "service") (service_text schedule.service ∷ [])
     ++ (line (codes "server") (address_text schedule.server.ip schedule.server.port ∷ [])
-    ++ (twin_line schedule.twin ++ schedule_lines 1 schedule.clients)))
+    ++ (twin_line schedule.twin ++ (marks_line schedule.marks ++ schedule_lines 1 schedule.clients))))
 
 -- an event, as a schedule spells it
 abbrev pub event_words : Event → List (List ℕ)

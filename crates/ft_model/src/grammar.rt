@@ -1,7 +1,7 @@
 //! The grammar of a schedule's text is only a definition, `specs/Grammar.antt`. Here are laws about it, and texts that were worked out by hand. Nothing here
 //! runs; each function is a theorem.
 
-ghost use Rattle.std.specs.Prelude.{◌≡◌, ℕ, true, false, List, [], ◌∷◌, codes, Ok, Err};
+ghost use Rattle.std.specs.Prelude.{◌≡◌, ℕ, true, false, None, Some, List, [], ◌∷◌, codes, Ok, Err};
 ghost use Rattle.ft_model.specs.Accepted.{IsAccepted};
 ghost use Rattle.ft_model.specs.Grammar.{read_text};
 ghost use Rattle.ft_model.specs.Grammar.Refusal.{BadLine};
@@ -16,15 +16,16 @@ ghost use Rattle.ft_model.specs.declared.schedule.Script.TheVariants.{Bytes, Fil
 ghost use Rattle.ft_model.specs.declared.schedule.ServiceKind.TheVariants.{Echo, Meter};
 
 /// Texts and what they spell: a schedule without clients and events, one in which a client says hello to an echo service, one of two clients and the other
-/// kinds of events, one of two loggers of which one stops, and refused lines.
+/// kinds of events, one of two loggers of which both are asked to stop, two in which the server marks the log, and refused lines.
 pub fn worked_texts()
     ensures empty { read_text (codes "service echo\nserver 192.0.2.100:7\n")
-        ≡ Ok (record { service = Echo; server = record { ip = 3221226084; port = 7 }; twin = false; clients = []; events = [] }) }
+        ≡ Ok (record { service = Echo; server = record { ip = 3221226084; port = 7 }; twin = false; marks = None; clients = []; events = [] }) }
     ensures first_path { read_text (codes "service echo\nserver 192.0.2.100:7\nclient 1 192.0.2.1:40000 1000 hex:68656c6c6f\nboot 1 5000\ndeliver 1\ndeliver 2\nopen 1 65535\ndeliver 3\ndeliver 4\ndeliver 5\ndeliver 6\nack 1 65535\ndeliver 7\nsend 1 0 5\ndeliver 8\ndeliver 10\ndeliver 12\ndeliver 11\ndeliver 14\ndeliver 15\n")
         ≡ Ok (record {
           service = Echo;
           server = record { ip = 3221226084; port = 7 };
           twin = false;
+          marks = None;
           clients = record { key = record { ip = 3221225985; port = 40000 }; isn = 1000; script = Bytes (codes "hello") } ∷ [];
           events = Boot 1 5000 ∷ Deliver 1 ∷ Deliver 2 ∷ Begin 1 65535 ∷ Deliver 3 ∷ Deliver 4 ∷ Deliver 5 ∷ Deliver 6 ∷ Ack 1 65535
               ∷ Deliver 7 ∷ Send 1 0 5 ∷ Deliver 8 ∷ Deliver 10 ∷ Deliver 12 ∷ Deliver 11 ∷ Deliver 14 ∷ Deliver 15 ∷ [];
@@ -38,6 +39,7 @@ pub fn worked_texts()
           service = Meter;
           server = record { ip = 3221226084; port = 7 };
           twin = false;
+          marks = None;
           clients = record { key = record { ip = 3221225985; port = 40000 }; isn = 1000; script = Fill 9 }
               ∷ record { key = record { ip = 3221225985; port = 40001 }; isn = 0; script = Bytes [] } ∷ [];
           events = Boot 1 5000 ∷ Crash ∷ Boot 2 0 ∷ Flip 2 319 ∷ Tick ∷ Fin 2 ∷ Reset 1 ∷ [];
@@ -47,6 +49,7 @@ pub fn worked_texts()
           service = Echo;
           server = record { ip = 3221226084; port = 7 };
           twin = true;
+          marks = None;
           clients = record { key = record { ip = 3221225985; port = 40000 }; isn = 1000; script = Bytes (codes "hello") } ∷ [];
           events = Boot 1 5000 ∷ Stop 1 ∷ Stop 2 ∷ [];
         }) }
@@ -54,6 +57,24 @@ pub fn worked_texts()
     ensures second_pair { read_text (codes "service echo\nserver 192.0.2.100:7\ntwin\ntwin x\n") ≡ Err (BadLine 4 why.Place) }
     ensures long_pair { read_text (codes "service echo\nserver 192.0.2.100:7\ntwin x\n") ≡ Err (BadLine 3 why.Count) }
     ensures early_pair { read_text (codes "service echo\ntwin\n") ≡ Err (BadLine 2 why.Place) }
+    ensures marks { read_text (codes "service echo\nserver 192.0.2.100:7\n marks 0004 \nclient 1 192.0.2.1:40000 1000 -\n")
+        ≡ Ok (record {
+          service = Echo;
+          server = record { ip = 3221226084; port = 7 };
+          twin = false;
+          marks = Some 4;
+          clients = record { key = record { ip = 3221225985; port = 40000 }; isn = 1000; script = Bytes [] } ∷ [];
+          events = [];
+        }) }
+    ensures most_marks { read_text (codes "service echo\nserver 192.0.2.100:7\nmarks 1000\n")
+        ≡ Ok (record { service = Echo; server = record { ip = 3221226084; port = 7 }; twin = false; marks = Some 1000; clients = []; events = [] }) }
+    ensures no_marks { read_text (codes "service echo\nserver 192.0.2.100:7\nmarks 0\n") ≡ Err (BadLine 3 why.Number) }
+    ensures rare_marks { read_text (codes "service echo\nserver 192.0.2.100:7\nmarks 1001\n") ≡ Err (BadLine 3 why.Number) }
+    ensures bare_marks { read_text (codes "service echo\nserver 192.0.2.100:7\nmarks\n") ≡ Err (BadLine 3 why.Count) }
+    ensures late_marks { read_text (codes "service echo\nserver 192.0.2.100:7\nboot 1 5000\nmarks 4\n") ≡ Err (BadLine 4 why.Place) }
+    ensures second_marks { read_text (codes "service echo\nserver 192.0.2.100:7\nmarks 4\nmarks 4\n") ≡ Err (BadLine 4 why.Place) }
+    ensures marked_pair { read_text (codes "service echo\nserver 192.0.2.100:7\nmarks 4\ntwin\n") ≡ Err (BadLine 4 why.Place) }
+    ensures pair_with_marks { read_text (codes "service echo\nserver 192.0.2.100:7\ntwin\nmarks 4\n") ≡ Err (BadLine 4 why.Place) }
     ensures third_logger { read_text (codes "service echo\nserver 192.0.2.100:7\nstop 3\n") ≡ Err (BadLine 3 why.Number) }
 {}
 

@@ -27,6 +27,7 @@ pub enum Keyword {
     Service,
     Server,
     Twin,
+    Marks,
     Client,
     Event(Verb),
 }
@@ -38,6 +39,8 @@ pub enum Line {
     Server(Addr),
     /// There are two loggers.
     Twin,
+    /// The server marks the log after this many reads.
+    Marks(u32),
     Client(ClientLine),
     Event(Event),
 }

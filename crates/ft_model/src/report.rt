@@ -100,7 +100,7 @@ pub fn turns_of_reports()
         → AllByRecursion (IsReadableTurn schedule.server (clients_of schedule.server schedule.clients)) trace
         → AllByRecursion (IsReadableTurn other.server (clients_of other.server other.clients)) also
         → report schedule trace ≡ report other also
-        → (schedule.service ≡ other.service) × (schedule.server ≡ other.server) × (schedule.twin ≡ other.twin) × (schedule.clients ≡ other.clients) × (turns_of trace ≡ turns_of also) }
+        → (schedule.service ≡ other.service) × (schedule.server ≡ other.server) × (schedule.twin ≡ other.twin) × (schedule.marks ≡ other.marks) × (schedule.clients ≡ other.clients) × (turns_of trace ≡ turns_of also) }
 {}
 
 /// A report determines its schedule and its trace: two legal traces have the same report only where their schedules are the same, and the traces too.

@@ -164,6 +164,8 @@ pub struct Schedule {
     pub server: Addr,
     /// Whether two loggers keep the log, a head and a tail.
     pub twin: bool,
+    /// After how many reads the server marks the log, where it does.
+    pub marks: Option<u32>,
     /// At most 16 in a schedule that a text spells.
     pub clients: ClientLines,
     /// At most 100,000 in a schedule that a text spells.

@@ -62,7 +62,7 @@ quiet_where_it_is service p h =
     record { answered = four.one; acknowledged = four.two; reads_on = four.three; running = four.four }
 
 -- without its marks a turn is the one that it was
-without_append : (xs ys : List Outgoing) → without_marks (xs ++ ys) ≡ without_marks xs ++ without_marks ys
+pub without_append : (xs ys : List Outgoing) → without_marks (xs ++ ys) ≡ without_marks xs ++ without_marks ys
 without_append [] ys = refl
 without_append (Plain packet ∷ xs) ys = ap (λ l. packet ∷ l) (without_append xs ys)
 without_append (Mark_to_logger message ∷ xs) ys = without_append xs ys

@@ -65,7 +65,7 @@ pub logged_sound : {State : Type 0} (service : Machine State) → HasSmallOutput
 logged_sound service small start trace j = entries_sound service start (world_after start trace) (kept_after service small start trace j)
 
 -- what is fetched of a log whose entries are sound
-fronts_sound : {State : Type 0} (service : Machine State) (entries : List Entry) (fetched : List Fetched) → AllByRecursion (IsSoundEntry service) entries → AreFetched entries fetched
+pub fronts_sound : {State : Type 0} (service : Machine State) (entries : List Entry) (fetched : List Fetched) → AllByRecursion (IsSoundEntry service) entries → AreFetched entries fetched
     → AllByRecursion (IsSoundFront service) fetched
 fronts_sound service entries [] s a = tt
 fronts_sound service entries (f ∷ earlier) s a = (
@@ -78,7 +78,7 @@ not_either false false w = (refl, refl)
 not_either false true w = absurd (true≢false (sym w))
 not_either true b w = absurd (true≢false (sym w))
 
-wholes_sound : {State : Type 0} (service : Machine State) (entries : List Entry) (fetched : List Fetched) → AllByRecursion (IsSoundEntry service) entries → AreFetched entries fetched
+pub wholes_sound : {State : Type 0} (service : Machine State) (entries : List Entry) (fetched : List Fetched) → AllByRecursion (IsSoundEntry service) entries → AreFetched entries fetched
     → AreSound service fetched
 wholes_sound service entries [] s a = tt
 wholes_sound service entries (f ∷ earlier) s a =
@@ -90,7 +90,7 @@ wholes_sound service entries (f ∷ earlier) s a =
     )
 
 -- what a server has after an answer that may come is fetched of the log
-answer_agrees : {State : Type 0} (service : Machine State) (start w : World) (node : Node) (message : Message) (count : ℕ) (fetched more : List Fetched) → Kept service start w → w.node ≡ Some node
+pub answer_agrees : {State : Type 0} (service : Machine State) (start w : World) (node : Node) (message : Message) (count : ℕ) (fetched more : List Fetched) → Kept service start w → w.node ≡ Some node
     → node.stage ≡ Fetching count fetched → MayCome w (Message_comes message) → fetched_then node message count fetched ≡ Some more → AreFetched w.log.entries more
 answer_agrees service start w node message count fetched more k up is sent got =
     let parts = some_if (message.boot == node.boot) (fetched_after (wanted count fetched) message.body fetched) more got in

@@ -1,6 +1,6 @@
 -- The complete run with a client without room: clients, log and server, from the boot to the output that is retransmitted. Twenty-five events, nineteen
 -- packets.
-use Rattle.std.specs.Prelude.{ℕ, codes, false, Some, List, [], ◌∷◌}
+use Rattle.std.specs.Prelude.{ℕ, codes, false, Some, None, List, [], ◌∷◌}
 use Rattle.seq_arith.specs.Message.Body.{HelloMsg, SummaryMsg, OpenedMsg, StableMsg, ReadsMsg}
 use Rattle.ft_model.specs.Client.{Client}
 use Rattle.ft_model.specs.Network.Packet.{To_server}
@@ -21,6 +21,7 @@ schedule = record {
   service = Echo;
   server = server;
   twin = false;
+  marks = None;
   clients = record { key = key; isn = 1000; script = Bytes hello_text } ∷ [];
   events = Boot 1 5000 ∷ Deliver 1 ∷ Deliver 2 ∷ Begin 1 0 ∷ Deliver 3 ∷ Deliver 4 ∷ Deliver 5 ∷ Deliver 6 ∷ Ack 1 0 ∷ Deliver 7 ∷ Send 1 0 5 ∷ Deliver 8
       ∷ Deliver 10 ∷ Deliver 12 ∷ Deliver 11 ∷ Deliver 14 ∷ Tick ∷ Tick ∷ Tick ∷ Ack 1 5 ∷ Deliver 17 ∷ Tick ∷ Tick ∷ Tick ∷ Tick ∷ [];

@@ -17,5 +17,14 @@ returns c = record {
   second_pair = refl;
   long_pair = refl;
   early_pair = refl;
+  marks = refl;
+  most_marks = refl;
+  no_marks = refl;
+  rare_marks = refl;
+  bare_marks = refl;
+  late_marks = refl;
+  second_marks = refl;
+  marked_pair = refl;
+  pair_with_marks = refl;
   third_logger = refl;
 }
