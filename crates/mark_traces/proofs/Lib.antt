@@ -1,16 +1,18 @@
 mod Own
-mod Packets
+pub mod Packets
 mod Steps
-mod Strip
-mod Turns
+pub mod Strip
+pub mod Turns
 mod Fronts
-mod Truth
-mod MarkSteps
-mod Noise
+pub mod Truth
+pub mod MarkSteps
+pub mod Noise
 mod LogSteps
-mod Traces
+pub mod Traces
 mod OneTurn
 mod OneWorld
 mod OneOutcome
 mod WorkedTrace
+mod WorkedLegal
+mod LawOfMarks
 mod Premises

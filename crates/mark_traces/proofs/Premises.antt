@@ -25,6 +25,7 @@ use Rattle.ft_model.specs.Restart.{Fetched, IsSoundEntry, wanted, fetched_after,
 use Rattle.ft_model.specs.Schedule.{clients_of, client_of}
 use Rattle.ft_model.specs.World.{World, IsStart, IsNewClient, MayCome}
 use Rattle.ft_model.specs.declared.schedule.ClientLine.{ClientLine}
+use Rattle.ft_model.proofs.Formed.{bytes_take}
 use Rattle.ft_model.proofs.Asked.{StageAgrees, progress_agrees}
 use Rattle.ft_model.proofs.Faithful.{units_within}
 use Rattle.ft_model.proofs.FaithfulOver.{script_of, isn_of, script_in}
@@ -149,10 +150,11 @@ held_leads : {State : Type 0} (by : Marker State) (start : World) (w : MarkedWor
     → AreFetched w.log.log.entries (f ∷ earlier) → key ≡ f.head.key → TellsTrueMark by w.log.log (HeldMsg key m)
     → IsFront by.service by.writing m (bytes_held w.log.log (HeldMsg key m)) (lengths_held w.log.log (HeldMsg key m))
     × AreFetched w.log.log.entries (with_front (bytes_held w.log.log (HeldMsg key m)) (lengths_held w.log.log (HeldMsg key m)) (f ∷ earlier))
+    × AreBytes (bytes_held w.log.log (HeldMsg key m))
 held_leads by start w f earlier key m below starts s a same told =
     let log : Log = w.log.log in
     let e : Entry = a.0 in
-    let Leads : List ℕ → List ℕ → Type 0 = λ bytes lengths. IsFront by.service by.writing m bytes lengths × AreFetched log.entries (with_front bytes lengths (f ∷ earlier)) in
+    let Leads : List ℕ → List ℕ → Type 0 = λ bytes lengths. IsFront by.service by.writing m bytes lengths × AreFetched log.entries (with_front bytes lengths (f ∷ earlier)) × AreBytes bytes in
     let key_is : e.key ≡ key = ap (λ (h : EntryHead). h.key) (sym a.2.head) ∙ sym same in
     let found : entry_of key log ≡ Some e = subst (λ k. entry_of k log ≡ Some e) key_is (finds_itself (λ x. x.key) log.entries (length earlier) e s.joint.asked.distinct a.1) in
     ⊎_elim
@@ -160,12 +162,15 @@ held_leads by start w f earlier key m below starts s a same told =
     subst₂ Leads (sym n.0) (sym n.1) (
       inl (ap (λ (x : Mark). x.reads) none, refl, refl),
       (e, a.1, record { head = a.2.head; bytes = (e.bytes, refl); lengths = (e.lengths, refl) }, a.3, a.4),
+      tt,
     ))
     (λ t. let one : t.0 ≡ e = some_is t.0 e (sym t.1 ∙ found) in
     let run : IsRunOf by.service by.writing e m = subst (λ x. IsRunOf by.service by.writing x m) one t.2 in
+    let written : AreBytes e.bytes = entry_bytes by.service start (seen w) key e starts s found in
     subst₂ Leads (sym (ap (λ (o : Option Entry). option_map_or (bytes_below m) o []) found)) (sym (ap (λ (o : Option Entry). option_map_or (lengths_below m) o []) found)) (
-      inr (below.back e m (entry_bytes by.service start (seen w) key e starts s found) run),
+      inr (below.back e m written run),
       (e, a.1, record { head = a.2.head; bytes = take_first m.length e.bytes; lengths = take_first m.reads e.lengths }, a.3, a.4),
+      bytes_take m.length e.bytes written,
     )) told
 
 leads_sound : {State : Type 0} (by : Marker State) (start : World) (w : MarkedWorld) (fetched : List Fetched) (awaits : Bool) (body : MarkBody) (m : Mark) → BelowLaw by → IsStart start → Sound by.service start (seen w)
@@ -179,6 +184,7 @@ leads_sound by start w (f ∷ earlier) awaits (HeldMsg key held) m below starts 
     subst (λ y. LeadsToSound by w.log.log (HeldMsg key held) (record { entries = f ∷ earlier; awaits_mark = awaits }) y) (some_is held m parts.1)
     (record {
       front = x.0;
+      bytes = x.2;
       whole = wholes_sound by.service w.log.log.entries (with_front (bytes_held w.log.log (HeldMsg key held)) (lengths_held w.log.log (HeldMsg key held)) (f ∷ earlier)) entries x.1;
       fronts = fronts_sound by.service w.log.log.entries (with_front (bytes_held w.log.log (HeldMsg key held)) (lengths_held w.log.log (HeldMsg key held)) (f ∷ earlier)) entries x.1;
     })

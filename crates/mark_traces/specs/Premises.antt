@@ -2,6 +2,7 @@
 use Rattle.std.specs.Prelude.{IfSome}
 use Rattle.std.specs.List.{AllByRecursion}
 use Rattle.seq_arith.specs.Mark.{Mark, MarkBody, MarkMessage}
+use Rattle.server_trait.specs.Service.{AreBytes}
 use Rattle.ft_model.specs.Lawful.{AreSound}
 use Rattle.ft_model.specs.Log.{Log}
 use Rattle.ft_model.specs.Node.{Stage}
@@ -11,9 +12,10 @@ use Rattle.trace_laws.specs.Premises.{IsSoundFront}
 use Rattle.mark_traces.specs.MarkedNode.{Marker, MarkedNode, so_far}
 use Rattle.mark_traces.specs.MarkedWorld.{bytes_held, lengths_held}
 
--- once a mark has come, the entries that are whole are sound, and all are prefixes of sound ones
+-- once a mark has come, what is below it is bytes, the entries that are whole are sound, and all are prefixes of sound ones
 pub record LeadsToSound {State : Type 0} (by : Marker State) (log : Log) (body : MarkBody) (before : FetchedSoFar) (m : Mark) : Type 0 where
   pub front : IsFront by.service by.writing m (bytes_held log body) (lengths_held log body)
+  pub bytes : AreBytes (bytes_held log body)
   pub whole : AreSound by.service (begun_on (bytes_held log body) (lengths_held log body) before).entries
   pub fronts : AllByRecursion (IsSoundFront by.service) (begun_on (bytes_held log body) (lengths_held log body) before).entries
 

@@ -17,7 +17,10 @@ use Rattle.ft_model.specs.Node.Input.{Packet_comes}
 use Rattle.ft_model.specs.ServingTurn.{concerns}
 use Rattle.ft_model.specs.World.{World, Moment}
 use Rattle.ft_model.specs.declared.event.Event.{Event}
-use Rattle.ft_model.specs.declared.event.Event.TheVariants.{Boot, Crash, Deliver, Ack}
+use Rattle.ft_model.specs.declared.event.Event.TheVariants.{Boot, Crash, Deliver, Begin, Send, Ack}
+use Rattle.ft_model.specs.declared.schedule.Schedule.{Schedule}
+use Rattle.ft_model.specs.declared.schedule.Script.TheVariants.{Bytes}
+use Rattle.ft_model.specs.declared.schedule.ServiceKind.TheVariants.{Echo}
 use Rattle.ft_model.specs.WorkedRuns.Common.{server, key, echo, hello_text, client_segment, from_client, to_client, to_log, from_log, part_with, head_with, fetched_with, congestion_with}
 use Rattle.ft_model.specs.WorkedRuns.FirstPath as path
 use Rattle.mark_laws.specs.MarkedLog.{MarkedLog, no_mark}
@@ -162,3 +165,16 @@ first_path = map plainly path.trace
 abbrev pub trace : List MarkedMoment
 trace =
     moment_28 ∷ moment_27 ∷ moment_26 ∷ moment_25 ∷ moment_24 ∷ moment_23 ∷ moment_22 ∷ moment_21 ∷ moment_20 ∷ moment_19 ∷ moment_18 ∷ first_path
+
+-- the schedule of this run: a mark is due after every read
+abbrev pub schedule : Schedule
+schedule = record {
+  service = Echo;
+  server = server;
+  twin = false;
+  marks = Some 1;
+  clients = record { key = key; isn = 1000; script = Bytes hello_text } ∷ [];
+  events = Boot 1 5000 ∷ Deliver 1 ∷ Deliver 2 ∷ Begin 1 65535 ∷ Deliver 3 ∷ Deliver 4 ∷ Deliver 5 ∷ Deliver 6 ∷ Ack 1 65535 ∷ Deliver 7 ∷ Send 1 0 5 ∷ Deliver 8
+      ∷ Deliver 10 ∷ Deliver 12 ∷ Deliver 11 ∷ Deliver 14 ∷ Deliver 15 ∷ Ack 1 65535 ∷ Deliver 16 ∷ Deliver 18 ∷ Crash ∷ Boot 2 900000 ∷ Deliver 20 ∷ Deliver 21
+      ∷ Deliver 22 ∷ Deliver 23 ∷ Deliver 24 ∷ Deliver 25 ∷ [];
+}

@@ -2,30 +2,55 @@
 //! accept is masked. Nothing here runs; each function is a theorem.
 #![tactic(auto)]
 
-ghost use Rattle.std.specs.Prelude.{◌≡◌, ℕ, true, Some, None, List};
+ghost use Rattle.std.specs.Prelude.{◌≡◌, ℕ, true, Some, None, List, [], ◌∷◌};
+ghost use Rattle.ft_io.specs.declared.Key.{Key};
 ghost use Rattle.seq_arith.specs.Mark.{MarkMessage};
+ghost use Rattle.server_trait.specs.Saved.{writing};
 ghost use Rattle.server_trait.specs.Service.{machine};
 ghost use Rattle.ft_model.specs.Lawful.{IsNearInput, IsSoundInput, fence};
 ghost use Rattle.ft_model.specs.Legal.{machines, start_of};
 ghost use Rattle.ft_model.specs.Masked.{Masked};
-ghost use Rattle.ft_model.specs.Node.{Input};
+ghost use Rattle.ft_model.specs.News.{News};
+ghost use Rattle.ft_model.specs.Node.{Input, Place};
+ghost use Rattle.ft_model.specs.Node.Place.{Lives};
+ghost use Rattle.ft_model.specs.Point.{Point};
 ghost use Rattle.ft_model.specs.Schedule.{kind_of};
+ghost use Rattle.ft_model.specs.ServingTurn.{LivesOn, ServingTurn};
+ghost use Rattle.ft_model.specs.Timer.{is_tick};
 ghost use Rattle.ft_model.specs.World.{MayCome};
 ghost use Rattle.ft_model.specs.declared.event.Event.{Event};
 ghost use Rattle.ft_model.specs.declared.schedule.Schedule.{Schedule};
 ghost use Rattle.trace_laws.specs.Premises.{HasSoundFronts};
-ghost use Rattle.mark_traces.specs.MarkedNode.{MarkedNode};
-ghost use Rattle.mark_traces.specs.MarkedLegal.{markers, marked_start, IsMarkedLegalFor};
+ghost use Rattle.mark_laws.specs.Marking.{Marking, MarkingTurn, Outgoing, with_new, without_marks};
+ghost use Rattle.mark_traces.specs.MarkedNode.{GoesMarked, MarkedNode, ServesMarked, marks_at};
+ghost use Rattle.mark_traces.specs.MarkedLegal.{markers, marked_start, IsMarkedLegalFor, MarkedLegal};
 ghost use Rattle.mark_traces.specs.MarkedOutcome.{IsMarkedWhole, IsMarkedRefused, IsMarkedPastPackets};
 ghost use Rattle.mark_traces.specs.MarkedWorld.{MarkedWorld, MarkedMoment, MarkedJoint, seen, parcel_at, marked_after, plain_trace};
 ghost use Rattle.mark_traces.specs.MarkedWorld.Parcel.{Mark_answered};
 ghost use Rattle.mark_traces.specs.Premises.{IsSoundMark};
 ghost use Rattle.mark_traces.specs.TrueMarks.{MarksAreTrue};
-ghost use Rattle.mark_traces.specs.WorkedTrace.{marker, start, trace};
+ghost use Rattle.mark_traces.specs.WorkedTrace.{marker, schedule, start, trace};
 
 use mark_laws::marking::marks_that_go_out_are_true;
 use mark_laws::{marks_stay_true, true_marks_are_read_back};
 use server_trait::Saved;
+
+/// A turn of a server that serves and marks is, without its marks, one of a server that serves.
+pub fn serving_turns_without_marks_are_lawful<S: Saved>()
+    ensures { (kind every opened : ℕ) (node : MarkedNode) (input : Input) (before after : List Place) (marking : Key → Marking) (sent : List Outgoing)
+        → ServesMarked (markers (machines S.started S.after) S.form S.state_of every kind) node input opened before after marking sent
+        → ServingTurn (machine (S.started kind) S.after) node.plain input opened before after (without_marks sent) }
+{}
+
+/// A live connection takes its turn by the law of marks: its marks are those of the law, and only its Done stands behind them.
+pub fn live_connections_follow_the_law_of_marks<S: Saved>()
+    ensures { (kind every : ℕ) (node : MarkedNode) (news : News) (p : Point) (now : List Place) (sent : List Outgoing)
+        → GoesMarked (λ place. LivesOn (machine (S.started kind) S.after) node.plain news p)
+        (marks_at (markers (machines S.started S.after) S.form S.state_of every kind) node.plain.boot (is_tick news) node.marking) (Lives p) now sent
+        → (q : Point) × (now ≡ Lives q ∷ [])
+        × MarkingTurn (machine (S.started kind) S.after) (writing S.form (S.state_of kind)) every node.plain.server node.plain.boot news p q
+        (node.marking q.key) (with_new (machine (S.started kind) S.after) (writing S.form (S.state_of kind)) every q (node.marking q.key)) sent }
+{}
 
 /// In every trace with marks each mark is true of its entry in the log: those under way, those that the log has, those that it holds out, and those that a server
 /// has outstanding.
@@ -102,5 +127,6 @@ pub fn marked_schedules_have_one_outcome<S: Saved>()
 /// A worked run: an echo service with a mark after every read crashes once its mark is kept, and the next incarnation begins at the mark. It asks for one entry and
 /// its mark, and continues the connection, though the Data that reported the acknowledgement was lost.
 pub fn worked_restart_from_a_mark()
-    ensures { MarkedJoint marker start trace }
+    ensures joint { MarkedJoint marker start trace }
+    ensures legal { MarkedLegal (λ kind. marker) schedule trace }
 {}
