@@ -1,0 +1,4 @@
+mod SeenTurns
+mod Formed
+mod Counted
+mod Written
