@@ -1,25 +1,29 @@
--- What bytes spell by the grammar of their direction: a segment between a client and the server, a message between the server and the logger, or a datagram
--- between two loggers.
+-- What bytes spell by the grammar of their direction: a segment between a client and the server, a message between the server and the logger, which may be about
+-- marks, or a datagram between two loggers.
 use Rattle.std.specs.Prelude.{ℕ, Option, None, Some, option_map, Result, Ok, Err, List}
 use Rattle.seq_arith.specs.PacketGrammar as segments
 use Rattle.seq_arith.specs.MessageGrammar as messages
+use Rattle.seq_arith.specs.MarkGrammar as marks
 use Rattle.seq_arith.specs.TwinGrammar as twins
+use Rattle.seq_arith.specs.Mark.{MarkMessage}
 use Rattle.seq_arith.specs.Message.{Message}
 use Rattle.seq_arith.specs.TwinDatagram.{TwinDatagram}
 use Rattle.seq_arith.specs.TwinDatagram.{TwinDatagram as datagrams}
 use Rattle.seq_arith.specs.declared.kinds.BadMsg.{BadMsg}
+use Rattle.seq_arith.specs.declared.mark.BadMark.{BadMark}
 use Rattle.seq_arith.specs.declared.twin.BadTwin.{BadTwin}
 use Rattle.ft_model.specs.Network.{Packet}
 use Rattle.ft_model.specs.Network.Packet.{To_server, To_client, To_logger, From_logger}
-use Rattle.ft_model.specs.Report.{content_words, forward_words, got_words}
+use Rattle.ft_model.specs.Report.{content_words, message_words, forward_words, got_words}
 use Rattle.ft_model.specs.declared.way.Way.{Way}
 use Rattle.ft_model.specs.declared.way.Way.TheVariants.{ClientToServer, ServerToClient, ServerToLogger, LoggerToServer, HeadToTail, TailToHead}
+use Rattle.mark_reports.specs.MarkedReport.{mark_words}
 
 abbrev pub said_as : {A E : Type 0} → (A → Packet) → Result A E → Option Packet
 said_as packet (Ok x) = Some (packet x)
 said_as packet (Err why) = None
 
--- the packet; none where the grammar refuses the bytes, or what goes between two loggers
+-- the packet; none where the grammar refuses the bytes, and for what is about marks or goes between two loggers
 abbrev pub packet_in : Way → List ℕ → Option Packet
 packet_in (ClientToServer n) bytes = said_as To_server (segments.reading bytes)
 packet_in (ServerToClient n) bytes = said_as To_client (segments.reading bytes)
@@ -27,6 +31,12 @@ packet_in ServerToLogger bytes = said_as To_logger (messages.reading bytes)
 packet_in LoggerToServer bytes = said_as From_logger (messages.reading bytes)
 packet_in HeadToTail bytes = None
 packet_in TailToHead bytes = None
+
+-- the words of what a server and its logger say: a message, or one about marks. Their magics differ, so no bytes are both
+abbrev pub logged_words : Result Message BadMsg → Result MarkMessage BadMark → Option (List (List ℕ))
+logged_words (Ok message) about_marks = Some (message_words message)
+logged_words (Err why) (Ok message) = Some (mark_words message)
+logged_words (Err why) (Err other) = None
 
 -- the words of a datagram between two loggers. One that tells a logger to serve alone is none of a run's packets
 abbrev pub forwarded_words : ℕ → Result Message BadMsg → Option (List (List ℕ))
@@ -40,6 +50,8 @@ told_words _ = None
 
 -- the words of a packet's line after its direction
 abbrev pub content_in : Way → List ℕ → Option (List (List ℕ))
+content_in ServerToLogger bytes = logged_words (messages.reading bytes) (marks.reading bytes)
+content_in LoggerToServer bytes = logged_words (messages.reading bytes) (marks.reading bytes)
 content_in HeadToTail bytes = told_words (twins.reading bytes)
 content_in TailToHead bytes = told_words (twins.reading bytes)
 content_in way bytes = option_map content_words (packet_in way bytes)

@@ -3,7 +3,7 @@
 ghost use Rattle.std.specs.Prelude.{◌≡◌, ◌-◌, ◌^◌, ◌≤◌, ℕ, List, [], ◌∷◌, IfOk, MatchResult};
 ghost use Rattle.ft_model.specs.Words.{words_of};
 ghost use Rattle.ft_model.specs.Grammar.{number, boot_number, packet_number, client_number, window, long_number, boot_line, bare_line, deliver_line, flip_line};
-ghost use Rattle.ft_model.specs.Grammar.{client_and_window, send_line, client_alone, part_number, stop_line, event_line};
+ghost use Rattle.ft_model.specs.Grammar.{client_and_window, send_line, client_alone, part_number, every_number, stop_line, event_line};
 
 use crate::spelling::read_number;
 use crate::words::next_word;
@@ -63,6 +63,13 @@ fn read_part(word: &[u8]) -> Result<u8, LineWhy>
     ensures { result ≡ part_number word.now }
 {
     Ok(number_in(word, 1, 2)? as u8)
+}
+
+/// After how many reads a mark is due.
+pub(crate) fn read_every(word: &[u8]) -> Result<u32, LineWhy>
+    ensures { result ≡ every_number word.now }
+{
+    Ok(number_in(word, 1, 1_000)? as u32)
 }
 
 fn read_window(word: &[u8]) -> Result<u16, LineWhy>

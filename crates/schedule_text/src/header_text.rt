@@ -3,7 +3,7 @@
 ghost use Rattle.std.specs.Prelude.{◌≡◌, ◌+◌, ◌++◌, ◌∷◌, ◌==◌, if◌then◌else◌, codes, length, OnOk, OnErr};
 ghost use Rattle.hex.specs.Hex.{encode_lower};
 ghost use Rattle.ft_model.specs.Texts.{address_text, service_text, script_text};
-ghost use Rattle.ft_model.specs.Report.{schedule_line, schedule_lines, twin_line, header};
+ghost use Rattle.ft_model.specs.Report.{schedule_line, schedule_lines, twin_line, marks_line, header};
 
 use crate::line_out::LineOut;
 use crate::line_text::{put_address, put_digits, put_hex_digits, put_number, put_word};
@@ -29,7 +29,7 @@ fn put_header(s: &Schedule, line: &mut LineOut) -> Result<(), NoMemory>
     line.append(b"ftreplay 1\nservice")?;
     put_word(service_word(s.service), line)?;
     put_server(s.server, line)?;
-    put_rest(s.twin, s.clients.as_slice(), line)
+    put_rest(s.twin, s.marks, s.clients.as_slice(), line)
 }
 
 /// The end of the service's line, and the server's line.
@@ -45,11 +45,17 @@ fn put_server(server: Addr, line: &mut LineOut) -> Result<(), NoMemory>
 
 /// The lines behind the server's.
 #[tactic(auto, using(std::proofs::Common::append_assoc))]
-fn put_rest(twin: bool, clients: &[ClientLine], line: &mut LineOut) -> Result<(), NoMemory>
-    ensures ok { OnOk result (line.new.words ≡ line.old.words ++ (twin_line twin ++ schedule_lines 1 clients.now)) }
+fn put_rest(
+    twin: bool,
+    marks: Option<u32>,
+    clients: &[ClientLine],
+    line: &mut LineOut,
+) -> Result<(), NoMemory>
+    ensures ok { OnOk result (line.new.words ≡ line.old.words ++ (twin_line twin ++ (marks_line marks ++ schedule_lines 1 clients.now))) }
     ensures before { line.new.before ≡ line.old.before }
 {
     put_twin(twin, line)?;
+    put_marks(marks, line)?;
     put_clients(clients, line)
 }
 
@@ -60,6 +66,20 @@ fn put_twin(twin: bool, line: &mut LineOut) -> Result<(), NoMemory>
 {
     if twin {
         line.append(b"twin\n")?;
+    }
+    Ok(())
+}
+
+/// The line that says that the server marks the log, and after how many reads.
+#[tactic(auto, using(crate::proofs::LineLemmas::line_rules))]
+fn put_marks(marks: Option<u32>, line: &mut LineOut) -> Result<(), NoMemory>
+    ensures ok { OnOk result (line.new.words ≡ line.old.words ++ marks_line marks) }
+    ensures before { line.new.before ≡ line.old.before }
+{
+    if let Some(every) = marks {
+        line.append(b"marks")?;
+        put_number(u64::from(every), line)?;
+        line.push(b'\n')?;
     }
     Ok(())
 }

@@ -18,6 +18,7 @@ mod header_text;
 mod line;
 mod line_out;
 mod line_text;
+mod mark_text;
 mod message_text;
 mod packet_text;
 mod read;

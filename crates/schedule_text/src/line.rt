@@ -3,12 +3,14 @@
 ghost use Rattle.std.specs.Prelude.{◌≡◌, ◌==◌, ◌&&◌, ◌||◌, ◌<◌, nat_le};
 ghost use Rattle.std.specs.List.{list_any};
 ghost use Rattle.ft_model.specs.Words.{words_of};
-ghost use Rattle.ft_model.specs.Grammar.{service_line, server_line, is_taken, free_address, client_line, bare_line, line_from, verb_of, keyword_of, names_no_service};
-ghost use Rattle.ft_model.specs.Grammar.{is_next, has_next_number, may_join, may_pair, may_stand, is_printable, line_behind, line_of, begins_event};
+ghost use Rattle.ft_model.specs.Grammar.{service_line, server_line, is_taken, free_address, client_line, bare_line, marks_line, line_from, verb_of, keyword_of, names_no_service};
+ghost use Rattle.ft_model.specs.Grammar.{is_next, has_next_number, may_join, has_only_server, may_stand, is_printable, line_behind, line_of, begins_event};
 ghost use Rattle.schedule_text.specs.ReadResult.{GivesLine};
 
 use crate::end::LineEnd;
-use crate::event_line::{end_of, read_client_number, read_event, read_long_number, word_of};
+use crate::event_line::{
+    end_of, read_client_number, read_event, read_every, read_long_number, word_of,
+};
 use crate::spelling::{NUMBER_DIGITS, read_addr, read_numeral, read_script, read_service};
 use crate::words::next_word;
 use ft_io::{Addr, Key};
@@ -99,6 +101,16 @@ fn read_twin_line(words: &[u8]) -> Result<Line, LineWhy>
     Ok(Line::Twin)
 }
 
+/// Reads the line that says that the server marks the log, and after how many reads.
+#[tactic(auto, unfolding(ft_model::specs::Grammar::marks_line))]
+fn read_marks_line(words: &[u8]) -> Result<u32, LineWhy>
+    ensures { result ≡ marks_line (words_of words.now) }
+{
+    let (every, rest) = word_of(words)?;
+    end_of(rest)?;
+    read_every(every)
+}
+
 /// Reads what a line says, from the words after its keyword.
 fn read_words(alloc: Global, draft: &Draft, keyword: Keyword, words: &[u8]) -> Result<Line, LineEnd>
     ensures { GivesLine result (line_from draft.now keyword (words_of words.now)) }
@@ -107,6 +119,7 @@ fn read_words(alloc: Global, draft: &Draft, keyword: Keyword, words: &[u8]) -> R
         Keyword::Service => Ok(Line::Service(read_service_line(words)?)),
         Keyword::Server => Ok(Line::Server(read_server_line(words)?)),
         Keyword::Twin => Ok(read_twin_line(words)?),
+        Keyword::Marks => Ok(Line::Marks(read_marks_line(words)?)),
         Keyword::Client => Ok(Line::Client(read_client_line(alloc, draft, words)?)),
         Keyword::Event(verb) => Ok(Line::Event(read_event(verb, words)?)),
     }
@@ -155,6 +168,8 @@ fn read_keyword(word: &[u8]) -> Option<Keyword>
         Some(Keyword::Server)
     } else if word == b"twin".as_slice() {
         Some(Keyword::Twin)
+    } else if word == b"marks".as_slice() {
+        Some(Keyword::Marks)
     } else if word == b"client".as_slice() {
         Some(Keyword::Client)
     } else {
@@ -205,10 +220,10 @@ fn takes_client(schedule: &Schedule, words: &[u8]) -> bool
     fits_number(count, words)
 }
 
-/// Whether it may still be said that there are two loggers: nothing follows the server's line yet.
-#[tactic(auto, unfolding(ft_model::specs::Grammar::may_pair))]
-fn takes_twin(schedule: &Schedule) -> bool
-    ensures { result ≡ may_pair schedule.now }
+/// Whether it may still be said that there are two loggers, or that the server marks the log: nothing follows the server's line yet.
+#[tactic(auto, unfolding(ft_model::specs::Grammar::has_only_server))]
+fn ends_with_server(schedule: &Schedule) -> bool
+    ensures { result ≡ has_only_server schedule.now }
 {
     if schedule.events.as_slice().len() != 0 {
         return false;
@@ -216,7 +231,10 @@ fn takes_twin(schedule: &Schedule) -> bool
     if schedule.clients.as_slice().len() != 0 {
         return false;
     }
-    !schedule.twin
+    if schedule.twin {
+        return false;
+    }
+    schedule.marks.is_none()
 }
 
 fn takes_line(draft: &Draft, keyword: Keyword, words: &[u8]) -> bool
@@ -225,7 +243,8 @@ fn takes_line(draft: &Draft, keyword: Keyword, words: &[u8]) -> bool
     match (draft, keyword) {
         (Draft::Empty, Keyword::Service) => true,
         (Draft::Named(_), Keyword::Server) => true,
-        (Draft::Begun(schedule), Keyword::Twin) => takes_twin(schedule),
+        (Draft::Begun(schedule), Keyword::Twin) => ends_with_server(schedule),
+        (Draft::Begun(schedule), Keyword::Marks) => ends_with_server(schedule),
         (Draft::Begun(schedule), Keyword::Client) => takes_client(schedule, words),
         (Draft::Begun(_), Keyword::Event(_)) => true,
         _ => false,

@@ -121,7 +121,7 @@ fn put_fields(body: &Body<'_>, line: &mut LineOut) -> Result<(), NoMemory>
 
 /// A connection's key.
 #[tactic(auto, using(crate::proofs::LineLemmas::line_rules))]
-fn put_key(key: Key, line: &mut LineOut) -> Result<(), NoMemory>
+pub(crate) fn put_key(key: Key, line: &mut LineOut) -> Result<(), NoMemory>
     ensures ok { OnOk result (line.new.words ≡ line.old.words ++ spaced (key_words key)) }
     ensures before { line.new.before ≡ line.old.before }
 {

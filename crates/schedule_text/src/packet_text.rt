@@ -1,15 +1,19 @@
-//! The line of a packet: a segment, a message or a datagram between two loggers, with its fields by name.
+//! The line of a packet: a segment, a message, which may be about marks, or a datagram between two loggers, with its fields by name.
 
 ghost use Rattle.std.specs.Prelude.{◌≡◌, ◌++◌, ◌∷◌, ◌↔◌, codes, decimal, [], IsTrue, OnOk, OnErr, IsSome, IfSome};
+ghost use Rattle.seq_arith.specs.MarkGrammar.{reading as mark_reading};
+ghost use Rattle.seq_arith.specs.MessageGrammar.{reading as message_reading};
 ghost use Rattle.seq_arith.specs.TwinGrammar.{reading};
 ghost use Rattle.seq_arith.specs.Value.{said};
 ghost use Rattle.ft_model.specs.Texts.{spaced, way_text};
 ghost use Rattle.ft_model.specs.Report.{segment_words, line_of_packet};
-ghost use Rattle.schedule_text.specs.Bytes.{content_in, told_words};
+ghost use Rattle.schedule_text.specs.Bytes.{content_in, logged_words, told_words};
 
 use crate::line_out::LineOut;
 use crate::line_text::{put_field, put_flags, put_hex, put_mss, put_number, put_way};
+use crate::mark_text::put_mark_message;
 use crate::message_text::put_message;
+use checkpoint::read_mark;
 use ft_io::NoMemory;
 use ft_model::Way;
 use logger_wire::read_msg;
@@ -24,9 +28,16 @@ pub fn is_packet(way: Way, bytes: &[u8]) -> bool
 {
     match way {
         Way::ClientToServer(_) | Way::ServerToClient(_) => read_packet(bytes).is_ok(),
-        Way::ServerToLogger | Way::LoggerToServer => read_msg(bytes).is_ok(),
+        Way::ServerToLogger | Way::LoggerToServer => is_logged(bytes),
         Way::HeadToTail | Way::TailToHead => is_told(bytes),
     }
+}
+
+/// Whether bytes are a message between a server and its logger, or one about marks.
+fn is_logged(bytes: &[u8]) -> bool
+    ensures { IsTrue result ↔ IsSome (logged_words (message_reading bytes.now) (mark_reading bytes.now)) }
+{
+    read_msg(bytes).is_ok() || read_mark(bytes).is_ok()
 }
 
 /// Whether bytes are a datagram that one of two loggers sends the other.
@@ -92,14 +103,25 @@ fn put_bytes(way: Way, bytes: &[u8], line: &mut LineOut) -> Result<(), NoMemory>
             let packet = read_accepted(bytes);
             put_segment(&packet.head, packet.payload, line)
         }
-        Way::ServerToLogger | Way::LoggerToServer => {
-            let Ok(msg) = read_msg(bytes) else {
-                unreachable!()
-            };
-            put_message(&msg, line)
-        }
+        Way::ServerToLogger | Way::LoggerToServer => put_logged(bytes, line),
         Way::HeadToTail | Way::TailToHead => put_told(bytes, line),
     }
+}
+
+/// What a server and its logger say: a message, or one about marks.
+fn put_logged(bytes: &[u8], line: &mut LineOut) -> Result<(), NoMemory>
+    requires { IsSome (logged_words (message_reading bytes.now) (mark_reading bytes.now)) }
+    ensures ok { OnOk result (IfSome (logged_words (message_reading bytes.now) (mark_reading bytes.now)) (λ words. line.new.words
+        ≡ line.old.words ++ spaced words)) }
+    ensures before { line.new.before ≡ line.old.before }
+{
+    if let Ok(msg) = read_msg(bytes) {
+        return put_message(&msg, line);
+    }
+    let Ok(msg) = read_mark(bytes) else {
+        unreachable!()
+    };
+    put_mark_message(&msg, line)
 }
 
 /// What one of two loggers tells the other: a message with its number, or the number alone.

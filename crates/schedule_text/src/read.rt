@@ -67,11 +67,16 @@ fn add_line(alloc: Global, draft: Draft, line: Line) -> Result<Draft, NoMemory>
             service,
             server,
             twin: false,
+            marks: None,
             clients: ClientLines::new(Vec::new(alloc)),
             events: Events::new(Vec::new(alloc)),
         })),
         (Draft::Begun(mut schedule), Line::Twin) => {
             schedule.twin = true;
+            Ok(Draft::Begun(schedule))
+        }
+        (Draft::Begun(mut schedule), Line::Marks(every)) => {
+            schedule.marks = Some(every);
             Ok(Draft::Begun(schedule))
         }
         (Draft::Begun(mut schedule), Line::Client(client)) => {

@@ -5,16 +5,18 @@
 //! - `many COUNT LINE` reads a schedule of a service and a server, followed by COUNT copies of this line, each with a line feed; printed is how many events it
 //!   has, or why it is refused;
 //! - `script WORD` reads a client's script;
-//! - `packet WAY HEX` prints the line of packet 7, which says these bytes; WAY is `up` or `down`, between client 1 and the server, `out` or `in`,
-//!   between the server and the logger, or `on` or `back`, between a head and a tail.
+//! - `packet WAY HEX` prints the line of packet 7, which says these bytes, or `no packet`, and which test of its grammar a segment or a message fails; WAY is
+//!   `up` or `down`, between client 1 and the server, `out` or `in`, between the server and the logger, or `on` or `back`, between a head and a tail.
 #![tactic(auto)]
 
 use ft_io::{NoMemory, WriteSink, write_all};
+use logger_wire::read_msg;
 use percent_encoding::percent_decode;
 use schedule_text::{
     Schedule, ScheduleEnd, Script, Way, is_packet, read_schedule, read_script, write_event,
     write_header, write_packet_line,
 };
+use segment_codec::read_packet;
 use std::alloc::Global;
 use std::io;
 use test_data::{bytes_of_hex, push_line};
@@ -139,6 +141,23 @@ fn say_packet(alloc: Global, rest: &str, out: &mut Vec<u8>) -> Result<(), NoMemo
         Some(bytes) if is_packet(way, bytes.as_slice()) => {
             write_packet_line(alloc, 7, way, bytes.as_slice(), out)
         }
-        _ => push_line("no packet", out),
+        Some(bytes) => say_refusal(alloc, way, bytes.as_slice(), out),
+        None => push_line("no bytes", out),
     }
+}
+
+/// Says which test of its grammar a segment or a message fails.
+fn say_refusal(alloc: Global, way: Way, bytes: &[u8], out: &mut Vec<u8>) -> Result<(), NoMemory> {
+    let text = match way {
+        Way::ClientToServer(_) | Way::ServerToClient(_) => match read_packet(bytes) {
+            Ok(_) => format!(in alloc; "no packet")?,
+            Err(bad) => format!(in alloc; "no packet: {bad:?}")?,
+        },
+        Way::ServerToLogger | Way::LoggerToServer => match read_msg(bytes) {
+            Ok(_) => format!(in alloc; "no packet")?,
+            Err(bad) => format!(in alloc; "no packet: {bad:?}")?,
+        },
+        Way::HeadToTail | Way::TailToHead => format!(in alloc; "no packet")?,
+    };
+    push_line(text.as_str(), out)
 }

@@ -1,0 +1,86 @@
+//! The words of a message about marks: its name, its boot number, then its fields by name, in the order in which it holds them.
+
+ghost use Rattle.std.specs.Prelude.{◌≡◌, ◌++◌, OnOk};
+ghost use Rattle.ft_model.specs.Texts.{spaced};
+ghost use Rattle.mark_reports.specs.MarkedReport.{fields_of_mark, mark_words, name_of_mark, words_of_mark};
+ghost use Rattle.checkpoint.specs.Value.{body_of, message_of};
+
+use crate::line_out::LineOut;
+use crate::line_text::{put_field, put_hex, put_word};
+use crate::message_text::put_key;
+use checkpoint::{MarkBody, MarkMsg};
+use ft_io::{Key, NoMemory};
+
+/// A message about marks: its name, its boot number, then the fields of its body.
+#[tactic(auto, using(crate::proofs::LineLemmas::line_rules), unfolding(mark_reports::specs::MarkedReport::mark_words))]
+pub(crate) fn put_mark_message(msg: &MarkMsg<'_>, line: &mut LineOut) -> Result<(), NoMemory>
+    ensures ok { OnOk result (line.new.words ≡ line.old.words ++ spaced (mark_words (message_of msg.now))) }
+    ensures before { line.new.before ≡ line.old.before }
+{
+    put_word(name(&msg.body), line)?;
+    put_field(b" boot ", msg.boot, line)?;
+    put_fields(&msg.body, line)
+}
+
+/// The name of a kind of message.
+fn name(body: &MarkBody<'_>) -> &'static [u8]
+    ensures { result.now ≡ name_of_mark (body_of body.now) }
+{
+    match body {
+        MarkBody::Mark { .. } => b"Mark",
+        MarkBody::Marked { .. } => b"Marked",
+        MarkBody::Ask { .. } => b"Ask",
+        MarkBody::Held { .. } => b"Held",
+    }
+}
+
+/// The fields of a body.
+#[tactic(auto, using(crate::proofs::LineLemmas::line_rules))]
+fn put_fields(body: &MarkBody<'_>, line: &mut LineOut) -> Result<(), NoMemory>
+    ensures ok { OnOk result (line.new.words ≡ line.old.words ++ spaced (fields_of_mark (body_of body.now))) }
+    ensures before { line.new.before ≡ line.old.before }
+{
+    match *body {
+        MarkBody::Mark {
+            key,
+            reads,
+            length,
+            made,
+            state,
+        }
+        | MarkBody::Held {
+            key,
+            reads,
+            length,
+            made,
+            state,
+        } => put_mark(key, reads, length, made, state, line),
+        MarkBody::Marked { key, reads } => {
+            put_key(key, line)?;
+            put_field(b" reads ", u64::from(reads), line)
+        }
+        MarkBody::Ask { key } => put_key(key, line),
+    }
+}
+
+/// A mark of a connection: its numbers, and the form of its state.
+#[tactic(auto, using(crate::proofs::LineLemmas::line_rules))]
+fn put_mark(
+    key: Key,
+    reads: u32,
+    length: u32,
+    made: u32,
+    state: &[u8],
+    line: &mut LineOut,
+) -> Result<(), NoMemory>
+    ensures ok { OnOk result (line.new.words
+        ≡ line.old.words ++ spaced (words_of_mark key (record { reads = reads; length = length; made = made; state = state.now }))) }
+    ensures before { line.new.before ≡ line.old.before }
+{
+    put_key(key, line)?;
+    put_field(b" reads ", u64::from(reads), line)?;
+    put_field(b" length ", u64::from(length), line)?;
+    put_field(b" made ", u64::from(made), line)?;
+    line.append(b" state")?;
+    put_hex(state, line)
+}
