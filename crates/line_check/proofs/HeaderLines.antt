@@ -1,6 +1,6 @@
 -- A line of a header continues it exactly where the whole header, with that line, is a schedule's.
 use Rattle.std.proofs.Common.{◌≡◌, ℕ, ◌+◌, ◌-◌, ◌<◌, ◌≤◌, Bool, true, false, if◌then◌else◌, ◌⊎◌, inl, inr, Option, None, Some, Result, Ok, Err, List, [], ◌∷◌, ◌++◌, codes, take, drop, length, length-append, append_assoc, append-nil, refl, sym, ap, ap₂, ◌∙◌, subst, arith, true≢false}
-use Rattle.std.specs.Prelude.{is_some, nat_le, not, MatchOption}
+use Rattle.std.specs.Prelude.{is_none, is_some, nat_le, not, ◌&&◌, MatchOption}
 use Rattle.std.specs.List.{flat_map}
 use Rattle.std.specs.Str.{bytes_eq}
 use Rattle.std.specs.Cmp.Derive.{both_true}
@@ -10,7 +10,7 @@ use Rattle.std.proofs.Math.Seq.{take-append-add, drop-append_seam}
 use Rattle.ft_io.proofs.Booleans.{left_true, right_true}
 use Rattle.ft_model.specs.Grammar.{◌>>=◌, Refusal, no_objection, unless_objected, keyword_of, names_no_service, service_line, line_behind, line_of, with_line, is_full, is_passed_over, is_printable, is_too_much, after_line, at_line, read_lines, read_with, read_text}
 use Rattle.ft_model.specs.Grammar.Refusal.{TooLong}
-use Rattle.ft_model.specs.Report.{header, schedule_line, twin_line, schedule_lines}
+use Rattle.ft_model.specs.Report.{header, schedule_line, twin_line, marks_line, schedule_lines}
 use Rattle.ft_model.specs.Spelling.{service_of}
 use Rattle.ft_model.specs.Texts.{service_text}
 use Rattle.ft_model.specs.Words.{lines_of, words_of}
@@ -65,13 +65,13 @@ not_full Empty h = absurd h
 not_full (Named kind) h = refl
 not_full (Begun schedule) h = ap (λ events. nat_le 100000 (length {A = Event} events)) h.1
 
-pub header_is : (schedule : Schedule) → schedule.twin ≡ false → schedule.events ≡ [] → header schedule ≡ codes "ftreplay 1\n" ++ schedule_bytes (Begun schedule)
+pub header_is : (schedule : Schedule) → schedule.twin ≡ false → schedule.marks ≡ None → schedule.events ≡ [] → header schedule ≡ codes "ftreplay 1\n" ++ schedule_bytes (Begun schedule)
 unfolding header
-header_is schedule one none =
+header_is schedule one unmarked none =
     let a : List ℕ = canonical_line Empty (says.Service schedule.service) in
     let b : List ℕ = canonical_line (Named schedule.service) (says.Server schedule.server) in
     let c : List ℕ = schedule_lines 1 schedule.clients in
-    ap (λ t. codes "ftreplay 1\n" ++ (a ++ (b ++ (twin_line t ++ c)))) one
+    ap₂ (λ t m. codes "ftreplay 1\n" ++ (a ++ (b ++ (twin_line t ++ (marks_line m ++ c))))) one unmarked
     ∙ ap (λ t. codes "ftreplay 1\n" ++ (a ++ (b ++ t))) (sym (append-nil c) ∙ ap (λ es. c ++ flat_map (λ e. asked_line e ++ 10 ∷ []) es) (sym none))
 
 -- without its last byte, the text behind the first line is the lines so far and the front of the last one
@@ -125,6 +125,7 @@ record IsRead (draft : Draft) (line : List ℕ) (schedule : Schedule) : Type 0 w
   after : after_line no_objection number draft (take (length line - 1) line) ≡ Ok (Begun schedule)
   short : length (schedule_bytes draft ++ take (length line - 1) line) ≤ 8388608
   one_logger : schedule.twin ≡ false
+  unmarked : schedule.marks ≡ None
   written : header schedule ≡ codes "ftreplay 1\n" ++ (schedule_bytes draft ++ line)
 
 text_read : (bytes front : List ℕ) (draft : Draft) (r : Reads bytes draft) (schedule : Schedule) → IsClean front → read_text (bytes ++ front) ≡ Ok schedule
@@ -144,6 +145,10 @@ not_true : (b : Bool) → not b ≡ true → b ≡ false
 not_true true e = absurd (true≢false (sym e))
 not_true false e = refl
 
+not_some : (marks : Option ℕ) → is_none marks ≡ true → marks ≡ None
+not_some None e = refl
+not_some (Some every) e = absurd (true≢false (sym e))
+
 is_read : (draft : Draft) (line : List ℕ) (schedule : Schedule) → IsHeaderSoFar draft → IsClean (take (length line - 1) line) → 0 < length line
     → header_in (codes "ftreplay 1\n" ++ (schedule_bytes draft ++ line)) ≡ Some schedule → IsRead draft line schedule
 is_read draft line schedule h clean some e = by_result (read_text (own_text text)) refl e
@@ -156,6 +161,7 @@ is_read draft line schedule h clean some e = by_result (read_text (own_text text
     by_result (Ok other) f g =
         let c : (is_header_of other text ≡ true) × (other ≡ schedule) = chosen (is_header_of other text) other schedule g in
         let t : is_header_of schedule text ≡ true = subst (λ s. is_header_of s text ≡ true) c.1 c.0 in
+        let plain : (not schedule.twin && is_none schedule.marks) ≡ true = left_true (not schedule.twin && is_none schedule.marks) _ t in
         let own : own_text text ≡ schedule_bytes draft ++ take (length line - 1) line = own_is (schedule_bytes draft) line ∙ front_is (schedule_bytes draft) line some in
         let read : read_text (schedule_bytes draft ++ take (length line - 1) line) ≡ Ok schedule = ap read_text (sym own) ∙ (f ∙ ap Ok c.1) in
         let r : Reads (schedule_bytes draft) draft = so_far_read draft h in
@@ -164,8 +170,9 @@ is_read draft line schedule h clean some e = by_result (read_text (own_text text
           number = r.number;
           after = after.1;
           short = after.0;
-          one_logger = not_true schedule.twin (left_true (not schedule.twin) _ t);
-          written = same_bytes (header schedule) text (right_true (not schedule.twin) _ t);
+          one_logger = not_true schedule.twin (left_true (not schedule.twin) (is_none schedule.marks) plain);
+          unmarked = not_some schedule.marks (right_true (not schedule.twin) (is_none schedule.marks) plain);
+          written = same_bytes (header schedule) text (right_true (not schedule.twin && is_none schedule.marks) _ t);
         }
 
 -- the limit, without the last byte
@@ -186,10 +193,11 @@ named_told kind line schedule some r = by_line (after_told r.number (Named kind)
     by_line (inl e) = absurd (cc)
     by_line (inr (says.Service other, f, e)) = absurd (cc)
     by_line (inr (says.Twin, f, e)) = absurd (cc)
+    by_line (inr (says.Marks every, f, e)) = absurd (cc)
     by_line (inr (says.Client c, f, e)) = absurd (cc)
     by_line (inr (says.Event x, f, e)) = absurd (cc)
     by_line (inr (says.Server at, f, e)) =
-        let own : Schedule = record { service = kind; server = at; twin = false; clients = []; events = [] } in
+        let own : Schedule = record { service = kind; server = at; twin = false; marks = None; clients = []; events = [] } in
         let same : schedule ≡ own = cc in
         let a : List ℕ = canonical_line Empty (says.Service kind) in
         let b : List ℕ = canonical_line (Named kind) (says.Server at) in
@@ -216,7 +224,7 @@ begun_told before line schedule h none some r = by_line (after_told r.number (Be
     -- no line leaves the header as it was
     no_more : header schedule ≡ header before → ⊥
     no_more e =
-        let whole : codes "ftreplay 1\n" ++ (bytes ++ line) ≡ codes "ftreplay 1\n" ++ bytes = sym r.written ∙ (e ∙ header_is before h.one_logger none) in
+        let whole : codes "ftreplay 1\n" ++ (bytes ++ line) ≡ codes "ftreplay 1\n" ++ bytes = sym r.written ∙ (e ∙ header_is before h.one_logger h.unmarked none) in
         let same : length (bytes ++ line) ≡ length bytes = ap length (append_cancel_left (codes "ftreplay 1\n") (bytes ++ line) bytes whole) in
         let more : length (bytes ++ line) ≡ length bytes + length line = length-append bytes line in
         omega (arith, same, more, some)
@@ -229,6 +237,9 @@ begun_told before line schedule h none some r = by_line (after_told r.number (Be
     by_line (inr (says.Twin, f, e)) =
         let same : schedule ≡ record before { twin = true } = cc in
         absurd (true≢false (sym (ap (λ s. s.twin) same) ∙ r.one_logger))
+    by_line (inr (says.Marks every, f, e)) =
+        let same : schedule ≡ record before { marks = Some every } = cc in
+        absurd (true≢false (sym (ap is_none r.unmarked) ∙ ap (λ s. is_none s.marks) same))
     by_line (inr (says.Event x, f, e)) =
         let same : schedule ≡ record before { events = before.events ++ x ∷ [] } = cc in absurd (no_more (ap header same ∙ no_events before x))
     by_line (inr (says.Client c, f, e)) =
@@ -236,9 +247,9 @@ begun_told before line schedule h none some r = by_line (after_told r.number (Be
         let same : schedule ≡ later = cc in
         let b : List ℕ = schedule_line (length before.clients + 1) c in
         let written : codes "ftreplay 1\n" ++ (bytes ++ line) ≡ codes "ftreplay 1\n" ++ (bytes ++ b) =
-        sym r.written ∙ (ap header same ∙ (sym (client_text before c (codes "ftreplay 1\n" ++ bytes) b (sym (header_is before h.one_logger none)) refl) ∙ append_assoc (codes "ftreplay 1\n") bytes b)) in
+        sym r.written ∙ (ap header same ∙ (sym (client_text before c (codes "ftreplay 1\n" ++ bytes) b (sym (header_is before h.one_logger h.unmarked none)) refl) ∙ append_assoc (codes "ftreplay 1\n") bytes b)) in
         let spelled : line ≡ b = append_cancel_left bytes line b (append_cancel_left (codes "ftreplay 1\n") (bytes ++ line) (bytes ++ b) written) in
-        let own : codes "ftreplay 1\n" ++ schedule_bytes (Begun later) ≡ codes "ftreplay 1\n" ++ (bytes ++ line) = sym (header_is later h.one_logger none) ∙ (ap header (sym same) ∙ r.written) in
+        let own : codes "ftreplay 1\n" ++ schedule_bytes (Begun later) ≡ codes "ftreplay 1\n" ++ (bytes ++ line) = sym (header_is later h.one_logger h.unmarked none) ∙ (ap header (sym same) ∙ r.written) in
         let size : length (schedule_bytes (Begun later)) ≡ length (bytes ++ line) = ap length (append_cancel_left (codes "ftreplay 1\n") (schedule_bytes (Begun later)) (bytes ++ line) own) in
         let canonical : IsCanonical (Begun before) (says.Client c) line = record { spelled = spelled; accepted = f; short = fits bytes line (schedule_bytes (Begun later)) some size r.short } in
         inl (c, canonical, ap (λ d. Continues (InHeader d)) e)
@@ -262,16 +273,16 @@ no_line (Begun schedule) line h never = inr ((λ client c. never (says.Client cl
 
 -- a line that may follow is read with the header before it
 whole_read : (bytes line : List ℕ) (draft : Draft) (l : Line) (schedule : Schedule) → Reads bytes draft → is_full draft ≡ false → IsCanonical draft l line
-    → with_line draft l ≡ Begun schedule → schedule.twin ≡ false → schedule.events ≡ [] → header schedule ≡ codes "ftreplay 1\n" ++ (bytes ++ line)
+    → with_line draft l ≡ Begun schedule → schedule.twin ≡ false → schedule.marks ≡ None → schedule.events ≡ [] → header schedule ≡ codes "ftreplay 1\n" ++ (bytes ++ line)
     → header_in (codes "ftreplay 1\n" ++ (bytes ++ line)) ≡ Some schedule
-whole_read bytes line draft l schedule r full c e one none written =
+whole_read bytes line draft l schedule r full c e one unmarked none written =
     let text : List ℕ = codes "ftreplay 1\n" ++ (bytes ++ line) in
     let reads : Reads (bytes ++ line) (Begun schedule) = subst (Reads (bytes ++ line)) e (more_read bytes line draft l r c full) in
-    let same : schedule_bytes (Begun schedule) ≡ bytes ++ line = append_cancel_left (codes "ftreplay 1\n") (schedule_bytes (Begun schedule)) (bytes ++ line) (sym (header_is schedule one none) ∙ written) in
+    let same : schedule_bytes (Begun schedule) ≡ bytes ++ line = append_cancel_left (codes "ftreplay 1\n") (schedule_bytes (Begun schedule)) (bytes ++ line) (sym (header_is schedule one unmarked none) ∙ written) in
     let short : length (schedule_bytes (Begun schedule)) - 1 ≤ 8388608 = subst FitsLimit e c.short in
     let few : length (bytes ++ line) - 1 ≤ 8388608 = subst (λ t. length t - 1 ≤ 8388608) same short in
     let read : read_text (own_text text) ≡ Ok schedule = ap read_text (own_is bytes line) ∙ spelled_by (bytes ++ line) schedule reads few in
-    let test : is_header_of schedule text ≡ true = both_true (ap not one) (ap (λ t. bytes_eq t text) written ∙ bytes_same text) in
+    let test : is_header_of schedule text ≡ true = both_true (both_true (ap not one) (ap is_none unmarked)) (ap (λ t. bytes_eq t text) written ∙ bytes_same text) in
     ap (λ r. if_header r text) read ∙ ap (λ b. if b then Some schedule else None) test
 
 some_schedule : (draft : Draft) (line : List ℕ) (l : Line) → IsHeaderSoFar draft → IsNext draft l → IsCanonical draft l line
@@ -279,23 +290,25 @@ some_schedule : (draft : Draft) (line : List ℕ) (l : Line) → IsHeaderSoFar d
 some_schedule Empty line l h n c = absurd h
 some_schedule (Named kind) line (says.Service other) h n c = absurd n
 some_schedule (Named kind) line says.Twin h n c = absurd n
+some_schedule (Named kind) line (says.Marks every) h n c = absurd n
 some_schedule (Named kind) line (says.Client client) h n c = absurd n
 some_schedule (Named kind) line (says.Event x) h n c = absurd n
 some_schedule (Named kind) line (says.Server at) h n c =
-    let own : Schedule = record { service = kind; server = at; twin = false; clients = []; events = [] } in
+    let own : Schedule = record { service = kind; server = at; twin = false; marks = None; clients = []; events = [] } in
     let a : List ℕ = canonical_line Empty (says.Service kind) in
     let written : header own ≡ codes "ftreplay 1\n" ++ (a ++ line) = sym (server_text kind at (codes "ftreplay 1\n" ++ a) line refl c.spelled) ∙ append_assoc (codes "ftreplay 1\n") a line in
-    ap is_some (whole_read a line (Named kind) (says.Server at) own (named_read kind) refl c refl refl refl written)
+    ap is_some (whole_read a line (Named kind) (says.Server at) own (named_read kind) refl c refl refl refl refl written)
 some_schedule (Begun before) line (says.Service other) h n c = absurd n
 some_schedule (Begun before) line (says.Server at) h n c = absurd n
 some_schedule (Begun before) line says.Twin h n c = absurd n
+some_schedule (Begun before) line (says.Marks every) h n c = absurd n
 some_schedule (Begun before) line (says.Event x) h n c = absurd n
 some_schedule (Begun before) line (says.Client client) h n c =
     let later : Schedule = record before { clients = before.clients ++ client ∷ [] } in
     let bytes : List ℕ = schedule_bytes (Begun before) in
     let written : header later ≡ codes "ftreplay 1\n" ++ (bytes ++ line) =
-    sym (client_text before client (codes "ftreplay 1\n" ++ bytes) line (sym (header_is before h.0.one_logger h.1)) c.spelled) ∙ append_assoc (codes "ftreplay 1\n") bytes line in
-    ap is_some (whole_read bytes line (Begun before) (says.Client client) later (begun_read before h.0 h.1) (not_full (Begun before) h) c refl h.0.one_logger h.1 written)
+    sym (client_text before client (codes "ftreplay 1\n" ++ bytes) line (sym (header_is before h.0.one_logger h.0.unmarked h.1)) c.spelled) ∙ append_assoc (codes "ftreplay 1\n") bytes line in
+    ap is_some (whole_read bytes line (Begun before) (says.Client client) later (begun_read before h.0 h.1) (not_full (Begun before) h) c refl h.0.one_logger h.0.unmarked h.1 written)
 
 -- the text, cut where the line begins
 text_is : (text : List ℕ) (start : ℕ) (draft : Draft) → take start text ≡ header_so_far draft → text ≡ codes "ftreplay 1\n" ++ (schedule_bytes draft ++ drop start text)

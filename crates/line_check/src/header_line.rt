@@ -45,11 +45,11 @@ fn service_in(line: &[u8]) -> Option<ServiceKind>
     }
 }
 
-/// Whether a text is the header of a schedule with one logger.
+/// Whether a text is the header of a schedule with one logger and without marks.
 fn is_header_of(alloc: Global, schedule: &Schedule, text: &[u8]) -> Result<bool, NoMemory>
     ensures { IfOk result (λ same. same ≡ spelled.is_header_of schedule.now text.now) }
 {
-    if schedule.twin {
+    if schedule.twin || schedule.marks.is_some() {
         return Ok(false);
     }
     let mut header = Vec::new(alloc);

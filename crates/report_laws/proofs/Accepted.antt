@@ -10,7 +10,7 @@ use Rattle.server_trait.specs.Service.{Machine}
 use Rattle.ft_model.specs.Client.{Client}
 use Rattle.ft_model.specs.Legal.{Legal, start_of, refusal}
 use Rattle.ft_model.specs.Network.{Packet}
-use Rattle.ft_model.specs.Report.{header, twin_line, schedule_line, schedule_lines, event_line, event_lines, packet_line, packet_lines, packet_count, way_of, closing_lines}
+use Rattle.ft_model.specs.Report.{header, twin_line, marks_line, schedule_line, schedule_lines, event_line, event_lines, packet_line, packet_lines, packet_count, way_of, closing_lines}
 use Rattle.ft_model.specs.Grammar.{read_text, with_line}
 use Rattle.ft_model.specs.World.{World, Moment, IsStart, world_after}
 use Rattle.ft_model.specs.declared.event.Event.{Event}
@@ -117,9 +117,10 @@ pub more_accepted : (schedule : Schedule) (client : ClientLine) → HeaderAccept
     → HeaderAccepted (record schedule { clients = schedule.clients ++ client ∷ [] })
 more_accepted schedule client h none follows =
     let bare_too : Follows (Begun (record (bare schedule) { clients = schedule.clients })) (says.Client client) =
-    subst (λ es. Follows (Begun (record schedule { twin = false; events = es })) (says.Client client)) none
-    (subst (λ t. Follows (Begun (record schedule { twin = t })) (says.Client client)) h.one_logger follows) in
-    record { one_logger = h.one_logger; service = h.service; server = h.server; clients = client_accepted (bare schedule) schedule.clients client h.clients bare_too }
+    subst (λ es. Follows (Begun (record schedule { twin = false; marks = None; events = es })) (says.Client client)) none
+    (subst (λ m. Follows (Begun (record schedule { twin = false; marks = m })) (says.Client client)) h.unmarked
+    (subst (λ t. Follows (Begun (record schedule { twin = t })) (says.Client client)) h.one_logger follows)) in
+    record { one_logger = h.one_logger; unmarked = h.unmarked; service = h.service; server = h.server; clients = client_accepted (bare schedule) schedule.clients client h.clients bare_too }
 
 schedule_lines_more : (n : ℕ) (clients : List ClientLine) (c : ClientLine) → schedule_lines n (clients ++ c ∷ []) ≡ schedule_lines n clients ++ schedule_line (n + length clients) c
 schedule_lines_more n [] c =
@@ -137,17 +138,19 @@ client_text schedule client text line is spelled =
     let a : List ℕ = canonical_line Empty (says.Service schedule.service) in
     let b : List ℕ = canonical_line (Named schedule.service) (says.Server schedule.server) in
     let t : List ℕ = twin_line schedule.twin in
+    let m : List ℕ = marks_line schedule.marks in
     let c : List ℕ = schedule_lines 1 schedule.clients in
     let number : length schedule.clients + 1 ≡ 1 + length schedule.clients = omega arith in
     let last : c ++ line ≡ schedule_lines 1 (schedule.clients ++ client ∷ []) =
     ap (λ l. c ++ l) (spelled ∙ ap (λ k. schedule_line k client) number) ∙ sym (schedule_lines_more 1 schedule.clients client) in
     ap (λ s. s ++ line) is
-    ∙ (append_assoc name_line (a ++ (b ++ (t ++ c))) line
-    ∙ ap (λ s. name_line ++ s) (append_assoc a (b ++ (t ++ c)) line
-    ∙ ap (λ s. a ++ s) (append_assoc b (t ++ c) line ∙ ap (λ s. b ++ s) (append_assoc t c line ∙ ap (λ s. t ++ s) last))))
+    ∙ (append_assoc name_line (a ++ (b ++ (t ++ (m ++ c)))) line
+    ∙ ap (λ s. name_line ++ s) (append_assoc a (b ++ (t ++ (m ++ c))) line
+    ∙ ap (λ s. a ++ s) (append_assoc b (t ++ (m ++ c)) line
+    ∙ ap (λ s. b ++ s) (append_assoc t (m ++ c) line ∙ ap (λ s. t ++ s) (append_assoc m c line ∙ ap (λ s. m ++ s) last)))))
 
 pub server_text : (kind : ServiceKind) (at : Addr) (text line : List ℕ) → text ≡ name_line ++ canonical_line Empty (says.Service kind) → line ≡ canonical_line (Named kind) (says.Server at)
-    → text ++ line ≡ header (record { service = kind; server = at; twin = false; clients = []; events = [] })
+    → text ++ line ≡ header (record { service = kind; server = at; twin = false; marks = None; clients = []; events = [] })
 unfolding header
 server_text kind at text line is spelled =
     let a : List ℕ = canonical_line Empty (says.Service kind) in
@@ -198,7 +201,7 @@ module _ {State : Type 0} (service : ℕ → Machine State) where
       let below : length trace < 100000 = leb-false 100000 (length trace) not_full in
       let canonical : Follows (Begun schedule) (says.Event event) = subst (IsCanonical (Begun schedule) (says.Event event)) l.canonical.spelled l.canonical in
       let later : IsWithinLimits (record schedule { events = schedule.events ++ event ∷ [] }) = record {
-        header = record { one_logger = within.header.one_logger; service = within.header.service; server = within.header.server; clients = within.header.clients };
+        header = record { one_logger = within.header.one_logger; unmarked = within.header.unmarked; service = within.header.service; server = within.header.server; clients = within.header.clients };
         events = event_accepted (record schedule { events = [] }) schedule.events event within.events canonical;
         few = omega (arith, more, same, below);
       } in
@@ -265,8 +268,8 @@ module _ {State : Type 0} (service : ℕ → Machine State) where
   header_on (Named kind) line text next h (inr (none, e)) = on_fails next law.Text e
   header_on (Named kind) line text next h (inl (at, l, e)) =
       let follows : Follows (Named kind) (says.Server at) = subst (IsCanonical (Named kind) (says.Server at)) l.spelled l in
-      let accepted : HeaderAccepted (record { service = kind; server = at; twin = false; clients = []; events = [] }) =
-      record { one_logger = refl; service = h.1; server = follows; clients = tt } in
+      let accepted : HeaderAccepted (record { service = kind; server = at; twin = false; marks = None; clients = []; events = [] }) =
+      record { one_logger = refl; unmarked = refl; service = h.1; server = follows; clients = tt } in
       subst (λ s. Holds service s (text ++ line)) (sym (on_same next (InHeader (with_line (Named kind) (says.Server at))) e))
       (server_text kind at text line h.0 l.spelled, accepted, refl)
   header_on (Begun schedule) line text next h b =

@@ -63,6 +63,7 @@ feed_last n (says.Service kind) = inl (codes "service" ++ spaced (service_text k
 feed_last n (says.Server at) =
     inl (codes "server" ++ spaced (address_text at.ip at.port ∷ []), sym (append_assoc (codes "server") (spaced (address_text at.ip at.port ∷ [])) (10 ∷ [])))
 feed_last n says.Twin = inr refl
+feed_last n (says.Marks every) = inr refl
 feed_last n (says.Client c) =
     let words : List (List ℕ) = decimal n ∷ key_text c.key ∷ decimal c.isn ∷ script_text c.script ∷ [] in
     inl (codes "client" ++ spaced words, sym (append_assoc (codes "client") (spaced words) (10 ∷ [])))

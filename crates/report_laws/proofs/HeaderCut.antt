@@ -1,6 +1,6 @@
 -- A header's text is cut into its lines.
-use Rattle.std.proofs.Common.{◌≡◌, ℕ, ◌+◌, refl, sym, ap, ◌∙◌, List, [], ◌∷◌, ◌++◌, codes, length, length-append, append_assoc}
-use Rattle.ft_model.specs.Report.{header, twin_line, schedule_line, schedule_lines}
+use Rattle.std.proofs.Common.{◌≡◌, ℕ, ◌+◌, refl, sym, ap, ap₂, ◌∙◌, List, [], ◌∷◌, ◌++◌, codes, length, length-append, append_assoc}
+use Rattle.ft_model.specs.Report.{header, twin_line, marks_line, schedule_line, schedule_lines}
 use Rattle.ft_model.specs.declared.line.Draft.{Draft}
 use Rattle.ft_model.specs.declared.line.Draft.TheVariants.{Empty, Named, Begun}
 use Rattle.ft_model.specs.declared.line.Line.{Line}
@@ -41,7 +41,8 @@ header_cut schedule rest h =
     let a : List ℕ = canonical_line Empty (says.Service schedule.service) in
     let b : List ℕ = canonical_line (Named schedule.service) (says.Server schedule.server) in
     let c : List ℕ = schedule_lines 1 schedule.clients in
-    let single : name ++ (a ++ (b ++ (twin_line schedule.twin ++ c))) ≡ name ++ (a ++ (b ++ c)) = ap (λ t. name ++ (a ++ (b ++ (twin_line t ++ c)))) h.one_logger in
+    let single : name ++ (a ++ (b ++ (twin_line schedule.twin ++ (marks_line schedule.marks ++ c)))) ≡ name ++ (a ++ (b ++ c)) =
+    ap₂ (λ t m. name ++ (a ++ (b ++ (twin_line t ++ (marks_line m ++ c))))) h.one_logger h.unmarked in
     let apart : (name ++ (a ++ (b ++ c))) ++ rest ≡ name ++ (a ++ (b ++ (c ++ rest))) =
     append_assoc name (a ++ (b ++ c)) rest ∙ ap (λ t. name ++ t) (append_assoc a (b ++ c) rest ∙ ap (λ t. a ++ t) (append_assoc b c rest)) in
     ap (λ t. lines_in (t ++ rest)) single

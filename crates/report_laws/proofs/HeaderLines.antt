@@ -1,5 +1,5 @@
 -- The lines of an accepted header, one after another, lead to the schedule that they spell.
-use Rattle.std.proofs.Common.{◌≡◌, ℕ, ◌+◌, ◌<◌, ◌^◌, ◌||◌, true, false, inl, refl, sym, ap, ap₂, ◌∙◌, subst, arith, Some, List, [], ◌∷◌, ◌++◌, codes, decimal, length, length-append, append_assoc, append-nil}
+use Rattle.std.proofs.Common.{◌≡◌, ℕ, ◌+◌, ◌<◌, ◌^◌, ◌||◌, true, false, inl, refl, sym, ap, ap₂, ◌∙◌, subst, arith, Some, None, List, [], ◌∷◌, ◌++◌, codes, decimal, length, length-append, append_assoc, append-nil}
 use Rattle.std.specs.Prelude.{All}
 use Rattle.std.specs.List.{AllByRecursion}
 use Rattle.std.proofs.lemmas.Bool.{ne_eqb}
@@ -98,5 +98,6 @@ module _ {State : Type 0} (service : ℕ → Machine State) where
   header_leads schedule h few =
       let count : length (bare schedule).clients + length schedule.clients < 2 ^ 63 = omega (arith, few) in
       subst (λ t. LeadsTo service AtStart (header_lines schedule) (InHeader (Begun (record schedule { twin = t; events = [] })))) (sym h.one_logger)
-      (first_lines schedule h (client_header_lines 1 schedule.clients) (InHeader (Begun (record schedule { twin = false; events = [] })))
-      (clients_lead (bare schedule) schedule.clients h.clients count))
+      (subst (λ m. LeadsTo service AtStart (header_lines schedule) (InHeader (Begun (record schedule { twin = false; marks = m; events = [] })))) (sym h.unmarked)
+      (first_lines schedule h (client_header_lines 1 schedule.clients) (InHeader (Begun (record schedule { twin = false; marks = None; events = [] })))
+      (clients_lead (bare schedule) schedule.clients h.clients count)))

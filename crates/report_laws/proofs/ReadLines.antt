@@ -1,5 +1,5 @@
 -- The grammar reads a schedule within the limits from its canonical lines.
-use Rattle.std.proofs.Common.{◌≡◌, ℕ, ◌+◌, ◌-◌, ◌≤◌, ◌<◌, nat_le, Bool, true, false, refl, sym, ap, ap₂, ◌∙◌, subst, arith, true≢false, Ok, Err, List, [], ◌∷◌, ◌++◌, length, length-append, take, append_assoc, append-nil, if◌then◌else◌}
+use Rattle.std.proofs.Common.{◌≡◌, ℕ, ◌+◌, ◌-◌, ◌≤◌, ◌<◌, nat_le, Bool, true, false, refl, sym, ap, ap₂, ◌∙◌, subst, arith, true≢false, None, Ok, Err, List, [], ◌∷◌, ◌++◌, length, length-append, take, append_assoc, append-nil, if◌then◌else◌}
 use Rattle.std.specs.Prelude.{All}
 use Rattle.std.specs.List.{AllByRecursion, flat_map, slice_split}
 use Rattle.std.proofs.lemmas.Bool.{le-leb, ne_eqb}
@@ -45,6 +45,7 @@ unfolding schedule_line
 not_comment n (says.Service kind) = refl
 not_comment n (says.Server at) = refl
 not_comment n says.Twin = refl
+not_comment n (says.Marks every) = refl
 not_comment n (says.Client c) = refl
 not_comment n (says.Event (Boot boot isn)) = refl
 not_comment n (says.Event Crash) = refl
@@ -182,8 +183,9 @@ events_short s (e ∷ more) short h =
     subst (λ es. FitsLimit (Begun (record s { events = es }))) (append_assoc s.events (e ∷ []) more) (events_short (record s { events = s.events ++ e ∷ [] }) more h.0.short h.1)
 
 -- with one logger, the schedule before its clients
-with_one : (schedule : Schedule) (P : Schedule → Type 0) → schedule.twin ≡ false → P (record schedule { twin = false }) → P schedule
-with_one schedule P one p = subst (λ t. P (record schedule { twin = t })) (sym one) p
+with_one : (schedule : Schedule) (P : Schedule → Type 0) → schedule.twin ≡ false → schedule.marks ≡ None → P (record schedule { twin = false; marks = None }) → P schedule
+with_one schedule P one unmarked p =
+    subst (λ t. P (record schedule { twin = t })) (sym one) (subst (λ m. P (record schedule { twin = false; marks = m })) (sym unmarked) p)
 
 pub within_read : (schedule : Schedule) → IsWithinLimits schedule → Reads (schedule_bytes (Begun schedule)) (Begun schedule)
 within_read schedule w =
@@ -194,10 +196,10 @@ within_read schedule w =
     let start : Reads [] Empty = record { lines = []; cut = refl; clean = tt; number = 1; reads = λ more. refl } in
     let service : Reads ([] ++ a) (Named schedule.service) = more_read [] a Empty (says.Service schedule.service) start w.header.service refl in
     let server : Reads (([] ++ a) ++ b) (Begun (bare schedule)) = more_read ([] ++ a) b (Named schedule.service) (says.Server schedule.server) service w.header.server refl in
-    let clients : Reads ((([] ++ a) ++ b) ++ c) (Begun (record schedule { twin = false; events = [] })) =
+    let clients : Reads ((([] ++ a) ++ b) ++ c) (Begun (record schedule { twin = false; marks = None; events = [] })) =
     clients_read (bare schedule) (([] ++ a) ++ b) schedule.clients server w.header.clients refl in
     let single : Reads ((([] ++ a) ++ b) ++ c) (Begun (record schedule { events = [] })) =
-    with_one (record schedule { events = [] }) (λ s. Reads ((([] ++ a) ++ b) ++ c) (Begun s)) w.header.one_logger clients in
+    with_one (record schedule { events = [] }) (λ s. Reads ((([] ++ a) ++ b) ++ c) (Begun s)) w.header.one_logger w.header.unmarked clients in
     let few : length {A = Event} [] + length schedule.events ≤ 100000 = omega (arith, w.few) in
     let events : Reads (((([] ++ a) ++ b) ++ c) ++ d) (Begun schedule) =
     events_read (record schedule { events = [] }) ((([] ++ a) ++ b) ++ c) schedule.events single w.events few in
@@ -205,8 +207,8 @@ within_read schedule w =
 
 within_short : (schedule : Schedule) → IsWithinLimits schedule → FitsLimit (Begun schedule)
 within_short schedule w =
-    let clients : FitsLimit (Begun (record schedule { twin = false; events = [] })) = clients_short (bare schedule) schedule.clients w.header.server.short w.header.clients in
-    let single : FitsLimit (Begun (record schedule { events = [] })) = with_one (record schedule { events = [] }) (λ s. FitsLimit (Begun s)) w.header.one_logger clients in
+    let clients : FitsLimit (Begun (record schedule { twin = false; marks = None; events = [] })) = clients_short (bare schedule) schedule.clients w.header.server.short w.header.clients in
+    let single : FitsLimit (Begun (record schedule { events = [] })) = with_one (record schedule { events = [] }) (λ s. FitsLimit (Begun s)) w.header.one_logger w.header.unmarked clients in
     events_short (record schedule { events = [] }) schedule.events single w.events
 
 at_end : (n : ℕ) (schedule : Schedule) → read_lines no_objection n (Begun schedule) [] ≡ Ok schedule

@@ -1,6 +1,7 @@
 -- A report contains its schedule, line by line, in one spelling: the lines of its header after the first, and its event lines without the number.
--- The limit of a schedule's text is that of these lines together. Reports of schedules with two loggers aren't checked, so `twin` has no spelling here.
-use Rattle.std.specs.Prelude.{◌≡◌, ℕ, false, ◌+◌, ◌-◌, ◌≤◌, Ok, codes, List, [], ◌∷◌, ◌++◌, length, take}
+-- The limit of a schedule's text is that of these lines together. Reports of schedules with two loggers or with marks aren't checked, so `twin` and
+-- `marks` have no spelling here.
+use Rattle.std.specs.Prelude.{◌≡◌, ℕ, false, None, ◌+◌, ◌-◌, ◌≤◌, Ok, codes, List, [], ◌∷◌, ◌++◌, length, take}
 use Rattle.std.specs.List.{flat_map}
 use Rattle.ft_model.specs.Grammar.{line_of, with_line}
 use Rattle.ft_model.specs.Texts.{line, address_text, service_text}
@@ -19,6 +20,7 @@ abbrev pub line_for : ℕ → Line → List ℕ
 line_for n (says.Service kind) = line (codes "service") (service_text kind ∷ [])
 line_for n (says.Server at) = line (codes "server") (address_text at.ip at.port ∷ [])
 line_for n says.Twin = []
+line_for n (says.Marks every) = []
 line_for n (says.Client asked) = schedule_line n asked
 line_for n (says.Event e) = asked_line e ++ 10 ∷ []
 
@@ -65,16 +67,17 @@ EventsAccepted schedule (e ∷ more) = Follows (Begun schedule) (says.Event e) �
 
 -- the schedule of a service and a server's address alone
 abbrev pub bare : Schedule → Schedule
-bare schedule = record schedule { twin = false; clients = []; events = [] }
+bare schedule = record schedule { twin = false; marks = None; clients = []; events = [] }
 
 -- the lines of a header, each accepted after those before it
 pub record HeaderAccepted (schedule : Schedule) : Type 0 where
   pub one_logger : schedule.twin ≡ false
+  pub unmarked : schedule.marks ≡ None
   pub service : Follows Empty (says.Service schedule.service)
   pub server : Follows (Named schedule.service) (says.Server schedule.server)
   pub clients : ClientsAccepted (bare schedule) schedule.clients
 
--- A schedule within the limits: it has one logger, the grammar accepts its lines one after another, and they aren't too many.
+-- A schedule within the limits: it has one logger and no marks, the grammar accepts its lines one after another, and they aren't too many.
 pub record IsWithinLimits (schedule : Schedule) : Type 0 where
   pub header : HeaderAccepted schedule
   pub events : EventsAccepted (record schedule { events = [] }) schedule.events
