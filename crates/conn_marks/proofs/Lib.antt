@@ -1,0 +1,9 @@
+pub mod Tellable
+pub mod Due
+pub mod Marked
+pub mod HeldBytes
+pub mod MarkWires
+pub mod OneMarked
+pub mod KeyMarks
+pub mod Serving
+pub mod Settling

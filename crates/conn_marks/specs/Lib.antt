@@ -1,0 +1,4 @@
+pub mod Marks
+pub mod KeyMarks
+pub mod MarkSends
+pub mod Settled
