@@ -59,6 +59,7 @@ module _ {State : Type 0} (services : ℕ → Machine State) where
     where
       no : (opened : ℕ) (places : List Place) → Asking ≡ Serves opened places → ⊥
       no opened places e = cc
+  begins_for node other key (stage.Marked m) kind st is = st
   begins_for node other key stage.Lost kind st is = st
 
   fetches_for : (node : Node) (other : Node) (key : Key) (count : ℕ) (fetched : List Fetched) (at : Stage State) (kind : ℕ) → StageStands (services kind) node at
@@ -73,6 +74,7 @@ module _ {State : Type 0} (services : ℕ → Machine State) where
     where
       no : (opened : ℕ) (places : List Place) → Fetching count fetched ≡ Serves opened places → ⊥
       no opened places e = cc
+  fetches_for node other key count fetched (stage.Marked m) kind st is = st
   fetches_for node other key count fetched stage.Lost kind st is = st
 
   -- a turn of the key: where it leads, and that the node is there
@@ -151,6 +153,7 @@ module _ {State : Type 0} (services : ℕ → Machine State) where
         }
     leads_on before input count fetched (stage.Serving s) sent told law_of sound (complete, r) = ends_on before input count fetched s sent told complete r sound
     leads_on before input count fetched stage.Asking sent told law_of sound r = absurd r
+    leads_on before input count fetched (stage.Marked m) sent told law_of sound r = absurd r
     leads_on before input count fetched stage.Lost sent told law_of sound r = absurd r
 
     -- a message while the logger is asked how many entries it has
@@ -178,6 +181,7 @@ module _ {State : Type 0} (services : ℕ → Machine State) where
     stands_fetching count fetched (stage.Fetching f) st = (count, fetched, refl, st)
     stands_fetching count fetched stage.Asking st = absurd st
     stands_fetching count fetched (stage.Serving s) st = absurd st
+    stands_fetching count fetched (stage.Marked m) st = absurd st
     stands_fetching count fetched stage.Lost st = absurd st
 
     answers_fetching : (message : Message) (count : ℕ) (fetched : List Fetched) (was now : Stage State) (sent : List Wire) → StandsAt services here key (Fetches count fetched) was who.kind
@@ -186,6 +190,7 @@ module _ {State : Type 0} (services : ℕ → Machine State) where
     answers_fetching message count fetched (stage.Fetching f) now sent st goes = goes count fetched st
     answers_fetching message count fetched stage.Asking now sent st goes = absurd st
     answers_fetching message count fetched (stage.Serving s) now sent st goes = absurd st
+    answers_fetching message count fetched (stage.Marked m) now sent st goes = absurd st
     answers_fetching message count fetched stage.Lost now sent st goes = absurd st
 
     fetches_message : (message : Message) (count : ℕ) (fetched : List Fetched) (was now : Stage State) (sent : List Wire) (o : Option (List Fetched))
@@ -257,6 +262,7 @@ module _ {State : Type 0} (services : ℕ → Machine State) where
         }
     goes_serving input s (stage.Fetching f) sent place st alone near = absurd alone
     goes_serving input s stage.Asking sent place st alone near = absurd alone
+    goes_serving input s (stage.Marked m) sent place st alone near = absurd alone
     goes_serving input s stage.Lost sent place st alone near = absurd alone
 
   pub key_goes : (who : Identity) (key : Key) (input : Input) (was now : Stage State) (sent : List Wire) → ByLaw who input was now sent
@@ -265,9 +271,11 @@ module _ {State : Type 0} (services : ℕ → Machine State) where
   key_goes who key input stage.Asking now sent goes apart Asks st fair = goes_asking who key input now sent goes apart fair
   key_goes who key input (stage.Fetching f) now sent goes apart Asks st fair = absurd st
   key_goes who key input (stage.Serving s) now sent goes apart Asks st fair = absurd st
+  key_goes who key input (stage.Marked m) now sent goes apart Asks st fair = absurd st
   key_goes who key input stage.Lost now sent goes apart Asks st fair = absurd st
   key_goes who key input was now sent goes apart (Fetches count fetched) st fair = goes_fetching who key input count fetched was now sent st goes apart fair
   key_goes who key input stage.Asking now sent goes apart (Has place) st fair = absurd st
   key_goes who key input (stage.Fetching f) now sent goes apart (Has place) st fair = absurd st
   key_goes who key input (stage.Serving s) now sent goes apart (Has place) st fair = goes_serving who key input s now sent place st (apart.alone Asking) fair
+  key_goes who key input (stage.Marked m) now sent goes apart (Has place) st fair = absurd st
   key_goes who key input stage.Lost now sent goes apart (Has place) st fair = absurd st

@@ -56,10 +56,16 @@ impl Player {
         }
     }
 
-    fn boot(&mut self, alloc: Global, [kind, boot, isn, ..]: [u64; 5]) -> Result<(), NoMemory> {
+    /// A server of this kind, boot number and initial number, which makes a mark after every so many reads.
+    fn boot(
+        &mut self,
+        alloc: Global,
+        [kind, boot, isn, every, ..]: [u64; 5],
+    ) -> Result<(), NoMemory> {
         let kind = (kind % 256) as u8;
         let isn = (isn % 4_294_967_296) as u32;
-        self.node = Node::boot(alloc, boot.max(1), isn, kind, LOCAL)?;
+        let every = (every % 4_294_967_296) as u32;
+        self.node = Node::boot_marked(alloc, boot.max(1), isn, kind, LOCAL, every)?;
         self.up = true;
         tell(alloc, self.node.sent(), &mut self.out)
     }

@@ -38,7 +38,7 @@ live_ticks service node key (Ended k) c now old new st h = absurd st
 
 module _ {S : Type 0} (service : Machine S) (node : Node) (input : Input) where
   -- the place at which the slot after these stands
-  at_slot : (es : List (Key × Slot S)) (went left : List Place) (i : ℕ) → AllStand service node es (went ++ left) → length went ≡ i → i < length es
+  pub at_slot : (es : List (Key × Slot S)) (went left : List Place) (i : ℕ) → AllStand service node es (went ++ left) → length went ≡ i → i < length es
       → (place : Place) × (others : List Place) × (left ≡ place ∷ others)
       × ((e : Key × Slot S) → slice_get es i ≡ Some e → SlotStands service node e.0 e.1 place)
   at_slot [] went left i st e lt = absurd (omega arith)
@@ -52,7 +52,7 @@ module _ {S : Type 0} (service : Machine S) (node : Node) (input : Input) where
   at_slot (x ∷ es) (p ∷ ps) left (suc i) st e lt = at_slot es ps left i st.1 (omega arith) (omega arith)
 
   -- that slot stands elsewhere, and the others as before
-  put_slot : (es : List (Key × Slot S)) (went others : List Place) (place after : Place) (i : ℕ) (now : Slot S) → AllStand service node es (went ++ place ∷ others) → length went ≡ i
+  pub put_slot : (es : List (Key × Slot S)) (went others : List Place) (place after : Place) (i : ℕ) (now : Slot S) → AllStand service node es (went ++ place ∷ others) → length went ≡ i
       → ((e : Key × Slot S) → slice_get es i ≡ Some e → SlotStands service node e.0 now after)
       → AllStand service node (set_value_at es i now) ((went ++ after ∷ []) ++ others)
   put_slot [] [] others place after i now st e h = absurd st

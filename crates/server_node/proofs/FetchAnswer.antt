@@ -137,9 +137,9 @@ pub same_ok : {X E : Type 0} (r : Result X E) (x y : X) → r ≡ Ok x → r ≡
 same_ok {X} {E} r x y a b = ap (λ o. Rattle.std.specs.Result.result_unwrap_or o x) (sym a ∙ b)
 
 -- the service of this incarnation is that of its restart
-pub own_stands : {S : Type 0} (started : ℕ → S) (after : S → List ℕ → Served S) (who : Identity) (f : FetchingState S) (count : ℕ) (fetched : List Fetched) → IsOwn who f
+pub own_stands : {S : Type 0} (started : ℕ → S) (after : S → List ℕ → Served S) (who : Identity) (f : FetchingState S) (count : ℕ) (fetched : List Fetched) → f.kind ≡ who.kind
     → FetchingStands (machine (started who.kind) after) count fetched f → FetchingStands (machine (started f.kind) after) count fetched f
-own_stands started after who f count fetched own st = subst (λ k. FetchingStands (machine (started k) after) count fetched f) (sym own.kind) st
+own_stands started after who f count fetched kind st = subst (λ k. FetchingStands (machine (started k) after) count fetched f) (sym kind) st
 
 -- the entry that is known of a key has that key
 pub known_key : {S : Type 0} (key : Key) (head : EntryHead) (s : FetchingState S) → Some head ≡ option_map (λ e. e.head) (entry_known key s) → head.key ≡ key

@@ -36,3 +36,11 @@ pub mod StagedApart
 pub mod Runs
 pub mod RestoredAlone
 mod Unmarked
+pub mod MarkedStage
+pub mod MarkedTicks
+pub mod MarkedRestored
+pub mod MarkedFetch
+pub mod MarkedServed
+pub mod MarkedKeys
+pub mod Placed
+pub mod MarkedNodes

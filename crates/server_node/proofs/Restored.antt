@@ -172,15 +172,15 @@ sound_at service [] f fetched sound = sound.0
 sound_at service (x ∷ front) f fetched sound = sound_at service front f fetched sound.1
 
 -- how far the log is restored: these are left, in the log's order, and those are done, the newest first
-pub record RestoresOn {S : Type 0} (service : Machine S) (So_far : List Fetched → Serving S → (old new : List Wire) → Type 0) (fetched : List Fetched) (entries : List (EntryState S)) (now : Serving S) (old new : List Wire) : Type 0 where
+pub record RestoresOn {S X : Type 0} (service : Machine S) (So_far : List Fetched → X → (old new : List Wire) → Type 0) (fetched : List Fetched) (entries : List (EntryState S)) (now : X) (old new : List Wire) : Type 0 where
   pub left : List Fetched
   pub done : List Fetched
   pub split : fetched ≡ reverse left ++ done
   pub waits : StandsWhole service left entries
   pub so_far : So_far done now old new
 
-module _ {S : Type 0} (service : Machine S) (So_far : List Fetched → Serving S → (old new : List Wire) → Type 0) where
-  pub restores_none : (fetched : List Fetched) (entries : List (EntryState S)) (now : Serving S) (told : List Wire) → StandsWhole service (reverse fetched) entries
+module _ {S X : Type 0} (service : Machine S) (So_far : List Fetched → X → (old new : List Wire) → Type 0) where
+  pub restores_none : (fetched : List Fetched) (entries : List (EntryState S)) (now : X) (told : List Wire) → StandsWhole service (reverse fetched) entries
       → So_far [] now told told → RestoresOn service So_far fetched entries now told told
   restores_none fetched entries now told st none = record {
     left = reverse fetched;
@@ -190,7 +190,7 @@ module _ {S : Type 0} (service : Machine S) (So_far : List Fetched → Serving S
     so_far = none;
   }
 
-  pub restores_more : (fetched : List Fetched) (was rest : List (EntryState S)) (entry : Restored S) (before after : Serving S) (old mid new : List Wire)
+  pub restores_more : (fetched : List Fetched) (was rest : List (EntryState S)) (entry : Restored S) (before after : X) (old mid new : List Wire)
       → RestoresOn service So_far fetched was before old mid → ((left : List Fetched) → StandsWhole service left was → FirstIs service left (Some entry) rest)
       → ((front : List Fetched) (f : Fetched) (done : List Fetched) → fetched ≡ front ++ f ∷ done → is_whole f ≡ true → RestoredIs service f entry
       → So_far done before old mid → So_far (f ∷ done) after old new)
@@ -210,7 +210,7 @@ module _ {S : Type 0} (service : Machine S) (So_far : List Fetched → Serving S
             so_far = more (reverse left) f r.done there st.whole.0 is.0 r.so_far;
           }
 
-  pub restores_all : (fetched : List Fetched) (was rest : List (EntryState S)) (now : Serving S) (old new : List Wire) → RestoresOn service So_far fetched was now old new
+  pub restores_all : (fetched : List Fetched) (was rest : List (EntryState S)) (now : X) (old new : List Wire) → RestoresOn service So_far fetched was now old new
       → ((left : List Fetched) → StandsWhole service left was → FirstIs service left None rest) → So_far fetched now old new
   restores_all fetched was rest now old new r first = go r.left r.split r.waits
     where

@@ -41,6 +41,7 @@ module _ {S : Type 0} (service : Machine S) (node : Node) (key : Key) where
       subst (λ l. StandsFor service node key (slot_of key s) (place_in key l)) (sym is) (looked_up s.slots.entries places st.slots)
   stands_in (stage.Fetching f) (count, fetched, is, st) = subst (λ l. StandsFor service node key None (place_in key l)) (sym is) tt
   stands_in stage.Asking is = subst (λ l. StandsFor service node key None (place_in key l)) (sym is) tt
+  stands_in (stage.Marked m) st = absurd st
   stands_in stage.Lost st = absurd st
 
   pub runs_alone : (first : Serving S) (turns : List (Turned S)) (start : Option Place) → AreTurns service node first turns → StandsFor service node key (slot_of key first) start

@@ -134,6 +134,7 @@ module _ {S : Type 0} (service : Machine S) (who : Identity) where
       none_asked ((k, slot.Pending o) ∷ es) = none_asked es
       none_asked ((k, slot.Live c) ∷ es) = none_asked es
       none_asked ((k, slot.Done) ∷ es) = none_asked es
+  noise_rests standing (stage.Marked m) st = absurd st
   noise_rests standing stage.Lost st = absurd st
 
   no_fence : (standing : law.Stage) (message : Message) → (message.boot == who.boot) ≡ false → fence (node_of who standing) (Message_comes message) ≡ None
@@ -151,6 +152,7 @@ module _ {S : Type 0} (service : Machine S) (who : Identity) where
   others_message standing (stage.Serving s) message other st = serves_on standing (Message_comes message) s s [] (no_fence standing message other) st
       (λ opened places is stands. message_goes service (node_of who standing) message opened places s [] [] stands.number
       (none_concerned service (node_of who standing) (Message_comes message) s.slots.entries places [] (λ k. ap (λ b. b && names message.body k) other) stands.slots))
+  others_message standing (stage.Marked m) message other st = absurd st
   others_message standing stage.Lost message other st = absurd st
 
   -- nor does another message than a Summary, while it asks

@@ -49,6 +49,7 @@ pub rest_others : {S : Type 0} (node : Node) (input : law.Input) (at : Stage S) 
 rest_others node input (stage.Serving s) = record { slots = λ key e. refl; whose = tt }
 rest_others node input (stage.Fetching f) = noise_holds input f
 rest_others node input stage.Asking = tt
+rest_others node input (stage.Marked m) = tt
 rest_others node input stage.Lost = tt
 
 pub rest_alone : {S : Type 0} (service : Machine S) (who : Identity) (standing : law.Stage) (input : law.Input) (at : Stage S) → who.isn < 2 ^ 32 → IsSoundStage who at
@@ -58,7 +59,15 @@ rest_alone service who standing input (stage.Serving s) low sound none = λ key 
     rests_key service (node_of who standing) input key place s s [] count.0 count.1 (none key) st refl refl
 rest_alone service who standing input (stage.Fetching f) low sound none = tt
 rest_alone service who standing input stage.Asking low sound none = tt
+rest_alone service who standing input (stage.Marked m) low sound none = tt
 rest_alone service who standing input stage.Lost low sound none = tt
+
+rest_untouched : {S : Type 0} (node : Node) (input : law.Input) (at : Stage S) → IsUntouched node input at at []
+rest_untouched node input stage.Asking = λ nobody. (refl, refl)
+rest_untouched node input (stage.Fetching f) = λ nobody. (refl, refl)
+rest_untouched node input (stage.Serving s) = λ nobody. (refl, refl)
+rest_untouched node input (stage.Marked m) = tt
+rest_untouched node input stage.Lost = λ nobody. (refl, refl)
 
 module _ {S : Type 0} (service : Machine S) (who : Identity) (input : law.Input) where
   -- a turn while it serves
@@ -78,7 +87,7 @@ module _ {S : Type 0} (service : Machine S) (who : Identity) (input : law.Input)
       → ((standing : law.Stage) → Restarts service (node_of who standing) input at at []) → TurnsApart service who input at at []
   rest_apart at low sound none restarts = record {
     others = λ standing. rest_others (node_of who standing) input at;
-    untouched = λ standing nobody. (refl, refl);
+    untouched = λ standing. rest_untouched (node_of who standing) input at;
     alone = λ standing. rest_alone service who standing input at low sound (none standing);
     restarts = restarts;
   }
@@ -115,4 +124,5 @@ module _ {S : Type 0} (service : Machine S) (node : Node) (message : Message) wh
       rests_if_none (fetched_then node message count fetched) (stage.Fetching f) (stage.Fetching f) [] (λ more. RestartGoes service node count more (stage.Fetching f) [] [])
       (ap (λ b. if b then fetched_after (wanted count fetched) message.body fetched else None) other) refl refl
   other_restarts (stage.Serving s) other = tt
+  other_restarts (stage.Marked m) other = tt
   other_restarts stage.Lost other = tt

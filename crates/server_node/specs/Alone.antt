@@ -143,4 +143,5 @@ is_for_nobody node Tick_comes = false
 
 -- that changes nothing, and nothing is sent
 abbrev pub IsUntouched : {S : Type 0} → Node → Input → (was now : Stage S) → List Wire → Type 0
+IsUntouched node input (stage.Marked m) now sent = Unit {0}
 IsUntouched node input was now sent = is_for_nobody node input ≡ true → (now ≡ was) × (sent ≡ [])

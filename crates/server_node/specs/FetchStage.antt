@@ -39,6 +39,14 @@ UsesNone-prop marks.Unused = Unit-prop
 UsesNone-prop marks.Used = λ a b. absurd a
 UsesNone-prop marks.Awaited = λ a b. absurd a
 
+-- the restart asks in the name of this incarnation, and runs its service, whatever came
+pub record IsOf {S : Type 0} (who : Identity) (f : FetchingState S) : Type 0 where
+  pub boot : f.boot ≡ who.boot
+  pub kind : f.kind ≡ who.kind
+
+pub IsOf-prop : {S : Type 0} (who : Identity) (f : FetchingState S) → IsProp (IsOf who f)
+IsOf-prop who f = λ a b i. record { boot = ℕ_set f.boot who.boot a.boot b.boot i; kind = ℕ_set f.kind who.kind a.kind b.kind i }
+
 -- the restart asks in the name of this incarnation, without marks, and runs its service, whatever came
 pub record IsOwn {S : Type 0} (who : Identity) (f : FetchingState S) : Type 0 where
   pub boot : f.boot ≡ who.boot

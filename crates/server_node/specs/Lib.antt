@@ -22,3 +22,8 @@ pub mod Runs
 pub mod Turns
 pub mod RestartTurns
 pub mod NodeTurns
+pub mod Marked
+pub mod Markers
+pub mod MarkedServing
+pub mod MarkedRestart
+pub mod MarkedTurns

@@ -70,6 +70,7 @@ MessageRestarts service node message stage.Asking now sent =
 MessageRestarts service node message (stage.Fetching f) now sent =
     (count : ℕ) (fetched : List Fetched) → FetchingStands service count fetched f → AnswerGoes service node message count fetched f now [] sent
 MessageRestarts service node message (stage.Serving s) now sent = Unit {0}
+MessageRestarts service node message (stage.Marked m) now sent = Unit {0}
 MessageRestarts service node message stage.Lost now sent = Unit {0}
 
 -- a node's turn restarts each key by itself. Only messages lead a restart on

@@ -1,5 +1,5 @@
 -- How a node corresponds to the model's, and its turn by the law.
-use Rattle.std.specs.Prelude.{◌≡◌, ◌%◌, ℕ, List, map}
+use Rattle.std.specs.Prelude.{◌≡◌, ◌%◌, ℕ, Bool, true, false, List, map}
 use Rattle.std.specs.Coded.{×_prop, Unit-prop, le_prop}
 use Rattle.std.proofs.Math.Nat.{ℕ_set}
 use Rattle.std.specs.List.{AllByRecursion, AllByRecursion-prop}
@@ -20,18 +20,26 @@ use Rattle.server_node.specs.FetchStage.{FetchingStands, IsOwn, IsOwn-prop}
 use Rattle.server_node.specs.RestartNumbers.{AllNumbered, fetched_by}
 use Rattle.server_node.specs.Openings.{IsCounted}
 use Rattle.server_node.specs.Slots.{AllSound, IsSoundSlot, IsSoundSlot-prop}
+use Rattle.server_node.specs.Marked.{IsSoundMarked, IsSoundMarked-prop}
 use Rattle.server_node.specs.ServingStage.{ServingStands}
 
 abbrev pub StageStands : {S : Type 0} → Machine S → law.Node → Stage S → Type 0
 StageStands service node stage.Asking = node.stage ≡ law_stage.Asking
 StageStands service node (stage.Fetching f) = (count : ℕ) × (fetched : List Fetched) × (node.stage ≡ law_stage.Fetching count fetched) × FetchingStands service count fetched f
 StageStands service node (stage.Serving s) = (opened : ℕ) × (places : List law.Place) × (node.stage ≡ law_stage.Serving opened places) × ServingStands service node opened places s
+StageStands service node (stage.Marked m) = ⊥
 StageStands service node stage.Lost = ⊥
+
+-- whether a node marks. One that does has another law
+abbrev pub is_marked : {S : Type 0} → Stage S → Bool
+is_marked (stage.Marked m) = true
+is_marked _ = false
 
 -- the stage's calls may be made, whatever came
 abbrev pub IsSoundStage : {S : Type 0} → Identity → Stage S → Type 0
 IsSoundStage who (stage.Fetching f) = IsOwn who f
 IsSoundStage who (stage.Serving s) = AllSound who s.slots.entries × IsCounted who.isn s.next.0
+IsSoundStage who (stage.Marked m) = IsSoundMarked who m
 IsSoundStage who _ = Unit {0}
 
 pub IsSoundStage-prop : {S : Type 0} (who : Identity) (at : Stage S) → IsProp (IsSoundStage who at)
@@ -39,6 +47,7 @@ IsSoundStage-prop who stage.Asking = Unit-prop
 IsSoundStage-prop who (stage.Fetching f) = IsOwn-prop who f
 IsSoundStage-prop who (stage.Serving s) =
     ×_prop (AllByRecursion-prop (λ e. IsSoundSlot who e.0 e.1) (λ e. IsSoundSlot-prop who e.0 e.1) s.slots.entries) (×_prop (ℕ_set (s.next.0 % 65536) (who.isn % 65536)) le_prop)
+IsSoundStage-prop who (stage.Marked m) = IsSoundMarked-prop who m
 IsSoundStage-prop who stage.Lost = Unit-prop
 
 -- a turn by the law: the node corresponds to a next one of the model's, and the packets of the turn are what it sent, each in its one spelling.

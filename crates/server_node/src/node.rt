@@ -25,7 +25,7 @@ pub struct Node<S: Service> {
 }
 
 impl<S: Saved> Node<S> {
-    ghost use Rattle.std.specs.Prelude.{◌≡◌, ◌≤◌, map, IfOk, IfErr, IsErrOf, IfSome, OnOk, option_copied};
+    ghost use Rattle.std.specs.Prelude.{◌≡◌, ◌≤◌, ℕ, map, IfOk, IfErr, IsErrOf, IfSome, OnOk, option_copied};
     ghost use Rattle.std.specs.Borrow.{sem};
     ghost use Rattle.ft_model.specs.Node.{Stage as Standing, booted};
     ghost use Rattle.ft_model.specs.Lawful.{hello};
@@ -35,6 +35,9 @@ impl<S: Saved> Node<S> {
     ghost use Rattle.server_node.specs.Inputs.{input_of};
     ghost use Rattle.server_node.specs.Loan.{IsConnAt, place_in};
     ghost use Rattle.server_node.specs.NodeTurns.{NodeTurns, Leaves};
+    ghost use Rattle.mark_traces.specs.MarkedNode.{MarkedNode, booted_to_mark};
+    ghost use Rattle.server_node.specs.Markers.{saving, marker_of};
+    ghost use Rattle.server_node.specs.MarkedTurns.{MarkedNodeStands, MarkedNodeTurns, marked_input_of};
     ghost use Rattle.server_node.specs.Stages.{StageStands};
     ghost use Rattle.server_node.specs.Turns.{IsUnfenced, IsFenceOf};
     ghost use Rattle.server_trait.specs.Service.{machine};
@@ -52,6 +55,25 @@ impl<S: Saved> Node<S> {
         ensures hello { IfOk result (λ n. n.turn.sent.items ≡ map wire_of (hello (booted local boot isn))) }
         ensures same { IfOk result (λ n. n.who ≡ record { boot = boot; isn = isn; kind = kind; local = local }) }
     {
+        Node::boot_marked(alloc, boot, isn, kind, local, 0)
+    }
+
+    /// The same with marks: after every so many reads of a connection, once it is quiet, its service's state is sent to the logger, and a restart begins each
+    /// connection where its state was saved. With 0, or where states can't be saved, no marks are made.
+    pub fn boot_marked(
+        alloc: Global,
+        boot: u64,
+        isn: u32,
+        kind: u8,
+        local: Addr,
+        every: u32,
+    ) -> Result<Node<S>, NoMemory>
+        requires { 1 ≤ boot }
+        ensures plain { IfOk result (λ n. every ≡ 0 → StageStands (machine (S.started kind) S.after) (booted local boot isn) n.stage) }
+        ensures marked { IfOk result (λ n. 1 ≤ every → MarkedNodeStands (marker_of S.Service (saving S.form S.state_of S.is_savable) n.who every) (booted_to_mark local boot isn) n) }
+        ensures hello { IfOk result (λ n. n.turn.sent.items ≡ map wire_of (hello (booted local boot isn))) }
+        ensures same { IfOk result (λ n. n.who ≡ record { boot = boot; isn = isn; kind = kind; local = local }) }
+    {
         let who = Identity {
             boot,
             isn,
@@ -59,12 +81,9 @@ impl<S: Saved> Node<S> {
             local,
         };
         let mut turn = Turn::new(alloc)?;
+        let stage = Stage::begun(alloc, every);
         send_hello(who, &mut turn)?;
-        Ok(Node {
-            who,
-            stage: Stage::Asking,
-            turn,
-        })
+        Ok(Node { who, stage, turn })
     }
 
     /// The connection of a key, while it is live. It is at the point that the model has for the key, and each of its calls may be made.
@@ -72,6 +91,8 @@ impl<S: Saved> Node<S> {
     pub fn conn(&self, key: Key) -> Option<&Conn<S>>
         ensures stands { (standing : Standing) → StageStands (service_of S.Service self.now.who) (node_of self.now.who standing) self.now.stage
             → IsConnAt (service_of S.Service self.now.who) (node_of self.now.who standing) (option_copied result) (place_in key standing) }
+        ensures marked { (every : ℕ) (node : MarkedNode) → MarkedNodeStands (marker_of S.Service (saving S.form S.state_of S.is_savable) self.now.who every) node self.now
+            → IsConnAt (service_of S.Service self.now.who) node.plain (option_copied result) (place_in key node.plain.stage) }
         ensures sound { IfSome result (λ c. IsSound c.now) }
     {
         conn_in(&self.stage, key)
@@ -87,6 +108,7 @@ impl<S: Saved> Node<S> {
     /// One turn. It is lawful under two premises: a packet to a live connection is near, and a fetched entry is sound.
     fn advance(&mut self, alloc: Global, input: Input<'_>) -> Result<(), TurnEnd>
         ensures turn { OnOk result (NodeTurns (input_of input.entry) self.old self.new self.new.turn.sent.items) }
+        ensures marked { OnOk result (MarkedNodeTurns (saving S.form S.state_of S.is_savable) (marked_input_of input.entry) self.old self.new self.new.turn.sent.items) }
         ensures unfenced { OnOk result (IsUnfenced self.old.who (input_of input.entry)) }
         ensures fenced { IfErr result (IsFenceOf self.old.who (input_of input.entry)) }
         ensures memory { IsErrOf result TurnEnd.NoMemory → IsUnfenced self.old.who (input_of input.entry) }
@@ -104,7 +126,8 @@ impl<S: Saved> Node<S> {
     /// larger one ends it by `Fenced`, even if no memory is left, and nothing else ends it so.
     pub fn turn(&mut self, alloc: Global, input: Input<'_>) -> Result<&[OutPacket], TurnEnd>
         ensures* after { sem 𝓛 (Leaves S.row S.Service self.entry
-            (λ node. IfOk result (λ sent. NodeTurns (input_of input.entry) self.old node sent.now))) }
+            (λ node. IfOk result (λ sent. NodeTurns (input_of input.entry) self.old node sent.now
+            × MarkedNodeTurns (saving S.form S.state_of S.is_savable) (marked_input_of input.entry) self.old node sent.now))) }
         ensures unfenced { OnOk result (IsUnfenced self.old.who (input_of input.entry)) }
         ensures fenced { IfErr result (IsFenceOf self.old.who (input_of input.entry)) }
         ensures memory { IsErrOf result TurnEnd.NoMemory → IsUnfenced self.old.who (input_of input.entry) }

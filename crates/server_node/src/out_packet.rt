@@ -1,9 +1,12 @@
 //! A packet that the node sends.
 
 ghost use Rattle.std.specs.Prelude.{◌≡◌, OnOk};
+ghost use Rattle.seq_arith.specs.MessageGrammar.{reading};
 ghost use Rattle.server_node.specs.SentBytes.{sent_to, party_of};
+ghost use Rattle.conn_marks.specs.MarkSends.{is_done_wire, says_done_in};
 
 use ft_io::{Key, NoMemory};
+use logger_wire::{Body, read_msg};
 use std::alloc::Global;
 use std::marker::Model;
 
@@ -49,6 +52,16 @@ impl OutPacket {
         Ok(())
     }
 
+    /// Whether it tells the logger that a connection is done.
+    pub(crate) fn is_done(&self) -> bool
+        ensures { result ≡ is_done_wire self.now }
+    {
+        match self.to {
+            To::Client(_) => false,
+            To::Logger => says_done(&self.text),
+        }
+    }
+
     /// The addressee.
     pub fn to(&self) -> To
         ensures { party_of result ≡ self.now.to }
@@ -61,5 +74,15 @@ impl OutPacket {
         ensures { result.now ≡ self.now.bytes }
     {
         self.text.as_slice()
+    }
+}
+
+/// Whether bytes are the message that a connection is done.
+fn says_done(bytes: &[u8]) -> bool
+    ensures { result ≡ says_done_in (reading bytes.now) }
+{
+    match read_msg(bytes) {
+        Ok(m) => matches!(m.body, Body::DoneMsg { .. }),
+        Err(_) => false,
     }
 }

@@ -1,7 +1,8 @@
 //! What the node sends in a turn, in buffers that are kept from turn to turn.
 
-ghost use Rattle.std.specs.Prelude.{◌≡◌, ◌+◌, ◌≤◌, ◌++◌, ◌∷◌, [], length, take, OnOk};
+ghost use Rattle.std.specs.Prelude.{◌≡◌, ◌+◌, ◌≤◌, ◌++◌, ◌∷◌, [], length, take, drop, filter, OnOk};
 ghost use Rattle.server_node.specs.SentBytes.{sent_to};
+ghost use Rattle.conn_marks.specs.MarkSends.{is_done_wire, put_before};
 
 use crate::out_packet::{OutPacket, To};
 use ft_io::NoMemory;
@@ -54,6 +55,39 @@ impl Outgoing {
         Ok(())
     }
 
+    /// How many there are.
+    pub(crate) fn len(&self) -> usize
+        ensures { result ≡ length self.now.items }
+    {
+        self.count
+    }
+
+    /// How many of the packets from the `from`th on say that a connection is done.
+    pub(crate) fn dones_from(&self, from: usize) -> usize
+        requires { from ≤ length self.now.items }
+        ensures value { result ≡ length (filter is_done_wire (drop from self.now.items)) }
+        ensures few { result ≤ length self.now.items }
+    {
+        count_dones(&self.as_slice()[from..])
+    }
+
+    /// Puts a packet before the last `behind`.
+    pub(crate) fn put(
+        &mut self,
+        alloc: Global,
+        behind: usize,
+        to: To,
+        bytes: &[u8],
+    ) -> Result<(), NoMemory>
+        requires { behind ≤ length self.old.items }
+        ensures { OnOk result (self.new.items ≡ put_before behind (sent_to to bytes.now ∷ []) self.old.items) }
+    {
+        let packet = OutPacket::new(alloc, to, bytes)?;
+        self.packets.insert(self.count - behind, packet)?;
+        self.count += 1;
+        Ok(())
+    }
+
     pub(crate) fn as_slice(&self) -> &[OutPacket]
         ensures { result.now ≡ self.now.items }
     {
@@ -80,4 +114,16 @@ fn put(
     }
     packets.push(OutPacket::new(alloc, to, bytes)?)?;
     Ok(())
+}
+
+/// How many of these packets say that a connection is done.
+fn count_dones(packets: &[OutPacket]) -> usize
+    ensures value { result ≡ length (filter is_done_wire packets.now) }
+    ensures few { result ≤ length packets.now }
+{
+    let mut count = 0;
+    for packet in packets {
+        count += usize::from(packet.is_done());
+    }
+    count
 }

@@ -202,7 +202,7 @@ pub(crate) fn hold<S: Service>(
     segment: &PacketRef<'_>,
     turn: &mut Turn,
 ) -> Result<(), NoMemory>
-    requires { IsOwn who fetching.now }
+    requires { fetching.now.kind ≡ who.kind }
     ensures held { OnOk result (SendsHeld S.Service who (segment_of segment.now) fetching.now turn.old turn.new) }
     ensures alone { OnOk result (SendsFor (source_of (segment_of segment.now)) turn.old turn.new) }
     ensures silent { OnOk result (is_for who.local (segment_of segment.now) ≡ false → turn.new.sent.items ≡ turn.old.sent.items) }

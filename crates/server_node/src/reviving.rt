@@ -67,7 +67,7 @@ fn restore<S: Service>(
 }
 
 /// The slot of an entry whose reads are replayed: its connection, whose inner TCP has this initial number, becomes live.
-fn revive<S: Service>(
+pub(crate) fn revive<S: Service>(
     who: Identity,
     isn: Seq,
     replayed: Replayed<S>,

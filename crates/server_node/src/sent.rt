@@ -6,12 +6,17 @@ ghost use Rattle.ft_model.specs.Network.Packet.{To_logger};
 ghost use Rattle.logger_wire.specs.Value.{body_of, message_of, IsSendable};
 ghost use Rattle.server_trait.specs.Service.{AreBytes};
 ghost use Rattle.seq_arith.specs.MessageGrammar.{behind_of};
+ghost use Rattle.seq_arith.specs.MarkGrammar.{IsSpellable};
+ghost use Rattle.checkpoint.specs.Value.{message_of as mark_message_of};
+ghost use Rattle.mark_laws.specs.Marking.Outgoing.{Mark_to_logger};
+ghost use Rattle.conn_marks.specs.MarkSends.{AreOut};
 ghost use Rattle.server_node.specs.SentBytes.{sent_to, wires_of, segment_to, message_to_logger};
 ghost use Rattle.server_node.specs.Turns.{Sends};
 
 use crate::out_packet::To;
 use crate::outgoing::Outgoing;
 use crate::turn::Turn;
+use checkpoint::{MarkMsg, write_mark};
 use ft_io::{Key, NoMemory};
 use logger_wire::{Msg, put_msg};
 use std::alloc::Global;
@@ -25,6 +30,16 @@ pub(crate) fn tell(message: &Msg<'_>, turn: &mut Turn) -> Result<(), NoMemory>
 {
     let mut text = [0; 64];
     let len = put_msg(message, &mut text);
+    turn.sent.send(turn.alloc, To::Logger, &text[..len])
+}
+
+/// Asks the logger for a mark.
+pub(crate) fn ask_mark(question: &MarkMsg<'_>, turn: &mut Turn) -> Result<(), NoMemory>
+    requires { IsSpellable (mark_message_of question.now) }
+    ensures { OnOk result (AreOut (Mark_to_logger (mark_message_of question.now) ∷ []) turn.old.sent.items turn.new.sent.items) }
+{
+    let mut text = [0; 2_048];
+    let len = write_mark(question, &mut text);
     turn.sent.send(turn.alloc, To::Logger, &text[..len])
 }
 

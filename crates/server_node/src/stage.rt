@@ -18,22 +18,31 @@ ghost use Rattle.server_node.specs.Inputs.{input_of};
 ghost use Rattle.server_node.specs.Loan.{IsConnAt, place_in};
 ghost use Rattle.server_node.specs.Openings.{IsCounted};
 ghost use Rattle.server_node.specs.Slots.{AllSound};
-ghost use Rattle.server_node.specs.Stages.{StageStands, IsSoundStage, IsFence};
+ghost use Rattle.server_node.specs.Stages.{StageStands, IsSoundStage, IsFence, is_marked};
+ghost use Rattle.seq_arith.specs.MarkGrammar.{reading as mark_reading};
+ghost use Rattle.conn_marks.specs.KeyMarks.{every_for};
+ghost use Rattle.mark_traces.specs.MarkedNode.{Marker, MarkedNode};
+ghost use Rattle.mark_traces.specs.MarkedNode.MarkedInput.{Plain_comes};
+ghost use Rattle.server_node.specs.Markers.{saving};
+ghost use Rattle.server_node.specs.MarkedTurns.{IsTurnMarked, NodeStandsAt, HasSlotsApart, marked_input_of, heard_of};
 ghost use Rattle.server_node.specs.RestartTurns.{SummaryRestarts};
 ghost use Rattle.server_node.specs.Turns.{Sends, ServingTurns, ServingTurnsAlone, StageTurns, IsUnfenced, IsFenceOf};
 
 use crate::identity::Identity;
 use crate::input::{Input, TurnEnd};
+use crate::marked::{self, Marked, MarkedStage, apart_in};
 use crate::restarting::{ask, begin_fetching, hold, take_answer};
 use crate::sent::tell;
 use crate::serving::{Serving, serve_message, serve_packet, serve_tick};
 use crate::slots::conn_at;
 use crate::turn::Turn;
+use conn_marks::Marks;
 use ft_io::{Key, NoMemory};
 use logger_wire::{Body, Msg, read_msg};
 use reincarnate::Fetching;
 use segment_codec::{PacketRef, read_packet};
 use server_trait::{Saved, Service};
+use std::alloc::Global;
 use wrapped_conn::Conn;
 
 /// A packet of at most so many bytes is short.
@@ -47,8 +56,27 @@ pub(crate) enum Stage<S: Service> {
     /// The log's entries are asked for.
     Fetching(Fetching<S>),
     Serving(Serving<S>),
+    /// The same of a node that marks.
+    Marked(Marked<S>),
     /// A turn has failed.
     Lost,
+}
+
+impl<S: Saved> Stage<S> {
+    /// At the boot, of a node that marks after every so many reads, or makes no marks where that is 0.
+    pub(crate) fn begun(alloc: Global, every: u32) -> Stage<S>
+        ensures plain { every ≡ 0 → result ≡ Stage.Asking }
+        ensures marked { 1 ≤ every → result ≡ Stage.Marked (record { stage = MarkedStage.Asking; marks = record { every = every_for S.is_savable every; of = [] } }) }
+        ensures sound { (who : Incarnation) → IsSoundStage who result }
+    {
+        if every == 0 {
+            return Stage::Asking;
+        }
+        Stage::Marked(Marked {
+            stage: MarkedStage::Asking,
+            marks: Marks::new::<S>(alloc, every),
+        })
+    }
 }
 
 /// Asks the logger how many entries it has.
@@ -63,16 +91,13 @@ pub(crate) fn send_hello(who: Identity, turn: &mut Turn) -> Result<(), NoMemory>
     tell(&message, turn)
 }
 
-fn on_tick<S: Service>(
-    who: Identity,
-    stage: Stage<S>,
-    turn: &mut Turn,
-) -> Result<Stage<S>, NoMemory>
+fn on_tick<S: Saved>(who: Identity, stage: Stage<S>, turn: &mut Turn) -> Result<Stage<S>, NoMemory>
     requires boot { 1 ≤ who.boot }
     requires sound { IsSoundStage who stage }
     requires empty { turn.old.sent.items ≡ [] }
     ensures turn { IfOk result (λ after. StageTurns S.Service who Tick_comes stage after turn.new.sent.items) }
     ensures apart { IfOk result (λ after. TurnsApart (service_of S.Service who) who Tick_comes stage after turn.new.sent.items) }
+    ensures marked { IfOk result (λ after. IsTurnMarked S.Service (saving S.form S.state_of S.is_savable) who (Plain_comes Tick_comes) stage after turn.new.sent.items) }
     ensures sound { IfOk result (λ after. IsSoundStage who after) }
 {
     match stage {
@@ -88,6 +113,7 @@ fn on_tick<S: Service>(
             serve_tick(who, &mut serving, turn)?;
             Ok(Stage::Serving(serving))
         }
+        Stage::Marked(node) => Ok(Stage::Marked(marked::tick(who, node, turn)?)),
         Stage::Lost => Err(NoMemory),
     }
 }
@@ -107,6 +133,8 @@ fn on_message<S: Saved>(
         → StageTurns S.Service who (Message_comes (message_of m.now)) stage after turn.new.sent.items) }
     ensures apart { IfOk result (λ after. m.now.boot ≡ who.boot
         → TurnsApart (service_of S.Service who) who (Message_comes (message_of m.now)) stage after turn.new.sent.items) }
+    ensures marked { IfOk result (λ after. m.now.boot ≡ who.boot → IsUnfenced who (Message_comes (message_of m.now))
+        → IsTurnMarked S.Service (saving S.form S.state_of S.is_savable) who (Plain_comes (Message_comes (message_of m.now))) stage after turn.new.sent.items) }
     ensures sound { IfOk result (λ after. IsSoundStage who after) }
 {
     match stage {
@@ -116,12 +144,13 @@ fn on_message<S: Saved>(
             serve_message(who, m, &mut serving, turn)?;
             Ok(Stage::Serving(serving))
         }
+        Stage::Marked(node) => Ok(Stage::Marked(marked::hear(who, node, m, turn)?)),
         Stage::Lost => Err(NoMemory),
     }
 }
 
 /// How many entries the log has, if a message is a Summary, which says it.
-fn count_in(body: &Body<'_>) -> Option<u16>
+pub(crate) fn count_in(body: &Body<'_>) -> Option<u16>
     ensures { result ≡ summary_count (body_of body.now) }
 {
     match body {
@@ -179,6 +208,7 @@ fn hear<S: Saved>(
     requires empty { turn.old.sent.items ≡ [] }
     ensures turn { IfOk result (λ after. StageTurns S.Service who (Message_comes (message_of m.now)) stage after turn.new.sent.items) }
     ensures apart { IfOk result (λ after. TurnsApart (service_of S.Service who) who (Message_comes (message_of m.now)) stage after turn.new.sent.items) }
+    ensures marked { IfOk result (λ after. IsTurnMarked S.Service (saving S.form S.state_of S.is_savable) who (Plain_comes (Message_comes (message_of m.now))) stage after turn.new.sent.items) }
     ensures unfenced { IfOk result (λ after. IsUnfenced who (Message_comes (message_of m.now))) }
     ensures fenced { IfErr result (IsFenceOf who (Message_comes (message_of m.now))) }
     ensures memory { IsErrOf result TurnEnd.NoMemory → IsUnfenced who (Message_comes (message_of m.now)) }
@@ -188,13 +218,44 @@ fn hear<S: Saved>(
         return Err(TurnEnd::Fenced { newer });
     }
     if m.boot != who.boot {
+        fit_slots(&stage);
         return Ok(stage);
     }
     Ok(on_message(who, stage, m, turn)?)
 }
 
+/// A fact for proofs: no key of a node that marks has two slots.
+fn fit_slots<S: Saved>(stage: &Stage<S>)
+    ensures { HasSlotsApart stage.now }
+{
+    match stage {
+        Stage::Marked(node) => apart_in(&node.stage),
+        _ => (),
+    }
+}
+
+/// Bytes that may be a message about marks. Only a node that marks reads them.
+fn hear_of_mark<S: Saved>(
+    who: Identity,
+    stage: Stage<S>,
+    bytes: &[u8],
+    turn: &mut Turn,
+) -> Result<Stage<S>, NoMemory>
+    requires boot { 1 ≤ who.boot }
+    requires sound { IsSoundStage who stage }
+    requires empty { turn.old.sent.items ≡ [] }
+    ensures plain { IfOk result (λ after. is_marked stage ≡ false → (after ≡ stage) × (turn.new.sent.items ≡ turn.old.sent.items)) }
+    ensures marked { IfOk result (λ after. IsTurnMarked S.Service (saving S.form S.state_of S.is_savable) who (heard_of (mark_reading bytes.now)) stage after turn.new.sent.items) }
+    ensures sound { IfOk result (λ after. IsSoundStage who after) }
+{
+    match stage {
+        Stage::Marked(node) => Ok(Stage::Marked(marked::hear_bytes(who, node, bytes, turn)?)),
+        stage => Ok(stage),
+    }
+}
+
 /// Handles a segment, of which `packet` has the bytes. Before the log is fetched clients get no answer.
-fn on_packet<S: Service>(
+fn on_packet<S: Saved>(
     who: Identity,
     stage: Stage<S>,
     segment: &PacketRef<'_>,
@@ -207,6 +268,7 @@ fn on_packet<S: Service>(
     requires empty { turn.old.sent.items ≡ [] }
     ensures turn { IfOk result (λ after. StageTurns S.Service who (Packet_comes (segment_of segment.now)) stage after turn.new.sent.items) }
     ensures apart { IfOk result (λ after. TurnsApart (service_of S.Service who) who (Packet_comes (segment_of segment.now)) stage after turn.new.sent.items) }
+    ensures marked { IfOk result (λ after. IsTurnMarked S.Service (saving S.form S.state_of S.is_savable) who (Plain_comes (Packet_comes (segment_of segment.now))) stage after turn.new.sent.items) }
     ensures sound { IfOk result (λ after. IsSoundStage who after) }
 {
     match stage {
@@ -219,6 +281,7 @@ fn on_packet<S: Service>(
             serve_bytes(who, segment, packet, &mut serving, turn)?;
             Ok(Stage::Serving(serving))
         }
+        Stage::Marked(node) => Ok(Stage::Marked(marked::give(who, node, segment, packet, turn)?)),
         Stage::Lost => Err(NoMemory),
     }
 }
@@ -226,7 +289,7 @@ fn on_packet<S: Service>(
 /// Hands the packet to the stage that serves, as a copy whose numbers the connection changes in place. A short packet is copied into a short buffer, which
 /// takes less time to clear.
 #[tactic(auto, using(crate::proofs::Came::packet_fits))]
-fn serve_bytes<S: Service>(
+pub(crate) fn serve_bytes<S: Service>(
     who: Identity,
     segment: &PacketRef<'_>,
     packet: &[u8],
@@ -264,10 +327,13 @@ fn copied<'a>(packet: &[u8], room: &'a mut [u8]) -> &'a mut [u8]
 pub(crate) fn conn_in<S: Service>(stage: &Stage<S>, key: Key) -> Option<&Conn<S>>
     ensures stands { (service : Machine S) (node : Node) → StageStands service node stage.now
         → IsConnAt service node (option_copied result) (place_in key node.stage) }
+    ensures marked { (by : Marker S) (law : MarkedNode) → NodeStandsAt by law stage.now
+        → IsConnAt by.service law.plain (option_copied result) (place_in key law.plain.stage) }
     ensures sound { (who : Incarnation) → IsSoundStage who stage.now → IfSome result (λ c. IsSound c.now) }
 {
     match stage {
         Stage::Serving(serving) => conn_at(&serving.slots, key),
+        Stage::Marked(node) => marked::lend(node, key),
         Stage::Asking | Stage::Fetching(_) | Stage::Lost => None,
     }
 }
@@ -284,6 +350,7 @@ pub(crate) fn go<S: Saved>(
     requires empty { turn.old.sent.items ≡ [] }
     ensures turn { IfOk result (λ after. StageTurns S.Service who (input_of input.entry) stage after turn.new.sent.items) }
     ensures apart { IfOk result (λ after. TurnsApart (service_of S.Service who) who (input_of input.entry) stage after turn.new.sent.items) }
+    ensures marked { IfOk result (λ after. IsTurnMarked S.Service (saving S.form S.state_of S.is_savable) who (marked_input_of input.entry) stage after turn.new.sent.items) }
     ensures unfenced { IfOk result (λ after. IsUnfenced who (input_of input.entry)) }
     ensures fenced { IfErr result (IsFenceOf who (input_of input.entry)) }
     ensures memory { IsErrOf result TurnEnd.NoMemory → IsUnfenced who (input_of input.entry) }
@@ -293,11 +360,14 @@ pub(crate) fn go<S: Saved>(
         Input::Tick => Ok(on_tick(who, stage, turn)?),
         Input::Packet(bytes) => match read_packet(bytes) {
             Ok(segment) => Ok(on_packet(who, stage, &segment, bytes, turn)?),
-            Err(_) => Ok(stage),
+            Err(_) => {
+                fit_slots(&stage);
+                Ok(stage)
+            }
         },
         Input::Message(bytes) => match read_msg(bytes) {
             Ok(m) => hear(who, stage, &m, turn),
-            Err(_) => Ok(stage),
+            Err(_) => Ok(hear_of_mark(who, stage, bytes, turn)?),
         },
     }
 }

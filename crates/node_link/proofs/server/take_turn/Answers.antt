@@ -27,7 +27,7 @@ pub returns-clause-turned : goal.returns-clause-turned
 unfolding standing_of
 returns-clause-turned g c =
     let r = c.receive-came.ensures.received in
-    let went = rw c.in_ok-packets.was at c.turn.follows.holds-at-none in
+    let went = (rw c.in_ok-packets.was at c.turn.follows.holds-at-none).0 in
     let few : length c.in_ok-packets.packets.now ≤ 2 ^ 64 = omega (arith, c.send_all.ensures.short) in
     turned (machines g.S.Service.started g.S.Service.after) c.args.loggers (standing_of c.args.node.now) (standing_of c.turn.follows.lender-at-none) (g.L.Link.told c.args.link.now) (g.L.Link.told c.receive-came.new.link) (g.L.Link.told c.send_all.new.link)
     c.args.counts.now c.receive-came.new.counts c.send_all.new.counts r.0 (input_of c.input_of.result) c.in_ok-packets.packets.now r.1 r.2

@@ -8,6 +8,8 @@ use Rattle.server_node.specs.Identity.{node_of}
 use Rattle.server_node.specs.Stages.{NodeGoes}
 use Rattle.server_node.proofs.Staged.{others_message}
 use Rattle.server_node.proofs.StagedApart.{rest_apart, other_boot, other_restarts}
+use Rattle.server_node.specs.Markers.{saving}
+use Rattle.server_node.proofs.MarkedNodes.{other_turn}
 use Rattle.server_node.proofs.stage.hear.Goals as goal
 
 pub returns-in-Some-clause-fenced : goal.returns-in-Some-clause-fenced
@@ -46,3 +48,13 @@ returns-then-m-who-clause-apart g c =
 
 pub returns-clause-apart : goal.returns-clause-apart
 returns-clause-apart g c = c.in_ok-on_message.ensures.apart c.if-m-who.false
+
+pub returns-then-m-who-clause-marked : goal.returns-then-m-who-clause-marked
+returns-then-m-who-clause-marked g c =
+    let other : (c.args.m.now.boot == c.args.who.boot) ≡ false = ne_eqb c.args.m.now.boot c.args.who.boot c.if-m-who.true in
+    other_turn g.S.Service (saving g.S.Saved.form g.S.Saved.state_of g.S.Saved.is_savable) c.args.who (message_of c.args.m.now) c.args.stage c.args.turn.now.sent.items other c.requires.empty c.fit_slots.ensures
+
+pub returns-clause-marked : goal.returns-clause-marked
+returns-clause-marked g c =
+    let none : c.newer_in.result ≡ None = search rules in
+    c.in_ok-on_message.ensures.marked c.if-m-who.false (λ standing. sym (c.newer_in.ensures standing) ∙ none)

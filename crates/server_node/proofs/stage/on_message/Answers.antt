@@ -11,12 +11,17 @@ use Rattle.server_node.specs.RestartNumbers.{fetched_by}
 use Rattle.server_node.specs.Restarts.{AnswerGoes}
 use Rattle.server_node.specs.RestartEnd.{StageGoes}
 use Rattle.server_node.specs.ServingStage.{ServingGoes}
-use Rattle.server_node.specs.Stages.{StageStands}
+use Rattle.server_node.specs.Stages.{StageStands, is_marked}
 use Rattle.server_node.proofs.Resuming.{answered_on}
 use Rattle.server_node.proofs.StagedApart.{serving_apart}
 use Rattle.server_node.proofs.Staged.{serves_on}
 use Rattle.server_node.proofs.stage.on_message.Goals as goal
 use Rattle.ft_io.proofs.Outcomes.{if_ok}
+use Rattle.server_node.specs.Markers.{saving}
+use Rattle.server_node.specs.MarkedTurns.{IsTurnMarked}
+use Rattle.mark_traces.specs.MarkedNode.MarkedInput.{Plain_comes}
+use Rattle.server_node.proofs.MarkedNodes.{unmarked_turn}
+use Rattle.server_node.proofs.MarkedStage.{marked_apart}
 
 pub returns-in-Asking-clause-turn : goal.returns-in-Asking-clause-turn
 returns-in-Asking-clause-turn g c =
@@ -75,3 +80,24 @@ returns-in_ok-serve_message-in-Serving-clause-apart g c = λ boot.
     subst (λ s. TurnsApart service c.args.who (Message_comes (message_of c.args.m.now)) s (stage.Serving c.serve_message.new.serving) c.serve_message.new.turn.sent.items) (sym c.in-Serving.is)
     (serving_apart service c.args.who (Message_comes (message_of c.args.m.now)) c.in-Serving.serving c.serve_message.new.serving c.args.turn.now.sent.items c.serve_message.new.turn.sent.items
     c.requires.empty (told boot) (λ standing nobody. absurd (true≢false (sym nobody ∙ ap not (eq-eqb c.args.m.now.boot c.args.who.boot boot)))) (λ standing. tt))
+
+pub returns-in_ok-hear-in-Marked-clause-turn : goal.returns-in_ok-hear-in-Marked-clause-turn
+returns-in_ok-hear-in-Marked-clause-turn g c = λ boot unfenced standing near sound st.
+    absurd (subst (λ s. StageStands (machine (g.S.Service.started c.args.who.kind) g.S.Service.after) (node_of c.args.who standing) s) c.in-Marked.is st)
+
+pub returns-in_ok-hear-in-Marked-clause-apart : goal.returns-in_ok-hear-in-Marked-clause-apart
+returns-in_ok-hear-in-Marked-clause-apart g c = λ boot. marked_apart (machine (g.S.Service.started c.args.who.kind) g.S.Service.after) c.args.who (Message_comes (message_of c.args.m.now)) c.args.stage (stage.Marked c.in_ok-hear-in-Marked.field-0) c.hear.new.turn.sent.items
+    (ap is_marked c.in-Marked.is)
+
+pub returns-in-Asking-clause-marked : goal.returns-in-Asking-clause-marked
+returns-in-Asking-clause-marked g c = if_ok c.on_summary.result (λ after h boot calm. unmarked_turn g.S.Service (saving g.S.Saved.form g.S.Saved.state_of g.S.Saved.is_savable) c.args.who (Plain_comes (Message_comes (message_of c.args.m.now))) c.args.stage after c.on_summary.new.turn.sent.items (ap is_marked c.in-Asking.is)) c.on_summary.ensures.sound
+
+pub returns-in-Fetching-clause-marked : goal.returns-in-Fetching-clause-marked
+returns-in-Fetching-clause-marked g c = if_ok c.take_answer.result (λ after h boot calm. unmarked_turn g.S.Service (saving g.S.Saved.form g.S.Saved.state_of g.S.Saved.is_savable) c.args.who (Plain_comes (Message_comes (message_of c.args.m.now))) c.args.stage after c.take_answer.new.turn.sent.items (ap is_marked c.in-Fetching.is)) c.take_answer.ensures.sound
+
+pub returns-in_ok-serve_message-in-Serving-clause-marked : goal.returns-in_ok-serve_message-in-Serving-clause-marked
+returns-in_ok-serve_message-in-Serving-clause-marked g c = λ boot calm. unmarked_turn g.S.Service (saving g.S.Saved.form g.S.Saved.state_of g.S.Saved.is_savable) c.args.who (Plain_comes (Message_comes (message_of c.args.m.now))) c.args.stage (stage.Serving c.serve_message.new.serving) c.serve_message.new.turn.sent.items (ap is_marked c.in-Serving.is)
+
+pub returns-in_ok-hear-in-Marked-clause-marked : goal.returns-in_ok-hear-in-Marked-clause-marked
+returns-in_ok-hear-in-Marked-clause-marked g c = λ boot calm.
+    subst (λ s. IsTurnMarked g.S.Service (saving g.S.Saved.form g.S.Saved.state_of g.S.Saved.is_savable) c.args.who (Plain_comes (Message_comes (message_of c.args.m.now))) s (stage.Marked c.in_ok-hear-in-Marked.field-0) c.hear.new.turn.sent.items) (sym c.in-Marked.is) (c.in_ok-hear-in-Marked.ensures.turn boot calm)

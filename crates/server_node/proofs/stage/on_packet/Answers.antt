@@ -11,12 +11,17 @@ use Rattle.server_node.specs.Apart.{TurnsApart}
 use Rattle.server_node.specs.Identity.{node_of}
 use Rattle.server_node.specs.Openings.{ArePut}
 use Rattle.server_node.specs.ServingStage.{ServingGoes}
-use Rattle.server_node.specs.Stages.{StageStands, NodeGoes}
+use Rattle.server_node.specs.Stages.{StageStands, NodeGoes, is_marked}
 use Rattle.server_node.proofs.Opens.{put_none}
 use Rattle.server_node.proofs.Resuming.{holds_on}
 use Rattle.server_node.proofs.StagedApart.{serving_apart, only_for}
 use Rattle.server_node.proofs.Staged.{asks_on, serves_on}
 use Rattle.server_node.proofs.stage.on_packet.Goals as goal
+use Rattle.server_node.specs.Markers.{saving}
+use Rattle.server_node.specs.MarkedTurns.{IsTurnMarked}
+use Rattle.mark_traces.specs.MarkedNode.MarkedInput.{Plain_comes}
+use Rattle.server_node.proofs.MarkedNodes.{unmarked_turn}
+use Rattle.server_node.proofs.MarkedStage.{marked_apart}
 
 pub returns-in-Asking-clause-turn : goal.returns-in-Asking-clause-turn
 returns-in-Asking-clause-turn g c = λ standing near sound st.
@@ -73,3 +78,24 @@ returns-in_ok-serve_bytes-in-Serving-clause-apart g c =
     (λ standing nobody.
     let same = untouched (not_true (is_for c.args.who.local segment) nobody) in
     (ap stage.Serving same.0, same.1 ∙ c.requires.empty)) (λ standing. tt))
+
+pub returns-in_ok-give-in-Marked-clause-turn : goal.returns-in_ok-give-in-Marked-clause-turn
+returns-in_ok-give-in-Marked-clause-turn g c = λ standing near sound st.
+    absurd (subst (λ s. StageStands (machine (g.S.Service.started c.args.who.kind) g.S.Service.after) (node_of c.args.who standing) s) c.in-Marked.is st)
+
+pub returns-in_ok-give-in-Marked-clause-apart : goal.returns-in_ok-give-in-Marked-clause-apart
+returns-in_ok-give-in-Marked-clause-apart g c = marked_apart (machine (g.S.Service.started c.args.who.kind) g.S.Service.after) c.args.who (Packet_comes (segment_of c.args.segment.now)) c.args.stage (stage.Marked c.in_ok-give-in-Marked.field-0) c.give.new.turn.sent.items
+    (ap is_marked c.in-Marked.is)
+
+pub returns-in-Asking-clause-marked : goal.returns-in-Asking-clause-marked
+returns-in-Asking-clause-marked g c = unmarked_turn g.S.Service (saving g.S.Saved.form g.S.Saved.state_of g.S.Saved.is_savable) c.args.who (Plain_comes (Packet_comes (segment_of c.args.segment.now))) c.args.stage stage.Asking c.args.turn.now.sent.items (ap is_marked c.in-Asking.is)
+
+pub returns-in_ok-hold-in-Fetching-clause-marked : goal.returns-in_ok-hold-in-Fetching-clause-marked
+returns-in_ok-hold-in-Fetching-clause-marked g c = unmarked_turn g.S.Service (saving g.S.Saved.form g.S.Saved.state_of g.S.Saved.is_savable) c.args.who (Plain_comes (Packet_comes (segment_of c.args.segment.now))) c.args.stage (stage.Fetching c.in-Fetching.fetching) c.hold.new.turn.sent.items (ap is_marked c.in-Fetching.is)
+
+pub returns-in_ok-serve_bytes-in-Serving-clause-marked : goal.returns-in_ok-serve_bytes-in-Serving-clause-marked
+returns-in_ok-serve_bytes-in-Serving-clause-marked g c = unmarked_turn g.S.Service (saving g.S.Saved.form g.S.Saved.state_of g.S.Saved.is_savable) c.args.who (Plain_comes (Packet_comes (segment_of c.args.segment.now))) c.args.stage (stage.Serving c.serve_bytes.new.serving) c.serve_bytes.new.turn.sent.items (ap is_marked c.in-Serving.is)
+
+pub returns-in_ok-give-in-Marked-clause-marked : goal.returns-in_ok-give-in-Marked-clause-marked
+returns-in_ok-give-in-Marked-clause-marked g c =
+    subst (λ s. IsTurnMarked g.S.Service (saving g.S.Saved.form g.S.Saved.state_of g.S.Saved.is_savable) c.args.who (Plain_comes (Packet_comes (segment_of c.args.segment.now))) s (stage.Marked c.in_ok-give-in-Marked.field-0) c.give.new.turn.sent.items) (sym c.in-Marked.is) c.in_ok-give-in-Marked.ensures.turn

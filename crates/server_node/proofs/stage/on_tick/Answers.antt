@@ -1,4 +1,4 @@
-use Rattle.std.proofs.Common.{◌∷◌, [], refl, subst, sym, true≢false}
+use Rattle.std.proofs.Common.{◌∷◌, [], refl, subst, sym, true≢false, ap}
 use Rattle.server_trait.specs.Service.{machine}
 use Rattle.seq_arith.specs.Message.Body.{HelloMsg}
 use Rattle.ft_model.specs.Connection.{told_by}
@@ -10,11 +10,16 @@ use Rattle.server_node.specs.Apart.{TurnsApart}
 use Rattle.server_node.specs.Identity.{node_of}
 use Rattle.server_node.specs.Openings.{ArePut}
 use Rattle.server_node.specs.ServingStage.{ServingGoes}
-use Rattle.server_node.specs.Stages.{StageStands}
+use Rattle.server_node.specs.Stages.{StageStands, is_marked}
 use Rattle.server_node.proofs.Resuming.{ticks_on}
 use Rattle.server_node.proofs.StagedApart.{serving_apart}
 use Rattle.server_node.proofs.Staged.{asks_on, serves_on}
 use Rattle.server_node.proofs.stage.on_tick.Goals as goal
+use Rattle.server_node.specs.Markers.{saving}
+use Rattle.server_node.specs.MarkedTurns.{IsTurnMarked}
+use Rattle.mark_traces.specs.MarkedNode.MarkedInput.{Plain_comes}
+use Rattle.server_node.proofs.MarkedNodes.{unmarked_turn}
+use Rattle.server_node.proofs.MarkedStage.{marked_apart}
 
 pub returns-in_ok-send_hello-in-Asking-clause-turn : goal.returns-in_ok-send_hello-in-Asking-clause-turn
 returns-in_ok-send_hello-in-Asking-clause-turn g c = λ standing near sound st.
@@ -57,3 +62,24 @@ returns-in_ok-serve_tick-in-Serving-clause-apart g c =
     subst (λ s. TurnsApart service c.args.who Tick_comes s (stage.Serving c.serve_tick.new.serving) c.serve_tick.new.turn.sent.items) (sym c.in-Serving.is)
     (serving_apart service c.args.who Tick_comes c.in-Serving.serving c.serve_tick.new.serving c.args.turn.now.sent.items c.serve_tick.new.turn.sent.items c.requires.empty told
     (λ standing nobody. absurd (true≢false (sym nobody))) (λ standing. tt))
+
+pub returns-in_ok-tick-in-Marked-clause-turn : goal.returns-in_ok-tick-in-Marked-clause-turn
+returns-in_ok-tick-in-Marked-clause-turn g c = λ standing near sound st.
+    absurd (subst (λ s. StageStands (machine (g.S.Service.started c.args.who.kind) g.S.Service.after) (node_of c.args.who standing) s) c.in-Marked.is st)
+
+pub returns-in_ok-tick-in-Marked-clause-apart : goal.returns-in_ok-tick-in-Marked-clause-apart
+returns-in_ok-tick-in-Marked-clause-apart g c = marked_apart (machine (g.S.Service.started c.args.who.kind) g.S.Service.after) c.args.who Tick_comes c.args.stage (stage.Marked c.in_ok-tick-in-Marked.field-0) c.tick.new.turn.sent.items
+    (ap is_marked c.in-Marked.is)
+
+pub returns-in_ok-send_hello-in-Asking-clause-marked : goal.returns-in_ok-send_hello-in-Asking-clause-marked
+returns-in_ok-send_hello-in-Asking-clause-marked g c = unmarked_turn g.S.Service (saving g.S.Saved.form g.S.Saved.state_of g.S.Saved.is_savable) c.args.who (Plain_comes Tick_comes) c.args.stage stage.Asking c.send_hello.new.turn.sent.items (ap is_marked c.in-Asking.is)
+
+pub returns-in_ok-ask-in-Fetching-clause-marked : goal.returns-in_ok-ask-in-Fetching-clause-marked
+returns-in_ok-ask-in-Fetching-clause-marked g c = unmarked_turn g.S.Service (saving g.S.Saved.form g.S.Saved.state_of g.S.Saved.is_savable) c.args.who (Plain_comes Tick_comes) c.args.stage (stage.Fetching c.in-Fetching.fetching) c.ask.new.turn.sent.items (ap is_marked c.in-Fetching.is)
+
+pub returns-in_ok-serve_tick-in-Serving-clause-marked : goal.returns-in_ok-serve_tick-in-Serving-clause-marked
+returns-in_ok-serve_tick-in-Serving-clause-marked g c = unmarked_turn g.S.Service (saving g.S.Saved.form g.S.Saved.state_of g.S.Saved.is_savable) c.args.who (Plain_comes Tick_comes) c.args.stage (stage.Serving c.serve_tick.new.serving) c.serve_tick.new.turn.sent.items (ap is_marked c.in-Serving.is)
+
+pub returns-in_ok-tick-in-Marked-clause-marked : goal.returns-in_ok-tick-in-Marked-clause-marked
+returns-in_ok-tick-in-Marked-clause-marked g c =
+    subst (λ s. IsTurnMarked g.S.Service (saving g.S.Saved.form g.S.Saved.state_of g.S.Saved.is_savable) c.args.who (Plain_comes Tick_comes) s (stage.Marked c.in_ok-tick-in-Marked.field-0) c.tick.new.turn.sent.items) (sym c.in-Marked.is) c.in_ok-tick-in-Marked.ensures.turn

@@ -1,0 +1,37 @@
+use Rattle.std.proofs.Common.{◌≡◌, ◌∙◌, refl, sym, ap, subst, List, []}
+use Rattle.ft_io.proofs.Outcomes.{if_ok}
+use Rattle.checkpoint.specs.Value.{message_of as mark_message_of}
+use Rattle.ft_model.specs.Wire.{Wire}
+use Rattle.mark_traces.specs.MarkedNode.{InputTurn}
+use Rattle.mark_traces.specs.MarkedNode.MarkedInput.{Mark_comes}
+use Rattle.server_node.specs.Marked.{IsSoundAt}
+use Rattle.server_node.specs.Markers.{saving, marker_of, node_at}
+use Rattle.server_node.specs.MarkedServing.{HeardOfMark}
+use Rattle.server_node.specs.MarkedTurns.{GoesOn, MarkedStands}
+use Rattle.server_node.proofs.MarkedServed.{mark_rests, heard_serving}
+use Rattle.server_node.proofs.marked.hear_mark.Goals as goal
+
+pub returns-in-Asking-clause-turn : goal.returns-in-Asking-clause-turn
+returns-in-Asking-clause-turn g c = λ boot every standing awaits marking bytes lengths unfenced fair st.
+    let by = marker_of g.S.Service (saving g.S.Saved.form g.S.Saved.state_of g.S.Saved.is_savable) c.args.who every in
+    let here = subst (λ s. MarkedStands by (node_at c.args.who standing awaits marking) (record { stage = s; marks = c.args.node.marks })) c.in-Asking.is st in
+    subst (λ n. GoesOn by c.args.who (InputTurn by bytes lengths (node_at c.args.who standing awaits marking) (Mark_comes (mark_message_of c.args.m.now))) n c.args.turn.now.sent.items) (sym c.asking.ensures)
+    (mark_rests by c.args.who (mark_message_of c.args.m.now) standing awaits marking c.args.node.marks bytes lengths c.args.turn.now.sent.items c.requires.empty here)
+
+pub returns-in-Fetching-clause-turn : goal.returns-in-Fetching-clause-turn
+returns-in-Fetching-clause-turn g c = if_ok c.take_answer.result
+    (λ after told boot every standing awaits marking bytes lengths unfenced fair st.
+    let by = marker_of g.S.Service (saving g.S.Saved.form g.S.Saved.state_of g.S.Saved.is_savable) c.args.who every in
+    let here = subst (λ s. MarkedStands by (node_at c.args.who standing awaits marking) (record { stage = s; marks = c.args.node.marks })) c.in-Fetching.is st in
+    told every standing awaits marking bytes lengths unfenced fair here) c.take_answer.ensures.turn
+
+pub returns-in_ok-serve_mark-in-Serving-clause-turn : goal.returns-in_ok-serve_mark-in-Serving-clause-turn
+returns-in_ok-serve_mark-in-Serving-clause-turn g c = λ boot every standing awaits marking bytes lengths unfenced fair st.
+    let by = marker_of g.S.Service (saving g.S.Saved.form g.S.Saved.state_of g.S.Saved.is_savable) c.args.who every in
+    let here = subst (λ s. MarkedStands by (node_at c.args.who standing awaits marking) (record { stage = s; marks = c.args.node.marks })) c.in-Serving.is st in
+    let told = rw c.in_ok-serve_mark-in-Serving.was at c.serve_mark.ensures in
+    subst (λ n. GoesOn by c.args.who (InputTurn by bytes lengths (node_at c.args.who standing awaits marking) (Mark_comes (mark_message_of c.args.m.now))) n c.serve_mark.new.turn.sent.items) (sym c.serving_on.ensures)
+    (heard_serving by c.args.who (mark_message_of c.args.m.now) standing awaits marking c.in-Serving.serving c.args.node.marks c.serve_mark.new.marks bytes lengths c.serve_mark.new.turn.sent.items boot
+    (λ opened places keeps settled stands.
+    subst (λ (l : List Wire). HeardOfMark by (node_at c.args.who standing awaits marking) places (mark_message_of c.args.m.now) c.serve_mark.new.marks l c.serve_mark.new.turn.sent.items) c.requires.empty
+    (told boot every standing awaits marking opened places keeps settled stands)) here)

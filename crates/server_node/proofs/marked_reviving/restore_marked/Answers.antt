@@ -1,0 +1,45 @@
+use Rattle.std.proofs.Common.{◌≡◌, ◌∙◌, ap, refl, sym, subst}
+use Rattle.std.proofs.lemmas.Result.{on_ok_weaker}
+use Rattle.reincarnate.specs.Refinement.{RestoredIs}
+use Rattle.ft_model.specs.Restart.{entry_in}
+use Rattle.server_node.specs.Identity.{node_of, service_of}
+use Rattle.server_node.specs.Markers.{saving, marker_of}
+use Rattle.server_node.specs.Slots.{IsSoundSlot}
+use Rattle.server_node.proofs.MarkedRestored.{ended_marked, live_marked}
+use Rattle.server_node.proofs.Knocking.{counted_on}
+use Rattle.server_node.proofs.Turned.{at_ok}
+use Rattle.server_node.proofs.marked_reviving.restore_marked.Goals as goal
+
+pub returns-in-Ended-clause-turn : goal.returns-in-Ended-clause-turn
+returns-in-Ended-clause-turn g c =
+    let service = service_of g.S.Service c.args.who in
+    on_ok_weaker c.add_slot.result
+    (λ added every standing marking f fetched first is sound bytes fresh r.
+    let here = subst (RestoredIs service f) c.in-Ended.is is in
+    ended_marked (marker_of g.S.Service (saving g.S.Saved.form g.S.Saved.state_of g.S.Saved.is_savable) c.args.who every) (node_of c.args.who standing) marking f fetched c.in-Ended.key c.args.serving.now
+    (record { next = c.args.serving.now.next; slots = c.add_slot.new.slots }) c.args.marks.now first c.args.turn.now.sent.items here.0 here.1 fresh r refl added) c.add_slot.ensures.added
+
+pub returns-in-Ended-clause-sound : goal.returns-in-Ended-clause-sound
+returns-in-Ended-clause-sound g c = on_ok_weaker c.add_slot.result (λ all. all c.args.who c.requires.sound tt) c.add_slot.ensures.sound
+
+pub returns-in_ok-slot-in-Live-clause-turn : goal.returns-in_ok-slot-in-Live-clause-turn
+returns-in_ok-slot-in-Live-clause-turn g c =
+    let service = service_of g.S.Service c.args.who in
+    on_ok_weaker c.add_slot-in-Live.result
+    (λ added every standing marking f fetched first is sound bytes fresh r.
+    let here = subst (RestoredIs service f) c.in-Live.is is in
+    let key : c.head.result.key ≡ f.head.key = ap (λ h. h.key) c.head.ensures ∙ ap (λ h. h.key) here.1.head in
+    live_marked (marker_of g.S.Service (saving g.S.Saved.form g.S.Saved.state_of g.S.Saved.is_savable) c.args.who every) (node_of c.args.who standing) marking f fetched c.head.result.key c.args.serving.now
+    (record { next = c.add-serving.result; slots = c.add_slot-in-Live.new.slots }) c.in_ok-slot-in-Live.slot c.args.marks.now c.revive_marked.new.marks
+    first c.args.turn.now.sent.items c.revive_marked.new.turn.sent.items here.0 key fresh r (c.in_ok-slot-in-Live.ensures.turn every standing (entry_in f) here.1 (sound here.0) bytes r.keeps.every)
+    c.add-serving.ensures added)
+    c.add_slot-in-Live.ensures.added
+
+pub returns-in_ok-slot-in-Live-clause-sound : goal.returns-in_ok-slot-in-Live-clause-sound
+returns-in_ok-slot-in-Live-clause-sound g c =
+    on_ok_weaker c.add_slot-in-Live.result
+    (λ all. all c.args.who c.requires.sound (subst (λ h. IsSoundSlot c.args.who h.key c.in_ok-slot-in-Live.slot) (sym c.head.ensures) c.in_ok-slot-in-Live.ensures.sound)) c.add_slot-in-Live.ensures.sound
+
+pub returns-in_ok-slot-in-Live-clause-counted : goal.returns-in_ok-slot-in-Live-clause-counted
+returns-in_ok-slot-in-Live-clause-counted g c =
+    at_ok c.add_slot-in-Live.result (λ counted. counted_on c.args.who.isn c.args.serving.now.next.0 c.add-serving.result.0 counted c.add-serving.ensures)
