@@ -1,5 +1,5 @@
 -- Bytes that come to the addressee of a packet.
-use Rattle.std.proofs.Common.{◌≡◌, ◌∙◌, sym, ap, ap₂, subst, refl, ℕ, ◌<◌, ◌*◌, true, false, true≢false, Bool, Option, Some, None, List, [], ◌∷◌, length, cond, Result, Ok, Err, IsErr, arith}
+use Rattle.std.proofs.Common.{◌≡◌, ◌∙◌, sym, ap, ap₂, subst, refl, ℕ, ◌<◌, ◌*◌, true, false, true≢false, Bool, List, [], ◌∷◌, length, cond, Result, Ok, Err, IsErr, arith}
 use Rattle.std.proofs.lemmas.List.{length-map}
 use Rattle.ft_io.specs.declared.Key.{Key}
 use Rattle.ft_io.specs.Key.{key_eq}
@@ -22,18 +22,19 @@ use Rattle.ft_model.specs.World.{World as Seen, WasSent, MayCome, ServerMoves, C
 use Rattle.ft_model.specs.declared.way.Way.TheVariants.{ClientToServer, ServerToClient, ServerToLogger, LoggerToServer, HeadToTail, TailToHead}
 use Rattle.ft_model.specs.declared.way.Way.{Way}
 use Rattle.ft_model.proofs.Keys.{AreDistinct}
-use Rattle.ft_model.proofs.Lists.{none_is_some}
 use Rattle.peer_client.specs.Scripted.{delivered, hearing}
-use Rattle.net_schedule.specs.StoredPackets.{number_in, way_along}
+use Rattle.net_schedule.specs.StoredPackets.{Carried, number_in, way_along}
 use Rattle.net_schedule.specs.Actors.{ActorsStand, ActorsGoOn}
 use Rattle.net_schedule.specs.Delivery.{changed_at, delivered_to, with_logs}
+use Rattle.mark_store.specs.Refinement.{TrimmedAtMarks}
 use Rattle.net_schedule.specs.Loggers.{Loggers}
-use Rattle.net_schedule.specs.Logs.{log_in, loggers_in, log_reads, logs_hear}
+use Rattle.net_schedule.specs.Logs.{HearsIn, both, log_in, keepers_in, log_reads, log_hears}
+use Rattle.net_schedule.specs.Logs.Keepers.{Single, Paired, With_marks}
 use Rattle.net_schedule.specs.declared.logs.Logs.{Logs}
-use Rattle.net_schedule.specs.declared.logs.Logs.TheVariants.{One, Two}
+use Rattle.net_schedule.specs.declared.logs.Logs.TheVariants.{One, Two, Marked}
 use Rattle.net_schedule.specs.Premises.{Premises, ComesAs}
 use Rattle.net_schedule.specs.Refinement.{Kept, WorldStands, ReachesNext}
-use Rattle.net_schedule.proofs.Goings.{client_hears, log_hears, nothing_happens, actors_of, one_goes}
+use Rattle.net_schedule.proofs.Goings.{client_hears, logger_hears, nothing_happens, actors_of, one_goes}
 use Rattle.net_schedule.proofs.Peers.{keys_in, first_of, apart_distinct, at_first, by_number, changed_past}
 
 -- a direction from one of two loggers to the other
@@ -91,38 +92,42 @@ module _ {State : Type 0} (service : Machine State) where
   -- what the only logger makes of them
   reads_log : (w w' : Kept State) (v : Seen) (r : Result Message BadMsg) → WorldStands service w v
       → w' ≡ record w { log = (log_reads r (w.log, w.packets)).0; packets = (log_reads r (w.log, w.packets)).1 } → ReachesNext service (LogReads r v) v w'
-  reads_log w w' v (Ok message) st e' = log_hears service w w' v message st e'
+  reads_log w w' v (Ok message) st e' = logger_hears service w w' v message st e'
   reads_log w w' v (Err bad) st e' = one_goes service (NothingHappens v) w w' v st (nothing_happens service w w' v (actors_of service w v st) e')
 
-  -- two loggers are not one
-  not_two : {P : Type 0} (loggers : Loggers) (o : Option Loggers) → o ≡ Some loggers → o ≡ None → P
-  not_two loggers o e f = none_is_some loggers (sym f ∙ e)
+  -- one logger without marks is neither two nor one with marks
+  not_two : {P : Type 0} (loggers : Loggers) → Single ≡ Paired loggers → P
+  not_two loggers e = absurd (cc)
 
-  brings_to_log : (w w' : Kept State) (v : Seen) (packet : Packet) (bytes : List ℕ) (way : Way) (logs : Logs) → WorldStands service w v → way ≡ ServerToLogger
-      → way ≡ way_along w.keys (wire_of packet) → w.log ≡ log_in logs → w.loggers ≡ loggers_in logs → w' ≡ with_logs w (logs_hear way bytes (logs, w.packets))
+  not_marked : {P : Type 0} (store : TrimmedAtMarks) → Single ≡ With_marks store → P
+  not_marked store e = absurd (cc)
+
+  brings_to_log : (w w' : Kept State) (v : Seen) (packet : Packet) (bytes : List ℕ) (way : Way) (logs now : Logs) (sent : Carried) → WorldStands service w v → way ≡ ServerToLogger
+      → way ≡ way_along w.keys (wire_of packet) → w.log ≡ log_in logs → w.keepers ≡ keepers_in logs → HearsIn logs way bytes w.packets now sent → w' ≡ with_logs w (now, sent)
       → ReachesNext service (DeliveredAs service v packet bytes) v w'
-  brings_to_log w w' v packet bytes way (Two loggers) st is along log two e' = not_two loggers w.loggers two st.single
-  brings_to_log w w' v (To_logger message) bytes way (One log) st is along same two e' =
+  brings_to_log w w' v packet bytes way (Two loggers) now sent st is along log two heard e' = not_two loggers (sym st.single ∙ two)
+  brings_to_log w w' v packet bytes way (Marked kept) now sent st is along log two heard e' = not_marked kept.store (sym st.single ∙ two)
+  brings_to_log w w' v (To_logger message) bytes way (One log) now sent st is along same two heard e' =
       reads_log w w' v (messages.reading bytes) st
-      (e' ∙ ap (λ x. with_logs w (logs_hear x bytes (One log, w.packets))) is
-      ∙ ap₂ (λ l o. record w { log = (log_reads (messages.reading bytes) (l, w.packets)).0; loggers = o; packets = (log_reads (messages.reading bytes) (l, w.packets)).1 }) (sym same) (sym two))
-  brings_to_log w w' v (To_server segment) bytes way (One log) st is along same two e' = absurd (other (sym is ∙ along))
+      (e' ∙ (ap (with_logs w) (heard ∙ ap (λ x. let h = log_hears x bytes (log, w.packets) in both (One h.0) h.1) is)
+      ∙ ap₂ (λ l o. record w { log = (log_reads (messages.reading bytes) (l, w.packets)).0; keepers = o; packets = (log_reads (messages.reading bytes) (l, w.packets)).1 }) (sym same) (sym two)))
+  brings_to_log w w' v (To_server segment) bytes way (One log) now sent st is along same two heard e' = absurd (other (sym is ∙ along))
     where
       other : ServerToLogger ≡ ClientToServer (number_in w.keys (source_of segment)) → ⊥
       other e = absurd (cc)
-  brings_to_log w w' v (To_client segment) bytes way (One log) st is along same two e' = absurd (other (sym is ∙ along))
+  brings_to_log w w' v (To_client segment) bytes way (One log) now sent st is along same two heard e' = absurd (other (sym is ∙ along))
     where
       other : ServerToLogger ≡ ServerToClient (number_in w.keys (destination_of segment)) → ⊥
       other e = absurd (cc)
-  brings_to_log w w' v (From_logger message) bytes way (One log) st is along same two e' = absurd (other (sym is ∙ along))
+  brings_to_log w w' v (From_logger message) bytes way (One log) now sent st is along same two heard e' = absurd (other (sym is ∙ along))
     where
       other : ServerToLogger ≡ LoggerToServer → ⊥
       other e = absurd (cc)
 
-  pub brings_logger : (w w' : Kept State) (v : Seen) (packet : Packet) (bytes : List ℕ) (logs : Logs) → WorldStands service w v
-      → ServerToLogger ≡ way_along w.keys (wire_of packet) → w.log ≡ log_in logs → w.loggers ≡ loggers_in logs → w' ≡ with_logs w (logs_hear ServerToLogger bytes (logs, w.packets))
-      → ReachesNext service (DeliveredAs service v packet bytes) v w'
-  brings_logger w w' v packet bytes logs st way log two e' = brings_to_log w w' v packet bytes ServerToLogger logs st refl way log two e'
+  pub brings_logger : (w w' : Kept State) (v : Seen) (packet : Packet) (bytes : List ℕ) (logs now : Logs) (sent : Carried) → WorldStands service w v
+      → ServerToLogger ≡ way_along w.keys (wire_of packet) → w.log ≡ log_in logs → w.keepers ≡ keepers_in logs → HearsIn logs ServerToLogger bytes w.packets now sent
+      → w' ≡ with_logs w (now, sent) → ReachesNext service (DeliveredAs service v packet bytes) v w'
+  brings_logger w w' v packet bytes logs now sent st way log two heard e' = brings_to_log w w' v packet bytes ServerToLogger logs now sent st refl way log two heard e'
 
   -- no packet of a world with one logger goes between two
   pub none_between : {P : Type 0} (keys : List Key) (packet : Packet) (way : Way) → is_between way ≡ true → way ≡ way_along keys (wire_of packet) → P

@@ -61,6 +61,7 @@ module _ {State : Type 0} (service : Machine State) where
             keys = st.keys;
             clients = st.clients;
             boot = refl;
+            unmarked = st.unmarked;
             node = record {
               kind_is = ap (λ i. i.kind) who;
               standing = Asking;
@@ -73,7 +74,7 @@ module _ {State : Type 0} (service : Machine State) where
           stored = ap (with_wires w.keys w.packets) said;
           same_keys = refl;
           same_log = refl;
-          same_loggers = refl;
+          same_keepers = refl;
         };
         allowed = rw none (rw rises refl);
         scripted = no_move v (events.Boot boot isn) (hello (booted v.server boot isn)) (record v { boot = boot; node = Some (booted v.server boot isn); packets = v.packets ++ hello (booted v.server boot isn) }) refl;
@@ -99,13 +100,13 @@ module _ {State : Type 0} (service : Machine State) where
           sent = [];
           world = record v { node = None; packets = v.packets ++ [] };
           goes = (is_up, refl, refl);
-          stands = record { server = st.server; keys = st.keys; clients = st.clients; boot = st.boot; node = tt };
+          stands = record { server = st.server; keys = st.keys; clients = st.clients; boot = st.boot; unmarked = st.unmarked; node = tt };
           grew = refl;
           quiet = refl;
           stored = none_sent w.keys w.packets;
           same_keys = refl;
           same_log = refl;
-          same_loggers = refl;
+          same_keepers = refl;
         };
         allowed = rw is_up refl;
         scripted = no_move v events.Crash [] (record v { node = None; packets = v.packets ++ [] }) refl;
@@ -129,7 +130,7 @@ module _ {State : Type 0} (service : Machine State) where
           stored = g.stored;
           same_keys = g.same_keys;
           same_log = g.same_log;
-          same_loggers = g.same_loggers;
+          same_keepers = g.same_keepers;
         };
         allowed = rw is_up refl;
         scripted = no_move v events.Tick g.sent g.world refl;

@@ -71,6 +71,7 @@ module _ {State : Type 0} (service : Machine State) where
           keys = st.keys;
           clients = st.clients;
           boot = st.boot;
+          unmarked = st.unmarked;
           node = record {
             kind_is = ap (λ i. i.kind) same ∙ u.at.kind_is;
             standing = g.after;
@@ -83,7 +84,7 @@ module _ {State : Type 0} (service : Machine State) where
         stored = ap (with_wires w.keys w.packets) g.wires;
         same_keys = refl;
         same_log = refl;
-        same_loggers = refl;
+        same_keepers = refl;
       })
 
   -- nothing that may come fences it
@@ -99,13 +100,13 @@ module _ {State : Type 0} (service : Machine State) where
     sent = [];
     world = record v { packets = v.packets ++ [] };
     goes = goes;
-    stands = record { server = st.server; keys = st.keys; clients = st.clients; boot = st.boot; node = st.node };
+    stands = record { server = st.server; keys = st.keys; clients = st.clients; boot = st.boot; unmarked = st.unmarked; node = st.node };
     grew = refl;
     quiet = refl;
     stored = none_sent w.keys w.packets;
     same_keys = refl;
     same_log = refl;
-    same_loggers = refl;
+    same_keepers = refl;
   }
 
   -- a server that is down has no turn
@@ -129,6 +130,7 @@ module _ {State : Type 0} (service : Machine State) where
           keys = st.keys ∙ sym (keys_stay key (λ c. received c segment) v.clients (λ c e. (received_same c segment).key));
           clients = ap (with_client key (λ c. received c segment)) st.clients;
           boot = st.boot;
+          unmarked = st.unmarked;
           node = st.node;
         };
         grew = refl;
@@ -136,7 +138,7 @@ module _ {State : Type 0} (service : Machine State) where
         stored = none_sent w.keys w.packets;
         same_keys = refl;
         same_log = refl;
-        same_loggers = refl;
+        same_keepers = refl;
       })
 
   -- noise comes to a client
@@ -145,7 +147,7 @@ module _ {State : Type 0} (service : Machine State) where
 
   -- With one logger: what server and clients do is done in the whole world.
   pub actors_of : (w : Kept State) (v : Seen) → WorldStands service w v → ActorsStand service w v
-  actors_of w v st = record { server = st.server; keys = st.keys; clients = st.clients; boot = st.boot; node = st.node }
+  actors_of w v st = record { server = st.server; keys = st.keys; clients = st.clients; boot = st.boot; unmarked = st.unmarked; node = st.node }
 
   pub one_goes : (Goes : List Packet → Seen → Type 0) (w w' : Kept State) (v : Seen) → WorldStands service w v → ActorsGoOn service Goes v w w' → ReachesNext service Goes v w'
   one_goes Goes w w' v st g = record {
@@ -156,7 +158,8 @@ module _ {State : Type 0} (service : Machine State) where
       server = g.stands.server;
       keys = g.stands.keys;
       clients = g.stands.clients;
-      single = g.same_loggers ∙ st.single;
+      single = g.same_keepers ∙ st.single;
+      unmarked = g.stands.unmarked;
       log = g.same_log ∙ st.log ∙ sym g.quiet;
       packets = g.stored ∙ sent_kept w.keys w.packets v.packets g.sent st.packets
           ∙ ap (λ ps. carried w.keys (map wire_of ps)) (sym g.grew) ∙ ap (λ ks. carried ks (map wire_of g.world.packets)) (sym g.same_keys);
@@ -172,9 +175,9 @@ module _ {State : Type 0} (service : Machine State) where
       record { happens = one_goes (Happens service v event) w w' v st a.happens; allowed = a.allowed; scripted = a.scripted }
 
   -- the only logger takes a message and answers
-  pub log_hears : (w w' : Kept State) (v : Seen) (message : Message) → WorldStands service w v
+  pub logger_hears : (w w' : Kept State) (v : Seen) (message : Message) → WorldStands service w v
       → w' ≡ record w { log = log_after w.log message; packets = with_answer w.packets (answer_bytes (answer_to w.log message)) } → ReachesNext service (LogHears message v) v w'
-  log_hears w w' v message st e' =
+  logger_hears w w' v message st e' =
       let answer : Option Message = answer_to v.log message in
       let sent : List Packet = option_to_list (option_map From_logger (answer_to v.log message)) in
       subst (ReachesNext service (LogHears message v) v) (sym e')
@@ -187,6 +190,7 @@ module _ {State : Type 0} (service : Machine State) where
           keys = st.keys;
           clients = st.clients;
           single = st.single;
+          unmarked = st.unmarked;
           log = ap (λ l. log_after l message) st.log;
           packets = ap (λ l. with_answer w.packets (answer_bytes (answer_to l message))) st.log ∙ answer_kept w.keys w.packets (answer_to v.log message)
               ∙ sent_kept w.keys w.packets v.packets (option_to_list (option_map From_logger (answer_to v.log message))) st.packets;

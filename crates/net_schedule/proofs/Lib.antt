@@ -17,3 +17,14 @@ pub mod TwinEvents
 pub mod Brought
 pub mod TwinTrace
 pub mod TwinSent
+pub mod Entered
+pub mod ByKey
+pub mod MarkedParcels
+pub mod MarkedActors
+pub mod MarkedLogger
+pub mod MarkedServer
+pub mod MarkedBoot
+pub mod MarkedEvents
+pub mod MarkedKeys
+pub mod MarkedTrace
+pub mod MarkedSent

@@ -179,6 +179,7 @@ module _ {State : Type 0} (service : Machine State) where
             keys = st.keys ∙ sym (keys_stay client.key (λ _. later) v.clients (λ c k. same_name ∙ sym (same_key c.key client.key k)));
             clients = ap (λ cs. set cs (number - 1) later) st.clients ∙ r.0;
             boot = st.boot;
+            unmarked = st.unmarked;
             node = st.node;
           };
           grew = refl;
@@ -186,7 +187,7 @@ module _ {State : Type 0} (service : Machine State) where
           stored = ap (λ n. with_packet w.packets (ClientToServer n) (spelling (segment_of client m.move (window_of client event)))) numbered;
           same_keys = refl;
           same_log = refl;
-          same_loggers = refl;
+          same_keepers = refl;
         };
         allowed = refusal_is v event number m.move whole ∙ free;
         scripted = λ n move c k h.

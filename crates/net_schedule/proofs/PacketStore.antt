@@ -45,7 +45,7 @@ way_of_sent keys from (Client key) = refl
 way_of_sent keys from Logger = refl
 
 -- a message has bytes
-spelling_begins : (message : Message) → (b : ℕ) × (bytes : List ℕ) × (spelling message ≡ b ∷ bytes)
+pub spelling_begins : (message : Message) → (b : ℕ) × (bytes : List ℕ) × (spelling message ≡ b ∷ bytes)
 unfolding spelling spelled header
 spelling_begins message = (70, drop 1 (spelling message), refl)
 

@@ -19,6 +19,7 @@ use Rattle.ft_model.proofs.FaithfulKept.{received_same}
 use Rattle.ft_model.proofs.Happened.{Happened, holds_after}
 use Rattle.ft_model.proofs.Happened.Happened.{log_heard, client_heard, client_moved, server_turned, server_booted, server_down}
 use Rattle.ft_model.proofs.Lists.{same_key}
+use Rattle.server_node.specs.Markers.{Saving}
 use Rattle.net_schedule.specs.WorldView.{kept, services_of}
 use Rattle.net_schedule.specs.Premises.{Premises}
 use Rattle.net_schedule.specs.Refinement.{Kept, WorldStands, Advances, KeepsAtRefusal}
@@ -33,7 +34,7 @@ use Rattle.net_schedule.proofs.PacketStore.{as_many}
 use Rattle.net_schedule.proofs.Peers.{keys_in, keys_stay}
 
 -- the clients keep the keys with which they started
-step_keeps : {State : Type 0} (service : Machine State) (start before : Seen) (sent : List Packet) (after : Seen) → keys_in before.clients ≡ keys_in start.clients → Happened service before sent after
+pub step_keeps : {State : Type 0} (service : Machine State) (start before : Seen) (sent : List Packet) (after : Seen) → keys_in before.clients ≡ keys_in start.clients → Happened service before sent after
     → keys_in after.clients ≡ keys_in start.clients
 step_keeps service start before sent after k (log_heard message under t e) = ap (λ w. keys_in w.clients) e ∙ k
 step_keeps service start before sent after k (client_heard segment under t e) =
@@ -126,14 +127,16 @@ module _ {State : Type 0} (services : ℕ → Machine State) where
       (x, subst (λ n. 200000 < n) (as_many w'.keys w'.packets x.moment.world.packets x.stands.stands.packets) h.1))
 
 -- an event that isn't done ends the step
-pub ends_so : {State : Type 0} {ghosts : Ghosts State} (w w' : World State ghosts) (event : Event) (end : StepEnd) → AreLaws (services_of w) → Declines event w w' end → EndsAlong event end w w'
-ends_so w w' event NoMemory laws ends = λ schedule events trace s. tt
-ends_so w w' event (BadEvent why) laws ends =
+pub ends_so : {State : Type 0} {ghosts : Ghosts State} (saved : Saving State) (w w' : World State ghosts) (event : Event) (end : StepEnd) → AreLaws (services_of w)
+    → Declines saved event w w' end → EndsAlong event end w w'
+ends_so saved w w' event NoMemory laws ends = λ schedule events trace s. tt
+ends_so saved w w' event (BadEvent why) laws ends =
     λ schedule events trace s. ends.0.one (world_after (start_of schedule) trace) s.stands (premises (services_of w) laws schedule events trace (kept w) s)
-ends_so w w' event PacketLimit laws ends = absurd ends
+ends_so saved w w' event PacketLimit laws ends = absurd ends
 
 -- what is refused changes nothing
-pub keeps_refused : {State : Type 0} {ghosts : Ghosts State} (w w' : World State ghosts) (event : Event) (end : StepEnd) → Declines event w w' end → KeepsAtRefusal (kept w) (kept w') end
-keeps_refused w w' event NoMemory ends = tt
-keeps_refused w w' event (BadEvent why) ends = ends.1
-keeps_refused w w' event PacketLimit ends = absurd ends
+pub keeps_refused : {State : Type 0} {ghosts : Ghosts State} (saved : Saving State) (w w' : World State ghosts) (event : Event) (end : StepEnd) → Declines saved event w w' end
+    → KeepsAtRefusal (kept w) (kept w') end
+keeps_refused saved w w' event NoMemory ends = tt
+keeps_refused saved w w' event (BadEvent why) ends = ends.1
+keeps_refused saved w w' event PacketLimit ends = absurd ends

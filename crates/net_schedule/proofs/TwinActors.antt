@@ -23,6 +23,7 @@ use Rattle.twin_laws.specs.TwinLegal.{twin_refusal}
 use Rattle.twin_laws.proofs.Elsewhere.{with_packets, happens_elsewhere, server_elsewhere, client_reads_elsewhere, NamesNone}
 use Rattle.twin_laws.proofs.Numbering.{outside_of}
 use Rattle.net_schedule.specs.Actors.{ActorsStand, ActorsGoOn, ActorsAdvance}
+use Rattle.server_node.specs.Markers.{Saving}
 use Rattle.net_schedule.specs.WorldView.{kept, service_of}
 use Rattle.net_schedule.specs.Refinement.{Kept}
 use Rattle.net_schedule.specs.Turns.{ActorsDo, ActorsDecline, Does, Declines}
@@ -116,9 +117,9 @@ module _ {State : Type 0} (service : Machine State) where
         world = next_of v g.sent g.world;
         goes = (g.sent, refl, there, refl, refl);
         stands = record {
-          actors = record { server = g.stands.server; keys = g.stands.keys; clients = g.stands.clients; boot = g.stands.boot; node = g.stands.node };
+          actors = record { server = g.stands.server; keys = g.stands.keys; clients = g.stands.clients; boot = g.stands.boot; unmarked = g.stands.unmarked; node = g.stands.node };
           loggers = st.loggers;
-          double = g.same_loggers ∙ st.double;
+          double = g.same_keepers ∙ st.double;
           log = g.same_log ∙ st.log;
           pair = st.pair;
           packets = g.stored ∙ packets_after w.keys w.packets v.parcels g.sent st.packets
@@ -130,7 +131,7 @@ module _ {State : Type 0} (service : Machine State) where
   -- server and clients stand where they stood, whatever packets are taken for sent
   pub twin_actors_of : (w : Kept State) (v : TwinWorld) (ps : List Packet) → TwinWorldStands service w v → ActorsStand service w (seen v ps)
   twin_actors_of w v ps st =
-      record { server = st.actors.server; keys = st.actors.keys; clients = st.actors.clients; boot = st.actors.boot; node = st.actors.node }
+      record { server = st.actors.server; keys = st.actors.keys; clients = st.actors.clients; boot = st.actors.boot; unmarked = st.actors.unmarked; node = st.actors.node }
 
   two_advances : (event : Event) (w w' : Kept State) (v : TwinWorld) (ps : List Packet) → IsOfActors event → TwinWorldStands service w v
       → ActorsAdvance service (seen v ps) event w w' → TwinAdvances service v event w'
@@ -164,30 +165,32 @@ module _ {State : Type 0} (service : Machine State) where
       at (To_logger message) n g = absurd (n refl)
       at (From_logger message) n g = g
 
--- An event of server or clients, with one logger and with two.
-module _ {State : Type 0} {ghosts : Ghosts State} (w w' : World State ghosts) where
-  acts : (event : Event) → IsOfActors event → ActorsDo event w w' → Does event w w'
+-- An event of server or clients, with one logger, with two, and with marks.
+module _ {State : Type 0} {ghosts : Ghosts State} (saved : Saving State) (w w' : World State ghosts) where
+  acts : (event : Event) → IsOfActors event → ActorsDo saved event w w' → Does saved event w w'
   acts event actors done = record {
     continues = done.continues;
     one = λ v st p. one_advances (service_of w) event (kept w) (kept w') v st (done.advances v (actors_of (service_of w) (kept w) v st) p);
     two = λ v st p. two_advances (service_of w) event (kept w) (kept w') v p.packets actors st
         (done.advances (seen v p.packets) (twin_actors_of (service_of w) (kept w) v p.packets st) p.premises);
+    marked = done.marked;
   }
 
-  acts_not : (event : Event) (end : StepEnd) → IsOfActors event → ActorsDecline event w w' end → Declines event w w' end
+  acts_not : (event : Event) (end : StepEnd) → IsOfActors event → ActorsDecline saved event w w' end → Declines saved event w w' end
   acts_not event NoMemory actors ends = tt
   acts_not event (BadEvent why) actors ends = (
     record {
-      one = λ v st p. ends.0 v (actors_of (service_of w) (kept w) v st) p;
-      two = λ v st p. refused_alike v p.packets event actors ∙ ends.0 (seen v p.packets) (twin_actors_of (service_of w) (kept w) v p.packets st) p.premises;
+      one = λ v st p. ends.0.usual v (actors_of (service_of w) (kept w) v st) p;
+      two = λ v st p. refused_alike v p.packets event actors ∙ ends.0.usual (seen v p.packets) (twin_actors_of (service_of w) (kept w) v p.packets st) p.premises;
+      marked = ends.0.marked;
     },
     ends.1,
   )
   acts_not event PacketLimit actors ends = ends
 
   -- .. where the event is named in another way
-  pub acted : (r : Result (Unit {0}) StepEnd) (event named : Event) → event ≡ named → IsOfActors named → OnOk r (ActorsDo named w w') → OnOk r (Does event w w')
-  acted r event named is actors h = on_ok_weaker r (λ done. subst (λ e. Does e w w') (sym is) (acts named actors done)) h
+  pub acted : (r : Result (Unit {0}) StepEnd) (event named : Event) → event ≡ named → IsOfActors named → OnOk r (ActorsDo saved named w w') → OnOk r (Does saved event w w')
+  acted r event named is actors h = on_ok_weaker r (λ done. subst (λ e. Does saved e w w') (sym is) (acts named actors done)) h
 
-  pub acted_not : (r : Result (Unit {0}) StepEnd) (event named : Event) → event ≡ named → IsOfActors named → IfErr r (ActorsDecline named w w') → IfErr r (Declines event w w')
-  acted_not r event named is actors h = if_err r (λ end ends. subst (λ e. Declines e w w' end) (sym is) (acts_not named end actors ends)) h
+  pub acted_not : (r : Result (Unit {0}) StepEnd) (event named : Event) → event ≡ named → IsOfActors named → IfErr r (ActorsDecline saved named w w') → IfErr r (Declines saved event w w')
+  acted_not r event named is actors h = if_err r (λ end ends. subst (λ e. Declines saved e w w' end) (sym is) (acts_not named end actors ends)) h

@@ -14,7 +14,6 @@ use Rattle.ft_model.specs.Network.Packet.{To_server, To_client, To_logger, From_
 use Rattle.ft_model.specs.Wire.{wire_of, HasWire}
 use Rattle.ft_model.specs.Wire.Party.{The_logger}
 use Rattle.ft_model.specs.World.{World as Seen, Delivered, Flipped, DeliveredAs}
-use Rattle.ft_model.specs.declared.event.Event.{Event}
 use Rattle.ft_model.specs.declared.event.Event.TheVariants as events
 use Rattle.ft_model.specs.declared.event.EventWhy.TheVariants as why
 use Rattle.ft_model.specs.declared.way.Way.{Way}
@@ -34,6 +33,7 @@ use Rattle.twin_laws.specs.SentBytes.{IsWritten}
 use Rattle.net_schedule.specs.AtNumber.{at_number}
 use Rattle.net_schedule.specs.StoredPackets.{way_along}
 use Rattle.net_schedule.specs.Loggers.{Loggers, serving_log, stopped, part_numbered}
+use Rattle.net_schedule.specs.Logs.Keepers.{Paired}
 use Rattle.net_schedule.specs.Premises.{ComesAs}
 use Rattle.net_schedule.specs.Refinement.{Kept}
 use Rattle.net_schedule.specs.TwinRefinement.{stored_way, LoggersStand, TwinWorldStands, TwinGoesOn, TwinAdvances, TwinPremises, ParcelComesAs, MayComeAs}
@@ -158,13 +158,13 @@ module _ {State : Type 0} (service : Machine State) where
 
   -- a logger stops
   stop_stands : (part : Part) (w w' : Kept State) (v : TwinWorld) → (st : TwinWorldStands service w v) → IsPaired v.pair
-      → w' ≡ record w { log = serving_log (stopped part st.loggers); loggers = Some (stopped part st.loggers) }
+      → w' ≡ record w { log = serving_log (stopped part st.loggers); keepers = Paired (stopped part st.loggers) }
       → TwinWorldStands service w' (record v { pair = stopped_by part v.pair; parcels = v.parcels ++ [] })
   stop_stands part w w' v st paired e =
       let pair : LoggersStand (stopped part st.loggers) (stopped_by part v.pair) = stopped_stand part st.loggers v.pair st.pair in
       subst (λ x. TwinWorldStands service x (record v { pair = stopped_by part v.pair; parcels = v.parcels ++ [] })) (sym e)
       (record {
-        actors = record { server = st.actors.server; keys = st.actors.keys; clients = st.actors.clients; boot = st.actors.boot; node = st.actors.node };
+        actors = record { server = st.actors.server; keys = st.actors.keys; clients = st.actors.clients; boot = st.actors.boot; unmarked = st.actors.unmarked; node = st.actors.node };
         loggers = stopped part st.loggers;
         double = refl;
         log = serving_is (stopped part st.loggers) (stopped_by part v.pair) pair (alone_after part v.pair paired.head_alone);
@@ -206,6 +206,9 @@ module _ {State : Type 0} (service : Machine State) where
       (λ two. none_is_some parts.Tail (sym rest ∙ ap (λ b. cond b (Some parts.Tail) None) two))
       (λ neither. ap₂ (λ a b. a || b) other neither))
 
+  same_pair : (a b : Loggers) → Paired a ≡ Paired b → a ≡ b
+  same_pair a b e = cc
+
   -- whether one has stopped is known from the one that serves alone
   any_stopped : (v : TwinWorld) (l : Loggers) → LoggersStand l v.pair → IsPaired v.pair → (l.tail.alone || l.head.alone) ≡ (v.pair.head_stopped || v.pair.tail_stopped)
   any_stopped v l stand paired =
@@ -217,11 +220,11 @@ module _ {State : Type 0} (service : Machine State) where
   may_not true false e = absurd (true≢false (sym e))
   may_not false false e = absurd (true≢false (sym e))
 
-  pub twin_stops : (w w' : Kept State) (v : TwinWorld) (number : ℕ) (part : Part) (l : Loggers) → (st : TwinWorldStands service w v) → IsPaired v.pair → w.loggers ≡ Some l
+  pub twin_stops : (w w' : Kept State) (v : TwinWorld) (number : ℕ) (part : Part) (l : Loggers) → (st : TwinWorldStands service w v) → IsPaired v.pair → w.keepers ≡ Paired l
       → part_numbered number ≡ Some part → (l.tail.alone || l.head.alone) ≡ false
-      → w' ≡ record w { log = serving_log (stopped part l); loggers = Some (stopped part l) } → TwinAdvances service v (events.Stop number) w'
+      → w' ≡ record w { log = serving_log (stopped part l); keepers = Paired (stopped part l) } → TwinAdvances service v (events.Stop number) w'
   twin_stops w w' v number part l st paired two names run e =
-      let same : l ≡ st.loggers = some_is l st.loggers (sym two ∙ st.double) in
+      let same : l ≡ st.loggers = same_pair l st.loggers (sym two ∙ st.double) in
       let both : (v.pair.head_stopped || v.pair.tail_stopped) ≡ false =
       sym (any_stopped v st.loggers st.pair paired) ∙ subst (λ x. (x.tail.alone || x.head.alone) ≡ false) same run in
       let runs = or_parts v.pair.head_stopped v.pair.tail_stopped both in
@@ -235,7 +238,7 @@ module _ {State : Type 0} (service : Machine State) where
           sent = [];
           world = record v { pair = stopped_by part v.pair; parcels = v.parcels ++ [] };
           goes = (runs.0, runs.1, refl, refl);
-          stands = stop_stands part w w' v st paired (e ∙ ap (λ x. record w { log = serving_log (stopped part x); loggers = Some (stopped part x) }) same);
+          stands = stop_stands part w w' v st paired (e ∙ ap (λ x. record w { log = serving_log (stopped part x); keepers = Paired (stopped part x) }) same);
           grew = refl;
         };
         allowed = ap (λ b. cond b None (Some why.Stop)) may;
@@ -246,10 +249,10 @@ module _ {State : Type 0} (service : Machine State) where
   twin_refuses_number v number e =
       ap (λ b. cond (b && not (v.pair.head_stopped || v.pair.tail_stopped)) None (Some why.Stop)) (names_none number e)
 
-  pub twin_refuses_stop : (w : Kept State) (v : TwinWorld) (number : ℕ) (l : Loggers) → (st : TwinWorldStands service w v) → IsPaired v.pair → w.loggers ≡ Some l
+  pub twin_refuses_stop : (w : Kept State) (v : TwinWorld) (number : ℕ) (l : Loggers) → (st : TwinWorldStands service w v) → IsPaired v.pair → w.keepers ≡ Paired l
       → (l.tail.alone || l.head.alone) ≡ true → twin_refusal v (events.Stop number) ≡ Some why.Stop
   twin_refuses_stop w v number l st paired two stopped_one =
-      let same : l ≡ st.loggers = some_is l st.loggers (sym two ∙ st.double) in
+      let same : l ≡ st.loggers = same_pair l st.loggers (sym two ∙ st.double) in
       let one : (v.pair.head_stopped || v.pair.tail_stopped) ≡ true =
       sym (any_stopped v st.loggers st.pair paired) ∙ subst (λ x. (x.tail.alone || x.head.alone) ≡ true) same stopped_one in
       ap (λ b. cond b None (Some why.Stop)) (may_not (number == 1 || number == 2) (v.pair.head_stopped || v.pair.tail_stopped) one)

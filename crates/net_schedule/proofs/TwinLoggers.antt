@@ -1,5 +1,5 @@
 -- What the code's loggers do with bytes that arrive is what the definitions' loggers do.
-use Rattle.std.proofs.Common.{◌≡◌, ◌∙◌, sym, ap, ap₂, subst, refl, ℕ, ◌+◌, ◌≤◌, Bool, true, false, true≢false, Some, List, [], ◌∷◌, ◌++◌, drop, length, if◌then◌else◌, nat_lt, nat_le, ◌==◌, ◌&&◌, Result, Ok, Err, le_refl, length-append, arith}
+use Rattle.std.proofs.Common.{◌≡◌, ◌∙◌, sym, ap, ap₂, subst, refl, ℕ, ◌+◌, ◌≤◌, Bool, true, false, true≢false, List, [], ◌∷◌, ◌++◌, drop, length, if◌then◌else◌, nat_lt, nat_le, ◌==◌, ◌&&◌, Result, Ok, Err, le_refl, length-append, arith}
 use Rattle.std.specs.List.{AllByRecursion}
 use Rattle.ft_io.proofs.Choices.{holds_either_way}
 use Rattle.ft_io.specs.declared.Key.{Key}
@@ -12,7 +12,7 @@ use Rattle.logger_store.specs.StoreState.{answer_bytes}
 use Rattle.ft_model.specs.Network.Packet.{To_server, To_client, To_logger, From_logger}
 use Rattle.ft_model.specs.declared.way.Way.{Way}
 use Rattle.ft_model.specs.declared.way.Way.TheVariants.{ClientToServer, ServerToClient, ServerToLogger, LoggerToServer, HeadToTail, TailToHead}
-use Rattle.ft_model.proofs.Lists.{none_is_some, some_is}
+use Rattle.mark_store.specs.Refinement.{TrimmedAtMarks}
 use Rattle.twin_laws.specs.declared.part.Part.{Part}
 use Rattle.twin_laws.specs.declared.part.Part.TheVariants as parts
 use Rattle.twin_laws.specs.declared.part.Side.{Side}
@@ -28,11 +28,12 @@ use Rattle.twin_laws.proofs.StoredParts.{head_does_so, tail_does_so}
 use Rattle.net_schedule.specs.StoredPackets.{Carried, with_answer}
 use Rattle.net_schedule.specs.Delivery.{with_logs}
 use Rattle.net_schedule.specs.Loggers.{Loggers, serving_log, with_datagrams, head_hears, tail_hears, front_hears, pair_hears}
-use Rattle.net_schedule.specs.Logs.{loggers_in, log_reads, logs_hear}
+use Rattle.net_schedule.specs.Logs.{HearsIn, keepers_in, log_reads, log_hears}
+use Rattle.net_schedule.specs.Logs.Keepers.{Single, Paired, With_marks}
 use Rattle.net_schedule.specs.Refinement.{Kept}
 use Rattle.net_schedule.specs.TwinRefinement.{stored_way, carried_parcels, LoggersStand, TwinWorldStands, TwinGoesOn, ParcelComesAs}
 use Rattle.net_schedule.specs.declared.logs.Logs.{Logs}
-use Rattle.net_schedule.specs.declared.logs.Logs.TheVariants.{One, Two}
+use Rattle.net_schedule.specs.declared.logs.Logs.TheVariants.{One, Two, Marked}
 use Rattle.net_schedule.proofs.Parcels.{GoesFrom, datagrams_after, datagrams_grow, none_after}
 
 -- a head only forwards, and a tail only confirms
@@ -131,7 +132,7 @@ tail_knows c p k = holds_either_way KnowsAlone p.tail_stopped p _ k k
 
 -- the loggers and the packets are changed
 abbrev heard_in : {State : Type 0} → Kept State → Loggers × Carried → Kept State
-heard_in w h = record w { log = serving_log h.0; loggers = Some h.0; packets = h.1 }
+heard_in w h = record w { log = serving_log h.0; keepers = Paired h.0; packets = h.1 }
 
 -- a way that leads to a logger
 abbrev leads_to_logger : Way → Bool
@@ -150,7 +151,7 @@ module _ {State : Type 0} (service : Machine State) (w w' : Kept State) (v : Twi
         world = record v { pair = pair; parcels = v.parcels ++ sent };
         goes = goes;
         stands = record {
-          actors = record { server = st.actors.server; keys = st.actors.keys; clients = st.actors.clients; boot = st.actors.boot; node = st.actors.node };
+          actors = record { server = st.actors.server; keys = st.actors.keys; clients = st.actors.clients; boot = st.actors.boot; unmarked = st.actors.unmarked; node = st.actors.node };
           loggers = h.0;
           double = refl;
           log = serving_is h.0 pair at.0 alone;
@@ -192,11 +193,23 @@ module _ {State : Type 0} (service : Machine State) (w w' : Kept State) (v : Twi
   goes_by_parcel (Inside (Forward number r)) way bytes leads is e = tail_goes sides.Other bytes (e ∙ ap (λ x. heard_in w (pair_hears x bytes (st.loggers, w.packets))) is)
   goes_by_parcel (Inside (Got number)) way bytes leads is e = head_goes sides.Other bytes (e ∙ ap (λ x. heard_in w (pair_hears x bytes (st.loggers, w.packets))) is)
 
-  pub brings_loggers : (logs : Logs) (parcel : Parcel) (way : Way) (bytes : List ℕ) → w.loggers ≡ loggers_in logs → leads_to_logger way ≡ true → way ≡ stored_way w.keys parcel
-      → w' ≡ with_logs w (logs_hear way bytes (logs, w.packets)) → TwinGoesOn service (ParcelComesAs service parcel bytes v) v w'
-  brings_loggers (One log) parcel way bytes are leads is e = none_is_some st.loggers (sym are ∙ st.double)
-  brings_loggers (Two l) parcel way bytes are leads is e =
-      goes_by_parcel parcel way bytes leads is (e ∙ ap (λ x. heard_in w (pair_hears way bytes (x, w.packets))) (some_is l st.loggers (sym are ∙ st.double)))
+  -- two loggers are not one, nor one with marks
+  not_one : {P : Type 0} (l : Loggers) → Single ≡ Paired l → P
+  not_one l e = absurd (cc)
+
+  not_marked : {P : Type 0} (store : TrimmedAtMarks) (l : Loggers) → With_marks store ≡ Paired l → P
+  not_marked store l e = absurd (cc)
+
+  pub brings_loggers : (logs now : Logs) (sent : Carried) (parcel : Parcel) (way : Way) (bytes : List ℕ) → w.keepers ≡ keepers_in logs → leads_to_logger way ≡ true → way ≡ stored_way w.keys parcel
+      → HearsIn logs way bytes w.packets now sent → w' ≡ with_logs w (now, sent) → TwinGoesOn service (ParcelComesAs service parcel bytes v) v w'
+  brings_loggers (One log) now sent parcel way bytes are leads is heard e = not_one st.loggers (sym are ∙ st.double)
+  brings_loggers (Marked both) now sent parcel way bytes are leads is heard e = not_marked both.store st.loggers (sym are ∙ st.double)
+  brings_loggers (Two l) now sent parcel way bytes are leads is heard e =
+      goes_by_parcel parcel way bytes leads is
+      (e ∙ (ap (with_logs w) heard ∙ ap (λ x. heard_in w (pair_hears way bytes (x, w.packets))) (same_pair l st.loggers (sym are ∙ st.double))))
+    where
+      same_pair : (a b : Loggers) → Paired a ≡ Paired b → a ≡ b
+      same_pair a b e = cc
 
 -- what a logger sends is put after what was kept
 answer_grows : (kept : Carried) (bytes : List ℕ) → length kept.bytes ≤ length (with_answer kept bytes).bytes
@@ -218,17 +231,24 @@ log_grows : (r : Result Message BadMsg) (log : Log) (packets : Carried) → Grow
 log_grows (Ok message) log packets = answer_grows packets (answer_bytes (answer_to log message))
 log_grows (Err bad) log packets = le_refl (length packets.bytes)
 
-pub logs_grow : (logs : Logs) (way : Way) (bytes : List ℕ) (packets : Carried) → Grows packets (logs_hear way bytes (logs, packets))
-logs_grow (One log) ServerToLogger bytes packets = log_grows (reading bytes) log packets
-logs_grow (One log) (ClientToServer n) bytes packets = le_refl (length packets.bytes)
-logs_grow (One log) (ServerToClient n) bytes packets = le_refl (length packets.bytes)
-logs_grow (One log) LoggerToServer bytes packets = le_refl (length packets.bytes)
-logs_grow (One log) HeadToTail bytes packets = le_refl (length packets.bytes)
-logs_grow (One log) TailToHead bytes packets = le_refl (length packets.bytes)
-logs_grow (Two l) ServerToLogger bytes packets =
+one_grows : (log : Log) (way : Way) (bytes : List ℕ) (packets : Carried) → Grows packets (log_hears way bytes (log, packets))
+one_grows log ServerToLogger bytes packets = log_grows (reading bytes) log packets
+one_grows log (ClientToServer n) bytes packets = le_refl (length packets.bytes)
+one_grows log (ServerToClient n) bytes packets = le_refl (length packets.bytes)
+one_grows log LoggerToServer bytes packets = le_refl (length packets.bytes)
+one_grows log HeadToTail bytes packets = le_refl (length packets.bytes)
+one_grows log TailToHead bytes packets = le_refl (length packets.bytes)
+
+pair_grows : (l : Loggers) (way : Way) (bytes : List ℕ) (packets : Carried) → Grows packets (pair_hears way bytes (l, packets))
+pair_grows l ServerToLogger bytes packets =
     holds_either_way (Grows packets) l.tail.alone _ _ (tail_grows sides.Server bytes l packets) (head_grows sides.Server bytes l packets)
-logs_grow (Two l) (ClientToServer n) bytes packets = le_refl (length packets.bytes)
-logs_grow (Two l) (ServerToClient n) bytes packets = le_refl (length packets.bytes)
-logs_grow (Two l) LoggerToServer bytes packets = le_refl (length packets.bytes)
-logs_grow (Two l) HeadToTail bytes packets = tail_grows sides.Other bytes l packets
-logs_grow (Two l) TailToHead bytes packets = head_grows sides.Other bytes l packets
+pair_grows l (ClientToServer n) bytes packets = le_refl (length packets.bytes)
+pair_grows l (ServerToClient n) bytes packets = le_refl (length packets.bytes)
+pair_grows l LoggerToServer bytes packets = le_refl (length packets.bytes)
+pair_grows l HeadToTail bytes packets = tail_grows sides.Other bytes l packets
+pair_grows l TailToHead bytes packets = head_grows sides.Other bytes l packets
+
+pub logs_grow : (logs now : Logs) (way : Way) (bytes : List ℕ) (packets sent : Carried) → HearsIn logs way bytes packets now sent → length packets.bytes ≤ length sent.bytes
+logs_grow (One log) now way bytes packets sent h = subst (λ (x : Logs × Carried). length packets.bytes ≤ length x.1.bytes) (sym h) (one_grows log way bytes packets)
+logs_grow (Two l) now way bytes packets sent h = subst (λ (x : Logs × Carried). length packets.bytes ≤ length x.1.bytes) (sym h) (pair_grows l way bytes packets)
+logs_grow (Marked both) now way bytes packets sent h = h.2.grew

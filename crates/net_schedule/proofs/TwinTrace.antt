@@ -16,6 +16,7 @@ use Rattle.twin_laws.specs.TwinLegal.{IsTwinLegalFor, event_of, twin_start, twin
 use Rattle.twin_laws.specs.TwinWorld.{TwinWorld, TwinMoment, TwinJoint, TwinHappens, seen, parcel_at, twin_after}
 use Rattle.twin_laws.specs.TwinWorld.Parcel.{Outside}
 use Rattle.twin_laws.specs.SentBytes.{IsWritten}
+use Rattle.server_node.specs.Markers.{Saving}
 use Rattle.net_schedule.specs.WorldView.{kept, services_of}
 use Rattle.net_schedule.specs.Premises.{Premises}
 use Rattle.net_schedule.specs.Refinement.{Kept}
@@ -116,9 +117,10 @@ module _ {State : Type 0} (services : ℕ → Machine State) (laws : AreLaws ser
       (x, subst (λ n. 200000 < n) (as_many_parcels w'.keys w'.packets x.moment.world.parcels x.stands.stands.packets) h.1))
 
 -- an event that isn't done ends the step
-pub twin_ends_so : {State : Type 0} {ghosts : Ghosts State} (w w' : World State ghosts) (event : Event) (end : StepEnd) → AreLaws (services_of w) → AreTwinLaws (services_of w) → Declines event w w' end
+pub twin_ends_so : {State : Type 0} {ghosts : Ghosts State} (saved : Saving State) (w w' : World State ghosts) (event : Event) (end : StepEnd) → AreLaws (services_of w)
+    → AreTwinLaws (services_of w) → Declines saved event w w' end
     → TwinEndsAlong event end w w'
-twin_ends_so w w' event NoMemory laws twins ends = λ schedule events trace s. tt
-twin_ends_so w w' event (BadEvent why) laws twins ends =
+twin_ends_so saved w w' event NoMemory laws twins ends = λ schedule events trace s. tt
+twin_ends_so saved w w' event (BadEvent why) laws twins ends =
     λ schedule events trace s. ends.0.two (twin_after (twin_start schedule) trace) s.stands (twin_premises (services_of w) laws twins schedule events trace (kept w) s)
-twin_ends_so w w' event PacketLimit laws twins ends = absurd ends
+twin_ends_so saved w w' event PacketLimit laws twins ends = absurd ends

@@ -1,4 +1,4 @@
--- Server and clients, and what an event does to them: they don't look at the log, so it is the same with one logger and with two.
+-- Server and clients, and what an event does to them where the server makes no marks: they don't look at the log, so it is the same with one logger and with two.
 use Rattle.std.specs.Prelude.{◌≡◌, None, List, ◌++◌, map}
 use Rattle.server_trait.specs.Service.{Machine}
 use Rattle.ft_model.specs.Legal.{refusal, IsScripted}
@@ -15,6 +15,7 @@ pub record ActorsStand {State : Type 0} (service : Machine State) (w : Kept Stat
   pub keys : w.keys ≡ map (λ c. c.key) v.clients
   pub clients : w.clients ≡ v.clients
   pub boot : w.boot ≡ v.boot
+  pub unmarked : w.every ≡ 0
   pub node : NodeStands service w.kind w.node v.node
 
 -- The world becomes a next one, with these packets sent and stored, and the loggers are as before.
@@ -28,7 +29,7 @@ pub record ActorsGoOn {State : Type 0} (service : Machine State) (Goes : List Pa
   pub stored : after.packets ≡ with_wires before.keys before.packets (map wire_of sent)
   pub same_keys : after.keys ≡ before.keys
   pub same_log : after.log ≡ before.log
-  pub same_loggers : after.loggers ≡ before.loggers
+  pub same_keepers : after.keepers ≡ before.keepers
 
 -- An event of theirs is allowed and happens, and the clients follow the script.
 pub record ActorsAdvance {State : Type 0} (service : Machine State) (v : Seen) (event : Event) (before after : Kept State) : Type 0 where

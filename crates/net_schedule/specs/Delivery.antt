@@ -3,7 +3,7 @@ use Rattle.std.specs.Prelude.{ℕ, zero, suc, List, [], ◌∷◌}
 use Rattle.ft_model.specs.Client.{Client}
 use Rattle.peer_client.specs.Scripted.{delivered}
 use Rattle.net_schedule.specs.StoredPackets.{Carried}
-use Rattle.net_schedule.specs.Logs.{log_in, loggers_in}
+use Rattle.net_schedule.specs.Logs.{log_in, keepers_in}
 use Rattle.net_schedule.specs.declared.logs.Logs.{Logs}
 use Rattle.net_schedule.specs.Refinement.{Kept}
 
@@ -20,4 +20,4 @@ delivered_to (suc n) bytes clients = changed_at n (λ c. delivered c bytes) clie
 
 -- the loggers and the packets are changed
 abbrev pub with_logs : {State : Type 0} → Kept State → Logs × Carried → Kept State
-with_logs w h = record w { log = log_in h.0; loggers = loggers_in h.0; packets = h.1 }
+with_logs w h = record w { log = log_in h.0; keepers = keepers_in h.0; packets = h.1 }

@@ -1,6 +1,8 @@
 pub mod AtNumber
+pub mod Every
 pub mod StoredPackets
 pub mod Loggers
+pub mod Journal
 pub mod Logs
 pub mod Refinement
 pub mod Actors
@@ -11,5 +13,8 @@ pub mod WorldView
 pub mod SentPackets
 pub mod TwinRefinement
 pub mod TwinStep
+pub mod MarkedRefinement
+pub mod MarkedStep
+pub mod MarkedTurns
 pub mod Turns
 pub mod Along

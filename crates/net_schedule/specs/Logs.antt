@@ -1,30 +1,40 @@
--- What keeps the log of a world, one logger or two, and what becomes of it when bytes arrive.
-use Rattle.std.specs.Prelude.{ℕ, Option, None, Some, Bool, true, false, List, Result, Ok, Err}
+-- What keeps the log of a world, one logger or two or one that keeps marks, and what becomes of it when bytes arrive.
+use Rattle.std.specs.Prelude.{◌≡◌, ℕ, List, Result, Ok, Err}
 use Rattle.seq_arith.specs.Message.{Message}
 use Rattle.seq_arith.specs.MessageGrammar.{reading}
 use Rattle.seq_arith.specs.declared.kinds.BadMsg.{BadMsg}
-use Rattle.ft_model.specs.Log.{Log, empty_log, log_after, answer_to}
+use Rattle.ft_model.specs.Log.{Log, log_after, answer_to}
 use Rattle.ft_model.specs.declared.way.Way.{Way}
 use Rattle.ft_model.specs.declared.way.Way.TheVariants.{ClientToServer, ServerToClient, ServerToLogger, LoggerToServer, HeadToTail, TailToHead}
 use Rattle.logger_store.specs.StoreState.{answer_bytes}
+use Rattle.mark_laws.specs.MarkedLog.{nothing_logged}
+use Rattle.mark_store.specs.Refinement.{TrimmedAtMarks}
 use Rattle.net_schedule.specs.StoredPackets.{Carried, with_answer}
-use Rattle.net_schedule.specs.Loggers.{Loggers, new_loggers, serving_log, pair_hears}
+use Rattle.net_schedule.specs.Loggers.{Loggers, serving_log, pair_hears}
+use Rattle.net_schedule.specs.Journal.{StoreAndJournal, AreAt, MarksHear}
 use Rattle.net_schedule.specs.declared.logs.Logs.{Logs}
-use Rattle.net_schedule.specs.declared.logs.Logs.TheVariants.{One, Two}
+use Rattle.net_schedule.specs.declared.logs.Logs.TheVariants.{One, Two, Marked}
 
--- at the start: two loggers or one
-abbrev pub new_logs : Bool → Logs
-new_logs true = Two new_loggers
-new_logs false = One empty_log
+-- a store with marks and its journal, with nothing logged
+abbrev pub IsNewMarked : Logs → Type 0
+IsNewMarked logs = (kept : StoreAndJournal) × (logs ≡ Marked kept) × AreAt kept nothing_logged
 
--- the log that serves, and the two loggers where there are two
+-- the log that serves: with marks, the journal
 abbrev pub log_in : Logs → Log
 log_in (One log) = log
 log_in (Two loggers) = serving_log loggers
+log_in (Marked kept) = kept.journal
 
-abbrev pub loggers_in : Logs → Option Loggers
-loggers_in (One log) = None
-loggers_in (Two loggers) = Some loggers
+-- what keeps it: only one logger, a head and a tail, or a store with marks
+pub data Keepers : Type 0 where
+  Single : Keepers
+  Paired : Loggers → Keepers
+  With_marks : TrimmedAtMarks → Keepers
+
+abbrev pub keepers_in : Logs → Keepers
+keepers_in (One log) = Single
+keepers_in (Two loggers) = Paired loggers
+keepers_in (Marked kept) = With_marks kept.store
 
 -- the only logger takes a message, and its answer is sent. What is no message changes nothing
 abbrev pub log_reads : Result Message BadMsg → Log × Carried → Log × Carried
@@ -40,9 +50,12 @@ log_hears LoggerToServer bytes h = h
 log_hears HeadToTail bytes h = h
 log_hears TailToHead bytes h = h
 
-abbrev pub hears_in : Logs → Way → List ℕ → Carried → Logs × Carried
-hears_in (One log) way bytes packets = let h = log_hears way bytes (log, packets) in (One h.0, h.1)
-hears_in (Two loggers) way bytes packets = let h = pair_hears way bytes (loggers, packets) in (Two h.0, h.1)
+-- what keeps the log, and the packets
+abbrev pub both : Logs → Carried → Logs × Carried
+both logs packets = (logs, packets)
 
-abbrev pub logs_hear : Way → List ℕ → Logs × Carried → Logs × Carried
-logs_hear way bytes h = hears_in h.0 way bytes h.1
+-- bytes of this direction arrive at what keeps the log, which becomes this one, and what it sends is stored
+abbrev pub HearsIn : Logs → Way → List ℕ → Carried → Logs → Carried → Type 0
+HearsIn (One log) way bytes packets now sent = let h = log_hears way bytes (log, packets) in both now sent ≡ both (One h.0) h.1
+HearsIn (Two loggers) way bytes packets now sent = let h = pair_hears way bytes (loggers, packets) in both now sent ≡ both (Two h.0) h.1
+HearsIn (Marked kept) way bytes packets now sent = (after : StoreAndJournal) × (now ≡ Marked after) × MarksHear way bytes (kept, packets) (after, sent)

@@ -16,7 +16,8 @@ use Rattle.server_node.specs.Stages.{StageStands}
 use Rattle.server_node.specs.declared.identity.Identity.{Identity}
 use Rattle.server_node.specs.declared.stage.Stage.{Stage as Holds}
 use Rattle.net_schedule.specs.StoredPackets.{Carried, carried}
-use Rattle.net_schedule.specs.Loggers.{Loggers}
+use Rattle.net_schedule.specs.Logs.{Keepers}
+use Rattle.net_schedule.specs.Logs.Keepers.{Single}
 use Rattle.net_schedule.specs.declared.end.StepEnd.{StepEnd}
 use Rattle.net_schedule.specs.declared.end.StepEnd.TheVariants.{BadEvent}
 
@@ -31,8 +32,9 @@ pub record Kept (State : Type 0) : Type 0 where
   pub server : Addr
   pub keys : List Key  -- of the clients
   pub clients : List Client
-  pub log : Log  -- the one that serves
-  pub loggers : Option Loggers  -- where there are two
+  pub log : Log  -- the one that serves; with marks, the journal
+  pub keepers : Keepers
+  pub every : ℕ  -- after how many reads the server marks; 0 where it doesn't
   pub packets : Carried
   pub boot : ℕ
   pub node : Option (Server State)
@@ -55,7 +57,8 @@ pub record WorldStands {State : Type 0} (service : Machine State) (w : Kept Stat
   pub server : w.server ≡ v.server
   pub keys : w.keys ≡ map (λ c. c.key) v.clients
   pub clients : w.clients ≡ v.clients
-  pub single : w.loggers ≡ None
+  pub single : w.keepers ≡ Single
+  pub unmarked : w.every ≡ 0
   pub log : w.log ≡ v.log
   pub packets : w.packets ≡ carried w.keys (map wire_of v.packets)
   pub boot : w.boot ≡ v.boot

@@ -8,11 +8,17 @@ use Rattle.ft_model.specs.Schedule.{clients_of}
 use Rattle.ft_model.specs.Wire.{wire_of, HasWire}
 use Rattle.ft_model.specs.World.{Moment, world_after}
 use Rattle.ft_model.specs.declared.schedule.Schedule.{Schedule}
+use Rattle.ft_model.specs.Client.{Client}
 use Rattle.ft_model.specs.declared.way.Way.{Way}
+use Rattle.ft_model.specs.declared.way.Way.TheVariants.{ServerToLogger, LoggerToServer}
 use Rattle.twin_laws.specs.TwinWorld.{Parcel, TwinMoment, parcel_at, twin_after}
 use Rattle.twin_laws.specs.TwinLegal.{twin_start, bytes_of_parcel}
 use Rattle.twin_laws.specs.TwinReport.{way_of_parcel}
 use Rattle.twin_laws.specs.SentBytes.{IsWritten}
+use Rattle.mark_traces.specs.MarkedLegal.{marked_start}
+use Rattle.mark_traces.specs.MarkedWorld as marked
+use Rattle.mark_traces.specs.MarkedWorld.{MarkedMoment, CanBeRead, bytes_of, marked_after}
+use Rattle.mark_traces.specs.MarkedWorld.Parcel.{Usual, Mark_sent, Mark_answered}
 use Rattle.net_schedule.specs.StoredPackets.{Carried}
 
 -- all packets that were sent up to the end of a trace
@@ -54,3 +60,27 @@ pub record ParcelSentAs (schedule : Schedule) (trace : List TwinMoment) (number 
   pub written : IsWritten parcel
   pub goes : way ≡ way_of_parcel (clients_of schedule.server schedule.clients) parcel
   pub spells : bytes ≡ bytes_of_parcel parcel
+
+-- With marks: all that was sent up to the end of a trace
+abbrev pub marked_parcels_of : Schedule → List MarkedMoment → List marked.Parcel
+marked_parcels_of schedule trace = (marked_after (marked_start schedule) trace).parcels
+
+-- the direction of a parcel
+abbrev pub marked_way : List Client → marked.Parcel → Way
+marked_way clients (Usual packet) = way_of clients packet
+marked_way clients (Mark_sent message) = ServerToLogger
+marked_way clients (Mark_answered message) = LoggerToServer
+
+-- what is stored is the parcels of a trace, each in its one spelling and with its direction
+pub record KeepsAllMarked (schedule : Schedule) (trace : List MarkedMoment) (kept : Carried) : Type 0 where
+  pub ways : kept.ways ≡ map (marked_way (clients_of schedule.server schedule.clients)) (marked_parcels_of schedule trace)
+  pub bytes : kept.bytes ≡ map bytes_of (marked_parcels_of schedule trace)
+  pub written : AllByRecursion CanBeRead (marked_parcels_of schedule trace)
+
+-- this direction and these bytes are those of the trace's parcel with a number
+pub record MarkedSentAs (schedule : Schedule) (trace : List MarkedMoment) (number : ℕ) (way : Way) (bytes : List ℕ) : Type 0 where
+  pub parcel : marked.Parcel
+  pub is : marked.parcel_at (marked_parcels_of schedule trace) number ≡ Some parcel
+  pub written : CanBeRead parcel
+  pub goes : way ≡ marked_way (clients_of schedule.server schedule.clients) parcel
+  pub spells : bytes ≡ bytes_of parcel

@@ -24,6 +24,7 @@ use Rattle.twin_laws.specs.SentBytes.{IsWritten}
 use Rattle.net_schedule.specs.Actors.{ActorsStand}
 use Rattle.net_schedule.specs.StoredPackets.{Carried, way_along}
 use Rattle.net_schedule.specs.Loggers.{Loggers}
+use Rattle.net_schedule.specs.Logs.Keepers.{Paired}
 use Rattle.net_schedule.specs.Premises.{Premises, ComesAs}
 use Rattle.net_schedule.specs.Refinement.{Kept}
 
@@ -45,7 +46,7 @@ pub record LoggersStand (l : Loggers) (p : Pair) : Type 0 where
 pub record TwinWorldStands {State : Type 0} (service : Machine State) (w : Kept State) (v : TwinWorld) : Type 0 where
   pub actors : ActorsStand service w (seen v [])
   pub loggers : Loggers
-  pub double : w.loggers ≡ Some loggers
+  pub double : w.keepers ≡ Paired loggers
   pub log : w.log ≡ serving v.pair
   pub pair : LoggersStand loggers v.pair
   pub packets : w.packets ≡ carried_parcels w.keys v.parcels

@@ -5,7 +5,7 @@ use Rattle.server_trait.specs.declared.Service.{Ghosts}
 use Rattle.ft_model.specs.Legal.{machines}
 use Rattle.server_node.specs.declared.node.Node.{Node}
 use Rattle.net_schedule.specs.declared.world.World.{World}
-use Rattle.net_schedule.specs.Logs.{log_in, loggers_in}
+use Rattle.net_schedule.specs.Logs.{log_in, keepers_in}
 use Rattle.net_schedule.specs.Refinement.{Kept, Server}
 
 abbrev pub server_of : {State : Type 0} {ghosts : Ghosts State} → Node State ghosts → Server State
@@ -18,7 +18,8 @@ kept w = record {
   keys = w.keys.items;
   clients = w.clients.items;
   log = log_in w.logs;
-  loggers = loggers_in w.logs;
+  keepers = keepers_in w.logs;
+  every = w.every;
   packets = w.packets;
   boot = w.boot;
   node = option_map server_of w.node;

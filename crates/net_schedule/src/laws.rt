@@ -1,6 +1,6 @@
 //! Laws of the world, each the clause of a function that does nothing.
 
-ghost use Rattle.std.specs.Prelude.{◌≡◌, ℕ, Some, List, map};
+ghost use Rattle.std.specs.Prelude.{◌≡◌, ℕ, true, Some, List, map};
 ghost use Rattle.ft_model.specs.Client.{Client};
 ghost use Rattle.ft_model.specs.Legal.{machines};
 ghost use Rattle.ft_model.specs.Network.{Packet};
@@ -9,15 +9,22 @@ ghost use Rattle.ft_model.specs.World.{Moment};
 ghost use Rattle.ft_model.specs.declared.event.Event.{Event};
 ghost use Rattle.ft_model.specs.declared.schedule.Schedule.{Schedule};
 ghost use Rattle.ft_model.specs.declared.way.Way.{Way};
+ghost use Rattle.mark_traces.specs.MarkedLegal.{markers};
+ghost use Rattle.mark_traces.specs.MarkedWorld.{MarkedWorld, MarkedMoment, MarkedJoint, marked_after};
 ghost use Rattle.net_schedule.specs.AtNumber.{at_number};
-ghost use Rattle.net_schedule.specs.SentPackets.{KeepsAllSent, WasSentAs, KeepsAllParcels, ParcelSentAs};
+ghost use Rattle.net_schedule.specs.Journal.{HasDistinctKeys};
+ghost use Rattle.net_schedule.specs.MarkedStep.{MarkedStandsAfter};
+ghost use Rattle.net_schedule.specs.SentPackets.{KeepsAllSent, WasSentAs, KeepsAllParcels, ParcelSentAs, KeepsAllMarked, MarkedSentAs};
 ghost use Rattle.net_schedule.specs.Refinement.{Kept};
 ghost use Rattle.net_schedule.specs.Step.{StandsAfter};
 ghost use Rattle.net_schedule.specs.TwinStep.{TwinStandsAfter};
 ghost use Rattle.twin_laws.specs.TwinWorld.{TwinMoment};
 
 use ft_model::wire::packets_have_wires;
-use server_trait::Service;
+use mark_laws::marking::marks_that_go_out_are_true;
+use mark_laws::marks_stay_true;
+use mark_reports::marked_parcels_are_written;
+use server_trait::{Saved, Service};
 use twin_laws::{flat_traces_show_all, legal_traces_are_masked, parcels_are_written};
 
 /// The lines of packets depend only on the clients' keys.
@@ -56,4 +63,28 @@ pub fn worlds_keep_what_was_sent<S: Service>()
     legal_traces_are_masked::<S>();
     flat_traces_show_all::<S>();
     parcels_are_written::<S>();
+}
+
+/// In no trace with marks have two entries of the log one key.
+pub fn marked_logs_have_distinct_keys<S: Saved>()
+    ensures { (kind every : ℕ) (start : MarkedWorld) (trace : List MarkedMoment)
+        → MarkedJoint (markers (machines S.started S.after) S.form S.state_of every kind) start trace → HasDistinctKeys (marked_after start trace).log }
+{
+    marks_stay_true::<S>();
+    marks_that_go_out_are_true::<S>();
+}
+
+/// With marks the world's keys are those of the schedule's clients, too, and it stores the parcels of its trace, each in its one spelling and with its direction.
+/// The service is one that can be saved: of another no schedule is played with marks.
+pub fn marked_worlds_keep_what_was_sent<S: Saved>()
+    ensures keys { (every : ℕ) (schedule : Schedule) (events : List Event) (trace : List MarkedMoment) (w : Kept S)
+        → MarkedStandsAfter (markers (machines S.started S.after) S.form S.state_of every) schedule events trace w
+        → w.keys ≡ map (λ line. line.key) schedule.clients }
+    ensures all { S.is_savable ≡ true → (every : ℕ) (schedule : Schedule) (events : List Event) (trace : List MarkedMoment) (w : Kept S)
+        → MarkedStandsAfter (markers (machines S.started S.after) S.form S.state_of every) schedule events trace w → KeepsAllMarked schedule trace w.packets }
+    ensures each { S.is_savable ≡ true → (every : ℕ) (schedule : Schedule) (events : List Event) (trace : List MarkedMoment) (w : Kept S) (number : ℕ)
+        (way : Way) (bytes : List ℕ) → MarkedStandsAfter (markers (machines S.started S.after) S.form S.state_of every) schedule events trace w
+        → at_number w.packets.ways number ≡ Some way → at_number w.packets.bytes number ≡ Some bytes → MarkedSentAs schedule trace number way bytes }
+{
+    marked_parcels_are_written::<S>();
 }

@@ -1,5 +1,5 @@
-//! The world of a schedule: clients that follow the script, a network that stores each packet as bytes and delivers what the schedule names, one logger or two, and a
-//! server that crashes and restarts.
+//! The world of a schedule: clients that follow the script, a network that stores each packet as bytes and delivers what the schedule names, one logger, two, or one that
+//! keeps marks, and a server that crashes and restarts.
 #![tactic(auto)]
 
 pub use end::StepEnd;
@@ -10,6 +10,7 @@ mod clients;
 mod end;
 pub mod laws;
 mod logs;
+mod marked;
 mod only;
 mod packets;
 mod pair;

@@ -1,8 +1,12 @@
 //! What keeps the log of a world.
 
-ghost use Rattle.std.specs.Prelude.{◌≡◌, OnOk, IfOk};
-ghost use Rattle.net_schedule.specs.Logs.{new_logs, log_in, logs_hear};
+ghost use Rattle.std.specs.Prelude.{◌≡◌, true, false, OnOk, IfOk};
+ghost use Rattle.ft_model.specs.Log.{empty_log};
+ghost use Rattle.net_schedule.specs.Loggers.{new_loggers};
+ghost use Rattle.net_schedule.specs.Logs.{IsNewMarked, log_in, HearsIn};
+ghost use Rattle.net_schedule.specs.declared.logs.Logs.TheVariants.{One as OneLog, Two as TwoLogs};
 
+use crate::marked::MarkedLog;
 use crate::only::OnlyLogger;
 use crate::packets::Packets;
 use crate::pair::LogPair;
@@ -18,15 +22,22 @@ pub enum Logs {
     One(OnlyLogger),
     /// A head and a tail.
     Two(LogPair),
+    /// One logger that keeps marks.
+    Marked(MarkedLog),
 }
 
 impl Logs {
-    /// At the start: two loggers or one, with empty logs.
-    pub fn new(alloc: Global, twin: bool) -> Result<Logs, NoMemory>
-        ensures { IfOk result (λ logs. logs ≡ new_logs twin) }
+    /// At the start: two loggers, or one that keeps marks or none, with empty logs.
+    pub fn new(alloc: Global, twin: bool, marks: bool) -> Result<Logs, NoMemory>
+        ensures one { twin ≡ false → marks ≡ false → IfOk result (λ logs. logs ≡ OneLog empty_log) }
+        ensures two { twin ≡ true → IfOk result (λ logs. logs ≡ TwoLogs new_loggers) }
+        ensures marked { twin ≡ false → marks ≡ true → IfOk result (λ logs. IsNewMarked logs) }
     {
         if twin {
             return Ok(Logs::Two(LogPair::new(alloc)?));
+        }
+        if marks {
+            return Ok(Logs::Marked(MarkedLog::new(alloc)));
         }
         Ok(Logs::One(OnlyLogger::new(alloc)))
     }
@@ -38,6 +49,7 @@ impl Logs {
         match self {
             Logs::One(only) => only.log(),
             Logs::Two(pair) => pair.log(),
+            Logs::Marked(marked) => marked.log(),
         }
     }
 
@@ -49,11 +61,12 @@ impl Logs {
         bytes: &[u8],
         packets: &mut Packets,
     ) -> Result<(), NoMemory>
-        ensures { OnOk result ((self.new, packets.new) ≡ logs_hear way bytes.now (self.old, packets.old)) }
+        ensures { OnOk result (HearsIn self.old way bytes.now packets.old self.new packets.new) }
     {
         match self {
             Logs::One(only) => only.hear(alloc, way, bytes, packets),
             Logs::Two(pair) => pair.hear(alloc, way, bytes, packets),
+            Logs::Marked(marked) => marked.hear(alloc, way, bytes, packets),
         }
     }
 }

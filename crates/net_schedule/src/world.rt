@@ -1,12 +1,14 @@
-//! The world of a schedule: its clients, the network, one logger or two, and the server. A step is one event of the schedule, and the world stores each packet that was
+//! The world of a schedule: its clients, the network, one logger, two, or one that keeps marks, and the server. A step is one event of the schedule, and the world stores each packet that was
 //! ever sent, as bytes.
 
 ghost use Rattle.std.specs.Prelude.{◌≡◌, ◌≤◌, ◌<◌, ◌*◌, length, OnOk};
 ghost use Rattle.seq_arith.specs.Damage.{flipped};
 ghost use Rattle.net_schedule.specs.Loggers.{part_numbered};
+ghost use Rattle.net_schedule.specs.Every.{every_in};
 
 use crate::clients::{keys_of, new_clients};
 use crate::end::StepEnd;
+use crate::laws::marked_logs_have_distinct_keys;
 use crate::logs::Logs;
 use crate::packets::Packets;
 use crate::sending::keep_sent;
@@ -16,6 +18,8 @@ use ft_model::grammar::playable_schedules_start;
 use ft_model::wire::packets_have_wires;
 use ft_model::{Event, EventWhy, Schedule, Way};
 use logger_store::LogStore;
+use mark_reports::marked_parcels_are_written;
+use mark_traces::marked_premises_hold;
 use peer_client::Client;
 use seq_arith::flip;
 use server_node::{Input, Node, TurnEnd};
@@ -62,6 +66,16 @@ fn part_of(number: u8) -> Option<Part>
     }
 }
 
+/// After how many reads the server of a schedule marks; 0 where it doesn't, or where its service can't be saved.
+fn every_of<S: Saved>(schedule: &Schedule) -> u32
+    ensures { result ≡ every_in S.is_savable schedule.now }
+{
+    if schedule.twin || !S::savable() {
+        return 0;
+    }
+    schedule.marks.unwrap_or(0)
+}
+
 /// The world of a schedule's run.
 #[derive(Drop)]
 pub struct World<S: Service> {
@@ -71,6 +85,8 @@ pub struct World<S: Service> {
     clients: Vec<Client>,
     logs: Logs,
     packets: Packets,
+    /// After how many reads the server marks; 0 where it doesn't.
+    every: u32,
     boot: u64,
     node: Option<Node<S>>,
     /// A copy of the packet that is being delivered.
@@ -81,8 +97,8 @@ pub struct World<S: Service> {
 }
 
 impl<S: Saved> World<S> {
-    ghost use Rattle.std.specs.Prelude.{◌≡◌, ◌≤◌, ◌<◌, ◌+◌, ◌-◌, true, false, [], option_copied, length, Some, IfOk, IfErr, OnOk};
-    ghost use Rattle.net_schedule.specs.Along.{StepsAlong, EndsAlong, TwinStepsAlong, TwinEndsAlong};
+    ghost use Rattle.std.specs.Prelude.{◌≡◌, ℕ, ◌≤◌, ◌<◌, ◌+◌, ◌-◌, true, false, [], option_copied, length, Some, None, IfOk, IfErr, OnOk};
+    ghost use Rattle.net_schedule.specs.Along.{StepsAlong, EndsAlong, TwinStepsAlong, TwinEndsAlong, MarkedStepsAlong, MarkedEndsAlong};
     ghost use Rattle.net_schedule.specs.AtNumber.{at_number};
     ghost use Rattle.net_schedule.specs.WorldView.{kept, services_of};
     ghost use Rattle.ft_model.specs.Client.{mover_of};
@@ -90,29 +106,37 @@ impl<S: Saved> World<S> {
     ghost use Rattle.ft_model.specs.World.{client_at};
     ghost use Rattle.ft_model.specs.declared.event.Event.TheVariants.{Boot, Crash, Tick, Deliver, Flip, Stop};
     ghost use Rattle.server_node.specs.Inputs.{input_of};
-    ghost use Rattle.net_schedule.specs.Delivery.{delivered_to, with_logs};
-    ghost use Rattle.net_schedule.specs.Logs.{logs_hear};
+    ghost use Rattle.net_schedule.specs.Delivery.{delivered_to};
     ghost use Rattle.net_schedule.specs.Refinement.{KeepsAtRefusal};
     ghost use Rattle.net_schedule.specs.Step.{StandsAfter};
-    ghost use Rattle.net_schedule.specs.Turns.{Serves, ActorsDo, ActorsDecline, Brings, Does, Declines};
+    ghost use Rattle.net_schedule.specs.Turns.{Serves, ActorsDo, ActorsDecline, TellsLogger, Brings, Does, Declines};
     ghost use Rattle.net_schedule.specs.TwinStep.{TwinStandsAfter};
+    ghost use Rattle.net_schedule.specs.MarkedRefinement.{marker_for};
+    ghost use Rattle.server_node.specs.Markers.{saving};
+    ghost use Rattle.net_schedule.specs.MarkedStep.{MarkedStandsAfter};
+    ghost use Rattle.server_node.specs.MarkedTurns.{marked_input_of};
 
     /// The world in which a schedule starts: nothing was sent, nothing is logged, and the server is down.
     pub fn new(alloc: Global, schedule: &Schedule) -> Result<World<S>, NoMemory>
         requires playable { IsPlayable schedule.now }
         requires few { length schedule.now.clients ≤ 16 }
-        ensures one { IfOk result (λ w. schedule.now.twin ≡ false → StandsAfter (services_of w) schedule.now [] [] (kept w)) }
+        ensures one { IfOk result (λ w. schedule.now.twin ≡ false → schedule.now.marks ≡ None → StandsAfter (services_of w) schedule.now [] [] (kept w)) }
+        ensures unmarked { IfOk result (λ w. schedule.now.twin ≡ false → every_in S.is_savable schedule.now ≡ 0 → StandsAfter (services_of w) schedule.now [] [] (kept w)) }
         ensures two { IfOk result (λ w. schedule.now.twin ≡ true → TwinStandsAfter (services_of w) schedule.now [] [] (kept w)) }
+        ensures marked { IfOk result (λ w. (every : ℕ) → S.is_savable ≡ true → schedule.now.twin ≡ false → schedule.now.marks ≡ Some every → 0 < every
+            → MarkedStandsAfter (marker_for (saving S.form S.state_of S.is_savable) (services_of w) every) schedule.now [] [] (kept w)) }
     {
         playable_schedules_start();
         let lines = schedule.clients.as_slice();
+        let every = every_of::<S>(schedule);
         Ok(World {
             kind: schedule.service.number(),
             server: schedule.server,
             keys: keys_of(alloc, lines)?,
             clients: new_clients(alloc, schedule.server, lines)?,
-            logs: Logs::new(alloc, schedule.twin)?,
+            logs: Logs::new(alloc, schedule.twin, every > 0)?,
             packets: Packets::new(alloc),
+            every,
             boot: 0,
             node: None,
             copy: Vec::new(alloc),
@@ -160,8 +184,8 @@ impl<S: Saved> World<S> {
 
     /// The server starts.
     fn boot(&mut self, alloc: Global, boot: u64, isn: u32) -> Result<(), StepEnd>
-        ensures done { OnOk result (ActorsDo (Boot boot isn) self.old self.new) }
-        ensures ends { IfErr result (ActorsDecline (Boot boot isn) self.old self.new) }
+        ensures done { OnOk result (ActorsDo (saving S.form S.state_of S.is_savable) (Boot boot isn) self.old self.new) }
+        ensures ends { IfErr result (ActorsDecline (saving S.form S.state_of S.is_savable) (Boot boot isn) self.old self.new) }
     {
         if self.node.is_some() {
             return Err(StepEnd::BadEvent(EventWhy::Up));
@@ -169,7 +193,7 @@ impl<S: Saved> World<S> {
         if boot <= self.boot {
             return Err(StepEnd::BadEvent(EventWhy::Boot));
         }
-        let node = Node::boot(alloc, boot, isn, self.kind, self.server)?;
+        let node = Node::boot_marked(alloc, boot, isn, self.kind, self.server, self.every)?;
         keep_sent(&self.keys, node.sent(), &mut self.packets)?;
         self.boot = boot;
         self.node = Some(node);
@@ -178,8 +202,8 @@ impl<S: Saved> World<S> {
 
     /// The server goes down, and all that it held is lost.
     fn crash(&mut self) -> Result<(), StepEnd>
-        ensures done { OnOk result (ActorsDo Crash self.old self.new) }
-        ensures ends { IfErr result (ActorsDecline Crash self.old self.new) }
+        ensures done { OnOk result (ActorsDo (saving S.form S.state_of S.is_savable) Crash self.old self.new) }
+        ensures ends { IfErr result (ActorsDecline (saving S.form S.state_of S.is_savable) Crash self.old self.new) }
         ensures same { self.new.packets ≡ self.old.packets }
     {
         if self.node.take().is_none() {
@@ -190,7 +214,7 @@ impl<S: Saved> World<S> {
 
     /// The server takes its turn on what arrives, if it is up. A fenced server stops; no server of a legal trace is fenced.
     fn serve(&mut self, alloc: Global, input: Input<'_>) -> Result<(), NoMemory>
-        ensures { OnOk result (Serves (input_of input.entry) self.old self.new) }
+        ensures { OnOk result (Serves (saving S.form S.state_of S.is_savable) (input_of input.entry) (marked_input_of input.entry) self.old self.new) }
     {
         let Some(node) = &mut self.node else {
             return Ok(());
@@ -207,8 +231,8 @@ impl<S: Saved> World<S> {
 
     /// A tick of the server's clock.
     fn tick(&mut self, alloc: Global) -> Result<(), StepEnd>
-        ensures done { OnOk result (ActorsDo Tick self.old self.new) }
-        ensures ends { IfErr result (ActorsDecline Tick self.old self.new) }
+        ensures done { OnOk result (ActorsDo (saving S.form S.state_of S.is_savable) Tick self.old self.new) }
+        ensures ends { IfErr result (ActorsDecline (saving S.form S.state_of S.is_savable) Tick self.old self.new) }
     {
         if self.node.is_none() {
             return Err(StepEnd::BadEvent(EventWhy::Down));
@@ -234,14 +258,14 @@ impl<S: Saved> World<S> {
 
     /// Bytes of this direction arrive at a logger, and what it sends is stored.
     fn tell_logger(&mut self, alloc: Global, way: Way, bytes: &[u8]) -> Result<(), NoMemory>
-        ensures { OnOk result (kept self.new ≡ with_logs (kept self.old) (logs_hear way bytes.now (self.old.logs, self.old.packets))) }
+        ensures { OnOk result (TellsLogger way bytes.now self.old self.new) }
     {
         self.logs.hear(alloc, way, bytes, &mut self.packets)
     }
 
     /// Bytes reach the addressee of a packet that has this direction.
     fn bring(&mut self, alloc: Global, way: Way, bytes: &[u8]) -> Result<(), NoMemory>
-        ensures { OnOk result (Brings way bytes.now self.old self.new) }
+        ensures { OnOk result (Brings (saving S.form S.state_of S.is_savable) way bytes.now self.old self.new) }
     {
         match way {
             Way::ServerToClient(number) => self.tell_client(alloc, number, bytes),
@@ -255,8 +279,8 @@ impl<S: Saved> World<S> {
 
     /// A packet reaches its addressee. A server that is down gets nothing.
     fn deliver(&mut self, alloc: Global, number: u32) -> Result<(), StepEnd>
-        ensures done { OnOk result (Does (Deliver number) self.old self.new) }
-        ensures ends { IfErr result (Declines (Deliver number) self.old self.new) }
+        ensures done { OnOk result (Does (saving S.form S.state_of S.is_savable) (Deliver number) self.old self.new) }
+        ensures ends { IfErr result (Declines (saving S.form S.state_of S.is_savable) (Deliver number) self.old self.new) }
     {
         let Some(way) = self.packets.way(number) else {
             return Err(StepEnd::BadEvent(EventWhy::Packet));
@@ -273,8 +297,8 @@ impl<S: Saved> World<S> {
 
     /// A packet reaches its addressee with one bit changed.
     fn flip(&mut self, alloc: Global, number: u32, bit: u32) -> Result<(), StepEnd>
-        ensures done { OnOk result (Does (Flip number bit) self.old self.new) }
-        ensures ends { IfErr result (Declines (Flip number bit) self.old self.new) }
+        ensures done { OnOk result (Does (saving S.form S.state_of S.is_savable) (Flip number bit) self.old self.new) }
+        ensures ends { IfErr result (Declines (saving S.form S.state_of S.is_savable) (Flip number bit) self.old self.new) }
     {
         let Some(way) = self.packets.way(number) else {
             return Err(StepEnd::BadEvent(EventWhy::Packet));
@@ -295,8 +319,8 @@ impl<S: Saved> World<S> {
     /// A client makes the move that an event asks for.
     fn make(&mut self, number: u8, event: &Event) -> Result<(), StepEnd>
         requires { mover_of event.now ≡ Some number }
-        ensures done { OnOk result (ActorsDo event.now self.old self.new) }
-        ensures ends { IfErr result (ActorsDecline event.now self.old self.new) }
+        ensures done { OnOk result (ActorsDo (saving S.form S.state_of S.is_savable) event.now self.old self.new) }
+        ensures ends { IfErr result (ActorsDecline (saving S.form S.state_of S.is_savable) event.now self.old self.new) }
     {
         if number == 0 {
             return Err(StepEnd::BadEvent(EventWhy::Client));
@@ -316,8 +340,8 @@ impl<S: Saved> World<S> {
 
     /// One of two loggers stops, and the other serves alone from now on.
     fn stop(&mut self, part: u8) -> Result<(), StepEnd>
-        ensures done { OnOk result (Does (Stop part) self.old self.new) }
-        ensures ends { IfErr result (Declines (Stop part) self.old self.new) }
+        ensures done { OnOk result (Does (saving S.form S.state_of S.is_savable) (Stop part) self.old self.new) }
+        ensures ends { IfErr result (Declines (saving S.form S.state_of S.is_savable) (Stop part) self.old self.new) }
         ensures same { self.new.packets ≡ self.old.packets }
     {
         let Some(part) = part_of(part) else {
@@ -335,8 +359,8 @@ impl<S: Saved> World<S> {
 
     /// Does one event, however many packets were sent. After `BadEvent` the world is as before. After another end it may only be dropped.
     fn act(&mut self, alloc: Global, event: &Event) -> Result<(), StepEnd>
-        ensures done { OnOk result (Does event.now self.old self.new) }
-        ensures ends { IfErr result (Declines event.now self.old self.new) }
+        ensures done { OnOk result (Does (saving S.form S.state_of S.is_savable) event.now self.old self.new) }
+        ensures ends { IfErr result (Declines (saving S.form S.state_of S.is_savable) event.now self.old self.new) }
     {
         match *event {
             Event::Boot { boot, isn } => self.boot(alloc, boot, isn),
@@ -378,6 +402,8 @@ impl<S: Saved> World<S> {
         ensures ends { IfErr result (λ end. EndsAlong event.now end self.old self.new) }
         ensures twin_done { IfOk result (λ answer. TwinStepsAlong event.now answer self.old self.new) }
         ensures twin_ends { IfErr result (λ end. TwinEndsAlong event.now end self.old self.new) }
+        ensures marked_done { IfOk result (λ answer. MarkedStepsAlong (saving S.form S.state_of S.is_savable) event.now answer self.old self.new) }
+        ensures marked_ends { IfErr result (λ end. MarkedEndsAlong (saving S.form S.state_of S.is_savable) event.now end self.old self.new) }
         ensures keeps { IfErr result (KeepsAtRefusal (kept self.old) (kept self.new)) }
     {
         premises_hold::<S>();
@@ -385,6 +411,9 @@ impl<S: Saved> World<S> {
         legal_traces_are_masked::<S>();
         flat_traces_show_all::<S>();
         parcels_are_written::<S>();
+        marked_premises_hold::<S>();
+        marked_parcels_are_written::<S>();
+        marked_logs_have_distinct_keys::<S>();
         let before = self.packets.len();
         match self.act(alloc, event) {
             Ok(()) => self.counted(before),

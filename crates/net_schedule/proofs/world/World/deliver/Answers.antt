@@ -1,8 +1,12 @@
 use Rattle.std.proofs.Common.{◌≡◌, ◌∙◌, sym, ap, refl, Some}
 use Rattle.std.specs.Prelude.{option_copied}
 use Rattle.net_schedule.specs.AtNumber.{at_number}
+use Rattle.server_node.specs.Markers.{saving}
+use Rattle.net_schedule.specs.MarkedTurns.{marker_in}
 use Rattle.net_schedule.specs.WorldView.{kept, service_of}
 use Rattle.net_schedule.proofs.Events.{delivers, refuses_packet}
+use Rattle.net_schedule.proofs.MarkedEvents.{marked_delivers, marked_refuses_packet}
+use Rattle.net_schedule.proofs.MarkedParcels.{no_marked_way, no_marked_bytes}
 use Rattle.net_schedule.proofs.PacketStore.{no_way, no_bytes}
 use Rattle.net_schedule.proofs.Parcels.{no_parcel_way, no_parcel_bytes}
 use Rattle.net_schedule.proofs.TwinEvents.{twin_delivers, twin_refuses_packet}
@@ -15,6 +19,7 @@ returns-in_default-clause-ends g c =
       record {
         one = λ v st p. refuses_packet (service_of w) v c.args.number (no_way w.keys.items w.packets v.packets c.args.number st.packets none);
         two = λ v st p. twin_refuses_packet (service_of w) v c.args.number (no_parcel_way w.keys.items w.packets v.parcels c.args.number st.packets none);
+        marked = λ savable every v st p. marked_refuses_packet (marker_in (saving g.S.Saved.form g.S.Saved.state_of g.S.Saved.is_savable) every w) v c.args.number (no_marked_way w.keys.items w.packets v.parcels c.args.number st.packets none);
       },
       refl,
     )
@@ -26,6 +31,7 @@ returns-in_default-bytes-clause-ends g c =
       record {
         one = λ v st p. refuses_packet (service_of w) v c.args.number (no_bytes w.keys.items w.packets v.packets c.args.number st.packets none);
         two = λ v st p. twin_refuses_packet (service_of w) v c.args.number (no_parcel_bytes w.keys.items w.packets v.parcels c.args.number st.packets none);
+        marked = λ savable every v st p. marked_refuses_packet (marker_in (saving g.S.Saved.form g.S.Saved.state_of g.S.Saved.is_savable) every w) v c.args.number (no_marked_bytes w.keys.items w.packets v.parcels c.args.number st.packets none);
       },
       refl,
     )
@@ -42,4 +48,7 @@ returns-clause-done g c =
           delivers (service_of w) (kept w) (kept c.bring.new.self) v c.args.number c.in-Some.way c.as_slice.result.now st p way_is spelled (λ packet goes came. so.one v packet st p goes came);
       two = λ v st p.
           twin_delivers (service_of w) (kept w) (kept c.bring.new.self) v c.args.number c.in-Some.way c.as_slice.result.now st p way_is spelled (λ parcel goes came. so.two v parcel st p goes came);
+      marked = λ savable every v st p.
+          marked_delivers (marker_in (saving g.S.Saved.form g.S.Saved.state_of g.S.Saved.is_savable) every w) (kept w) (kept c.bring.new.self) v c.args.number c.in-Some.way c.as_slice.result.now st p way_is spelled
+          (λ parcel goes came. so.marked savable every v parcel st p goes came);
     }

@@ -3,11 +3,17 @@ use Rattle.std.specs.Prelude.{option_copied}
 use Rattle.seq_arith.specs.Damage.{flipped}
 use Rattle.ft_model.specs.World.{DeliveredAs}
 use Rattle.twin_laws.specs.TwinWorld.{seen}
+use Rattle.server_node.specs.Markers.{saving}
+use Rattle.net_schedule.specs.MarkedTurns.{marker_in}
 use Rattle.net_schedule.specs.WorldView.{kept, service_of}
+use Rattle.mark_traces.specs.MarkedWorld.{ComesAs as MarkedComes}
+use Rattle.net_schedule.specs.MarkedRefinement.{MarkedGoesOn, MarkedComesAs}
 use Rattle.net_schedule.specs.Premises.{ComesAs}
 use Rattle.net_schedule.specs.Refinement.{ReachesNext}
 use Rattle.net_schedule.specs.TwinRefinement.{TwinGoesOn, ParcelComesAs, MayComeAs}
 use Rattle.net_schedule.proofs.Events.{flips, refuses_no_packet, refuses_bit}
+use Rattle.net_schedule.proofs.MarkedEvents.{marked_flips, marked_refuses_no_packet, marked_refuses_bit}
+use Rattle.net_schedule.proofs.MarkedParcels.{no_marked_way, no_marked_bytes}
 use Rattle.net_schedule.proofs.PacketStore.{no_way, no_bytes}
 use Rattle.net_schedule.proofs.Parcels.{no_parcel_way, no_parcel_bytes}
 use Rattle.net_schedule.proofs.TwinEvents.{twin_flips, twin_refuses_no_packet, twin_refuses_bit}
@@ -20,6 +26,8 @@ returns-in_default-clause-ends g c =
       record {
         one = λ v st p. refuses_no_packet (service_of w) v c.args.number c.args.bit (no_way w.keys.items w.packets v.packets c.args.number st.packets none);
         two = λ v st p. twin_refuses_no_packet (service_of w) v c.args.number c.args.bit (no_parcel_way w.keys.items w.packets v.parcels c.args.number st.packets none);
+        marked = λ savable every v st p.
+            marked_refuses_no_packet (marker_in (saving g.S.Saved.form g.S.Saved.state_of g.S.Saved.is_savable) every w) v c.args.number c.args.bit (no_marked_way w.keys.items w.packets v.parcels c.args.number st.packets none);
       },
       refl,
     )
@@ -31,6 +39,8 @@ returns-in_default-bytes-clause-ends g c =
       record {
         one = λ v st p. refuses_no_packet (service_of w) v c.args.number c.args.bit (no_bytes w.keys.items w.packets v.packets c.args.number st.packets none);
         two = λ v st p. twin_refuses_no_packet (service_of w) v c.args.number c.args.bit (no_parcel_bytes w.keys.items w.packets v.parcels c.args.number st.packets none);
+        marked = λ savable every v st p.
+            marked_refuses_no_packet (marker_in (saving g.S.Saved.form g.S.Saved.state_of g.S.Saved.is_savable) every w) v c.args.number c.args.bit (no_marked_bytes w.keys.items w.packets v.parcels c.args.number st.packets none);
       },
       refl,
     )
@@ -44,6 +54,8 @@ returns-then-bit-bytes-clause-ends g c =
       record {
         one = λ v st p. refuses_bit (service_of w) (kept w) v c.args.number c.args.bit c.in-Some.way c.in-Some-bytes.bytes.now st way_is (sym c.in-Some-bytes.ensures) past;
         two = λ v st p. twin_refuses_bit (service_of w) (kept w) v c.args.number c.args.bit c.in-Some.way c.in-Some-bytes.bytes.now st way_is (sym c.in-Some-bytes.ensures) past;
+        marked = λ savable every v st p.
+            marked_refuses_bit (marker_in (saving g.S.Saved.form g.S.Saved.state_of g.S.Saved.is_savable) every w) (kept w) v c.args.number c.args.bit c.in-Some.way c.in-Some-bytes.bytes.now st way_is (sym c.in-Some-bytes.ensures) past;
       },
       refl,
     )
@@ -66,4 +78,8 @@ returns-clause-done g c =
           twin_flips (service_of w) (kept w) (kept c.bring.new.self) v c.args.number c.args.bit c.in-Some.way c.in-Some-bytes.bytes.now st p way_is (sym c.in-Some-bytes.ensures) within
           (λ parcel goes came. subst (λ b. TwinGoesOn (service_of w) (ParcelComesAs (service_of w) parcel b v) v (kept c.bring.new.self)) is
           (so.two v parcel st p goes (subst (MayComeAs (seen v p.packets) parcel) (sym is) came)));
+      marked = λ savable every v st p.
+          marked_flips (marker_in (saving g.S.Saved.form g.S.Saved.state_of g.S.Saved.is_savable) every w) (kept w) (kept c.bring.new.self) v c.args.number c.args.bit c.in-Some.way c.in-Some-bytes.bytes.now st p way_is (sym c.in-Some-bytes.ensures) within
+          (λ parcel goes came. subst (λ b. MarkedGoesOn (marker_in (saving g.S.Saved.form g.S.Saved.state_of g.S.Saved.is_savable) every w) (MarkedComes (marker_in (saving g.S.Saved.form g.S.Saved.state_of g.S.Saved.is_savable) every w) parcel b v) v (kept c.bring.new.self)) is
+          (so.marked savable every v parcel st p goes (subst (MarkedComesAs v parcel) (sym is) came)));
     }

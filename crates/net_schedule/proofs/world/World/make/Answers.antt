@@ -5,8 +5,11 @@ use Rattle.seq_arith.specs.PacketGrammar.{spelling}
 use Rattle.ft_model.specs.Client.{segment_of, window_of}
 use Rattle.ft_model.specs.World.{client_at}
 use Rattle.ft_model.specs.declared.way.Way.TheVariants.{ClientToServer}
+use Rattle.server_node.specs.Markers.{saving}
+use Rattle.net_schedule.specs.MarkedTurns.{marker_in}
 use Rattle.net_schedule.specs.StoredPackets.{with_packet}
 use Rattle.net_schedule.specs.WorldView.{kept, service_of}
+use Rattle.net_schedule.proofs.MarkedActors.{movers_are_clients, downed, seen_down, down_stands, down_premises, client_advances, client_refused}
 use Rattle.net_schedule.proofs.PacketStore.{packet_grows}
 use Rattle.net_schedule.proofs.Moving.{moves, refuses_client, refuses_move, client_there, client_missing, no_client, written_front}
 use Rattle.net_schedule.proofs.Outcomes.{converted}
@@ -15,14 +18,24 @@ use Rattle.net_schedule.proofs.world.World.make.Goals as goal
 pub returns-then-number-eq0-clause-ends : goal.returns-then-number-eq0-clause-ends
 returns-then-number-eq0-clause-ends g c =
     let w = c.args.self.now in (
-      (λ v st p. refuses_client (service_of w) (kept w) v c.args.event.now c.args.number st c.requires (no_client w.clients.items c.args.number (omega arith))),
+      record {
+        usual = λ v st p. refuses_client (service_of w) (kept w) v c.args.event.now c.args.number st c.requires (no_client w.clients.items c.args.number (omega arith));
+        marked = λ savable every v st p.
+            client_refused (marker_in (saving g.S.Saved.form g.S.Saved.state_of g.S.Saved.is_savable) every w) (kept w) v c.args.event.now c.args.number _ c.requires st
+            (λ down. refuses_client (service_of w) (downed (kept w)) (seen_down v) c.args.event.now c.args.number down c.requires (no_client w.clients.items c.args.number (omega arith)));
+      },
       refl,
     )
 
 pub returns-then-place-count-clause-ends : goal.returns-then-place-count-clause-ends
 returns-then-place-count-clause-ends g c =
     let w = c.args.self.now in (
-      (λ v st p. refuses_client (service_of w) (kept w) v c.args.event.now c.args.number st c.requires (client_missing w.clients.items c.args.number (omega arith))),
+      record {
+        usual = λ v st p. refuses_client (service_of w) (kept w) v c.args.event.now c.args.number st c.requires (client_missing w.clients.items c.args.number (omega arith));
+        marked = λ savable every v st p.
+            client_refused (marker_in (saving g.S.Saved.form g.S.Saved.state_of g.S.Saved.is_savable) every w) (kept w) v c.args.event.now c.args.number _ c.requires st
+            (λ down. refuses_client (service_of w) (downed (kept w)) (seen_down v) c.args.event.now c.args.number down c.requires (client_missing w.clients.items c.args.number (omega arith)));
+      },
       refl,
     )
 
@@ -45,6 +58,12 @@ returns-clause-done g c =
           moves (service_of w) (kept w) _ v event c.args.number client c.step.new.self _ _ _ st p c.requires there made
           (ap (λ k. record (kept c.args.self.now) { clients = set items (k - 1) c.step.new.self; packets = c.push.new.self }) c.from-place.ensures
           ∙ ap (λ ps. record (kept c.args.self.now) { clients = set items (c.args.number - 1) c.step.new.self; packets = ps }) pushed);
+      marked = λ savable every v st p.
+          client_advances (marker_in (saving g.S.Saved.form g.S.Saved.state_of g.S.Saved.is_savable) every w) event (kept w) _ v (movers_are_clients event c.args.number c.requires) st refl refl refl
+          (moves (service_of w) (downed (kept w)) _ (seen_down v) event c.args.number client c.step.new.self _ _ _
+          (down_stands (marker_in (saving g.S.Saved.form g.S.Saved.state_of g.S.Saved.is_savable) every w) (kept w) v st) (down_premises (marker_in (saving g.S.Saved.form g.S.Saved.state_of g.S.Saved.is_savable) every w) v p) c.requires there made
+          (ap (λ k. record (downed (kept c.args.self.now)) { clients = set items (k - 1) c.step.new.self; packets = c.push.new.self }) c.from-place.ensures
+          ∙ ap (λ ps. record (downed (kept c.args.self.now)) { clients = set items (c.args.number - 1) c.step.new.self; packets = ps }) pushed));
     }
 
 pub returns-in_err-len-clause-ends : goal.returns-in_err-len-clause-ends
@@ -57,6 +76,11 @@ returns-in_err-len-clause-ends g c =
     let same : set items (c.from-place.result - 1) c.step.new.self ≡ items =
     ap (set items (c.from-place.result - 1)) (c.in_err-len.ensures.kept ∙ c.index_mut.ensures.value) ∙ set-get_or items (c.from-place.result - 1) client in
     converted c.from_residual.result c.in_err-len.field-0.0.why _ c.from_residual.ensures.1 (
-      (λ v st p. refuses_move (service_of w) (kept w) v c.args.event.now c.args.number client c.in_err-len.field-0.0.why st c.requires there c.in_err-len.ensures.refused),
+      record {
+        usual = λ v st p. refuses_move (service_of w) (kept w) v c.args.event.now c.args.number client c.in_err-len.field-0.0.why st c.requires there c.in_err-len.ensures.refused;
+        marked = λ savable every v st p.
+            client_refused (marker_in (saving g.S.Saved.form g.S.Saved.state_of g.S.Saved.is_savable) every w) (kept w) v c.args.event.now c.args.number _ c.requires st
+            (λ down. refuses_move (service_of w) (downed (kept w)) (seen_down v) c.args.event.now c.args.number client c.in_err-len.field-0.0.why down c.requires there c.in_err-len.ensures.refused);
+      },
       ap (λ cs. record (kept w) { clients = cs }) same,
     )

@@ -1,9 +1,14 @@
 use Rattle.std.proofs.Common.{◌≡◌, ◌∙◌, ◌≤◌, ap, sym, subst, refl, le_refl, Some, option_map, length}
 use Rattle.std.proofs.lemmas.Result.{on_ok_weaker}
 use Rattle.server_node.specs.Inputs.{input_of}
+use Rattle.server_node.specs.Markers.{saving}
+use Rattle.server_node.specs.MarkedTurns.{marked_input_of}
+use Rattle.net_schedule.specs.MarkedTurns.{marker_in}
 use Rattle.net_schedule.specs.StoredPackets.{with_wires}
 use Rattle.net_schedule.specs.WorldView.{kept, server_of, services_of, service_of}
 use Rattle.net_schedule.proofs.Goings.{server_goes_at, server_rests, never_fenced}
+use Rattle.net_schedule.proofs.MarkedBoot.{serves_marked}
+use Rattle.net_schedule.proofs.MarkedServer.{marked_rests, never_marked_fenced, fenced_by}
 use Rattle.net_schedule.proofs.PacketStore.{wires_grow}
 use Rattle.net_schedule.proofs.world.World.serve.Goals as goal
 
@@ -13,6 +18,8 @@ returns-in_default g c =
     record {
       continues = record { same_kind = refl; grew = le_refl _ };
       moves = λ v st p comes. server_rests (service_of w) (kept w) v (input_of c.args.input) st (ap (option_map server_of) c.in_default.is);
+      marked = λ savable every v st p comes.
+          marked_rests (marker_in (saving g.S.Saved.form g.S.Saved.state_of g.S.Saved.is_savable) every w) (kept w) v (marked_input_of c.args.input) st (ap (option_map server_of) c.in_default.is);
     }
 
 pub returns-in-Ok : goal.returns-in-Ok
@@ -25,7 +32,11 @@ returns-in-Ok g c =
       continues = record { same_kind = refl; grew = subst (λ ps. length w.packets.bytes ≤ length ps.bytes) (sym kept_is) (wires_grow w.keys.items w.packets sent) };
       moves = λ v st p comes.
           server_goes_at (services_of w) (kept w) _ v (input_of c.args.input) (server_of c.in-Some.node) (server_of c.turn.follows.lender-at-none) sent
-          st p comes (ap (option_map server_of) c.in-Some.is) turned.who turned.turn
+          st p comes (ap (option_map server_of) c.in-Some.is) turned.0.who turned.0.turn
+          (ap (λ ps. record (kept w) { packets = ps; node = Some (server_of c.turn.follows.lender-at-none) }) kept_is);
+      marked = λ savable every v st p comes.
+          serves_marked g.S.Service (saving g.S.Saved.form g.S.Saved.state_of g.S.Saved.is_savable) every (kept w) _ v (marked_input_of c.args.input) c.in-Some.node c.turn.follows.lender-at-none sent
+          savable st p comes (ap (option_map server_of) c.in-Some.is) turned.0.who turned.1
           (ap (λ ps. record (kept w) { packets = ps; node = Some (server_of c.turn.follows.lender-at-none) }) kept_is);
     })
     c.keep_sent.ensures
@@ -38,4 +49,7 @@ returns-in-Err-Fenced g c =
       moves = λ v st p comes.
           never_fenced (service_of w) (kept w) v (input_of c.args.input) (server_of c.in-Some.node) _ st p comes (ap (option_map server_of) c.in-Some.is)
           (rw c.in-Err-Fenced.field-0-is at c.in-Err-Fenced.ensures.fenced);
+      marked = λ savable every v st p comes.
+          never_marked_fenced (marker_in (saving g.S.Saved.form g.S.Saved.state_of g.S.Saved.is_savable) every w) (kept w) v (marked_input_of c.args.input) (server_of c.in-Some.node) st p comes (ap (option_map server_of) c.in-Some.is)
+          (λ node is. fenced_by c.in-Some.node.who _ c.args.input node is (rw c.in-Err-Fenced.field-0-is at c.in-Err-Fenced.ensures.fenced));
     }

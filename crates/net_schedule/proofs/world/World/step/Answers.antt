@@ -1,7 +1,11 @@
 use Rattle.ft_model.specs.Legal.{machines}
+use Rattle.server_node.specs.Markers.{saving}
+use Rattle.net_schedule.specs.Along.{StepsMarked, EndsMarked}
+use Rattle.net_schedule.specs.MarkedRefinement.{marker_for}
 use Rattle.net_schedule.specs.WorldView.{kept}
 use Rattle.net_schedule.proofs.Trace.{steps, limits, ends_so, keeps_refused}
 use Rattle.net_schedule.proofs.TwinTrace.{twin_steps, twin_limits, twin_ends_so}
+use Rattle.net_schedule.proofs.MarkedTrace.{done_marked, ends_marked, marked_steps, marked_limits, marked_ends_so}
 use Rattle.net_schedule.proofs.world.World.step.Goals as goal
 
 pub returns-in-Ok-clause-done : goal.returns-in-Ok-clause-done
@@ -34,16 +38,60 @@ returns-in-Ok-clause-twin_ends g c =
 
 pub returns-in-Err-clause-ends : goal.returns-in-Err-clause-ends
 returns-in-Err-clause-ends g c =
-    ends_so c.args.self.now c.act.new.self c.args.event.now c.in-Err.end
+    ends_so (saving g.S.Saved.form g.S.Saved.state_of g.S.Saved.is_savable) c.args.self.now c.act.new.self c.args.event.now c.in-Err.end
     (record { near = c.premises_hold.ensures.near; sound = c.premises_hold.ensures.sound; unfenced = c.premises_hold.ensures.unfenced; wires = c.packets_have_wires.ensures.all })
     c.in-Err.ensures.ends
 
 pub returns-in-Err-clause-twin_ends : goal.returns-in-Err-clause-twin_ends
 returns-in-Err-clause-twin_ends g c =
-    twin_ends_so c.args.self.now c.act.new.self c.args.event.now c.in-Err.end
+    twin_ends_so (saving g.S.Saved.form g.S.Saved.state_of g.S.Saved.is_savable) c.args.self.now c.act.new.self c.args.event.now c.in-Err.end
     (record { near = c.premises_hold.ensures.near; sound = c.premises_hold.ensures.sound; unfenced = c.premises_hold.ensures.unfenced; wires = c.packets_have_wires.ensures.all })
     (record { legal = c.legal_traces_are_masked.ensures.legal; world = c.flat_traces_show_all.ensures.world; sent = c.flat_traces_show_all.ensures.sent; pair = c.flat_traces_show_all.ensures.pair; written = c.parcels_are_written.ensures })
     c.in-Err.ensures.ends
 
 pub returns-in-Err-clause-keeps : goal.returns-in-Err-clause-keeps
-returns-in-Err-clause-keeps g c = keeps_refused c.args.self.now c.act.new.self c.args.event.now c.in-Err.end c.in-Err.ensures.ends
+returns-in-Err-clause-keeps g c = keeps_refused (saving g.S.Saved.form g.S.Saved.state_of g.S.Saved.is_savable) c.args.self.now c.act.new.self c.args.event.now c.in-Err.end c.in-Err.ensures.ends
+
+pub returns-in-Ok-clause-marked_done : goal.returns-in-Ok-clause-marked_done
+returns-in-Ok-clause-marked_done g c =
+    done_marked c.counted.result g.S.Saved.is_savable (λ every answer. StepsMarked (saving g.S.Saved.form g.S.Saved.state_of g.S.Saved.is_savable) every c.args.event.now answer c.args.self.now c.act.new.self)
+    (λ savable every.
+    marked_steps (marker_for (saving g.S.Saved.form g.S.Saved.state_of g.S.Saved.is_savable) (machines g.S.Service.started g.S.Service.after) every)
+    (record {
+      near = λ schedule events trace node input legal up comes. c.marked_premises_hold.ensures.near every schedule events trace node input legal up comes;
+      sound = λ schedule events trace node input legal up comes. c.marked_premises_hold.ensures.sound every schedule events trace node input legal up comes;
+      unfenced = λ schedule events trace node input legal up comes. c.marked_premises_hold.ensures.unfenced every schedule events trace node input legal up comes;
+      marks = λ number schedule events trace node message legal up at. c.marked_premises_hold.ensures.marks savable every number schedule events trace node message legal up at;
+      written = λ kind start trace joint. c.marked_parcels_are_written.ensures kind every start trace (λ some. savable) joint;
+      distinct = λ kind start trace joint. c.marked_logs_have_distinct_keys.ensures kind every start trace joint;
+    })
+    c.counted.result (kept c.args.self.now) (kept c.act.new.self) c.args.event.now c.len-before.result c.len-before.ensures c.in-Ok.ensures.done.continues.same_kind
+    (c.in-Ok.ensures.done.marked savable every) c.counted.ensures.first c.counted.ensures.count c.counted.ensures.within)
+
+pub returns-in-Ok-clause-marked_ends : goal.returns-in-Ok-clause-marked_ends
+returns-in-Ok-clause-marked_ends g c =
+    ends_marked c.counted.result g.S.Saved.is_savable (λ every end. EndsMarked (saving g.S.Saved.form g.S.Saved.state_of g.S.Saved.is_savable) every c.args.event.now end c.args.self.now c.act.new.self)
+    (λ savable every.
+    marked_limits (marker_for (saving g.S.Saved.form g.S.Saved.state_of g.S.Saved.is_savable) (machines g.S.Service.started g.S.Service.after) every)
+    (record {
+      near = λ schedule events trace node input legal up comes. c.marked_premises_hold.ensures.near every schedule events trace node input legal up comes;
+      sound = λ schedule events trace node input legal up comes. c.marked_premises_hold.ensures.sound every schedule events trace node input legal up comes;
+      unfenced = λ schedule events trace node input legal up comes. c.marked_premises_hold.ensures.unfenced every schedule events trace node input legal up comes;
+      marks = λ number schedule events trace node message legal up at. c.marked_premises_hold.ensures.marks savable every number schedule events trace node message legal up at;
+      written = λ kind start trace joint. c.marked_parcels_are_written.ensures kind every start trace (λ some. savable) joint;
+      distinct = λ kind start trace joint. c.marked_logs_have_distinct_keys.ensures kind every start trace joint;
+    })
+    c.counted.result (kept c.args.self.now) (kept c.act.new.self) c.args.event.now c.in-Ok.ensures.done.continues.same_kind (c.in-Ok.ensures.done.marked savable every) c.counted.ensures.over)
+
+pub returns-in-Err-clause-marked_ends : goal.returns-in-Err-clause-marked_ends
+returns-in-Err-clause-marked_ends g c =
+    marked_ends_so (saving g.S.Saved.form g.S.Saved.state_of g.S.Saved.is_savable) c.args.self.now c.act.new.self c.args.event.now c.in-Err.end
+    (λ savable every. (record {
+      near = λ schedule events trace node input legal up comes. c.marked_premises_hold.ensures.near every schedule events trace node input legal up comes;
+      sound = λ schedule events trace node input legal up comes. c.marked_premises_hold.ensures.sound every schedule events trace node input legal up comes;
+      unfenced = λ schedule events trace node input legal up comes. c.marked_premises_hold.ensures.unfenced every schedule events trace node input legal up comes;
+      marks = λ number schedule events trace node message legal up at. c.marked_premises_hold.ensures.marks savable every number schedule events trace node message legal up at;
+      written = λ kind start trace joint. c.marked_parcels_are_written.ensures kind every start trace (λ some. savable) joint;
+      distinct = λ kind start trace joint. c.marked_logs_have_distinct_keys.ensures kind every start trace joint;
+    }))
+    c.in-Err.ensures.ends

@@ -1,0 +1,149 @@
+-- A legal trace with marks gives the premises of a step, and is extended by it.
+use Rattle.std.proofs.Common.{◌≡◌, ◌∙◌, sym, ap, subst, ℕ, ◌+◌, ◌-◌, ◌<◌, ◌≤◌, Bool, true, Some, None, List, [], ◌∷◌, ◌++◌, length, Result, Ok, Err, arith, length-append}
+use Rattle.std.specs.List.{AllByRecursion}
+use Rattle.std.specs.Prelude.{IfOk, IfErr, OnOk}
+use Rattle.seq_arith.specs.Mark.{MarkMessage}
+use Rattle.server_trait.specs.declared.Service.{Ghosts}
+use Rattle.ft_model.specs.Lawful.{IsNearInput, IsSoundInput, fence}
+use Rattle.ft_model.specs.Node.{Input}
+use Rattle.ft_model.specs.Schedule.{kind_of}
+use Rattle.ft_model.specs.World.{MayCome}
+use Rattle.ft_model.specs.declared.event.Event.{Event}
+use Rattle.ft_model.specs.declared.event.EventWhy.{EventWhy}
+use Rattle.ft_model.specs.declared.schedule.Schedule.{Schedule}
+use Rattle.mark_traces.specs.MarkedLegal.{IsMarkedLegalFor, marked_start, marked_refusal}
+use Rattle.mark_traces.specs.MarkedNode.{Marker, MarkedNode}
+use Rattle.mark_traces.specs.MarkedWorld.{MarkedWorld, MarkedMoment, MarkedJoint, MarkedHappens, CanBeRead, seen, parcel_at, marked_after}
+use Rattle.mark_traces.specs.MarkedWorld.Parcel.{Mark_answered}
+use Rattle.mark_traces.specs.Premises.{IsSoundMark}
+use Rattle.mark_traces.proofs.Traces.{start_of_joint}
+use Rattle.server_node.specs.Markers.{Saving}
+use Rattle.net_schedule.specs.WorldView.{kept, services_of}
+use Rattle.net_schedule.specs.Journal.{HasDistinctKeys}
+use Rattle.net_schedule.specs.Refinement.{Kept}
+use Rattle.net_schedule.specs.MarkedRefinement.{MarkedWorldStands, MarkedAdvances, MarkedPremises, marker_for}
+use Rattle.net_schedule.specs.MarkedStep.{MarkedStandsAfter, MarkedExtends, MarkedSteps, MarkedEndsStep}
+use Rattle.net_schedule.specs.Along.{MarkedEndsAlong}
+use Rattle.net_schedule.specs.Turns.{Declines}
+use Rattle.net_schedule.specs.declared.end.StepEnd.{StepEnd}
+use Rattle.net_schedule.specs.declared.end.StepEnd.TheVariants.{NoMemory, BadEvent, PacketLimit}
+use Rattle.net_schedule.specs.declared.step_out.StepOut.{StepOut}
+use Rattle.net_schedule.specs.declared.world.World.{World}
+use Rattle.net_schedule.proofs.MarkedParcels.{as_many_marked}
+use Rattle.net_schedule.proofs.MarkedKeys.{marked_keys_after}
+
+-- the laws of every trace with marks, for markers of these numbers
+pub record AreMarkedLaws {State : Type 0} (by : ℕ → Marker State) : Type 0 where
+  pub near : (schedule : Schedule) (events : List Event) (trace : List MarkedMoment) (node : MarkedNode) (input : Input) → IsMarkedLegalFor by schedule events trace
+      → (marked_after (marked_start schedule) trace).node ≡ Some node → MayCome (seen (marked_after (marked_start schedule) trace)) input
+      → IsNearInput node.plain.server input node.plain.stage
+  pub sound : (schedule : Schedule) (events : List Event) (trace : List MarkedMoment) (node : MarkedNode) (input : Input) → IsMarkedLegalFor by schedule events trace
+      → (marked_after (marked_start schedule) trace).node ≡ Some node → MayCome (seen (marked_after (marked_start schedule) trace)) input
+      → IsSoundInput (by (kind_of schedule.service)).service node.plain input node.plain.stage
+  pub unfenced : (schedule : Schedule) (events : List Event) (trace : List MarkedMoment) (node : MarkedNode) (input : Input) → IsMarkedLegalFor by schedule events trace
+      → (marked_after (marked_start schedule) trace).node ≡ Some node → MayCome (seen (marked_after (marked_start schedule) trace)) input
+      → fence node.plain input ≡ None
+  pub marks : (number : ℕ) (schedule : Schedule) (events : List Event) (trace : List MarkedMoment) (node : MarkedNode) (message : MarkMessage) → IsMarkedLegalFor by schedule events trace
+      → (marked_after (marked_start schedule) trace).node ≡ Some node → parcel_at (marked_after (marked_start schedule) trace).parcels number ≡ Some (Mark_answered message)
+      → IsSoundMark (by (kind_of schedule.service)) (marked_after (marked_start schedule) trace).log.log node message node.plain.stage
+  pub written : (kind : ℕ) (start : MarkedWorld) (trace : List MarkedMoment) → MarkedJoint (by kind) start trace → AllByRecursion CanBeRead (marked_after start trace).parcels
+  pub distinct : (kind : ℕ) (start : MarkedWorld) (trace : List MarkedMoment) → MarkedJoint (by kind) start trace → HasDistinctKeys (marked_after start trace).log
+
+module _ {State : Type 0} (by : ℕ → Marker State) (laws : AreMarkedLaws by) where
+  marked_premises_at : (schedule : Schedule) (events : List Event) (trace : List MarkedMoment) → IsMarkedLegalFor by schedule events trace
+      → MarkedPremises (by (kind_of schedule.service)) (marked_after (marked_start schedule) trace)
+  marked_premises_at schedule events trace l =
+      record {
+        readable = laws.written (kind_of schedule.service) (marked_start schedule) trace l.joint;
+        keys = (
+          seen (marked_start schedule),
+          (start_of_joint (by (kind_of schedule.service)) (marked_start schedule) trace l.joint).start,
+          marked_keys_after (by (kind_of schedule.service)) (marked_start schedule) trace l.joint,
+        );
+        distinct = laws.distinct (kind_of schedule.service) (marked_start schedule) trace l.joint;
+        near = λ node input up comes. laws.near schedule events trace node input l up comes;
+        sound = λ node input up comes. laws.sound schedule events trace node input l up comes;
+        unfenced = λ node input up comes. laws.unfenced schedule events trace node input l up comes;
+        marks = λ number node up message at. laws.marks number schedule events trace node message l up at;
+      }
+
+  marked_premises : (schedule : Schedule) (events : List Event) (trace : List MarkedMoment) (w : Kept State) → MarkedStandsAfter by schedule events trace w
+      → MarkedPremises (by w.kind) (marked_after (marked_start schedule) trace)
+  marked_premises schedule events trace w s =
+      subst (λ k. MarkedPremises (by k) (marked_after (marked_start schedule) trace)) (sym s.kind) (marked_premises_at schedule events trace s.legal)
+
+  -- what an event does extends the trace
+  marked_extends : (schedule : Schedule) (events : List Event) (trace : List MarkedMoment) (event : Event) (w w' : Kept State) → MarkedStandsAfter by schedule events trace w
+      → w'.kind ≡ w.kind → MarkedAdvances (by w.kind) (marked_after (marked_start schedule) trace) event w' → MarkedExtends by schedule events trace event w'
+  marked_extends schedule events trace event w w' s same a =
+      let v : MarkedWorld = marked_after (marked_start schedule) trace in
+      record {
+        moment = record { event = event; sent = a.happens.sent; world = a.happens.world };
+        stands = record {
+          kind = same ∙ s.kind;
+          legal = record {
+            joint = (s.legal.joint, subst (λ k. MarkedHappens (by k) v event a.happens.sent a.happens.world) s.kind a.happens.goes);
+            events_are = ap (λ es. es ++ event ∷ []) s.legal.events_are;
+            allowed = (s.legal.allowed, record { allowed = a.allowed; scripted = a.scripted });
+          };
+          stands = subst (λ k. MarkedWorldStands (by k) w' a.happens.world) (sym same) a.happens.stands;
+        };
+        grew = a.happens.grew;
+      }
+
+  -- a step is what an event does, with the count of its parcels
+  pub marked_steps : (r : Result StepOut StepEnd) (w w' : Kept State) (event : Event) (before : ℕ) → before ≡ length w.packets.bytes → w'.kind ≡ w.kind
+      → ((v : MarkedWorld) → MarkedWorldStands (by w.kind) w v → MarkedPremises (by w.kind) v → MarkedAdvances (by w.kind) v event w')
+      → IfOk r (λ out. out.first ≡ before + 1) → IfOk r (λ out. out.count ≡ length w'.packets.bytes - before) → OnOk r (length w'.packets.bytes ≤ 200000)
+      → IfOk r (λ answer. (schedule : Schedule) (events : List Event) (trace : List MarkedMoment) → MarkedStandsAfter by schedule events trace w
+      → MarkedSteps by schedule events trace event answer w')
+  marked_steps (Err e) w w' event before b same advances f n l = tt
+  marked_steps (Ok out) w w' event before b same advances f n l = λ schedule events trace s.
+      let v : MarkedWorld = marked_after (marked_start schedule) trace in
+      let x : MarkedExtends by schedule events trace event w' =
+      marked_extends schedule events trace event w w' s same (advances v s.stands (marked_premises schedule events trace w s)) in
+      let old : before ≡ length v.parcels = b ∙ as_many_marked w.keys w.packets v.parcels s.stands.packets in
+      let now : length w'.packets.bytes ≡ length x.moment.world.parcels = as_many_marked w'.keys w'.packets x.moment.world.parcels x.stands.stands.packets in
+      let long : length x.moment.world.parcels ≡ length v.parcels + length x.moment.sent = ap length x.grew ∙ length-append v.parcels x.moment.sent in
+      record { extends = x; first = f ∙ ap (λ k. k + 1) old; count = n ∙ omega arith; within = omega arith }
+
+  pub marked_limits : (r : Result StepOut StepEnd) (w w' : Kept State) (event : Event) → w'.kind ≡ w.kind
+      → ((v : MarkedWorld) → MarkedWorldStands (by w.kind) w v → MarkedPremises (by w.kind) v → MarkedAdvances (by w.kind) v event w')
+      → IfErr r (λ end. (end ≡ PacketLimit) × (200000 < length w'.packets.bytes))
+      → IfErr r (λ end. (schedule : Schedule) (events : List Event) (trace : List MarkedMoment) → MarkedStandsAfter by schedule events trace w
+      → MarkedEndsStep by schedule events trace event w' end)
+  marked_limits (Ok out) w w' event same advances h = tt
+  marked_limits (Err end) w w' event same advances h =
+      subst (λ e. (schedule : Schedule) (events : List Event) (trace : List MarkedMoment) → MarkedStandsAfter by schedule events trace w
+      → MarkedEndsStep by schedule events trace event w' e) (sym h.0)
+      (λ schedule events trace s.
+      let v : MarkedWorld = marked_after (marked_start schedule) trace in
+      let x : MarkedExtends by schedule events trace event w' =
+      marked_extends schedule events trace event w w' s same (advances v s.stands (marked_premises schedule events trace w s)) in
+      (x, subst (λ n. 200000 < n) (as_many_marked w'.keys w'.packets x.moment.world.parcels x.stands.stands.packets) h.1))
+
+  -- an event that is refused ends the step
+  pub marked_refused : (w w' : Kept State) (event : Event) (why : EventWhy)
+      → ((v : MarkedWorld) → MarkedWorldStands (by w.kind) w v → MarkedPremises (by w.kind) v → marked_refusal v event ≡ Some why)
+      → (schedule : Schedule) (events : List Event) (trace : List MarkedMoment) → MarkedStandsAfter by schedule events trace w
+      → MarkedEndsStep by schedule events trace event w' (BadEvent why)
+  marked_refused w w' event why refuses schedule events trace s = refuses (marked_after (marked_start schedule) trace) s.stands (marked_premises schedule events trace w s)
+
+-- what holds of each step that is done, or ends, whether or not states can be saved
+pub done_marked : (r : Result StepOut StepEnd) (savable : Bool) (Q : (every : ℕ) → StepOut → Type 0) → (savable ≡ true → (every : ℕ) → IfOk r (Q every))
+    → IfOk r (λ answer. savable ≡ true → (every : ℕ) → Q every answer)
+done_marked (Ok out) savable Q h = h
+done_marked (Err e) savable Q h = tt
+
+pub ends_marked : (r : Result StepOut StepEnd) (savable : Bool) (Q : (every : ℕ) → StepEnd → Type 0) → (savable ≡ true → (every : ℕ) → IfErr r (Q every))
+    → IfErr r (λ end. savable ≡ true → (every : ℕ) → Q every end)
+ends_marked (Ok out) savable Q h = tt
+ends_marked (Err e) savable Q h = h
+
+-- an event that isn't done ends the step
+pub marked_ends_so : {State : Type 0} {ghosts : Ghosts State} (saved : Saving State) (w w' : World State ghosts) (event : Event) (end : StepEnd)
+    → (saved.savable ≡ true → (every : ℕ) → AreMarkedLaws (marker_for saved (services_of w) every)) → Declines saved event w w' end → MarkedEndsAlong saved event end w w'
+marked_ends_so saved w w' event NoMemory laws ends = λ savable every schedule events trace s. tt
+marked_ends_so saved w w' event (BadEvent why) laws ends = λ savable every.
+    marked_refused (marker_for saved (services_of w) every) (laws savable every) (kept w) (kept w') event why (ends.0.marked savable every)
+marked_ends_so saved w w' event PacketLimit laws ends = absurd ends

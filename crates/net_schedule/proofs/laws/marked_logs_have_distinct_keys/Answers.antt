@@ -1,0 +1,19 @@
+use Rattle.server_trait.specs.Saved.{writing}
+use Rattle.ft_model.specs.Legal.{machines}
+use Rattle.mark_traces.specs.MarkedLegal.{markers}
+use Rattle.mark_traces.specs.MarkedWorld.{seen, marked_after}
+use Rattle.mark_traces.proofs.MarkSteps.{Kept}
+use Rattle.mark_traces.proofs.Traces.{kept_of}
+use Rattle.mark_traces.proofs.Truth.{MarkLaws}
+use Rattle.net_schedule.proofs.laws.marked_logs_have_distinct_keys.Goals as goal
+
+pub returns : goal.returns
+returns g c = λ kind every start trace joint.
+    let by = markers (machines g.S.Service.started g.S.Service.after) g.S.Saved.form g.S.Saved.state_of every kind in
+    let written = writing g.S.Saved.form (g.S.Saved.state_of kind) in
+    let laws : MarkLaws by = record {
+      tells = λ news script m q e. c.marks_that_go_out_are_true.ensures (g.S.Service.started kind) written every news script m q e;
+      stays = λ before after m. c.marks_stay_true.ensures kind written before after m;
+    } in
+    let k : Kept by (seen start) (marked_after start trace) = kept_of by start trace g.met.S.Service.is_short laws joint in
+    k.sound.joint.asked.distinct

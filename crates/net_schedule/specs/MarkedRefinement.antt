@@ -1,0 +1,116 @@
+-- The code's world with marks, the world of the definitions at which it is, and what an event does to both. A parcel is what that world sends: a packet, or a
+-- message about marks.
+use Rattle.std.specs.Prelude.{◌≡◌, ℕ, ◌<◌, Option, None, Some, List, ◌++◌, map}
+use Rattle.std.specs.List.{AllByRecursion}
+use Rattle.seq_arith.specs.Mark.{MarkMessage}
+use Rattle.seq_arith.specs.PacketGrammar as segments
+use Rattle.ft_io.specs.declared.Key.{Key}
+use Rattle.server_trait.specs.Service.{Machine}
+use Rattle.ft_model.specs.Lawful.{IsNearInput, IsSoundInput, fence}
+use Rattle.ft_model.specs.Legal.{IsScripted}
+use Rattle.ft_model.specs.Network.Packet.{To_server, To_client, To_logger, From_logger}
+use Rattle.ft_model.specs.Node.{Input}
+use Rattle.ft_model.specs.Wire.{wire_of}
+use Rattle.ft_model.specs.World.{World as Seen, IsStart, MayCome, segment_or_noise}
+use Rattle.ft_model.specs.declared.event.Event.{Event}
+use Rattle.ft_model.specs.declared.way.Way.{Way}
+use Rattle.ft_model.specs.declared.way.Way.TheVariants.{ServerToLogger, LoggerToServer}
+use Rattle.mark_traces.specs.MarkedLegal.{markers, marked_refusal}
+use Rattle.mark_traces.specs.MarkedNode.{Marker, MarkedNode, MarkedInput}
+use Rattle.mark_traces.specs.MarkedNode.MarkedInput.{Plain_comes, Mark_comes}
+use Rattle.mark_traces.specs.MarkedWorld.{Parcel, MarkedWorld, MarkedHappens, CanBeRead, bytes_of, usual, seen, parcel_at, said_by, input_of}
+use Rattle.mark_traces.specs.MarkedWorld.Parcel.{Usual, Mark_sent, Mark_answered}
+use Rattle.mark_traces.specs.Premises.{IsSoundMark}
+use Rattle.server_node.specs.Identity.{node_of}
+use Rattle.server_node.specs.Markers.{Saving}
+use Rattle.server_node.specs.MarkedTurns.{NodeStandsAt}
+use Rattle.net_schedule.specs.StoredPackets.{Carried, way_along}
+use Rattle.net_schedule.specs.Journal.{StoreAndJournal, AreAt, HasDistinctKeys}
+use Rattle.net_schedule.specs.Logs.Keepers.{With_marks}
+use Rattle.net_schedule.specs.Refinement.{Kept, Server}
+
+-- how the server of a world marks, by how the states of its services are saved
+abbrev pub marker_for : {State : Type 0} → Saving State → (ℕ → Machine State) → (every kind : ℕ) → Marker State
+marker_for saved services every kind = markers services saved.form saved.state_of every kind
+
+-- the direction of a parcel: what is said about marks goes between server and logger
+abbrev pub way_of_parcel : List Key → Parcel → Way
+way_of_parcel keys (Usual packet) = way_along keys (wire_of packet)
+way_of_parcel keys (Mark_sent message) = ServerToLogger
+way_of_parcel keys (Mark_answered message) = LoggerToServer
+
+-- parcels as the network stores them
+abbrev pub stored_parcels : List Key → List Parcel → Carried
+stored_parcels keys parcels = record { ways = map (way_of_parcel keys) parcels; bytes = map bytes_of parcels }
+
+-- the server runs the service of this kind, and is at an incarnation that marks
+pub record IsMarkedAt {State : Type 0} (by : Marker State) (kind : ℕ) (now : Server State) (node : MarkedNode) : Type 0 where
+  pub kind_is : now.who.kind ≡ kind
+  pub is : node.plain ≡ node_of now.who node.plain.stage
+  pub stands : NodeStandsAt by node now.stage
+
+-- the server is down in both, or it is at the incarnation that is up
+abbrev pub MarkedNodeStands : {State : Type 0} → Marker State → ℕ → Option (Server State) → Option MarkedNode → Type 0
+MarkedNodeStands by kind None None = Unit {0}
+MarkedNodeStands by kind (Some now) (Some node) = IsMarkedAt by kind now node
+MarkedNodeStands by kind _ _ = ⊥
+
+-- the server's address, the clients, and the largest boot number are those of a world of the definitions
+pub record PeersStand {State : Type 0} (w : Kept State) (v : Seen) : Type 0 where
+  pub server : w.server ≡ v.server
+  pub keys : w.keys ≡ map (λ c. c.key) v.clients
+  pub clients : w.clients ≡ v.clients
+  pub boot : w.boot ≡ v.boot
+
+-- The code's world is at a world of the definitions with marks: each parcel is stored as bytes, with its direction, and the log is a store's journal.
+pub record MarkedWorldStands {State : Type 0} (by : Marker State) (w : Kept State) (v : MarkedWorld) : Type 0 where
+  pub actors : PeersStand w (seen v)
+  pub node : MarkedNodeStands by w.kind w.node v.node
+  pub both : StoreAndJournal
+  pub keepers : w.keepers ≡ With_marks both.store
+  pub journal : w.log ≡ both.journal
+  pub log : w.log ≡ v.log.log
+  pub at : AreAt both v.log
+  pub packets : w.packets ≡ stored_parcels w.keys v.parcels
+  pub every : w.every ≡ by.every
+  pub marks : 0 < by.every
+
+-- The world becomes a next one, with these parcels sent, and the code's world is at that.
+pub record MarkedGoesOn {State : Type 0} (by : Marker State) (Goes : List Parcel → MarkedWorld → Type 0) (v : MarkedWorld) (w : Kept State) : Type 0 where
+  pub sent : List Parcel
+  pub world : MarkedWorld
+  pub goes : Goes sent world
+  pub stands : MarkedWorldStands by w world
+  pub grew : world.parcels ≡ v.parcels ++ sent
+
+-- An event is allowed and happens, and the clients follow the script.
+pub record MarkedAdvances {State : Type 0} (by : Marker State) (v : MarkedWorld) (event : Event) (w : Kept State) : Type 0 where
+  pub happens : MarkedGoesOn by (MarkedHappens by v event) v w
+  pub allowed : marked_refusal v event ≡ None
+  pub scripted : IsScripted (seen v) event (usual happens.sent) (seen happens.world)
+
+-- what may come to the server next: as without marks, or what the log answered about marks
+abbrev pub MayComeMarked : MarkedWorld → MarkedInput → Type 0
+MayComeMarked v (Plain_comes input) = MayCome (seen v) input
+MayComeMarked v (Mark_comes message) = (number : ℕ) × (parcel_at v.parcels number ≡ Some (Mark_answered message))
+
+-- What every legal trace with marks guarantees of the world at its end: each parcel can be read, the clients have the keys with which they started, and whatever
+-- may come to the server is near, lets it fetch what is sound, and doesn't fence it.
+pub record MarkedPremises {State : Type 0} (by : Marker State) (v : MarkedWorld) : Type 0 where
+  pub readable : AllByRecursion CanBeRead v.parcels
+  pub keys : (start : Seen) × IsStart start × (map (λ c. c.key) v.clients ≡ map (λ c. c.key) start.clients)
+  pub distinct : HasDistinctKeys v.log
+  pub near : (node : MarkedNode) (input : Input) → v.node ≡ Some node → MayCome (seen v) input → IsNearInput node.plain.server input node.plain.stage
+  pub sound : (node : MarkedNode) (input : Input) → v.node ≡ Some node → MayCome (seen v) input → IsSoundInput by.service node.plain input node.plain.stage
+  pub unfenced : (node : MarkedNode) (input : Input) → v.node ≡ Some node → MayCome (seen v) input → fence node.plain input ≡ None
+  pub marks : (number : ℕ) (node : MarkedNode) → v.node ≡ Some node → (message : MarkMessage) → parcel_at v.parcels number ≡ Some (Mark_answered message)
+      → IsSoundMark by v.log.log node message node.plain.stage
+
+-- what these bytes say to the addressee of a parcel may come to it
+abbrev pub MarkedComesAs : MarkedWorld → Parcel → List ℕ → Type 0
+MarkedComesAs v (Usual (To_server segment)) bytes = MayCome (seen v) (segment_or_noise (segments.reading bytes))
+MarkedComesAs v (Usual (From_logger message)) bytes = MayComeMarked v (input_of (said_by bytes))
+MarkedComesAs v (Mark_answered message) bytes = MayComeMarked v (input_of (said_by bytes))
+MarkedComesAs v (Usual (To_client segment)) bytes = Unit {0}
+MarkedComesAs v (Usual (To_logger message)) bytes = Unit {0}
+MarkedComesAs v (Mark_sent message) bytes = Unit {0}

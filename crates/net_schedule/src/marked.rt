@@ -1,0 +1,164 @@
+//! The logger of a world with marks.
+
+ghost use Rattle.std.specs.Prelude.{◌≡◌, ◌≤◌, ◌<◌, ◌+◌, ◌^◌, Ok, OnOk, option_map};
+ghost use Rattle.seq_arith.specs.Message.Body.{DataMsg};
+ghost use Rattle.ft_model.specs.Log.{entry_of, log_after};
+ghost use Rattle.logger_wire.specs.Value.{message_of, IsSendable};
+ghost use Rattle.mark_laws.specs.MarkedLog.{MarkedLog as LogWithMarks, nothing_logged};
+ghost use Rattle.mark_store.specs.Refinement.{IsLeftOfMarked};
+ghost use Rattle.seq_arith.specs.MarkGrammar.{IsSpellable};
+ghost use Rattle.checkpoint.specs.Value.{message_of as mark_message_of};
+ghost use Rattle.ft_model.specs.declared.way.Way.TheVariants.{ServerToLogger};
+ghost use Rattle.mark_laws.specs.MarkedLog.{after_mark};
+ghost use Rattle.mark_store.specs.Bytes.{after_bytes};
+ghost use Rattle.net_schedule.specs.Journal.{AreAt, MarksHear, Notes, no_bytes};
+
+use crate::packets::Packets;
+use crate::sending::keep_answer;
+use checkpoint::{MarkBody, MarkMsg, read_mark};
+use ft_io::{Key, NoMemory};
+use ft_model::Way;
+use logger_store::{LogStore, MsgOut};
+use logger_wire::{Body, Msg, read_msg};
+use mark_store::MarkStore;
+use std::alloc::Global;
+use std::marker::Model;
+
+/// How many units of a key's output a store has as acknowledged; none where it doesn't know the key.
+fn acknowledged(store: &MarkStore, key: Key) -> Option<u32>
+    ensures { (l : LogWithMarks) → IsLeftOfMarked store.now l → result ≡ option_map (λ e. e.acknowledged) (entry_of key l.log) }
+{
+    for i in 0..store.count() {
+        let Some(head) = store.entry(i) else {
+            return None;
+        };
+        if head.key == key {
+            return Some(head.acked);
+        }
+    }
+    None
+}
+
+/// A logger that keeps marks. Its store drops what lies below a mark, so it also has a journal: the log with all bytes and lengths. In contracts it is the two.
+#[derive(Drop)]
+pub struct MarkedLog {
+    store: MarkStore,
+    /// It gets each message of the log that the store gets, and each mark that the store keeps, as Data without bytes that acknowledges what the mark says is made.
+    journal: LogStore,
+    /// What it answers in a turn.
+    answer: MsgOut,
+}
+
+impl Model for MarkedLog {
+    ghost use Rattle.net_schedule.specs.Journal.{StoreAndJournal};
+
+    ghost Value = { StoreAndJournal };
+
+    ghost view = { λ l. record { store = l.store; journal = l.journal } };
+}
+
+impl MarkedLog {
+    /// Nothing is logged. Nothing is allocated.
+    pub fn new(alloc: Global) -> MarkedLog
+        ensures { AreAt result nothing_logged }
+    {
+        MarkedLog {
+            store: MarkStore::new(alloc),
+            journal: LogStore::new(alloc),
+            answer: MsgOut::new(),
+        }
+    }
+
+    /// The journal.
+    pub fn log(&self) -> &LogStore
+        ensures { result.now ≡ self.now.journal }
+    {
+        &self.journal
+    }
+
+    /// The journal learns that this much output of a key is acknowledged.
+    #[tactic(auto, unfolding(seq_arith::specs::MessageGrammar::has_length, seq_arith::specs::MessageGrammar::is_sound))]
+    fn acknowledge(
+        &mut self,
+        alloc: Global,
+        boot: u64,
+        key: Key,
+        length: u32,
+        made: u32,
+    ) -> Result<(), NoMemory>
+        requires boot { 1 ≤ boot }
+        requires length { length ≤ 2 ^ 24 }
+        requires made { made ≤ 2 ^ 24 }
+        ensures { OnOk result (self.new ≡ record self.old { journal = log_after self.old.journal (record { boot = boot; body = DataMsg (no_bytes key length made) }) }) }
+    {
+        let body = Body::DataMsg {
+            key,
+            offset: length,
+            acked: made,
+            fin: 0,
+            bytes: &[],
+        };
+        self.journal
+            .answer(alloc, &Msg { boot, body }, &mut self.answer)
+    }
+
+    /// The store has taken a message about marks. If it keeps a mark, as its acknowledged output then shows, the journal gets it too.
+    fn enter(&mut self, alloc: Global, message: &MarkMsg<'_>) -> Result<(), NoMemory>
+        requires { IsSpellable (mark_message_of message.now) }
+        ensures { OnOk result (Notes (λ l. after_mark l (mark_message_of message.now)) self.old self.new) }
+    {
+        let MarkBody::Mark {
+            key,
+            length,
+            made,
+            ..
+        } = message.body
+        else {
+            return Ok(());
+        };
+        match acknowledged(&self.store, key) {
+            Some(units) if units >= made => {
+                self.acknowledge(alloc, message.boot, key, length, made)
+            }
+            _ => Ok(()),
+        }
+    }
+
+    /// The journal gets what bytes say that the store has taken.
+    fn note(&mut self, alloc: Global, bytes: &[u8]) -> Result<(), NoMemory>
+        ensures { OnOk result (Notes (after_bytes bytes.now) self.old self.new) }
+    {
+        if let Ok(message) = read_msg(bytes) {
+            return self.journal.answer(alloc, &message, &mut self.answer);
+        }
+        match read_mark(bytes) {
+            Ok(message) => self.enter(alloc, &message),
+            Err(_) => Ok(()),
+        }
+    }
+
+    /// Bytes arrive, and the answer is stored. Bytes that are no message change nothing.
+    fn read(&mut self, alloc: Global, bytes: &[u8], packets: &mut Packets) -> Result<(), NoMemory>
+        ensures { OnOk result (MarksHear ServerToLogger bytes.now (self.old, packets.old) (self.new, packets.new)) }
+    {
+        self.store.answer(alloc, bytes, &mut self.answer)?;
+        keep_answer(&self.answer, packets)?;
+        self.note(alloc, bytes)
+    }
+
+    /// Bytes of this direction arrive, if it leads to the logger.
+    pub fn hear(
+        &mut self,
+        alloc: Global,
+        way: Way,
+        bytes: &[u8],
+        packets: &mut Packets,
+    ) -> Result<(), NoMemory>
+        ensures { OnOk result (MarksHear way bytes.now (self.old, packets.old) (self.new, packets.new)) }
+    {
+        if way == Way::ServerToLogger {
+            return self.read(alloc, bytes, packets);
+        }
+        Ok(())
+    }
+}
