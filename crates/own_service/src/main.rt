@@ -62,7 +62,7 @@ fn play(alloc: Global, schedule: &Schedule) -> Option<World<Counter>>
     ensures seen { IfSome result (λ w. AllByRecursion SeesAnswers (kept w).clients) }
 {
     clients_see_an_unfailing_server::<Counter>();
-    if schedule.twin {
+    if schedule.twin || schedule.marks.is_some() {
         return None;
     }
     let Ok(mut world) = World::new(alloc, schedule) else {

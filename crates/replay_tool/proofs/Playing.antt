@@ -20,9 +20,9 @@ use Rattle.replay_tool.proofs.Either.{AreSafe, legal_of}
 
 -- an event more is played
 abbrev pub more_played : AreSafe → (schedule : Schedule) (others : List Event) (event : Event) (answer : StepOut) (w : Kept AnyService) (p : IsPlayedTo schedule (event ∷ others))
-    → PlaysOne schedule.twin schedule p.events p.trace event answer w → IsPlayedTo schedule others
+    → PlaysOne schedule.twin schedule.marks schedule p.events p.trace event answer w → IsPlayedTo schedule others
 more_played safe schedule others event answer w p s =
-    let legal : (traces schedule).IsLegal schedule (p.events ++ event ∷ []) (s.moment ∷ p.trace) = legal_of schedule.twin schedule (p.events ++ event ∷ []) (s.moment ∷ p.trace) w s.stands in
+    let legal : (traces schedule).IsLegal schedule (p.events ++ event ∷ []) (s.moment ∷ p.trace) = legal_of schedule.twin schedule.marks schedule (p.events ++ event ∷ []) (s.moment ∷ p.trace) w s.stands in
     record {
       events = p.events ++ event ∷ [];
       trace = s.moment ∷ p.trace;
@@ -34,7 +34,7 @@ more_played safe schedule others event answer w p s =
 
 -- a run plays one more, and its lines are held
 pub event_played : AreSafe → (schedule : Schedule) (others : List Event) (event : Event) (n : ℕ) (w w' : Kept AnyService) (old now : Option (List ℕ)) (held after none lines : List ℕ) (answer : StepOut)
-    → (r : Plays schedule (event ∷ others) w old now held) → n ≡ length r.played.events + 1 → PlaysOne schedule.twin schedule r.played.events r.played.trace event answer w'
+    → (r : Plays schedule (event ∷ others) w old now held) → n ≡ length r.played.events + 1 → PlaysOne schedule.twin schedule.marks schedule r.played.events r.played.trace event answer w'
     → lines ≡ none ++ (event_line n event ++ stored_lines w'.packets answer.first answer.count) → none ≡ [] → after ≡ held ++ lines → Plays schedule others w' old now after
 event_played safe schedule others event n w w' old now held after none lines answer r at s written is_none grown =
     let trace : List (traces schedule).Turn = r.played.trace in
@@ -51,7 +51,7 @@ event_played safe schedule others event n w w' old now held after none lines ans
     }
 
 -- the world comes after the event, and before it
-pub stands_on : (w w' : Kept AnyService) (event : Event) (answer : StepOut) → (i : IsStanding w) → PlaysOne i.schedule.twin i.schedule i.events i.trace event answer w' → IsStanding w'
+pub stands_on : (w w' : Kept AnyService) (event : Event) (answer : StepOut) → (i : IsStanding w) → PlaysOne i.schedule.twin i.schedule.marks i.schedule i.events i.trace event answer w' → IsStanding w'
 stands_on w w' event answer i s = record { schedule = i.schedule; events = i.events ++ event ∷ []; trace = s.moment ∷ i.trace; stands = s.stands }
 
 pub stands_where : (schedule : Schedule) (others : List Event) (w : Kept AnyService) (old now : Option (List ℕ)) (held : List ℕ) → Plays schedule others w old now held → IsStanding w
@@ -76,18 +76,18 @@ holds_front schedule others w old now held r =
     (lines_so_far schedule r.played.trace, r.text, record { others = others; played = r.played; front = inl ([], append-nil (lines_so_far schedule r.played.trace)) })
 
 holds_to_limit : (schedule : Schedule) (others : List Event) (event : Event) (w : Kept AnyService) (old now : Option (List ℕ)) (held : List ℕ) (r : Plays schedule (event ∷ others) w old now held)
-    → Exceeds schedule.twin schedule r.played.events r.played.trace event → Holds old now held (ReportsToLimit schedule)
+    → Exceeds schedule.twin schedule.marks schedule r.played.events r.played.trace event → Holds old now held (ReportsToLimit schedule)
 holds_to_limit schedule others event w old now held r e =
     (lines_so_far schedule r.played.trace, r.text, record { event = event; others = others; moment = e.moment; played = r.played; legal = e.legal; over = e.over; is = refl })
 
 -- a step isn't done
 pub step_ends : (schedule : Schedule) (others : List Event) (event : Event) (n : ℕ) (w w' : Kept AnyService) (old now : Option (List ℕ)) (held : List ℕ) (end : StepEnd)
-    → (r : Reaches schedule (event ∷ others) w old now held) → n ≡ length r.plays.played.events + 1 → StopsAt schedule.twin schedule r.plays.played.events r.plays.played.trace event end
+    → (r : Reaches schedule (event ∷ others) w old now held) → n ≡ length r.plays.played.events + 1 → StopsAt schedule.twin schedule.marks schedule r.plays.played.events r.plays.played.trace event end
     → KeepsAtRefusal w w' end → StopsPlaying schedule w' old now held (end_of_step end n)
 step_ends schedule others event n w w' old now held NoMemory r at e keeps = holds_front schedule (event ∷ others) w old now held r.plays
 step_ends schedule others event n w w' old now held (BadEvent why) r at e keeps =
     let p : Plays schedule (event ∷ others) w old now held = r.plays in
     let back : Plays schedule (event ∷ others) w' old now held =
-    record { played = p.played; stands = subst (IsTraceEnd schedule.twin schedule p.played.events p.played.trace) (sym keeps) p.stands; text = p.text } in
+    record { played = p.played; stands = subst (IsTraceEnd schedule.twin schedule.marks schedule p.played.events p.played.trace) (sym keeps) p.stands; text = p.text } in
     record { event = event; others = others; reaches = record { plays = back; held_back = r.held_back }; number_is = at; refused = e }
 step_ends schedule others event n w w' old now held PacketLimit r at e keeps = holds_to_limit schedule others event w old now held r.plays e

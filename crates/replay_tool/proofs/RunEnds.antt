@@ -43,15 +43,15 @@ when_err (Err e) a f = f e a
 
 -- before the first event
 abbrev none_played : AreSafe → (schedule : Schedule) → (traces schedule).IsLegal schedule [] [] → IsPlayedTo schedule schedule.events
-none_played safe schedule legal = record { events = []; trace = []; split = refl; legal = legal; safe = safe schedule [] [] legal; within = none_sent schedule.twin schedule }
+none_played safe schedule legal = record { events = []; trace = []; split = refl; legal = legal; safe = safe schedule [] [] legal; within = none_sent schedule.twin schedule.marks schedule }
 
 header_alone : (schedule : Schedule) → lines_so_far schedule [] ≡ header schedule
-header_alone schedule = ap (λ l. header schedule ++ l) (no_lines schedule.twin schedule) ∙ append-nil (header schedule)
+header_alone schedule = ap (λ l. header schedule ++ l) (no_lines schedule.twin schedule.marks schedule) ∙ append-nil (header schedule)
 
-pub begins : AreSafe → (schedule : Schedule) (w : Kept AnyService) (old : Option (List ℕ)) (held : List ℕ) → IsTraceEnd schedule.twin schedule [] [] w → held ≡ header schedule
+pub begins : AreSafe → (schedule : Schedule) (w : Kept AnyService) (old : Option (List ℕ)) (held : List ℕ) → IsTraceEnd schedule.twin schedule.marks schedule [] [] w → held ≡ header schedule
     → Plays schedule schedule.events w old old held
 begins safe schedule w old held s is = record {
-  played = none_played safe schedule (legal_of schedule.twin schedule [] [] w s);
+  played = none_played safe schedule (legal_of schedule.twin schedule.marks schedule [] [] w s);
   stands = s;
   text = subst (IsOnItsWay old old held) (is ∙ sym (header_alone schedule)) (none_on_its_way old held);
 }
@@ -63,7 +63,7 @@ ends_before safe schedule old held start front = (
   none_on_its_way old held,
   record {
     others = schedule.events;
-    played = none_played safe schedule (none_legal schedule.twin schedule start);
+    played = none_played safe schedule (none_legal schedule.twin schedule.marks schedule start);
     front = inl (front.0, front.1 ∙ sym (header_alone schedule));
   },
 )
@@ -104,7 +104,7 @@ none_left schedule events i w old now held past r = subst (λ es. Reaches schedu
 
 -- as many moments as events
 moments : (schedule : Schedule) (others : List Event) (p : IsPlayedTo schedule others) → length p.events ≡ length p.trace
-moments schedule others p = as_many schedule.twin schedule p.events p.trace p.legal
+moments schedule others p = as_many schedule.twin schedule.marks schedule p.events p.trace p.legal
 
 -- how the world stands is put after the lines so far
 closed : (schedule : Schedule) (others : List Event) (n : ℕ) (w : Kept AnyService) (old now : Option (List ℕ)) (held after : List ℕ) (r : Plays schedule others w old now held) → n ≡ length r.played.trace
@@ -115,7 +115,7 @@ closed schedule others n w old now held after r at grown =
     let whole : lines_so_far schedule trace ++ ends ≡ (traces schedule).report schedule trace =
     append_assoc (header schedule) ((traces schedule).lines schedule trace) ends
     ∙ ap (λ k. header schedule ++ ((traces schedule).lines schedule trace ++ (client_lines 1 w.clients ++ (flat_map log_line w.log.entries ++ end_line k)))) at
-    ∙ sym (closes schedule.twin schedule r.played.events trace w r.stands) in
+    ∙ sym (closes schedule.twin schedule.marks schedule r.played.events trace w r.stands) in
     subst (λ h. IsOnItsWay old now h ((traces schedule).report schedule trace)) (sym grown)
     (subst (IsOnItsWay old now (held ++ ends)) whole (more_held old now held (lines_so_far schedule trace) ends r.text))
 

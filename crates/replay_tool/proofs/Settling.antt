@@ -12,8 +12,9 @@ use Rattle.ft_model.specs.declared.schedule.Limit.{Limit}
 use Rattle.ft_model.specs.declared.schedule.Limit.TheVariants as limits
 use Rattle.sample_servers.specs.AnyService.{any_machine}
 use Rattle.replay_tool.specs.Ends.{code_of, is_code}
+use Rattle.mark_traces.specs.MarkedLegal.{IsMarkedLegalFor}
 use Rattle.twin_laws.specs.TwinLegal.{IsTwinLegalFor}
-use Rattle.replay_tool.specs.Traces.{traces_of}
+use Rattle.replay_tool.specs.Traces.{any_marker, traces_of}
 use Rattle.replay_tool.specs.Causes.{AllHappen, OneIsRefused, PacketsExceed, IsInOrder, HasBadLine, HasBadEvent, IsPastLimit, IsSettled}
 use Rattle.replay_tool.specs.Causes.IsPastLimit.{by_text, by_packets}
 use Rattle.replay_tool.specs.ErrText.{text_of}
@@ -43,39 +44,45 @@ bad_line text input out NoMemory told e s = cc
 bad_line text input out ReadFault told e s = cc
 bad_line text input out WriteFault told e s = cc
 
--- with two loggers or with one
-refused_in : (twin : Bool) (schedule : Schedule) (played : List Event) (event : Event) (others : List Event) (why : EventWhy) (trace : List (traces_of twin).Turn)
-    → schedule.events ≡ played ++ event ∷ others → (traces_of twin).IsLegal schedule played trace → (traces_of twin).sent schedule trace ≤ 200000
-    → (traces_of twin).refuses schedule trace event ≡ Some why → OneIsRefused twin schedule
-refused_in true schedule played event others why trace split legal within refused =
+-- with two loggers, with one log or with marks
+refused_in : (twin : Bool) (marks : Option ℕ) (schedule : Schedule) (played : List Event) (event : Event) (others : List Event) (why : EventWhy) (trace : List (traces_of twin marks).Turn)
+    → schedule.events ≡ played ++ event ∷ others → (traces_of twin marks).IsLegal schedule played trace → (traces_of twin marks).sent schedule trace ≤ 200000
+    → (traces_of twin marks).refuses schedule trace event ≡ Some why → OneIsRefused twin marks schedule
+refused_in true marks schedule played event others why trace split legal within refused =
     record { played = played; event = event; others = others; why = why; trace = trace; events = split; legal = legal; within = within; refused = refused }
-refused_in false schedule played event others why trace split legal within refused =
+refused_in false None schedule played event others why trace split legal within refused =
+    record { played = played; event = event; others = others; why = why; trace = trace; events = split; legal = legal; within = within; refused = refused }
+refused_in false (Some every) schedule played event others why trace split legal within refused =
     record { played = played; event = event; others = others; why = why; trace = trace; events = split; legal = legal; within = within; refused = refused }
 
-past_in : (twin : Bool) (schedule : Schedule) (played : List Event) (event : Event) (others : List Event) (moment : (traces_of twin).Turn) (earlier : List (traces_of twin).Turn)
-    → schedule.events ≡ played ++ event ∷ others → (traces_of twin).IsLegal schedule (played ++ event ∷ []) (moment ∷ earlier) → (traces_of twin).sent schedule earlier ≤ 200000
-    → 200000 < (traces_of twin).sent schedule (moment ∷ earlier) → PacketsExceed twin schedule
-past_in true schedule played event others moment earlier split legal within over =
+past_in : (twin : Bool) (marks : Option ℕ) (schedule : Schedule) (played : List Event) (event : Event) (others : List Event) (moment : (traces_of twin marks).Turn) (earlier : List (traces_of twin marks).Turn)
+    → schedule.events ≡ played ++ event ∷ others → (traces_of twin marks).IsLegal schedule (played ++ event ∷ []) (moment ∷ earlier) → (traces_of twin marks).sent schedule earlier ≤ 200000
+    → 200000 < (traces_of twin marks).sent schedule (moment ∷ earlier) → PacketsExceed twin marks schedule
+past_in true marks schedule played event others moment earlier split legal within over =
     record { played = played; event = event; others = others; moment = moment; earlier = earlier; events = split; legal = legal; within = within; over = over }
-past_in false schedule played event others moment earlier split legal within over =
+past_in false None schedule played event others moment earlier split legal within over =
+    record { played = played; event = event; others = others; moment = moment; earlier = earlier; events = split; legal = legal; within = within; over = over }
+past_in false (Some every) schedule played event others moment earlier split legal within over =
     record { played = played; event = event; others = others; moment = moment; earlier = earlier; events = split; legal = legal; within = within; over = over }
 
-whole_in : (twin : Bool) (schedule : Schedule) (events : List Event) (trace : List (traces_of twin).Turn) → schedule.events ≡ events → (traces_of twin).IsLegal schedule events trace
-    → (traces_of twin).sent schedule trace ≤ 200000 → AllHappen twin schedule
-whole_in true schedule events trace split legal within =
+whole_in : (twin : Bool) (marks : Option ℕ) (schedule : Schedule) (events : List Event) (trace : List (traces_of twin marks).Turn) → schedule.events ≡ events → (traces_of twin marks).IsLegal schedule events trace
+    → (traces_of twin marks).sent schedule trace ≤ 200000 → AllHappen twin marks schedule
+whole_in true marks schedule events trace split legal within =
     record { trace = trace; legal = subst (λ es. IsTwinLegalFor any_machine schedule es trace) (sym split) legal; within = within }
-whole_in false schedule events trace split legal within =
+whole_in false None schedule events trace split legal within =
     record { trace = trace; legal = subst (λ es. IsLegalFor any_machine schedule es trace) (sym split) legal; within = within }
+whole_in false (Some every) schedule events trace split legal within =
+    record { trace = trace; legal = subst (λ es. IsMarkedLegalFor (any_marker every) schedule es trace) (sym split) legal; within = within }
 
-refused_event : (schedule : Schedule) (number : ℕ) (why : EventWhy) (old new : Option (List ℕ)) → Wrote old new (ReportsTill schedule number why) → OneIsRefused schedule.twin schedule
+refused_event : (schedule : Schedule) (number : ℕ) (why : EventWhy) (old new : Option (List ℕ)) → Wrote old new (ReportsTill schedule number why) → OneIsRefused schedule.twin schedule.marks schedule
 refused_event schedule number why old new w =
     let r : ReportsTill schedule number why w.0 = w.2 in
-    refused_in schedule.twin schedule r.played.events r.event r.others why r.played.trace r.played.split r.played.legal r.played.within r.refused
+    refused_in schedule.twin schedule.marks schedule r.played.events r.event r.others why r.played.trace r.played.split r.played.legal r.played.within r.refused
 
-past_packets : (schedule : Schedule) (old new : Option (List ℕ)) → Wrote old new (ReportsToLimit schedule) → PacketsExceed schedule.twin schedule
+past_packets : (schedule : Schedule) (old new : Option (List ℕ)) → Wrote old new (ReportsToLimit schedule) → PacketsExceed schedule.twin schedule.marks schedule
 past_packets schedule old new w =
     let r : ReportsToLimit schedule w.0 = w.2 in
-    past_in schedule.twin schedule r.played.events r.event r.others r.moment r.played.trace r.played.split r.legal r.played.within r.over
+    past_in schedule.twin schedule.marks schedule r.played.events r.event r.others r.moment r.played.trace r.played.split r.legal r.played.within r.over
 
 spelled_at : (input out : Stream) (text : List ℕ) (Is : Schedule → List ℕ → Type 0) → input.before ≡ Some text → Reports input out Is → Spells text (λ schedule. Wrote out.before out.after (Is schedule))
 spelled_at input out text Is told r = when_told (λ t. Spells t (λ schedule. Wrote out.before out.after (Is schedule))) input.before text told r.written
@@ -160,8 +167,8 @@ in_order text input out told r =
     let t : Spells text (λ schedule. Wrote out.before out.after (ReportsAll schedule)) = spelled_at input out text ReportsAll told r in
     record { schedule = t.0; spelled = t.1; whole = in_whole t.0 t.2.0 t.2.2 }
   where
-    in_whole : (schedule : Schedule) (written : List ℕ) → ReportsAll schedule written → AllHappen schedule.twin schedule
-    in_whole schedule written a = whole_in schedule.twin schedule a.played.events a.played.trace (a.played.split ∙ append-nil a.played.events) a.played.legal a.played.within
+    in_whole : (schedule : Schedule) (written : List ℕ) → ReportsAll schedule written → AllHappen schedule.twin schedule.marks schedule
+    in_whole schedule written a = whole_in schedule.twin schedule.marks schedule a.played.events a.played.trace (a.played.split ∙ append-nil a.played.events) a.played.legal a.played.within
 
 -- what `tell` says of an end and a status
 abbrev pub TellsEnd : (end : RunEnd) (err : Stream) (code : ℕ) → Type 0
@@ -219,9 +226,9 @@ is_told_code end err code (inl t) = ap is_code t.0 ∙ codes_of end
 is_told_code end err code (inr t) = ap is_code t.0
 
 module _
-    (whole_or_refused : (schedule : Schedule) → AllHappen schedule.twin schedule → OneIsRefused schedule.twin schedule → ⊥)
-    (whole_or_past : (schedule : Schedule) → AllHappen schedule.twin schedule → PacketsExceed schedule.twin schedule → ⊥)
-    (refused_or_past : (schedule : Schedule) → OneIsRefused schedule.twin schedule → PacketsExceed schedule.twin schedule → ⊥)
+    (whole_or_refused : (schedule : Schedule) → AllHappen schedule.twin schedule.marks schedule → OneIsRefused schedule.twin schedule.marks schedule → ⊥)
+    (whole_or_past : (schedule : Schedule) → AllHappen schedule.twin schedule.marks schedule → PacketsExceed schedule.twin schedule.marks schedule → ⊥)
+    (refused_or_past : (schedule : Schedule) → OneIsRefused schedule.twin schedule.marks schedule → PacketsExceed schedule.twin schedule.marks schedule → ⊥)
     (text : List ℕ) (code : ℕ) where
   -- a text is read in one way
   same : (s t : Schedule) → read_text text ≡ Ok s → read_text text ≡ Ok t → s ≡ t
@@ -233,11 +240,11 @@ module _
   order_or_line a b = ok_or_err a.schedule (reading.BadLine b.line b.why) (sym a.spelled ∙ b.refused)
 
   order_or_event : IsInOrder text → HasBadEvent text → ⊥
-  order_or_event a b = whole_or_refused b.schedule (subst (λ s. AllHappen s.twin s) (same a.schedule b.schedule a.spelled b.spelled) a.whole) b.refused
+  order_or_event a b = whole_or_refused b.schedule (subst (λ s. AllHappen s.twin s.marks s) (same a.schedule b.schedule a.spelled b.spelled) a.whole) b.refused
 
   order_or_limit : IsInOrder text → IsPastLimit text → ⊥
   order_or_limit a (by_text what e) = ok_or_err a.schedule (reading.TooLong what) (sym a.spelled ∙ e)
-  order_or_limit a (by_packets schedule e p) = whole_or_past schedule (subst (λ s. AllHappen s.twin s) (same a.schedule schedule a.spelled e) a.whole) p
+  order_or_limit a (by_packets schedule e p) = whole_or_past schedule (subst (λ s. AllHappen s.twin s.marks s) (same a.schedule schedule a.spelled e) a.whole) p
 
   line_or_event : HasBadLine text → HasBadEvent text → ⊥
   line_or_event a b = ok_or_err b.schedule (reading.BadLine a.line a.why) (sym b.spelled ∙ a.refused)
@@ -248,7 +255,7 @@ module _
 
   event_or_limit : HasBadEvent text → IsPastLimit text → ⊥
   event_or_limit a (by_text what e) = ok_or_err a.schedule (reading.TooLong what) (sym a.spelled ∙ e)
-  event_or_limit a (by_packets schedule e p) = refused_or_past schedule (subst (λ s. OneIsRefused s.twin s) (same a.schedule schedule a.spelled e) a.refused) p
+  event_or_limit a (by_packets schedule e p) = refused_or_past schedule (subst (λ s. OneIsRefused s.twin s.marks s) (same a.schedule schedule a.spelled e) a.refused) p
 
   pub settles : is_code code ≡ true → (code ≡ 2 → ⊥) → (code ≡ 4 → ⊥) → (code ≡ 5 → ⊥)
       → (code ≡ 0 → IsInOrder text) → (code ≡ 6 → HasBadLine text) → (code ≡ 7 → HasBadEvent text) → (code ≡ 8 → IsPastLimit text) → IsSettled text code

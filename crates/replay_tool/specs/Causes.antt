@@ -1,5 +1,5 @@
 -- What a text must be for its run to end in a certain way, and the status that the run then has.
-use Rattle.std.specs.Prelude.{◌≡◌, ◌⊎◌, ℕ, Bool, true, false, Ok, Err, List}
+use Rattle.std.specs.Prelude.{◌≡◌, ◌⊎◌, ℕ, Bool, true, false, Option, None, Some, Ok, Err, List}
 use Rattle.ft_io.specs.Faults.{Rose}
 use Rattle.ft_model.specs.Grammar.{read_text}
 use Rattle.ft_model.specs.Grammar.Refusal.{BadLine, TooLong}
@@ -8,26 +8,31 @@ use Rattle.ft_model.specs.declared.schedule.Schedule.{Schedule}
 use Rattle.ft_model.specs.declared.schedule.LineWhy.{LineWhy}
 use Rattle.ft_model.specs.declared.schedule.Limit.{Limit}
 use Rattle.sample_servers.specs.AnyService.{any_machine}
+use Rattle.mark_traces.specs.MarkedOutcome.{IsMarkedWhole, IsMarkedRefused, IsMarkedPastPackets}
 use Rattle.twin_laws.specs.TwinOutcome.{IsTwinWhole, IsTwinRefused, IsTwinPastPackets}
+use Rattle.replay_tool.specs.Traces.{any_marker}
 
--- With two loggers or with one: each event of a schedule may happen in its turn, within the limit of packets; one of them may not; or they exceed that limit
-abbrev pub AllHappen : (twin : Bool) → Schedule → Type 0
-AllHappen true schedule = IsTwinWhole any_machine schedule
-AllHappen false schedule = IsWhole any_machine schedule
+-- With two loggers, with one log or with marks: each event of a schedule may happen in its turn, within the limit of packets; one of them may not; or they exceed that limit
+abbrev pub AllHappen : (twin : Bool) → (marks : Option ℕ) → Schedule → Type 0
+AllHappen true marks schedule = IsTwinWhole any_machine schedule
+AllHappen false None schedule = IsWhole any_machine schedule
+AllHappen false (Some every) schedule = IsMarkedWhole (any_marker every) schedule
 
-abbrev pub OneIsRefused : (twin : Bool) → Schedule → Type 0
-OneIsRefused true schedule = IsTwinRefused any_machine schedule
-OneIsRefused false schedule = IsRefused any_machine schedule
+abbrev pub OneIsRefused : (twin : Bool) → (marks : Option ℕ) → Schedule → Type 0
+OneIsRefused true marks schedule = IsTwinRefused any_machine schedule
+OneIsRefused false None schedule = IsRefused any_machine schedule
+OneIsRefused false (Some every) schedule = IsMarkedRefused (any_marker every) schedule
 
-abbrev pub PacketsExceed : (twin : Bool) → Schedule → Type 0
-PacketsExceed true schedule = IsTwinPastPackets any_machine schedule
-PacketsExceed false schedule = IsPastPackets any_machine schedule
+abbrev pub PacketsExceed : (twin : Bool) → (marks : Option ℕ) → Schedule → Type 0
+PacketsExceed true marks schedule = IsTwinPastPackets any_machine schedule
+PacketsExceed false None schedule = IsPastPackets any_machine schedule
+PacketsExceed false (Some every) schedule = IsMarkedPastPackets (any_marker every) schedule
 
 -- it spells a schedule, and each of its events may happen in its turn, within the limit of packets
 pub record IsInOrder (text : List ℕ) : Type 0 where
   pub schedule : Schedule
   pub spelled : read_text text ≡ Ok schedule
-  pub whole : AllHappen schedule.twin schedule
+  pub whole : AllHappen schedule.twin schedule.marks schedule
 
 -- one of its lines is refused
 pub record HasBadLine (text : List ℕ) : Type 0 where
@@ -39,12 +44,12 @@ pub record HasBadLine (text : List ℕ) : Type 0 where
 pub record HasBadEvent (text : List ℕ) : Type 0 where
   pub schedule : Schedule
   pub spelled : read_text text ≡ Ok schedule
-  pub refused : OneIsRefused schedule.twin schedule
+  pub refused : OneIsRefused schedule.twin schedule.marks schedule
 
 -- it is too long, has too many events, or these exceed the limit of packets
 pub data IsPastLimit (text : List ℕ) : Type 0 where
   by_text : (what : Limit) → read_text text ≡ Err (TooLong what) → IsPastLimit text
-  by_packets : (schedule : Schedule) → read_text text ≡ Ok schedule → PacketsExceed schedule.twin schedule → IsPastLimit text
+  by_packets : (schedule : Schedule) → read_text text ≡ Ok schedule → PacketsExceed schedule.twin schedule.marks schedule → IsPastLimit text
 
 -- a count of faults doesn't rise
 abbrev pub IsStill : ℕ → ℕ → Type 0

@@ -20,7 +20,7 @@ piece = 65536
 -- All events but these are played: the world is at that point, and the lines so far are being written to the sink, which had taken `old`.
 pub record Plays (schedule : Schedule) (others : List Event) (w : Kept AnyService) (old now : Option (List ℕ)) (held : List ℕ) : Type 0 where
   pub played : IsPlayedTo schedule others
-  pub stands : IsTraceEnd schedule.twin schedule played.events played.trace w
+  pub stands : IsTraceEnd schedule.twin schedule.marks schedule played.events played.trace w
   pub text : IsOnItsWay old now held (lines_so_far schedule played.trace)
 
 -- .. and less than a piece of them is held back. So while the next event is played, at most that and the event's own lines are held back

@@ -1,8 +1,10 @@
--- The traces of a schedule's runs: those of the world with one log, and those of the world with a head and a tail. What is said of a run and of its report is
--- said of either.
-use Rattle.std.specs.Prelude.{ℕ, Bool, true, false, Option, List}
-use Rattle.sample_servers.specs.AnyService.{any_machine}
+-- The traces of a schedule's runs: those of the world with one log, those of the world with a head and a tail, and those of the world with marks. What is said
+-- of a run and of its report is said of each.
+use Rattle.std.specs.Prelude.{ℕ, Bool, true, false, Option, None, Some, List}
+use Rattle.sample_servers.specs.AnyService.{any_machine, any_form, any_state_of}
+use Rattle.sample_servers.specs.declared.any_service.AnyService.{AnyService}
 use Rattle.ft_model.specs.Legal.{start_of, refusal, IsLegalFor}
+use Rattle.ft_model.specs.Masked.{Masked}
 use Rattle.ft_model.specs.Outcome.{packets_sent}
 use Rattle.ft_model.specs.Report.{event_lines, report}
 use Rattle.ft_model.specs.Schedule.{kind_of, clients_of}
@@ -11,6 +13,11 @@ use Rattle.ft_model.specs.declared.event.Event.{Event}
 use Rattle.ft_model.specs.declared.event.EventWhy.{EventWhy}
 use Rattle.ft_model.specs.declared.schedule.Schedule.{Schedule}
 use Rattle.seed_run.specs.Safe.{IsSafe}
+use Rattle.mark_traces.specs.MarkedLegal.{markers, marked_start, marked_refusal, IsMarkedLegalFor, marked_packets_sent}
+use Rattle.mark_traces.specs.MarkedNode.{Marker}
+use Rattle.mark_traces.specs.MarkedWorld.{MarkedMoment, marked_after, plain_trace}
+use Rattle.mark_traces.specs.TrueMarks.{MarksAreTrue}
+use Rattle.mark_reports.specs.MarkedReport.{marked_event_lines, marked_report}
 use Rattle.twin_laws.specs.Flat.{flat}
 use Rattle.twin_laws.specs.TwinLegal.{twin_start, twin_refusal, IsTwinLegalFor, twin_packets_sent}
 use Rattle.twin_laws.specs.TwinReport.{twin_event_lines, twin_report}
@@ -54,10 +61,31 @@ of_two_loggers = record {
   report = twin_report;
 }
 
--- with two loggers or with one
-abbrev pub traces_of : Bool → Traces
-traces_of true = of_two_loggers
-traces_of false = of_one_log
+-- how the server marks each kind of service, with a mark due after so many reads
+abbrev pub any_marker : (every : ℕ) → ℕ → Marker AnyService
+any_marker every = markers any_machine any_form any_state_of every
+
+-- .. with marks its moments are of that world too, and what is proved of it is said of the trace without them: it is masked. Its marks are true
+pub record IsSafeMarked (every : ℕ) (schedule : Schedule) (trace : List MarkedMoment) : Type 0 where
+  pub masked : Masked (any_machine (kind_of schedule.service)) (start_of schedule) (plain_trace trace)
+  pub marks : MarksAreTrue (any_marker every (kind_of schedule.service)) (marked_after (marked_start schedule) trace)
+
+abbrev pub of_marks : (every : ℕ) → Traces
+of_marks every = record {
+  Turn = MarkedMoment;
+  IsLegal = IsMarkedLegalFor (any_marker every);
+  IsSafe = IsSafeMarked every;
+  sent = marked_packets_sent;
+  refuses = λ schedule trace event. marked_refusal (marked_after (marked_start schedule) trace) event;
+  lines = λ schedule trace. marked_event_lines (clients_of schedule.server schedule.clients) trace;
+  report = marked_report;
+}
+
+-- with two loggers, or with one log, which the server marks or doesn't
+abbrev pub traces_of : (twin : Bool) → (marks : Option ℕ) → Traces
+traces_of true marks = of_two_loggers
+traces_of false None = of_one_log
+traces_of false (Some every) = of_marks every
 
 abbrev pub traces : Schedule → Traces
-traces schedule = traces_of schedule.twin
+traces schedule = traces_of schedule.twin schedule.marks

@@ -7,25 +7,29 @@ ghost use Rattle.replay_tool.specs.Causes.{AllHappen, OneIsRefused, PacketsExcee
 ghost use Rattle.replay_tool.specs.Traces.{traces};
 
 use ft_model::laws::schedules_have_one_outcome;
+use mark_traces::{marked_schedules_are_masked, marked_schedules_have_one_outcome, marks_are_true};
 use sample_servers::AnyService;
 use seed_run::laws::joint_traces_are_safe;
 use twin_laws::{legal_traces_are_masked, twin_schedules_have_one_outcome};
 
-/// A legal trace is safe: with one log it is joint, and with two loggers it becomes a joint trace when it is made flat.
+/// A legal trace is safe: with one log it is joint, with two loggers it becomes a joint trace when it is made flat, and with marks it is masked.
 pub(crate) fn legal_traces_are_safe()
     ensures { (schedule : Schedule) (events : List Event) (trace : List (traces schedule).Turn) → (traces schedule).IsLegal schedule events trace
         → (traces schedule).IsSafe schedule trace }
 {
     joint_traces_are_safe();
     legal_traces_are_masked::<AnyService>();
+    marked_schedules_are_masked::<AnyService>();
+    marks_are_true::<AnyService>();
 }
 
-/// A schedule's events end in one way, with two loggers as with one.
+/// A schedule's events end in one way, with two loggers and with marks as with one log.
 pub(crate) fn schedules_end_in_one_way()
-    ensures whole_or_refused { (schedule : Schedule) → AllHappen schedule.twin schedule → OneIsRefused schedule.twin schedule → ⊥ }
-    ensures whole_or_past { (schedule : Schedule) → AllHappen schedule.twin schedule → PacketsExceed schedule.twin schedule → ⊥ }
-    ensures refused_or_past { (schedule : Schedule) → OneIsRefused schedule.twin schedule → PacketsExceed schedule.twin schedule → ⊥ }
+    ensures whole_or_refused { (schedule : Schedule) → AllHappen schedule.twin schedule.marks schedule → OneIsRefused schedule.twin schedule.marks schedule → ⊥ }
+    ensures whole_or_past { (schedule : Schedule) → AllHappen schedule.twin schedule.marks schedule → PacketsExceed schedule.twin schedule.marks schedule → ⊥ }
+    ensures refused_or_past { (schedule : Schedule) → OneIsRefused schedule.twin schedule.marks schedule → PacketsExceed schedule.twin schedule.marks schedule → ⊥ }
 {
     schedules_have_one_outcome::<AnyService>();
     twin_schedules_have_one_outcome::<AnyService>();
+    marked_schedules_have_one_outcome::<AnyService>();
 }

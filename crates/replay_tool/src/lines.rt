@@ -13,7 +13,7 @@ ghost use Rattle.replay_tool.specs.PacketLines.{stored_line, stored_lines};
 use ft_io::NoMemory;
 use ft_model::Event;
 use logger_store::LogStore;
-use net_schedule::laws::worlds_keep_what_was_sent;
+use net_schedule::laws::{marked_worlds_keep_what_was_sent, worlds_keep_what_was_sent};
 use net_schedule::{StepOut, World};
 use peer_client::Client;
 use sample_servers::AnyService;
@@ -36,6 +36,7 @@ fn write_packet(
     ensures { OnOk result (lines.new.items ≡ lines.old.items ++ stored_line world.now.packets n) }
 {
     worlds_keep_what_was_sent::<AnyService>();
+    marked_worlds_keep_what_was_sent::<AnyService>();
     let Some(way) = world.way(n) else {
         return Ok(());
     };

@@ -1,6 +1,6 @@
 //! Playing a schedule: each event is done in the world, and its lines are appended to the report before the next one.
 
-ghost use Rattle.std.specs.Prelude.{◌≡◌, ℕ, ◌+◌, ◌≤◌, List, [], ◌∷◌, ◌++◌, Option, Err, length, OnOk, OnErr, IfOk, IfErr};
+ghost use Rattle.std.specs.Prelude.{◌≡◌, ℕ, ◌+◌, ◌<◌, ◌≤◌, List, [], ◌∷◌, ◌++◌, Option, Some, Err, length, OnOk, OnErr, IfOk, IfErr};
 ghost use Rattle.std.specs.List.{flat_map};
 ghost use Rattle.ft_model.specs.Playable.{IsPlayable};
 ghost use Rattle.ft_model.specs.Report.{client_lines, log_line, end_line};
@@ -23,7 +23,7 @@ use ft_io::{Failed, NoMemory, Sink};
 use ft_model::Event;
 use ft_model::grammar::playable_schedules_start;
 use net_schedule::World;
-use net_schedule::laws::worlds_keep_what_was_sent;
+use net_schedule::laws::{marked_worlds_keep_what_was_sent, worlds_keep_what_was_sent};
 use sample_servers::AnyService;
 use schedule_text::{Schedule, write_header};
 use std::alloc::Global;
@@ -49,6 +49,7 @@ fn play_event<O: Sink>(
 {
     legal_traces_are_safe();
     worlds_keep_what_was_sent::<AnyService>();
+    marked_worlds_keep_what_was_sent::<AnyService>();
     let answer = match world.step(alloc, event) {
         Ok(answer) => answer,
         Err(end) => return Err(end_of_step(end, n)),
@@ -112,6 +113,7 @@ fn start<O: Sink>(
 ) -> Result<World<AnyService>, RunEnd>
     requires playable { IsPlayable schedule.now }
     requires clients { length schedule.now.clients ≤ 16 }
+    requires marks { (every : ℕ) → schedule.now.marks ≡ Some every → 0 < every }
     requires empty { report.old.held.items ≡ [] }
     ensures reaches { IfOk result (λ world.
         Reaches schedule.now schedule.now.events (kept world) (O.taken out.old) (O.taken out.new) report.new.held.items) }
@@ -202,6 +204,7 @@ fn play_whole<O: Sink>(
 ) -> Result<(), RunEnd>
     requires playable { IsPlayable schedule.now }
     requires clients { length schedule.now.clients ≤ 16 }
+    requires marks { (every : ℕ) → schedule.now.marks ≡ Some every → 0 < every }
     requires events { length schedule.now.events ≤ 100000 }
     requires empty { report.old.held.items ≡ [] }
     ensures done { OnOk result (Holds (O.taken out.old) (O.taken out.new) report.new.held.items (ReportsAll schedule.now)) }
@@ -232,6 +235,7 @@ fn write_rest<O: Sink>(end: RunEnd, report: &mut Report, out: &mut O) -> RunEnd
 pub(crate) fn play<O: Sink>(alloc: Global, schedule: &Schedule, out: &mut O) -> Result<(), RunEnd>
     requires playable { IsPlayable schedule.now }
     requires clients { length schedule.now.clients ≤ 16 }
+    requires marks { (every : ℕ) → schedule.now.marks ≡ Some every → 0 < every }
     requires events { length schedule.now.events ≤ 100000 }
     ensures done { OnOk result (Wrote (O.taken out.old) (O.taken out.new) (ReportsAll schedule.now)) }
     ensures stops { IfErr result (λ end. Wrote (O.taken out.old) (O.taken out.new) (EndsPlaying schedule.now end)) }

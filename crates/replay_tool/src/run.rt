@@ -1,6 +1,6 @@
 //! A run of a schedule, from its text to the end of its report.
 
-ghost use Rattle.std.specs.Prelude.{◌≡◌, ◌≤◌, length, Ok, IfOk, IfErr, OnOk};
+ghost use Rattle.std.specs.Prelude.{◌≡◌, ℕ, ◌<◌, ◌≤◌, length, Some, Ok, IfOk, IfErr, OnOk};
 ghost use Rattle.ft_io.specs.Source.{ConsumesAtMost};
 ghost use Rattle.ft_model.specs.Grammar.{read_text};
 ghost use Rattle.ft_model.specs.Playable.{IsPlayable};
@@ -24,6 +24,7 @@ fn read(alloc: Global, text: &[u8]) -> Result<Schedule, RunEnd>
     ensures stops { IfErr result (StopsReading text.now) }
     ensures playable { IfOk result IsPlayable }
     ensures clients { IfOk result (λ s. length s.clients ≤ 16) }
+    ensures marks { IfOk result (λ s. (every : ℕ) → s.marks ≡ Some every → 0 < every) }
     ensures events { IfOk result (λ s. length s.events ≤ 100000) }
 {
     accepted_schedules_can_be_played();

@@ -1,5 +1,5 @@
 -- The schedule that a seed makes: its clients, and events drawn one after another, each in the world after those before it.
-use Rattle.std.specs.Prelude.{◌≡◌, ℕ, false, zero, suc, ◌+◌, ◌*◌, List, [], ◌∷◌, ◌++◌}
+use Rattle.std.specs.Prelude.{◌≡◌, ℕ, false, None, zero, suc, ◌+◌, ◌*◌, List, [], ◌∷◌, ◌++◌}
 use Rattle.ft_io.specs.declared.Addr.{Addr}
 use Rattle.ft_model.specs.Legal.{start_of}
 use Rattle.ft_model.specs.World.{World, Moment, world_after}
@@ -32,7 +32,7 @@ client_lines state (suc count) = client_lines state count ++ client_line (after_
 
 -- a schedule of these events, for this many clients
 abbrev pub schedule_of : (seed clients : ℕ) → List Event → Schedule
-schedule_of seed clients events = record { service = Echo; server = server_address; twin = false; clients = client_lines seed clients; events = events }
+schedule_of seed clients events = record { service = Echo; server = server_address; twin = false; marks = None; clients = client_lines seed clients; events = events }
 
 abbrev pub start_for : (seed clients : ℕ) → World
 start_for seed clients = start_of (schedule_of seed clients [])

@@ -4,7 +4,8 @@ ghost use Rattle.std.specs.Prelude.{◌≡◌, ◌≤◌, ◌<◌, map, string_b
 ghost use Rattle.ft_io.specs.Faults.{Rose};
 ghost use Rattle.seed_run.specs.Words.{asked as asked_lem};
 ghost use Rattle.seed_run.specs.declared.run.SeedEnd.TheVariants as ends;
-ghost use Rattle.seed_run.specs.Runs.{IsSummary, IsPastLimit, IsSummarized, EndsRun};
+ghost use Rattle.seed_run.specs.Runs.{StandsBehind, IsSummary, IsPastLimit, IsSummarized, EndsRun};
+ghost use Rattle.net_schedule.specs.WorldView.{kept};
 
 use crate::asked::Asked;
 use crate::dice::Dice;
@@ -46,6 +47,26 @@ impl From<Failed> for SeedEnd {
     }
 }
 
+/// Plays the events in the world in which their schedule starts, and gives their summary.
+fn play_in(
+    alloc: Global,
+    asked: Asked,
+    progress: &mut Progress,
+    world: &mut World<AnyService>,
+) -> Result<Vec<u8>, SeedEnd>
+    requires stands { StandsBehind asked 0 (kept world.old) progress.old }
+    requires clients { (0 < asked.clients) × (asked.clients ≤ 16) }
+    requires events { asked.events ≤ 20000 }
+    ensures done { IfOk result (λ text. IsSummary asked text.items) }
+    ensures past { IsErrOf result SeedEnd.PacketLimit → IsPastLimit asked }
+    ensures no_usage { IsErrOf result SeedEnd.Usage → ⊥ }
+    ensures no_fault { IsErrOf result SeedEnd.WriteFault → ⊥ }
+{
+    joint_traces_are_safe();
+    progress.play(alloc, asked, world)?;
+    Ok(summarize(alloc, asked, world, progress)?)
+}
+
 /// Plays the events that were asked for, and gives their summary.
 fn play_asked(alloc: Global, asked: Asked) -> Result<Vec<u8>, SeedEnd>
     requires clients { (0 < asked.clients) × (asked.clients ≤ 16) }
@@ -55,13 +76,11 @@ fn play_asked(alloc: Global, asked: Asked) -> Result<Vec<u8>, SeedEnd>
     ensures no_usage { IsErrOf result SeedEnd.Usage → ⊥ }
     ensures no_fault { IsErrOf result SeedEnd.WriteFault → ⊥ }
 {
-    joint_traces_are_safe();
     let mut generator = Generator::new(asked.seed);
     let schedule = schedule_for(alloc, &mut generator, asked.clients)?;
     let mut world: World<AnyService> = World::new(alloc, &schedule)?;
     let mut progress = Progress::new(Dice { draws: generator });
-    progress.play(alloc, asked, &mut world)?;
-    Ok(summarize(alloc, asked, &world, &progress)?)
+    play_in(alloc, asked, &mut progress, &mut world)
 }
 
 /// Plays the schedule that the words make, and writes the summary of the run once it is done.

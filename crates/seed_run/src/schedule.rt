@@ -68,6 +68,7 @@ pub(crate) fn schedule_for(
         service: ServiceKind::Echo,
         server: SERVER,
         twin: false,
+        marks: None,
         clients: clients_for(alloc, generator, clients)?,
         events: Events::new(Vec::new(alloc)),
     })

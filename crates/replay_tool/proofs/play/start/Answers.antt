@@ -1,4 +1,4 @@
-use Rattle.std.proofs.Common.{◌∙◌, ◌++◌, [], ap, sym, subst, append-nil}
+use Rattle.std.proofs.Common.{◌∙◌, ◌++◌, [], ap, sym, subst, append-nil, refl}
 use Rattle.ft_model.specs.Report.{header}
 use Rattle.net_schedule.specs.WorldView.{kept}
 use Rattle.replay_tool.specs.Playback.{HoldsAtEnd}
@@ -28,7 +28,8 @@ returns-in_err-flush_piece-clause-stops g c =
     (λ end is. subst (HoldsAtEnd c.args.schedule.now (g.O.Sink.taken c.args.out.now) (g.O.Sink.taken c.flush_piece.new.out) c.flush_piece.new.report.held.items) (sym is)
     (goes_out_in_part c.args.schedule.now c.args.schedule.now.events (kept c.in_ok-world.world) (g.O.Sink.taken c.args.out.now) (g.O.Sink.taken c.args.out.now) (g.O.Sink.taken c.flush_piece.new.out) c.write_header.new.out.items
     (begins c.legal_traces_are_safe.ensures c.args.schedule.now (kept c.in_ok-world.world) (g.O.Sink.taken c.args.out.now) c.write_header.new.out.items
-    (stands_first c.args.schedule.now.twin c.args.schedule.now (kept c.in_ok-world.world) c.in_ok-world.ensures.one c.in_ok-world.ensures.two)
+    (stands_first c.args.schedule.now.twin c.args.schedule.now.marks c.args.schedule.now (kept c.in_ok-world.world) c.in_ok-world.ensures.one c.in_ok-world.ensures.two
+    (λ every one is. c.in_ok-world.ensures.marked every refl one is (c.requires.marks every is)))
     (c.in_ok-write_header.ensures.ok ∙ ap (λ held. held ++ header c.args.schedule.now) c.requires.empty))
     c.in_err-flush_piece.ensures.err))
 
@@ -37,6 +38,7 @@ returns-clause-reaches g c =
     goes_out c.args.schedule.now c.args.schedule.now.events (kept c.in_ok-world.world) (g.O.Sink.taken c.args.out.now) (g.O.Sink.taken c.args.out.now) (g.O.Sink.taken c.flush_piece.new.out) c.write_header.new.out.items
     c.flush_piece.new.report.held.items
     (begins c.legal_traces_are_safe.ensures c.args.schedule.now (kept c.in_ok-world.world) (g.O.Sink.taken c.args.out.now) c.write_header.new.out.items
-    (stands_first c.args.schedule.now.twin c.args.schedule.now (kept c.in_ok-world.world) c.in_ok-world.ensures.one c.in_ok-world.ensures.two)
+    (stands_first c.args.schedule.now.twin c.args.schedule.now.marks c.args.schedule.now (kept c.in_ok-world.world) c.in_ok-world.ensures.one c.in_ok-world.ensures.two
+    (λ every one is. c.in_ok-world.ensures.marked every refl one is (c.requires.marks every is)))
     (c.in_ok-write_header.ensures.ok ∙ ap (λ held. held ++ header c.args.schedule.now) c.requires.empty))
     c.in_ok-flush_piece.ensures.ok c.in_ok-flush_piece.ensures.held_back

@@ -4,26 +4,15 @@ use Rattle.net_schedule.specs.WorldView.{kept}
 use Rattle.net_schedule.specs.Step.{StandsAfter}
 use Rattle.seed_run.specs.Generated.{schedule_of, after_draws}
 use Rattle.seed_run.specs.declared.progress.Progress.{Progress}
-use Rattle.seed_run.proofs.Facts.{client_count, totals}
-use Rattle.seed_run.proofs.Summing.{stands_first, summed}
+use Rattle.seed_run.proofs.Summing.{stands_first}
 use Rattle.seed_run.proofs.run.play_asked.Goals as goal
 
-pub play-requires-clause-stands : goal.play-requires-clause-stands
-play-requires-clause-stands c =
+pub play_in-requires-clause-stands : goal.play_in-requires-clause-stands
+play_in-requires-clause-stands c =
     stands_first c.args.asked (kept c.in_ok-world.world) c.new-progress.result
     (subst (λ s. StandsAfter any_machine s [] [] (kept c.in_ok-world.world))
     (c.in_ok-schedule.ensures.schedule ∙ ap (λ s. schedule_of s c.args.asked.clients []) c.new-generator.ensures)
-    (c.in_ok-world.ensures.one (ap (λ s. s.twin) c.in_ok-schedule.ensures.schedule)))
+    (c.in_ok-world.ensures.one (ap (λ s. s.twin) c.in_ok-schedule.ensures.schedule) (ap (λ s. s.marks) c.in_ok-schedule.ensures.schedule)))
     (ap (λ (p : Progress). p.dice.draws.state) c.new-progress.ensures
     ∙ (c.in_ok-schedule.ensures.state ∙ ap (λ s. after_draws s c.args.asked.clients) c.new-generator.ensures))
     (ap (λ (p : Progress). p.packets) c.new-progress.ensures) (ap (λ (p : Progress). p.boots) c.new-progress.ensures) (ap (λ (p : Progress). p.crashes) c.new-progress.ensures)
-
-pub summarize-requires-clause-clients : goal.summarize-requires-clause-clients
-summarize-requires-clause-clients c = client_count c.args.asked c.args.asked.events (kept c.play.new.world) c.play.new.self c.in_ok-play.ensures.done
-
-pub summarize-requires-clause-totals : goal.summarize-requires-clause-totals
-summarize-requires-clause-totals c = totals c.args.asked c.args.asked.events (kept c.play.new.world) c.play.new.self c.in_ok-play.ensures.done
-
-pub returns-clause-done : goal.returns-clause-done
-returns-clause-done c =
-    summed c.args.asked (kept c.play.new.world) c.play.new.self c.in_ok-summarize.field-0.items c.joint_traces_are_safe.ensures c.in_ok-summarize.ensures c.in_ok-play.ensures.done
