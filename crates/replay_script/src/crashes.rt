@@ -22,7 +22,7 @@ const CLIENT: u8 = 1;
 const WINDOW: u16 = 65_535;
 
 /// The schedule that a text spells.
-fn schedule_of(alloc: Global, text: &[u8]) -> Result<Schedule, ScheduleEnd>
+pub(crate) fn schedule_of(alloc: Global, text: &[u8]) -> Result<Schedule, ScheduleEnd>
     ensures playable { IfOk result IsPlayable }
     ensures clients { IfOk result (λ s. length s.clients ≤ 16) }
 {

@@ -6,18 +6,21 @@
 //!   and the report: its last LAST lines, or all of it for 0. Without lines of its own, it plays those of the one before it;
 //! - `= crash NAME` plays, for each n, the first n of the events in a new world; then the server crashes and restarts, all is delivered that is sent, and the
 //!   client continues. Printed is what it has accepted at the end, and the lengths of the reads in the log;
-//! - `= crash NAME PART` does so, and one of two loggers stops as the server crashes: 1 is the head, 2 the tail.
+//! - `= crash NAME PART` does so, and one of two loggers stops as the server crashes: 1 is the head, 2 the tail;
+//! - `= deltas NAME` plays all events, and prints of each connection that the server has live at the end by how much its numbers outside are above those inside.
 //!
 //! Among the lines of a schedule, `*COUNT LINE` means this line COUNT times.
 #![tactic(auto)]
 
 use crashes::play_crashes;
+use deltas::play_deltas;
 use ft_io::NoMemory;
 use playing::play;
 use std::alloc::Global;
 use std::io;
 
 mod crashes;
+mod deltas;
 mod playing;
 
 /// What a script says up to here: what is to be done next, and with which text.
@@ -66,6 +69,7 @@ impl Script {
         }
         match words.as_slice() {
             [_, "play", rest @ ..] => play(alloc, rest, &self.text, out),
+            [_, "deltas", name] => play_deltas(alloc, name, &self.text, out),
             [_, "crash", name] => play_crashes(alloc, name, None, &self.text, out),
             [_, "crash", name, part] => play_crashes(
                 alloc,

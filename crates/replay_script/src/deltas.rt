@@ -1,0 +1,60 @@
+//! By how much the numbers outside are above those inside, of each connection that the server has live at the end of a schedule.
+
+use crate::crashes::schedule_of;
+use ft_io::NoMemory;
+use net_schedule::World;
+use sample_servers::AnyService;
+use schedule_text::Schedule;
+use std::alloc::Global;
+
+/// Plays a schedule, and appends a line of each client whose connection is live at the end: by how much its numbers differ, modulo 2^32.
+pub fn play_deltas(
+    alloc: Global,
+    name: &str,
+    text: &[u8],
+    out: &mut Vec<u8>,
+) -> Result<(), NoMemory> {
+    let Ok(schedule) = schedule_of(alloc, text) else {
+        out.extend_from_slice(b"no schedule\n")?;
+        return Ok(());
+    };
+    let mut world: World<AnyService> = World::new(alloc, &schedule)?;
+    tell_deltas(alloc, name, &schedule, &mut world, out)
+}
+
+/// Plays the schedule's events in its world, and appends the lines at the end.
+fn tell_deltas(
+    alloc: Global,
+    name: &str,
+    schedule: &Schedule,
+    world: &mut World<AnyService>,
+    out: &mut Vec<u8>,
+) -> Result<(), NoMemory> {
+    for event in schedule.events.as_slice() {
+        if world.step(alloc, event).is_err() {
+            out.extend_from_slice(b"not played\n")?;
+            return Ok(());
+        }
+    }
+    say_deltas(alloc, name, schedule, world, out)
+}
+
+/// Appends the line of each client whose connection is live.
+fn say_deltas(
+    alloc: Global,
+    name: &str,
+    schedule: &Schedule,
+    world: &World<AnyService>,
+    out: &mut Vec<u8>,
+) -> Result<(), NoMemory> {
+    let Some(node) = world.node() else {
+        return Ok(());
+    };
+    for client in schedule.clients.as_slice() {
+        if let Some(conn) = node.conn(client.key) {
+            let line = format!(in alloc; "{name}: delta {}\n", conn.inside().delta)?;
+            out.extend_from_slice(line.as_bytes())?;
+        }
+    }
+    Ok(())
+}
