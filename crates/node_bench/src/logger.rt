@@ -1,10 +1,16 @@
 //! The log, which takes and gives datagrams.
 
+ghost use Rattle.seq_arith.specs.MarkGrammar.{IsSpellable};
+ghost use Rattle.checkpoint.specs.Value.{message_of};
 ghost use Rattle.logger_wire.specs.Value.{IsSendable};
+ghost use Rattle.reincarnate.specs.Marking.{IsAnySendable};
 
+use checkpoint::{MarkMsg, write_mark};
 use ft_io::{Key, NoMemory};
 use logger_store::{LogStore, MsgOut};
 use logger_wire::{Body, Msg, read_msg, write_msg};
+use mark_store::MarkStore;
+use reincarnate::AnyMsg;
 use seq_arith::Seq;
 use std::alloc::Global;
 use tcp_endpoint::Outbox;
@@ -20,10 +26,35 @@ pub(crate) const SERVER_ISN: Seq = Seq(5_000);
 
 pub(crate) const MSS: u16 = 1_460;
 
+/// A log without marks, or with marks.
+#[derive(Drop)]
+enum Log {
+    Plain(LogStore),
+    Marked(MarkStore),
+}
+
+impl Log {
+    /// Takes a datagram, and puts the answer, or nothing, in the place of what `answer` held.
+    fn take(
+        &mut self,
+        alloc: Global,
+        datagram: &[u8],
+        answer: &mut MsgOut,
+    ) -> Result<(), NoMemory> {
+        match self {
+            Log::Plain(log) => match read_msg(datagram) {
+                Ok(m) => log.answer(alloc, &m, answer),
+                Err(_) => Ok(()),
+            },
+            Log::Marked(log) => log.answer(alloc, datagram, answer),
+        }
+    }
+}
+
 /// A log, with room for a message and for its answer.
 #[derive(Drop)]
 pub(crate) struct Logger {
-    log: LogStore,
+    log: Log,
     datagram: [u8; 2_048],
     answer: MsgOut,
     /// How many messages it took.
@@ -31,11 +62,21 @@ pub(crate) struct Logger {
 }
 
 impl Logger {
-    /// An empty log that knows of the server's start.
-    #[tactic(auto, unfolding(seq_arith::specs::MessageGrammar::has_length, seq_arith::specs::MessageGrammar::is_sound))]
+    /// An empty log without marks that knows of the server's start.
     pub(crate) fn new(alloc: Global) -> Result<Logger, NoMemory> {
+        Logger::over(alloc, Log::Plain(LogStore::new(alloc)))
+    }
+
+    /// .. with marks.
+    pub(crate) fn with_marks(alloc: Global) -> Result<Logger, NoMemory> {
+        Logger::over(alloc, Log::Marked(MarkStore::new(alloc)))
+    }
+
+    /// .. of this kind.
+    #[tactic(auto, unfolding(seq_arith::specs::MessageGrammar::has_length, seq_arith::specs::MessageGrammar::is_sound))]
+    fn over(alloc: Global, log: Log) -> Result<Logger, NoMemory> {
         let mut logger = Logger {
-            log: LogStore::new(alloc),
+            log,
             datagram: [0; 2_048],
             answer: MsgOut::new(),
             messages: 0,
@@ -62,25 +103,45 @@ impl Logger {
         self.say(alloc, &Msg { boot: BOOT, body })
     }
 
+    /// Whether it is a log with marks.
+    pub(crate) fn has_marks(&self) -> bool {
+        matches!(self.log, Log::Marked(_))
+    }
+
     /// Spells a message and takes it.
     pub(crate) fn say(&mut self, alloc: Global, m: &Msg<'_>) -> Result<(), NoMemory>
         requires { IsSendable m.now }
     {
         let len = write_msg(m, &mut self.datagram).min(2_048);
-        if let Ok(m) = read_msg(&self.datagram[..len]) {
-            self.messages = self.messages.saturating_add(1);
-            self.log.answer(alloc, &m, &mut self.answer)?;
+        self.messages = self.messages.saturating_add(1);
+        self.log
+            .take(alloc, &self.datagram[..len], &mut self.answer)
+    }
+
+    /// Spells a message about marks and takes it.
+    pub(crate) fn say_mark(&mut self, alloc: Global, m: &MarkMsg<'_>) -> Result<(), NoMemory>
+        requires { IsSpellable (message_of m.now) }
+    {
+        let len = write_mark(m, &mut self.datagram).min(2_048);
+        self.messages = self.messages.saturating_add(1);
+        self.log
+            .take(alloc, &self.datagram[..len], &mut self.answer)
+    }
+
+    /// Spells a question of either kind and takes it.
+    pub(crate) fn ask(&mut self, alloc: Global, question: &AnyMsg<'_>) -> Result<(), NoMemory>
+        requires { IsAnySendable question.now }
+    {
+        match question {
+            AnyMsg::Log(m) => self.say(alloc, m),
+            AnyMsg::Mark(m) => self.say_mark(alloc, m),
         }
-        Ok(())
     }
 
     /// Takes a datagram.
     fn take(&mut self, alloc: Global, datagram: &[u8]) -> Result<(), NoMemory> {
-        if let Ok(m) = read_msg(datagram) {
-            self.messages = self.messages.saturating_add(1);
-            self.log.answer(alloc, &m, &mut self.answer)?;
-        }
-        Ok(())
+        self.messages = self.messages.saturating_add(1);
+        self.log.take(alloc, datagram, &mut self.answer)
     }
 
     /// What it answered last.

@@ -2,7 +2,7 @@
 //!
 //! - `node_bench connection BYTES WRITE`, for `bench/connection.sh`: eight wrapped connections, one after another ([`connection`]);
 //! - `node_bench node KIND CLIENTS SIZE ROUNDS TICKS`, for `bench/node.sh`: a server with live connections ([`node`]);
-//! - `node_bench restart SERVICE BYTES READ ROUNDS`, for `bench/restart.sh`: restarts of a connection from the log ([`restart`]).
+//! - `node_bench restart SERVICE BYTES READ ROUNDS [MARKED]`, for `bench/restart.sh`: restarts of a connection from the log ([`restart`]).
 //!
 //! Several such commands may follow one another, with the word `then` between them: the first that fails ends the program. Statuses: 0, 1 where an echo differs
 //! or a connection doesn't end, 2 for wrong words, 3 if memory runs out.

@@ -4,8 +4,11 @@ ghost use Rattle.std.specs.Prelude.{◌≤◌, ◌+◌, ◌^◌, length};
 
 use crate::STREAM;
 use crate::logger::{BOOT, Logger};
+use checkpoint::{MarkBody, MarkMsg};
 use ft_io::{Key, NoMemory};
 use logger_wire::{Body, Msg};
+use sample_servers::AnyService;
+use server_trait::Service;
 use std::alloc::Global;
 
 const KEY: Key = Key {
@@ -79,4 +82,37 @@ fn give_read(alloc: Global, logger: &mut Logger, index: u32, len: u32) -> Result
         length: len as u16,
     };
     logger.say(alloc, &Msg { boot: BOOT, body })
+}
+
+/// Logs a mark after so many reads, all of this size, of a service of this kind.
+#[tactic(auto, unfolding(seq_arith::specs::MarkGrammar::has_length, seq_arith::specs::MarkGrammar::is_sound))]
+pub(crate) fn mark(
+    alloc: Global,
+    logger: &mut Logger,
+    kind: u8,
+    read: u16,
+    reads: u32,
+) -> Result<(), NoMemory>
+    requires { read ≤ 2048 }
+{
+    let output = output_of(alloc, kind, read)?;
+    let body = MarkBody::Mark {
+        key: KEY,
+        reads: reads.max(1).min(STREAM),
+        length: reads.saturating_mul(u32::from(read)).min(STREAM),
+        made: reads.saturating_mul(output).min(STREAM),
+        state: &[],
+    };
+    logger.say_mark(alloc, &MarkMsg { boot: BOOT, body })
+}
+
+/// How many bytes of output a service of this kind writes for a read of this size.
+fn output_of(alloc: Global, kind: u8, read: u16) -> Result<u32, NoMemory>
+    requires { read ≤ 2048 }
+{
+    let text = [b'a'; 2_048];
+    let mut output = Vec::new(alloc);
+    let mut service = AnyService::fresh(alloc, kind);
+    service.take(&text[..usize::from(read)], &mut output)?;
+    Ok(output.len().min(STREAM as usize) as u32)
 }

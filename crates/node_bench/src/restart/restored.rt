@@ -1,8 +1,10 @@
 //! A restart from the log.
 
-ghost use Rattle.std.specs.Prelude.{◌≤◌};
+ghost use Rattle.std.specs.Prelude.{◌≤◌, IfSome};
+ghost use Rattle.reincarnate.specs.Marking.{IsAnySendable};
 
 use crate::logger::Logger;
+use checkpoint::read_mark;
 use ft_io::{Addr, NoMemory};
 use logger_wire::{Body, Msg, read_msg};
 use reincarnate::{AnyMsg, Asked, Entries, Fetching, LostIn, Replayed};
@@ -43,7 +45,7 @@ fn lost(_lost: LostIn) -> NoMemory {
     NoMemory
 }
 
-/// Restarts a server of this boot number from the log.
+/// Restarts a server of this boot number from the log, and from its marks if it has marks.
 pub(crate) fn restart(
     alloc: Global,
     logger: &mut Logger,
@@ -66,7 +68,8 @@ pub(crate) fn restart(
         ) => count.min(64),
         _ => 0,
     };
-    let mut fetching: Fetching<AnyService> = match asked.on_summary(alloc, kind, count, false) {
+    let marks = logger.has_marks();
+    let mut fetching: Fetching<AnyService> = match asked.on_summary(alloc, kind, count, marks) {
         Ok(fetching) => fetching,
         Err(end) => return Err(lost(end)),
     };
@@ -85,16 +88,29 @@ fn fetch(
     restored: &mut Restored,
 ) -> Result<(), NoMemory> {
     for _ in 0..QUESTIONS {
-        let Some(AnyMsg::Log(question)) = fetching.question() else {
+        let Some(question) = fetching.question() else {
             return Ok(());
         };
-        logger.say(alloc, &question)?;
+        logger.ask(alloc, &question)?;
         restored.questions = restored.questions.saturating_add(1);
-        if let Ok(message) = read_msg(logger.answer()) {
-            fetching.on_answer(alloc, &AnyMsg::Log(message))?;
+        if let Some(message) = read_any(logger.answer()) {
+            fetching.on_answer(alloc, &message)?;
         }
     }
     Ok(())
+}
+
+/// The message of either kind that these bytes are.
+fn read_any(bytes: &[u8]) -> Option<AnyMsg<'_>>
+    ensures { IfSome result (λ m. IsAnySendable m) }
+{
+    if let Ok(m) = read_msg(bytes) {
+        return Some(AnyMsg::Log(m));
+    }
+    match read_mark(bytes) {
+        Ok(m) => Some(AnyMsg::Mark(m)),
+        Err(_) => None,
+    }
 }
 
 /// Splices each connection that is restored.
