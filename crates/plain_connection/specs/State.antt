@@ -1,0 +1,33 @@
+-- A connection as its contracts see it.
+use Rattle.std.specs.Prelude.{◌≡◌, ◌≤◌, ℕ, List, ◌++◌, length, sum, max}
+use Rattle.server_trait.specs.Service.{Machine}
+use Rattle.made_output.specs.Made.{Made, made_of}
+use Rattle.ft_model.specs.Point.{Point}
+use Rattle.ft_model.specs.Reads.{Makes}
+
+pub record ConnectionState (S : Type 0) : Type 0 where
+  pub kind : ℕ
+  pub point : Point
+  pub made : Made S
+
+-- what is made is what the service makes of the reads, no more of these are answered than were made, and what they took was fetched or is taken
+pub record IsServed {S : Type 0} (service : Machine S) (c : ConnectionState S) : Type 0 where
+  pub made : c.made ≡ made_of service c.point.taken c.point.lengths
+  pub answered : c.point.reads_answered ≤ length c.point.lengths
+  pub enough : sum c.point.lengths ≤ max c.point.fetched (length c.point.taken)
+
+-- some reads were made since
+pub record HasRead {S : Type 0} (service : Machine S) (before now : ConnectionState S) : Type 0 where
+  pub news : List ℕ
+  pub kind : now.kind ≡ before.kind
+  pub point : now.point ≡ record before.point { lengths = before.point.lengths ++ news }
+  pub served : IsServed service now
+  pub continues : (rest : List ℕ) → Makes service now.point rest → Makes service before.point (news ++ rest)
+
+-- all reads that are to be made were made
+pub record ReadsOn {S : Type 0} (service : Machine S) (before now : ConnectionState S) : Type 0 where
+  pub news : List ℕ
+  pub kind : now.kind ≡ before.kind
+  pub point : now.point ≡ record before.point { lengths = before.point.lengths ++ news }
+  pub served : IsServed service now
+  pub makes : Makes service before.point news

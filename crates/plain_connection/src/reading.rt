@@ -1,0 +1,51 @@
+//! The law Reads: which reads a turn makes.
+
+ghost use Rattle.std.specs.Prelude.{◌≡◌, ◌≤◌, Some, IfSome, OnOk};
+ghost use Rattle.server_trait.specs.Service.{machine};
+ghost use Rattle.plain_connection.specs.State.{IsServed, HasRead, ReadsOn};
+
+use crate::connection::PlainConnection;
+use ft_io::NoMemory;
+use server_trait::Service;
+
+impl<S: Service> PlainConnection<S> {
+    ghost use Rattle.ft_model.specs.Reads.{next_read as next_lem, with_read};
+
+    /// The length of the next read, if one is made.
+    #[tactic(auto, unfolding(ft_model::specs::Reads::may_read))]
+    pub fn next_read(&self) -> Option<u16>
+        requires { IsServed (machine (S.started self.now.kind) S.after) self.now }
+        ensures value { result ≡ next_lem (machine (S.started self.now.kind) S.after) self.now.point }
+        ensures within { IfSome result (λ n. n ≤ 2048) }
+    {
+        if self.point.may_read(self.made(), self.released()) {
+            self.point.next_length()
+        } else {
+            None
+        }
+    }
+
+    /// The service makes the next read. After `NoMemory` the connection may only be dropped.
+    fn read(&mut self, len: u16) -> Result<(), NoMemory>
+        requires served { IsServed (machine (S.started self.old.kind) S.after) self.old }
+        requires next { next_lem (machine (S.started self.old.kind) S.after) self.old.point ≡ Some len }
+        requires short { len ≤ 2048 }
+        ensures point { OnOk result (self.new.point ≡ with_read len self.old.point) }
+        ensures kind { self.new.kind ≡ self.old.kind }
+        ensures served { OnOk result (IsServed (machine (S.started self.old.kind) S.after) self.new) }
+    {
+        self.made.read(self.point.unread(len))?;
+        self.point.add_read(len)
+    }
+
+    /// The service reads on while it may: at most 32 times. After `NoMemory` the connection may only be dropped.
+    pub fn read_on(&mut self) -> Result<(), NoMemory>
+        requires { IsServed (machine (S.started self.old.kind) S.after) self.old }
+        ensures { OnOk result (ReadsOn (machine (S.started self.old.kind) S.after) self.old self.new) }
+    {
+        while let Some(len) = self.next_read() {
+            self.read(len)?;
+        }
+        Ok(())
+    }
+}

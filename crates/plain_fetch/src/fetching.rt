@@ -1,0 +1,160 @@
+//! The entries that are fetched, the newest first.
+
+ghost use Rattle.std.specs.Prelude.{◌≡◌, [], IfOk, option_map};
+ghost use Rattle.ft_model.specs.Restart.{is_fetched};
+ghost use Rattle.logger_wire.specs.Value.{body_of};
+ghost use Rattle.plain_fetch.specs.Values.{wanted_in, IsTakenAs};
+
+use crate::fetched::{EntryHead, PlainFetched};
+use crate::wanted::Wanted;
+use ft_io::{Key, NoMemory};
+use logger_wire::Body;
+use std::alloc::Global;
+use std::marker::Model;
+
+/// The entries that are fetched so far, the newest first.
+#[derive(Debug, Drop)]
+pub struct PlainFetching {
+    entries: Vec<PlainFetched>,
+}
+
+impl Model for PlainFetching {
+    ghost use Rattle.std.specs.Prelude.{List};
+    ghost use Rattle.ft_model.specs.Restart.{Fetched};
+
+    ghost Value = { List Fetched };
+
+    ghost view = { λ f. f.entries.items };
+}
+
+/// Whether an entry of this key is fetched.
+fn is_among(entries: &[PlainFetched], key: Key) -> bool
+    ensures { result ≡ is_fetched key entries.now }
+{
+    entries.iter().any(|entry| entry.head.key == key)
+}
+
+impl PlainFetching {
+    ghost use Rattle.ft_model.specs.Restart.{wanted as wanted_lem, fetched_by, fetched_after};
+    ghost use Rattle.ft_model.specs.Restart.Wanted.{An_entry, Its_bytes, Its_lengths};
+
+    /// Nothing is fetched. Nothing is allocated.
+    pub fn new(alloc: Global) -> PlainFetching
+        ensures { result ≡ [] }
+    {
+        PlainFetching {
+            entries: Vec::new(alloc),
+        }
+    }
+
+    /// What is asked for next, of so many entries.
+    pub fn wanted(&self, count: u16) -> Option<Wanted>
+        ensures { option_map wanted_in result ≡ wanted_lem count self.now }
+    {
+        if let Some(newest) = self.entries.first()
+            && let Some(wanted) = newest.wanted()
+        {
+            return Some(wanted);
+        }
+        let index = self.entries.len();
+        if index < usize::from(count) {
+            return Some(Wanted::Entry {
+                index: index as u16,
+            });
+        }
+        None
+    }
+
+    /// Takes the entry at this index, if the answer is one and its key is new. After `NoMemory` it may only be dropped.
+    fn take_entry(&mut self, alloc: Global, index: u16, body: &Body<'_>) -> Result<bool, NoMemory>
+        ensures { IfOk result (λ fits. IsTakenAs (fetched_by (An_entry index) (body_of body.now) self.old) self.old self.new fits) }
+    {
+        let Body::EntryMsg {
+            index: found,
+            key,
+            cisn,
+            sisn,
+            mss,
+            length,
+            fin,
+            done,
+            reads,
+            acked,
+        } = *body
+        else {
+            return Ok(false);
+        };
+        if found != index || is_among(self.entries.as_slice(), key) {
+            return Ok(false);
+        }
+        let head = EntryHead {
+            key,
+            cisn,
+            sisn,
+            mss,
+            length,
+            fin: fin == 1,
+            done: done == 1,
+            reads,
+            acked,
+        };
+        self.entries.insert(0, PlainFetched::new(alloc, head))?;
+        Ok(true)
+    }
+
+    /// Takes bytes of the newest entry, if the answer brings those asked for. After `NoMemory` it may only be dropped.
+    fn take_bytes(&mut self, key: Key, offset: u32, body: &Body<'_>) -> Result<bool, NoMemory>
+        ensures { IfOk result (λ fits. IsTakenAs (fetched_by (Its_bytes key offset) (body_of body.now) self.old) self.old self.new fits) }
+    {
+        let Body::PartMsg {
+            key: found,
+            offset: at,
+            bytes,
+        } = *body
+        else {
+            return Ok(false);
+        };
+        let Some(newest) = self.entries.get_mut(0) else {
+            return Ok(false);
+        };
+        if found != key || at != offset || !newest.has_room(bytes) {
+            return Ok(false);
+        }
+        newest.add_bytes(bytes)?;
+        Ok(true)
+    }
+
+    /// Takes an answer of this boot, of so many entries, if it fits what is asked for. After `NoMemory` it may only be dropped.
+    pub fn take(&mut self, alloc: Global, count: u16, body: &Body<'_>) -> Result<bool, NoMemory>
+        ensures { IfOk result (λ fits. IsTakenAs (fetched_after (wanted_lem count self.old) (body_of body.now) self.old) self.old self.new fits) }
+    {
+        match self.wanted(count) {
+            Some(Wanted::Entry { index }) => self.take_entry(alloc, index, body),
+            Some(Wanted::Bytes { key, offset }) => self.take_bytes(key, offset, body),
+            Some(Wanted::Lengths { key, first }) => self.take_lengths(key, first, body),
+            None => Ok(false),
+        }
+    }
+
+    /// Takes lengths of the newest entry, if the answer brings those asked for. After `NoMemory` it may only be dropped.
+    fn take_lengths(&mut self, key: Key, first: u32, body: &Body<'_>) -> Result<bool, NoMemory>
+        ensures { IfOk result (λ fits. IsTakenAs (fetched_by (Its_lengths key first) (body_of body.now) self.old) self.old self.new fits) }
+    {
+        let Body::LensMsg {
+            key: found,
+            first: at,
+            lens,
+        } = *body
+        else {
+            return Ok(false);
+        };
+        let Some(newest) = self.entries.get_mut(0) else {
+            return Ok(false);
+        };
+        if found != key || at != first || !newest.has_reads_left(lens) || !newest.all_follow(lens) {
+            return Ok(false);
+        }
+        newest.add_lengths(lens)?;
+        Ok(true)
+    }
+}

@@ -1,0 +1,12 @@
+//! What a server fetches of the log when it boots, as plain values: what it asks for next, and which answers fit. It shares no code with the restart that it
+//! judges.
+#![tactic(auto)]
+
+pub use fetched::{EntryHead, PlainFetched};
+pub use fetching::PlainFetching;
+pub use wanted::Wanted;
+
+mod fetched;
+mod fetching;
+mod lengths;
+mod wanted;

@@ -1,0 +1,31 @@
+//! What is asked for next.
+
+ghost use Rattle.std.specs.Prelude.{◌≡◌};
+ghost use Rattle.ft_model.specs.Restart.{question};
+ghost use Rattle.logger_wire.specs.Value.{body_of};
+ghost use Rattle.plain_fetch.specs.Values.{wanted_in};
+
+use ft_io::Key;
+use logger_wire::Body;
+
+/// An entry of the log, bytes of one, or lengths of one.
+#[derive(Clone, Copy, Debug, PartialEq, Eq)]
+pub enum Wanted {
+    /// The entry at this index.
+    Entry { index: u16 },
+    /// Its bytes from this offset on.
+    Bytes { key: Key, offset: u32 },
+    /// The lengths of its reads from this one on.
+    Lengths { key: Key, first: u32 },
+}
+
+/// The question that asks for it.
+pub fn question<'a>(wanted: Wanted) -> Body<'a>
+    ensures { body_of result ≡ question (wanted_in wanted) }
+{
+    match wanted {
+        Wanted::Entry { index } => Body::ListMsg { index },
+        Wanted::Bytes { key, offset } => Body::BytesMsg { key, offset },
+        Wanted::Lengths { key, first } => Body::CutsMsg { key, first },
+    }
+}

@@ -1,0 +1,150 @@
+//! The law Taken: which segments count, and what their text and FIN do (RFC 9293, 3.10.7.4). And when an ACK is pending because of a segment.
+
+ghost use Rattle.std.specs.Prelude.{◌≡◌, OnOk};
+ghost use Rattle.segment_codec.specs.Value.{segment_of};
+
+use crate::point::PlainPoint;
+use ft_io::NoMemory;
+use plain_held::{Coming, Held, Stream};
+use plain_segment::{
+    accepts, ack, counted_text, counts_fin, first, has_ack, has_rst, has_syn, is_at, is_usable,
+    segment_len,
+};
+use segment_codec::PacketRef;
+use std::alloc::Global;
+use std::mem;
+
+impl PlainPoint {
+    ghost use Rattle.ft_model.specs.News.News.{Comes};
+    ghost use Rattle.ft_model.specs.Offset.{first_of, ack_of};
+    ghost use Rattle.ft_model.specs.Taken.{accepts as accepts_lem, uses as uses_lem, counts as counts_lem, taken_after, early_after, fin_after};
+    ghost use Rattle.ft_model.specs.PendingAck.{is_refused as refused_lem, needs_ack_if_acceptable as acceptable_lem, needs_ack as needs_lem};
+    ghost use Rattle.ft_model.specs.Segments.{repeats_syn as repeats_lem};
+    ghost use Rattle.ft_model.specs.ResetAndEnd.{reset_after};
+
+    /// Where a segment begins in the client's stream.
+    pub(crate) fn first(&self, segment: &PacketRef<'_>) -> i64
+        ensures { result ≡ first_of self.now.cisn (segment_of segment.now) }
+    {
+        first(self.numbers.cisn, segment)
+    }
+
+    /// Up to where a segment acknowledges the output.
+    pub(crate) fn ack(&self, segment: &PacketRef<'_>) -> i64
+        ensures { result ≡ ack_of self.now.sisn (segment_of segment.now) }
+    {
+        ack(self.numbers.sisn, segment)
+    }
+
+    /// Whether a segment is acceptable, or at the right edge.
+    #[tactic(auto, unfolding(ft_model::specs::Taken::accepts))]
+    fn accepts(&self, segment: &PacketRef<'_>) -> bool
+        ensures { result ≡ accepts_lem self.now (segment_of segment.now) }
+    {
+        let (next, room) = (self.taken_units(), self.room());
+        accepts(next, room, self.first(segment), segment_len(segment))
+    }
+
+    /// Whether the acknowledgement of a segment is used.
+    #[tactic(auto, unfolding(ft_model::specs::Taken::uses))]
+    fn uses(&self, segment: &PacketRef<'_>) -> bool
+        ensures { result ≡ uses_lem self.now (segment_of segment.now) }
+    {
+        let (next, room) = (self.taken_units(), self.room());
+        is_usable(next, room, self.first(segment), segment_len(segment))
+    }
+
+    /// Whether a segment counts.
+    #[tactic(auto, unfolding(ft_model::specs::Taken::counts))]
+    pub(crate) fn counts(&self, segment: &PacketRef<'_>) -> bool
+        ensures { result ≡ counts_lem self.now (segment_of segment.now) }
+    {
+        has_ack(segment)
+            && !has_syn(segment)
+            && !has_rst(segment)
+            && self.uses(segment)
+            && (self.syn_acked || self.ack(segment) >= 0)
+    }
+
+    /// Takes or holds the text and the FIN of a segment, where it counts. After `NoMemory` the point may only be dropped.
+    #[tactic(auto, unfolding(ft_model::specs::Taken::taken_after, ft_model::specs::Taken::early_after, ft_model::specs::Taken::fin_after, ft_model::specs::Taken::came))]
+    pub(crate) fn take(&mut self, alloc: Global, segment: &PacketRef<'_>) -> Result<(), NoMemory>
+        ensures { OnOk result (self.new ≡ record self.old {
+          taken = taken_after (Comes (segment_of segment.now)) self.old;
+          early = early_after (Comes (segment_of segment.now)) self.old;
+          fin = fin_after (Comes (segment_of segment.now)) self.old;
+        }) }
+    {
+        if !self.counts(segment) {
+            return Ok(());
+        }
+        let (first, text, has_fin) = (
+            self.first(segment),
+            counted_text(segment),
+            counts_fin(segment),
+        );
+        let stream = Stream {
+            taken: self.taken.len() as u64,
+            edge: self.receive_edge(),
+            fin: self.fin,
+        };
+        let held = mem::replace(&mut self.held, Held::new(alloc));
+        let Coming { added, held, fin } = Coming::of(alloc, stream, held, first, text, has_fin)?;
+        self.taken.extend_from_slice(added.as_slice())?;
+        self.held = held;
+        self.fin = fin;
+        Ok(())
+    }
+
+    /// Whether TCP answers an acknowledgement of less than the SYN with a RST, which isn't passed on.
+    fn is_refused(&self, segment: &PacketRef<'_>) -> bool
+        ensures { result ≡ refused_lem self.now (segment_of segment.now) }
+    {
+        !self.syn_acked && has_ack(segment) && self.ack(segment) < 0
+    }
+
+    /// Whether TCP answers an acceptable segment with an ACK.
+    fn needs_ack_if_acceptable(&self, segment: &PacketRef<'_>) -> bool
+        ensures { result ≡ acceptable_lem self.now (segment_of segment.now) }
+    {
+        if has_rst(segment) {
+            !is_at(self.taken_units(), self.first(segment), 0)
+        } else if has_syn(segment) {
+            true
+        } else {
+            !self.is_refused(segment) && segment_len(segment) > 0
+        }
+    }
+
+    /// Whether TCP answers a segment with an ACK.
+    #[tactic(auto, unfolding(ft_model::specs::PendingAck::needs_ack))]
+    pub fn needs_ack(&self, segment: &PacketRef<'_>) -> bool
+        ensures { result ≡ needs_lem self.now (segment_of segment.now) }
+    {
+        if self.accepts(segment) {
+            self.needs_ack_if_acceptable(segment)
+        } else {
+            !has_rst(segment)
+        }
+    }
+
+    /// Whether the client repeats its SYN, while neither its stream nor the output has progressed.
+    pub fn repeats_syn(&self, segment: &PacketRef<'_>) -> bool
+        ensures { result ≡ repeats_lem self.now (segment_of segment.now) }
+    {
+        has_syn(segment)
+            && !has_ack(segment)
+            && !has_rst(segment)
+            && segment.head.seq.0 == self.numbers.cisn
+            && self.taken_units() == 0
+            && self.una == 0
+    }
+
+    /// Whether the client resets the connection with a segment, or has.
+    #[tactic(auto, unfolding(ft_model::specs::ResetAndEnd::reset_after))]
+    pub fn resets(&self, segment: &PacketRef<'_>) -> bool
+        ensures { result ≡ reset_after (Comes (segment_of segment.now)) self.now }
+    {
+        self.reset || (has_rst(segment) && is_at(self.taken_units(), self.first(segment), 0))
+    }
+}

@@ -1,0 +1,95 @@
+//! The law Copy: which part of a segment is sent to the logger. Whether the segment was acceptable doesn't matter.
+
+ghost use Rattle.std.specs.Prelude.{◌≡◌};
+ghost use Rattle.segment_codec.specs.Value.{segment_of};
+ghost use Rattle.plain_point.specs.Values.{data_in, bodies_of};
+
+use crate::point::PlainPoint;
+use ft_io::Key;
+use plain_segment::{counted_text, counts_fin, is_at, part};
+use segment_codec::PacketRef;
+use seq_arith::below;
+
+/// A part of the client's stream that is sent to the logger.
+#[derive(Clone, Copy, Debug)]
+pub struct Data<'a> {
+    /// The client's address and port.
+    pub key: Key,
+    /// Where the bytes begin in the stream.
+    pub offset: u64,
+    /// SND.UNA.
+    pub acked: u64,
+    /// Whether the client's FIN follows the bytes.
+    pub fin: bool,
+    /// The bytes of text.
+    pub bytes: &'a [u8],
+}
+
+impl PlainPoint {
+    ghost use Rattle.ft_model.specs.Copy.{copy_start as start_lem, copied_text as text_lem, copies_fin as fin_lem, una_part as una_lem, own_data as own_lem};
+
+    /// Where the part of a segment's text that isn't known to be logged begins.
+    fn copy_start(&self, segment: &PacketRef<'_>) -> u64
+        ensures { result ≡ start_lem self.now (segment_of segment.now) }
+    {
+        let first = self.first(segment);
+        if first >= 0 {
+            self.answered.max(first as u64)
+        } else {
+            self.answered
+        }
+    }
+
+    /// The text from there up to the bytes taken.
+    fn copied_text<'a>(&self, segment: &PacketRef<'a>) -> &'a [u8]
+        ensures { result.now ≡ text_lem self.now (segment_of segment.now) }
+    {
+        let taken = self.taken.len() as u64;
+        let room = taken.saturating_sub(self.copy_start(segment));
+        let skipped = below(self.answered, self.first(segment));
+        part(counted_text(segment), skipped, room)
+    }
+
+    /// Whether the segment's FIN is the one that is taken, and isn't known to be logged.
+    fn copies_fin(&self, segment: &PacketRef<'_>) -> bool
+        ensures { result ≡ fin_lem self.now (segment_of segment.now) }
+    {
+        let taken = self.taken.len() as u64;
+        let len = counted_text(segment).len() as u64;
+        counts_fin(segment)
+            && self.fin
+            && is_at(taken, self.first(segment), len)
+            && self.answered <= taken
+    }
+
+    /// The part of a segment between what is answered and what is taken after the turn, if there is one.
+    #[tactic(auto, unfolding(ft_model::specs::Copy::own_data))]
+    pub fn own_data<'a>(&self, segment: &PacketRef<'a>) -> Option<Data<'a>>
+        ensures { bodies_of result ≡ own_lem self.now (segment_of segment.now) }
+    {
+        let (bytes, fin) = (self.copied_text(segment), self.copies_fin(segment));
+        if bytes.is_empty() && !fin {
+            return None;
+        }
+        Some(Data {
+            key: self.numbers.key,
+            offset: self.copy_start(segment),
+            acked: self.una,
+            fin,
+            bytes,
+        })
+    }
+
+    /// Data that only reports what is acknowledged.
+    pub fn una_data<'a>(&self) -> Data<'a>
+        ensures { data_in result ≡ una_lem self.now }
+    {
+        Data {
+            key: self.numbers.key,
+            offset: self.answered.min(self.taken.len() as u64),
+            acked: self.una,
+            fin: false,
+            bytes: &[],
+        }
+    }
+}

@@ -1,0 +1,87 @@
+//! The timer after a turn, and the end ticks of a connection that is over (RFC 9293, 3.8.1, in ticks).
+
+ghost use Rattle.std.specs.Prelude.{◌≡◌, ◌+◌, min, if◌then◌else◌};
+
+use crate::point::PlainPoint;
+
+/// The longest interval of the timer, in ticks.
+const LONGEST_INTERVAL: u64 = 64;
+
+/// How many end ticks are counted.
+const END_TICKS: u64 = 4;
+
+/// The timer before a turn, and what renews it.
+#[derive(Clone, Copy, Debug, PartialEq, Eq)]
+pub struct Timer {
+    una: u64,
+    syn_acked: bool,
+    interval: u64,
+    rest: u64,
+}
+
+impl PlainPoint {
+    ghost use Rattle.plain_point.specs.Turn.{timer_of, is_set_anew_since, interval_since, rest_since};
+
+    /// The timer before a turn.
+    pub fn timer(&self) -> Timer
+        ensures { result ≡ timer_of self.now }
+    {
+        Timer {
+            una: self.una,
+            syn_acked: self.syn_acked,
+            interval: self.interval,
+            rest: self.rest,
+        }
+    }
+
+    /// Whether the timer's past no longer counts: it didn't run, or something new was acknowledged since.
+    fn is_set_anew(&self, timer: Timer) -> bool
+        ensures { result ≡ is_set_anew_since timer self.now }
+    {
+        timer.rest == 0 || timer.una < self.una || (self.syn_acked && !timer.syn_acked)
+    }
+
+    /// The interval after a turn: 1 tick where the timer is restarted, and twice as much after each expiry.
+    fn interval_after(&self, timer: Timer, ticks: bool) -> u64
+        ensures { result ≡ interval_since ticks timer self.now }
+    {
+        if self.is_set_anew(timer) {
+            1
+        } else if ticks && timer.rest == 1 {
+            timer.interval.saturating_mul(2).min(LONGEST_INTERVAL)
+        } else {
+            timer.interval
+        }
+    }
+
+    /// The ticks left after a turn, where the timer must run or not: a full interval where it is restarted or has expired, and one less at each other tick.
+    fn rest_after(&self, timer: Timer, ticks: bool, must_run: bool) -> u64
+        ensures { result ≡ rest_since must_run ticks timer self.now }
+    {
+        if !must_run {
+            return 0;
+        }
+        if self.is_set_anew(timer) || (ticks && timer.rest == 1) {
+            return self.interval_after(timer, ticks);
+        }
+        timer.rest.saturating_sub(u64::from(ticks))
+    }
+
+    /// Sets the timer after a turn, where it must run or not.
+    pub fn set_timer(&mut self, timer: Timer, ticks: bool, must_run: bool)
+        ensures { self.new ≡ record self.old { interval = interval_since ticks timer self.old; rest = rest_since must_run ticks timer self.old } }
+    {
+        let rest = self.rest_after(timer, ticks, must_run);
+        self.interval = self.interval_after(timer, ticks);
+        self.rest = rest;
+    }
+
+    /// Counts an end tick, up to four.
+    pub fn count_end(&mut self, ends: bool)
+        ensures { self.new ≡ record self.old { end_ticks = (if ends then min 4 (self.old.end_ticks + 1) else self.old.end_ticks) } }
+    {
+        if ends {
+            self.end_ticks = self.end_ticks.saturating_add(1).min(END_TICKS);
+        }
+    }
+}

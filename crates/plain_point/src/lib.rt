@@ -1,0 +1,20 @@
+//! The point of a live connection as plain values: all that one incarnation of the server knows of it (RFC 9293, 3.3.1). Each law of a turn that doesn't concern
+//! the service is one method here, over the point before the turn. It shares no code with the server that it judges.
+#![tactic(auto)]
+
+pub use congestion::Window;
+pub use copying::Data;
+pub use ending::Timer;
+pub use point::{Numbers, PlainPoint};
+pub use sending::Sending;
+pub use telling::Kept;
+
+mod arriving;
+mod congestion;
+mod copying;
+mod ending;
+mod point;
+mod reading;
+mod segments;
+mod sending;
+mod telling;

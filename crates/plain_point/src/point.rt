@@ -1,0 +1,193 @@
+//! The point: its fields, and what is computed from them.
+
+ghost use Rattle.std.specs.Prelude.{◌≡◌, ◌≤◌, ◌+◌, ◌^◌, length};
+ghost use Rattle.plain_point.specs.Values.{numbers_in};
+
+use crate::congestion::Window;
+use ft_io::Key;
+use plain_held::Held;
+use std::alloc::Global;
+use std::marker::Model;
+
+/// The numbers with which a connection is opened.
+#[derive(Clone, Copy, Debug)]
+pub struct Numbers {
+    /// The client's address and port.
+    pub key: Key,
+    /// The client's initial number.
+    pub cisn: u32,
+    /// The server's initial number, as the client knows it.
+    pub sisn: u32,
+    /// The segment size, in bytes.
+    pub mss: u16,
+}
+
+/// The point of a live connection. Counts are of bytes or units from the beginning of a stream.
+#[derive(Debug, Drop)]
+pub struct PlainPoint {
+    pub(crate) numbers: Numbers,
+    /// The client's bytes that a restart fetched.
+    pub(crate) fetched: u64,
+    /// The client's bytes that are taken.
+    pub(crate) taken: Vec<u8>,
+    /// Whether the client's FIN is taken.
+    pub(crate) fin: bool,
+    /// The client's text after the bytes taken, and its FIN, that are held.
+    pub(crate) held: Held,
+    /// The client's units that are known to be logged.
+    pub(crate) answered: u64,
+    /// The lengths of all reads.
+    pub(crate) lengths: Vec<u16>,
+    /// How many of these are known to be logged.
+    pub(crate) reads_answered: usize,
+    /// SND.UNA.
+    pub(crate) una: u64,
+    /// SND.NXT.
+    pub(crate) sent: u64,
+    /// The client's right edge.
+    pub(crate) edge: u64,
+    /// SND.WL1.
+    pub(crate) wl1: i64,
+    /// SND.WL2.
+    pub(crate) wl2: u64,
+    /// Congestion control.
+    pub(crate) congestion: Window,
+    /// Whether the SYN is acknowledged.
+    pub(crate) syn_acked: bool,
+    /// The timer's interval, in ticks.
+    pub(crate) interval: u64,
+    /// The ticks until the timer expires; 0 while it doesn't run.
+    pub(crate) rest: u64,
+    /// The end ticks so far, up to four.
+    pub(crate) end_ticks: u64,
+    /// Whether the client reset the connection.
+    pub(crate) reset: bool,
+    /// The sum of the lengths.
+    pub(crate) read: u64,
+    /// Whether a read of length 0 was made.
+    pub(crate) closed: bool,
+}
+
+impl Model for PlainPoint {
+    ghost use Rattle.std.specs.Prelude.{◌≡◌, ◌≤◌, ◌==◌, ◌^◌, length, sum};
+    ghost use Rattle.std.specs.List.{list_any};
+    ghost use Rattle.ft_model.specs.Point.{Point};
+    ghost use Rattle.plain_point.specs.Values.{congestion_in};
+
+    ghost Value = { Point };
+
+    ghost view = { λ p. record {
+      key = p.numbers.key;
+      cisn = p.numbers.cisn;
+      sisn = p.numbers.sisn;
+      mss = p.numbers.mss;
+      fetched = p.fetched;
+      taken = p.taken.items;
+      fin = p.fin;
+      early = p.held;
+      answered = p.answered;
+      lengths = p.lengths.items;
+      reads_answered = p.reads_answered;
+      una = p.una;
+      sent = p.sent;
+      edge = p.edge;
+      wl1 = p.wl1;
+      wl2 = p.wl2;
+      congestion = congestion_in p.congestion;
+      syn_acked = p.syn_acked;
+      interval = p.interval;
+      rest = p.rest;
+      end_ticks = p.end_ticks;
+      reset = p.reset;
+    } };
+
+    ghost invariant = { λ p. (p.read ≡ sum p.lengths.items) × (p.closed ≡ list_any (λ n. n == 0) p.lengths.items) × (p.reads_answered ≤ length p.lengths.items)
+        × (p.answered ≤ 2 ^ 62) };
+}
+
+impl PlainPoint {
+    ghost use Rattle.ft_model.specs.Point.{taken_units as units_lem, acknowledgement as acknowledgement_lem, receive_edge as edge_lem, advertised_edge as advertised_lem, room as room_lem};
+    ghost use Rattle.ft_model.specs.Opening.{point_opened};
+    ghost use Rattle.ft_model.specs.Segments.{window as window_lem};
+
+    /// The point of a new connection: nothing is taken, and nothing may be sent yet. Nothing is allocated.
+    pub fn opened(alloc: Global, numbers: &Numbers) -> PlainPoint
+        ensures { result ≡ point_opened (numbers_in numbers.now) }
+    {
+        PlainPoint {
+            numbers: *numbers,
+            fetched: 0,
+            taken: Vec::new(alloc),
+            fin: false,
+            held: Held::new(alloc),
+            answered: 0,
+            lengths: Vec::new(alloc),
+            reads_answered: 0,
+            una: 0,
+            sent: 0,
+            edge: 0,
+            wl1: 0,
+            wl2: 0,
+            congestion: Window::initial(numbers.mss),
+            syn_acked: false,
+            interval: 1,
+            rest: 0,
+            end_ticks: 0,
+            reset: false,
+            read: 0,
+            closed: false,
+        }
+    }
+
+    /// RCV.NXT: the units taken.
+    pub fn taken_units(&self) -> u64
+        ensures value { result ≡ units_lem self.now }
+        ensures within { result ≤ 2 ^ 63 }
+    {
+        self.taken.len() as u64 + u64::from(self.fin)
+    }
+
+    /// What may be acknowledged: the units that are taken and known to be logged.
+    pub fn acknowledgement(&self) -> u64
+        ensures value { result ≡ acknowledgement_lem self.now }
+        ensures within { result ≤ 2 ^ 63 }
+    {
+        self.taken_units().min(self.answered)
+    }
+
+    /// The receive edge: no byte from here on is taken.
+    pub fn receive_edge(&self) -> u64
+        ensures value { result ≡ edge_lem self.now }
+        ensures within { result ≤ 2 ^ 24 }
+    {
+        self.fetched
+            .max(self.read)
+            .saturating_add(65_535)
+            .min(1 << 24)
+    }
+
+    /// The edge that TCP advertises: a FIN that is taken has used up one number.
+    pub fn advertised_edge(&self) -> u64
+        ensures value { result ≡ advertised_lem self.now }
+        ensures within { result ≤ 2 ^ 24 + 1 }
+    {
+        self.receive_edge() + u64::from(self.fin)
+    }
+
+    /// RCV.WND.
+    pub fn room(&self) -> u64
+        ensures value { result ≡ room_lem self.now }
+        ensures within { result ≤ 2 ^ 24 + 1 }
+    {
+        self.advertised_edge().saturating_sub(self.taken_units())
+    }
+
+    /// The window that a segment advertises: from what is acknowledged up to the edge.
+    pub fn window(&self) -> u16
+        ensures { result ≡ window_lem self.now }
+    {
+        self.advertised_edge()
+            .saturating_sub(self.acknowledgement())
+            .min(65_535) as u16
+    }
+}

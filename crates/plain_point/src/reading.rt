@@ -1,0 +1,74 @@
+//! The law Reads: how much the service reads next, and whether it may.
+
+ghost use Rattle.std.specs.Prelude.{◌≡◌, ◌≤◌, ◌+◌, OnOk, IfSome, max, sum, length, take, drop};
+
+use crate::point::PlainPoint;
+use ft_io::NoMemory;
+use plain_segment::part;
+
+/// The longest read, in bytes.
+const LONGEST_READ: u64 = 2_048;
+
+/// Most output of a service that may still read, in bytes: the longest stream less the output of one read.
+const MOST_MADE: u64 = (1 << 24) - (1 << 20);
+
+/// The most unanswered reads of a service that may still read, and one more.
+const UNANSWERED: usize = 32;
+
+impl PlainPoint {
+    ghost use Rattle.ft_model.specs.Reads.{next_length as length_lem, with_read};
+    ghost use Rattle.plain_point.specs.Turn.{may_read_at};
+
+    /// How many reads are known to be logged.
+    pub fn reads_answered(&self) -> usize
+        ensures { result ≡ self.now.reads_answered }
+    {
+        self.reads_answered
+    }
+
+    /// How much there is to read next, if anything: 0 for the read that closes.
+    #[tactic(auto, unfolding(ft_model::specs::Reads::next_length))]
+    pub fn next_length(&self) -> Option<u16>
+        ensures value { result ≡ length_lem self.now }
+        ensures within { IfSome result (λ n. n ≤ 2048) }
+    {
+        let taken = self.taken.len() as u64;
+        if self.read < self.fetched {
+            Some((self.fetched - self.read).min(LONGEST_READ) as u16)
+        } else if self.read < taken {
+            Some((taken - self.read).min(LONGEST_READ) as u16)
+        } else if self.fin && !self.closed {
+            Some(0)
+        } else {
+            None
+        }
+    }
+
+    /// Whether the service may read on, where all its reads have made so many bytes of output, and the answered ones so many.
+    pub fn may_read(&self, made: u64, released: u64) -> bool
+        ensures { result ≡ may_read_at made released self.now }
+    {
+        let room = released.min(self.una.saturating_add(65_535));
+        made <= room && made <= MOST_MADE && self.lengths.len() - self.reads_answered < UNANSWERED
+    }
+
+    /// So many of the bytes that aren't read.
+    pub fn unread(&self, len: u16) -> &[u8]
+        ensures { result.now ≡ take len (drop (sum self.now.lengths) self.now.taken) }
+    {
+        part(&self.taken, self.read, u64::from(len))
+    }
+
+    /// The service reads so much, which is there to be read. After `NoMemory` the point may only be dropped.
+    pub fn add_read(&mut self, len: u16) -> Result<(), NoMemory>
+        requires { sum self.old.lengths + len ≤ max self.old.fetched (length self.old.taken) }
+        ensures { OnOk result (self.new ≡ with_read len self.old) }
+    {
+        self.lengths.push(len)?;
+        self.read += u64::from(len);
+        if len == 0 {
+            self.closed = true;
+        }
+        Ok(())
+    }
+}

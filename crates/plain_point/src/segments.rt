@@ -1,0 +1,71 @@
+//! What is sent to the client: the laws Acknowledgement and Window, in the one header that all segments share.
+
+ghost use Rattle.std.specs.Prelude.{◌≡◌, ◌≤◌, ◌^◌, Some};
+ghost use Rattle.seq_arith.specs.Value.{said};
+ghost use Rattle.segment_codec.specs.Value.{segment_of};
+
+use crate::point::PlainPoint;
+use ft_io::Addr;
+use plain_segment::number_of;
+use segment_codec::{Head, PacketRef};
+use seq_arith::{ACK, SYN, Seq};
+
+/// The segment size that a SYN-ACK offers, in bytes.
+const OFFERED_SIZE: u16 = 1_460;
+
+impl PlainPoint {
+    ghost use Rattle.ft_model.specs.Segments.{head_to, segment_at as segment_lem, syn_ack as syn_lem, bare_segment as bare_lem};
+
+    /// The header of a segment to the client: it acknowledges exactly what is both taken and known to be logged.
+    fn head_to(&self, server: Addr, seq: u32, flags: u8, mss: Option<u16>) -> Head
+        ensures { said result ≡ head_to server self.now seq flags mss }
+    {
+        Head {
+            src: server.ip,
+            dst: self.numbers.key.ip,
+            sport: server.port,
+            dport: self.numbers.key.port,
+            seq: Seq(seq),
+            ack: Seq(number_of(self.numbers.cisn, self.acknowledgement())),
+            flags,
+            window: self.window(),
+            mss,
+        }
+    }
+
+    /// A segment at an offset of the output.
+    pub fn segment_at<'a>(
+        &self,
+        server: Addr,
+        offset: u64,
+        flags: u8,
+        payload: &'a [u8],
+    ) -> PacketRef<'a>
+        requires { offset ≤ 2 ^ 63 }
+        ensures { segment_of result ≡ segment_lem server self.now offset flags payload.now }
+    {
+        let seq = number_of(self.numbers.sisn, offset);
+        PacketRef {
+            head: self.head_to(server, seq, flags, None),
+            payload,
+        }
+    }
+
+    /// The SYN-ACK, with the logged numbers.
+    pub fn syn_ack<'a>(&self, server: Addr) -> PacketRef<'a>
+        ensures { segment_of result ≡ syn_lem server self.now }
+    {
+        PacketRef {
+            head: self.head_to(server, self.numbers.sisn, SYN | ACK, Some(OFFERED_SIZE)),
+            payload: &[],
+        }
+    }
+
+    /// The segment without data, at SND.NXT.
+    pub fn bare_segment<'a>(&self, server: Addr) -> PacketRef<'a>
+        requires { self.now.sent ≤ 2 ^ 63 }
+        ensures { segment_of result ≡ bare_lem server self.now }
+    {
+        self.segment_at(server, self.sent, ACK, &[])
+    }
+}
