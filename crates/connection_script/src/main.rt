@@ -1,12 +1,12 @@
-//! `connection_script`: plays the first path, brings connections into each of their situations and hands hostile datagrams to them there, fills the stream of
-//! one, and brings the output of two to its limits. It prints a line for each finding. Statuses: 0, 1 where a rule is broken, 3 without memory.
+//! `connection_script`: brings connections into each of their situations and hands hostile datagrams to them there, fills the stream of one, brings the output of
+//! two to its limits, and restarts others from a log. It prints a line for each finding. Statuses: 0, 1 where a rule is broken, 3 without memory.
 #![tactic(auto)]
 
 use ft_io::NoMemory;
 use hostile::{Tally, attack};
 use limits::{make_all, make_unacknowledged};
 use meter::{Filled, fill_all};
-use path::{letters, play_path};
+use restarts::play_all;
 use segment_codec::Head;
 use situations::{SITUATIONS, Situation, arranged};
 use std::alloc::Global;
@@ -18,8 +18,8 @@ use wrapped_conn::{ConnStage, TurnOut};
 mod hostile;
 mod limits;
 mod meter;
-mod path;
 mod peers;
+mod restarts;
 mod rules;
 mod situations;
 
@@ -61,6 +61,16 @@ fn play<R: Print + AllocGlobal>(
     Ok(Ok(tally.broken.is_none()))
 }
 
+/// The letters of the flags that a connection sends.
+fn letters(flags: u8) -> &'static str {
+    match flags {
+        16 => "A",
+        17 => "AF",
+        18 => "AS",
+        _ => "others",
+    }
+}
+
 fn tell_segment(rt: &impl Print, what: &str, head: Option<Head>) -> io::Result<()> {
     match head {
         Some(head) => {
@@ -99,10 +109,6 @@ fn without_memory(rt: &impl Eprint) -> io::Result<ExitCode> {
 }
 
 fn main(rt: HostRuntime) -> io::Result<ExitCode> {
-    let Ok(path) = play_path(rt.alloc()) else {
-        return without_memory(&rt);
-    };
-    print!(rt; "{path}")?;
     let mut whole = true;
     for situation in SITUATIONS {
         let Ok(kept) = play(&rt, situation)? else {
@@ -121,5 +127,9 @@ fn main(rt: HostRuntime) -> io::Result<ExitCode> {
         return without_memory(&rt);
     };
     tell_limits(&rt, unacknowledged, all)?;
+    let Ok(restarts) = play_all(rt.alloc()) else {
+        return without_memory(&rt);
+    };
+    print!(rt; "{restarts}")?;
     Ok(ExitCode::from(u8::from(!whole)))
 }

@@ -22,5 +22,3 @@ mod host_desk;
 mod mem_desk;
 mod mem_disk;
 mod shelf_end;
-#[cfg(test)]
-mod tests;

@@ -84,5 +84,8 @@ pub fn bind_three(alloc: Global, fails: Vec<u32>, said: &mut Said) -> Result<(),
 fn say_counts(link: &MemLink, said: &mut Said) -> Result<(), NoMemory> {
     said.count(link.faults())?;
     said.count(link.bind_faults())?;
-    said.count(link.told().map_or(0, |calls| calls.len() as u64))
+    match link.told() {
+        Some(calls) => said.count(calls.len() as u64),
+        None => said.count(0),
+    }
 }

@@ -5,11 +5,13 @@
 use ft_io::{NoMemory, WriteSink, write_all};
 use said::Said;
 use std::alloc::Global;
+use std::fs::{File, Files};
 use std::io;
 use std::net::Net;
 use std::process::Processes;
 use std::time::Clock;
 
+mod files;
 mod links;
 mod memory;
 mod processes;
@@ -35,7 +37,7 @@ fn main(rt: HostRuntime) -> io::Result<()> {
 }
 
 /// Plays a line, and says what came of it.
-fn play<R: Net + Clock + Processes>(
+fn play<R: Net + Clock + Files<File = File> + Processes>(
     system: &R,
     alloc: Global,
     line: &str,
@@ -63,6 +65,9 @@ fn play<R: Net + Clock + Processes>(
         b"clock" => ticks::by_the_list(system, alloc, rest, said)?,
         b"silence" => ticks::in_silence(system, said)?,
         b"traffic" => ticks::in_traffic(system, said)?,
+        b"file" => files::keep_file(system, said)?,
+        b"names" => files::open_names(system, said)?,
+        b"desks" => files::use_desks(system, said)?,
         b"exchange" => ticks::in_exchange(system, said)?,
         _ => said.word(b"no such line")?,
     }

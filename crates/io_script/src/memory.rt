@@ -25,7 +25,7 @@ pub fn read_once(alloc: Global, said: &mut Said) -> Result<(), NoMemory> {
     said.word(source.rest())?;
     let mut buf = [b'.'; 3];
     let read = source.read(&mut buf);
-    said.answer(read.map(|n| n as i64))?;
+    said.moved(read)?;
     said.word(&buf)?;
     said.word(source.rest())
 }
@@ -49,16 +49,19 @@ pub fn start_two(alloc: Global, fails: Vec<u32>, said: &mut Said) -> Result<(), 
     let words = vec![in alloc; String::from_str(alloc, "echo")?]?;
     let first = spawner.start(&words);
     let second = spawner.start(&[]);
-    said.answer(first.map(i64::from))?;
-    said.answer(second.map(i64::from))?;
+    said.started(first)?;
+    said.started(second)?;
     if let Ok(child) = first {
         let status = spawner.wait(child);
-        said.answer(status.map(i64::from))?;
+        said.ended(status)?;
     }
     if let Ok(child) = second {
         let status = spawner.wait(child);
-        said.answer(status.map(i64::from))?;
+        said.ended(status)?;
     }
     said.count(spawner.faults())?;
-    said.count(spawner.told().map_or(0, |calls| calls.len() as u64))
+    match spawner.told() {
+        Some(calls) => said.count(calls.len() as u64),
+        None => said.count(0),
+    }
 }

@@ -21,14 +21,14 @@ pub fn run_three<R: Processes>(system: &R, alloc: Global, said: &mut Said) -> Re
     let ends = words_of(alloc, "/bin/sh", "cat; echo seen; exit 7")?;
     let killed = words_of(alloc, "/bin/sh", "kill -9 $$")?;
     let mut spawner = ProcessSpawner::new(system, alloc);
-    said.answer(spawner.start(&[]).map(i64::from))?;
-    said.answer(spawner.start(&missing).map(i64::from))?;
+    said.started(spawner.start(&[]))?;
+    said.started(spawner.start(&missing))?;
     for words in [&ends, &killed] {
         let child = spawner.start(words);
-        said.answer(child.map(i64::from))?;
+        said.started(child)?;
         if let Ok(child) = child {
             let status = spawner.wait(child);
-            said.answer(status.map(i64::from))?;
+            said.ended(status)?;
         }
     }
     said.count(spawner.faults())

@@ -49,17 +49,38 @@ impl Said {
         self.word(text.as_bytes())
     }
 
-    /// Adds what a call answered: its number, or `failed`.
-    pub fn answer(&mut self, answer: Result<i64, Failed>) -> Result<(), NoMemory> {
-        match answer {
-            Ok(number) => self.number(number),
+    /// Adds how many bytes a call moved, or `failed`.
+    pub fn moved(&mut self, moved: Result<usize, Failed>) -> Result<(), NoMemory> {
+        match moved {
+            Ok(count) => self.count(count as u64),
+            Err(Failed) => self.word(b"failed"),
+        }
+    }
+
+    /// Adds the number of a child that was started, or `failed`.
+    pub fn started(&mut self, started: Result<u32, Failed>) -> Result<(), NoMemory> {
+        match started {
+            Ok(child) => self.count(u64::from(child)),
+            Err(Failed) => self.word(b"failed"),
+        }
+    }
+
+    /// Adds the exit status of a child, or `failed`.
+    pub fn ended(&mut self, ended: Result<i32, Failed>) -> Result<(), NoMemory> {
+        match ended {
+            Ok(status) => self.number(i64::from(status)),
             Err(Failed) => self.word(b"failed"),
         }
     }
 
     /// Adds whether a call succeeded.
     pub fn outcome(&mut self, outcome: Result<(), Failed>) -> Result<(), NoMemory> {
-        self.word(if outcome.is_ok() { b"done" } else { b"failed" })
+        self.done(outcome.is_ok())
+    }
+
+    /// Adds `done` or `failed`.
+    pub fn done(&mut self, is_done: bool) -> Result<(), NoMemory> {
+        self.word(if is_done { b"done" } else { b"failed" })
     }
 
     /// Finishes the line.

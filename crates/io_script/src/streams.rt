@@ -52,7 +52,7 @@ pub fn read_four(said: &mut Said) -> Result<(), NoMemory> {
     for _ in 0..4 {
         let mut buf = [b'.'; 3];
         let read = source.read(&mut buf);
-        said.answer(read.map(|n| n as i64))?;
+        said.moved(read)?;
         said.word(&buf)?;
         said.count(source.faults())?;
     }
@@ -65,7 +65,7 @@ pub fn write_four(said: &mut Said) -> Result<(), NoMemory> {
     let mut sink = WriteSink::new(failing_once(room.as_mut_slice()));
     for piece in [b"x".as_slice(), b"abcdef", b"def", b""] {
         let written = sink.write(piece);
-        said.answer(written.map(|n| n as i64))?;
+        said.moved(written)?;
         said.count(sink.faults())?;
     }
     drop(sink);

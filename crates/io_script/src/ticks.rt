@@ -125,7 +125,10 @@ pub fn in_traffic<R: Net + Clock>(system: &R, said: &mut Said) -> Result<(), NoM
         receive_past_ticks(&mut link, &mut came);
         thread::sleep(system, Duration::from_micros(500));
     }
-    let millis = begun.elapsed(system).map_or(0, |time| time.as_millis());
+    let millis = match begun.elapsed(system) {
+        Ok(time) => time.as_millis(),
+        Err(_) => 0,
+    };
     if came.datagrams == 2000 && came.ticks >= 20 && u128::from(came.ticks) <= 1 + millis / 15 {
         return said.word(b"2000 datagrams, 20 ticks or more, at most one in 15 ms");
     }
@@ -149,7 +152,10 @@ pub fn in_exchange<R: Net + Clock>(system: &R, said: &mut Said) -> Result<(), No
         receive_past_ticks(&mut link, &mut came);
         thread::sleep(system, Duration::from_micros(500));
     }
-    let millis = begun.elapsed(system).map_or(0, |time| time.as_millis());
+    let millis = match begun.elapsed(system) {
+        Ok(time) => time.as_millis(),
+        Err(_) => 0,
+    };
     if came.datagrams == 2000 && u128::from(came.ticks) <= 1 + millis / 1000 {
         return said.word(b"2000 datagrams, at most one tick a second");
     }

@@ -7,5 +7,3 @@ pub use journal::{CLOSED, Journal, KeepEnd, OPEN};
 
 mod journal;
 pub mod laws;
-#[cfg(test)]
-mod tests;

@@ -6,12 +6,18 @@
 //!
 //! `log_bench marks READS ROUNDS` fills a log with marks with READS reads, at most 2^20, of 15 and 17 bytes in turn, and a mark after each 64. It prints the most
 //! bytes that were kept, and the minimum time that one of the first 16 and one of the last 16 marks took in nanoseconds, over all rounds.
+//!
+//! `log_bench twin WHO COUNT BURST`, for `bench/twin.sh`, gives messages to one log or to a head and a tail: WHO is `one` or `pair`. COUNT messages, at most
+//! 100,000, are Data of 100 bytes, one after another in one entry. After each BURST of them a pair's tail is given all that the head has forwarded, in order, and
+//! the head all that the tail has confirmed. It prints how many messages there were, how many Forwards, and how many answers.
+//!
+//! Several such commands may follow one another, with the word `then` between them.
 #![tactic(auto)]
 
 ghost use Rattle.std.specs.Prelude.{◌≡◌, ◌≤◌, ◌<◌, ◌+◌, ◌^◌, length};
 ghost use Rattle.logger_wire.specs.Value.{IsSendable};
 
-use anyhow::{Context, Result, ensure};
+use anyhow::{Context, Result, bail, ensure};
 use ft_io::{Key, NoMemory};
 use logger_store::{LogStore, MsgOut};
 use logger_wire::{Body, Msg, read_msg, write_msg};
@@ -19,8 +25,11 @@ use mark_store::MarkStore;
 use marking::{Seen, run_marks};
 use std::alloc::Global;
 use std::env;
+use std::time::Clock;
+use twins::run_twins;
 
 mod marking;
+mod twins;
 
 const KEY: Key = Key {
     ip: 0xC000_0201,
@@ -40,25 +49,50 @@ const STREAM: u32 = 1 << 24;
 
 fn main(rt: HostRuntime) -> Result<()> {
     let words: Vec<String> = env::args(&rt)?.skip(1).collect(rt.alloc())?;
-    if let [word, reads, rounds] = words.as_slice()
-        && word.as_str() == "marks"
-    {
-        let reads: u32 = reads.as_str().parse().context("READS")?;
-        let rounds: u32 = rounds.as_str().parse().context("ROUNDS")?;
-        let Seen { first, last, kept } = run_marks(&rt, rt.alloc(), reads, rounds)?;
-        println!(rt; "at most {kept} bytes kept; the first marks {first} ns, the last {last} ns")?;
-        return Ok(());
+    let words: Vec<&str> = words.iter().map(|word| word.as_str()).collect(rt.alloc())?;
+    for command in words.as_slice().split(|word| *word == "then") {
+        run(&rt, command)?;
     }
-    let [reads, bytes, rounds, rest @ ..] = words.as_slice() else {
-        ensure!(false, "log_bench READS BYTES ROUNDS");
-        return Ok(());
-    };
-    let bytes: u32 = bytes.as_str().parse().context("BYTES")?;
-    let rounds: u32 = rounds.as_str().parse().context("ROUNDS")?;
-    ensure!(bytes <= STREAM, "BYTES is at most 2^24");
-    let tally = play(rt.alloc(), reads.as_str(), bytes, rounds, !rest.is_empty())?;
-    println!(rt; "{} messages, {}", tally.messages, tally.total)?;
     Ok(())
+}
+
+/// Does what the words of one command ask for.
+fn run<R: AllocGlobal + Print + Clock>(rt: &R, command: &[&str]) -> Result<()> {
+    match command {
+        ["marks", words @ ..] => {
+            let Seen { first, last, kept } = run_marks(rt, rt.alloc(), words)?;
+            println!(rt;
+                "at most {kept} bytes kept; the first marks {first} ns, the last {last} ns"
+            )?;
+        }
+        ["twin", words @ ..] => {
+            let tally = run_twins(rt.alloc(), words)?;
+            println!(rt;
+                "{} messages, {} forwarded, {} answered",
+                tally.messages, tally.forwards, tally.answers
+            )?;
+        }
+        [reads, bytes, rounds, rest @ ..] => {
+            let tally = run_plain(rt.alloc(), reads, bytes, rounds, !rest.is_empty())?;
+            println!(rt; "{} messages, {}", tally.messages, tally.total)?;
+        }
+        _ => bail!("log_bench marks|twin|READS WORD.."),
+    }
+    Ok(())
+}
+
+/// Plays the rounds of these words.
+fn run_plain(
+    alloc: Global,
+    reads: &str,
+    bytes: &str,
+    rounds: &str,
+    is_marked: bool,
+) -> Result<Tally> {
+    let bytes: u32 = bytes.parse().context("BYTES")?;
+    let rounds: u32 = rounds.parse().context("ROUNDS")?;
+    ensure!(bytes <= STREAM, "BYTES is at most 2^24");
+    play(alloc, reads, bytes, rounds, is_marked)
 }
 
 /// So many rounds, to a log with marks or to one without.

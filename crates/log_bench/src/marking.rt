@@ -4,7 +4,7 @@ ghost use Rattle.std.specs.Prelude.{◌≤◌, ◌+◌, ◌^◌, length};
 ghost use Rattle.logger_wire.specs.Value.{IsSendable};
 
 use crate::KEY;
-use anyhow::{Result, bail, ensure};
+use anyhow::{Context, Result, bail, ensure};
 use checkpoint::{MarkBody, MarkMsg, write_mark};
 use ft_io::NoMemory;
 use logger_store::MsgOut;
@@ -130,12 +130,12 @@ pub(crate) struct Seen {
 }
 
 /// Gives a new log so many reads with their marks, so many times.
-pub(crate) fn run_marks<C: Clock>(
-    clock: &C,
-    alloc: Global,
-    reads: u32,
-    rounds: u32,
-) -> Result<Seen> {
+pub(crate) fn run_marks<C: Clock>(clock: &C, alloc: Global, words: &[&str]) -> Result<Seen> {
+    let [reads, rounds] = words else {
+        bail!("log_bench marks READS ROUNDS");
+    };
+    let reads: u32 = reads.parse().context("READS")?;
+    let rounds: u32 = rounds.parse().context("ROUNDS")?;
     let mut seen = Seen {
         first: u128::MAX,
         last: u128::MAX,

@@ -1,4 +1,5 @@
-//! `log_script`: gives a log the datagrams of a script, which comes from standard input, and prints what it answers. The lines of a script:
+//! `log_script`: gives a log, or two that act as one, the datagrams of a script, which comes from standard input, and prints what they answer. The lines of a
+//! script:
 //!
 //! - `log` begins with an empty log, and `# ..` is printed as it is;
 //! - `in HEX` gives a datagram; the answer is printed as `out HEX`, or `out -` where there is none;
@@ -10,6 +11,16 @@
 //!   prints how many bytes it keeps of the entry at place I;
 //! - `random COUNT SEED` gives COUNT datagrams that are drawn from SEED, and prints how many of them were refused, answered and passed over, and a
 //!   number that follows from all answers.
+//!
+//! Of two loggers, where a PART is `head` or `tail`:
+//!
+//! - `pair` begins with a new head and a new tail;
+//! - `PART server HEX` and `PART other HEX` give a datagram that came from that side, and `PART sent N` gives what the other part sent as its Nth datagram,
+//!   counted from 1. What is sent is printed after the part, in order, each datagram as `server HEX` or `other HEX`; `-` if nothing is sent;
+//! - `PART log` prints the part's number, and its log's boot number and count of entries;
+//! - `stop 1` stops the head and `stop 2` the tail, and the other is informed, unless one has stopped before;
+//! - `lists COUNT LENGTH SEED` plays COUNT lists of LENGTH deliveries that are drawn from SEED, each with a new pair, and prints how many datagrams were sent to
+//!   the server and to the other, the sum of all numbers at the ends, and a number that depends on all bytes.
 #![tactic(auto)]
 
 use ft_io::NoMemory;
@@ -23,11 +34,14 @@ use std::alloc::Global;
 use std::io;
 use test_data::{bytes_of_hex, word_of_bytes};
 use trimming::trim_at;
+use twin_log::TwinOut;
+use twins::{Pair, play_pair};
 
 mod marking;
 mod random;
 mod readers;
 mod trimming;
+mod twins;
 
 /// What became of a datagram.
 #[derive(Clone, Copy, Debug, PartialEq, Eq)]
@@ -68,11 +82,24 @@ fn answer_to(alloc: Global, log: &mut TrimStore, text: &str) -> Result<String, N
     Ok(format!(in alloc; "out {answer}")?)
 }
 
-/// The logs of a script: one that is trimmed by lines, and one with marks.
+/// The logs of a script: one that is trimmed by lines, one with marks, and a pair, with what it has sent.
 #[derive(Drop)]
 struct Logs {
     trimmed: TrimStore,
     marked: MarkStore,
+    pair: Pair,
+    sent: TwinOut,
+}
+
+impl Logs {
+    fn new(alloc: Global) -> Result<Logs, NoMemory> {
+        Ok(Logs {
+            trimmed: TrimStore::new(alloc),
+            marked: MarkStore::new(alloc),
+            pair: Pair::new(alloc)?,
+            sent: TwinOut::new(alloc)?,
+        })
+    }
 }
 
 /// Plays a line of the log with marks, and answers what it prints; None where it is another line.
@@ -131,7 +158,10 @@ fn play_trimmed(
 /// Plays a line, and answers what it prints.
 fn play(alloc: Global, logs: &mut Logs, line: &str) -> Result<String, NoMemory> {
     let (word, rest) = line.split_once(' ').unwrap_or((line, ""));
-    match play_marked(alloc, &mut logs.marked, word, rest)? {
+    if let Some(said) = play_marked(alloc, &mut logs.marked, word, rest)? {
+        return Ok(said);
+    }
+    match play_pair(alloc, &mut logs.pair, word, rest, &mut logs.sent)? {
         Some(said) => Ok(said),
         None => play_trimmed(alloc, &mut logs.trimmed, line, word, rest),
     }
@@ -145,10 +175,17 @@ fn play_again(alloc: Global, logs: &mut Logs, line: &str) -> Result<String, NoMe
     }
 }
 
+/// Empty logs. Where memory is refused they are made once more.
+fn begin_again(alloc: Global) -> Result<Logs, NoMemory> {
+    match Logs::new(alloc) {
+        Ok(logs) => Ok(logs),
+        Err(NoMemory) => Logs::new(alloc),
+    }
+}
+
 fn main(rt: HostRuntime) -> io::Result<()> {
-    let mut logs = Logs {
-        trimmed: TrimStore::new(rt.alloc()),
-        marked: MarkStore::new(rt.alloc()),
+    let Ok(mut logs) = begin_again(rt.alloc()) else {
+        return println!(rt; "no memory");
     };
     for line in rt.lines(rt.alloc()) {
         let Ok(text) = play_again(rt.alloc(), &mut logs, line?.as_str()) else {

@@ -16,8 +16,6 @@ mod layout;
 mod places;
 mod reading;
 mod records;
-#[cfg(test)]
-mod tests;
 mod writing;
 
 /// A message, with the boot number of the server that sends it or that it answers.

@@ -11,9 +11,6 @@ use server_trait::{Next, Service};
 use std::alloc::Global;
 use std::marker::Model;
 
-#[cfg(test)]
-mod tests;
-
 /// How many bytes of output there are after some reads, and whether the service has closed by then.
 #[derive(Clone, Copy, Debug, PartialEq, Eq)]
 pub struct End {

@@ -3,6 +3,8 @@
 //!
 //! - `# ..` is printed as it is;
 //! - `load SERVICE HEX` loads a service, and prints the form that it then has, or `none`;
+//! - `play SERVICE HEX..` gives a service these chunks, and prints whether it closes and what it writes, or how many bytes and a number that follows from them;
+//!   `resume FORM HEX..` gives them to Line that is loaded from this form;
 //! - `runs SERVICE COUNT SEED` plays COUNT runs of a service that are drawn from SEED, and saves it after each that hasn't closed. It prints how many have
 //!   closed and how many were read back, how many forms were refused once they were damaged, and a number that follows from all forms;
 //! - `mark HEX` reads a message about marks, and prints what it says, or which test it fails; after it `again` if writing it gives the same bytes;
@@ -29,6 +31,8 @@ fn play(alloc: Global, line: &str) -> Result<String, NoMemory> {
     match word.as_bytes() {
         b"#" => Ok(format!(in alloc; "{line}")?),
         b"load" => services::load_line(alloc, rest),
+        b"play" => services::play_line(alloc, rest),
+        b"resume" => services::resume_line(alloc, rest),
         b"runs" => services::runs_line(alloc, rest),
         b"mark" => messages::mark_line(alloc, rest),
         b"random" => messages::random_line(alloc, rest),

@@ -3,7 +3,7 @@
 use crate::count_and_seed;
 use counter_service::Counter;
 use ft_io::NoMemory;
-use sample_servers::AnyService;
+use sample_servers::{AnyService, Line};
 use server_trait::{CHUNK_LIMIT, Next, Saved, Service};
 use std::alloc::Global;
 use test_data::{Draws, bytes_of_word, hashed, word_of_bytes};
@@ -52,6 +52,70 @@ fn form_of<S: Saved>(alloc: Global, service: &S) -> Result<Vec<u8>, NoMemory> {
     let mut form = Vec::new(alloc);
     service.save(&mut form)?;
     Ok(form)
+}
+
+/// Up to how many bytes of output are printed in full.
+const SHOWN: usize = 256;
+
+/// Gives a new service chunks, and returns whether it closes and all that it writes.
+pub(crate) fn play_line(alloc: Global, text: &str) -> Result<String, NoMemory> {
+    let (name, words) = text.split_once(' ').unwrap_or((text, ""));
+    match kind_of(name) {
+        Some(0) => say_played(alloc, name, Counter::fresh(alloc, 0), words),
+        Some(kind) => say_played(alloc, name, AnyService::fresh(alloc, kind), words),
+        None => Ok(format!(in alloc; "no such line")?),
+    }
+}
+
+/// The same for Line that is loaded.
+pub(crate) fn resume_line(alloc: Global, text: &str) -> Result<String, NoMemory> {
+    let (form, words) = text.split_once(' ').unwrap_or((text, ""));
+    let form = bytes_of_word(alloc, form)?.unwrap_or(Vec::new(alloc));
+    match Line::load(alloc, 2, form.as_slice())? {
+        Some(service) => say_played(alloc, "line", service, words),
+        None => Ok(format!(in alloc; "line none")?),
+    }
+}
+
+/// Gives a service the chunks that these words say, each of at most 2,048 bytes, until it closes. Whether it does.
+fn feed<S: Service>(
+    alloc: Global,
+    service: &mut S,
+    words: &str,
+    out: &mut Vec<u8>,
+) -> Result<bool, NoMemory> {
+    for word in words.split(' ') {
+        let chunk = bytes_of_word(alloc, word)?.unwrap_or(Vec::new(alloc));
+        if service.take(&chunk[..chunk.len().min(CHUNK_LIMIT)], out)? == Next::Close {
+            return Ok(true);
+        }
+    }
+    Ok(false)
+}
+
+/// What a service does with the chunks that these words say. One that has closed is given no more.
+fn say_played<S: Service>(
+    alloc: Global,
+    name: &str,
+    mut service: S,
+    words: &str,
+) -> Result<String, NoMemory> {
+    let mut out = Vec::new(alloc);
+    let closed = feed(alloc, &mut service, words, &mut out)?;
+    let out = out_text(alloc, out.as_slice())?;
+    if closed {
+        return Ok(format!(in alloc; "{name} closed {out}")?);
+    }
+    Ok(format!(in alloc; "{name} open {out}")?)
+}
+
+/// Output in hexadecimal, or how many bytes it has and their hash.
+fn out_text(alloc: Global, out: &[u8]) -> Result<String, NoMemory> {
+    if out.len() <= SHOWN {
+        return word_of_bytes(alloc, out);
+    }
+    let (len, hash) = (out.len(), hashed(0, out));
+    Ok(format!(in alloc; "{len} bytes {hash}")?)
 }
 
 /// What came of many runs.

@@ -12,5 +12,3 @@ mod read_record;
 mod records;
 mod rest;
 mod service_run;
-#[cfg(test)]
-mod tests;

@@ -12,5 +12,3 @@ mod live;
 mod moves;
 mod receiving;
 mod segment;
-#[cfg(test)]
-mod tests;

@@ -8,5 +8,3 @@ pub use moves::{Move, move_of};
 mod client;
 mod moves;
 mod receiving;
-#[cfg(test)]
-mod tests;

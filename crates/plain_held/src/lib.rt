@@ -8,5 +8,3 @@ pub use held::Held;
 mod coming;
 mod held;
 mod places;
-#[cfg(test)]
-mod tests;

@@ -12,8 +12,6 @@ pub use log::PlainLog;
 
 mod entry;
 mod log;
-#[cfg(test)]
-mod tests;
 
 /// The answer to a message is determined by the log after it.
 #[tactic(auto, using(crate::proofs::Replies::reply_is_the_answer))]

@@ -9,5 +9,3 @@ pub use segment::{ack, counted_text, counts_fin, first, has_ack, has_rst, has_sy
 
 mod arrival;
 mod segment;
-#[cfg(test)]
-mod tests;

@@ -13,6 +13,4 @@ mod echo;
 pub mod laws;
 mod line;
 mod meter;
-#[cfg(test)]
-mod tests;
 mod transfer;

@@ -226,37 +226,3 @@ impl Saved for Line {
 
     ghost one_form = { λ _. line_one_form };
 }
-
-#[cfg(test)]
-mod tests {
-    use super::*;
-    use std::test::Fail;
-
-    // No run reaches these numbers, so the states are made.
-    #[test]
-    fn the_line_number_stands_still_at_the_end_of_64_bits(rt: HostRuntime) -> Result<(), Fail> {
-        for (finished, output) in [
-            (
-                u64::MAX - 2,
-                b"18446744073709551614 a\n18446744073709551615 b\n".as_slice(),
-            ),
-            (
-                u64::MAX - 1,
-                b"18446744073709551615 a\n18446744073709551615 b\n",
-            ),
-            (
-                u64::MAX,
-                b"18446744073709551615 a\n18446744073709551615 b\n",
-            ),
-        ] {
-            let mut line = Line {
-                finished,
-                held: Vec::new(rt.alloc()),
-            };
-            let mut out = Vec::new(rt.alloc());
-            assert!(rt; line.take(b"a\nb\n", &mut out).is_ok());
-            assert!(rt; out.as_slice() == output, "from {finished}");
-        }
-        Ok(())
-    }
-}

@@ -14,8 +14,6 @@ mod fields;
 mod header;
 mod reading;
 mod setting;
-#[cfg(test)]
-mod tests;
 mod writing;
 
 /// A packet whose payload stays in the bytes that it was read from.

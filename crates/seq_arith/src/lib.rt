@@ -24,8 +24,6 @@ mod kinds;
 pub mod laws;
 mod mark;
 mod options;
-#[cfg(test)]
-mod tests;
 mod text;
 mod twin;
 

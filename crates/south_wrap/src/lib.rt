@@ -12,5 +12,3 @@ pub mod laws;
 mod passing;
 mod patching;
 mod south;
-#[cfg(test)]
-mod tests;

@@ -13,8 +13,6 @@ mod overwriting;
 mod receive_queue;
 mod send_queue;
 mod send_state;
-#[cfg(test)]
-mod tests;
 
 /// How many bytes a queue holds: as many as a window without scaling can advertise.
 pub const QUEUE_ROOM: usize = 65_535;

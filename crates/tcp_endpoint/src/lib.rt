@@ -14,6 +14,4 @@ mod outbox;
 mod receiver;
 mod sender;
 mod states;
-#[cfg(test)]
-mod tests;
 mod user;

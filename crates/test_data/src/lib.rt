@@ -13,5 +13,3 @@ mod hashing;
 mod hexadecimal;
 mod lines;
 mod pattern;
-#[cfg(test)]
-mod tests;

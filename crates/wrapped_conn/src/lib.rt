@@ -17,7 +17,5 @@ mod numbers;
 mod quiet;
 mod stage;
 mod telling;
-#[cfg(test)]
-mod tests;
 mod turn;
 mod turn_out;

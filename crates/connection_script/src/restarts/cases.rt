@@ -1,0 +1,161 @@
+//! The restarts that are played.
+
+use crate::restarts::hostile::attack;
+use crate::restarts::logged::{Logged, NO_MARK};
+use crate::restarts::marked::marked_cases;
+use crate::restarts::play::{begin, fetch, hand, restore};
+use ft_io::{Key, NoMemory};
+use reincarnate::Fetching;
+use sample_servers::AnyService;
+use std::alloc::Global;
+
+pub(crate) const ECHO: u8 = 1;
+
+pub(crate) const METER: u8 = 4;
+
+pub(crate) const KEY: Key = Key {
+    ip: 0xC000_0201,
+    port: 40_000,
+};
+
+/// One connection that is restored, with what is asked for it.
+fn one(
+    alloc: Global,
+    name: &str,
+    kind: u8,
+    entry: Logged<'_>,
+    out: &mut String,
+) -> Result<(), NoMemory> {
+    restart(alloc, name, begin(alloc, kind, 1, false)?, entry, out)
+}
+
+/// One connection that is restored by this restart, with what is asked for it.
+pub(crate) fn restart(
+    alloc: Global,
+    name: &str,
+    mut fetching: Fetching<AnyService>,
+    entry: Logged<'_>,
+    out: &mut String,
+) -> Result<(), NoMemory> {
+    out.push_str("case ")?;
+    out.push_str(name)?;
+    out.push_str("\n")?;
+    let entries = [entry];
+    fetch(alloc, &mut fetching, &entries, out)?;
+    restore(alloc, fetching, out)?;
+    Ok(())
+}
+
+/// An entry of the worked runs' client.
+pub(crate) fn logged<'a>(bytes: &'a [u8], fin: u8, reads: &'a [u16], acked: u32) -> Logged<'a> {
+    Logged {
+        key: KEY,
+        bytes,
+        fin,
+        done: 0,
+        reads,
+        acked,
+        mark: NO_MARK,
+    }
+}
+
+/// 64 entries of one byte each; of every second one the connection has ended.
+fn many(alloc: Global, out: &mut String) -> Result<(), NoMemory> {
+    let mut entries = Vec::new(alloc);
+    for i in 0..64u16 {
+        entries.push(Logged {
+            key: Key { ip: 7, port: i },
+            bytes: b"x",
+            fin: 0,
+            done: (i % 2) as u8,
+            reads: &[1],
+            acked: 0,
+            mark: NO_MARK,
+        })?;
+    }
+    let mut fetching = begin(alloc, ECHO, 64, false)?;
+    let mut passed = String::new(alloc);
+    fetch(alloc, &mut fetching, &entries, &mut passed)?;
+    let count = restore(alloc, fetching, &mut passed)?;
+    out.push_str(format!(in alloc; "case 64_entries\nrestored {count}\n")?.as_str())?;
+    Ok(())
+}
+
+/// 10,000 messages that answer no question, in the middle of a restart, which continues as if they hadn't arrived.
+fn hostile(alloc: Global, bytes: &[u8], out: &mut String) -> Result<(), NoMemory> {
+    let entry = logged(bytes, 0, &[2_048, 452], 5);
+    let entries = [entry];
+    let mut fetching = begin(alloc, METER, 1, false)?;
+    let head = crate::restarts::logged::head_of(alloc, crate::restarts::play::BOOT, 0, &entry)?;
+    hand(alloc, &mut fetching, &head)?;
+    let lens = crate::restarts::logged::lens_of(alloc, crate::restarts::play::BOOT, &entry, 0)?;
+    hand(alloc, &mut fetching, &lens)?;
+    let fitted = attack(alloc, &mut fetching, &entry, 10_000)?;
+    out.push_str(format!(in alloc; "case hostile_messages\nfitted {fitted}\n")?.as_str())?;
+    fetch(alloc, &mut fetching, &entries, out)?;
+    restore(alloc, fetching, out)?;
+    Ok(())
+}
+
+/// Connections whose client continues to send.
+fn open_cases(alloc: Global, long: &[u8], out: &mut String) -> Result<(), NoMemory> {
+    one(
+        alloc,
+        "streaming_questions",
+        METER,
+        logged(long, 0, &[2_048, 452], 5),
+        out,
+    )?;
+    one(
+        alloc,
+        "crash_after_logged",
+        ECHO,
+        logged(b"hello", 0, &[5], 0),
+        out,
+    )?;
+    one(
+        alloc,
+        "cuts_and_swallowing",
+        METER,
+        logged(b"abc", 0, &[2, 1], 2),
+        out,
+    )?;
+    one(alloc, "nothing", ECHO, logged(b"", 0, &[], 0), out)
+}
+
+/// Connections whose client has sent its FIN: the server's FIN is acknowledged, isn't, or isn't due before the rest is read.
+fn ending_cases(alloc: Global, out: &mut String) -> Result<(), NoMemory> {
+    one(
+        alloc,
+        "acknowledged_fin",
+        ECHO,
+        logged(b"", 1, &[0], 1),
+        out,
+    )?;
+    one(
+        alloc,
+        "fin_not_acknowledged",
+        ECHO,
+        logged(b"hello", 1, &[5, 0], 2),
+        out,
+    )?;
+    one(
+        alloc,
+        "fin_behind_the_rest",
+        METER,
+        logged(b"hello", 1, &[2], 0),
+        out,
+    )
+}
+
+/// All of them, as text.
+pub(crate) fn play_all(alloc: Global) -> Result<String, NoMemory> {
+    let mut out = String::new(alloc);
+    let long = vec![in alloc; b'a'; 2_500]?;
+    open_cases(alloc, &long, &mut out)?;
+    ending_cases(alloc, &mut out)?;
+    many(alloc, &mut out)?;
+    hostile(alloc, &long, &mut out)?;
+    marked_cases(alloc, &mut out)?;
+    Ok(out)
+}

@@ -1,0 +1,120 @@
+//! A file of the system as a disk, and with a UDP socket as a desk.
+
+use crate::said::Said;
+use disk::{Desk, Disk, FileDisk, HostDesk, ShelfEnd};
+use ft_io::{Addr, Failed, Heard, NoMemory};
+use std::fs;
+use std::fs::{File, Files};
+use std::net::Net;
+use std::os::unix::fs::symlink;
+
+/// Appends three bytes, replaces one, cuts one off, and appends two.
+fn change<D: Disk>(disk: &mut D) -> Result<(), Failed> {
+    disk.append(b"XYZ")?;
+    disk.sync()?;
+    disk.put(1, b'!')?;
+    disk.sync()?;
+    disk.cut(2)?;
+    disk.sync()?;
+    disk.append(b"U")?;
+    disk.append(b"V")
+}
+
+/// Says whether the file of this name is opened.
+fn say_opening<R: Files<File = File>>(
+    system: &R,
+    name: &str,
+    said: &mut Said,
+) -> Result<(), NoMemory> {
+    said.word(match FileDisk::open(system, name) {
+        Ok(_) => b"opened",
+        Err(ShelfEnd::InUse) => b"in use",
+        Err(ShelfEnd::Failed) => b"failed",
+    })
+}
+
+/// Changes a new file, and opens it while it is open and after that: says how the changes ended, whether it was opened a second time, what two reads of it give.
+pub fn keep_file<R: Files<File = File>>(system: &R, said: &mut Said) -> Result<(), NoMemory> {
+    let Ok(mut disk) = FileDisk::open(system, "kept") else {
+        return said.word(b"no file");
+    };
+    said.outcome(change(&mut disk))?;
+    say_opening(system, "kept", said)?;
+    drop(disk);
+    let Ok(mut disk) = FileDisk::open(system, "./kept") else {
+        return said.word(b"no file");
+    };
+    let mut back = [b'.'; 9];
+    for _ in 0..2 {
+        let read = disk.read(&mut back);
+        said.moved(read)?;
+        said.word(&back)?;
+    }
+    Ok(())
+}
+
+/// A file, a symbolic link to it, a folder, a file in a folder that isn't there; and the file once it has a second name, by each of the two: says which are opened.
+pub fn open_names<R: Files<File = File>>(system: &R, said: &mut Said) -> Result<(), NoMemory> {
+    say_opening(system, "plain", said)?;
+    said.done(symlink(system, "plain", "link").is_ok())?;
+    said.done(fs::create_dir(system, "folder").is_ok())?;
+    for name in ["link", "folder", "none/plain"] {
+        say_opening(system, name, said)?;
+    }
+    said.done(fs::hard_link(system, "plain", "second").is_ok())?;
+    for name in ["plain", "second"] {
+        say_opening(system, name, said)?;
+    }
+    Ok(())
+}
+
+/// Binds the desk to a port of this machine, one of 16 of which some may be taken.
+fn bind_desk<K: Desk>(desk: &mut K) -> Option<Addr> {
+    for port in 7415..7431u16 {
+        let here = Addr {
+            ip: 0x7F00_0001,
+            port,
+        };
+        if desk.bind(here).is_ok() {
+            return Some(here);
+        }
+    }
+    None
+}
+
+/// Says what a receive gave.
+fn say_receive<K: Desk>(desk: &mut K, waits: bool, said: &mut Said) -> Result<(), NoMemory> {
+    let mut buf = [0u8; 2048];
+    let heard = if waits {
+        desk.recv(&mut buf)
+    } else {
+        desk.recv_waiting(&mut buf)
+    };
+    match heard {
+        Ok(Heard::Got { len, .. }) => said.word(&buf[..len.min(2048)]),
+        Ok(Heard::Nothing) => said.word(b"silent"),
+        Err(Failed) => said.word(b"failed"),
+    }
+}
+
+/// A sync, a send and the opening of a folder at a desk without a file and an address, with the counts of faults; then two datagrams from one desk to another:
+/// says what receives give before and after.
+pub fn use_desks<R: Net + Files<File = File>>(system: &R, said: &mut Said) -> Result<(), NoMemory> {
+    let mut desk = HostDesk::new(system);
+    let mut other = HostDesk::new(system);
+    said.outcome(desk.sync())?;
+    said.outcome(desk.send(Addr { ip: 1, port: 2 }, b"a"))?;
+    said.done(desk.open("/").is_ok())?;
+    said.count(desk.faults())?;
+    said.count(desk.link_faults())?;
+    let (Some(here), Some(_)) = (bind_desk(&mut desk), bind_desk(&mut other)) else {
+        return said.word(b"no port is free");
+    };
+    say_receive(&mut desk, false, said)?;
+    say_receive(&mut desk, true, said)?;
+    said.outcome(other.send(here, b"abc"))?;
+    said.outcome(other.send(here, b"defg"))?;
+    say_receive(&mut desk, true, said)?;
+    say_receive(&mut desk, false, said)?;
+    say_receive(&mut desk, false, said)
+}

@@ -1,0 +1,228 @@
+//! Messages to one log, or to a head and a tail that act as one.
+
+ghost use Rattle.std.specs.Prelude.{◌≤◌, ◌<◌, ◌+◌, ◌^◌, length};
+ghost use Rattle.logger_wire.specs.Value.{IsSendable};
+
+use crate::KEY;
+use anyhow::{Context, Result, bail, ensure};
+use ft_io::NoMemory;
+use logger_store::{LogStore, MsgOut};
+use logger_wire::{Body, Msg, read_msg, write_msg};
+use std::alloc::Global;
+use twin_log::{Part, Side, TwinLog, TwinOut};
+
+/// The bytes of a Data.
+const DATA: u32 = 100;
+
+/// The most messages.
+const MESSAGES: u32 = 100_000;
+
+/// Gives COUNT messages to WHO, in bursts of BURST.
+pub(crate) fn run_twins(alloc: Global, words: &[&str]) -> Result<Tally> {
+    let [who, count, burst] = words else {
+        bail!("log_bench twin WHO COUNT BURST");
+    };
+    let count: u32 = count.parse().context("COUNT")?;
+    let burst: u32 = burst.parse().context("BURST")?;
+    ensure!(count <= MESSAGES, "COUNT is at most 100,000");
+    let said = if *who == "one" {
+        to_one(alloc, count)
+    } else {
+        to_pair(alloc, count, burst)
+    };
+    let Ok(tally) = said else {
+        bail!("no memory");
+    };
+    Ok(tally)
+}
+
+/// What went out.
+#[derive(Clone, Copy)]
+pub(crate) struct Tally {
+    pub(crate) messages: u32,
+    pub(crate) forwards: u64,
+    pub(crate) answers: u64,
+}
+
+impl Tally {
+    fn new(messages: u32) -> Tally {
+        Tally {
+            messages,
+            forwards: 0,
+            answers: 0,
+        }
+    }
+}
+
+/// A message as it is sent.
+#[derive(Drop)]
+struct Datagram {
+    bytes: [u8; 2_048],
+    len: usize,
+}
+
+impl Datagram {
+    fn bytes(&self) -> &[u8] {
+        &self.bytes[..self.len.min(2_048)]
+    }
+}
+
+fn spelled(m: &Msg<'_>) -> Datagram
+    requires { IsSendable m.now }
+{
+    let mut bytes = [0; 2_048];
+    let len = write_msg(m, &mut bytes);
+    Datagram { bytes, len }
+}
+
+/// The message of a place: Hello, Open, and then Data of 100 bytes, one after another.
+#[tactic(auto, unfolding(seq_arith::specs::MessageGrammar::has_length, seq_arith::specs::MessageGrammar::is_sound))]
+fn message(i: u32) -> Datagram
+    requires { i < 100002 }
+{
+    match i {
+        0 => spelled(&Msg {
+            boot: 1,
+            body: Body::HelloMsg,
+        }),
+        1 => spelled(&Msg {
+            boot: 1,
+            body: Body::OpenMsg {
+                key: KEY,
+                cisn: 1_000,
+                sisn: 5_000,
+                mss: 1_460,
+            },
+        }),
+        _ => data(i - 2),
+    }
+}
+
+#[tactic(auto, unfolding(seq_arith::specs::MessageGrammar::has_length, seq_arith::specs::MessageGrammar::is_sound))]
+fn data(i: u32) -> Datagram
+    requires { i < 100000 }
+{
+    let text = [b'a'; 100];
+    spelled(&Msg {
+        boot: 1,
+        body: Body::DataMsg {
+            key: KEY,
+            offset: i * DATA,
+            acked: 0,
+            fin: 0,
+            bytes: &text,
+        },
+    })
+}
+
+/// Gives one log the messages.
+fn to_one(alloc: Global, count: u32) -> Result<Tally, NoMemory>
+    requires { count ≤ 100000 }
+{
+    let mut log = LogStore::new(alloc);
+    let mut out = MsgOut::new();
+    let mut tally = Tally::new(count);
+    for i in 0..count {
+        let datagram = message(i);
+        if let Ok(msg) = read_msg(datagram.bytes()) {
+            log.answer(alloc, &msg, &mut out)?;
+        }
+        if !out.bytes().is_empty() {
+            tally.answers = tally.answers.wrapping_add(1);
+        }
+    }
+    Ok(tally)
+}
+
+/// A head, a tail, and what is on its way between them.
+#[derive(Drop)]
+struct Pair {
+    head: TwinLog,
+    tail: TwinLog,
+    out: TwinOut,
+    to_tail: Vec<Vec<u8>>,
+    to_head: Vec<Vec<u8>>,
+    tally: Tally,
+}
+
+impl Pair {
+    fn new(alloc: Global, count: u32) -> Result<Pair, NoMemory> {
+        Ok(Pair {
+            head: TwinLog::new(alloc, Part::Head)?,
+            tail: TwinLog::new(alloc, Part::Tail)?,
+            out: TwinOut::new(alloc)?,
+            to_tail: Vec::new(alloc),
+            to_head: Vec::new(alloc),
+            tally: Tally::new(count),
+        })
+    }
+
+    /// The head takes a message.
+    fn ask(&mut self, alloc: Global, bytes: &[u8]) -> Result<(), NoMemory> {
+        self.head
+            .deliver(alloc, Side::Server, bytes, &mut self.out)?;
+        keep_forwards(alloc, &self.out, &mut self.to_tail, &mut self.tally)
+    }
+
+    /// All that is on its way arrives, in order.
+    fn settle(&mut self, alloc: Global) -> Result<(), NoMemory> {
+        for forward in self.to_tail.iter() {
+            self.tail
+                .deliver(alloc, Side::Other, forward.as_slice(), &mut self.out)?;
+            keep_replies(alloc, &self.out, &mut self.to_head, &mut self.tally)?;
+        }
+        for got in self.to_head.iter() {
+            self.head
+                .deliver(alloc, Side::Other, got.as_slice(), &mut self.out)?;
+        }
+        self.to_tail.clear();
+        self.to_head.clear();
+        Ok(())
+    }
+}
+
+/// Keeps what the head forwards, and counts it.
+fn keep_forwards(
+    alloc: Global,
+    out: &TwinOut,
+    to_tail: &mut Vec<Vec<u8>>,
+    tally: &mut Tally,
+) -> Result<(), NoMemory> {
+    for i in 0..out.len() {
+        to_tail.push(out.bytes(i).to_vec(alloc)?)?;
+        tally.forwards = tally.forwards.wrapping_add(1);
+    }
+    Ok(())
+}
+
+/// Keeps what the tail confirms, and counts what it answers.
+fn keep_replies(
+    alloc: Global,
+    out: &TwinOut,
+    to_head: &mut Vec<Vec<u8>>,
+    tally: &mut Tally,
+) -> Result<(), NoMemory> {
+    for i in 0..out.len() {
+        match out.to(i) {
+            Side::Server => tally.answers = tally.answers.wrapping_add(1),
+            Side::Other => to_head.push(out.bytes(i).to_vec(alloc)?)?,
+        }
+    }
+    Ok(())
+}
+
+/// Gives a pair the messages.
+fn to_pair(alloc: Global, count: u32, burst: u32) -> Result<Tally, NoMemory>
+    requires { count ≤ 100000 }
+{
+    let mut pair = Pair::new(alloc, count)?;
+    for i in 0..count {
+        let datagram = message(i);
+        pair.ask(alloc, datagram.bytes())?;
+        if burst == 0 || (i + 1) % burst == 0 {
+            pair.settle(alloc)?;
+        }
+    }
+    pair.settle(alloc)?;
+    Ok(pair.tally)
+}

@@ -1,0 +1,168 @@
+//! Lists of deliveries to two loggers that follow from a seed, with losses, repeats, reorderings, changed bits and stops.
+
+ghost use Rattle.std.specs.Prelude.{◌<◌};
+
+use crate::twins::messages::{ROOM, any_message};
+use crate::twins::pair::Pair;
+use ft_io::NoMemory;
+use seq_arith::flip;
+use std::alloc::Global;
+use test_data::{Draws, hashed};
+use twin_log::{Part, Side, TwinOut};
+
+/// What came of many lists.
+#[derive(Clone, Copy)]
+struct Tally {
+    /// Datagrams to the server.
+    answers: u32,
+    /// Datagrams to the other logger.
+    others: u32,
+    /// The sum of both loggers' numbers at the end of each list.
+    numbers: u64,
+    /// The hash of all datagrams.
+    bytes: u32,
+}
+
+impl Tally {
+    fn count(&mut self, out: &TwinOut) {
+        for i in 0..out.len() {
+            match out.to(i) {
+                Side::Server => self.answers = self.answers.wrapping_add(1),
+                Side::Other => self.others = self.others.wrapping_add(1),
+            }
+            self.bytes = hashed(self.bytes, out.bytes(i));
+        }
+    }
+}
+
+/// To which part a server's message is sent: mostly the head, and the tail once the head has stopped.
+fn part_asked(draws: &mut Draws, pair: &Pair) -> Part {
+    if pair.stopped() == Some(Part::Head) || draws.below(16) == 0 {
+        Part::Tail
+    } else {
+        Part::Head
+    }
+}
+
+/// The place of what is delivered to a part of so many datagrams, from 0: mostly the next in order, now and then without the one before it, and
+/// else any.
+fn place_of(draws: &mut Draws, pair: &mut Pair, part: Part, count: u32) -> usize
+    requires { 0 < count }
+{
+    if draws.below(4) == 0 {
+        return draws.below(count) as usize;
+    }
+    let lost = (draws.below(8) / 7) as usize;
+    pair.pass(part, lost, count as usize - 1)
+}
+
+/// Delivers to a part something that the other sent, with one bit changed where that is wanted.
+fn deliver_some(
+    alloc: Global,
+    draws: &mut Draws,
+    pair: &mut Pair,
+    part: Part,
+    changed: bool,
+    out: &mut TwinOut,
+) -> Result<(), NoMemory> {
+    out.clear();
+    let count = pair.sent_to(part).len().min(1_000_000) as u32;
+    if count == 0 {
+        return Ok(());
+    }
+    let place = place_of(draws, pair, part, count);
+    let Some(sent) = pair.sent_to(part).get(place) else {
+        return Ok(());
+    };
+    let mut bytes = sent.to_vec(alloc)?;
+    let bits = 8 * bytes.len().min(2_048) as u32;
+    if changed && bits > 0 {
+        let bit = draws.below(bits);
+        flip(&mut bytes, bit as usize);
+    }
+    pair.deliver(alloc, part, Side::Other, bytes.as_slice(), out)
+}
+
+/// One delivery.
+fn deliver_one(
+    alloc: Global,
+    draws: &mut Draws,
+    pair: &mut Pair,
+    out: &mut TwinOut,
+) -> Result<(), NoMemory> {
+    let kind = draws.below(40);
+    if kind == 0 && draws.below(4) == 0 {
+        out.clear();
+        pair.stop(if draws.below(2) == 0 {
+            Part::Head
+        } else {
+            Part::Tail
+        });
+        return Ok(());
+    }
+    if kind < 8 {
+        let part = part_asked(draws, pair);
+        let mut bytes = [0; ROOM];
+        let len = any_message(draws, &mut bytes);
+        return pair.deliver(alloc, part, Side::Server, &bytes[..len], out);
+    }
+    let part = if kind < 16 { Part::Head } else { Part::Tail };
+    deliver_some(alloc, draws, pair, part, kind == 39, out)
+}
+
+/// Plays this many lists, each with a new pair.
+fn play_lists(
+    alloc: Global,
+    count: u32,
+    len: u32,
+    seed: u64,
+    out: &mut TwinOut,
+) -> Result<Tally, NoMemory> {
+    let mut draws = Draws::new(seed);
+    let mut tally = Tally {
+        answers: 0,
+        others: 0,
+        numbers: 0,
+        bytes: 0,
+    };
+    for _list in 0..count {
+        let mut pair = Pair::new(alloc)?;
+        for _delivery in 0..len {
+            deliver_one(alloc, &mut draws, &mut pair, out)?;
+            tally.count(out);
+        }
+        let (head, tail) = (pair.logger(Part::Head), pair.logger(Part::Tail));
+        tally.numbers = tally
+            .numbers
+            .wrapping_add(head.number())
+            .wrapping_add(tail.number());
+    }
+    Ok(tally)
+}
+
+/// The three numbers of a line.
+fn numbers(text: &str) -> Option<(u32, u32, u64)> {
+    let (count, rest) = text.split_once(' ')?;
+    let (len, seed) = rest.split_once(' ')?;
+    Some((count.parse().ok()?, len.parse().ok()?, seed.parse().ok()?))
+}
+
+/// Plays the lists that a line asks for, and answers what it prints.
+pub(crate) fn play_random(
+    alloc: Global,
+    text: &str,
+    out: &mut TwinOut,
+) -> Result<String, NoMemory> {
+    let Some((count, len, seed)) = numbers(text) else {
+        return Ok(format!(in alloc; "no such line")?);
+    };
+    let Tally {
+        answers,
+        others,
+        numbers,
+        bytes,
+    } = play_lists(alloc, count, len, seed, out)?;
+    Ok(format!(in alloc;
+        "lists {count}: answers {answers} others {others} numbers {numbers} bytes {bytes}"
+    )?)
+}
