@@ -368,6 +368,93 @@ say(pkt(packet(A, SERVER, "A", EDGE, 5006, 65535, None, b"")),
 say(conn(A), numbers(0, 5, 5, 5, 1, 5, 5))
 say("tick")
 
+# ---- one connection, by hand -----------------------------------------------------------------------------------------------------------------
+
+def opens(cisn, kind=1):
+    """A server of Echo, or of this kind, and a client's connection to it that has just started."""
+    say(f"boot {kind} 1 5000", to_logger(HELLO))
+    say(msg(SUMMARY))
+    say(pkt(syn(A, seq=cisn)), to_logger(opening("Open", 1, A, cisn, 5000)))
+    say(msg(opening("Opened", 1, A, cisn, 5000)), starts(cisn))
+
+def starts(cisn):
+    return to_client(A, packet(SERVER, A, "AS", 5000, (cisn + 1) % 2**32, 65535, 1460, b""))
+
+def comes(flags, seq, ack, text=b"", window=65535):
+    return pkt(packet(A, SERVER, flags, seq, ack, window, None, text))
+
+def leaves(flags, seq, ack, text=b""):
+    return to_client(A, packet(SERVER, A, flags, seq, ack, 65535, None, text))
+
+def copy(offset, acked, fin, text=b""):
+    return to_logger(told("Data", f"boot 1 key {K} offset {offset} acked {acked} fin {fin} bytes {text.hex() or '-'}".split()))
+
+def read(index, length):
+    return to_logger(told("Read", f"boot 1 key {K} index {index} length {length}".split()))
+
+def stable(length, fin=0, reads=0):
+    return msg(kept("Stable", 1, A, length, fin, reads))
+
+def reads(length, fin, count):
+    return msg(kept("Reads", 1, A, length, fin, count))
+
+say("# a window of zero: a read that isn't logged is told again at a tick, and a byte is probed at each expiry of the timer")
+opens(1000)
+say(comes("A", 1001, 5001, window=0))
+say(comes("A", 1001, 5001, b"hello", window=0), leaves("A", 5001, 1001), copy(0, 0, 0, b"hello"), read(0, 5))
+say("tick", read(0, 5))
+say(stable(5), leaves("A", 5001, 1006))
+say(reads(5, 0, 1))
+say("tick", leaves("A", 5001, 1006, b"h"))
+say("tick")
+say("tick", leaves("A", 5001, 1006, b"h"))
+say(comes("A", 1006, 5001, window=5), leaves("A", 5002, 1006, b"ello"))
+
+done = to_logger(message("Done", 1, key_bytes(A)))
+say("# the SYN comes again, and both sides close: the connection still answers a FIN, and is done at the fourth tick")
+opens(1000)
+say(comes("S", 1000, 0), starts(1000))
+say(comes("A", 1001, 5001))
+say(comes("AF", 1001, 5001), leaves("A", 5001, 1001), copy(0, 0, 1), read(0, 0))
+say(stable(0, 1), leaves("A", 5001, 1002))
+say(reads(0, 1, 1), leaves("AF", 5001, 1002))
+say(comes("A", 1002, 5002), copy(0, 1, 0))
+say("tick")
+say(comes("AF", 1001, 5002), leaves("A", 5002, 1002))
+say(comes("R", 1001, 0, window=0))
+say("tick")
+say("tick")
+say("tick", done)
+say(msg(message("Ended", 1, key_bytes(A))))
+say("tick")
+
+say("# text comes with the acknowledgement of the SYN-ACK. A RST within the window is answered, and one at the next number ends the connection")
+opens(1000)
+say(comes("A", 1001, 5001, b"hello"), leaves("A", 5001, 1001), copy(0, 0, 0, b"hello"), read(0, 5))
+say(comes("R", 1010, 0, window=0), leaves("A", 5001, 1001))
+say(comes("R", 1006, 0, window=0), done)
+say(comes("A", 1006, 5001, b"more"))
+say(reads(5, 0, 1))
+say("tick", done)
+
+say("# the end of the text comes first, with the FIN: both are held, and told apart from the text that fills the gap. The closing read waits for the first one")
+opens(1000)
+say(comes("A", 1001, 5001))
+say(comes("AF", 1004, 5001, b"lo"), leaves("A", 5001, 1001))
+say(comes("A", 1001, 5001, b"hel"), leaves("A", 5001, 1001), copy(0, 0, 0, b"hel"), copy(3, 0, 1, b"lo"), read(0, 5))
+say(stable(5, 1), leaves("A", 5001, 1007))
+say(reads(5, 1, 1), leaves("A", 5001, 1007, b"hello"), read(1, 0))
+
+say("# a service that has closed: what comes is logged and read, and nothing is made of it")
+opens(1000, 2)
+say(comes("A", 1001, 5001))
+say(comes("A", 1001, 5001, b"quit\n"), leaves("A", 5001, 1001), copy(0, 0, 0, b"quit\n"), read(0, 5))
+say(stable(5), leaves("A", 5001, 1006))
+say(reads(5, 0, 1), leaves("A", 5001, 1006, b"bye\n"), leaves("AF", 5005, 1006))
+say(comes("A", 1006, 5001, b"x"), leaves("A", 5006, 1006), copy(5, 0, 0, b"x"), read(1, 1))
+say(stable(6, reads=1), leaves("A", 5006, 1007))
+say(reads(6, 0, 2))
+
 # ---- held segments, by the model -----------------------------------------------------------------------------------------------------------
 
 class Played:

@@ -4,11 +4,13 @@
 # 1,000th event the server crashes and restarts from the log (bench/crash_schedule.awk). Then the same with one client and no crash. Then the lines of the larger
 # report, without its first and last ones, as wire_bench writes them from events and packets as bytes, compared with a C loop of fprintf of the same lines (gcc
 # -O2); and the reading of a schedule of 8 MiB. Of each the minimum CPU time of 7 runs.
-#     bench/replay.sh [OLDER]
+#     bench/replay.sh [OLDER | marks]
 # With OLDER, an older ftreplay or a checkout that has one, both programs run the schedules of 100,000 events four times, 21 times alternately (or ROUNDS times), with
-# their reports written to a file, and the events a second by the minimum CPU times are compared.
+# their reports written to a file, and the events a second by the minimum CPU times are compared. With the word marks, the schedules of 100,000 events are compared in
+# the same way with those that have `marks 4`, in which each mark is logged and answered, and the restarts begin at marks.
 set -eu
-before=${1:+$(realpath "$1")}
+before=${1:-}
+[ -z "$before" ] || [ "$before" = marks ] || before=$(realpath "$before")
 . "$(dirname "$0")/common.sh"
 build ftreplay run <crates/ftreplay/stdin
 program=$PWD/crates/ftreplay/out/ftreplay
@@ -16,19 +18,24 @@ program=$PWD/crates/ftreplay/out/ftreplay
 schedules=$work out=/dev/null
 
 # Ten events open the connection. A cycle is ten more and sends eleven packets: the byte, a bare segment, Data, Read, Stable, an
-# acknowledgement, Reads, the echo, the client's acknowledgement of it, and Data and Stable for that.
+# acknowledgement, Reads, the echo, the client's acknowledgement of it, and Data and Stable for that. With a second word there is a mark after so many cycles, which
+# takes two more packets, a Mark behind that Data and Marked, and two more events.
 write_schedule() {
-    awk -v cycles="$1" 'BEGIN {
-        printf "service echo\nserver 192.0.2.100:7\nclient 1 192.0.2.1:40000 1000 hex:"
+    awk -v cycles="$1" -v marks="${2:-0}" 'BEGIN {
+        printf "service echo\nserver 192.0.2.100:7\n"
+        if (marks) printf "marks %d\n", marks
+        printf "client 1 192.0.2.1:40000 1000 hex:"
         for (i = 0; i < cycles; i++) printf "%02x", i % 256
         print "\nboot 1 5000\ndeliver 1\ndeliver 2\nopen 1 65535\ndeliver 3\ndeliver 4\ndeliver 5\ndeliver 6\nack 1 65535\ndeliver 7"
+        p = 8
         for (i = 0; i < cycles; i++) {
-            p = 8 + 11 * i
             printf "send 1 %d 1\n", i
             printf "deliver %d\ndeliver %d\ndeliver %d\ndeliver %d\ndeliver %d\ndeliver %d\n", p, p + 2, p + 4, p + 3, p + 6, p + 7
             printf "ack 1 65535\ndeliver %d\ndeliver %d\n", p + 8, p + 9
+            p += 11
+            if (marks && (i + 1) % marks == 0) { printf "deliver %d\ndeliver %d\n", p - 1, p + 1; p += 2 }
         }
-    }' >"$schedules/$1"
+    }' >"$schedules/$1${2:+marked}"
 }
 
 # The nanoseconds of the best of five runs, and the kilobytes of the last one.
@@ -68,6 +75,31 @@ beside() {
     }'
 }
 
+# a schedule, how many events it has, the same with marks, how many events that has, and what it is
+with_marks() {
+    local least
+    for schedule in "$1" "$3"; do
+        playing "$program" "$schedule" >"$work/newer"
+        tail -n 1 "$work/newer" | grep -q "^end [0-9]*\$" || { echo "the schedule isn't played to its end: $5" >&2; exit 1; }
+    done
+    grep -q '^packet [0-9]* L>S Marked ' "$work/newer" || { echo "nothing is marked: $5" >&2; exit 1; }
+    least=$(out=$work/report in_turn "$ROUNDS" "spent four_times playing $program $1" "spent four_times playing $program $3") || exit 1
+    awk -v what="$5" -v a="${least% *}" -v b="${least#* }" -v m="$2" -v n="$4" -v rounds="$ROUNDS" 'BEGIN {
+        printf "%s, four runs: without marks %d ms, %d events a second, ", what, a, 4000 * m / a
+        printf "with marks 4 %d ms, %d events a second, least of %d each: %.2f times as many\n", b, 4000 * n / b, rounds, (n / b) / (m / a)
+    }'
+}
+
+events_of() { sed -n 's/^end //p' < <("$program" run <"$schedules/$1"); }
+
+if [ "$before" = marks ]; then
+    write_schedule 8000 4
+    write_schedule 8000
+    awk -v events=100000 -v marks=4 -f bench/crash_schedule.awk >"$schedules/crash_marked"
+    with_marks crash100000 "$(events_of crash100000)" crash_marked "$(events_of crash_marked)" "eight clients, with crashes"
+    with_marks 8000 "$(events_of 8000)" 8000marked "$(events_of 8000marked)" "one client, without a crash"
+    exit
+fi
 if [ -n "$before" ]; then
     before=$(older ftreplay "$before" run <crates/ftreplay/stdin)
     beside crash100000 "eight clients, with crashes"

@@ -39,8 +39,8 @@ class Verdicts(unittest.TestCase):
         self.assertEqual(said(HEAD + b"end 0\n"), (0, 0))
         for path in sorted(EXAMPLES.glob("*.report")):
             text = path.read_bytes()
-            two = b"\ntwin\n" in text  # the report of a run with two loggers isn't checked
-            self.assertEqual(verdict(text).law, "text" if two else "legal", path.name)
+            beyond = b"\ntwin\n" in text or b"\nmarks " in text  # the report of a run with two loggers, or with marks, isn't checked
+            self.assertEqual(verdict(text).law, "text" if beyond else "legal", path.name)
 
     def test_turns(self):
         wrong_ack = lines()[30].replace(b"ack 1006", b"ack 1007")

@@ -3,8 +3,6 @@
 
     tools/ladder.py REPORT [--from E] [--to E] > PICTURE.svg      REPORT is a file, or - for standard input
 
-It also draws reports with marks, which tools/seed_model.py writes and `ftreplay` doesn't yet.
-
 Time runs downwards, with a row for each event and each packet; clients, server and log, or head and tail of two loggers, have vertical lines. An arrow leads from the sending of a packet to its
 delivery. The arrow of a packet that is never delivered, or that reaches a server that is down or a logger that has stopped, ends in a cross; that of a packet that is delivered again, or long
 after it was sent, begins at a small ring. A segment is labelled with its packet number, flags, sequence and acknowledgement number, bytes of text, and its window

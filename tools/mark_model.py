@@ -109,6 +109,45 @@ def after(number, data):
     return number
 
 
+def output(name, text, ended):
+    """What a service writes in answer to a text, which may have ended, and whether it has closed."""
+    if name == "counter":
+        raise ValueError("Counter's output has a model of its own")
+    if name == "echo":
+        return text, ended
+    if name == "line":
+        lines = [line.removesuffix(b"\n") for line in re.findall(rb"[^\n]{1024}|[^\n]{0,1023}\n", text)]
+        rest = text[len(text) - len(line_form(text)) + 8:] if b"quit" not in lines else b""
+        lines += [rest] if ended and rest else []
+        count = lines.index(b"quit") if b"quit" in lines else len(lines)
+        said = b"".join(b"%d %s\n" % (n + 1, line) for n, line in enumerate(lines[:count]))
+        return (said + b"bye\n", True) if count < len(lines) else (said, ended)
+    requests = [number for (number,) in iter_unpack(">I", text[: len(text) // 4 * 4])]
+    count = requests.index(0) if 0 in requests else len(requests)
+    size = sum(min(number, 2047) for number in requests[:count])
+    return bytes(i % 251 for i in range(size)), ended or count < len(requests)
+
+
+def plays(name, words):
+    chunks = [bytes.fromhex(word.replace("-", "")) for word in words]
+    text, ended = chunks_until_end(chunks)
+    if name == "meter":
+        count = next((i for i, chunk in enumerate(chunks) if not chunk), len(chunks))
+        out, closed = b"".join(b"%d\n" % len(chunk) for chunk in chunks[:count]), ended
+    else:
+        out, closed = output(name, text, ended)
+    said = hexed(out) if len(out) <= 256 else f"{len(out)} bytes {after(0, out)}"
+    return f"{name} {'closed' if closed else 'open'} {said}"
+
+
+def resumed(form, text):
+    """What Line writes for whole lines after a form, of which no line is held; it counts up to 2^64 - 1."""
+    first = unpack(">Q", form)[0]
+    lines = text.split(b"\n")[:-1]
+    out = b"".join(b"%d %s\n" % (min(first + 1 + n, (1 << 64) - 1), line) for n, line in enumerate(lines))
+    return f"line open {hexed(out)}"
+
+
 # messages about marks
 
 def reading(data):
@@ -220,6 +259,10 @@ def played(line):
     if word == "load":
         data = bytes.fromhex(rest[1].replace("-", ""))
         return f"{rest[0]} {hexed(data) if is_form(rest[0], data) else 'none'}"
+    if word == "play":
+        return plays(rest[0], rest[1:])
+    if word == "resume":
+        return resumed(bytes.fromhex(rest[0]), b"".join(map(bytes.fromhex, rest[1:])))
     if word == "runs":
         return runs(rest[0], int(rest[1]), int(rest[2]))
     if word == "mark":
@@ -246,6 +289,26 @@ def forms():
     yield "# Echo and Meter keep nothing, Counter its count."
     for name, data in (("echo", b""), ("echo", b"\0"), ("meter", b""), ("meter", b"\n"), ("counter", count), ("counter", count[1:]), ("counter", count + b"\0"), ("counter", b"")):
         yield f"load {name} {hexed(data)}"
+
+
+def examples():
+    yield "# What each service writes for these chunks, the last of which may be empty, and whether it closes."
+    a, ff, two_lines = b"a", b"\xff" * 2048, b"a\nb\n"
+    for name, *chunks in (
+        ("echo", b"ab", b"c"), ("echo", b"ab", b"", b"c"), ("line", a, b"b\n\nc", b""), ("line", b"x\nquit\ny"), ("line", b"qu", b"it", b"\n", b"x\n"),
+        ("line", b"quit", b""), ("line", b"quit"), ("line", b"quit \n quit\nQuit\n"), ("line", b"", b"x"), ("line", b"ab", b""),
+        ("transfer", bytes(3), bytes([3, 0, 0, 0, 0])), ("transfer", b"\0", b"\0", b"\0", bytes([2, 0, 0, 0, 1])), ("transfer", bytes([0, 0, 0, 2]), bytes([0, 0, 0, 1]), b""),
+        ("transfer", bytes([0, 0, 0, 1, 0, 0, 0]), b""), ("transfer", bytes(7) + b"\5"), ("meter", b"ab", b"c", b""), ("meter", b"abc"), ("meter", a, b"bc"),
+    ):
+        yield f"play {name} {' '.join(map(hexed, chunks))}"
+    yield "# The number of a line stays at 2^64 - 1."
+    for count in (3, 2, 1):
+        yield f"resume {pack('>Q', (1 << 64) - count).hex()} {hexed(two_lines)}"
+    yield "# A line ends with its 1,024th byte, and a request is answered by at most 2,047 bytes."
+    for chunks in ((a * 1023 + b"\n",), (a * 1023, b"\n"), (a * 1024,), (a * 1024 + b"\nb\n",), (a * 1025 + b"\n",), (a * 1023, b"bc\n"), (a * 1023,)):
+        yield f"play line {' '.join(map(hexed, chunks))}"
+    for chunk in (b"\0\0\7\xff", b"\0\0\x08\0\0\0\1\0", ff):
+        yield f"play transfer {hexed(chunk)}"
 
 
 def messages():
@@ -277,6 +340,7 @@ def messages():
 
 def cases():
     print("\n".join(forms()))
+    print("\n".join(examples()))
     for line in messages():
         print(line if isinstance(line, str) else f"mark {hexed(line)}")
     print("# Runs of each service, each form read back, and damaged.")

@@ -1,8 +1,9 @@
 #!/usr/bin/env python3
-"""Draws schedules with `marks`, and tests by the model in tools/model.py that all is masked. `ftreplay` doesn't play such schedules yet.
+"""Draws schedules with `marks`, and tests by the model in tools/model.py that all is masked.
 
     tools/marked_runs.py draw SEED                     writes the schedule of a seed
     tools/marked_runs.py masked [--seeds N] [--first SEED]   plays N of them, and tests the world after each event, as tools/masked.py does
+    tools/marked_runs.py compare PROGRAM [--seeds N] [--first SEED]   plays N of them by a built `ftreplay` and by the model, and compares the reports
 
 One to three clients of one of the four services send their scripts in pieces, most of them a piece at a time, which is where a connection is quiet. Packets
 are lost, repeated and reordered, old ones come again, and the server crashes often. In the end nothing is lost, and each client that wasn't reset must have all
@@ -14,6 +15,7 @@ import sys
 from collections import Counter
 
 from loggers import Log, Message, answers_of
+from lossy import differs
 from masked import Watch, is_true
 from model import Client, World
 from seed_model import SERVER, event_words, header
@@ -179,16 +181,27 @@ def masked(first, count):
     print(f"{count} schedules with marks: {said}, all masked")
 
 
+def compare(program, first, count):
+    for seed in range(first, first + count):
+        if differs(program, drawn(seed).lines()):
+            sys.exit(f"they differ at: seed {seed}")
+    print(f"{count} schedules with marks: all equal")
+
+
 def main():
     parser = argparse.ArgumentParser(description=__doc__, formatter_class=argparse.RawDescriptionHelpFormatter)
     verbs = parser.add_subparsers(dest="verb", required=True)
     verbs.add_parser("draw").add_argument("seed", type=int)
-    many = verbs.add_parser("masked")
-    many.add_argument("--seeds", type=int, default=2000)
-    many.add_argument("--first", type=int, default=1)
+    both = verbs.add_parser("compare")
+    both.add_argument("program")
+    for many in (verbs.add_parser("masked"), both):
+        many.add_argument("--seeds", type=int, default=2000)
+        many.add_argument("--first", type=int, default=1)
     words = parser.parse_args()
     if words.verb == "draw":
         print("\n".join(drawn(words.seed).lines()))
+    elif words.verb == "compare":
+        compare(words.program, words.first, words.seeds)
     else:
         masked(words.first, words.seeds)
 

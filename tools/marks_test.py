@@ -1,7 +1,7 @@
 #!/usr/bin/env python3
 """Tests of what tools/model.py knows of marks: numbers computed from the rules by hand, and a crash after each event of a restart from a mark.
 
-`ftreplay` plays no schedule with marks yet. It takes seconds. Run it: tools/marks_test.py
+It takes seconds. Run it: tools/marks_test.py
 """
 import random
 import unittest

@@ -3,13 +3,13 @@
 
     tools/replay_stored.py [FOLDER]   writes FOLDER/stdout (crates/replay_script) again, with the model's result of each order that the model can play
 
-The model plays whole schedules, seeds and crashes. The lines about failed calls and refused words stay as they are.
+The model plays whole schedules, seeds, crashes and deltas. The lines about failed calls and refused words stay as they are.
 """
 import pathlib
 import re
 import sys
 
-from model import Client, World
+from model import Client, World, number
 from schedule_model import read_schedule
 from seed_model import play, script_of, summary
 
@@ -29,6 +29,8 @@ def made(words, text):
     """What is printed of an order, or None where the model can't tell."""
     if words[0] == "crash":
         return crashes(words[1], [("stop", [int(words[2])])] if words[2:] else [], text)
+    if words[0] == "deltas":
+        return delta(words[1], text)
     _, name, spoken, *fails, last = words
     spoken = spoken.split("~")
     if fails != ["0", "0", "0"]:
@@ -64,6 +66,16 @@ def crashes(name, stops, text):
     return told
 
 
+def delta(name, text):
+    """By how much the numbers of the one connection differ at the end: those that the client knows, and those of the TCP that the last server began."""
+    schedule = read_schedule(text)
+    ((key, isn, script),) = schedule.clients
+    world = World(schedule.service, schedule.server, [Client(key, isn, script_of(script))], schedule.twin, schedule.marks)
+    for verb, words in schedule.events:
+        world.step(verb, words)
+    return f"{name}: delta {number(world.server.places[key].sisn - world.server.isn)}\n"
+
+
 def go_on(world, client):
     def happen(verb, *words):
         sent = len(world.packets)
@@ -85,7 +97,7 @@ def printed(stored, told):
     """What is printed of each order, in the script's order: as it stands, `None` where nothing does, and as the model makes it or `None`."""
     marks = []
     for words, text in orders(stored):
-        mark = f"{words[1]}: status " if words[0] == "play" else f"{words[1]}, crash after 1: "
+        mark = words[1] + {"play": ": status ", "deltas": ": delta ", "crash": ", crash after 1: "}[words[0]]
         at = told.find(mark, marks[-1][0] if marks and marks[-1][0] is not None else 0)
         marks.append((at if at >= 0 else None, words, text))
     starts = [at for at, _, _ in marks if at is not None] + [len(told)]

@@ -1,6 +1,4 @@
 """Reads a schedule by the rules of docs/FORMATS.md, and not by the program: the schedule that a text is, or the line that is refused and why.
-
-It also reads the line `marks EVERY`, which the program doesn't know yet: it may only follow the server's line, EVERY is 1 to 1,000, and `twin` isn't beside it.
 """
 import re
 from collections import namedtuple

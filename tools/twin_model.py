@@ -1,8 +1,8 @@
 #!/usr/bin/env python3
 """Two loggers that act as one, in plain Python, written from the rules and not from the program: what a head and a tail do with each datagram.
 
-twin_model.py lines      reads a script of `twin_script` from standard input, and writes what it must print
-twin_model.py cases      writes the script that is stored beside the program
+twin_model.py lines      reads lines of `log_script` on two loggers from standard input, and writes what it must print
+twin_model.py cases      writes the lines that are stored beside the program
 
 It stores a head's whole history and spells each datagram again; the program stores only what is unconfirmed. Log, head and tail are those of loggers.py.
 """
@@ -220,7 +220,7 @@ def drawn_delivery(draws, pair):
 
 
 def tally(count, length, seed):
-    """What `random` prints: what went to the server and to the other, the numbers at the end, and a number that follows from all bytes."""
+    """What `lists` prints: what went to the server and to the other, the numbers at the end, and a number that follows from all bytes."""
     draws, answers, others, numbers, sum_ = Draws(seed), 0, 0, 0, 0
     for _ in range(count):
         pair = Pair()
@@ -230,7 +230,7 @@ def tally(count, length, seed):
                 for byte in data:
                     sum_ = (sum_ * 31 + byte) % (1 << 32)
         numbers += pair.number("head") + pair.number("tail")
-    return f"random {count}: answers {answers} others {others} numbers {numbers} bytes {sum_}"
+    return f"lists {count}: answers {answers} others {others} numbers {numbers} bytes {sum_}"
 
 
 def line_of(out):
@@ -243,7 +243,7 @@ def played(pair, line):
     if words[0] == "pair":
         pair.__init__()
         return "pair"
-    if words[0] == "random":
+    if words[0] == "lists":
         return tally(*(int(word) for word in words[1:]))
     if words[0] == "stop":
         pair.stop({"1": "head", "2": "tail"}[words[1]])
@@ -312,7 +312,7 @@ def cases():
     print(f"head server {bytes(zero).hex()}")
     print("# Random lists of deliveries with losses, repeats, flipped bits and stops.")
     for seed in range(1, 11):
-        print(f"random 1000 60 {seed}")
+        print(f"lists 1000 60 {seed}")
 
 
 if __name__ == "__main__":
