@@ -20,7 +20,7 @@ use logger_wire::read_msg;
 use segment_codec::{read_accepted, read_packet};
 use seq_arith::Head;
 use std::alloc::Global;
-use twin_log::{TwinMsg, read_twin};
+use twin_wire::{TwinMsg, read_twin};
 
 /// Whether bytes are a packet of this direction: one that the codec of its kind accepts.
 pub fn is_packet(way: Way, bytes: &[u8]) -> bool

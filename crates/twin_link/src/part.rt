@@ -20,7 +20,8 @@ use crate::sending::send_all;
 use ft_io::{Addr, Failed, Link, NoMemory, Sink};
 use node_link::{Counts, DATAGRAM_ROOM, NodeEnd, receive, tell_counts};
 use std::alloc::Global;
-use twin_log::{Part, Side, TwinLog, TwinMsg, TwinOut, read_twin};
+use twin_log::{Part, Side, TwinLog, TwinOut};
+use twin_wire::{TwinMsg, read_twin};
 
 /// A logger of a pair, with what it sends in a turn.
 #[derive(Drop)]

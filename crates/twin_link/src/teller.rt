@@ -13,7 +13,7 @@ ghost use Rattle.twin_link.specs.StopNotice.{IsTeller, TellerStops, line_of as l
 use crate::role::AloneRole;
 use ft_io::{Addr, Failed, Link, Sink, write_all};
 use node_link::NodeEnd;
-use twin_log::{TwinMsg, write_twin};
+use twin_wire::{TwinMsg, write_twin};
 
 /// The length of the buffer for a datagram between two loggers.
 const ROOM: usize = 2_048;

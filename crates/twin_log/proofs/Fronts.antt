@@ -6,25 +6,11 @@ use Rattle.ft_model.proofs.Lists.{none_is_some}
 use Rattle.std.proofs.Math.Seq.{take-append_seam}
 use Rattle.std.proofs.lemmas.List.{length-take, length-map, map-append, drop-map}
 use Rattle.std.proofs.lemmas.Option.{slice_get_read}
-use Rattle.seq_arith.specs.Checksum.{checksum}
-use Rattle.seq_arith.specs.TwinDatagram.{TwinDatagram}
-use Rattle.seq_arith.specs.TwinGrammar.{spelled, spelling, behind_of, kind_of, IsSpellable}
+use Rattle.seq_arith.specs.TwinGrammar.{spelling}
 use Rattle.seq_arith.specs.TwinDatagram.{TwinDatagram as datagrams}
 use Rattle.twin_laws.specs.declared.part.Side.{Side}
 use Rattle.twin_laws.specs.declared.part.Side.TheVariants as sides
 use Rattle.twin_laws.specs.StoredState.{forwards_sent}
-use Rattle.seq_arith.proofs.TwinSpelling.{bounded, length_of}
-
--- no datagram is longer than the room for one
-pub datagram_fits : (d : TwinDatagram) → IsSpellable d → 16 + length (behind_of d) ≤ 1507
-datagram_fits d spellable = bounded (kind_of d) (16 + length (behind_of d)) spellable.size
-
--- what was written at the front is the whole datagram
-pub datagram_whole : (d : TwinDatagram) (rest : List ℕ) (len : ℕ) → len ≡ 16 + length (behind_of d) → take len (spelling d ++ rest) ≡ spelling d
-unfolding spelling
-datagram_whole d rest len is =
-    let long : length (spelling d) ≡ len = length_of d (checksum (spelled d 0)) ∙ sym is
-    in ap (λ n. take n (spelling d ++ rest)) (sym long) ∙ take-append_seam (spelling d) rest
 
 pub in_front : {A : Type 0} (n : ℕ) (xs : List A) (i : ℕ) → i < length (take n xs) → slice_get (take n xs) i ≡ slice_get xs i
 in_front zero xs i within = absurd (omega (arith, within))

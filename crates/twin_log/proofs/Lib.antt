@@ -1,4 +1,3 @@
-mod OneSpelling
 pub mod Cases
 pub mod Fronts
 pub mod Outgoing

@@ -1,3 +1,1 @@
-pub mod Value
-pub mod Header
 pub mod Outbox

@@ -11,8 +11,6 @@ ghost use Rattle.twin_laws.specs.StoredState.{kept_does, paired_does, new_kept, 
 ghost use Rattle.twin_laws.specs.declared.part.Side.TheVariants as sides;
 ghost use Rattle.twin_log.specs.Outbox.{answer_out, request_in, is_asking_message};
 
-use crate::reading::read_twin;
-use crate::twin_msg::TwinMsg;
 use crate::twin_out::TwinOut;
 use crate::waiting::{WAITING, Waiting};
 use ft_io::NoMemory;
@@ -21,6 +19,7 @@ use logger_wire::{Msg, read_msg};
 use std::alloc::Global;
 use std::marker::Model;
 use twin_laws::{Part, Side};
+use twin_wire::{TwinMsg, read_twin};
 
 /// A head or a tail: its log, and how far it is with the other. A head also stores the messages that the tail hasn't confirmed, at most 64.
 #[derive(Drop)]

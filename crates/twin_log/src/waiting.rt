@@ -6,12 +6,12 @@ ghost use Rattle.seq_arith.specs.TwinGrammar.{is_asking};
 ghost use Rattle.twin_laws.specs.StoredState.{forwards_sent};
 ghost use Rattle.twin_log.specs.Outbox.{AreAsking, texts_of};
 
-use crate::twin_msg::TwinMsg;
 use crate::twin_out::TwinOut;
 use ft_io::NoMemory;
 use std::alloc::Global;
 use std::collections::VecDeque;
 use std::marker::Model;
+use twin_wire::TwinMsg;
 
 /// The most messages that wait.
 pub(crate) const WAITING: usize = 64;

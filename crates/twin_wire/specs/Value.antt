@@ -3,8 +3,8 @@ use Rattle.std.specs.Prelude.{Result, Ok, Err}
 use Rattle.seq_arith.specs.declared.twin.BadTwin.{BadTwin}
 use Rattle.seq_arith.specs.TwinDatagram.{TwinDatagram}
 use Rattle.seq_arith.specs.TwinDatagram.{TwinDatagram as datagrams}
-use Rattle.twin_log.specs.declared.twin_msg.TwinMsg.{TwinMsg}
-use Rattle.twin_log.specs.declared.twin_msg.TwinMsg.TheVariants as msgs
+use Rattle.twin_wire.specs.declared.twin_msg.TwinMsg.{TwinMsg}
+use Rattle.twin_wire.specs.declared.twin_msg.TwinMsg.TheVariants as msgs
 
 abbrev pub said_by : TwinMsg → TwinDatagram
 said_by (msgs.Forward number message) = datagrams.Forward number message.now

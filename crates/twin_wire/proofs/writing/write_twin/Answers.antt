@@ -1,9 +1,8 @@
 use Rattle.std.proofs.Common.{◌+◌, ◌∙◌, ap, arith, refl, take, length}
 use Rattle.seq_arith.specs.TwinGrammar.{reading}
-use Rattle.twin_log.specs.Value.{said_by}
-use Rattle.twin_log.proofs.OneSpelling.{assembled, header_length, read_back}
-use Rattle.twin_log.proofs.Fronts.{datagram_fits}
-use Rattle.twin_log.proofs.writing.write_twin.Goals as goal
+use Rattle.twin_wire.specs.Value.{said_by}
+use Rattle.twin_wire.proofs.OneSpelling.{assembled, datagram_fits, header_length, read_back}
+use Rattle.twin_wire.proofs.writing.write_twin.Goals as goal
 
 pub put-requires : goal.put-requires
 put-requires c =

@@ -2,8 +2,8 @@
 
 ghost use Rattle.std.specs.Prelude.{◌≡◌, ◌≤◌, ◌+◌, ◌++◌, length, take, drop, Ok};
 ghost use Rattle.seq_arith.specs.TwinGrammar.{kind_of as kind_lem, number_of as number_lem, behind_of as behind_lem, spelling, reading, IsSpellable};
-ghost use Rattle.twin_log.specs.Value.{said_by};
-ghost use Rattle.twin_log.specs.Header.{header_of};
+ghost use Rattle.twin_wire.specs.Value.{said_by};
+ghost use Rattle.twin_wire.specs.Header.{header_of};
 
 use crate::table::{HEADER, MAGIC, VERSION, number_of};
 use crate::twin_msg::TwinMsg;

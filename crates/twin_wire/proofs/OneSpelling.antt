@@ -1,6 +1,7 @@
 -- A header with its checksum and what is after it are the one spelling of a datagram, and it is read.
-use Rattle.std.proofs.Common.{◌≡◌, ◌∙◌, ℕ, ◌+◌, List, ◌++◌, length, take, drop, ap, refl, sym, append_assoc}
+use Rattle.std.proofs.Common.{◌≡◌, ◌∙◌, ℕ, ◌+◌, ◌≤◌, List, ◌++◌, length, take, drop, ap, refl, sym, append_assoc}
 use Rattle.std.specs.Prelude.{Ok}
+use Rattle.std.proofs.Math.Seq.{take-append_seam}
 use Rattle.std.proofs.lemmas.List.{drop-drop}
 use Rattle.seq_arith.specs.declared.twin.TwinKind.{TwinKind}
 use Rattle.seq_arith.specs.Bytes.{two}
@@ -9,9 +10,19 @@ use Rattle.seq_arith.specs.Header.{headed}
 use Rattle.seq_arith.specs.MessageGrammar.{number_bytes}
 use Rattle.seq_arith.specs.TwinDatagram.{TwinDatagram}
 use Rattle.seq_arith.specs.TwinGrammar.{kind_of, kind_number, number_of, behind_of, spelled, spelling, reading, IsSpellable}
-use Rattle.seq_arith.proofs.TwinSpelling.{twin_is_read}
-use Rattle.twin_log.specs.Header.{header_of}
-use Rattle.twin_log.proofs.Fronts.{datagram_whole}
+use Rattle.seq_arith.proofs.TwinSpelling.{bounded, length_of, twin_is_read}
+use Rattle.twin_wire.specs.Header.{header_of}
+
+-- no datagram is longer than the room for one
+pub datagram_fits : (d : TwinDatagram) → IsSpellable d → 16 + length (behind_of d) ≤ 1507
+datagram_fits d spellable = bounded (kind_of d) (16 + length (behind_of d)) spellable.size
+
+-- what was written at the front is the whole datagram
+pub datagram_whole : (d : TwinDatagram) (rest : List ℕ) (len : ℕ) → len ≡ 16 + length (behind_of d) → take len (spelling d ++ rest) ≡ spelling d
+unfolding spelling
+datagram_whole d rest len is =
+    let long : length (spelling d) ≡ len = length_of d (checksum (spelled d 0)) ∙ sym is
+    in ap (λ n. take n (spelling d ++ rest)) (sym long) ∙ take-append_seam (spelling d) rest
 
 pub header_length : (kind : TwinKind) (len check number : ℕ) → length (header_of kind len check number) ≡ 16
 unfolding header_of two number_bytes

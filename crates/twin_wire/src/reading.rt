@@ -3,7 +3,7 @@
 ghost use Rattle.std.specs.Prelude.{◌≡◌, ◌≤◌, ◌<◌, ◌^◌, true, length, drop, IfOk};
 ghost use Rattle.seq_arith.specs.MessageGrammar.{number_in};
 ghost use Rattle.seq_arith.specs.TwinGrammar.{reading, reading_of, is_sound as is_sound_lem, datagram_of, kind_of, number_of, behind_of};
-ghost use Rattle.twin_log.specs.Value.{said_by, seen};
+ghost use Rattle.twin_wire.specs.Value.{said_by, seen};
 
 use crate::table::{HEADER, MAGIC, VERSION, has_length, is_sound, kind_of_number};
 use crate::twin_msg::TwinMsg;
