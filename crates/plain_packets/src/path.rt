@@ -1,0 +1,16 @@
+//! Where a packet goes.
+
+use ft_io::Key;
+
+/// Who sends a packet, and who receives it. A client is named by its address and port.
+#[derive(Clone, Copy, Debug, PartialEq, Eq)]
+pub enum Path {
+    /// From this client to the server.
+    ToServer(Key),
+    /// From the server to this client.
+    ToClient(Key),
+    /// From the server to the logger.
+    ToLogger,
+    /// From the logger to the server.
+    FromLogger,
+}
