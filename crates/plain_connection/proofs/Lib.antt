@@ -1,2 +1,10 @@
+pub mod Copies
+pub mod Noting
 pub mod OneRead
+pub mod Opened
+pub mod Sends
 pub mod Served
+pub mod Spelled
+pub mod Telling
+pub mod Texts
+pub mod Turns

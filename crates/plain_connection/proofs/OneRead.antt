@@ -1,39 +1,20 @@
 -- One more read of a connection.
-use Rattle.std.proofs.Common.{◌≡◌, ◌∙◌, ℕ, ◌+◌, ◌-◌, ◌≤◌, ◌<◌, ◌^◌, ◌==◌, ◌&&◌, not, nat_lt, nat_le, min, max, sum, refl, sym, ap, subst, Some, None, [], ◌∷◌, ◌++◌, length, take, drop, arith, append-nil, append_assoc, length-append, ltb-true}
-use Rattle.std.specs.List.{list_any}
+use Rattle.std.proofs.Common.{◌≡◌, ◌∙◌, ℕ, ◌+◌, ◌-◌, ◌≤◌, ◌<◌, ◌^◌, ◌&&◌, nat_lt, nat_le, min, sum, refl, sym, ap, subst, Some, None, [], ◌∷◌, ◌++◌, length, take, drop, arith, append-nil, append_assoc, length-append, ltb-true}
 use Rattle.server_trait.specs.Service.{Machine}
 use Rattle.made_output.specs.Made.{Made, after_read}
 use Rattle.made_output.proofs.Ends.{one_more}
 use Rattle.std.proofs.lemmas.Bool.{and_parts}
 use Rattle.ft_model.specs.Point.{Point, made, released}
 use Rattle.ft_model.specs.Reads.{next_length, may_read, next_read, with_read, Makes}
-use Rattle.ft_model.proofs.Lists.{none_is_some, some_is}
+use Rattle.ft_model.proofs.Lists.{none_is_some}
+use Rattle.ft_model.proofs.Running.{next_within}
 use Rattle.ft_model.proofs.Services.{sum_append}
 use Rattle.ft_io.proofs.Choices.{holds_if}
-use Rattle.plain_connection.specs.State.{ConnectionState, IsServed, HasRead, ReadsOn}
+use Rattle.plain_connection.specs.State.{ConnectionState, IsServed, IsThere, HasRead, ReadsOn}
 
 -- what is read next is there, and short
-abbrev pub IsThere : Point → ℕ → Type 0
-IsThere p n = (sum p.lengths + n ≤ max p.fetched (length p.taken)) × (n ≤ 2048)
-
-length_there : (p : Point) (n : ℕ) → sum p.lengths ≤ max p.fetched (length p.taken) → next_length p ≡ Some n → IsThere p n
-unfolding next_length
-length_there p n enough =
-    holds_if (λ o. o ≡ Some n → (sum p.lengths + n ≤ max p.fetched (length p.taken)) × (n ≤ 2048)) (nat_lt (sum p.lengths) p.fetched) (Some (min 2048 (p.fetched - sum p.lengths))) _
-    (λ t e. let same : min 2048 (p.fetched - sum p.lengths) ≡ n = some_is _ _ e in
-    let less : sum p.lengths < p.fetched = ltb-true _ _ t in
-    (omega (arith, same, less), omega (arith, same)))
-    (λ t. holds_if (λ o. o ≡ Some n → (sum p.lengths + n ≤ max p.fetched (length p.taken)) × (n ≤ 2048)) (nat_lt (sum p.lengths) (length p.taken)) (Some (min 2048 (length p.taken - sum p.lengths))) _
-    (λ s e. let same : min 2048 (length p.taken - sum p.lengths) ≡ n = some_is _ _ e in
-    let less : sum p.lengths < length p.taken = ltb-true _ _ s in
-    (omega (arith, same, less), omega (arith, same)))
-    (λ s. holds_if (λ o. o ≡ Some n → (sum p.lengths + n ≤ max p.fetched (length p.taken)) × (n ≤ 2048)) (p.fin && not (list_any (λ n. n == 0) p.lengths)) (Some 0) None
-    (λ x e. let same : 0 ≡ n = some_is _ _ e in (omega (arith, same, enough), omega (arith, same))) (λ x e. none_is_some n e)))
-
 pub there_to_read : {S : Type 0} (service : Machine S) (c : ConnectionState S) (n : ℕ) → IsServed service c → next_read service c.point ≡ Some n → IsThere c.point n
-there_to_read service c n served =
-    holds_if (λ o. o ≡ Some n → IsThere c.point n) (may_read service c.point) (next_length c.point) None
-    (λ t e. length_there c.point n served.enough e) (λ t e. none_is_some n e)
+there_to_read service c n served e = let next = next_within service c.point n served.fetched served.enough e in (next.0, next.1)
 
 -- after one more read the connection is served as before
 pub served_on : {S : Type 0} (service : Machine S) (c : ConnectionState S) (n : ℕ) (point : Point) (made : Made S) → IsServed service c → IsThere c.point n
@@ -47,6 +28,7 @@ served_on service c n point made served there is made_is =
       made = made_is ∙ (ap (λ m. after_read service m (take n (drop (sum before.lengths) before.taken))) served.made ∙ sym (one_more service before.taken before.lengths n));
       answered = omega (arith, served.answered, count);
       enough = omega (arith, longer, there.0);
+      fetched = served.fetched;
     })
 
 pub none_read : {S : Type 0} (service : Machine S) (c : ConnectionState S) → IsServed service c → HasRead service c c

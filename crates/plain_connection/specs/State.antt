@@ -1,5 +1,5 @@
 -- A connection as its contracts see it.
-use Rattle.std.specs.Prelude.{◌≡◌, ◌≤◌, ℕ, List, ◌++◌, length, sum, max}
+use Rattle.std.specs.Prelude.{◌≡◌, ◌≤◌, ℕ, ◌+◌, List, ◌++◌, length, sum}
 use Rattle.server_trait.specs.Service.{Machine}
 use Rattle.made_output.specs.Made.{Made, made_of}
 use Rattle.ft_model.specs.Point.{Point}
@@ -10,11 +10,16 @@ pub record ConnectionState (S : Type 0) : Type 0 where
   pub point : Point
   pub made : Made S
 
--- what is made is what the service makes of the reads, no more of these are answered than were made, and what they took was fetched or is taken
+-- what is made is what the service makes of the reads, no more of these are answered than were made, what they took is taken, and so is what was fetched
 pub record IsServed {S : Type 0} (service : Machine S) (c : ConnectionState S) : Type 0 where
   pub made : c.made ≡ made_of service c.point.taken c.point.lengths
   pub answered : c.point.reads_answered ≤ length c.point.lengths
-  pub enough : sum c.point.lengths ≤ max c.point.fetched (length c.point.taken)
+  pub enough : sum c.point.lengths ≤ length c.point.taken
+  pub fetched : c.point.fetched ≤ length c.point.taken
+
+-- so many bytes are there to be read, and fit one read
+abbrev pub IsThere : Point → ℕ → Type 0
+IsThere p n = (sum p.lengths + n ≤ length p.taken) × (n ≤ 2048)
 
 -- some reads were made since
 pub record HasRead {S : Type 0} (service : Machine S) (before now : ConnectionState S) : Type 0 where

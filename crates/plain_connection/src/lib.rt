@@ -1,9 +1,16 @@
-//! A live connection as plain values: its point, and what its service has made of its reads. Of the laws of a turn these are the ones that concern the service:
-//! how much output may be sent, and which reads are made. It shares no code with the server that it judges.
+//! A live connection as plain values: its point, and what its service has made of its reads. One turn of it notes the news, reads on, settles what is sent and the
+//! timer, and sends segments to the client and messages to the logger, each by its law. It shares no code with the server that it judges.
 #![tactic(auto)]
 
 pub use connection::PlainConnection;
+pub use news::News;
 
+mod before;
 mod connection;
 pub mod laws;
+mod logging;
+mod news;
+mod opening;
 mod reading;
+mod segments;
+mod turn;

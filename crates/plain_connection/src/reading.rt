@@ -1,8 +1,8 @@
 //! The law Reads: which reads a turn makes.
 
-ghost use Rattle.std.specs.Prelude.{◌≡◌, ◌≤◌, Some, IfSome, OnOk};
+ghost use Rattle.std.specs.Prelude.{◌≡◌, ◌≤◌, IfSome, OnOk};
 ghost use Rattle.server_trait.specs.Service.{machine};
-ghost use Rattle.plain_connection.specs.State.{IsServed, HasRead, ReadsOn};
+ghost use Rattle.plain_connection.specs.State.{IsServed, IsThere, ReadsOn};
 
 use crate::connection::PlainConnection;
 use ft_io::NoMemory;
@@ -25,11 +25,10 @@ impl<S: Service> PlainConnection<S> {
         }
     }
 
-    /// The service makes the next read. After `NoMemory` the connection may only be dropped.
-    fn read(&mut self, len: u16) -> Result<(), NoMemory>
+    /// The service reads so much, which is there to be read. After `NoMemory` the connection may only be dropped.
+    pub(crate) fn read(&mut self, len: u16) -> Result<(), NoMemory>
         requires served { IsServed (machine (S.started self.old.kind) S.after) self.old }
-        requires next { next_lem (machine (S.started self.old.kind) S.after) self.old.point ≡ Some len }
-        requires short { len ≤ 2048 }
+        requires there { IsThere self.old.point len }
         ensures point { OnOk result (self.new.point ≡ with_read len self.old.point) }
         ensures kind { self.new.kind ≡ self.old.kind }
         ensures served { OnOk result (IsServed (machine (S.started self.old.kind) S.after) self.new) }
@@ -41,7 +40,8 @@ impl<S: Service> PlainConnection<S> {
     /// The service reads on while it may: at most 32 times. After `NoMemory` the connection may only be dropped.
     pub fn read_on(&mut self) -> Result<(), NoMemory>
         requires { IsServed (machine (S.started self.old.kind) S.after) self.old }
-        ensures { OnOk result (ReadsOn (machine (S.started self.old.kind) S.after) self.old self.new) }
+        ensures kind { self.new.kind ≡ self.old.kind }
+        ensures reads { OnOk result (ReadsOn (machine (S.started self.old.kind) S.after) self.old self.new) }
     {
         while let Some(len) = self.next_read() {
             self.read(len)?;

@@ -1,7 +1,7 @@
 -- The log's rule for reads, by the sum of the reads before.
 use Rattle.std.proofs.Common.{◌≡◌, ◌∙◌, ℕ, ◌+◌, ◌/◌, ◌≤◌, ◌==◌, ◌||◌, Bool, true, false, refl, sym, ap, ap₂, subst, sum, arith, List, [], ◌∷◌, ◌++◌, length, length-append, append_assoc, append-nil}
 use Rattle.std.specs.Prelude.{◌&&◌, not, nat_lt, nat_le}
-use Rattle.std.specs.List.{list_any}
+use Rattle.std.specs.List.{list_any, list_all}
 use Rattle.std.proofs.lemmas.Bool.{leb-true, and_parts}
 use Rattle.seq_arith.specs.MessageGrammar.{lens_in}
 use Rattle.ft_model.specs.Log.{may_follow}
@@ -17,6 +17,16 @@ or_both false b c = refl
 pub closes_more : (lengths : List ℕ) (n : ℕ) → list_any (λ k. k == 0) (lengths ++ n ∷ []) ≡ (list_any (λ k. k == 0) lengths || (n == 0))
 closes_more [] n = sym (or_false (n == 0))
 closes_more (x ∷ lengths) n = ap (λ b. (x == 0) || b) (closes_more lengths n) ∙ or_both (x == 0) (list_any (λ k. k == 0) lengths) (n == 0)
+
+-- lengths of at most 2,048 bytes
+abbrev pub are_short : List ℕ → Bool
+are_short lengths = list_all (λ k. nat_le k 2048) lengths
+
+pub short_more : (lengths : List ℕ) (n : ℕ) → are_short lengths ≡ true → n ≤ 2048 → are_short (lengths ++ n ∷ []) ≡ true
+short_more [] n e h = grind (arith, h)
+short_more (x ∷ lengths) n e h =
+    let both = and_parts (nat_le x 2048) (are_short lengths) e in
+    ap₂ (λ a b. a && b) both.0 (short_more lengths n both.1 h)
 
 pub sum_more : (lengths : List ℕ) (n : ℕ) → sum (lengths ++ n ∷ []) ≡ sum lengths + n
 sum_more lengths n = sum_append lengths n
@@ -56,7 +66,7 @@ more_added lengths lens more whole n cut e = append_assoc lengths (n ∷ []) mor
 abbrev pub HasAdded : (before now : Fetched) → (lens rest : List ℕ) → Type 0
 HasAdded before now lens rest =
     (now.head ≡ before.head) × (now.bytes ≡ before.bytes) × (now.lengths ++ rest ≡ before.lengths ++ lens)
-    × (length now.lengths + length rest ≤ now.head.reads) × (all_follow now.head.length now.head.fin now.lengths rest ≡ true)
+    × (length now.lengths + length rest ≤ now.head.reads) × (all_follow now.head.length now.head.fin now.lengths rest ≡ true) × (are_short rest ≡ true)
 
 pub one_added : (before now later : Fetched) (lens rest more : List ℕ) (n : ℕ) → HasAdded before now lens rest → rest ≡ n ∷ more
     → later ≡ record now { lengths = now.lengths ++ n ∷ [] } → HasAdded before later lens more
@@ -70,6 +80,7 @@ one_added before now later lens rest more n h cut is =
       more_added now.lengths rest more (before.lengths ++ lens) n cut h.2,
       omega (arith, longer, size, few),
       rest_follows now.head.length now.head.fin now.lengths rest more n cut h.4,
+      (and_parts (nat_le n 2048) (are_short more) (ap are_short (sym cut) ∙ h.5)).1,
     )
 
 pub all_added : (lengths lens whole : List ℕ) → lens ≡ [] → lengths ++ lens ≡ whole → lengths ≡ whole

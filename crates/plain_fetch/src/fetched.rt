@@ -1,6 +1,7 @@
 //! An entry of the log, as far as it is fetched.
 
-ghost use Rattle.std.specs.Prelude.{◌≡◌, ◌<◌, ◌≤◌, ◌+◌, ◌++◌, [], ◌∷◌, true, false, OnOk, MatchOption, nat_le, length, option_map};
+ghost use Rattle.std.specs.Prelude.{◌≡◌, ◌<◌, ◌≤◌, ◌+◌, ◌++◌, [], ◌∷◌, true, false, OnOk, MatchOption, nat_le, length, sum, option_map};
+ghost use Rattle.std.specs.List.{list_all};
 ghost use Rattle.seq_arith.specs.MessageGrammar.{lens_in};
 ghost use Rattle.plain_fetch.specs.Values.{head_in, wanted_in, wanted_of};
 ghost use Rattle.plain_fetch.specs.Following.{follows};
@@ -48,9 +49,19 @@ pub struct PlainFetched {
     closed: bool,
 }
 
+/// The parts of an entry.
+#[derive(Debug, Drop)]
+pub struct EntryParts {
+    pub head: EntryHead,
+    /// The client's bytes, from the first on.
+    pub bytes: Vec<u8>,
+    /// The lengths of the reads, from the first on.
+    pub lengths: Vec<u16>,
+}
+
 impl Model for PlainFetched {
-    ghost use Rattle.std.specs.Prelude.{◌≡◌, ◌==◌, ◌≤◌, length, sum};
-    ghost use Rattle.std.specs.List.{list_any};
+    ghost use Rattle.std.specs.Prelude.{◌≡◌, ◌==◌, ◌≤◌, true, nat_le, length, sum};
+    ghost use Rattle.std.specs.List.{list_any, list_all};
     ghost use Rattle.ft_model.specs.Restart.{Fetched};
     ghost use Rattle.plain_fetch.specs.Values.{head_in};
 
@@ -59,7 +70,8 @@ impl Model for PlainFetched {
     ghost view = { λ f. record { head = head_in f.head; bytes = f.bytes.items; lengths = f.lengths.items } };
 
     ghost invariant = { λ f. (f.read ≡ sum f.lengths.items) × (f.closed ≡ list_any (λ k. k == 0) f.lengths.items)
-        × (length f.bytes.items ≤ f.head.length) × (length f.lengths.items ≤ f.head.reads) × (f.read ≤ f.head.length) };
+        × (length f.bytes.items ≤ f.head.length) × (length f.lengths.items ≤ f.head.reads) × (f.read ≤ f.head.length)
+        × (list_all (λ k. nat_le k 2048) f.lengths.items ≡ true) };
 }
 
 impl PlainFetched {
@@ -76,6 +88,29 @@ impl PlainFetched {
             lengths: Vec::new(alloc),
             read: 0,
             closed: false,
+        }
+    }
+
+    /// Its head.
+    pub fn head(&self) -> EntryHead
+        ensures { head_in result ≡ self.now.head }
+    {
+        self.head
+    }
+
+    /// Its parts. The reads end within the entry's length, and none is longer than 2,048 bytes.
+    pub fn into_parts(self) -> EntryParts
+        ensures head { head_in result.head ≡ self.head }
+        ensures bytes { result.bytes.items ≡ self.bytes }
+        ensures lengths { result.lengths.items ≡ self.lengths }
+        ensures within { length self.bytes ≤ self.head.length }
+        ensures read { sum self.lengths ≤ self.head.length }
+        ensures short { list_all (λ k. nat_le k 2048) self.lengths ≡ true }
+    {
+        EntryParts {
+            head: self.head,
+            bytes: self.bytes,
+            lengths: self.lengths,
         }
     }
 
@@ -194,10 +229,11 @@ impl PlainFetched {
     }
 
     /// Adds the length of a read that may follow. After `NoMemory` the entry may only be dropped.
-    #[tactic(auto, using(crate::proofs::Following::sum_more, crate::proofs::Following::closes_more, crate::proofs::Following::was_open, crate::proofs::Following::ends_within))]
+    #[tactic(auto, using(crate::proofs::Following::sum_more, crate::proofs::Following::short_more, crate::proofs::Following::closes_more, crate::proofs::Following::was_open, crate::proofs::Following::ends_within))]
     fn add_length(&mut self, len: u16) -> Result<(), NoMemory>
         requires count { length self.old.lengths < self.old.head.reads }
         requires follow { may_follow self.old.head.length self.old.head.fin self.old.lengths len ≡ true }
+        requires short { len ≤ 2048 }
         ensures { OnOk result (self.new ≡ record self.old { lengths = self.old.lengths ++ len ∷ [] }) }
     {
         self.lengths.push(len)?;
@@ -211,6 +247,7 @@ impl PlainFetched {
     pub(crate) fn add_lengths(&mut self, lens: &[u8]) -> Result<(), NoMemory>
         requires count { length self.old.lengths + length (lens_in lens.now) ≤ self.old.head.reads }
         requires follow { all_follow self.old.head.length self.old.head.fin self.old.lengths (lens_in lens.now) ≡ true }
+        requires short { list_all (λ k. nat_le k 2048) (lens_in lens.now) ≡ true }
         ensures { OnOk result (self.new ≡ record self.old { lengths = self.old.lengths ++ lens_in lens.now }) }
     {
         let mut rest = lens;

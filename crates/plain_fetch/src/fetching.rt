@@ -1,6 +1,8 @@
 //! The entries that are fetched, the newest first.
 
-ghost use Rattle.std.specs.Prelude.{◌≡◌, [], IfOk, option_map};
+ghost use Rattle.std.specs.Prelude.{◌≡◌, true, [], IfOk, nat_le, option_map};
+ghost use Rattle.std.specs.List.{list_all};
+ghost use Rattle.seq_arith.specs.MessageGrammar.{lens_of};
 ghost use Rattle.ft_model.specs.Restart.{is_fetched};
 ghost use Rattle.logger_wire.specs.Value.{body_of};
 ghost use Rattle.plain_fetch.specs.Values.{wanted_in, IsTakenAs};
@@ -15,7 +17,7 @@ use std::marker::Model;
 /// The entries that are fetched so far, the newest first.
 #[derive(Debug, Drop)]
 pub struct PlainFetching {
-    entries: Vec<PlainFetched>,
+    pub(crate) entries: Vec<PlainFetched>,
 }
 
 impl Model for PlainFetching {
@@ -126,6 +128,7 @@ impl PlainFetching {
 
     /// Takes an answer of this boot, of so many entries, if it fits what is asked for. After `NoMemory` it may only be dropped.
     pub fn take(&mut self, alloc: Global, count: u16, body: &Body<'_>) -> Result<bool, NoMemory>
+        requires { list_all (λ len. nat_le len 2048) (lens_of (body_of body.now)) ≡ true }
         ensures { IfOk result (λ fits. IsTakenAs (fetched_after (wanted_lem count self.old) (body_of body.now) self.old) self.old self.new fits) }
     {
         match self.wanted(count) {
@@ -138,6 +141,7 @@ impl PlainFetching {
 
     /// Takes lengths of the newest entry, if the answer brings those asked for. After `NoMemory` it may only be dropped.
     fn take_lengths(&mut self, key: Key, first: u32, body: &Body<'_>) -> Result<bool, NoMemory>
+        requires { list_all (λ len. nat_le len 2048) (lens_of (body_of body.now)) ≡ true }
         ensures { IfOk result (λ fits. IsTakenAs (fetched_by (Its_lengths key first) (body_of body.now) self.old) self.old self.new fits) }
     {
         let Body::LensMsg {

@@ -2,10 +2,11 @@
 //! judges.
 #![tactic(auto)]
 
-pub use fetched::{EntryHead, PlainFetched};
+pub use fetched::{EntryHead, EntryParts, PlainFetched};
 pub use fetching::PlainFetching;
-pub use wanted::Wanted;
+pub use wanted::{Wanted, question};
 
+mod ending;
 mod fetched;
 mod fetching;
 mod lengths;

@@ -1,2 +1,4 @@
 pub mod Values
 pub mod Turn
+pub mod Resumed
+pub mod Copying

@@ -1,12 +1,14 @@
 //! The law Copy: which part of a segment is sent to the logger. Whether the segment was acceptable doesn't matter.
 
-ghost use Rattle.std.specs.Prelude.{◌≡◌};
+ghost use Rattle.std.specs.Prelude.{◌≡◌, ◌≤◌, ◌+◌, ◌^◌, ◌==◌, ◌&&◌, ◌||◌, not, nat_lt, length};
 ghost use Rattle.segment_codec.specs.Value.{segment_of};
+ghost use Rattle.ft_model.specs.Point.{Point};
 ghost use Rattle.plain_point.specs.Values.{data_in, bodies_of};
+ghost use Rattle.plain_point.specs.Copying.{further_part};
 
 use crate::point::PlainPoint;
 use ft_io::Key;
-use plain_segment::{counted_text, counts_fin, is_at, part};
+use plain_segment::{counted_text, counts_fin, is_at, part, place_of, rest};
 use segment_codec::PacketRef;
 use seq_arith::below;
 
@@ -26,7 +28,7 @@ pub struct Data<'a> {
 }
 
 impl PlainPoint {
-    ghost use Rattle.ft_model.specs.Copy.{copy_start as start_lem, copied_text as text_lem, copies_fin as fin_lem, una_part as una_lem, own_data as own_lem};
+    ghost use Rattle.ft_model.specs.Copy.{copy_start as start_lem, copied_text as text_lem, copies_fin as fin_lem, una_part as una_lem, own_data as own_lem, further_start};
 
     /// Where the part of a segment's text that isn't known to be logged begins.
     fn copy_start(&self, segment: &PacketRef<'_>) -> u64
@@ -90,6 +92,38 @@ impl PlainPoint {
             acked: self.una,
             fin: false,
             bytes: &[],
+        }
+    }
+
+    /// Where the text begins that was held and is taken in this turn, and isn't known to be logged: after so many bytes that were taken before the turn, and
+    /// after the segment's own.
+    fn further_start(&self, taken: u64, segment: &PacketRef<'_>) -> u64
+        requires { taken ≤ 2 ^ 63 }
+        ensures value { (before : Point) → taken ≡ length before.taken → result ≡ further_start before self.now (segment_of segment.now) }
+        ensures within { result ≤ 2 ^ 63 }
+    {
+        let len = counted_text(segment).len() as u64;
+        let end = place_of(self.first(segment), len).unwrap_or(0);
+        let own = end.min(self.taken.len() as u64);
+        self.answered.max(taken.max(own))
+    }
+
+    /// The text and the FIN that were held and are taken in this turn, and aren't known to be logged, where so many bytes were taken before the turn, and the FIN
+    /// or not.
+    pub fn further_data(&self, taken: u64, fin: bool, segment: &PacketRef<'_>) -> Data<'_>
+        requires { taken ≤ 2 ^ 63 }
+        ensures value { (before : Point) → taken ≡ length before.taken → fin ≡ before.fin
+            → data_in result ≡ further_part before self.now (segment_of segment.now) }
+        ensures within { result.offset + length result.bytes.now ≤ 2 ^ 63 }
+    {
+        let offset = self.further_start(taken, segment);
+        let takes_fin = self.fin && !fin && !self.copies_fin(segment);
+        Data {
+            key: self.numbers.key,
+            offset,
+            acked: self.una,
+            fin: takes_fin && self.answered <= self.taken.len() as u64,
+            bytes: rest(&self.taken, offset),
         }
     }
 }

@@ -1,6 +1,6 @@
 //! What is sent to the client: the laws Acknowledgement and Window, in the one header that all segments share.
 
-ghost use Rattle.std.specs.Prelude.{◌≡◌, ◌≤◌, ◌^◌, Some};
+ghost use Rattle.std.specs.Prelude.{◌≡◌, Some};
 ghost use Rattle.seq_arith.specs.Value.{said};
 ghost use Rattle.segment_codec.specs.Value.{segment_of};
 
@@ -41,10 +41,9 @@ impl PlainPoint {
         flags: u8,
         payload: &'a [u8],
     ) -> PacketRef<'a>
-        requires { offset ≤ 2 ^ 63 }
         ensures { segment_of result ≡ segment_lem server self.now offset flags payload.now }
     {
-        let seq = number_of(self.numbers.sisn, offset);
+        let seq = number_of(self.numbers.sisn, offset % (1 << 32));
         PacketRef {
             head: self.head_to(server, seq, flags, None),
             payload,
@@ -63,7 +62,6 @@ impl PlainPoint {
 
     /// The segment without data, at SND.NXT.
     pub fn bare_segment<'a>(&self, server: Addr) -> PacketRef<'a>
-        requires { self.now.sent ≤ 2 ^ 63 }
         ensures { segment_of result ≡ bare_lem server self.now }
     {
         self.segment_at(server, self.sent, ACK, &[])

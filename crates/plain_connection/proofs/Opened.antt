@@ -1,0 +1,22 @@
+-- A new connection is served, and so is one of a fetched entry, whose reads are made again.
+use Rattle.std.proofs.Common.{◌≡◌, ℕ, Bool, sym, subst, List, arith}
+use Rattle.server_trait.specs.Service.{Machine}
+use Rattle.made_output.specs.Made.{nothing_made, made_of}
+use Rattle.seq_arith.specs.Message.{Numbers}
+use Rattle.ft_model.specs.Opening.{point_opened}
+use Rattle.ft_model.specs.Point.{made}
+use Rattle.plain_point.specs.Resumed.{point_fetched}
+use Rattle.plain_connection.specs.State.{ConnectionState, IsServed}
+
+pub opened_served : {S : Type 0} (service : Machine S) (c : ConnectionState S) (numbers : Numbers) → c.point ≡ point_opened numbers → c.made ≡ nothing_made service → IsServed service c
+unfolding made_of
+opened_served service c numbers point made =
+    subst (λ x. IsServed service (record c { point = x; made = c.made })) (sym point)
+    (record { made = made; answered = omega arith; enough = omega arith; fetched = omega arith })
+
+pub fetched_served : {S : Type 0} (service : Machine S) (c : ConnectionState S) (numbers : Numbers) (bytes : List ℕ) (fin : Bool) → c.point ≡ point_fetched numbers bytes fin
+    → c.made ≡ nothing_made service → IsServed service c
+unfolding made_of
+fetched_served service c numbers bytes fin point made =
+    subst (λ x. IsServed service (record c { point = x; made = c.made })) (sym point)
+    (record { made = made; answered = omega arith; enough = omega arith; fetched = omega arith })

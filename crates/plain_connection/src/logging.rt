@@ -1,0 +1,268 @@
+//! What a turn sends to the logger: copies of the client's text, the lengths of reads, and that the connection is done. What has no spelling isn't sent: an
+//! offset past the longest stream, and the index of a read past the most reads.
+
+ghost use Rattle.std.specs.Prelude.{◌≡◌, ◌≤◌, ◌+◌, ◌^◌, ◌||◌, nat_lt, [], ◌∷◌, length, map, drop, OnOk};
+ghost use Rattle.server_trait.specs.Service.{machine};
+ghost use Rattle.seq_arith.specs.Message.Body.{DataMsg, ReadMsg, DoneMsg};
+ghost use Rattle.ft_model.specs.Connection.{told_by};
+ghost use Rattle.ft_model.specs.Point.{Point};
+ghost use Rattle.ft_model.specs.Reads.{read_messages};
+ghost use Rattle.segment_codec.specs.Value.{segment_of};
+ghost use Rattle.plain_point.specs.Values.{data_in};
+ghost use Rattle.plain_packets.specs.Sent.{Appends};
+ghost use Rattle.plain_connection.specs.News.{news_in};
+ghost use Rattle.plain_connection.specs.Before.{IsBefore};
+ghost use Rattle.plain_connection.specs.Copying.{datas_of};
+
+use crate::before::Before;
+use crate::connection::PlainConnection;
+use crate::news::News;
+use ft_io::{Key, NoMemory};
+use logger_wire::{Body, Msg};
+use plain_packets::PlainPackets;
+use plain_point::Data;
+use segment_codec::PacketRef;
+use server_trait::Service;
+use std::alloc::Global;
+
+/// The longest stream, in bytes.
+const LONGEST_STREAM: u64 = 1 << 24;
+
+/// The most text of one message, in bytes.
+const MOST_TEXT: usize = 1_460;
+
+/// Sends a part of the client's stream. After `NoMemory` the packets may only be dropped.
+#[tactic(auto, using(crate::proofs::Spelled::far_data, crate::proofs::Spelled::high_data))]
+fn send_data(
+    alloc: Global,
+    boot: u64,
+    part: &Data<'_>,
+    sent: &mut PlainPackets,
+) -> Result<(), NoMemory>
+    ensures { OnOk result (Appends sent.old sent.new (told_by boot (DataMsg (data_in part.now)) ∷ [])) }
+{
+    if part.offset > LONGEST_STREAM || part.acked > LONGEST_STREAM + 1 {
+        return Ok(());
+    }
+    let body = Body::DataMsg {
+        key: part.key,
+        offset: part.offset as u32,
+        acked: part.acked as u32,
+        fin: u8::from(part.fin),
+        bytes: part.bytes,
+    };
+    sent.send_to_logger(alloc, &Msg { boot, body })
+}
+
+/// Whether a part has text or the FIN.
+fn has_any(part: &Data<'_>) -> bool
+    ensures { result ≡ (nat_lt 0 (length part.now.bytes.now) || part.now.fin) }
+{
+    !part.bytes.is_empty() || part.fin
+}
+
+/// Sends the last part of some text, of at most 1,460 bytes, if it has text or the FIN. After `NoMemory` the packets may only be dropped.
+#[tactic(auto, using(crate::proofs::Copies::last_sent, crate::proofs::Copies::none_sent))]
+fn send_last(
+    alloc: Global,
+    boot: u64,
+    part: &Data<'_>,
+    sent: &mut PlainPackets,
+) -> Result<(), NoMemory>
+    requires { length part.now.bytes.now ≤ 1460 }
+    ensures { OnOk result (Appends sent.old sent.new (map (told_by boot) (datas_of (data_in part.now)))) }
+{
+    if has_any(part) {
+        send_data(alloc, boot, part, sent)
+    } else {
+        Ok(())
+    }
+}
+
+/// Sends a part of the client's stream, in messages of 1,460 bytes each except the last, which has the FIN. After `NoMemory` the packets may only be dropped.
+#[tactic(auto, using(crate::proofs::Telling::telling_begins))]
+fn send_datas(
+    alloc: Global,
+    boot: u64,
+    part: &Data<'_>,
+    sent: &mut PlainPackets,
+) -> Result<(), NoMemory>
+    requires { part.now.offset + length part.now.bytes.now ≤ 2 ^ 63 }
+    ensures { OnOk result (Appends sent.old sent.new (map (told_by boot) (datas_of (data_in part.now)))) }
+{
+    let mut rest = *part;
+    while rest.bytes.len() > MOST_TEXT {
+        let (bytes, behind) = rest.bytes.split_at(MOST_TEXT);
+        let full = Data {
+            fin: false,
+            bytes,
+            ..rest
+        };
+        send_data(alloc, boot, &full, sent)?;
+        rest = Data {
+            offset: rest.offset + MOST_TEXT as u64,
+            bytes: behind,
+            ..rest
+        };
+    }
+    send_last(alloc, boot, &rest, sent)
+}
+
+/// Sends the length of one read. After `NoMemory` the packets may only be dropped.
+#[tactic(auto, using(crate::proofs::Spelled::far_read))]
+fn send_read(
+    alloc: Global,
+    boot: u64,
+    key: Key,
+    index: usize,
+    length: u16,
+    sent: &mut PlainPackets,
+) -> Result<(), NoMemory>
+    ensures { OnOk result (Appends sent.old sent.new (told_by boot (ReadMsg key index length) ∷ [])) }
+{
+    if index as u64 > LONGEST_STREAM + 1 {
+        return Ok(());
+    }
+    let body = Body::ReadMsg {
+        key,
+        index: index as u32,
+        length,
+    };
+    sent.send_to_logger(alloc, &Msg { boot, body })
+}
+
+/// Sends the lengths of reads, from this one on. After `NoMemory` the packets may only be dropped.
+#[tactic(auto, using(crate::proofs::Telling::telling_begins))]
+fn send_reads(
+    alloc: Global,
+    boot: u64,
+    key: Key,
+    first: usize,
+    lengths: &[u16],
+    sent: &mut PlainPackets,
+) -> Result<(), NoMemory>
+    ensures { OnOk result (Appends sent.old sent.new (map (told_by boot) (read_messages key first (drop first lengths.now)))) }
+{
+    for index in first..lengths.len() {
+        send_read(alloc, boot, key, index, lengths[index], sent)?;
+    }
+    Ok(())
+}
+
+impl<S: Service> PlainConnection<S> {
+    ghost use Rattle.ft_model.specs.Copy.{copies};
+    ghost use Rattle.ft_model.specs.News.News.{Comes};
+    ghost use Rattle.ft_model.specs.Reads.{first_told, reads_told};
+    ghost use Rattle.ft_model.specs.ResetAndEnd.{dones, tells_done};
+
+    /// Sends what a segment has copied, over the connection after the turn: its own part, then what was held. SND.UNA is told with each, or alone where it rose.
+    /// After `NoMemory` the packets may only be dropped.
+    fn send_copied(
+        &self,
+        alloc: Global,
+        boot: u64,
+        segment: &PacketRef<'_>,
+        before: &Before,
+        sent: &mut PlainPackets,
+    ) -> Result<(), NoMemory>
+        requires { before.now.taken ≤ 2 ^ 63 }
+        ensures { (p : Point) → before.now.taken ≡ length p.taken → before.now.fin ≡ p.fin → before.now.una ≡ p.una
+            → OnOk result (Appends sent.old sent.new (map (told_by boot) (copies (Comes (segment_of segment.now)) p self.now.point))) }
+    {
+        let further = self.point.further_data(before.taken, before.fin, segment);
+        match self.point.own_data(segment) {
+            Some(own) => {
+                send_data(alloc, boot, &own, sent)?;
+                send_datas(alloc, boot, &further, sent)
+            }
+            None => {
+                if has_any(&further) {
+                    return send_datas(alloc, boot, &further, sent);
+                }
+                if before.una < self.point.una() {
+                    return send_data(alloc, boot, &self.point.una_data(), sent);
+                }
+                Ok(())
+            }
+        }
+    }
+
+    /// Sends copies of the client's text, over the connection after the turn. After `NoMemory` the packets may only be dropped.
+    #[tactic(auto, unfolding(ft_model::specs::Copy::copies), using(plain_packets::proofs::Sent::appends_none))]
+    pub(crate) fn send_copies(
+        &self,
+        alloc: Global,
+        boot: u64,
+        news: &News<'_>,
+        before: &Before,
+        sent: &mut PlainPackets,
+    ) -> Result<(), NoMemory>
+        requires { before.now.taken ≤ 2 ^ 63 }
+        ensures { (p : Point) → IsBefore (machine (S.started self.now.kind) S.after) (news_in news.now) p before.now
+            → OnOk result (Appends sent.old sent.new (map (told_by boot) (copies (news_in news.now) p self.now.point))) }
+    {
+        match news {
+            News::Segment(segment) => self.send_copied(alloc, boot, segment, before, sent),
+            News::Logged(_) | News::Tick | News::Begins => Ok(()),
+        }
+    }
+
+    /// The first read whose length is sent: a new one, or at a tick the first unanswered one.
+    fn first_told(&self, news: &News<'_>, before: &Before) -> usize
+        ensures { (p : Point) → IsBefore (machine (S.started self.now.kind) S.after) (news_in news.now) p before.now
+            → result ≡ first_told (news_in news.now) p self.now.point }
+    {
+        match news {
+            News::Tick => self.point.reads_answered(),
+            News::Segment(_) | News::Logged(_) | News::Begins => before.reads,
+        }
+    }
+
+    /// Sends the lengths of the reads of this turn, and at a tick those of all unanswered reads, over the connection after the turn. After `NoMemory` the packets
+    /// may only be dropped.
+    pub(crate) fn send_reads_told(
+        &self,
+        alloc: Global,
+        boot: u64,
+        news: &News<'_>,
+        before: &Before,
+        sent: &mut PlainPackets,
+    ) -> Result<(), NoMemory>
+        ensures { (p : Point) → IsBefore (machine (S.started self.now.kind) S.after) (news_in news.now) p before.now
+            → OnOk result (Appends sent.old sent.new (map (told_by boot) (reads_told (news_in news.now) p self.now.point))) }
+    {
+        let first = self.first_told(news, before);
+        let (key, lengths) = (self.point.key(), self.point.lengths());
+        send_reads(alloc, boot, key, first, lengths, sent)
+    }
+
+    /// Whether the turn reports that the connection is done, where it was reset before the turn or not: in the turn of the reset, at the fourth end tick, and at
+    /// each tick from then on.
+    fn tells_done(&self, news: &News<'_>, was_reset: bool) -> bool
+        ensures { (p : Point) → was_reset ≡ p.reset → result ≡ tells_done (news_in news.now) p self.now.point }
+    {
+        let is_reset = self.point.is_reset();
+        (is_reset && !was_reset) || (news.is_tick() && (is_reset || self.point.end_ticks() == 4))
+    }
+
+    /// Sends that the connection is done, where the turn reports it. After `NoMemory` the packets may only be dropped.
+    #[tactic(auto, unfolding(ft_model::specs::ResetAndEnd::dones), using(plain_packets::proofs::Sent::appends_none))]
+    pub(crate) fn send_dones(
+        &self,
+        alloc: Global,
+        boot: u64,
+        news: &News<'_>,
+        was_reset: bool,
+        sent: &mut PlainPackets,
+    ) -> Result<(), NoMemory>
+        ensures { (p : Point) → was_reset ≡ p.reset → OnOk result (Appends sent.old sent.new (map (told_by boot) (dones (news_in news.now) p self.now.point))) }
+    {
+        if !self.tells_done(news, was_reset) {
+            return Ok(());
+        }
+        let body = Body::DoneMsg {
+            key: self.point.key(),
+        };
+        sent.send_to_logger(alloc, &Msg { boot, body })
+    }
+}

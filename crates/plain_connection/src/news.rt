@@ -1,0 +1,33 @@
+//! What a turn of the server brings for one live connection.
+
+ghost use Rattle.std.specs.Prelude.{◌≡◌};
+ghost use Rattle.ft_model.specs.Timer.{is_tick};
+ghost use Rattle.plain_connection.specs.News.{news_in};
+
+use plain_point::Kept;
+use segment_codec::PacketRef;
+
+/// What a turn brings for one connection.
+#[derive(Clone, Copy, Debug)]
+pub enum News<'a> {
+    /// A segment of its client.
+    Segment(PacketRef<'a>),
+    /// A Stable or a Reads of this boot: how much of the connection is logged.
+    Logged(Kept),
+    /// A tick.
+    Tick,
+    /// It becomes live in this turn, as a new connection or at the end of a restart.
+    Begins,
+}
+
+impl News<'_> {
+    /// Whether it is a tick.
+    pub(crate) fn is_tick(&self) -> bool
+        ensures { result ≡ is_tick (news_in self.now) }
+    {
+        match self {
+            News::Tick => true,
+            News::Segment(_) | News::Logged(_) | News::Begins => false,
+        }
+    }
+}

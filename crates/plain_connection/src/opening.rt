@@ -1,0 +1,86 @@
+//! How a connection becomes live: with a client's SYN, or at the end of a restart.
+
+ghost use Rattle.std.specs.Prelude.{◌≡◌, ◌≤◌, [], true, false, IfOk, OnOk, nat_le, sum, length};
+ghost use Rattle.std.specs.List.{list_all};
+ghost use Rattle.server_trait.specs.Service.{machine};
+ghost use Rattle.ft_model.specs.Opening.{point_opened};
+ghost use Rattle.ft_model.specs.Restart.{entry_in, point_of, is_whole};
+ghost use Rattle.plain_point.specs.Values.{numbers_in};
+ghost use Rattle.plain_connection.specs.State.{IsServed};
+
+use crate::connection::PlainConnection;
+use ft_io::NoMemory;
+use made_output::Made;
+use plain_fetch::{EntryParts, PlainFetched};
+use plain_point::{Numbers, PlainPoint};
+use server_trait::Service;
+use std::alloc::Global;
+
+impl<S: Service> PlainConnection<S> {
+    /// A new connection with these numbers, of a service of this kind.
+    pub fn opened(
+        alloc: Global,
+        kind: u8,
+        numbers: &Numbers,
+    ) -> Result<PlainConnection<S>, NoMemory>
+        ensures point { IfOk result (λ c. c.point ≡ point_opened (numbers_in numbers.now)) }
+        ensures kind { IfOk result (λ c. c.kind ≡ kind) }
+        ensures served { IfOk result (λ c. IsServed (machine (S.started kind) S.after) c) }
+    {
+        Ok(PlainConnection {
+            kind,
+            point: PlainPoint::opened(alloc, numbers),
+            made: Made::new(alloc, kind)?,
+        })
+    }
+
+    /// The service makes the fetched reads again. After `NoMemory` the connection may only be dropped.
+    fn read_again(&mut self, lengths: &[u16]) -> Result<(), NoMemory>
+        requires served { IsServed (machine (S.started self.old.kind) S.after) self.old }
+        requires unread { self.old.point.lengths ≡ [] }
+        requires enough { sum lengths.now ≤ length self.old.point.taken }
+        requires short { list_all (λ n. nat_le n 2048) lengths.now ≡ true }
+        ensures point { OnOk result (self.new.point ≡ record self.old.point { lengths = lengths.now }) }
+        ensures kind { self.new.kind ≡ self.old.kind }
+        ensures served { OnOk result (IsServed (machine (S.started self.old.kind) S.after) self.new) }
+    {
+        for len in lengths {
+            self.read(*len)?;
+        }
+        Ok(())
+    }
+
+    /// A connection of a whole entry of the log that isn't done. The service makes its reads again, and the output continues after what the client has acknowledged.
+    pub fn resumed(
+        alloc: Global,
+        kind: u8,
+        entry: PlainFetched,
+    ) -> Result<PlainConnection<S>, NoMemory>
+        requires whole { is_whole entry ≡ true }
+        requires live { entry.head.done ≡ false }
+        ensures point { IfOk result (λ c. c.point ≡ point_of (machine (S.started kind) S.after) (entry_in entry)) }
+        ensures kind { IfOk result (λ c. c.kind ≡ kind) }
+        ensures served { IfOk result (λ c. IsServed (machine (S.started kind) S.after) c) }
+    {
+        let EntryParts {
+            head,
+            bytes,
+            lengths,
+        } = entry.into_parts();
+        let numbers = Numbers {
+            key: head.key,
+            cisn: head.cisn,
+            sisn: head.sisn,
+            mss: head.mss,
+        };
+        let mut connection = PlainConnection {
+            kind,
+            point: PlainPoint::fetched(alloc, &numbers, bytes, head.fin),
+            made: Made::new(alloc, kind)?,
+        };
+        connection.read_again(&lengths)?;
+        let at = u64::from(head.acked).min(connection.made());
+        connection.point.resume_at(at);
+        Ok(connection)
+    }
+}

@@ -1,0 +1,21 @@
+-- The point of an entry of the log, before its reads are made again and after.
+use Rattle.std.specs.Prelude.{ℕ, Bool, true, pos, ◌+◌, List, length}
+use Rattle.seq_arith.specs.Message.{Numbers}
+use Rattle.ft_model.specs.Offset.{one_if}
+use Rattle.ft_model.specs.Opening.{point_opened}
+use Rattle.ft_model.specs.Point.{Point}
+
+-- all of the entry is taken and known to be logged, nothing is read, and one acknowledgement has counted
+abbrev pub point_fetched : Numbers → List ℕ → Bool → Point
+point_fetched numbers bytes fin = record (point_opened numbers) {
+  fetched = length bytes;
+  taken = bytes;
+  fin = fin;
+  answered = length bytes + one_if fin;
+  wl1 = pos (length bytes);
+  syn_acked = true;
+}
+
+-- the reads made so far are known to be logged, and the output continues from an offset on
+abbrev pub with_output_from : ℕ → Point → Point
+with_output_from at p = record p { reads_answered = length p.lengths; una = at; sent = at; edge = at; wl2 = at }

@@ -1,0 +1,39 @@
+//! The point of a connection that a restart fetched from the log.
+
+ghost use Rattle.std.specs.Prelude.{◌≡◌, ◌≤◌, ◌^◌, length};
+ghost use Rattle.plain_point.specs.Values.{numbers_in};
+ghost use Rattle.plain_point.specs.Resumed.{point_fetched, with_output_from};
+
+use crate::point::{Numbers, PlainPoint};
+use std::alloc::Global;
+
+impl PlainPoint {
+    /// All bytes and the FIN of the log are taken and known to be logged, and one acknowledgement has counted, with window 0. Nothing is read yet. Nothing is
+    /// allocated.
+    pub fn fetched(alloc: Global, numbers: &Numbers, bytes: Vec<u8>, fin: bool) -> PlainPoint
+        requires { length bytes.items ≤ 2 ^ 32 }
+        ensures { result ≡ point_fetched (numbers_in numbers.now) bytes.items fin }
+    {
+        let len = bytes.len() as u64;
+        PlainPoint {
+            fetched: len,
+            taken: bytes,
+            fin,
+            answered: len + u64::from(fin),
+            wl1: len as i64,
+            syn_acked: true,
+            ..PlainPoint::opened(alloc, numbers)
+        }
+    }
+
+    /// The reads that were made are known to be logged, and the output continues from this offset on.
+    pub fn resume_at(&mut self, at: u64)
+        ensures { self.new ≡ with_output_from at self.old }
+    {
+        self.reads_answered = self.lengths.len();
+        self.una = at;
+        self.sent = at;
+        self.edge = at;
+        self.wl2 = at;
+    }
+}
