@@ -1,0 +1,4 @@
+pub mod Restored
+pub mod Served
+pub mod Turns
+pub mod Values

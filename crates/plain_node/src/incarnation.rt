@@ -1,0 +1,16 @@
+//! What never changes in one incarnation.
+
+use ft_io::Addr;
+
+/// One incarnation of a server.
+#[derive(Clone, Copy, Debug)]
+pub(crate) struct Incarnation {
+    /// Which service it has.
+    pub(crate) kind: u8,
+    /// Its address and port.
+    pub(crate) server: Addr,
+    /// Its boot number.
+    pub(crate) boot: u64,
+    /// The first initial number that it chooses.
+    pub(crate) isn: u32,
+}
