@@ -1,0 +1,4 @@
+pub mod Distinct
+pub mod Reaching
+pub mod Events
+pub mod Trace

@@ -1,0 +1,115 @@
+//! Those who take part: the clients, the log and the server. A packet reaches one of them.
+
+ghost use Rattle.std.specs.Prelude.{◌≡◌, ◌≤◌, ◌^◌, OnOk};
+ghost use Rattle.ft_model.specs.Legal.{machines};
+ghost use Rattle.ft_model.specs.Node.Input.{Tick_comes};
+ghost use Rattle.plain_world.specs.Turns.{Serves, MovesClient, Brings, BringsFlipped};
+ghost use Rattle.plain_world.specs.WorldState.{IsServedUp, opened_of};
+
+use crate::clients::{make, receive};
+use crate::log::hear;
+use crate::server::serve;
+use ft_io::NoMemory;
+use ft_model::Event;
+use logger_wire::read_msg;
+use plain_client::PlainClient;
+use plain_log::PlainLog;
+use plain_node::{Input, PlainNode};
+use plain_packets::{Path, PlainPackets, PlainWire};
+use segment_codec::read_packet;
+use server_trait::Service;
+use std::alloc::Global;
+use std::marker::Model;
+
+/// The clients, the log, and the server, if it is up.
+#[derive(Drop)]
+pub(crate) struct Actors<S: Service> {
+    pub(crate) clients: Vec<PlainClient>,
+    pub(crate) log: PlainLog,
+    pub(crate) node: Option<PlainNode<S>>,
+}
+
+impl<S: Service> Model for Actors<S> {
+    ghost use Rattle.plain_world.specs.WorldState.{ActorsState};
+
+    ghost Value = { ActorsState S };
+
+    ghost view = { λ a. record { clients = a.clients.items; log = a.log; node = a.node } };
+}
+
+impl<S: Service> Actors<S> {
+    /// A tick of the server's clock. After `NoMemory` both may only be dropped.
+    pub(crate) fn tick(&mut self, alloc: Global, sent: &mut PlainPackets) -> Result<(), NoMemory>
+        requires served { IsServedUp (machines S.started S.after) self.old.node }
+        requires few { opened_of self.old.node ≤ 2 ^ 32 }
+        ensures serves { OnOk result (Serves (machines S.started S.after) Tick_comes self.old.node self.new.node sent.old sent.new) }
+        ensures clients { self.new.clients ≡ self.old.clients }
+        ensures log { self.new.log ≡ self.old.log }
+    {
+        serve(&mut self.node, alloc, &Input::Tick, sent)
+    }
+
+    /// A client makes the move that an event asks for. After `NoMemory` both may only be dropped.
+    pub(crate) fn make(
+        &mut self,
+        alloc: Global,
+        number: u8,
+        event: &Event,
+        sent: &mut PlainPackets,
+    ) -> Result<(), NoMemory>
+        ensures { OnOk result (MovesClient number event.now self.old self.new sent.old sent.new) }
+    {
+        make(&mut self.clients, alloc, number, event, sent)
+    }
+
+    /// A packet reaches its addressee. After `NoMemory` both may only be dropped.
+    pub(crate) fn bring(
+        &mut self,
+        alloc: Global,
+        wire: &PlainWire,
+        sent: &mut PlainPackets,
+    ) -> Result<(), NoMemory>
+        requires served { IsServedUp (machines S.started S.after) self.old.node }
+        requires few { opened_of self.old.node ≤ 2 ^ 32 }
+        ensures { OnOk result (Brings (machines S.started S.after) wire.now self.old self.new sent.old sent.new) }
+    {
+        let bytes = wire.bytes();
+        match wire.path() {
+            Path::ToServer(_) => match read_packet(bytes) {
+                Ok(segment) => serve(&mut self.node, alloc, &Input::Packet(segment), sent),
+                Err(_) => Ok(()),
+            },
+            Path::ToClient(key) => match read_packet(bytes) {
+                Ok(segment) => receive(&mut self.clients, key, &segment),
+                Err(_) => Ok(()),
+            },
+            Path::ToLogger => match read_msg(bytes) {
+                Ok(msg) => hear(&mut self.log, alloc, &msg, sent),
+                Err(_) => Ok(()),
+            },
+            Path::FromLogger => match read_msg(bytes) {
+                Ok(msg) => serve(&mut self.node, alloc, &Input::Message(msg), sent),
+                Err(_) => Ok(()),
+            },
+        }
+    }
+
+    /// A packet reaches its addressee with a changed bit, and can't be read: the server takes a turn on noise. After `NoMemory` both may only be dropped.
+    pub(crate) fn bring_flipped(
+        &mut self,
+        alloc: Global,
+        wire: &PlainWire,
+        sent: &mut PlainPackets,
+    ) -> Result<(), NoMemory>
+        requires served { IsServedUp (machines S.started S.after) self.old.node }
+        requires few { opened_of self.old.node ≤ 2 ^ 32 }
+        ensures { OnOk result (BringsFlipped (machines S.started S.after) wire.now self.old self.new sent.old sent.new) }
+    {
+        match wire.path() {
+            Path::ToServer(_) => serve(&mut self.node, alloc, &Input::Noise, sent),
+            Path::FromLogger => serve(&mut self.node, alloc, &Input::Noise, sent),
+            Path::ToClient(_) => Ok(()),
+            Path::ToLogger => Ok(()),
+        }
+    }
+}

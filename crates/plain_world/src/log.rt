@@ -1,0 +1,35 @@
+//! The log, as it takes a message and answers.
+
+ghost use Rattle.std.specs.Prelude.{◌≡◌, OnOk, option_map};
+ghost use Rattle.std.specs.Option.{option_to_list};
+ghost use Rattle.logger_wire.specs.Value.{message_of, IsSendable};
+ghost use Rattle.ft_model.specs.Log.{log_after, answer_to};
+ghost use Rattle.ft_model.specs.Network.Packet.{From_logger};
+ghost use Rattle.plain_packets.specs.Sent.{Appends};
+
+use ft_io::NoMemory;
+use logger_wire::Msg;
+use plain_log::PlainLog;
+use plain_packets::PlainPackets;
+use std::alloc::Global;
+
+/// A message arrives at the log, which sends its answer. After `NoMemory` both may only be dropped.
+#[tactic(auto, using(plain_packets::proofs::Sent::appends_none))]
+pub(crate) fn hear(
+    log: &mut PlainLog,
+    alloc: Global,
+    msg: &Msg<'_>,
+    sent: &mut PlainPackets,
+) -> Result<(), NoMemory>
+    requires { IsSendable msg.now }
+    ensures log { OnOk result (log.new ≡ log_after log.old (message_of msg.now)) }
+    ensures answer { OnOk result (Appends sent.old sent.new (option_to_list (option_map From_logger (answer_to log.old (message_of msg.now))))) }
+{
+    log.take(alloc, msg)?;
+    let mut lens = Vec::new(alloc);
+    log.spell_lengths(msg, &mut lens)?;
+    match log.answer(msg, &lens) {
+        Some(answer) => sent.send_from_logger(alloc, &answer),
+        None => Ok(()),
+    }
+}

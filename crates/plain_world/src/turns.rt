@@ -1,0 +1,125 @@
+//! What each event does to the world.
+
+ghost use Rattle.std.specs.Prelude.{◌≡◌, ◌<◌, ◌≤◌, ◌^◌, ℕ, None, Some, OnOk, List};
+ghost use Rattle.ft_model.specs.Client.{mover_of};
+ghost use Rattle.ft_model.specs.Legal.{machines, start_of, refusal as refusal_lem};
+ghost use Rattle.ft_model.specs.Readable.{FitsEvent, FitsSchedule};
+ghost use Rattle.ft_model.specs.World.{Moment, world_after};
+ghost use Rattle.ft_model.specs.declared.event.Event.TheVariants.{Boot, Crash, Tick, Deliver, Flip};
+ghost use Rattle.ft_model.specs.declared.schedule.Schedule.{Schedule as Written};
+ghost use Rattle.plain_world.specs.Turns.{Does};
+ghost use Rattle.plain_world.specs.WorldState.{IsAt, IsReady, Steps, IsServedUp, opened_of};
+
+use crate::world::PlainWorld;
+use ft_io::NoMemory;
+use ft_model::Event;
+use ft_model::headline::no_server_is_fenced;
+use ft_model::wire::packets_have_wires;
+use plain_node::PlainNode;
+use plain_packets::PlainPackets;
+use server_trait::Service;
+use std::alloc::Global;
+
+impl<S: Service> PlainWorld<S> {
+    /// The server starts.
+    fn start(&mut self, alloc: Global, boot: u64, isn: u32) -> Result<(), NoMemory>
+        ensures { OnOk result (Does (machines S.started S.after) (Boot boot isn) self.old self.new) }
+    {
+        let node = PlainNode::booted(self.kind, self.server, boot, isn);
+        node.send_hello(alloc, &mut self.packets)?;
+        self.boot = boot;
+        self.actors.node = Some(node);
+        Ok(())
+    }
+
+    /// The server goes down, and all that it held is lost.
+    fn crash(&mut self)
+        ensures { Does (machines S.started S.after) Crash self.old self.new }
+    {
+        self.actors.node = None;
+    }
+
+    /// A tick of the server's clock.
+    fn tick(&mut self, alloc: Global) -> Result<(), NoMemory>
+        requires served { IsServedUp (machines S.started S.after) self.old.node }
+        requires few { opened_of self.old.node ≤ 2 ^ 32 }
+        ensures { OnOk result (Does (machines S.started S.after) Tick self.old self.new) }
+    {
+        self.actors.tick(alloc, &mut self.packets)
+    }
+
+    /// A packet reaches its addressee.
+    fn deliver(&mut self, alloc: Global, number: u32) -> Result<(), NoMemory>
+        requires served { IsServedUp (machines S.started S.after) self.old.node }
+        requires few { opened_of self.old.node ≤ 2 ^ 32 }
+        ensures { OnOk result (Does (machines S.started S.after) (Deliver number) self.old self.new) }
+    {
+        let mut sent = PlainPackets::new(alloc);
+        let Some(wire) = self.packets.get(number) else {
+            return Ok(());
+        };
+        self.actors.bring(alloc, wire, &mut sent)?;
+        self.packets.append(sent)
+    }
+
+    /// A packet reaches its addressee with one bit changed.
+    fn flip(&mut self, alloc: Global, number: u32) -> Result<(), NoMemory>
+        requires served { IsServedUp (machines S.started S.after) self.old.node }
+        requires few { opened_of self.old.node ≤ 2 ^ 32 }
+        ensures { OnOk result ((bit : ℕ) → Does (machines S.started S.after) (Flip number bit) self.old self.new) }
+    {
+        let mut sent = PlainPackets::new(alloc);
+        let Some(wire) = self.packets.get(number) else {
+            return Ok(());
+        };
+        self.actors.bring_flipped(alloc, wire, &mut sent)?;
+        self.packets.append(sent)
+    }
+
+    /// A client makes the move that an event asks for.
+    fn move_client(&mut self, alloc: Global, number: u8, event: &Event) -> Result<(), NoMemory>
+        requires mover { mover_of event.now ≡ Some number }
+        requires served { IsServedUp (machines S.started S.after) self.old.node }
+        ensures { OnOk result (Does (machines S.started S.after) event.now self.old self.new) }
+    {
+        self.actors.make(alloc, number, event, &mut self.packets)
+    }
+
+    /// Does an event that is allowed.
+    fn act(&mut self, alloc: Global, event: &Event) -> Result<(), NoMemory>
+        requires served { IsServedUp (machines S.started S.after) self.old.node }
+        requires few { opened_of self.old.node ≤ 2 ^ 32 }
+        ensures { OnOk result (Does (machines S.started S.after) event.now self.old self.new) }
+    {
+        match *event {
+            Event::Boot { boot, isn } => self.start(alloc, boot, isn),
+            Event::Crash => {
+                self.crash();
+                Ok(())
+            }
+            Event::Tick => self.tick(alloc),
+            Event::Deliver { packet } => self.deliver(alloc, packet),
+            Event::Flip { packet, .. } => self.flip(alloc, packet),
+            Event::Begin { client, .. }
+            | Event::Send { client, .. }
+            | Event::Fin { client }
+            | Event::Ack { client, .. }
+            | Event::Reset { client } => self.move_client(alloc, client, event),
+            Event::Stop { .. } => Ok(()),
+        }
+    }
+
+    /// An event happens, which `refusal` allows. After `NoMemory` the world may only be dropped.
+    pub fn step(&mut self, alloc: Global, event: &Event) -> Result<(), NoMemory>
+        requires room { self.old.turns < 2 ^ 31 }
+        requires ready { IsReady (machines S.started S.after) self.old }
+        ensures { OnOk result ((schedule : Written) (trace : List Moment) → IsAt (machines S.started S.after) schedule trace self.old → FitsSchedule schedule → FitsEvent event.now
+            → refusal_lem (world_after (start_of schedule) trace) event.now ≡ None → Steps (machines S.started S.after) schedule trace event.now self.old self.new) }
+    {
+        no_server_is_fenced::<S>();
+        packets_have_wires::<S>();
+        self.act(alloc, event)?;
+        self.turns += 1;
+        Ok(())
+    }
+}

@@ -1,0 +1,165 @@
+//! The world, and what an event does to it.
+
+ghost use Rattle.std.specs.Prelude.{◌≡◌, Some, IfOk, List, [], map};
+ghost use Rattle.ft_model.specs.Client.{mover_of, move_asked};
+ghost use Rattle.ft_model.specs.Legal.{machines, start_of, refusal as refusal_lem, refusal_of_asked};
+ghost use Rattle.ft_model.specs.Network.{Packet};
+ghost use Rattle.ft_model.specs.Playable.{IsPlayable};
+ghost use Rattle.ft_model.specs.Wire.{wire_of};
+ghost use Rattle.ft_model.specs.World.{Moment, world_after};
+ghost use Rattle.ft_model.specs.declared.event.Event.{Event as Asked};
+ghost use Rattle.ft_model.specs.declared.event.Event.TheVariants.{Flip};
+ghost use Rattle.ft_model.specs.declared.schedule.Schedule.{Schedule as Written};
+ghost use Rattle.plain_world.specs.WorldState.{IsAt, world_of};
+
+use crate::actors::Actors;
+use crate::clients::{new_clients, numbered};
+use ft_io::{Addr, NoMemory};
+use ft_model::grammar::playable_schedules_start;
+use ft_model::{Event, EventWhy, Schedule};
+use plain_client::{PlainClient, move_of};
+use plain_log::PlainLog;
+use plain_packets::PlainPackets;
+use server_trait::Service;
+use std::alloc::Global;
+use std::marker::Model;
+
+/// The world of a schedule's run.
+#[derive(Drop)]
+pub struct PlainWorld<S: Service> {
+    /// The number of the service's kind.
+    pub(crate) kind: u8,
+    /// The server's address and port.
+    pub(crate) server: Addr,
+    pub(crate) actors: Actors<S>,
+    /// All packets that were sent.
+    pub(crate) packets: PlainPackets,
+    /// The largest boot number so far.
+    pub(crate) boot: u64,
+    /// How many events happened.
+    pub(crate) turns: u32,
+}
+
+impl<S: Service> Model for PlainWorld<S> {
+    ghost use Rattle.plain_world.specs.WorldState.{WorldState};
+
+    ghost Value = { WorldState S };
+
+    ghost view = { λ w. record {
+      kind = w.kind;
+      server = w.server;
+      clients = w.actors.clients;
+      log = w.actors.log;
+      packets = w.packets;
+      boot = w.boot;
+      node = w.actors.node;
+      turns = w.turns;
+    } };
+}
+
+impl<S: Service> PlainWorld<S> {
+    /// The world before the first event.
+    pub fn new(alloc: Global, schedule: &Schedule) -> Result<PlainWorld<S>, NoMemory>
+        requires { IsPlayable schedule.now }
+        ensures { (events : List Asked) → IfOk result (λ w. IsAt (machines S.started S.after) (record schedule.now { events = events }) [] w) }
+    {
+        playable_schedules_start();
+        let clients = new_clients(alloc, schedule.server, schedule.clients.as_slice())?;
+        Ok(PlainWorld {
+            kind: schedule.service.number(),
+            server: schedule.server,
+            actors: Actors {
+                clients,
+                log: PlainLog::new(alloc),
+                node: None,
+            },
+            packets: PlainPackets::new(alloc),
+            boot: 0,
+            turns: 0,
+        })
+    }
+
+    /// All packets that were sent.
+    pub fn packets(&self) -> &PlainPackets
+        ensures { result.now ≡ self.now.packets }
+    {
+        &self.packets
+    }
+
+    /// The clients.
+    pub fn clients(&self) -> &[PlainClient]
+        ensures { result.now ≡ self.now.clients }
+    {
+        self.actors.clients.as_slice()
+    }
+
+    /// The log.
+    pub fn log(&self) -> &PlainLog
+        ensures { result.now ≡ self.now.log }
+    {
+        &self.actors.log
+    }
+
+    /// How many events happened.
+    pub fn turns(&self) -> u32
+        ensures { result ≡ self.now.turns }
+    {
+        self.turns
+    }
+
+    /// Why a client may not make the move that an event asks for.
+    fn move_refusal(&self, number: u8, event: &Event) -> Option<EventWhy>
+        requires { mover_of event.now ≡ Some number }
+        ensures { result ≡ refusal_of_asked self.now.clients (move_asked event.now) }
+    {
+        let Some(client) = numbered(self.clients(), number) else {
+            return Some(EventWhy::Client);
+        };
+        client.refusal(move_of(event)?)
+    }
+
+    /// Why a bit of a packet may not be changed.
+    fn flip_refusal(&self, number: u32, bit: u32) -> Option<EventWhy>
+        ensures { (packets : List Packet) → self.now.packets ≡ map wire_of packets → result ≡ refusal_lem (world_of self.now packets) (Flip number bit) }
+    {
+        let Some(wire) = self.packets.get(number) else {
+            return Some(EventWhy::Packet);
+        };
+        if bit as usize / 8 >= wire.bytes().len() {
+            return Some(EventWhy::Bit);
+        }
+        None
+    }
+
+    /// Why an event may not happen, by the packets that these wires are.
+    fn refusal_now(&self, event: &Event) -> Option<EventWhy>
+        ensures { (packets : List Packet) → self.now.packets ≡ map wire_of packets → result ≡ refusal_lem (world_of self.now packets) event.now }
+    {
+        match *event {
+            Event::Boot { .. } if self.actors.node.is_some() => Some(EventWhy::Up),
+            Event::Boot { boot, .. } if boot <= self.boot => Some(EventWhy::Boot),
+            Event::Boot { .. } => None,
+            Event::Crash | Event::Tick if self.actors.node.is_none() => Some(EventWhy::Down),
+            Event::Crash | Event::Tick => None,
+            Event::Deliver { packet } if self.packets.get(packet).is_none() => {
+                Some(EventWhy::Packet)
+            }
+            Event::Deliver { .. } => None,
+            Event::Flip { packet, bit } => self.flip_refusal(packet, bit),
+            Event::Begin { client, .. }
+            | Event::Send { client, .. }
+            | Event::Fin { client }
+            | Event::Ack { client, .. }
+            | Event::Reset { client } => self.move_refusal(client, event),
+            Event::Stop { .. } => Some(EventWhy::Stop),
+        }
+    }
+
+    /// Why an event may not happen; none where it may.
+    pub fn refusal(&self, event: &Event) -> Option<EventWhy>
+        ensures { (schedule : Written) (trace : List Moment) → IsAt (machines S.started S.after) schedule trace self.now
+            → result ≡ refusal_lem (world_after (start_of schedule) trace) event.now }
+    {
+        self.refusal_now(event)
+    }
+}
