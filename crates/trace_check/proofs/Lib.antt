@@ -1,0 +1,11 @@
+pub mod TextLines
+pub mod HeaderLines
+pub mod ClosingLines
+pub mod TurnLines
+pub mod AfterLines
+pub mod JudgedTurns
+pub mod ManyLines
+pub mod SentLines
+pub mod ToldTurns
+pub mod TurnWalk
+pub mod WalkEnds

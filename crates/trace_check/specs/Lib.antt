@@ -1,0 +1,5 @@
+pub mod Leads
+pub mod Turn
+pub mod After
+pub mod SentLines
+pub mod Walk

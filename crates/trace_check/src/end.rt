@@ -1,0 +1,11 @@
+//! Why a text is no report of a legal trace.
+
+use report_laws::Law;
+
+/// Why a check ended without a yes.
+#[derive(Clone, Copy, Debug, PartialEq, Eq)]
+pub enum CheckEnd {
+    NoMemory,
+    /// The first line that is rejected, counted from 1, and the law that it breaks. The end of the text counts as a line.
+    Reject { line: u32, law: Law },
+}

@@ -1,0 +1,127 @@
+//! The packet lines of an event.
+
+ghost use Rattle.std.specs.Prelude.{◌≡◌, ℕ, ◌<◌, ◌≤◌, ◌+◌, false, true, List, [], drop, length, IfOk, IfSome, MatchOption};
+ghost use Rattle.ft_model.specs.Legal.{machines};
+ghost use Rattle.ft_model.specs.Network.{Packet};
+ghost use Rattle.ft_model.specs.Report.{packet_count};
+ghost use Rattle.ft_model.specs.World.{Moment};
+ghost use Rattle.ft_model.specs.declared.event.Event.{Event};
+ghost use Rattle.report_laws.specs.Lines.{lines_in};
+ghost use Rattle.report_laws.specs.Transitions.Position.{InTurn};
+ghost use Rattle.trace_check.specs.Leads.{Leads};
+ghost use Rattle.trace_check.specs.Turn.{AreSent, EndsTurn, IsChecked, IsTold, TellsPackets, TellsTurn, with_events};
+
+use crate::lines::{between, line_end};
+use crate::sent::write_wires;
+use ft_io::NoMemory;
+use line_check::is_packet_line;
+use plain_packets::PlainPackets;
+use schedule_text::Schedule;
+use server_trait::Service;
+use std::alloc::Global;
+
+/// The most packets of a trace.
+const PACKET_LIMIT: usize = 200_000;
+
+/// The packet lines of an event.
+#[derive(Clone, Copy, Debug, PartialEq, Eq)]
+pub struct PacketLines {
+    /// Where they end in the text.
+    pub end: usize,
+    /// How many they are.
+    pub count: u32,
+}
+
+/// The packet lines that follow the first `at` bytes of a text, where so many packets were told before. The line after them is not that of the next packet.
+#[tactic(auto, using(crate::proofs::TurnLines::all_begin, crate::proofs::TurnLines::all_grow, crate::proofs::TurnLines::few_packets, crate::proofs::TurnLines::turn_ends_with_text, crate::proofs::TurnLines::turn_ends_before))]
+pub fn read_packet_lines<S: Service>(
+    schedule: &Schedule,
+    text: &[u8],
+    at: usize,
+    told: u32,
+) -> PacketLines
+    requires within { (at ≤ length text.now) × (told ≤ 200000) }
+    requires schedule { IsChecked schedule.now }
+    ensures within { (at ≤ result.end) × (result.end ≤ length text.now) × (told + result.count ≤ 200000) }
+    ensures packets { (events : List Event) (trace : List Moment) (event : Event) (lines : ℕ) → packet_count trace ≡ told
+        → Leads (machines S.started S.after) text.now (InTurn (with_events schedule.now events) trace event []) (drop at text.now) lines
+        → TellsPackets (machines S.started S.after) text.now (with_events schedule.now events) trace event at result.end (lines + result.count) result.count }
+    ensures complete { EndsTurn schedule.now (told + result.count + 1) (lines_in (drop result.end text.now)) }
+{
+    let mut end = at;
+    let mut count = 0;
+    while end < text.len() {
+        let next = line_end(text, end);
+        if !is_packet_line(schedule, told + count + 1, between(text, end, next)) {
+            return PacketLines { end, count };
+        }
+        end = next;
+        count += 1;
+    }
+    PacketLines { end, count }
+}
+
+/// Whether the line of packet `n` follows the first `at` bytes of a text.
+#[tactic(auto, using(crate::proofs::ToldTurns::no_packet_begins, crate::proofs::TurnLines::turn_ends_before, crate::proofs::ToldTurns::packet_follows, std::proofs::lemmas::List::take_rest))]
+fn another_follows(schedule: &Schedule, text: &[u8], at: usize, n: u32) -> bool
+    requires within { at ≤ length text.now }
+    requires schedule { IsChecked schedule.now }
+    ensures no { result ≡ false → EndsTurn schedule.now n (lines_in (drop at text.now)) }
+    ensures yes { result ≡ true → EndsTurn schedule.now n (lines_in (drop at text.now)) → ⊥ }
+{
+    if !text[at..].starts_with(b"packet ") {
+        return false;
+    }
+    let end = line_end(text, at);
+    is_packet_line(schedule, n, between(text, at, end))
+}
+
+/// Where what is due ends, if it follows the first `from` bytes of a text, and then no line of packet `n`.
+#[tactic(auto, using(crate::proofs::ToldTurns::due_is_told, crate::proofs::ToldTurns::other_is_due, crate::proofs::ToldTurns::more_is_due, std::proofs::lemmas::List::take_rest))]
+fn told_end(schedule: &Schedule, text: &[u8], from: usize, due: &[u8], n: u32) -> Option<usize>
+    requires within { from ≤ length text.now }
+    requires schedule { IsChecked schedule.now }
+    ensures { MatchOption result ((end : ℕ) → IsTold text.now schedule.now from end n due.now → ⊥) (λ end. IsTold text.now schedule.now from end n due.now) }
+{
+    if !text[from..].starts_with(due) {
+        return None;
+    }
+    let end = from + due.len();
+    if another_follows(schedule, text, end, n) {
+        None
+    } else {
+        Some(end)
+    }
+}
+
+/// The packet lines that follow the first `from` bytes of a text, if they are the lines of all packets after the first `before`. `due` is overwritten.
+pub(crate) fn read_sent(
+    alloc: Global,
+    schedule: &Schedule,
+    text: &[u8],
+    from: usize,
+    packets: &PlainPackets,
+    before: usize,
+    due: &mut Vec<u8>,
+) -> Result<Option<PacketLines>, NoMemory>
+    requires within { (from ≤ length text.now) × (before ≤ length packets.now) }
+    requires schedule { IsChecked schedule.now }
+    requires sent { (sent : List Packet) × AreSent packets.now before sent }
+    ensures within { IfOk result (λ read. IfSome read (λ p. (from + p.count ≤ p.end) × (p.end ≤ length text.now) × (before + p.count ≡ length packets.now) × (before + p.count ≤ 200000))) }
+    ensures told { IfOk result (λ read. (sent : List Packet) → AreSent packets.now before sent
+        → MatchOption read ((end : ℕ) → TellsTurn text.now schedule.now from end (before + 1) sent → ⊥) (λ p. TellsTurn text.now schedule.now from p.end (before + 1) sent)) }
+{
+    let all = packets.as_slice();
+    if PACKET_LIMIT < all.len() {
+        return Ok(None);
+    }
+    due.clear();
+    write_wires(alloc, schedule, before as u32 + 1, &all[before..], due)?;
+    match told_end(schedule, text, from, due, all.len() as u32 + 1) {
+        Some(end) => Ok(Some(PacketLines {
+            end,
+            count: (all.len() - before) as u32,
+        })),
+        None => Ok(None),
+    }
+}

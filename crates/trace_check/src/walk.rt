@@ -1,0 +1,182 @@
+//! The turns of a report: each event is played in the plain world, and the packet lines that follow its line are those of what the world sends.
+
+ghost use Rattle.std.specs.Prelude.{◌≡◌, ℕ, ◌+◌, ◌<◌, ◌≤◌, ◌^◌, List, [], ◌∷◌, ◌++◌, drop, length, IfErr, IfOk};
+ghost use Rattle.ft_model.specs.Legal.{IsLegalFor, machines, start_of};
+ghost use Rattle.ft_model.specs.Network.{Packet};
+ghost use Rattle.ft_model.specs.Report.{packet_count};
+ghost use Rattle.ft_model.specs.World.{World, Moment, events_of, world_after};
+ghost use Rattle.ft_model.specs.declared.event.Event.{Event as Asked};
+ghost use Rattle.ft_model.specs.declared.schedule.Schedule.{Schedule as Written};
+ghost use Rattle.plain_world.specs.WorldState.{IsAt};
+ghost use Rattle.report_laws.specs.Transitions.{actor as actor_lem, closing_of};
+ghost use Rattle.report_laws.specs.Transitions.Position.{InClosing, InTurn};
+ghost use Rattle.report_laws.specs.TurnLines.{schedule_through};
+ghost use Rattle.trace_check.specs.After.{ReadsEvent, is_refused as refused_lem};
+ghost use Rattle.trace_check.specs.Leads.{IsRejection, Leads};
+ghost use Rattle.trace_check.specs.Turn.{IsChecked, TellsTurn, with_events};
+ghost use Rattle.trace_check.specs.Walk.{IsPlaceIn, IsPlayed, IsWalked};
+
+use crate::end::CheckEnd;
+use crate::next::{EventRead, read_event};
+use crate::sent::actor;
+use crate::turn::{read_packet_lines, read_sent};
+use ft_io::NoMemory;
+use ft_model::laws::legal_traces_are_determined;
+use ft_model::{Event, Schedule};
+use plain_world::PlainWorld;
+use report_laws::Law;
+use server_trait::Service;
+use std::alloc::Global;
+
+/// The most events of a trace.
+const EVENT_LIMIT: u32 = 100_000;
+
+/// A place in a report's text.
+#[derive(Clone, Copy, Debug, PartialEq, Eq)]
+pub(crate) struct Place {
+    /// The bytes of the text before it.
+    pub at: usize,
+    /// The lines before it.
+    pub lines: u32,
+    /// The bytes that the schedule's own text has up to it.
+    pub size: usize,
+}
+
+/// Whether an event may not happen then, or is one too many.
+fn is_refused<S: Service>(world: &PlainWorld<S>, event: &Event) -> bool
+    ensures { (schedule : Written) (trace : List Moment) → IsAt (machines S.started S.after) schedule trace world.now → result ≡ refused_lem schedule trace event.now }
+{
+    world.refusal(event).is_some() || EVENT_LIMIT <= world.turns()
+}
+
+/// The rejection of a turn whose packet lines, which follow a place, no legal trace has.
+fn reject_turn<S: Service>(
+    schedule: &Schedule,
+    text: &[u8],
+    place: Place,
+    told: u32,
+    law: Law,
+) -> CheckEnd
+    requires schedule { IsChecked schedule.now }
+    requires within { IsPlaceIn text.now place × (length text.now ≤ 2 ^ 28) × (told ≤ 200000) }
+    ensures { (trace : List Moment) (event : Asked) → packet_count trace ≡ told → law ≡ actor_lem (world_after (start_of schedule.now) trace) event
+        → Leads (machines S.started S.after) text.now (InTurn (with_events schedule.now (events_of trace ++ event ∷ [])) trace event []) (drop place.at text.now) place.lines
+        → ((sent : List Packet) (w : World) (end : ℕ) → TellsTurn text.now schedule.now place.at end (told + 1) sent
+        → IsLegalFor (machines S.started S.after) (with_events schedule.now (events_of trace ++ event ∷ [])) (events_of trace ++ event ∷ [])
+        (record { event = event; sent = sent; world = w } ∷ trace) → ⊥)
+        → IsRejection (machines S.started S.after) text.now result }
+{
+    let read = read_packet_lines::<S>(schedule, text, place.at, told);
+    CheckEnd::Reject {
+        line: place.lines + read.count + 1,
+        law,
+    }
+}
+
+/// The packet lines of an event that was just played, which follow a place: they are right where they are the lines of all packets after the first `before`.
+fn judge<S: Service>(
+    alloc: Global,
+    schedule: &Schedule,
+    text: &[u8],
+    place: Place,
+    before: usize,
+    law: Law,
+    world: &PlainWorld<S>,
+    due: &mut Vec<u8>,
+) -> Result<Place, CheckEnd>
+    requires schedule { IsChecked schedule.now }
+    requires within { IsPlaceIn text.now place × (length text.now ≤ 2 ^ 28) }
+    requires known { (before ≤ length world.now.packets) × (before ≤ 200000) }
+    requires played { (trace : List Moment) × (moment : Moment) × IsPlayed (machines S.started S.after) text.now schedule.now trace moment place before law world.now }
+    ensures within { IfOk result (λ after. IsPlaceIn text.now after × (place.at ≤ after.at)) }
+    ensures walked { IfOk result (λ after. (trace : List Moment) × IsWalked (machines S.started S.after) text.now schedule.now trace after world.now) }
+    ensures rejected { IfErr result (IsRejection (machines S.started S.after) text.now) }
+{
+    legal_traces_are_determined::<S>();
+    match read_sent(
+        alloc,
+        schedule,
+        text,
+        place.at,
+        world.packets(),
+        before,
+        due,
+    ) {
+        Ok(Some(read)) => Ok(Place {
+            at: read.end,
+            lines: place.lines + read.count,
+            size: place.size,
+        }),
+        Ok(None) => Err(reject_turn::<S>(schedule, text, place, before as u32, law)),
+        Err(NoMemory) => Err(CheckEnd::NoMemory),
+    }
+}
+
+/// Plays the event of the line after a place. The text is rejected where the event may not happen then, and where its packet lines aren't those of its turn.
+/// After `NoMemory` the world may only be dropped.
+fn take_event<S: Service>(
+    alloc: Global,
+    schedule: &Schedule,
+    text: &[u8],
+    place: Place,
+    read: &EventRead,
+    world: &mut PlainWorld<S>,
+    due: &mut Vec<u8>,
+) -> Result<Place, CheckEnd>
+    requires schedule { IsChecked schedule.now }
+    requires within { IsPlaceIn text.now place × (length text.now ≤ 2 ^ 28) × (world.old.turns ≤ 100000) }
+    requires read { (place.at < read.now.end) × (read.now.end ≤ length text.now) × (read.now.size ≤ 8388609) }
+    requires walked { (trace : List Moment) × IsWalked (machines S.started S.after) text.now schedule.now trace place world.old
+        × ReadsEvent (machines S.started S.after) text.now (schedule_through schedule.now trace) trace read.now.event place.at read.now.end place.lines read.now.size }
+    ensures within { IfOk result (λ after. IsPlaceIn text.now after × (place.at < after.at) × (world.new.turns ≤ 100000)) }
+    ensures walked { IfOk result (λ after. (trace : List Moment) × IsWalked (machines S.started S.after) text.now schedule.now trace after world.new) }
+    ensures rejected { IfErr result (IsRejection (machines S.started S.after) text.now) }
+{
+    if is_refused(world, &read.event) {
+        return Err(CheckEnd::Reject {
+            line: place.lines + 1,
+            law: Law::Event,
+        });
+    }
+    let law = actor(world.packets(), &read.event);
+    let before = world.packets().len();
+    let next = Place {
+        at: read.end,
+        lines: place.lines + 1,
+        size: read.size,
+    };
+    match world.step(alloc, &read.event) {
+        Ok(()) => judge(alloc, schedule, text, next, before, law, world, due),
+        Err(NoMemory) => Err(CheckEnd::NoMemory),
+    }
+}
+
+/// Walks over the turns of a report, from a place on, to the first line that isn't an event's. After `NoMemory` the world may only be dropped.
+pub(crate) fn walk<S: Service>(
+    alloc: Global,
+    schedule: &Schedule,
+    text: &[u8],
+    start: Place,
+    world: &mut PlainWorld<S>,
+) -> Result<Place, CheckEnd>
+    requires schedule { IsChecked schedule.now }
+    requires within { IsPlaceIn text.now start × (length text.now ≤ 2 ^ 28) × (world.old.turns ≤ 100000) }
+    requires walked { (trace : List Moment) × IsWalked (machines S.started S.after) text.now schedule.now trace start world.old }
+    ensures within { IfOk result (IsPlaceIn text.now) }
+    ensures walked { IfOk result (λ after. (trace : List Moment) × IsWalked (machines S.started S.after) text.now schedule.now trace after world.new
+        × Leads (machines S.started S.after) text.now (InClosing (closing_of schedule.now trace)) (drop after.at text.now) after.lines) }
+    ensures rejected { IfErr result (IsRejection (machines S.started S.after) text.now) }
+{
+    let mut due = Vec::new(alloc);
+    let mut place = start;
+    while let Some(read) = read_event::<S>(
+        text,
+        place.at,
+        place.lines,
+        place.size,
+        world.turns(),
+    )? {
+        place = take_event(alloc, schedule, text, place, &read, world, &mut due)?;
+    }
+    Ok(place)
+}
