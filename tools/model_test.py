@@ -388,7 +388,7 @@ class StoredRuns(unittest.TestCase):
     def test_replay_script(self):
         stored = [(FOLDER / name).read_text() for name in ("stdin", "stdout")]
         told = {name: (stands, wanted) for name, stands, wanted in printed(*stored)}
-        self.assertEqual(sum(wanted is not None for _, wanted in told.values()), 108)
+        self.assertEqual(sum(wanted is not None for _, wanted in told.values()), 219)
         for name, (stands, wanted) in told.items():
             self.assertIn(wanted, (None, stands), name)
 

@@ -3,12 +3,13 @@
 
     tools/replay_stored.py [FOLDER]   writes FOLDER/stdout (crates/replay_script) again, with the model's result of each order that the model can play
 
-The model plays whole schedules, seeds, crashes and deltas. The lines about failed calls and refused words stay as they are.
+The model plays whole schedules, seeds, crashes and deltas, and check_model.py judges reports. The lines about failed calls and refused words stay as they are.
 """
 import pathlib
 import re
 import sys
 
+from check_model import told as told_verdict, verdict
 from model import Client, World, number
 from schedule_model import read_schedule
 from seed_model import play, script_of, summary
@@ -31,6 +32,8 @@ def made(words, text):
         return crashes(words[1], [("stop", [int(words[2])])] if words[2:] else [], text)
     if words[0] == "deltas":
         return delta(words[1], text)
+    if words[0] == "checked":
+        return judged(words[1], "".join(line + "\n" for line in play(text)[0]))
     _, name, spoken, *fails, last = words
     spoken = spoken.split("~")
     if fails != ["0", "0", "0"]:
@@ -39,6 +42,8 @@ def made(words, text):
         seed, count, events = map(int, spoken[1:])
         allowed = seed < 2**64 and max(map(len, spoken[1:])) <= 20 and 1 <= count <= 16 and 1 <= events <= 20000
         report, why = (summary(seed, count, events), None) if allowed else (None, None)
+    elif spoken == ["check"]:
+        return judged(name, text)
     elif spoken == ["run"]:
         report, why = play(text)
     else:
@@ -48,6 +53,12 @@ def made(words, text):
     status = {"line": 6, "event": 7, "too": 8}[why.split()[0]] if why else 0
     told = [f"ftreplay: {why}"] if why else []
     return "\n".join([f"{name}: status {status}", *told, *report[-int(last) :]]) + "\n"
+
+
+def judged(name, text):
+    """What `check` says of a report."""
+    it = verdict(text.encode())
+    return f"{name}: status 0\n{told_verdict(it)}\n" if it.law == "legal" else f"{name}: status 9\nftreplay: {told_verdict(it)}\n"
 
 
 def crashes(name, stops, text):
@@ -97,7 +108,7 @@ def printed(stored, told):
     """What is printed of each order, in the script's order: as it stands, `None` where nothing does, and as the model makes it or `None`."""
     marks = []
     for words, text in orders(stored):
-        mark = words[1] + {"play": ": status ", "deltas": ": delta ", "crash": ", crash after 1: "}[words[0]]
+        mark = words[1] + {"play": ": status ", "checked": ": status ", "deltas": ": delta ", "crash": ", crash after 1: "}[words[0]]
         at = told.find(mark, marks[-1][0] if marks and marks[-1][0] is not None else 0)
         marks.append((at if at >= 0 else None, words, text))
     starts = [at for at, _, _ in marks if at is not None] + [len(told)]

@@ -4,6 +4,7 @@
 //! - `= play NAME WORDS READ OUT ERR LAST` plays them as the text of a schedule, with these words, joined by `~`; READ, OUT and ERR number the call of the
 //!   source, of the sink of the report and of that of the errors that fails, 0 for none. Printed are the status, what was written to the sink of the errors,
 //!   and the report: its last LAST lines, or all of it for 0. Without lines of its own, it plays those of the one before it;
+//! - `= checked NAME` plays them by `run`, and then the report by `check`;
 //! - `= crash NAME` plays, for each n, the first n of the events in a new world; then the server crashes and restarts, all is delivered that is sent, and the
 //!   client continues. Printed is what it has accepted at the end, and the lengths of the reads in the log;
 //! - `= crash NAME PART` does so, and one of two loggers stops as the server crashes: 1 is the head, 2 the tail;
@@ -15,7 +16,7 @@
 use crashes::play_crashes;
 use deltas::play_deltas;
 use ft_io::NoMemory;
-use playing::play;
+use playing::{play, play_checked};
 use std::alloc::Global;
 use std::io;
 
@@ -69,6 +70,7 @@ impl Script {
         }
         match words.as_slice() {
             [_, "play", rest @ ..] => play(alloc, rest, &self.text, out),
+            [_, "checked", name] => play_checked(alloc, name, &self.text, out),
             [_, "deltas", name] => play_deltas(alloc, name, &self.text, out),
             [_, "crash", name] => play_crashes(alloc, name, None, &self.text, out),
             [_, "crash", name, part] => play_crashes(

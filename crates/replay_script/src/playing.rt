@@ -25,6 +25,23 @@ pub fn play(alloc: Global, order: &[&str], text: &[u8], out: &mut Vec<u8>) -> Re
     Ok(())
 }
 
+/// Plays a text by `run`, and appends what `check` says of its report.
+pub fn play_checked(
+    alloc: Global,
+    name: &str,
+    text: &[u8],
+    out: &mut Vec<u8>,
+) -> Result<(), NoMemory> {
+    let mut words = Vec::new(alloc);
+    words.push(String::from_str(alloc, "run")?)?;
+    let mut input = MemSource::new(text.to_vec(alloc)?, Vec::new(alloc));
+    let mut report = MemSink::new(alloc, Vec::new(alloc));
+    let mut err = MemSink::new(alloc, Vec::new(alloc));
+    replay(alloc, &words, &mut input, &mut report, &mut err);
+    let order = [name, "check", "0", "0", "0", "0"];
+    play(alloc, &order, report.written(), out)
+}
+
 /// A number of an order; 0 for what is none.
 fn number(word: &str) -> u32 {
     match word.parse::<u32>() {

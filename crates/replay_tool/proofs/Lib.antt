@@ -9,3 +9,4 @@ pub mod Playing
 pub mod RunEnds
 pub mod Settling
 pub mod Seeding
+pub mod Checking

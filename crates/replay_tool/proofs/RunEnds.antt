@@ -31,7 +31,7 @@ use Rattle.replay_tool.specs.Runs.{StopsReading, Reports, Refuses, RunStops, Kee
 use Rattle.replay_tool.specs.Stream.{Stream, HasFailed, HasNotFailed}
 use Rattle.replay_tool.specs.declared.status.TooMuch.TheVariants.{Text, Events, Packets}
 use Rattle.replay_tool.specs.declared.status.RunEnd.{RunEnd}
-use Rattle.replay_tool.specs.declared.status.RunEnd.TheVariants.{Usage, NoMemory, ReadFault, WriteFault, BadLine, BadEvent, TooLong}
+use Rattle.replay_tool.specs.declared.status.RunEnd.TheVariants.{Usage, NoMemory, ReadFault, WriteFault, BadLine, BadEvent, TooLong, Rejected}
 use Rattle.replay_tool.proofs.Fronts.{none_on_its_way, more_held}
 use Rattle.replay_tool.proofs.Either.{AreSafe, as_many, few_clients, legal_of, no_lines, none_sent, none_legal, closes}
 use Rattle.replay_tool.proofs.Playing.{holds_front, stands_where}
@@ -156,6 +156,7 @@ others_stop schedule w old now held ReadFault never s = s
 others_stop schedule w old now held WriteFault never s = s
 others_stop schedule w old now held (BadLine line why) never s = s
 others_stop schedule w old now held (TooLong what) never s = s
+others_stop schedule w old now held (Rejected line law) never s = s
 
 -- a front of what an end leaves
 front_of_all : (schedule : Schedule) (front text : List ℕ) → ReportsAll schedule text → IsFrontOf front text → ReportsFront schedule front
@@ -186,6 +187,7 @@ front_of_end schedule (TooLong Packets) front text e f = front_of_limit schedule
 front_of_end schedule (TooLong Text) front text e f = absurd e
 front_of_end schedule (TooLong Events) front text e f = absurd e
 front_of_end schedule (BadLine line why) front text e f = absurd e
+front_of_end schedule (Rejected line law) front text e f = absurd e
 front_of_end schedule Usage front text e f = absurd e
 front_of_end schedule ReadFault front text e f = absurd e
 
@@ -198,6 +200,7 @@ held_at schedule old now held ReadFault never h = h
 held_at schedule old now held (BadLine line why) never h = h
 held_at schedule old now held (BadEvent number why) never h = h
 held_at schedule old now held (TooLong what) never h = h
+held_at schedule old now held (Rejected line law) never h = h
 
 -- the count of the sink's failed calls, where the rest goes out and where it doesn't
 pub steady : (before now new : ℕ) (end : RunEnd) → (end ≡ WriteFault → ⊥) → CountsFaults before now (Err end) → new ≡ now → CountsFaults before new (Err end)
@@ -208,6 +211,7 @@ steady before now new ReadFault never c e = e ∙ c
 steady before now new (BadLine line why) never c e = e ∙ c
 steady before now new (BadEvent number why) never c e = e ∙ c
 steady before now new (TooLong what) never c e = e ∙ c
+steady before now new (Rejected line law) never c e = e ∙ c
 
 still : (before now : ℕ) (end : RunEnd) → (end ≡ WriteFault → ⊥) → CountsFaults before now (Err end) → now ≡ before
 still before now WriteFault never c = absurd (never refl)
@@ -217,6 +221,7 @@ still before now ReadFault never c = c
 still before now (BadLine line why) never c = c
 still before now (BadEvent number why) never c = c
 still before now (TooLong what) never c = c
+still before now (Rejected line law) never c = c
 
 pub rises : (before now new : ℕ) (end : RunEnd) → (end ≡ WriteFault → ⊥) → CountsFaults before now (Err end) → Rose now new → Rose before new
 rises before now new end never c r = subst (λ n. Rose n new) (still before now end never c) r
@@ -290,6 +295,7 @@ reading_stops input out text (TooLong Packets) untouched kept well same s = absu
 reading_stops input out text (BadEvent number why) untouched kept well same s = absurd s
 reading_stops input out text Usage untouched kept well same s = absurd s
 reading_stops input out text ReadFault untouched kept well same s = absurd s
+reading_stops input out text (Rejected line law) untouched kept well same s = absurd s
 reading_stops input out text WriteFault untouched kept well same s = absurd s
 
 -- the playing reports
@@ -315,6 +321,7 @@ playing_stops input out text schedule (TooLong Events) at well same spelled c s 
 playing_stops input out text schedule (BadLine line why) at well same spelled c s = absurd s.2
 playing_stops input out text schedule Usage at well same spelled c s = absurd s.2
 playing_stops input out text schedule ReadFault at well same spelled c s = absurd s.2
+playing_stops input out text schedule (Rejected line law) at well same spelled c s = absurd s.2
 
 -- a result with the count of the sink's failed calls
 pub ok_counts : {P Q : Type 0} (r : Result (Unit {0}) RunEnd) (before after : ℕ) → CountsFaults before after r → (after ≡ before → P → Q) → OnOk r P → OnOk r Q

@@ -11,7 +11,7 @@ use Rattle.ft_model.specs.declared.schedule.LineWhy.{LineWhy}
 use Rattle.ft_model.specs.declared.schedule.Limit.{Limit}
 use Rattle.ft_model.specs.declared.schedule.Limit.TheVariants as limits
 use Rattle.sample_servers.specs.AnyService.{any_machine}
-use Rattle.replay_tool.specs.Ends.{code_of, is_code}
+use Rattle.replay_tool.specs.Ends.{code_of, is_run_code}
 use Rattle.mark_traces.specs.MarkedLegal.{IsMarkedLegalFor}
 use Rattle.twin_laws.specs.TwinLegal.{IsTwinLegalFor}
 use Rattle.replay_tool.specs.Traces.{any_marker, traces_of}
@@ -25,20 +25,21 @@ use Rattle.replay_tool.specs.Runs.{Reports, RunStops}
 use Rattle.replay_tool.specs.Stream.{Stream, HasFailed, HasNotFailed}
 use Rattle.replay_tool.specs.declared.status.TooMuch.TheVariants.{Text, Events, Packets}
 use Rattle.replay_tool.specs.declared.status.RunEnd.{RunEnd}
-use Rattle.replay_tool.specs.declared.status.RunEnd.TheVariants.{Usage, NoMemory, ReadFault, WriteFault, BadLine, BadEvent, TooLong}
+use Rattle.replay_tool.specs.declared.status.RunEnd.TheVariants.{Usage, NoMemory, ReadFault, WriteFault, BadLine, BadEvent, TooLong, Rejected}
 
 -- where a source tells its text, for each text
 pub of_told : {P : List ℕ → Type 0} (left : Option (List ℕ)) → ((text : List ℕ) → left ≡ Some text → P text) → IfSome left P
 of_told None f = tt
 of_told (Some text) f = f text refl
 
-when_told : (P : List ℕ → Type 0) (left : Option (List ℕ)) (text : List ℕ) → left ≡ Some text → IfSome left P → P text
+pub when_told : (P : List ℕ → Type 0) (left : Option (List ℕ)) (text : List ℕ) → left ≡ Some text → IfSome left P → P text
 when_told P left text e p = subst (λ l. IfSome l P) e p
 
 pub bad_line : (text : List ℕ) (input out : Stream) (end : RunEnd) → input.before ≡ Some text → code_of end ≡ 6 → RunStops input out end → HasBadLine text
 bad_line text input out (BadLine line why) told e s = record { line = line; why = why; refused = when_told (λ t. read_text t ≡ Err (reading.BadLine line why)) input.before text told s.refused }
 bad_line text input out (BadEvent number why) told e s = cc
 bad_line text input out (TooLong what) told e s = cc
+bad_line text input out (Rejected line law) told e s = cc
 bad_line text input out Usage told e s = cc
 bad_line text input out NoMemory told e s = cc
 bad_line text input out ReadFault told e s = cc
@@ -92,6 +93,7 @@ only_event : {P : Type 0} (end : RunEnd) → code_of end ≡ 7 → ((number : �
 only_event (BadEvent number why) e f = f number why refl
 only_event (BadLine line why) e f = cc
 only_event (TooLong what) e f = cc
+only_event (Rejected line law) e f = cc
 only_event Usage e f = cc
 only_event NoMemory e f = cc
 only_event ReadFault e f = cc
@@ -112,6 +114,7 @@ past_limit text input out (TooLong Packets) told e s =
     let t : Spells text (λ schedule. Wrote out.before out.after (ReportsToLimit schedule)) = spelled_at input out text ReportsToLimit told s in
     by_packets t.0 t.1 (past_packets t.0 out.before out.after t.2)
 past_limit text input out (BadLine line why) told e s = cc
+past_limit text input out (Rejected line law) told e s = cc
 past_limit text input out (BadEvent number why) told e s = cc
 past_limit text input out Usage told e s = cc
 past_limit text input out NoMemory told e s = cc
@@ -128,29 +131,30 @@ line_or_long : (line : ℕ) (why : LineWhy) (what : Limit) → reading.BadLine l
 line_or_long line why what e = cc
 
 -- a code that is neither of these is one of the others
-isnt : (a b : ℕ) → (a ≡ b → ⊥) → (a == b) ≡ false
+pub isnt : (a b : ℕ) → (a ≡ b → ⊥) → (a == b) ≡ false
 isnt a b never = on_test (a == b) (λ e. eqb-true a b e)
   where
     on_test : (t : Bool) → (t ≡ true → a ≡ b) → t ≡ false
     on_test true h = absurd (never (h refl))
     on_test false h = refl
 
-remains : (code kept : ℕ) → (code == 3 || (code == kept)) ≡ true → (code ≡ kept) ⊎ (code ≡ 3)
+pub remains : (code kept : ℕ) → (code == 3 || (code == kept)) ≡ true → (code ≡ kept) ⊎ (code ≡ 3)
 remains code kept e = by_three (code == 3) refl
   where
     by_three : (t : Bool) → (code == 3) ≡ t → (code ≡ kept) ⊎ (code ≡ 3)
     by_three true h = inr (eqb-true code 3 h)
     by_three false h = inl (eqb-true code kept (subst (λ b. (b || (code == kept)) ≡ true) h e))
 
--- the ends by their codes
-codes_of : (end : RunEnd) → is_code (code_of end) ≡ true
-codes_of Usage = refl
-codes_of NoMemory = refl
-codes_of ReadFault = refl
-codes_of WriteFault = refl
-codes_of (BadLine line why) = refl
-codes_of (BadEvent number why) = refl
-codes_of (TooLong what) = refl
+-- the ends of a run by their codes
+codes_of : (input out : Stream) (end : RunEnd) → RunStops input out end → is_run_code (code_of end) ≡ true
+codes_of input out Usage s = absurd s
+codes_of input out NoMemory s = refl
+codes_of input out ReadFault s = refl
+codes_of input out WriteFault s = refl
+codes_of input out (BadLine line why) s = refl
+codes_of input out (BadEvent number why) s = refl
+codes_of input out (TooLong what) s = refl
+codes_of input out (Rejected line law) s = absurd s
 
 never_zero : (end : RunEnd) → code_of end ≡ 0 → ⊥
 never_zero Usage e = cc
@@ -160,6 +164,7 @@ never_zero WriteFault e = cc
 never_zero (BadLine line why) e = cc
 never_zero (BadEvent number why) e = cc
 never_zero (TooLong what) e = cc
+never_zero (Rejected line law) e = cc
 
 -- a run that is done
 pub in_order : (text : List ℕ) (input out : Stream) → input.before ≡ Some text → Reports input out ReportsAll → IsInOrder text
@@ -183,17 +188,9 @@ told_as ReadFault err code t untold = t
 told_as (BadLine line why) err code t untold = t
 told_as (BadEvent number why) err code t untold = t
 told_as (TooLong what) err code t untold = t
+told_as (Rejected line law) err code t untold = t
 
 -- the ends that a run has
-pub no_usage : (input out : Stream) (end : RunEnd) → RunStops input out end → code_of end ≡ 2 → ⊥
-no_usage input out Usage s e = s
-no_usage input out NoMemory s e = cc
-no_usage input out ReadFault s e = cc
-no_usage input out WriteFault s e = cc
-no_usage input out (BadLine line why) s e = cc
-no_usage input out (BadEvent number why) s e = cc
-no_usage input out (TooLong what) s e = cc
-
 no_read_fault : (input out : Stream) (end : RunEnd) → RunStops input out end → (HasFailed input → ⊥) → code_of end ≡ 4 → ⊥
 no_read_fault input out ReadFault s still e = still s.0
 no_read_fault input out Usage s still e = cc
@@ -202,6 +199,7 @@ no_read_fault input out WriteFault s still e = cc
 no_read_fault input out (BadLine line why) s still e = cc
 no_read_fault input out (BadEvent number why) s still e = cc
 no_read_fault input out (TooLong what) s still e = cc
+no_read_fault input out (Rejected line law) s still e = cc
 
 no_write_fault : (input out : Stream) (end : RunEnd) → RunStops input out end → (HasFailed out → ⊥) → code_of end ≡ 5 → ⊥
 no_write_fault input out WriteFault s still e = still s.2
@@ -211,19 +209,16 @@ no_write_fault input out ReadFault s still e = cc
 no_write_fault input out (BadLine line why) s still e = cc
 no_write_fault input out (BadEvent number why) s still e = cc
 no_write_fault input out (TooLong what) s still e = cc
+no_write_fault input out (Rejected line law) s still e = cc
 
 -- what a status of `tell` can't be
 pub never_done : (end : RunEnd) (err : Stream) (code : ℕ) → TellsEnd end err code → code ≡ 0 → ⊥
 never_done end err code (inl t) e = never_zero end (sym t.0 ∙ e)
 never_done end err code (inr t) e = omega (arith, t.0, e)
 
-pub never_usage : (input out : Stream) (end : RunEnd) (err : Stream) (code : ℕ) → RunStops input out end → TellsEnd end err code → code ≡ 2 → ⊥
-never_usage input out end err code s (inl t) e = no_usage input out end s (sym t.0 ∙ e)
-never_usage input out end err code s (inr t) e = omega (arith, t.0, e)
-
-pub is_told_code : (end : RunEnd) (err : Stream) (code : ℕ) → TellsEnd end err code → is_code code ≡ true
-is_told_code end err code (inl t) = ap is_code t.0 ∙ codes_of end
-is_told_code end err code (inr t) = ap is_code t.0
+pub is_told_code : (input out : Stream) (end : RunEnd) (err : Stream) (code : ℕ) → RunStops input out end → TellsEnd end err code → is_run_code code ≡ true
+is_told_code input out end err code s (inl t) = ap is_run_code t.0 ∙ codes_of input out end s
+is_told_code input out end err code s (inr t) = ap is_run_code t.0
 
 module _
     (whole_or_refused : (schedule : Schedule) → AllHappen schedule.twin schedule.marks schedule → OneIsRefused schedule.twin schedule.marks schedule → ⊥)
@@ -257,10 +252,9 @@ module _
   event_or_limit a (by_text what e) = ok_or_err a.schedule (reading.TooLong what) (sym a.spelled ∙ e)
   event_or_limit a (by_packets schedule e p) = refused_or_past schedule (subst (λ s. OneIsRefused s.twin s.marks s) (same a.schedule schedule a.spelled e) a.refused) p
 
-  pub settles : is_code code ≡ true → (code ≡ 2 → ⊥) → (code ≡ 4 → ⊥) → (code ≡ 5 → ⊥)
+  pub settles : is_run_code code ≡ true → (code ≡ 4 → ⊥) → (code ≡ 5 → ⊥)
       → (code ≡ 0 → IsInOrder text) → (code ≡ 6 → HasBadLine text) → (code ≡ 7 → HasBadEvent text) → (code ≡ 8 → IsPastLimit text) → IsSettled text code
-  settles codes two four five at_zero at_six at_seven at_eight =
-      let not_two = isnt code 2 two in
+  settles codes four five at_zero at_six at_seven at_eight =
       let not_four = isnt code 4 four in
       let not_five = isnt code 5 five in
       record {
@@ -290,7 +284,7 @@ module _
   pub settles_end : (input out : Stream) (end : RunEnd) → input.before ≡ Some text → code ≡ code_of end → RunStops input out end
       → (HasFailed input → ⊥) → (HasFailed out → ⊥) → IsSettled text code
   settles_end input out end told is s input_still out_still =
-      settles (ap is_code is ∙ codes_of end) (λ e. no_usage input out end s (sym is ∙ e)) (λ e. no_read_fault input out end s input_still (sym is ∙ e))
+      settles (ap is_run_code is ∙ codes_of input out end s) (λ e. no_read_fault input out end s input_still (sym is ∙ e))
       (λ e. no_write_fault input out end s out_still (sym is ∙ e))
       (λ e. absurd (never_zero end (sym is ∙ e)))
       (λ e. bad_line text input out end told (sym is ∙ e) s)

@@ -8,11 +8,13 @@ use Rattle.schedule_text.specs.declared.end.ScheduleEnd.{ScheduleEnd}
 use Rattle.schedule_text.specs.declared.end.ScheduleEnd.TheVariants as schedules
 use Rattle.net_schedule.specs.declared.end.StepEnd.{StepEnd}
 use Rattle.net_schedule.specs.declared.end.StepEnd.TheVariants as steps
+use Rattle.trace_check.specs.declared.end.CheckEnd.{CheckEnd}
+use Rattle.trace_check.specs.declared.end.CheckEnd.TheVariants as checks
 use Rattle.seed_run.specs.declared.run.SeedEnd.{SeedEnd}
 use Rattle.seed_run.specs.declared.run.SeedEnd.TheVariants as seeds
 use Rattle.replay_tool.specs.declared.status.TooMuch.TheVariants.{Text, Events, Packets}
 use Rattle.replay_tool.specs.declared.status.RunEnd.{RunEnd}
-use Rattle.replay_tool.specs.declared.status.RunEnd.TheVariants.{Usage, NoMemory, ReadFault, WriteFault, BadLine, BadEvent, TooLong}
+use Rattle.replay_tool.specs.declared.status.RunEnd.TheVariants.{Usage, NoMemory, ReadFault, WriteFault, BadLine, BadEvent, TooLong, Rejected}
 
 abbrev pub end_of_read : ReadEnd → RunEnd
 end_of_read reads.NoMemory = NoMemory
@@ -36,6 +38,10 @@ end_of_seed seeds.NoMemory = NoMemory
 end_of_seed seeds.WriteFault = WriteFault
 end_of_seed seeds.PacketLimit = TooLong Packets
 
+abbrev pub end_of_check : CheckEnd → RunEnd
+end_of_check checks.NoMemory = NoMemory
+end_of_check (checks.Reject line law) = Rejected line law
+
 -- the exit status of an end
 abbrev pub code_of : RunEnd → ℕ
 code_of Usage = 2
@@ -45,16 +51,25 @@ code_of WriteFault = 5
 code_of (BadLine line why) = 6
 code_of (BadEvent event why) = 7
 code_of (TooLong what) = 8
+code_of (Rejected line law) = 9
 
 -- a count of failed calls rises where the sink of the report failed, and stays otherwise
 abbrev pub CountsFaults : (old new : ℕ) → Result (Unit {0}) RunEnd → Type 0
 CountsFaults old new (Err WriteFault) = Rose old new
 CountsFaults old new _ = new ≡ old
 
--- the statuses of a run
+-- the statuses of the program
 abbrev pub is_code : ℕ → Bool
-is_code code = code == 0 || (nat_le 2 code && nat_le code 8)
+is_code code = code == 0 || (nat_le 2 code && nat_le code 9)
 
--- .. and those of a generated run
+-- .. of the run of a schedule
+abbrev pub is_run_code : ℕ → Bool
+is_run_code code = code == 0 || (nat_le 3 code && nat_le code 8)
+
+-- .. of the check of a report
+abbrev pub is_check_code : ℕ → Bool
+is_check_code code = code == 0 || (nat_le 3 code && nat_le code 5 || (code == 8 || code == 9))
+
+-- .. and of a generated run
 abbrev pub is_seed_code : ℕ → Bool
 is_seed_code code = code == 0 || (code == 3 || (code == 5 || code == 8))

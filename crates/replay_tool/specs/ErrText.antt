@@ -5,10 +5,12 @@ use Rattle.ft_model.specs.declared.event.EventWhy.{EventWhy}
 use Rattle.ft_model.specs.declared.event.EventWhy.TheVariants as event
 use Rattle.ft_model.specs.declared.schedule.LineWhy.{LineWhy}
 use Rattle.ft_model.specs.declared.schedule.LineWhy.TheVariants as line
+use Rattle.report_laws.specs.declared.Law.{Law}
+use Rattle.report_laws.specs.declared.Law.TheVariants as law
 use Rattle.replay_tool.specs.declared.status.TooMuch.{TooMuch}
 use Rattle.replay_tool.specs.declared.status.TooMuch.TheVariants.{Text, Events, Packets}
 use Rattle.replay_tool.specs.declared.status.RunEnd.{RunEnd}
-use Rattle.replay_tool.specs.declared.status.RunEnd.TheVariants.{Usage, NoMemory, ReadFault, WriteFault, BadLine, BadEvent, TooLong}
+use Rattle.replay_tool.specs.declared.status.RunEnd.TheVariants.{Usage, NoMemory, ReadFault, WriteFault, BadLine, BadEvent, TooLong, Rejected}
 
 abbrev pub line_word : LineWhy → List ℕ
 line_word line.Character = codes "character"
@@ -36,6 +38,15 @@ limit_word Text = codes "text"
 limit_word Events = codes "events"
 limit_word Packets = codes "packets"
 
+abbrev pub law_word : Law → List ℕ
+law_word law.Client = codes "client"
+law_word law.Log = codes "log"
+law_word law.Server = codes "server"
+law_word law.Packet = codes "packet"
+law_word law.Text = codes "text"
+law_word law.Event = codes "event"
+law_word law.End = codes "end"
+
 -- the program's name, a text, and the end of the line
 unfoldable pub error_line : List ℕ → List ℕ
 error_line text = codes "ftreplay: " ++ (text ++ 10 ∷ [])
@@ -53,6 +64,7 @@ cause_text WriteFault = []
 cause_text (BadLine n why) = numbered (codes "line ") n (line_word why)
 cause_text (BadEvent n why) = numbered (codes "event ") n (event_word why)
 cause_text (TooLong what) = codes "too long: " ++ limit_word what
+cause_text (Rejected n law) = numbered (codes "line ") n (law_word law)
 
 abbrev pub text_of : RunEnd → List ℕ
 text_of WriteFault = []

@@ -10,5 +10,7 @@ pub mod Playback
 pub mod Stream
 pub mod Runs
 pub mod SeedRuns
+pub mod Checks
 pub mod Outcome
 pub mod Causes
+pub mod Kinds

@@ -10,7 +10,7 @@ use Rattle.replay_tool.specs.PlayedRun.{Spells, ReportsAll, ReportsTill, Reports
 use Rattle.replay_tool.specs.Stream.{Stream, HasFailed, HasNotFailed}
 use Rattle.replay_tool.specs.declared.status.TooMuch.TheVariants.{Text, Events, Packets}
 use Rattle.replay_tool.specs.declared.status.RunEnd.{RunEnd}
-use Rattle.replay_tool.specs.declared.status.RunEnd.TheVariants.{Usage, NoMemory, ReadFault, WriteFault, BadLine, BadEvent, TooLong}
+use Rattle.replay_tool.specs.declared.status.RunEnd.TheVariants.{Usage, NoMemory, ReadFault, WriteFault, BadLine, BadEvent, TooLong, Rejected}
 
 -- the input was read to its end, its text spells a schedule, a text of this kind for it was written to out, and no call on either failed
 pub record Reports (input out : Stream) (Is : Schedule → List ℕ → Type 0) : Type 0 where
@@ -42,6 +42,7 @@ RunStops input out (BadEvent number why) = Reports input out (λ schedule. Repor
 RunStops input out (TooLong Text) = Refuses input out (reading.TooLong limits.Text)
 RunStops input out (TooLong Events) = Refuses input out (reading.TooLong limits.Events)
 RunStops input out (TooLong Packets) = Reports input out ReportsToLimit
+RunStops input out (Rejected line law) = ⊥
 
 -- a run, by its end
 abbrev pub RunDoes : (input out : Stream) → Result (Unit {0}) RunEnd → Type 0

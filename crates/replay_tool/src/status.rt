@@ -1,4 +1,4 @@
-//! How a run ends.
+//! How a run ends, or a check.
 
 ghost use Rattle.std.specs.Prelude.{◌≡◌};
 ghost use Rattle.replay_tool.specs.declared.status.RunEnd.TheVariants as ends;
@@ -7,9 +7,11 @@ ghost use Rattle.replay_tool.specs.Ends.{end_of_step as end_lem, end_of_seed as 
 use ft_io::{Failed, NoMemory, ReadEnd};
 use ft_model::{EventWhy, Limit, LineWhy};
 use net_schedule::StepEnd;
+use report_laws::Law;
 use schedule_text::ScheduleEnd;
 use seed_run::SeedEnd;
 use std::alloc::AllocError;
+use trace_check::CheckEnd;
 
 /// The exit status of the program.
 #[derive(Clone, Copy, Debug, PartialEq, Eq)]
@@ -26,7 +28,7 @@ pub(crate) enum TooMuch {
     Packets,
 }
 
-/// How a run ends early.
+/// How a run ends early, or a check.
 #[derive(Clone, Copy, Debug, PartialEq, Eq)]
 pub(crate) enum RunEnd {
     Usage,
@@ -36,6 +38,7 @@ pub(crate) enum RunEnd {
     BadLine { line: u32, why: LineWhy },
     BadEvent { event: u32, why: EventWhy },
     TooLong(TooMuch),
+    Rejected { line: u32, law: Law },
 }
 
 impl From<NoMemory> for RunEnd {
@@ -83,6 +86,20 @@ impl From<ScheduleEnd> for RunEnd {
             ScheduleEnd::TooLong {
                 what: Limit::Events,
             } => RunEnd::TooLong(TooMuch::Events),
+        }
+    }
+}
+
+impl From<CheckEnd> for RunEnd {
+    ghost use Rattle.std.specs.Prelude.{◌≡◌};
+    ghost use Rattle.replay_tool.specs.Ends.{end_of_check};
+
+    ghost from_gives = { λ end e. e ≡ end_of_check end };
+
+    fn from(end: CheckEnd) -> RunEnd {
+        match end {
+            CheckEnd::NoMemory => RunEnd::NoMemory,
+            CheckEnd::Reject { line, law } => RunEnd::Rejected { line, law },
         }
     }
 }

@@ -1,16 +1,17 @@
-//! What a run that ends early writes to the error sink.
+//! What a run or a check that ends early writes to the error sink.
 
 ghost use Rattle.std.specs.Prelude.{◌≡◌, ◌⊎◌, ◌++◌, ◌∷◌, [], OnOk, OnErr};
 ghost use Rattle.std.specs.Io.KnownBytes.{Appends};
 ghost use Rattle.ft_io.specs.Faults.{Rose};
 ghost use Rattle.replay_tool.specs.PartialWrite.{WroteFront, CountsFailed};
 ghost use Rattle.replay_tool.specs.Ends.{code_of};
-ghost use Rattle.replay_tool.specs.ErrText.{line_word as line_lem, event_word as event_lem, limit_word as limit_lem, numbered, error_line, cause_text, text_of};
+ghost use Rattle.replay_tool.specs.ErrText.{line_word as line_lem, event_word as event_lem, limit_word as limit_lem, law_word as law_lem, numbered, error_line, cause_text, text_of};
 
 use crate::status::{RunEnd, Status, TooMuch};
 use ft_io::{Failed, Sink, write_all};
 use ft_model::{EventWhy, LineWhy};
 use itoa::Buffer;
+use report_laws::Law;
 
 fn line_word(why: LineWhy) -> &'static [u8]
     ensures { result.now ≡ line_lem why }
@@ -53,8 +54,23 @@ fn limit_word(what: TooMuch) -> &'static [u8]
     }
 }
 
+fn law_word(law: Law) -> &'static [u8]
+    ensures { result.now ≡ law_lem law }
+{
+    match law {
+        Law::Client => b"client",
+        Law::Log => b"log",
+        Law::Server => b"server",
+        Law::Packet => b"packet",
+        Law::Text => b"text",
+        Law::Event => b"event",
+        Law::End => b"end",
+    }
+}
+
+/// A text.
 #[tactic(auto, using(crate::proofs::Fronts::front_taken))]
-fn write_text<E: Sink>(err: &mut E, text: &[u8]) -> Result<(), Failed>
+pub(crate) fn write_text<E: Sink>(err: &mut E, text: &[u8]) -> Result<(), Failed>
     ensures whole { OnOk result (Appends (E.taken err.old) (E.taken err.new) text.now) }
     ensures front { OnErr result (WroteFront (E.taken err.old) (E.taken err.new) text.now) }
     ensures fault { CountsFailed (E.fault_count err.old) (E.fault_count err.new) result }
@@ -65,7 +81,7 @@ fn write_text<E: Sink>(err: &mut E, text: &[u8]) -> Result<(), Failed>
 
 /// Two texts, one after the other.
 #[tactic(auto, using(crate::proofs::Fronts::then_whole, crate::proofs::Fronts::then_front, crate::proofs::Fronts::front_then))]
-fn write_both<E: Sink>(err: &mut E, first: &[u8], second: &[u8]) -> Result<(), Failed>
+pub(crate) fn write_both<E: Sink>(err: &mut E, first: &[u8], second: &[u8]) -> Result<(), Failed>
     ensures whole { OnOk result (Appends (E.taken err.old) (E.taken err.new) (first.now ++ second.now)) }
     ensures front { OnErr result (WroteFront (E.taken err.old) (E.taken err.new) (first.now ++ second.now)) }
     ensures fault { CountsFailed (E.fault_count err.old) (E.fault_count err.new) result }
@@ -102,6 +118,7 @@ fn write_cause<E: Sink>(err: &mut E, end: RunEnd) -> Result<(), Failed>
         RunEnd::BadLine { line, why } => write_numbered(err, b"line ", line, line_word(why)),
         RunEnd::BadEvent { event, why } => write_numbered(err, b"event ", event, event_word(why)),
         RunEnd::TooLong(what) => write_both(err, b"too long: ", limit_word(what)),
+        RunEnd::Rejected { line, law } => write_numbered(err, b"line ", line, law_word(law)),
     }
 }
 
@@ -140,6 +157,7 @@ fn code(end: RunEnd) -> u8
         RunEnd::BadLine { .. } => 6,
         RunEnd::BadEvent { .. } => 7,
         RunEnd::TooLong(_) => 8,
+        RunEnd::Rejected { .. } => 9,
     }
 }
 

@@ -1,41 +1,36 @@
 use Rattle.std.proofs.Common.{refl, Ok, Err, ⊎_elim}
 use Rattle.replay_tool.specs.Stream.{stream}
-use Rattle.replay_tool.proofs.Settling.{of_told, in_order, told_as, never_done, never_usage, is_told_code, settles, settles_end}
+use Rattle.replay_tool.proofs.Settling.{of_told, in_order, told_as, never_done, is_told_code, settles, settles_end}
 use Rattle.replay_tool.proofs.schedules.replay_schedule.Goals as goal
 
-pub returns-in-Ok-clause-ended : goal.returns-in-Ok-clause-ended
-returns-in-Ok-clause-ended g c = record { end = Ok tt; did = c.in-Ok.ensures.done; told = (refl, refl) }
+pub returns-in-Ok-clause-run : goal.returns-in-Ok-clause-run
+returns-in-Ok-clause-run g c = record {
+  ended = record { end = Ok tt; did = c.in-Ok.ensures.done; told = (refl, refl) };
+  settled = λ input out err. of_told (g.I.Source.left c.args.input.now) (λ text told.
+      settles c.schedules_end_in_one_way.ensures.whole_or_refused c.schedules_end_in_one_way.ensures.whole_or_past c.schedules_end_in_one_way.ensures.refused_or_past
+      text 0 refl (λ e. cc) (λ e. cc)
+      (λ e. in_order text (stream g.I.Source.left g.I.Source.fault_count c.args.input.now c.run.new.input) (stream g.O.Sink.taken g.O.Sink.fault_count c.args.out.now c.run.new.out) told c.in-Ok.ensures.done)
+      (λ e. cc) (λ e. cc) (λ e. cc));
+  codes = refl;
+}
 
-pub returns-in-Ok-clause-settled : goal.returns-in-Ok-clause-settled
-returns-in-Ok-clause-settled g c = λ input out err. of_told (g.I.Source.left c.args.input.now) (λ text told.
-    settles c.schedules_end_in_one_way.ensures.whole_or_refused c.schedules_end_in_one_way.ensures.whole_or_past c.schedules_end_in_one_way.ensures.refused_or_past
-    text 0 refl (λ e. cc) (λ e. cc) (λ e. cc)
-    (λ e. in_order text (stream g.I.Source.left g.I.Source.fault_count c.args.input.now c.run.new.input) (stream g.O.Sink.taken g.O.Sink.fault_count c.args.out.now c.run.new.out) told c.in-Ok.ensures.done)
-    (λ e. cc) (λ e. cc) (λ e. cc))
-
-pub returns-in-Err-clause-ended : goal.returns-in-Err-clause-ended
-returns-in-Err-clause-ended g c = record {
-  end = Err c.in-Err.end;
-  did = c.in-Err.ensures.stops;
-  told = told_as c.in-Err.end (stream g.E.Sink.taken g.E.Sink.fault_count c.args.err.now c.tell.new.err) c.tell.result.code c.tell.ensures.told c.tell.ensures.untold;
+pub returns-in-Err-clause-run : goal.returns-in-Err-clause-run
+returns-in-Err-clause-run g c = record {
+  ended = record {
+    end = Err c.in-Err.end;
+    did = c.in-Err.ensures.stops;
+    told = told_as c.in-Err.end (stream g.E.Sink.taken g.E.Sink.fault_count c.args.err.now c.tell.new.err) c.tell.result.code c.tell.ensures.told c.tell.ensures.untold;
+  };
+  settled = λ input out err. of_told (g.I.Source.left c.args.input.now) (λ text told. ⊎_elim
+      (λ is. settles_end c.schedules_end_in_one_way.ensures.whole_or_refused c.schedules_end_in_one_way.ensures.whole_or_past c.schedules_end_in_one_way.ensures.refused_or_past
+      text c.tell.result.code (stream g.I.Source.left g.I.Source.fault_count c.args.input.now c.run.new.input) (stream g.O.Sink.taken g.O.Sink.fault_count c.args.out.now c.run.new.out) c.in-Err.end told is.0 c.in-Err.ensures.stops
+      input out)
+      (λ fault. absurd (err fault.1))
+      c.tell.ensures.told);
+  codes = is_told_code (stream g.I.Source.left g.I.Source.fault_count c.args.input.now c.run.new.input) (stream g.O.Sink.taken g.O.Sink.fault_count c.args.out.now c.run.new.out) c.in-Err.end
+      (stream g.E.Sink.taken g.E.Sink.fault_count c.args.err.now c.tell.new.err) c.tell.result.code c.in-Err.ensures.stops c.tell.ensures.told;
 }
 
 pub returns-in-Err-clause-done : goal.returns-in-Err-clause-done
 returns-in-Err-clause-done g c = λ e.
     absurd (never_done c.in-Err.end (stream g.E.Sink.taken g.E.Sink.fault_count c.args.err.now c.tell.new.err) c.tell.result.code c.tell.ensures.told e)
-
-pub returns-in-Err-clause-codes : goal.returns-in-Err-clause-codes
-returns-in-Err-clause-codes g c = is_told_code c.in-Err.end (stream g.E.Sink.taken g.E.Sink.fault_count c.args.err.now c.tell.new.err) c.tell.result.code c.tell.ensures.told
-
-pub returns-in-Err-clause-no_usage : goal.returns-in-Err-clause-no_usage
-returns-in-Err-clause-no_usage g c = λ e.
-    never_usage (stream g.I.Source.left g.I.Source.fault_count c.args.input.now c.run.new.input) (stream g.O.Sink.taken g.O.Sink.fault_count c.args.out.now c.run.new.out) c.in-Err.end
-    (stream g.E.Sink.taken g.E.Sink.fault_count c.args.err.now c.tell.new.err) c.tell.result.code c.in-Err.ensures.stops c.tell.ensures.told e
-
-pub returns-in-Err-clause-settled : goal.returns-in-Err-clause-settled
-returns-in-Err-clause-settled g c = λ input out err. of_told (g.I.Source.left c.args.input.now) (λ text told. ⊎_elim
-    (λ is. settles_end c.schedules_end_in_one_way.ensures.whole_or_refused c.schedules_end_in_one_way.ensures.whole_or_past c.schedules_end_in_one_way.ensures.refused_or_past
-    text c.tell.result.code (stream g.I.Source.left g.I.Source.fault_count c.args.input.now c.run.new.input) (stream g.O.Sink.taken g.O.Sink.fault_count c.args.out.now c.run.new.out) c.in-Err.end told is.0 c.in-Err.ensures.stops
-    input out)
-    (λ fault. absurd (err fault.1))
-    c.tell.ensures.told)
