@@ -1,7 +1,7 @@
 #!/usr/bin/env bash
 # Times `ftreplay run` on schedules of 10,000 and 100,000 events. Printed are the minimum of five runs of each, their ratio, and the memory of a run, with the sizes
 # of its packets, schedule and report. Eight clients send their scripts byte by byte, each byte is logged, echoed and acknowledged before the next, and at every
-# 1,000th event the server crashes and restarts from the log (bench/crash_schedule.awk). Then the same with one client and no crash. Then the lines of the larger
+# 1,000th event the server crashes and restarts from the log (bench/crash_schedule.awk). Then the same with one client and no crash (bench/echo_schedule.awk). Then the lines of the larger
 # report, without its first and last ones, as wire_bench writes them from events and packets as bytes, compared with a C loop of fprintf of the same lines (gcc
 # -O2); and the reading of a schedule of 8 MiB. Of each the minimum CPU time of 7 runs.
 #     bench/replay.sh [OLDER | marks]
@@ -17,26 +17,8 @@ program=$PWD/crates/ftreplay/out/ftreplay
 
 schedules=$work out=/dev/null
 
-# Ten events open the connection. A cycle is ten more and sends eleven packets: the byte, a bare segment, Data, Read, Stable, an
-# acknowledgement, Reads, the echo, the client's acknowledgement of it, and Data and Stable for that. With a second word there is a mark after so many cycles, which
-# takes two more packets, a Mark behind that Data and Marked, and two more events.
-write_schedule() {
-    awk -v cycles="$1" -v marks="${2:-0}" 'BEGIN {
-        printf "service echo\nserver 192.0.2.100:7\n"
-        if (marks) printf "marks %d\n", marks
-        printf "client 1 192.0.2.1:40000 1000 hex:"
-        for (i = 0; i < cycles; i++) printf "%02x", i % 256
-        print "\nboot 1 5000\ndeliver 1\ndeliver 2\nopen 1 65535\ndeliver 3\ndeliver 4\ndeliver 5\ndeliver 6\nack 1 65535\ndeliver 7"
-        p = 8
-        for (i = 0; i < cycles; i++) {
-            printf "send 1 %d 1\n", i
-            printf "deliver %d\ndeliver %d\ndeliver %d\ndeliver %d\ndeliver %d\ndeliver %d\n", p, p + 2, p + 4, p + 3, p + 6, p + 7
-            printf "ack 1 65535\ndeliver %d\ndeliver %d\n", p + 8, p + 9
-            p += 11
-            if (marks && (i + 1) % marks == 0) { printf "deliver %d\ndeliver %d\n", p - 1, p + 1; p += 2 }
-        }
-    }' >"$schedules/$1${2:+marked}"
-}
+# one client that sends so many bytes; with a second word there is a mark after so many
+write_schedule() { awk -v cycles="$1" -v marks="${2:-0}" -f bench/echo_schedule.awk >"$schedules/$1${2:+marked}"; }
 
 # The nanoseconds of the best of five runs, and the kilobytes of the last one.
 time_schedule() {
