@@ -4,7 +4,7 @@
     tools/lemma_twins.py [--crate NAME]
 
 Each group is a signature and the places of the lemmas that have it, the lowest crate first: keep that one, and import it in the others. Laws about Booleans,
-options or results that std doesn't have are in `ft_io/proofs` (`Booleans`, `Choices`, `Outcomes`). Answers and the worked runs of `ft_model` are left out: their
+numbers, lists, options or results that std doesn't have are in `ft_io/proofs` (`Booleans`, `Numbers`, `Lists`, `Choices`, `Outcomes`). Answers and the worked runs of `ft_model` are left out: their
 goals use the same words for different things. That can also happen to two signatures whose words are defined differently in their crates: read them first.
 """
 import argparse

@@ -2,7 +2,6 @@
 use Rattle.std.proofs.Common.{◌≡◌, ◌∙◌, ℕ, ◌<◌, ◌^◌, Bool, true, false, not, List, [], ◌∷◌, length, drop, sym, ap, refl, subst, ap₂, arith, length-drop}
 use Rattle.std.specs.Prelude.{Ok, Err, if◌then◌else◌}
 use Rattle.ft_io.specs.declared.Key.{Key}
-use Rattle.seq_arith.specs.declared.kinds.Field.{Field}
 use Rattle.seq_arith.specs.declared.mark.BadMark.TheVariants as bad
 use Rattle.seq_arith.specs.declared.mark.MarkKind.{MarkKind}
 use Rattle.seq_arith.specs.declared.mark.MarkKind.TheVariants as kinds

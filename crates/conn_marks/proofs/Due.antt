@@ -1,14 +1,14 @@
 -- The mark that a connection makes is that of its point, where one is due there.
-use Rattle.std.proofs.Common.{◌≡◌, ◌∙◌, ℕ, zero, suc, ◌<◌, ◌≤◌, ◌+◌, Bool, true, false, true≢false, ◌&&◌, nat_le, nat_lt, is_none, refl, sym, ap, arith, Option, Some, None, List, [], ◌∷◌, length, take, drop, if◌then◌else◌}
+use Rattle.std.proofs.Common.{◌≡◌, ◌∙◌, ℕ, ◌<◌, ◌≤◌, ◌+◌, Bool, true, false, true≢false, ◌&&◌, nat_le, nat_lt, is_none, refl, sym, ap, arith, Option, Some, None, List, [], length, if◌then◌else◌}
 use Rattle.std.specs.Prelude.{◌↔◌}
-use Rattle.std.specs.List.{AllByRecursion}
 use Rattle.ft_io.proofs.Choices.{by_cases}
 use Rattle.server_trait.specs.Service.{Machine, reference, cut, AreBytes}
 use Rattle.server_trait.specs.Saved.{Writing, ReadsBack}
 use Rattle.ft_model.specs.Point.{Point, whole_run}
 use Rattle.ft_model.proofs.Wires.{is_low}
-use Rattle.mark_laws.specs.Marking.{Marking, is_due, with_new}
-use Rattle.mark_laws.specs.Quiet.{IsQuiet, is_quiet, mark_of}
+use Rattle.ft_model.proofs.Formed.{bytes_cut}
+use Rattle.mark_laws.specs.Marking.{Marking, with_new}
+use Rattle.mark_laws.specs.Quiet.{IsQuiet, is_quiet}
 use Rattle.wrapped_conn.specs.ConnState.{ConnState}
 use Rattle.wrapped_conn.specs.declared.quiet.Quiet.{Quiet}
 use Rattle.wrapped_conn.specs.Quiet.{quiet_in, quiet_at, TellsQuiet}
@@ -73,22 +73,8 @@ advances service written every p m c ends found sound st short =
     (nat_le (m.last + every) (length p.lengths)) state m (marked_at (quiet_at service p) state)
     ∙ ap (λ b. if nat_lt 0 every && is_none m.outstanding && b && nat_le (m.last + every) (length p.lengths) then marked_at (quiet_at service p) state else m) (sym off)))
 
-bytes_take : (n : ℕ) (xs : List ℕ) → AreBytes xs → AreBytes (take n xs)
-bytes_take zero xs a = tt
-bytes_take (suc n) [] a = tt
-bytes_take (suc n) (x ∷ xs) a = (a.0, bytes_take n xs a.1)
-
-bytes_drop : (n : ℕ) (xs : List ℕ) → AreBytes xs → AreBytes (drop n xs)
-bytes_drop zero xs a = a
-bytes_drop (suc n) [] a = tt
-bytes_drop (suc n) (x ∷ xs) a = bytes_drop n xs a.1
-
-cut_bytes : (bytes lengths : List ℕ) → AreBytes bytes → AllByRecursion AreBytes (cut bytes lengths)
-cut_bytes bytes [] a = tt
-cut_bytes bytes (n ∷ lengths) a = (bytes_take n bytes a, cut_bytes (drop n bytes) lengths (bytes_drop n bytes a))
-
 -- a form is short enough where the state is that of a run over bytes that hasn't closed
 pub short_form : {S : Type 0} (service : Machine S) (written : Writing S) (p : Point) → ReadsBack service written → AreBytes p.taken → IsQuiet service p
     → length (written.form (whole_run service p).state) ≤ 1100
 unfolding reference
-short_form service written p reads_back bytes quiet = (reads_back (cut p.taken p.lengths) (cut_bytes p.taken p.lengths bytes) quiet.running).short
+short_form service written p reads_back bytes quiet = (reads_back (cut p.taken p.lengths) (bytes_cut p.taken p.lengths bytes) quiet.running).short

@@ -1,5 +1,5 @@
 -- What a connection has taken, and what it holds, are bytes where its segments' payloads are.
-use Rattle.std.proofs.Common.{◌≡◌, ℕ, zero, suc, ◌<◌, Bool, true, false, ◌&&◌, ◌||◌, ◌==◌, nat_le, sym, ap, subst, length, take, drop, Option, Some, None, List, [], ◌∷◌, ◌++◌}
+use Rattle.std.proofs.Common.{ℕ, zero, suc, ◌<◌, Bool, ◌&&◌, ◌==◌, nat_le, sym, ap, subst, length, drop, Option, Some, None, List, [], ◌∷◌}
 use Rattle.std.specs.Prelude.{ℤ, pos, ◌+ℤ◌, IfSome}
 use Rattle.std.specs.List.{AllByRecursion}
 use Rattle.ft_io.proofs.Choices.{holds_if}
@@ -7,7 +7,7 @@ use Rattle.ft_io.specs.declared.Addr.{Addr}
 use Rattle.seq_arith.specs.Arrival.{below}
 use Rattle.seq_arith.specs.Coming.{Early, Came, nothing_came, ahead, new_text, with_text, holds_fin, with_fin, continued, stands_at, with_fin_taken, comes}
 use Rattle.seq_arith.specs.Early.{laid, run_count, front_run, behind_front_run, most_runs, held_with}
-use Rattle.seq_arith.specs.Packet.{Segment, has_syn, has_rst}
+use Rattle.seq_arith.specs.Packet.{Segment}
 use Rattle.server_trait.specs.Service.{Machine, AreBytes}
 use Rattle.ft_model.specs.Connection.{ConnectionTurn, LiveTurn, ResetTurn}
 use Rattle.ft_model.specs.Network.{Packet}
@@ -19,6 +19,7 @@ use Rattle.ft_model.specs.Taken.{counts, came, taken_after, early_after}
 use Rattle.ft_model.proofs.Formed.{bytes_take, bytes_drop}
 use Rattle.ft_model.proofs.Lists.{all_append}
 use Rattle.ft_model.proofs.StageTurns.{either_turn}
+use Rattle.ft_model.proofs.FormedTurns.{text_bytes}
 
 -- places that hold bytes, or nothing
 abbrev AreHeld : List (Option ℕ) → Type 0
@@ -103,9 +104,6 @@ pub record HasBytes (p : Point) : Type 0 where
 abbrev pub NewsBytes : News → Type 0
 NewsBytes (Comes segment) = AreBytes segment.payload
 NewsBytes _ = Unit {0}
-
-text_bytes : (segment : Segment) → AreBytes segment.payload → AreBytes (text_of segment)
-text_bytes segment h = holds_if AreBytes (has_syn segment || has_rst segment) [] segment.payload (λ t. tt) (λ t. h)
 
 came_bytes : (p : Point) (segment : Segment) → AreBytes segment.payload → HasBytes p → CameBytes (came p segment)
 unfolding came

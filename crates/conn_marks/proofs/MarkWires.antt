@@ -5,7 +5,6 @@ use Rattle.std.proofs.lemmas.List.{map-append, take-append-drop, take-map, drop-
 use Rattle.std.proofs.Math.Seq.{take-append-add, drop-append_seam, drop-append-add}
 use Rattle.ft_io.specs.declared.Key.{Key}
 use Rattle.seq_arith.specs.Mark.{Mark}
-use Rattle.seq_arith.specs.Mark.MarkBody.{MarkMsg}
 use Rattle.seq_arith.specs.MarkGrammar as marks
 use Rattle.seq_arith.proofs.MessageSpelling.{message_is_read}
 use Rattle.ft_model.specs.Network.{Packet}
@@ -125,11 +124,6 @@ put_out boot key p sent packets old mid new same is written s =
       spelled = with_spelled n (marks_out boot p sent) packets written
           (out_spelled boot p sent (subst (λ k. AllByRecursion (λ mark. marks.IsSpellable (mark_message boot k mark)) sent) (sym same) s.spelled));
     }
-
--- without marks
-pub no_marks : (n : ℕ) (packets : List Packet) → with_marks n [] packets ≡ map Plain packets
-no_marks n packets =
-    let k : ℕ = length packets - n in sym (map-append Plain (take k packets) (drop k packets)) ∙ ap (map Plain) (take-append-drop k packets)
 
 pub plain_out : (packets : List Packet) (old new : List Wire) → new ≡ old ++ map wire_of packets → AllByRecursion HasWire packets → AreOut (map Plain packets) old new
 plain_out packets old new is h = record { wires = is ∙ ap (λ l. old ++ l) (sym (plain_wires packets)); spelled = plain_spelled packets h }

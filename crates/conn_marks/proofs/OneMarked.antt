@@ -1,25 +1,22 @@
 -- A turn that concerns one key alone: the mark of its place stands among its packets, and all others stay.
-use Rattle.std.proofs.Common.{◌≡◌, ◌∙◌, ℕ, Bool, true, false, true≢false, ◌&&◌, ◌==◌, not, refl, sym, ap, ap₂, subst, Option, Some, None, List, [], ◌∷◌, ◌++◌, map, filter, find, flat_map, length, append-nil, arith, if◌then◌else◌}
+use Rattle.std.proofs.Common.{◌≡◌, ◌∙◌, Bool, true, false, true≢false, ◌&&◌, ◌==◌, refl, sym, ap, ap₂, subst, Some, None, List, [], ◌∷◌, ◌++◌, map, filter, flat_map, length, append-nil, arith, if◌then◌else◌}
 use Rattle.std.specs.Bool.{MatchBool}
 use Rattle.std.specs.Option.{option_map_or, is_some}
-use Rattle.std.proofs.lemmas.Bool.{or_parts, and_parts}
+use Rattle.std.proofs.lemmas.Bool.{or_parts}
 use Rattle.std.proofs.lemmas.Grind.{flat_map-append}
 use Rattle.ft_io.specs.declared.Key.{Key}
 use Rattle.ft_io.specs.Key.{key_eq}
-use Rattle.ft_io.proofs.Choices.{by_cases, holds_if, if_false}
-use Rattle.seq_arith.specs.Message.{Numbers, Message}
+use Rattle.ft_io.proofs.Choices.{by_cases, if_false}
 use Rattle.seq_arith.specs.Packet.{Segment}
 use Rattle.ft_model.specs.Network.{Packet, source_of}
-use Rattle.ft_model.specs.Network.Packet.{To_client}
-use Rattle.ft_model.specs.Node.{Node, Place, Input, key_of, place_at, is_for, is_known}
+use Rattle.ft_model.specs.Node.{Node, Place, Input, key_of, place_at, is_for}
 use Rattle.ft_model.specs.Node.Place.{Opens, Lives, Ended}
-use Rattle.ft_model.specs.Node.Input.{Packet_comes, Message_comes, Noise_comes, Tick_comes}
+use Rattle.ft_model.specs.Node.Input.{Packet_comes}
 use Rattle.ft_model.specs.Opening.{is_syn}
 use Rattle.ft_model.specs.Point.{Point}
-use Rattle.ft_model.specs.Refusal.{as_listen}
-use Rattle.ft_model.specs.ServingTurn.{PlaceTurn, AllGo, Stays, Meets, concerns, newcomers, refusals, opens_at, is_asked, is_strange}
-use Rattle.ft_model.proofs.Distinct.{KeepsKey}
-use Rattle.ft_model.proofs.Keys.{AreDistinct, has_key, key_eq_turns}
+use Rattle.ft_model.specs.ServingTurn.{PlaceTurn, AllGo, Stays, Meets, concerns, opens_at, is_asked}
+use Rattle.ft_model.specs.Keys.{AreDistinct, has_key}
+use Rattle.ft_model.proofs.Keys.{key_eq_turns}
 use Rattle.ft_model.proofs.Lists.{same_key, some_is}
 use Rattle.mark_laws.specs.Marking.{Outgoing, with_marks}
 use Rattle.mark_traces.specs.MarkedNode.{Marker, GoesMarked, AllGoMarked, is_done}

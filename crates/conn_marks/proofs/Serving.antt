@@ -1,8 +1,8 @@
 -- The turn of a node that serves, other than a tick's, with the mark of the one key that it concerns.
-use Rattle.std.proofs.Common.{◌≡◌, ◌∙◌, ℕ, Bool, true, false, true≢false, ◌&&◌, ◌==◌, not, refl, sym, ap, ap₂, subst, Option, Some, None, List, [], ◌∷◌, ◌++◌, map, filter, flat_map, length, append-nil, arith, if◌then◌else◌}
+use Rattle.std.proofs.Common.{◌≡◌, ◌∙◌, ℕ, Bool, true, false, true≢false, ◌&&◌, not, refl, sym, ap, ap₂, subst, Option, Some, None, List, [], ◌∷◌, ◌++◌, map, filter, flat_map, length, append-nil, if◌then◌else◌}
 use Rattle.std.specs.Prelude.{nat_lt}
 use Rattle.std.specs.List.{AllByRecursion}
-use Rattle.std.specs.Option.{option_map_or, is_some}
+use Rattle.std.specs.Option.{option_map_or}
 use Rattle.std.proofs.lemmas.List.{map-append, take-append-drop}
 use Rattle.std.proofs.lemmas.Bool.{and_parts}
 use Rattle.ft_io.proofs.Booleans.{and_false}
@@ -10,8 +10,7 @@ use Rattle.ft_io.specs.declared.Key.{Key}
 use Rattle.ft_io.specs.Key.{key_eq}
 use Rattle.ft_io.proofs.Choices.{by_cases, holds_if, if_false}
 use Rattle.seq_arith.specs.Mark.{Mark}
-use Rattle.seq_arith.specs.Message.{Message, Numbers}
-use Rattle.seq_arith.specs.Packet.{Segment}
+use Rattle.seq_arith.specs.Message.{Message}
 use Rattle.server_trait.specs.Service.{AreBytes}
 use Rattle.ft_model.specs.Connection.{ConnectionTurn}
 use Rattle.ft_model.specs.Network.{Packet, source_of}
@@ -24,23 +23,25 @@ use Rattle.ft_model.specs.Node.Input.{Packet_comes, Message_comes, Noise_comes, 
 use Rattle.ft_model.specs.Opening.{is_syn, point_opened, numbers_for}
 use Rattle.ft_model.specs.Point.{Point}
 use Rattle.ft_model.specs.Refusal.{as_listen}
-use Rattle.ft_model.specs.ServingTurn.{PlaceTurn, AllGo, Stays, ServingTurn, concerns, newcomers, refusals, opens_at, is_strange}
+use Rattle.ft_model.specs.ServingTurn.{PlaceTurn, ServingTurn, concerns, newcomers, refusals, opens_at, is_strange}
 use Rattle.ft_model.specs.Wire.{Wire, wire_of, HasWire}
+use Rattle.ft_model.specs.Keys.{AreDistinct, has_key}
 use Rattle.ft_model.proofs.Distinct.{KeepsKey, keeps_key, no_key_after, distinct_goes_on}
-use Rattle.ft_model.proofs.Keys.{AreDistinct, has_key, key_eq_turns, finds_itself, all_from_get, found_has_key, absent_key}
+use Rattle.ft_model.proofs.Keys.{key_eq_turns, finds_itself, all_from_get, found_has_key, absent_key}
 use Rattle.ft_model.proofs.Lists.{same_key, all_slice_get, all_append, all_find, found_passes}
-use Rattle.ft_model.proofs.PlaceTurns.{PlaceWent, IsNews, HasOpened, place_went, all_go_on}
+use Rattle.ft_model.proofs.PlaceTurns.{PlaceWent, IsNews, place_went, all_go_on}
 use Rattle.ft_model.proofs.PlaceTurns.PlaceWent.{stayed, went_on, began, dropped, ended, refused}
 use Rattle.ft_model.proofs.StageTurns.{either_turn}
-use Rattle.mark_laws.specs.Marking.{Marking, Outgoing, IsSettled, is_due, with_new, new_marks, with_marks, marks_out}
+use Rattle.mark_laws.specs.Marking.{Marking, Outgoing, is_due, with_new, new_marks, with_marks, marks_out}
 use Rattle.mark_laws.specs.Marking.Outgoing.{Plain}
 use Rattle.mark_laws.specs.Quiet.{mark_of}
+use Rattle.mark_laws.proofs.MarksSent.{plain_map}
 use Rattle.mark_traces.specs.MarkedNode.{Marker, MarkedNode, GoesMarked, AllGoMarked, ServesMarked, marks_at, marking_then, is_done, is_tick_input}
-use Rattle.conn_marks.specs.KeyMarks.{KeyMarks, marking_in, Changes}
-use Rattle.conn_marks.specs.MarkSends.{AreOut, SendsMarks, put_before}
+use Rattle.conn_marks.specs.KeyMarks.{KeyMarks, marking_in}
+use Rattle.conn_marks.specs.MarkSends.{AreOut, SendsMarks}
 use Rattle.conn_marks.specs.Settled.{Keeps, IsSettledPoint, IsSettledPlace, AllSettled, MarksNew, MarksPlace}
 use Rattle.conn_marks.proofs.HeldBytes.{HasBytes, NewsBytes, turn_bytes}
-use Rattle.conn_marks.proofs.MarkWires.{put_out, plain_out, no_marks}
+use Rattle.conn_marks.proofs.MarkWires.{put_out, plain_out}
 use Rattle.conn_marks.proofs.Settling.{new_same, settles}
 use Rattle.conn_marks.proofs.OneMarked.{stays_of, found_in, found_behind, one_marked, marks_are, marks_if, live_asks}
 
@@ -77,7 +78,7 @@ news_bytes node input Begins p n bytes = absurd n
 
 -- what else is sent, where the input's key is live
 
-quiet_message : (node : Node) (message : Message) (places : List Place) → flat_map (opens_at node (Message_comes message)) places ≡ []
+pub quiet_message : (node : Node) (message : Message) (places : List Place) → flat_map (opens_at node (Message_comes message)) places ≡ []
 quiet_message node message [] = refl
 quiet_message node message (Opens n ∷ places) = quiet_message node message places
 quiet_message node message (Lives p ∷ places) = quiet_message node message places
@@ -253,7 +254,7 @@ module _ {State : Type 0} (by : Marker State) (node : MarkedNode) (input : Input
         → AreOut (with_marks (length (filter is_done t.by_places)) [] t.by_places ++ map Plain (refusals node.plain input before ++ flat_map (opens_at node.plain input) later)) [] new
     plain_all mid new sent_is spelled same =
         subst (λ l. AreOut l [] new)
-        (ap (map Plain) t.packets ∙ (map-append Plain t.by_places rest ∙ ap (λ l. l ++ map Plain rest) (sym (no_marks (length (filter is_done t.by_places)) t.by_places))))
+        (ap (map Plain) t.packets ∙ (map-append Plain t.by_places rest ∙ ap (λ l. l ++ map Plain rest) (sym (plain_map (length (filter is_done t.by_places)) t.by_places))))
         (plain_out packets [] new (same ∙ sent_is) spelled)
 
     marks_of_key : flat_map marks_in t.went ≡ option_map_or marks_in (place_at key t.went) []

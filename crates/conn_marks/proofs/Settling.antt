@@ -1,23 +1,20 @@
 -- After a turn no mark is due: it was made in the turn.
-use Rattle.std.proofs.Common.{◌≡◌, ℕ, ◌+◌, Bool, true, false, true≢false, ◌&&◌, sym, ap, ◌∙◌, subst, arith, refl, Option, Some, None, List, [], ◌∷◌, length, if◌then◌else◌}
+use Rattle.std.proofs.Common.{◌≡◌, ℕ, ◌+◌, Bool, true, false, true≢false, ◌&&◌, sym, ap, ◌∙◌, subst, refl, Option, Some, None, List, [], ◌∷◌, length, if◌then◌else◌}
 use Rattle.std.specs.Prelude.{nat_lt, nat_le, is_none}
-use Rattle.std.specs.Bool.{MatchBool}
 use Rattle.ft_io.specs.declared.Addr.{Addr}
 use Rattle.ft_io.proofs.Choices.{by_cases, if_false}
+use Rattle.ft_io.proofs.Booleans.{second_of_four}
 use Rattle.seq_arith.specs.Mark.{Mark}
 use Rattle.ft_model.specs.Connection.{ConnectionTurn, LiveTurn, ResetTurn}
 use Rattle.ft_model.specs.Network.{Packet}
 use Rattle.ft_model.specs.News.{News}
 use Rattle.ft_model.specs.Point.{Point}
-use Rattle.ft_model.specs.ResetAndEnd.{reset_after}
 use Rattle.ft_model.proofs.StageTurns.{either_turn}
 use Rattle.ft_model.proofs.TurnTells.{settled_reads}
 use Rattle.mark_laws.specs.Quiet.{is_quiet, mark_of}
 use Rattle.mark_laws.specs.Marking.{Marking, IsSettled, is_due, with_new, new_marks, outstanding_in}
+use Rattle.mark_laws.proofs.MarksSent.{not_twice}
 use Rattle.mark_traces.specs.MarkedNode.{Marker}
-
-not_twice : (a b c : Bool) → (a && false && b && c) ≡ false
-not_twice a b c = grind (arith)
 
 -- where no mark is due none is made
 pub new_same : {State : Type 0} (by : Marker State) (m : Marking) (p : Point) → is_due by.service by.every m p ≡ false → with_new by.service by.writing by.every p m ≡ m
@@ -39,14 +36,10 @@ settles by server boot news p q m sent t = record {
       (λ (l : LiveTurn by.service server boot news p q sent). λ live. settled_reads by.service server boot news p q sent l) t;
 }
 
--- a marking that a mark made at a point doesn't change has none due there
-waits : (a b c d : Bool) → (a && b && c && d) ≡ true → b ≡ true
-waits a b c d h = grind (arith, h)
-
 due_changes : {State : Type 0} (by : Marker State) (m : Marking) (p : Point) (b : Bool) → is_due by.service by.every m p ≡ b
     → m ≡ (if b then record { last = length p.lengths; outstanding = Some (mark_of by.service by.writing p) } else m) → is_due by.service by.every m p ≡ false
 due_changes by m p true due is =
-    absurd (true≢false (sym (waits (nat_lt 0 by.every) (is_none m.outstanding) (is_quiet by.service p) (nat_le (m.last + by.every) (length p.lengths)) due) ∙ ap (λ (x : Marking). is_none x.outstanding) is))
+    absurd (true≢false (sym (second_of_four (nat_lt 0 by.every) (is_none m.outstanding) (is_quiet by.service p) (nat_le (m.last + by.every) (length p.lengths)) due) ∙ ap (λ (x : Marking). is_none x.outstanding) is))
 due_changes by m p false off is = off
 
 pub same_due : {State : Type 0} (by : Marker State) (m : Marking) (p : Point) → m ≡ with_new by.service by.writing by.every p m → is_due by.service by.every m p ≡ false

@@ -5,7 +5,7 @@ use Rattle.std.specs.Prelude.{ℤ, pos, ◌==◌, ◌&&◌, nat_abs, nat_lt, int
 use Rattle.std.proofs.lemmas.Int.{ints}
 use Rattle.std.proofs.lemmas.Bool.{false≢true}
 use Rattle.seq_arith.specs.Congestion.{Congestion, with_new_data, with_duplicate}
-use Rattle.connection_laws.proofs.Lowered.{Lowers}
+use Rattle.connection_laws.proofs.Lowered.{Lowers, unsigned}
 
 -- what the laws ask of the numbers: it acknowledges what no segment did before, ..
 abbrev pub acknowledges_more : (una sent : ℕ) (c : Bool) (ack : ℤ) → Bool
@@ -29,10 +29,6 @@ duplicates una sent edge window c textless finless ack =
 -- the window as it goes inside
 abbrev pub window_inside : (sent window : ℕ) (ack : ℤ) → ℕ
 window_inside sent window ack = if int_lt (pos sent) ack then min 65535 (window + (nat_abs ack - sent)) else window
-
-unsigned : (c s x : Bool) → s ≡ false → ((c && s) && x) ≡ false
-unsigned true s x h = ap (λ v. v && x) h
-unsigned false s x h = refl
 
 -- one that acknowledges all that was sent repeats nothing, ..
 repeats_not : (una sent edge window k : ℕ) → sent < k → repeats una sent edge window (pos k) ≡ false

@@ -124,7 +124,7 @@ end_written true una len sent more h = omega (arith, h refl)
 end_written false una len sent more h = omega arith
 
 -- after a FIN nothing is written
-room_none : (c r : Bool) (n : ℕ) → c ≡ true → (if c || r then 0 else n) ≡ 0
+pub room_none : (c r : Bool) (n : ℕ) → c ≡ true → (if c || r then 0 else n) ≡ 0
 room_none true r n h = refl
 room_none false r n h = absurd (false≢true h)
 

@@ -16,8 +16,9 @@ use Rattle.ft_model.specs.Taken.{uses, counts, came, taken_after, early_after, f
 use Rattle.ft_model.specs.Sending.{syn_acked_after, acknowledged_after, edge_after, wl1_after, wl2_after, is_duplicate, congestion_after, flight, sent_at_once, sent_after, acknowledged_by, window_by}
 use Rattle.ft_model.specs.Timer.{must_run, interval_after, rest_after}
 use Rattle.endpoint_laws.specs.Refinement.{MeetsLaws}
-use Rattle.connection_laws.proofs.Swallowed.{drop_none}
 use Rattle.ft_io.proofs.Booleans.{or_true, and_true, middle_false}
+use Rattle.ft_io.proofs.Numbers.{plus_none}
+use Rattle.ft_model.proofs.StreamAgreement.{drop_nothing}
 use Rattle.endpoint_laws.proofs.FirstPoint.{none_more}
 
 -- a service that writes nothing
@@ -64,9 +65,6 @@ acceptable_if false n w h = acceptable_none n w
 room_left : (n f : ℕ) → n < 2 ^ 24 → f ≡ n → 0 < min (max f 0 + 65535) (2 ^ 24) + 0 - (n + 0)
 room_left n f h e = omega (arith, h, e)
 
-pub plus_none : (n : ℕ) → n + 0 ≡ n
-plus_none n = omega arith
-
 at_start : (b : Bool) → (b || int_le (pos 0) (pos 0)) ≡ true
 at_start true = refl
 at_start false = grind (arith, ints)
@@ -93,7 +91,7 @@ either false x y h = refl
 
 no_text : (b : Bool) (k m : ℕ) → (if b then [] else take {A = ℕ} k (drop m [])) ≡ []
 no_text true k m = refl
-no_text false k m = ap (take k) (drop_none m) ∙ take_none k
+no_text false k m = ap (take k) (drop_nothing m) ∙ take_none k
 
 same_place : (n : ℕ) → int_eq (pos n +ℤ pos 0) (pos (n + 0)) ≡ true
 same_place n = grind (arith, ints)

@@ -14,7 +14,7 @@ use Rattle.south_wrap.specs.Translation.{inward}
 use Rattle.south_wrap.specs.SouthState.{is_high}
 use Rattle.south_wrap.specs.SouthPoint.{south_at}
 use Rattle.ft_io.proofs.Booleans.{and_false}
-use Rattle.ft_io.proofs.Choices.{if_false}
+use Rattle.ft_io.proofs.Choices.{if_false, if_true}
 
 goes_on : (sisn u number : ℕ) → number < 2 ^ 32 → u ≤ 2 ^ 24 → (pos 0 -ℤ pos (2 ^ 30)) ≤ℤ offset_of sisn number
     → offset_of ((sisn + u) % 2 ^ 32) number ≡ offset_of sisn number -ℤ pos u
@@ -75,10 +75,6 @@ lowers_by u sent (pos k) inner false t h a b = below_or u sent k inner (nat_lt k
 lowers_by u sent (negsuc k) inner true t h a b = absurd (grind (arith, ints, t))
 lowers_by u sent (negsuc k) inner false t h a b = inr (inr (inr (record { negative = grind (arith, ints); inside = rw (b refl) (grind (arith, ints)); to = b refl })))
 
-if_true : {A : Type 0} (b : Bool) (x y : A) → b ≡ true → (if b then x else y) ≡ x
-if_true true x y h = refl
-if_true false x y h = absurd (false≢true h)
-
 -- the acknowledgement of a near segment
 pub lowers : (u i delta : ℕ) (p : Point) (segment : Segment) → GoesOn u i delta p → segment.head.ack < 2 ^ 32
     → (pos 0 -ℤ pos (2 ^ 30)) ≤ℤ ack_of p.sisn segment → Lowers u p.sent (ack_of p.sisn segment) (ack_of i (inward (south_at delta p) segment))
@@ -94,9 +90,9 @@ lowers u i delta p segment g fits near =
     ∙ lowered_offset i delta p.sisn u segment.head.ack g.shift fits g.delta_fits g.small near)
 
 -- whether it names an offset that counts
-off : (c s x : Bool) → s ≡ false → ((c && s) && x) ≡ false
-off true s x h = ap (λ v. v && x) h
-off false s x h = refl
+pub unsigned : (c s x : Bool) → s ≡ false → ((c && s) && x) ≡ false
+unsigned true s x h = ap (λ v. v && x) h
+unsigned false s x h = refl
 
 off_behind : (c s n a y : Bool) → n ≡ false → a ≡ false → ((c && s) && (n || (a && y))) ≡ false
 off_behind c s n a y p q = (λ j. (c && s) && (p j || (q j && y))) ∙ and_false (c && s)
@@ -134,11 +130,11 @@ moves_inside u una sent c syn_acked wl1 wl2 first ack inner a b w o (inr (inl h)
     moves_same c syn_acked una (una - u) wl1 wl2 (wl2 - u) first ack inner sent (sent - u) (rw (h.is, h.to) (grind (arith, ints)))
     (rw (h.is, h.to) (grind (arith, ints, h.from, h.most, a, b))) (rw (h.is, h.to) (grind (arith, ints, h.from, h.most, a, b, w)))
 moves_inside u una sent c syn_acked wl1 wl2 first ack inner a b w o (inr (inr (inl h))) =
-    off c (int_le (pos 0) inner) _ h.negative
+    unsigned c (int_le (pos 0) inner) _ h.negative
     ∙ sym (off_behind c (int_le (pos 0) ack) (not syn_acked) (nat_le una (min (nat_abs ack) sent)) _ (some_left syn_acked u h.k o h.under)
     (rw h.is (grind (arith, ints, h.under, h.most, a))))
 moves_inside u una sent c syn_acked wl1 wl2 first ack inner a b w o (inr (inr (inr h))) =
-    off c (int_le (pos 0) inner) _ h.inside ∙ sym (off c (int_le (pos 0) ack) _ h.negative)
+    unsigned c (int_le (pos 0) inner) _ h.inside ∙ sym (unsigned c (int_le (pos 0) ack) _ h.negative)
 
 -- where it is used, the acknowledgement is one that counts, and the window reaches as far
 pub record Used (u sent window inner_window : ℕ) (ack inner : ℤ) : Type 0 where
@@ -162,7 +158,7 @@ used_by u una sent c syn_acked wl1 wl2 window first ack inner a b o (inr (inl h)
 used_by u una sent c syn_acked wl1 wl2 window first ack inner a b o (inr (inr (inl h))) m =
     absurd (false≢true (sym (off_behind c (int_le (pos 0) ack) (not syn_acked) (nat_le una (min (nat_abs ack) sent)) _ (some_left syn_acked u h.k o h.under)
     (rw h.is (grind (arith, ints, h.under, h.most, a)))) ∙ m))
-used_by u una sent c syn_acked wl1 wl2 window first ack inner a b o (inr (inr (inr h))) m = absurd (false≢true (sym (off c (int_le (pos 0) ack) _ h.negative) ∙ m))
+used_by u una sent c syn_acked wl1 wl2 window first ack inner a b o (inr (inr (inr h))) m = absurd (false≢true (sym (unsigned c (int_le (pos 0) ack) _ h.negative) ∙ m))
 
 when : (m : Bool) (x y edge u : ℕ) → (m ≡ true → x ≡ y - u) → (if m then x else edge - u) ≡ (if m then y else edge) - u
 when true x y edge u h = h refl

@@ -16,6 +16,7 @@ use Rattle.ft_model.specs.Taken.{taken_after, fin_after}
 use Rattle.ft_model.proofs.Services.{prefix_length}
 use Rattle.ft_model.proofs.Settled.{settled}
 use Rattle.ft_model.proofs.TurnTells.{settled_reads}
+use Rattle.ft_model.proofs.Turns.{all_is_sent}
 use Rattle.tcp_endpoint.specs.Arrival.{received, begun}
 use Rattle.tcp_endpoint.specs.Output.{leaving}
 use Rattle.tcp_endpoint.specs.States.{has_begun, is_closed}
@@ -39,7 +40,7 @@ use Rattle.connection_laws.specs.Parts.{PartsTurn}
 use Rattle.connection_laws.proofs.FirstSyn.{begins_inside}
 use Rattle.connection_laws.proofs.Fed.{reading, north_calls_feed}
 use Rattle.connection_laws.proofs.Joining.{socket_laws, hears, socket_stands}
-use Rattle.connection_laws.proofs.Together.{goes, sends_all}
+use Rattle.connection_laws.proofs.Together.{goes}
 use Rattle.endpoint_laws.proofs.SegmentsLaw.{begun_open}
 
 -- TCP once its SYN has come: nothing is read, written or sent
@@ -124,7 +125,7 @@ starts_together service boot local numbers old new reads t o st open_still turns
           unreset = refl;
           kept = by.1.kept;
           shut = by.1.shut;
-          all_sent = sends_all service local boot Begins p q _ l;
+          all_sent = all_is_sent service local boot Begins p q _ l;
         };
         no_read = settled_reads service local boot Begins p q _ l;
         exact = by.1.exact;

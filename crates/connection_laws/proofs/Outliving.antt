@@ -3,6 +3,7 @@ use Rattle.std.proofs.Common.{◌≡◌, ℕ, zero, suc, ◌≤◌, ◌+◌, ◌
 use Rattle.std.specs.Prelude.{◌==◌, ◌&&◌, ◌||◌, nat_abs, nat_lt, if◌then◌else◌}
 use Rattle.std.proofs.lemmas.Bool.{false≢true, and_parts}
 use Rattle.ft_io.specs.declared.Addr.{Addr}
+use Rattle.ft_io.proofs.Numbers.{plus_none}
 use Rattle.seq_arith.specs.Arrival.{una_after}
 use Rattle.seq_arith.specs.Coming.{nothing_came, comes, early_from, StandsBehind}
 use Rattle.seq_arith.specs.Congestion.{Congestion}
@@ -51,7 +52,7 @@ use Rattle.endpoint_laws.proofs.Calls.{FinIsLast, IsUsed, used_is, bounded_used,
 use Rattle.connection_laws.specs.ClosedTcp.{StandsClosed, ReadsOn, GoesOnClosed}
 use Rattle.connection_laws.proofs.SendBuffer.{KeepsOutput, kept_same, kept_ticked}
 use Rattle.connection_laws.proofs.Quiet.{no_third, quiet_sends}
-use Rattle.connection_laws.proofs.Forged.{plus_none, either}
+use Rattle.connection_laws.proofs.Forged.{either}
 use Rattle.connection_laws.proofs.Reassembly.{behind_at}
 
 -- a front goes on where the list does

@@ -18,7 +18,7 @@ use Rattle.ft_model.specs.Answered.{answered_after}
 use Rattle.ft_model.specs.Taken.{accepts, uses, counts, taken_after, fin_after}
 use Rattle.ft_model.specs.PendingAck.{is_refused, needs_ack, asks}
 use Rattle.ft_model.specs.PendingAck as outer
-use Rattle.ft_model.specs.Reads.{Makes, MakesReads, next_read, next_length, may_read}
+use Rattle.ft_model.specs.Reads.{MakesReads, next_length, may_read}
 use Rattle.ft_model.specs.Sending.{edge_after, is_third_duplicate, sent_at_once, syn_acked_after}
 use Rattle.ft_model.specs.Segments.{texts, new_length, fin_if_closed}
 use Rattle.ft_model.specs.Refusal.{rst_at_ack}
@@ -35,6 +35,9 @@ use Rattle.connection_laws.proofs.Lowered.{Lowers, lowers}
 use Rattle.connection_laws.proofs.Meets.{Moves, moves_inside_all, stays_inside, laws_inside, minus_none}
 use Rattle.connection_laws.proofs.Leaving.{Sends, full, passed_is, or_besides}
 use Rattle.ft_io.proofs.Booleans.{not_true, left_false, middle_false, second_of_three}
+use Rattle.ft_io.proofs.Choices.{if_none}
+use Rattle.ft_io.proofs.Numbers.{equal_itself, not_less_itself}
+use Rattle.ft_model.proofs.Running.{none_made}
 use Rattle.endpoint_laws.proofs.Ends.{less_is, none_if}
 
 -- in what order the reasons for a segment are asked doesn't matter
@@ -118,10 +121,6 @@ nothing_to_read p a b c =
     ∙ (λ j. if never (sum p.lengths) j then Some (min 2048 (0 - sum p.lengths))
     else (if never (sum p.lengths) j then Some (min 2048 (0 - sum p.lengths)) else None))
 
-none_of_if : (b : Bool) (x : Option ℕ) → x ≡ None → (if b then x else None) ≡ None
-none_of_if true x h = h
-none_of_if false x h = refl
-
 abbrev listed : Option ℕ → List ℕ
 listed None = []
 listed (Some n) = n ∷ []
@@ -129,24 +128,17 @@ listed (Some n) = n ∷ []
 none_some : (n : ℕ) (x : Option ℕ) → x ≡ None → x ≡ Some n → [] ≡ n ∷ []
 none_some n x a b = ap listed (sym a ∙ b)
 
-no_read : {State : Type 0} (service : Machine State) (r : Point) (ns : List ℕ) → next_read service r ≡ None → Makes service r ns → ns ≡ []
-no_read service r [] none m = refl
-no_read service r (n ∷ ns) none m = absurd (omega (arith, ap length (none_some n (next_read service r) none m.0)))
-
 pub same_lengths : {State : Type 0} (service : Machine State) (p q : Point) → MakesReads service p q → length q.taken ≡ 0 → q.fetched ≡ 0 → q.fin ≡ false → q.lengths ≡ p.lengths
 same_lengths service p q m a b c =
     let r : Point = record q { lengths = p.lengths } in
-    m.lengths ∙ ap (λ ns. p.lengths ++ ns) (no_read service r m.news (none_of_if (may_read service r) (next_length r) (nothing_to_read r a b c)) m.makes) ∙ append-nil p.lengths
+    m.lengths ∙ ap (λ ns. p.lengths ++ ns) (none_made service r m.news (if_none (may_read service r) (next_length r) (nothing_to_read r a b c)) m.makes) ∙ append-nil p.lengths
 
-same_self : (n : ℕ) → (n == n) ≡ true
-same_self n = grind arith
-
--- nothing is announced anew
+-- nothing is advertised anew
 pub nothing_new : (p q : Point) → q.taken ≡ p.taken → q.fin ≡ p.fin → q.fetched ≡ p.fetched → q.lengths ≡ p.lengths
     → (not (taken_units p == taken_units q) || not (advertised_edge p == advertised_edge q)) ≡ false
 nothing_new p q a b c d =
     (λ j. not (taken_units p == length (a j) + (if b j then 1 else 0)) || not (advertised_edge p == min (max (c j) (sum (d j)) + 65535) (2 ^ 24) + (if b j then 1 else 0)))
-    ∙ (λ j. not (same_self (taken_units p) j) || not (same_self (advertised_edge p) j))
+    ∙ (λ j. not (equal_itself (taken_units p) j) || not (equal_itself (advertised_edge p) j))
 
 quiet_or : (bare : Segment) (xs : List Segment) → or_bare false bare xs ≡ xs
 quiet_or bare [] = refl
@@ -195,9 +187,6 @@ off_last true true true false e h = refl
 off_last true true false d e h = refl
 off_last true false c d e h = refl
 off_last false b c d e h = refl
-
-pub less_itself : (n : ℕ) → nat_lt n n ≡ false
-less_itself n = grind arith
 
 pub nothing_at_once : (t e : ℕ) → max 0 (min t (min 0 e)) ≡ 0
 nothing_at_once t e = omega arith
@@ -255,7 +244,7 @@ refused service server boot segment inner p q sent u i delta g r s l =
     let once : sent_at_once service p q ≡ 0 = (λ j. max (t.sent j) (min (point.target service q) (min (t.edge j) (q.una + q.congestion.cwnd))))
     ∙ nothing_at_once (point.target service q) (q.una + q.congestion.cwnd) in
     let long : new_length service p q ≡ 0 = (λ j. min (once j) (released service q) - t.sent j) ∙ nothing_long (released service q) in
-    let rose : nat_lt p.answered q.answered ≡ false = ap (nat_lt p.answered) t.answered ∙ less_itself p.answered in
+    let rose : nat_lt p.answered q.answered ≡ false = ap (nat_lt p.answered) t.answered ∙ not_less_itself p.answered in
     let besides : needs_ack_besides service (Comes segment) p q ≡ false = λ j. (t.fin j && nat_lt (released service p) p.una && not (has_rst segment)) || rose j in
     let rest : full service server (Comes segment) p q ≡ [] =
     (λ j. (if t.third j then (if is_unacknowledged p q then first_unacknowledged service server p q else probe service server p q) else [])

@@ -49,6 +49,7 @@ use Rattle.connection_laws.specs.Splice.{GoesOnFrom, StandsAtEntry, forged_syn, 
 use Rattle.connection_laws.proofs.Forged.{silent, IsForged, IsFresh, after_forged, forged_laws, run_is}
 use Rattle.ft_io.proofs.Choices.{by_cases}
 use Rattle.ft_io.proofs.Booleans.{false_by}
+use Rattle.ft_io.proofs.Lists.{empty_of_length}
 
 -- nothing is written, and the user hasn't closed
 pub record IsIdle (s : Sending) : Type 0 where
@@ -63,10 +64,6 @@ pub record Stood (p : Point) (e : Tcb) : Type 0 where
   pub stands : StandsAt p e
   pub idle : IsIdle e.sending
   pub kept : e.reset ≡ false
-
-empty : (xs : List ℕ) → length xs ≡ 0 → xs ≡ []
-empty [] h = refl
-empty (x ∷ xs) h = absurd (omega (arith, h))
 
 none_held : (una una' len len' : ℕ) → una ≡ 0 → len ≡ 0 → una' + len' ≡ max una' (una + len) → len' ≡ 0
 none_held una una' len len' a b h = omega (arith, a, b, h)
@@ -95,7 +92,7 @@ forged_turn p e segment fin t f s few seq =
     let by : IsSentBy e segment u.sending = sending_law e segment t.begun t.between.bounds us in
     let una : e.sending.una ≡ 0 = sym t.stands.sends.una ∙ f.una in
     let held : u.sending.held ≡ [] =
-    empty u.sending.held (none_held e.sending.una u.sending.una (length e.sending.held) (length u.sending.held) una (ap length t.idle.held) by.held) in
+    empty_of_length u.sending.held (none_held e.sending.una u.sending.una (length e.sending.held) (length u.sending.held) una (ap length t.idle.held) by.held) in
     let closed : u.sending.closed ≡ false = by.closed ∙ t.idle.closed in
     let unsent : u.sending.fin_sent ≡ false = false_by u.sending.fin_sent u.sending.closed (λ h. (came.fin_last h).0) closed in
     let laws = forged_laws p segment fin f s few in

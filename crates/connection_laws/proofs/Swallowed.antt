@@ -1,23 +1,15 @@
 -- The run of a service whose first bytes of output are swallowed is the service's run without them.
-use Rattle.std.proofs.Common.{◌≡◌, ℕ, zero, suc, ◌≤◌, ◌+◌, ◌-◌, Bool, true, false, List, [], ◌∷◌, ◌++◌, length, length-append, drop, take, refl, sym, ap, arith, ◌∙◌}
+use Rattle.std.proofs.Common.{◌≡◌, ℕ, ◌≤◌, ◌+◌, ◌-◌, Bool, true, false, List, [], ◌∷◌, length, length-append, drop, take, refl, sym, ap, arith, ◌∙◌}
 use Rattle.std.specs.Prelude.{if◌then◌else◌}
 use Rattle.std.proofs.lemmas.List.{length-drop}
+use Rattle.ft_io.proofs.Lists.{drop_append}
 use Rattle.server_trait.specs.Service.{Machine, Run, begun, fed, fold_from, cut, reference}
 use Rattle.ft_model.specs.Point.{Point, answered_run, released, target}
+use Rattle.ft_model.proofs.StreamAgreement.{drop_nothing}
 use Rattle.connection_laws.specs.Inside.{swallowing, swallowed_run, inside}
-
-drop_append : (n : ℕ) (xs ys : List ℕ) → drop n (xs ++ ys) ≡ drop n xs ++ drop (n - length xs) ys
-drop_append zero xs ys = let e : 0 ≡ 0 - length xs = omega arith in ap (λ n. xs ++ drop n ys) e
-drop_append (suc n) [] ys = let e : suc n ≡ suc n - 0 = omega arith in ap (λ m. drop m ys) e
-drop_append (suc n) (x ∷ xs) ys =
-    let e : n - length xs ≡ suc n - length (x ∷ xs) = omega arith in drop_append n xs ys ∙ ap (λ m. drop n xs ++ drop m ys) e
 
 less : (u a b : ℕ) → u - a - b ≡ u - (a + b)
 less u a b = omega arith
-
-pub drop_none : (u : ℕ) → drop {A = ℕ} u [] ≡ []
-drop_none zero = refl
-drop_none (suc u) = refl
 
 fed_runs : {State : Type 0} (service : Machine State) (u : ℕ) (closed : Bool) (state : State) (output chunk : List ℕ)
     → fed (swallowing u service) (swallowed_run u (record { state = state; output = output; closed = closed })) chunk
@@ -39,7 +31,7 @@ folded_runs service u run (chunk ∷ chunks) =
     ∙ folded_runs service u (fed service run chunk) chunks
 
 begun_runs : {State : Type 0} (service : Machine State) (u : ℕ) → begun (swallowing u service) ≡ swallowed_run u (begun service)
-begun_runs service u = let e : u ≡ u - 0 = omega arith in λ j. record { state = (service.fresh, e j); output = sym (drop_none u) j; closed = false }
+begun_runs service u = let e : u ≡ u - 0 = omega arith in λ j. record { state = (service.fresh, e j); output = sym (drop_nothing u) j; closed = false }
 
 reference_runs : {State : Type 0} (service : Machine State) (u : ℕ) (bytes lengths : List ℕ)
     → reference (swallowing u service) bytes lengths ≡ swallowed_run u (reference service bytes lengths)

@@ -2,6 +2,7 @@
 use Rattle.std.proofs.Common.{◌^◌, ◌%◌, ◌≡◌, ℕ, ◌≤◌, ◌+◌, ◌-◌, Bool, true, false, not, None, List, length, max, refl, sym, ap, arith, ⊎_elim, ◌∙◌, subst, ◌<◌}
 use Rattle.std.specs.Prelude.{◌⊎◌, ◌==◌, ◌&&◌, ◌||◌, nat_lt, if◌then◌else◌}
 use Rattle.std.proofs.lemmas.Bool.{false≢true, and_parts}
+use Rattle.ft_io.proofs.Numbers.{equal_of_test}
 use Rattle.server_trait.specs.Service.{Machine}
 use Rattle.ft_model.specs.Offset.{one_if}
 use Rattle.ft_model.specs.Point.{Point, answered_run, released, target}
@@ -53,9 +54,6 @@ unreset u i delta p e (Logged kept) st none fits off = refl
 unreset u i delta p e Ticks st none fits off = refl
 unreset u i delta p e Begins st none fits off = refl
 
-same_of : (a b : ℕ) → (a == b) ≡ true → a ≡ b
-same_of a b h = grind (arith, h)
-
 -- what its sending half tells: all is written, sent and acknowledged, the FIN too
 record IsThrough (s : Sending) (released_inside : ℕ) (closed : Bool) : Type 0 where
   acknowledged : s.una ≡ s.sent
@@ -79,7 +77,7 @@ through service p s acked over last syn_unacked written =
     let ends = last parts.0 in
     let all : HasWrittenAll service p s = ⊎_elim (λ h. h) (λ h. absurd (false≢true (sym h.open_still ∙ ends.0))) written in
     record {
-      acknowledged = same_of s.una s.sent parts.1;
+      acknowledged = equal_of_test s.una s.sent parts.1;
       some = ends.1;
       syn_acked = opened_by s.syn_acked s.sent syn_unacked ends.1;
       written = all.written ∙ end_at s.fin_sent s.sent (s.una + length s.held) parts.0;

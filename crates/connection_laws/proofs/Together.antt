@@ -19,7 +19,7 @@ use Rattle.ft_model.specs.Reads.{Makes, next_read, next_length, may_read}
 use Rattle.ft_model.specs.Segments.{opens_with, repeats_syn, syn_ack, bare_segment, or_bare, segments_of, full_segments, resent, new_texts, new_fin, new_length, texts, fin_if_closed, is_unacknowledged, first_unacknowledged, probe}
 use Rattle.ft_model.specs.Sending.{acknowledged_after, edge_after, congestion_after, is_third_duplicate, send_edge, sent_at_once, sent_after}
 use Rattle.ft_model.specs.Taken.{taken_after, fin_after}
-use Rattle.ft_model.specs.Timer.{interval_after, rest_after, must_run, probes}
+use Rattle.ft_model.specs.Timer.{interval_after, rest_after, must_run}
 use Rattle.ft_model.proofs.Settled.{settled}
 use Rattle.ft_model.proofs.TurnTells.{settled_reads}
 use Rattle.tcp_endpoint.specs.declared.states.StateName.TheVariants.{Closed}
@@ -48,7 +48,7 @@ use Rattle.connection_laws.specs.ClosedTcp.{StandsClosed, EndsInside, GoesOnClos
 use Rattle.connection_laws.specs.OutputFeed.{tcp_reader, tcp_writer, Feeds, north_calls, FedBy}
 use Rattle.connection_laws.specs.Parts.{StandsOpen, PartsStand, PartsRest, PartsTurn, north_after_news, repeats, adds, leaves_with}
 use Rattle.connection_laws.proofs.Meets.{Moves, moves_inside_all, stays_inside, nothing_counts, is_syn_has, minus_none}
-use Rattle.connection_laws.proofs.Sent.{less_itself, nothing_new, same_lengths, syn_at, units_none}
+use Rattle.connection_laws.proofs.Sent.{nothing_new, same_lengths, syn_at, units_none}
 use Rattle.connection_laws.proofs.Whole.{usual_news, turns_inside}
 use Rattle.connection_laws.proofs.Outliving.{IsStill, still, outlives, opens_not, reads_rise, taken_stays, fin_stays}
 use Rattle.connection_laws.proofs.TcpEnd.{unreset, flushed_reset, ends_inside, opens_not as opens_by_end}
@@ -58,6 +58,8 @@ use Rattle.connection_laws.proofs.Reassembly.{behind_at}
 use Rattle.connection_laws.proofs.Joining.{socket_laws, hears, heard_shut, socket_stands}
 use Rattle.endpoint_laws.proofs.SegmentsLaw.{begun_open}
 use Rattle.ft_io.proofs.Booleans.{second_of_three}
+use Rattle.ft_io.proofs.Numbers.{not_less_itself}
+use Rattle.ft_model.proofs.Turns.{all_is_sent}
 
 -- the point after a turn, by the laws
 pub goes : {S : Type 0} (service : Machine S) (server : Addr) (boot : ℕ) (news : News) (p : Point) (ks : List ℕ) → Makes service (reading p.lengths (settled service news p (p.lengths ++ ks))) ks
@@ -88,12 +90,6 @@ goes service server boot news p ks makes = record {
 -- all that may be sent is sent
 up_to : (s t e n : ℕ) → min t e ≤ max s (min t e) + n
 up_to s t e n = omega arith
-
-pub sends_all : {S : Type 0} (service : Machine S) (server : Addr) (boot : ℕ) (news : News) (p q : Point) (sent : List Packet) → LiveTurn service server boot news p q sent
-    → min (target service q) (send_edge q) ≤ q.sent
-unfolding sent_after sent_at_once
-sends_all service server boot news p q sent l =
-    subst (λ n. min (target service q) (send_edge q) ≤ n) (sym l.sent_units) (up_to p.sent (target service q) (send_edge q) (one_if (probes news p)))
 
 or_off : (a c o : Bool) → c ≡ false → (a || (c && o)) ≡ a
 or_off true c o h = refl
@@ -297,7 +293,7 @@ finish service boot u i delta given given' news p q ks old new calls e t is s le
           unreset = l.reset;
           kept = s.by.kept;
           shut = s.by.shut;
-          all_sent = sends_all service e.local boot news p q sent l;
+          all_sent = all_is_sent service e.local boot news p q sent l;
         };
         no_read = settled_reads service e.local boot news p q sent l;
         exact = s.by.exact;
@@ -488,7 +484,7 @@ ticks_need_no_ack : {S : Type 0} (service : Machine S) (server : Addr) (boot : �
 unfolding is_ack_pending answered_after taken_after fin_after
 ticks_need_no_ack service server boot p q sent l lengths =
     (λ j. ((false || nat_lt p.answered (l.answered j)) || not (taken_units p == taken_units q)) || not (advertised_edge p == advertised_edge q))
-    ∙ (λ j. ((false || less_itself p.answered j) || not (taken_units p == taken_units q)) || not (advertised_edge p == advertised_edge q))
+    ∙ (λ j. ((false || not_less_itself p.answered j) || not (taken_units p == taken_units q)) || not (advertised_edge p == advertised_edge q))
     ∙ nothing_new p q l.taken l.fin l.same.fetched (lengths ∙ append-nil p.lengths)
 
 pub ticks_add_nothing : {S : Type 0} (service : Machine S) (server : Addr) (boot : ℕ) (p q : Point) (t : Tcb) (sent : List Packet) → LiveTurn service server boot Ticks p q sent
@@ -496,4 +492,4 @@ pub ticks_add_nothing : {S : Type 0} (service : Machine S) (server : Addr) (boot
 unfolding answered_after
 ticks_add_nothing service server boot p q t sent l lengths =
     (λ j. (false || nat_lt p.answered (l.answered j)) || (is_closed t.name && is_ack_pending service Ticks p q))
-    ∙ (λ j. (false || less_itself p.answered j) || and_right (is_closed t.name) (is_ack_pending service Ticks p q) (ticks_need_no_ack service server boot p q sent l lengths) j)
+    ∙ (λ j. (false || not_less_itself p.answered j) || and_right (is_closed t.name) (is_ack_pending service Ticks p q) (ticks_need_no_ack service server boot p q sent l lengths) j)

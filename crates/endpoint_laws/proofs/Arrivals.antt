@@ -25,7 +25,7 @@ use Rattle.tcp_endpoint.specs.UserCalls.{after_tick, timer_ticked, waited}
 use Rattle.endpoint_laws.specs.Laws.{accepts, counts, acknowledges, congestion_ticked, acknowledges_less, is_refused, needs_ack, IsSentBy, IsBounded, IsUsual, ProbesRightly, last_advertised}
 use Rattle.endpoint_laws.specs.Turn.{IsUsualNews, IsBetweenTurns, arrived}
 use Rattle.endpoint_laws.specs.Refinement.{ReceivesAt, SendsAt, StandsAt, news_needs_ack, refuses, refusals}
-use Rattle.endpoint_laws.proofs.TakenLaw.{part_of_if, same_if, if_when}
+use Rattle.endpoint_laws.proofs.TakenLaw.{same_if, if_when}
 use Rattle.endpoint_laws.proofs.SendingLaw.{later_by, used_by, sending_is, sending_law, retransmission_law}
 use Rattle.endpoint_laws.proofs.SendingLaw as sending
 use Rattle.endpoint_laws.proofs.Bounding.{bounded_by_segment, bounded_by_tick}
@@ -35,6 +35,7 @@ use Rattle.endpoint_laws.proofs.ResetReply.{Beside, IsApart, apart_beside, besid
 use Rattle.endpoint_laws.proofs.Calls.{FinIsLast}
 use Rattle.endpoint_laws.proofs.StandingLaw.{Meets, next_is, accepts_is, first_is, ack_is, third_is, received_receives, received_sends}
 use Rattle.ft_io.proofs.Booleans.{false_or, or_false}
+use Rattle.ft_io.proofs.Choices.{of_if}
 use Rattle.seq_arith.proofs.Shifts.{point_shift}
 
 -- where the laws lead a point, but for the reads, what is sent, and the timer
@@ -104,9 +105,9 @@ sending_keeps : {X : Type 0} (g : Sending → X) (e : Tcb) (p : Segment) → (g 
     → g (received e p).sending ≡ g e.sending
 sending_keeps g e p later first_one begun b usual =
     ap g (sending_is e p begun b usual)
-    ∙ part_of_if g (counts e p) (used_by e p) e.sending
+    ∙ of_if g (counts e p) (used_by e p) e.sending
     ∙ ap (λ x. if counts e p then x else g e.sending)
-    (part_of_if g e.sending.syn_acked (later_by e p) (with_syn_acked e.sending p.head.seq p.head.window)
+    (of_if g e.sending.syn_acked (later_by e p) (with_syn_acked e.sending p.head.seq p.head.window)
     ∙ (λ i. if e.sending.syn_acked then later i else first_one i) ∙ same_if e.sending.syn_acked (g e.sending))
     ∙ same_if (counts e p) (g e.sending)
 

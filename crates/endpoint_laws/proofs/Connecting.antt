@@ -34,7 +34,7 @@ use Rattle.endpoint_laws.proofs.TurnLaw.{flushed_timer}
 use Rattle.endpoint_laws.proofs.Turns.{between_again}
 use Rattle.endpoint_laws.proofs.Listening.{read_none}
 use Rattle.endpoint_laws.proofs.EndingLaw.{FollowsAt, used_keeps, used_follows, flush_follows, named_at, flushed_name}
-use Rattle.endpoint_laws.proofs.Announced.{reset_reply_used, advertises_law, unanswered_tells}
+use Rattle.endpoint_laws.proofs.Advertised.{reset_reply_used, advertises_law, unanswered_tells}
 use Rattle.ft_io.proofs.Choices.{holds_if}
 use Rattle.ft_io.proofs.Booleans.{and_false}
 

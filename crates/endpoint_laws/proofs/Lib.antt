@@ -20,7 +20,7 @@ pub mod FirstPoint
 pub mod EndingLaw
 pub mod Ends
 pub mod Rsts
-pub mod Announced
+pub mod Advertised
 pub mod Connecting
 pub mod Anywhere
 pub mod NoConnection

@@ -31,7 +31,7 @@ use Rattle.endpoint_laws.proofs.Listening.{begun_by, listening_is, listens_arriv
 use Rattle.endpoint_laws.proofs.TurnLaw.{flushed_timer, ticked_law}
 use Rattle.endpoint_laws.proofs.Calls.{IsUsed, used_is}
 use Rattle.endpoint_laws.proofs.EndingLaw.{used_keeps, call_resets}
-use Rattle.endpoint_laws.proofs.Announced.{reset_reply_used, begun_used, advertises_law, retransmission_is_told}
+use Rattle.endpoint_laws.proofs.Advertised.{reset_reply_used, begun_used, advertises_law, retransmission_is_told}
 use Rattle.endpoint_laws.proofs.Connecting.{Connects, connects_at_connect, connects_arrived, connects_used, received_by, syn_leaves, still_connecting, sent_before, answered_name, refusing_name, begun_name, closed_name}
 use Rattle.ft_io.proofs.Choices.{by_cases}
 use Rattle.ft_io.proofs.Booleans.{or_false, or_true, and_true}

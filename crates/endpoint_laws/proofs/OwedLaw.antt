@@ -14,21 +14,21 @@ use Rattle.tcp_endpoint.specs.Tcb.{Tcb}
 use Rattle.tcp_endpoint.specs.Arrival.{first, ack_at, with_ack_pending_if, with_reset, entering, with_text_and_fin, with_fin_acked, with_first_ack, with_ack_used, with_ack, check_ack, check_syn, check_rst, with_time_wait_restarted, check_sequence, in_others, received, with_reset_reply}
 use Rattle.tcp_endpoint.specs.Arrival as check
 use Rattle.endpoint_laws.specs.Laws.{accepts, acknowledges_less, is_refused, needs_ack_if_acceptable, needs_ack, IsBounded, IsUsual}
-use Rattle.endpoint_laws.proofs.TakenLaw.{part_of_if, same_if, if_when, begun_is, at_ack, goes_on, segment_taken, sent_bool, accepts_same}
+use Rattle.endpoint_laws.proofs.TakenLaw.{same_if, if_when, begun_is, at_ack, goes_on, segment_taken, sent_bool, accepts_same}
 use Rattle.ft_io.proofs.Booleans.{or_other, and_false, left_false, false_or}
-use Rattle.ft_io.proofs.Choices.{by_cases}
+use Rattle.ft_io.proofs.Choices.{by_cases, of_if}
 
 text_part : (e : Tcb) (p : Segment) → (with_text_and_fin e p).ack_pending ≡ e.ack_pending
 unfolding with_text_and_fin
 text_part e p =
     let taking : Tcb = record e { receiving = segment_taken e p } in
-    part_of_if (λ (t : Tcb). t.ack_pending) (taking.receiving.fin && not e.receiving.fin) (entering (after_fin e.name) taking) taking
+    of_if (λ (t : Tcb). t.ack_pending) (taking.receiving.fin && not e.receiving.fin) (entering (after_fin e.name) taking) taking
     ∙ same_if (taking.receiving.fin && not e.receiving.fin) e.ack_pending
 
 -- what the end of the other side's FIN leaves
 acked_ack_pending : (e : Tcb) → (with_fin_acked e).ack_pending ≡ e.ack_pending
 unfolding with_fin_acked
-acked_ack_pending e = part_of_if (λ (t : Tcb). t.ack_pending) (fin_acked e.sending) (entering (after_fin_acked e.name) e) e ∙ same_if (fin_acked e.sending) e.ack_pending
+acked_ack_pending e = of_if (λ (t : Tcb). t.ack_pending) (fin_acked e.sending) (entering (after_fin_acked e.name) e) e ∙ same_if (fin_acked e.sending) e.ack_pending
 
 later_ack_part : (e : Tcb) (p : Segment) → is_ahead e.sending.sent (ack_at e p) ≡ false → (with_ack e p).ack_pending ≡ e.ack_pending
 unfolding with_ack with_ack_used
@@ -71,8 +71,8 @@ plain_ack_pending : (e : Tcb) (p : Segment) → IsBounded e → IsUsual e p → 
 unfolding check_ack with_time_wait_restarted
 plain_ack_pending e p b usual none not_less =
     let e1 : Tcb = at_ack e p in
-    part_of_if (λ (t : Tcb). t.ack_pending) (has_ack p) (if e1.sending.syn_acked then with_ack e1 p else with_first_ack e1 p) e1
-    ∙ ap (λ x. if has_ack p then x else e1.ack_pending) (part_of_if (λ (t : Tcb). t.ack_pending) e1.sending.syn_acked (with_ack e1 p) (with_first_ack e1 p))
+    of_if (λ (t : Tcb). t.ack_pending) (has_ack p) (if e1.sending.syn_acked then with_ack e1 p else with_first_ack e1 p) e1
+    ∙ ap (λ x. if has_ack p then x else e1.ack_pending) (of_if (λ (t : Tcb). t.ack_pending) e1.sending.syn_acked (with_ack e1 p) (with_first_ack e1 p))
     ∙ if_when (has_ack p) _ e1.ack_pending e1.ack_pending e1.ack_pending
     (λ is_ack. ack_part e1 p (sent_bool e p b usual is_ack) (is_syn_ack e p b usual not_less is_ack)) (λ no_ack. refl)
     ∙ same_if (has_ack p) e1.ack_pending ∙ false_or e.ack_pending (nat_lt 0 (length_of p)) none
@@ -114,10 +114,10 @@ unfolding check_rst check_syn with_time_wait_restarted
 acceptable_ack_pending e p b usual none unrefused h =
     let e0 : Tcb = with_time_wait_restarted e p in
     let at_next : Bool = int_eq (first e p) (pos (next e.receiving)) in
-    part_of_if (λ (t : Tcb). t.ack_pending) (has_rst p) (if at_next then with_reset e0 else with_ack_pending_if true e0) (check_syn e0 p)
+    of_if (λ (t : Tcb). t.ack_pending) (has_rst p) (if at_next then with_reset e0 else with_ack_pending_if true e0) (check_syn e0 p)
     ∙ if_when (has_rst p) _ (not at_next) _ _
-    (λ is_rst. part_of_if (λ (t : Tcb). t.ack_pending) at_next (with_reset e0) (with_ack_pending_if true e0) ∙ reset_ack_pending e.ack_pending at_next none)
-    (λ no_rst. part_of_if (λ (t : Tcb). t.ack_pending) (has_syn p) (with_ack_pending_if true e0) (check_ack (at_ack e p) p)
+    (λ is_rst. of_if (λ (t : Tcb). t.ack_pending) at_next (with_reset e0) (with_ack_pending_if true e0) ∙ reset_ack_pending e.ack_pending at_next none)
+    (λ no_rst. of_if (λ (t : Tcb). t.ack_pending) (has_syn p) (with_ack_pending_if true e0) (check_ack (at_ack e p) p)
     ∙ if_when (has_syn p) _ true _ _ (λ is_syn. false_or e.ack_pending true none) (λ no_syn. plain_ack_pending e p b usual none
     (not_less_of (accepts e p) (has_rst p) (has_syn p) (acknowledges_less e p) unrefused h no_rst no_syn)))
 
@@ -134,7 +134,7 @@ allowed_ack_pending e p b usual none unacceptable allowed =
     let not_less : acknowledges_less e p ≡ false =
     allowed_by e.sending.syn_acked (has_ack p) (int_eq (ack_at e p) (pos 0)) (int_lt (ack_at e p) (pos 0)) two.1 (at_syn (ack_at e p)) in
     ap (λ v. (if v then (if at_next then with_reset e0 else with_ack_pending_if true e0) else check_syn e0 p).ack_pending) no_rst
-    ∙ part_of_if (λ (t : Tcb). t.ack_pending) (has_syn p) (with_ack_pending_if true e0) (check_ack (at_ack e p) p)
+    ∙ of_if (λ (t : Tcb). t.ack_pending) (has_syn p) (with_ack_pending_if true e0) (check_ack (at_ack e p) p)
     ∙ if_when (has_syn p) _ true _ true (λ is_syn. false_or e.ack_pending true none)
     (λ no_syn. plain_ack_pending e p b usual none not_less ∙ some)
     ∙ same_if (has_syn p) true ∙ ap not (sym no_rst)
@@ -155,7 +155,7 @@ unfolding received in_others check_sequence with_time_wait_restarted check.accep
 ack_pending_law e p begun b usual none unrefused =
     let e0 : Tcb = with_time_wait_restarted e p in
     ap (λ (t : Tcb). t.ack_pending) (begun_is e.name e p begun)
-    ∙ part_of_if (λ (t : Tcb). t.ack_pending) (goes_on e p) (check_rst e0 p) (with_ack_pending_if (not (has_rst p)) e0)
+    ∙ of_if (λ (t : Tcb). t.ack_pending) (goes_on e p) (check_rst e0 p) (with_ack_pending_if (not (has_rst p)) e0)
     ∙ if_when (goes_on e p) _ (needs_ack e p) _ (needs_ack e p) (λ goes. further_ack_pending e p b usual none unrefused goes)
     (λ stays. false_or e.ack_pending (not (has_rst p)) none
     ∙ ap (λ v. if v then needs_ack_if_acceptable e p else not (has_rst p)) (sym (left_false (check.accepts e p) (check.is_allowed e p) stays) ∙ accepts_same e p))

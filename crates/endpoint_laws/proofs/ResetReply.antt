@@ -5,6 +5,7 @@ use Rattle.seq_arith.specs.Arrival.{int_eq, is_allowed_at_zero}
 use Rattle.seq_arith.specs.Packet.{Segment, has_syn, has_rst, has_ack}
 use Rattle.seq_arith.specs.Offset.{length_of}
 use Rattle.std.proofs.lemmas.Int.{ints}
+use Rattle.ft_io.proofs.Choices.{of_if}
 use Rattle.tcp_buffers.specs.Near.{is_ahead}
 use Rattle.tcp_endpoint.specs.declared.states.StateName.{StateName}
 use Rattle.tcp_endpoint.specs.States.{after_syn_acked, after_fin, after_fin_acked, has_begun}
@@ -14,7 +15,7 @@ use Rattle.tcp_endpoint.specs.Tcb.{Tcb}
 use Rattle.tcp_endpoint.specs.Arrival.{first, ack_at, rst, with_reset, with_ack_pending_if, entering, with_text_and_fin, with_fin_acked, with_first_ack, with_ack_used, with_ack, with_time_wait_restarted, received, with_reset_reply}
 use Rattle.tcp_endpoint.specs.Arrival as check
 use Rattle.endpoint_laws.specs.Laws.{accepts, acknowledges_less, is_refused, IsBounded, IsUsual}
-use Rattle.endpoint_laws.proofs.TakenLaw.{part_of_if, same_if, if_when, begun_is, Aside, at_ack, others_part, segment_taken, accepts_same}
+use Rattle.endpoint_laws.proofs.TakenLaw.{same_if, if_when, begun_is, Aside, at_ack, others_part, segment_taken, accepts_same}
 
 -- a part of the endpoint that only the checks on state, numbers and buffers leave
 pub record Beside {X : Type 0} (f : Tcb → X) : Type 0 where
@@ -29,7 +30,7 @@ unfolding with_ack
 later_part f e p b =
     let used : Tcb = with_ack_used e p in
     let beyond : Bool = is_ahead e.sending.sent (ack_at e p) in
-    part_of_if f beyond (with_ack_pending_if true e) (with_text_and_fin (with_fin_acked used) p)
+    of_if f beyond (with_ack_pending_if true e) (with_text_and_fin (with_fin_acked used) p)
     ∙ if_when beyond (f (with_ack_pending_if true e)) (f e) (f (with_text_and_fin (with_fin_acked used) p)) (f e)
     (λ h. b.aside.pending true e) (λ h. b.text (with_fin_acked used) p ∙ b.acked used ∙ b.using e p)
     ∙ same_if beyond (f e)
@@ -41,7 +42,7 @@ unfolding with_first_ack
 first_part f e p b =
     let opening : Tcb = record e { name = after_syn_acked e.sending.closed; sending = with_syn_acked e.sending p.head.seq p.head.window } in
     let is_syn : Bool = int_eq (ack_at e p) (pos 0) in
-    part_of_if f is_syn (with_text_and_fin opening p) (with_reset_reply e p)
+    of_if f is_syn (with_text_and_fin opening p) (with_reset_reply e p)
     ∙ ap (λ x. if is_syn then x else f (with_reset_reply e p)) (b.text opening p ∙ b.opening e p)
 
 -- a segment that goes on for its place at a window of zero is answered by no RST
@@ -107,20 +108,20 @@ beside_is {X = X} f e p b begun bounded usual =
     (acknowledges_less e p) (f e) refused
     (λ is_ack syn_unacked. syn_or_less e p bounded usual is_ack syn_unacked) (no_ack_less e p) (syn_acked_not_less e p)
 
--- such parts: the RST that answers, what else is due in the turn, what was last announced, and the numbers of the connection
+-- such parts: the RST that answers, what else is due in the turn, what was last advertised, and the numbers of the connection
 text_of : {X : Type 0} (f : Tcb → X) (e : Tcb) (p : Segment) → ((r : Tcb) → (name : StateName) → f (entering name r) ≡ f r)
     → f (record e { receiving = segment_taken e p }) ≡ f e → f (with_text_and_fin e p) ≡ f e
 unfolding with_text_and_fin
 text_of f e p enters same =
     let taking : Tcb = record e { receiving = segment_taken e p } in
     let fin : Bool = taking.receiving.fin && not e.receiving.fin in
-    part_of_if f fin (entering (after_fin e.name) taking) taking
+    of_if f fin (entering (after_fin e.name) taking) taking
     ∙ ap (λ x. if fin then x else f taking) (enters taking (after_fin e.name)) ∙ same_if fin (f taking) ∙ same
 
 acked_of : {X : Type 0} (f : Tcb → X) (e : Tcb) → ((r : Tcb) → (name : StateName) → f (entering name r) ≡ f r) → f (with_fin_acked e) ≡ f e
 unfolding with_fin_acked
 acked_of f e enters =
-    part_of_if f (fin_acked e.sending) (entering (after_fin_acked e.name) e) e
+    of_if f (fin_acked e.sending) (entering (after_fin_acked e.name) e) e
     ∙ ap (λ x. if fin_acked e.sending then x else f e) (enters e (after_fin_acked e.name)) ∙ same_if (fin_acked e.sending) (f e)
 
 -- what neither state, buffers, numbers, the pending acknowledgement nor the one that is due again have a part in

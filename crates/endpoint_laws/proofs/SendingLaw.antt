@@ -19,20 +19,21 @@ use Rattle.tcp_endpoint.specs.Arrival.{first, ack_at, with_ack_pending_if, enter
 use Rattle.tcp_endpoint.specs.UserCalls.{after_tick, timer_ticked, waited}
 use Rattle.endpoint_laws.specs.Laws.{uses, counts, acknowledges, uses_window, is_duplicate, is_third_duplicate, congestion_by, congestion_ticked, IsSentBy, IsBounded, IsUsual}
 use Rattle.tcp_endpoint.proofs.Places.{near_of_usable}
-use Rattle.endpoint_laws.proofs.TakenLaw.{part_of_if, same_if, if_when, by_checks, begun_is, Aside, at_ack, goes_on, others_part, segment_taken, sent_bool, few_sent, counts_plain, text_whole, fin_whole, chosen_is, dull, dull_more, dull_most}
+use Rattle.endpoint_laws.proofs.TakenLaw.{same_if, if_when, by_checks, begun_is, Aside, at_ack, goes_on, others_part, segment_taken, sent_bool, few_sent, counts_plain, text_whole, fin_whole, chosen_is, dull, dull_more, dull_most}
 use Rattle.ft_io.proofs.Booleans.{or_false, and_false}
+use Rattle.ft_io.proofs.Choices.{of_if}
 
 text_part : (e : Tcb) (p : Segment) → (with_text_and_fin e p).sending ≡ e.sending
 unfolding with_text_and_fin
 text_part e p =
     let taking : Tcb = record e { receiving = segment_taken e p }
-    in part_of_if (λ (t : Tcb). t.sending) (taking.receiving.fin && not e.receiving.fin) (entering (after_fin e.name) taking) taking
+    in of_if (λ (t : Tcb). t.sending) (taking.receiving.fin && not e.receiving.fin) (entering (after_fin e.name) taking) taking
     ∙ same_if (taking.receiving.fin && not e.receiving.fin) e.sending
 
 acked_part : (e : Tcb) → (with_fin_acked e).sending ≡ e.sending
 unfolding with_fin_acked
 acked_part e =
-    part_of_if (λ (t : Tcb). t.sending) (fin_acked e.sending) (entering (after_fin_acked e.name) e) e ∙ same_if (fin_acked e.sending) e.sending
+    of_if (λ (t : Tcb). t.sending) (fin_acked e.sending) (entering (after_fin_acked e.name) e) e ∙ same_if (fin_acked e.sending) e.sending
 
 -- what an acknowledgement makes of the sending half, once the SYN is acknowledged
 abbrev pub answered_at : Tcb → Segment → Sending
@@ -51,7 +52,7 @@ first_ack_part : (e : Tcb) (p : Segment)
 unfolding with_first_ack with_reset_reply
 first_ack_part e p =
     let opening : Tcb = record e { name = after_syn_acked e.sending.closed; sending = with_syn_acked e.sending p.head.seq p.head.window }
-    in part_of_if (λ (t : Tcb). t.sending) (int_eq (ack_at e p) (pos 0)) (with_text_and_fin opening p) (with_reset_reply e p)
+    in of_if (λ (t : Tcb). t.sending) (int_eq (ack_at e p) (pos 0)) (with_text_and_fin opening p) (with_reset_reply e p)
     ∙ ap (λ x. if int_eq (ack_at e p) (pos 0) then x else e.sending) (text_part opening p)
 
 sending_aside : Aside (λ (e : Tcb). e.sending)
@@ -233,7 +234,7 @@ answered_congestion e p usual does_count =
     let counted : Congestion = with_duplicate s.mss (s.sent - s.una) s.congestion in
     let is_new : is_new_ack s.una s.sent z ≡ (acknowledges e p && nat_lt s.una (nat_abs z)) =
     new_test s.una s.sent z sent ∙ ap (λ b. b && int_le (pos 0) z && nat_lt s.una (nat_abs z)) (sym does_count) in
-    part_of_if (λ (t : Sending). t.congestion) duplicate (duplicated used) used
+    of_if (λ (t : Sending). t.congestion) duplicate (duplicated used) used
     ∙ congestion_chosen duplicate (is_new_ack s.una s.sent z) s.una (nat_abs z) (λ u c. with_duplicate s.mss (s.sent - u) c) grown s.congestion
     (not_new (is_bare p) (nat_lt s.una s.sent) (nat_abs z + p.head.window == s.edge) s.una s.sent z)
     ∙ (λ i. if is_new i then grown else (if duplicate_is e p does_count i then counted else s.congestion))
@@ -376,12 +377,12 @@ text_retransmission : (e : Tcb) (p : Segment) → (with_text_and_fin e p).retran
 unfolding with_text_and_fin
 text_retransmission e p =
     let taking : Tcb = record e { receiving = segment_taken e p }
-    in part_of_if (λ (t : Tcb). t.retransmission_due) (taking.receiving.fin && not e.receiving.fin) (entering (after_fin e.name) taking) taking
+    in of_if (λ (t : Tcb). t.retransmission_due) (taking.receiving.fin && not e.receiving.fin) (entering (after_fin e.name) taking) taking
     ∙ same_if (taking.receiving.fin && not e.receiving.fin) e.retransmission_due
 
 acked_retransmission : (e : Tcb) → (with_fin_acked e).retransmission_due ≡ e.retransmission_due
 unfolding with_fin_acked
-acked_retransmission e = part_of_if (λ (t : Tcb). t.retransmission_due) (fin_acked e.sending) (entering (after_fin_acked e.name) e) e ∙ same_if (fin_acked e.sending) e.retransmission_due
+acked_retransmission e = of_if (λ (t : Tcb). t.retransmission_due) (fin_acked e.sending) (entering (after_fin_acked e.name) e) e ∙ same_if (fin_acked e.sending) e.retransmission_due
 
 abbrev later_retransmission : Tcb → Segment → Bool
 later_retransmission e p = e.retransmission_due || sender.is_third_duplicate e.sending (is_bare p) (ack_at e p) p.head.window
@@ -398,7 +399,7 @@ first_ack_retransmission : (e : Tcb) (p : Segment) → (with_first_ack e p).retr
 unfolding with_first_ack with_reset_reply
 first_ack_retransmission e p =
     let opening : Tcb = record e { name = after_syn_acked e.sending.closed; sending = with_syn_acked e.sending p.head.seq p.head.window }
-    in part_of_if (λ (t : Tcb). t.retransmission_due) (int_eq (ack_at e p) (pos 0)) (with_text_and_fin opening p) (with_reset_reply e p)
+    in of_if (λ (t : Tcb). t.retransmission_due) (int_eq (ack_at e p) (pos 0)) (with_text_and_fin opening p) (with_reset_reply e p)
     ∙ ap (λ b. if int_eq (ack_at e p) (pos 0) then b else e.retransmission_due) (text_retransmission opening p)
     ∙ same_if (int_eq (ack_at e p) (pos 0)) e.retransmission_due
 
@@ -461,6 +462,6 @@ ticked_law e b =
     let s : Sending = e.sending in
     let few : s.una ≤ 2 ^ 24 + 1 = omega (arith, b.order, few_sent s.fin_sent s.sent b.sent) in
     let lost : Congestion = with_expiry s.mss (s.sent - s.una) (s.interval == 1) s.congestion in
-    part_of_if (λ (t : Sending). t.congestion) (expires s) _ _
+    of_if (λ (t : Sending). t.congestion) (expires s) _ _
     ∙ lost_by (expires s) (nat_lt s.una s.sent) (precedes s.una s.edge) lost s.congestion
     ∙ ap (λ v. if expires s && nat_lt s.una s.sent && v then lost else s.congestion) (precedes_is s.una s.edge few b.edge)

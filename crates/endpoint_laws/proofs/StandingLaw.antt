@@ -27,11 +27,11 @@ use Rattle.tcp_endpoint.specs.Arrival.{first, ack_at, received}
 use Rattle.endpoint_laws.specs.Laws.{accepts, uses, counts, taken_by, acknowledges, uses_window, is_duplicate, is_third_duplicate, congestion_by, IsSentBy, IsBounded, IsUsual}
 use Rattle.endpoint_laws.specs.Refinement.{ReceivesAt, SendsAt}
 use Rattle.tcp_endpoint.proofs.Places.{near_of_usable}
-use Rattle.endpoint_laws.proofs.TakenLaw.{part_of_if, if_when, taken_law}
+use Rattle.endpoint_laws.proofs.TakenLaw.{if_when, taken_law}
 use Rattle.endpoint_laws.proofs.Bounding.{taken_within}
 use Rattle.endpoint_laws.proofs.SendingLaw.{sending_law, next_near, window_short, length_short, used_of, counts_ack}
 use Rattle.ft_io.proofs.Booleans.{left_true, right_true, and_when}
-use Rattle.ft_io.proofs.Choices.{by_cases}
+use Rattle.ft_io.proofs.Choices.{by_cases, of_if}
 
 -- an endpoint at a point, and a segment that comes to it
 pub record Meets (p : Point) (e : Tcb) (segment : Segment) : Type 0 where
@@ -223,7 +223,7 @@ came_is p e segment m =
     (text_of segment) (fin_of segment))
     ∙ comes_from (taken r) (receive_edge r) k r.fin r.early (first e segment) (text_of segment) (fin_of segment))
     (λ h i. nothing_came (m.receives.early i) (m.receives.fin i))
-    ∙ sym (part_of_if (came_from k) (counts e segment) brings (nothing_came r.early r.fin))
+    ∙ sym (of_if (came_from k) (counts e segment) brings (nothing_came r.early r.fin))
 
 -- bytes are put after all that were taken, and so after those that aren't read
 grown_rest : (all unread more : List ℕ) (read fetched : ℕ) → drop (read + fetched) all ≡ unread → length all ≡ read + length unread + fetched
@@ -244,7 +244,7 @@ unfolding taken_by
 taken_by_is e segment =
     let r : Receiving = e.receiving in
     if_when (counts e segment) _ _ _ _ (λ h. refl) (λ h. nothing_more r)
-    ∙ sym (part_of_if (with_came r) (counts e segment) (came r (first e segment) (text_of segment) (fin_of segment)) (nothing_came r.early r.fin))
+    ∙ sym (of_if (with_came r) (counts e segment) (came r (first e segment) (text_of segment) (fin_of segment)) (nothing_came r.early r.fin))
 
 -- an acknowledgement of at most what was sent is used whole
 used_whole : (z : ℤ) (sent : ℕ) → int_le (pos 0) z ≡ true → z ≤ℤ pos sent → min (nat_abs z) sent ≡ nat_abs z

@@ -18,11 +18,7 @@ use Rattle.tcp_endpoint.specs.Arrival.{first, ack_at, with_ack_pending_if, with_
 use Rattle.tcp_endpoint.specs.Arrival as check
 use Rattle.endpoint_laws.specs.Laws.{accepts, uses, counts, taken_by, IsBounded, IsUsual}
 use Rattle.ft_io.proofs.Booleans.{and_true}
-
--- a choice that makes no difference to a part
-pub part_of_if : {A X : Type 0} (f : A → X) (b : Bool) (x y : A) → f (if b then x else y) ≡ (if b then f x else f y)
-part_of_if f true x y = refl
-part_of_if f false x y = refl
+use Rattle.ft_io.proofs.Choices.{of_if}
 
 pub same_if : {X : Type 0} (b : Bool) (x : X) → (if b then x else x) ≡ x
 same_if true x = refl
@@ -81,7 +77,7 @@ pub record Aside {X : Type 0} (f : Tcb → X) : Type 0 where
 place_part : {X : Type 0} (f : Tcb → X) (e : Tcb) (p : Segment) → Aside f → f (check_sequence e p) ≡ (if goes_on e p then f (check_rst e p) else f e)
 unfolding check_sequence
 place_part f e p aside =
-    part_of_if f (goes_on e p) (check_rst e p) (with_ack_pending_if (not (has_rst p)) e)
+    of_if f (goes_on e p) (check_rst e p) (with_ack_pending_if (not (has_rst p)) e)
     ∙ ap (λ x. if goes_on e p then f (check_rst e p) else x) (aside.pending (not (has_rst p)) e)
 
 reset_part : {X : Type 0} (f : Tcb → X) (e : Tcb) (b : Bool) → Aside f → f (if b then with_reset e else with_ack_pending_if true e) ≡ f e
@@ -91,22 +87,22 @@ reset_part f e false aside = aside.pending true e
 rst_part : {X : Type 0} (f : Tcb → X) (e : Tcb) (p : Segment) → Aside f → f (check_rst e p) ≡ (if has_rst p then f e else f (check_syn e p))
 unfolding check_rst
 rst_part f e p aside =
-    part_of_if f (has_rst p) (if int_eq (first e p) (pos (next e.receiving)) then with_reset e else with_ack_pending_if true e) (check_syn e p)
+    of_if f (has_rst p) (if int_eq (first e p) (pos (next e.receiving)) then with_reset e else with_ack_pending_if true e) (check_syn e p)
     ∙ ap (λ x. if has_rst p then x else f (check_syn e p)) (reset_part f e (int_eq (first e p) (pos (next e.receiving))) aside)
 
 syn_part : {X : Type 0} (f : Tcb → X) (e : Tcb) (p : Segment) → Aside f
     → f (check_syn e p) ≡ (if has_syn p then f e else f (check_ack (with_ack_pending_if (nat_lt 0 (length_of p)) e) p))
 unfolding check_syn
 syn_part f e p aside =
-    part_of_if f (has_syn p) (with_ack_pending_if true e) (check_ack (with_ack_pending_if (nat_lt 0 (length_of p)) e) p)
+    of_if f (has_syn p) (with_ack_pending_if true e) (check_ack (with_ack_pending_if (nat_lt 0 (length_of p)) e) p)
     ∙ ap (λ x. if has_syn p then x else f (check_ack (with_ack_pending_if (nat_lt 0 (length_of p)) e) p)) (aside.pending true e)
 
 ack_part : {X : Type 0} (f : Tcb → X) (e : Tcb) (p : Segment)
     → f (check_ack e p) ≡ (if has_ack p then (if e.sending.syn_acked then f (with_ack e p) else f (with_first_ack e p)) else f e)
 unfolding check_ack
 ack_part f e p =
-    part_of_if f (has_ack p) (if e.sending.syn_acked then with_ack e p else with_first_ack e p) e
-    ∙ ap (λ x. if has_ack p then x else f e) (part_of_if f e.sending.syn_acked (with_ack e p) (with_first_ack e p))
+    of_if f (has_ack p) (if e.sending.syn_acked then with_ack e p else with_first_ack e p) e
+    ∙ ap (λ x. if has_ack p then x else f e) (of_if f e.sending.syn_acked (with_ack e p) (with_first_ack e p))
 
 -- the endpoint that the fifth check meets
 abbrev pub at_ack : Tcb → Segment → Tcb
@@ -135,13 +131,13 @@ text_part : (e : Tcb) (p : Segment) → (with_text_and_fin e p).receiving ≡ se
 unfolding with_text_and_fin
 text_part e p =
     let taking : Tcb = record e { receiving = segment_taken e p }
-    in part_of_if (λ (t : Tcb). t.receiving) (taking.receiving.fin && not e.receiving.fin) (entering (after_fin e.name) taking) taking
+    in of_if (λ (t : Tcb). t.receiving) (taking.receiving.fin && not e.receiving.fin) (entering (after_fin e.name) taking) taking
     ∙ same_if (taking.receiving.fin && not e.receiving.fin) taking.receiving
 
 pub acked_part : (e : Tcb) → (with_fin_acked e).receiving ≡ e.receiving
 unfolding with_fin_acked
 acked_part e =
-    part_of_if (λ (t : Tcb). t.receiving) (fin_acked e.sending) (entering (after_fin_acked e.name) e) e ∙ same_if (fin_acked e.sending) e.receiving
+    of_if (λ (t : Tcb). t.receiving) (fin_acked e.sending) (entering (after_fin_acked e.name) e) e ∙ same_if (fin_acked e.sending) e.receiving
 
 later_ack_part : (e : Tcb) (p : Segment) → is_ahead e.sending.sent (ack_at e p) ≡ false → (with_ack e p).receiving ≡ segment_taken e p
 unfolding with_ack with_ack_used
@@ -155,7 +151,7 @@ first_ack_part : (e : Tcb) (p : Segment) → (with_first_ack e p).receiving ≡ 
 unfolding with_first_ack with_reset_reply
 first_ack_part e p =
     let opening : Tcb = record e { name = after_syn_acked e.sending.closed; sending = with_syn_acked e.sending p.head.seq p.head.window }
-    in part_of_if (λ (t : Tcb). t.receiving) (int_eq (ack_at e p) (pos 0)) (with_text_and_fin opening p) (with_reset_reply e p)
+    in of_if (λ (t : Tcb). t.receiving) (int_eq (ack_at e p) (pos 0)) (with_text_and_fin opening p) (with_reset_reply e p)
     ∙ ap (λ x. if int_eq (ack_at e p) (pos 0) then x else e.receiving) (text_part opening p)
 
 receiving_aside : Aside (λ (e : Tcb). e.receiving)
@@ -211,7 +207,7 @@ by_law a z false false true true k q x x' y same = later_by_law a z x y
 by_law a z false false true false k q x x' y same = first_by_law a z k x' y ∙ ap (λ b. if (a || z) && b then x' else y) (same refl refl)
 by_law a z false false false o k q x x' y same = same_if (a || (z && (o || k))) y
 
--- the window is what is announced beyond RCV.NXT
+-- the window is what is advertised beyond RCV.NXT
 pub window_is : (r : Receiving) → advertised_edge r - next r ≡ window r
 window_is r = grind arith
 

@@ -1,4 +1,4 @@
--- What was last announced, when a segment without data goes out, and where a probe is right.
+-- What was last advertised, when a segment without data goes out, and where a probe is right.
 use Rattle.std.proofs.Common.{◌≡◌, ℕ, ◌≤◌, ◌+◌, ◌-◌, Bool, true, false, not, List, ◌++◌, length, length-append, max, min, refl, sym, ap, arith, ◌∙◌}
 use Rattle.std.specs.Prelude.{pos, ◌==◌, ◌&&◌, ◌||◌, nat_lt, if◌then◌else◌}
 use Rattle.std.proofs.lemmas.Bool.{false≢true, and_parts}
@@ -15,11 +15,12 @@ use Rattle.tcp_endpoint.specs.Arrival.{ack_at, with_ack_pending_if, entering, wi
 use Rattle.tcp_endpoint.specs.Output.{or_bare, is_ack_pending, bare_segment, full_out, leaving, probes_text, probes_fin, with_probe, with_text_sent, with_fin_out, after_full, with_advertised, is_timed, with_turn_ended, flushed}
 use Rattle.tcp_endpoint.specs.UserCalls.{after_tick, timer_ticked, waited, after_write}
 use Rattle.endpoint_laws.specs.Laws.{is_refused, needs_ack, last_advertised, asks, IsBounded, IsUsual, ProbesRightly, IsShut}
-use Rattle.endpoint_laws.proofs.TakenLaw.{part_of_if, same_if, if_when, begun_is, goes_on, Aside, at_ack, others_part, segment_taken}
+use Rattle.endpoint_laws.proofs.TakenLaw.{same_if, if_when, begun_is, goes_on, Aside, at_ack, others_part, segment_taken}
 use Rattle.endpoint_laws.proofs.OwedLaw.{ack_pending_law}
 use Rattle.endpoint_laws.proofs.Bounding.{text_facts, two_more_off, three_off, four_off}
 use Rattle.endpoint_laws.proofs.TurnLaw.{after_steps, sent_law, timed_sent, by_probe}
 use Rattle.ft_io.proofs.Booleans.{or_other}
+use Rattle.ft_io.proofs.Choices.{of_if}
 
 -- a turn's end sends a segment without data where one is pending
 pub leaving_by : (u : Tcb) (ack_pending : Bool) → has_begun u.name ≡ true → u.ack_pending ≡ ack_pending
@@ -35,7 +36,7 @@ pub bare_law : (e u : Tcb) (p : Segment) → has_begun e.name ≡ true → has_b
 bare_law e u p begun begun_after b usual none unrefused ack_pending =
     leaving_by u (needs_ack e p) begun_after (ack_pending ∙ ack_pending_law e p begun b usual none unrefused)
 
--- what is announced
+-- what is advertised
 advertised_by : (b : Bool) (x y m n : ℕ) → b ≡ true → ◌≡◌ {A = ℕ × ℕ} ((if b then x else m), (if b then y else n)) (x, y)
 advertised_by true x y m n h = refl
 advertised_by false x y m n h = absurd (false≢true h)
@@ -48,19 +49,19 @@ text_part : (e : Tcb) (p : Segment) → last_advertised (with_text_and_fin e p) 
 unfolding with_text_and_fin
 text_part e p =
     let taking : Tcb = record e { receiving = segment_taken e p }
-    in part_of_if last_advertised (taking.receiving.fin && not e.receiving.fin) (entering (after_fin e.name) taking) taking
+    in of_if last_advertised (taking.receiving.fin && not e.receiving.fin) (entering (after_fin e.name) taking) taking
     ∙ same_if (taking.receiving.fin && not e.receiving.fin) (last_advertised e)
 
 acked_part : (e : Tcb) → last_advertised (with_fin_acked e) ≡ last_advertised e
 unfolding with_fin_acked
-acked_part e = part_of_if last_advertised (fin_acked e.sending) (entering (after_fin_acked e.name) e) e ∙ same_if (fin_acked e.sending) (last_advertised e)
+acked_part e = of_if last_advertised (fin_acked e.sending) (entering (after_fin_acked e.name) e) e ∙ same_if (fin_acked e.sending) (last_advertised e)
 
 later_ack_part : (e : Tcb) (p : Segment) → last_advertised (with_ack e p) ≡ last_advertised e
 unfolding with_ack with_ack_used
 later_ack_part e p =
     let used : Tcb = with_ack_used e p in
     let beyond : Bool = is_ahead e.sending.sent (ack_at e p) in
-    part_of_if last_advertised beyond (with_ack_pending_if true e) (with_text_and_fin (with_fin_acked used) p)
+    of_if last_advertised beyond (with_ack_pending_if true e) (with_text_and_fin (with_fin_acked used) p)
     ∙ if_when beyond (last_advertised e) (last_advertised e) (last_advertised (with_text_and_fin (with_fin_acked used) p)) (last_advertised e) (λ h. refl) (λ h. text_part (with_fin_acked used) p ∙ acked_part used)
     ∙ same_if beyond (last_advertised e)
 
@@ -69,7 +70,7 @@ unfolding with_first_ack with_reset_reply
 first_ack_part e p =
     let opening : Tcb = record e { name = after_syn_acked e.sending.closed; sending = with_syn_acked e.sending p.head.seq p.head.window } in
     let is_syn : Bool = int_eq (ack_at e p) (pos 0) in
-    part_of_if last_advertised is_syn (with_text_and_fin opening p) (with_reset_reply e p)
+    of_if last_advertised is_syn (with_text_and_fin opening p) (with_reset_reply e p)
     ∙ if_when is_syn (last_advertised (with_text_and_fin opening p)) (last_advertised e) (last_advertised e) (last_advertised e) (λ h. text_part opening p) (λ h. refl)
     ∙ same_if is_syn (last_advertised e)
 

@@ -23,7 +23,7 @@ use Rattle.tcp_endpoint.specs.ReceiveHalf.{next}
 use Rattle.tcp_endpoint.specs.ReceiveHalf as half
 use Rattle.tcp_endpoint.specs.SendHalf.{is_unacknowledged}
 use Rattle.tcp_endpoint.specs.Tcb.{Tcb}
-use Rattle.tcp_endpoint.specs.Output.{reset_reply_out, full_out, leaving, after_full, with_advertised, with_turn_ended, flushed}
+use Rattle.tcp_endpoint.specs.Output.{reset_reply_out, leaving, after_full, with_advertised, with_turn_ended, flushed}
 use Rattle.tcp_endpoint.specs.Output as left
 use Rattle.endpoint_laws.specs.Laws.{IsBounded, ProbesRightly, asks, last_advertised}
 use Rattle.endpoint_laws.specs.Turn.{Call, MayUse, IsUsualNews, IsBetweenTurns, arrived, used, before_flush}

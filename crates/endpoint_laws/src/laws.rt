@@ -47,20 +47,20 @@ pub fn segments_are_acknowledged_by_law()
     ensures { (e : Tcb) (p : Segment) → has_begun e.name ≡ true → IsBounded e → IsUsual e p → IsSentBy e p (received e p).sending }
 {}
 
-/// At the third duplicate acknowledgement in a row the first unacknowledged segment becomes due for retransmission, and at no other segment.
+/// A segment makes the first unacknowledged segment due for retransmission exactly if it is the third duplicate acknowledgement in a row.
 #[tactic(auto, using(crate::proofs::SendingLaw::retransmission_law))]
 pub fn third_duplicates_send_again()
     ensures { (e : Tcb) (p : Segment) → has_begun e.name ≡ true → IsBounded e → IsUsual e p
         → (received e p).retransmission_due ≡ (e.retransmission_due || is_third_duplicate e p) }
 {}
 
-/// The law Sending, at a tick: where the timer expires, what is in flight counts as lost if the peer has room for it.
+/// The law Sending, at a tick: where the timer expires, what is in flight counts as lost if the peer's right edge is past SND.UNA.
 #[tactic(auto, using(crate::proofs::SendingLaw::ticked_law))]
 pub fn ticks_lose_by_law()
     ensures { (e : Tcb) → IsBounded e → (after_tick e).sending.congestion ≡ congestion_ticked e.sending }
 {}
 
-/// A passive open with a limit of at most 2^24 bytes is within the bounds ..
+/// A passive open with a limit of at most 2^24 bytes is within the bounds (`IsBounded`) ..
 #[tactic(auto, using(crate::proofs::Bounding::bounded_at_listen))]
 pub fn passive_opens_are_bounded()
     ensures { (local : Addr) (iss limit : ℕ) → limit ≤ 2 ^ 24 → IsBounded (listening local iss limit) }
@@ -72,7 +72,7 @@ pub fn active_opens_are_bounded()
     ensures { (local remote : Addr) (iss limit : ℕ) → limit ≤ 2 ^ 24 → IsBounded (connecting local remote iss limit) }
 {}
 
-/// They stay within them when a segment arrives in LISTEN, ..
+/// An endpoint stays within the bounds when a segment arrives in LISTEN, ..
 #[tactic(auto, using(crate::proofs::Bounding::bounded_in_listen))]
 pub fn listening_stays_bounded()
     ensures { (e : Tcb) (p : Segment) → e.name ≡ Listen → e.sending.syn_acked ≡ false → IsBounded e → IsBounded (received e p) }
@@ -133,7 +133,7 @@ pub fn turns_send_up_to_the_edge()
     ensures { (e : Tcb) → has_begun e.name ≡ true → IsBounded e → ProbesRightly e → (flushed e).sending.sent ≡ sent_by_law e }
 {}
 
-/// When a segment makes an ACK pending. The ACK is sent if no other segment is.
+/// The law on pending ACKs: when a segment makes an ACK pending. The ACK is sent if no other segment is.
 #[tactic(auto, using(crate::proofs::OwedLaw::ack_pending_law))]
 pub fn segments_are_owed_answers_by_law()
     ensures { (e : Tcb) (p : Segment) → has_begun e.name ≡ true → IsBounded e → IsUsual e p → e.ack_pending ≡ false → is_refused e p ≡ false
@@ -160,16 +160,16 @@ pub fn passive_opens_listen()
     ensures { (local : Addr) (iss limit : ℕ) → IsListening iss limit (listening local iss limit) }
 {}
 
-/// It still listens, at the same address, after each turn in which no SYN arrives that opens a connection and the user doesn't close: nothing is received, the
-/// timer doesn't run, and what the user writes waits.
+/// A listening endpoint still listens, at the same address, after each turn in which no SYN arrives that opens a connection and the user doesn't close:
+/// nothing is received, the timer doesn't run, and what the user writes waits.
 pub fn listening_goes_on()
     ensures { (iss limit : ℕ) (news : News) (calls : List Call) (e : Tcb) → IsListening iss limit e → brings_syn news ≡ false
         → MayUse calls (arrived news e) → (before_flush news calls e).name ≡ Listen
         → IsListening iss limit (turned news calls e) × ((turned news calls e).local ≡ e.local) }
 {}
 
-/// An endpoint that listens is at a point of `ft_model` from its SYN on, whatever arrived and was written before: at the new connection's point, whose SYN-ACK
-/// is all that is sent. The fetched bytes are as many as the endpoint's limit leaves of 2^24: none where the limit is that of a complete stream.
+/// A SYN takes a listening endpoint to a point of `ft_model`, whatever arrived and was written before: the new connection's point. Only the SYN-ACK is sent.
+/// The point counts as fetched as many bytes as the endpoint's limit is below 2^24: none if the limit is 2^24.
 pub fn syns_lead_to_points()
     ensures { (e : Tcb) (iss limit cisn : ℕ) (fetched : List ℕ) (syn : Segment) (calls : List Call)
         → IsListening iss limit e → limit + length fetched ≡ 2 ^ 24 → is_syn syn ≡ true → syn.head.seq ≡ (cisn + length fetched) % 2 ^ 32
@@ -177,8 +177,8 @@ pub fn syns_lead_to_points()
         → BeginsAt (point_begun fetched (numbers_with cisn iss syn)) e syn calls }
 {}
 
-/// From there on each turn, until the endpoint is CLOSED, leads from its point to the point that the laws Taken and Sending of `ft_model` and its law of the
-/// timer lead to, for the service that reads and writes as the endpoint's user does. What is sent, segment for segment, is what they say.
+/// From then on each turn after which the endpoint isn't CLOSED leads from its point to the next: the point that the laws Taken and Sending of `ft_model`,
+/// with its law of the timer, determine for a service that reads and writes as the endpoint's user does. The segments sent are those that these laws require.
 pub fn turns_lead_from_point_to_point<S: Service>()
     ensures { (kind : ℕ) (news : News) (calls : List Call) (before after : Point) (e : Tcb)
         → has_begun e.name ≡ true → IsBetweenTurns e → StandsAt before e → IsUsualNews news e → MayUse calls (arrived news e)
@@ -188,7 +188,7 @@ pub fn turns_lead_from_point_to_point<S: Service>()
         → LeadsTo (machine (S.started kind) S.after) news before after e calls }
 {}
 
-/// There always is such a point: whatever arrives and whatever the user does, some service reads and writes as the user does.
+/// There always is a next point: whatever arrives and whatever the user does, some service reads and writes as the user does.
 pub fn turns_have_points()
     ensures { (news : News) (calls : List Call) (before : Point) (e : Tcb)
         → has_begun e.name ≡ true → IsBetweenTurns e → StandsAt before e → IsUsualNews news e → MayUse calls (arrived news e)
@@ -196,9 +196,9 @@ pub fn turns_have_points()
         → (service : Machine ℕ) × (after : Point) × MeetsLaws service news before after × IsUsedAt service after (before_flush news calls e) }
 {}
 
-/// So it is over a complete run: from its SYN on an endpoint of `listen` meets the laws Taken and Sending of `ft_model`, with the timer's, turn by turn, until
-/// a RST at exactly the next number arrives, or both FINs are through and it is CLOSED. This holds for every initial number of both sides, every limit up to
-/// 2^24, and every user.
+/// The same over a complete run: from its SYN on an endpoint of `listen` follows the laws Taken and Sending of `ft_model`, with the law of the timer, turn by
+/// turn, until a RST at exactly the next number arrives, or until the peer's FIN is taken, its own is acknowledged and it is CLOSED. This holds for every
+/// initial number of both sides, every limit up to 2^24, and every user.
 pub fn endpoints_run_by_the_laws()
     ensures { (e : Tcb) (iss limit cisn : ℕ) (fetched : List ℕ) (syn : Segment) (calls : List Call) (steps : List Step)
         → IsListening iss limit e → limit + length fetched ≡ 2 ^ 24 → is_syn syn ≡ true → syn.head.seq ≡ (cisn + length fetched) % 2 ^ 32
@@ -207,7 +207,7 @@ pub fn endpoints_run_by_the_laws()
         × RunsByLaws (point_begun fetched (numbers_with cisn iss syn)) (turned (Comes syn) calls e) steps }
 {}
 
-/// The turn in which both FINs are through leaves the endpoint CLOSED, sends nothing, and leaves its halves at the point after it.
+/// In the turn that ends a connection without a RST, the endpoint becomes CLOSED and sends nothing. Its two halves are then at the point after that turn.
 pub fn connections_end_at_points<S: Service>()
     ensures { (kind : ℕ) (news : News) (calls : List Call) (before after : Point) (e : Tcb)
         → has_begun e.name ≡ true → IsBetweenTurns e → IsNamedRightly e → StandsAt before e → IsUsualNews news e → MayUse calls (arrived news e)
@@ -235,25 +235,25 @@ pub fn bare_segments_tell_changes()
         → leaving u ≡ or_bare (asks false u) (bare_segment (after_full u)) (full_out u) }
 {}
 
-/// Once a turn has ended, RCV.NXT and the window's right edge are those last sent ..
+/// Once a turn has ended, the acknowledgement and the right edge last advertised are RCV.NXT and the right edge of the window ..
 #[tactic(auto, using(crate::proofs::ToldLaw::told_by_flush))]
-pub fn turns_announce()
+pub fn turns_advertise()
     ensures { (e : Tcb) → has_begun e.name ≡ true → last_advertised (flushed e) ≡ (next e.receiving, advertised_edge e.receiving) }
 {}
 
 /// .. and a segment doesn't change what was last advertised.
 #[tactic(auto, using(crate::proofs::ToldLaw::told_by_segment))]
-pub fn segments_announce_nothing()
+pub fn segments_advertise_nothing()
     ensures { (e : Tcb) (p : Segment) → has_begun e.name ≡ true → last_advertised (received e p) ≡ last_advertised e }
 {}
 
-/// A probe is due only where it is right, ..
+/// A tick makes a probe due only where one may be sent (`ProbesRightly`), ..
 #[tactic(auto, using(crate::proofs::ToldLaw::probed_by_tick))]
 pub fn ticks_probe_rightly()
     ensures { (e : Tcb) → e.probe ≡ false → IsBounded e → IsShut e.sending → ProbesRightly (after_tick e) }
 {}
 
-/// .. since at the end of a turn the edge is reached, ..
+/// .. since at the end of a turn, if the timer runs with nothing in flight, something is waiting that has no room below the right edge, ..
 #[tactic(auto, using(crate::proofs::ToldLaw::shut_by_flush))]
 pub fn turns_end_shut()
     ensures { (e : Tcb) → has_begun e.name ≡ true → IsBounded e → ProbesRightly e → IsShut (flushed e).sending }
@@ -265,20 +265,21 @@ pub fn writes_leave_shut()
     ensures { (e : Tcb) (bytes : List ℕ) → IsShut e.sending → IsShut (after_write e bytes).sending }
 {}
 
-/// From its SYN on an endpoint of `listen` is in the state that its halves imply: by whether its SYN is acknowledged, its user has closed, the peer's FIN is
-/// taken, and its FIN is acknowledged.
+/// After the turn of its SYN an endpoint of `listen` is in the state that its halves imply: by whether its SYN is acknowledged, its user has closed, the
+/// peer's FIN is taken, and its FIN is acknowledged.
 pub fn syns_name_rightly()
     ensures { (e : Tcb) (iss limit : ℕ) (syn : Segment) (calls : List Call) → IsListening iss limit e → is_syn syn ≡ true
         → IsNamedRightly (turned (Comes syn) calls e) }
 {}
 
-/// Each turn keeps it in that state, whatever arrives and whatever the user does.
+/// Each turn leaves a connection that has begun in the state that its halves imply, whatever arrives and whatever the user does.
 pub fn turns_name_rightly()
     ensures { (news : News) (calls : List Call) (e : Tcb) → has_begun e.name ≡ true → IsBetweenTurns e → IsNamedRightly e
         → IsNamedRightly (turned news calls e) }
 {}
 
-/// So a connection that has begun stays so, until a RST arrives at exactly the next number, or the peer's FIN is taken and the endpoint's is acknowledged.
+/// So a connection that has begun ends only when a RST arrives at exactly the next number, or when the peer's FIN is taken and the endpoint's own is
+/// acknowledged.
 pub fn connections_end_by_resets_or_fins()
     ensures { (news : News) (calls : List Call) (e : Tcb) → has_begun e.name ≡ true → IsBetweenTurns e → IsNamedRightly e
         → has_begun (before_flush news calls e).name ≡ false → (resets news e ≡ true) ⊎ (is_over (before_flush news calls e) ≡ true) }
@@ -309,8 +310,8 @@ pub fn segments_acknowledge_all_that_is_taken()
         → has_begun (before_flush news calls e).name ≡ true → AllByRecursion (Advertises (before_flush news calls e)) (sent_in news calls e) }
 {}
 
-/// And all that is taken is acknowledged at once: if more is taken in a turn, a segment is sent that isn't a RST, and so acknowledges it. The same holds if the
-/// right edge moves, unless a RST answers.
+/// All that is taken is acknowledged at once: if more is taken in a turn, a segment is sent that isn't a RST, and so acknowledges it. The same holds if the
+/// right edge moves, unless a RST is sent in answer.
 pub fn what_is_taken_is_told()
     ensures { (news : News) (calls : List Call) (e : Tcb) → has_begun e.name ≡ true → e.reset_reply ≡ None
         → last_advertised e ≡ (next e.receiving, advertised_edge e.receiving) → ReadsOnlyTaken calls (arrived news e)
@@ -320,7 +321,7 @@ pub fn what_is_taken_is_told()
         → is_told (sent_in news calls e) ≡ true }
 {}
 
-/// So it is over a complete run of every endpoint, passive or active: for every limit, whatever arrives and however much is written.
+/// The same over a complete run of every endpoint, passive or active: for every limit, whatever arrives and however much is written.
 pub fn endpoints_acknowledge_all_that_they_took()
     ensures { (local remote : Addr) (iss limit : ℕ) (turns : List Events)
         → AcknowledgesAll (listening local iss limit) turns × AcknowledgesAll (connecting local remote iss limit) turns }
@@ -336,23 +337,23 @@ pub fn active_opens_connect()
         × IsTimedBy (flushed (used calls (connecting local remote iss limit))).sending 1 1 }
 {}
 
-/// It still connects, between the same addresses, after each turn that leaves it in SYN-SENT: nothing is received, and no unit of its stream counts as sent or
-/// acknowledged.
+/// A connecting endpoint still connects, between the same addresses, after each turn after which it is in SYN-SENT: nothing is received, and no unit of its
+/// stream counts as sent or acknowledged.
 pub fn connecting_goes_on()
     ensures { (iss limit : ℕ) (news : News) (calls : List Call) (e : Tcb) → IsConnecting iss limit e → MayUse calls (arrived news e)
         → (before_flush news calls e).name ≡ SynSent
         → IsConnecting iss limit (turned news calls e) × ((turned news calls e).local ≡ e.local) × ((turned news calls e).remote ≡ e.remote) }
 {}
 
-/// The turn in which its SYN is acknowledged leaves it as a connection that has begun must be between two turns, in the state that its halves imply. That is
-/// all that the laws on such connections require.
+/// After the turn in which its SYN is acknowledged, an active open satisfies all that the laws on connections that have begun require: it is as such a
+/// connection must be between two turns, and in the state that its halves imply.
 pub fn answers_begin()
     ensures { (iss limit : ℕ) (news : News) (calls : List Call) (e : Tcb) → IsConnecting iss limit e → limit ≤ 2 ^ 24 → FieldsFit news
         → MayUse calls (arrived news e) → has_begun (before_flush news calls e).name ≡ true
         → IsBetweenTurns (turned news calls e) × IsNamedRightly (turned news calls e) × (has_begun (turned news calls e).name ≡ true) }
 {}
 
-/// In that turn a segment is sent that isn't a RST, and each such segment has ACK, acknowledges exactly what is taken, and advertises the window.
+/// In that turn at least one segment is sent that isn't a RST, and each such segment has ACK, acknowledges exactly what is taken, and advertises the window.
 pub fn answers_are_acknowledged()
     ensures { (iss limit : ℕ) (news : News) (calls : List Call) (e : Tcb) → IsConnecting iss limit e → ReadsOnlyTaken calls (arrived news e)
         → has_begun (before_flush news calls e).name ≡ true

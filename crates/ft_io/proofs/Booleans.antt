@@ -68,3 +68,8 @@ pub first_of_three : (a b c : Bool) → (a && b && c) ≡ true → a ≡ true
 first_of_three true b c e = refl
 first_of_three false true c e = absurd (false≢true e)
 first_of_three false false c e = absurd (false≢true e)
+
+pub second_of_four : (a b c d : Bool) → (a && b && c && d) ≡ true → b ≡ true
+second_of_four true true c d h = refl
+second_of_four true false c d h = h
+second_of_four false b c d h = absurd (false≢true h)

@@ -1,6 +1,6 @@
 -- A text is accepted line by line, and each accepted line keeps what every accepted schedule keeps.
 use Rattle.std.proofs.Common.{◌≡◌, ℕ, ◌+◌, ◌-◌, ◌*◌, ◌<◌, ◌≤◌, ◌^◌, List, [], ◌∷◌, ◌++◌, length, drop, refl, arith, append_assoc, length-append, Bool, true, false}
-use Rattle.std.specs.Prelude.{cond, Option, Some, None, option_map, Result, Ok, Err, nat_le, ◌&&◌, not, is_none}
+use Rattle.std.specs.Prelude.{cond, Option, Some, None, option_map, Result, Ok, Err, nat_le, ◌&&◌, is_none}
 use Rattle.std.specs.Option.{ok_or, option_and_then}
 use Rattle.std.specs.List.{AllByRecursion}
 use Rattle.std.proofs.lemmas.Bool.{ltb-true, leb-true, leb-false}
@@ -29,7 +29,7 @@ use Rattle.ft_model.specs.declared.schedule.Schedule.{Schedule}
 use Rattle.ft_model.specs.declared.schedule.Script.{Script}
 use Rattle.ft_model.specs.declared.schedule.Script.TheVariants.{Bytes, Fill}
 use Rattle.ft_model.proofs.Letters.{length_letters}
-use Rattle.ft_io.proofs.Booleans.{left_true, right_true}
+use Rattle.ft_io.proofs.Booleans.{left_true, right_true, not_true}
 
 -- What an outcome that isn't a refusal says of the tests that gave it.
 pub bind_ok : {A B E : Type 0} (r : Result A E) (f : A → Result B E) (y : B) → (r >>= f) ≡ Ok y → (x : A) × (r ≡ Ok x) × (f x ≡ Ok y)
@@ -238,10 +238,6 @@ every_bounds (word ∷ []) every h =
 every_bounds [] every h = absurd (cc)
 every_bounds (word ∷ other ∷ more) every h = absurd (cc)
 
-not_false : (b : Bool) → not b ≡ true → b ≡ false
-not_false true h = absurd (cc)
-not_false false h = refl
-
 no_number : (o : Option ℕ) (n : ℕ) → is_none o ≡ true → o ≡ Some n → ⊥
 no_number None n h e = cc
 no_number (Some m) n h e = cc
@@ -249,7 +245,7 @@ no_number (Some m) n h e = cc
 -- where either may stand, there are neither two loggers nor marks yet
 is_single : (s : Schedule) → has_only_server s ≡ true → s.twin ≡ false
 unfolding has_only_server
-is_single s h = not_false s.twin (right_true _ _ (left_true _ _ h))
+is_single s h = not_true s.twin (right_true _ _ (left_true _ _ h))
 
 is_unmarked : (s : Schedule) → has_only_server s ≡ true → is_none s.marks ≡ true
 unfolding has_only_server

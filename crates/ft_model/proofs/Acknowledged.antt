@@ -14,9 +14,10 @@ use Rattle.ft_model.specs.Network.Packet.{To_server, To_client, To_logger, From_
 use Rattle.ft_model.specs.Growth.{IsPrefix, logged_units}
 use Rattle.ft_model.specs.Masked.{AcknowledgesLogged}
 use Rattle.ft_model.specs.World.{World, Moment, Joint, IsStart, IsNewClient, is_apart, are_apart, world_after}
+use Rattle.ft_model.specs.Keys.{AreDistinct}
 use Rattle.ft_model.proofs.Lists.{all_weaker, all_find, all_slice_get, same_key, none_is_some}
 use Rattle.ft_model.proofs.Fetching.{full_front}
-use Rattle.ft_model.proofs.Keys.{AreDistinct, has_key_map, finds_itself, all_from_get}
+use Rattle.ft_model.proofs.Keys.{has_key_map, finds_itself, all_from_get}
 use Rattle.ft_model.proofs.LogAnswers.{all_answers}
 use Rattle.ft_model.proofs.Happened.{Happened, happened, holds_after}
 use Rattle.ft_model.proofs.Happened.Happened.{log_heard, client_heard, client_moved, server_turned, server_booted, server_down}

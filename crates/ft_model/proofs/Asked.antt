@@ -18,9 +18,10 @@ use Rattle.ft_model.specs.Lawful.{LawfulTurn, hello}
 use Rattle.ft_model.specs.Growth.{EntryGrows}
 use Rattle.ft_model.specs.Masked.{is_restarting}
 use Rattle.ft_model.specs.World.{World, IsStart}
+use Rattle.ft_model.specs.Keys.{AreDistinct}
 use Rattle.ft_model.proofs.Lists.{all_weaker, all_both, all_append, none_is_some, some_is}
 use Rattle.ft_model.proofs.Grows.{part_grows, read_grows, done_grows}
-use Rattle.ft_model.proofs.Keys.{AreDistinct, distinct_more, has_key_map}
+use Rattle.ft_model.proofs.Keys.{distinct_more, has_key_map}
 use Rattle.ft_model.proofs.LogAnswers.{LogWent, log_went, all_answers}
 use Rattle.ft_model.proofs.LogAnswers.LogWent.{ignored, raised, changed}
 use Rattle.ft_model.proofs.Happened.{Happened, IsBrought, IsUnderWay, all_sent, answers}

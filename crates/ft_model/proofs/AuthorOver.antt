@@ -17,7 +17,7 @@ use Rattle.ft_model.specs.Lawful.{Revives, all_restored}
 use Rattle.ft_model.specs.Growth.{IsPrefix}
 use Rattle.ft_model.specs.World.{World}
 use Rattle.ft_model.proofs.Lists.{all_of, all_slice_get}
-use Rattle.ft_model.proofs.Keys.{AreDistinct, finds_itself, all_from_get}
+use Rattle.ft_model.proofs.Keys.{finds_itself, all_from_get}
 use Rattle.ft_model.proofs.Fetching.{IsWhole, AreFetched}
 use Rattle.ft_model.proofs.Asked.{entry_keys}
 use Rattle.ft_model.proofs.Resumed.{nothing_missing}
@@ -26,11 +26,12 @@ use Rattle.ft_model.proofs.Faithful.{PlaceFits, EntriesFit}
 use Rattle.server_trait.specs.Service.{reference}
 use Rattle.ft_model.specs.Node.{key_of}
 use Rattle.ft_model.specs.Growth.{logged_lengths, lengths_in}
+use Rattle.ft_model.specs.Keys.{AreDistinct, has_key}
 use Rattle.ft_model.proofs.StageTurns.{either_turn}
 use Rattle.ft_model.proofs.Running.{HasSmallOutputs}
 use Rattle.ft_model.proofs.Authored.{ReadFits, Speaks, Follows, PlaceRuns, IsAuthor, entry_runs}
 use Rattle.ft_model.proofs.FaithfulOver.{points_fit, restored_all, revives_fit}
-use Rattle.ft_model.proofs.Keys.{has_key, found_has_key}
+use Rattle.ft_model.proofs.Keys.{found_has_key}
 use Rattle.ft_model.proofs.Resumed.{restored_keys, restored_length, length_map}
 use Rattle.ft_model.proofs.Fetching.{full_front}
 use Rattle.ft_model.proofs.Services.{reads_go_on, prefix_length}

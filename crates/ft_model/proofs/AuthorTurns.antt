@@ -23,7 +23,7 @@ use Rattle.ft_model.specs.ServingTurn.{AllGo, newcomers, refusals, is_strange, S
 use Rattle.ft_model.specs.Lawful.{asked}
 use Rattle.ft_model.specs.Growth.{IsPrefix}
 use Rattle.ft_model.proofs.Lists.{or_left, all_append, all_find, found_passes, all_slice_get, same_key, none_is_some, some_is, or_cases}
-use Rattle.ft_model.proofs.Keys.{AreDistinct, finds_itself, all_from_get}
+use Rattle.ft_model.proofs.Keys.{finds_itself, all_from_get}
 use Rattle.ft_model.proofs.PlaceTurns.{PlaceWent}
 use Rattle.ft_model.proofs.PlaceTurns.PlaceWent.{stayed, went_on, began, dropped, ended, refused}
 use Rattle.ft_model.proofs.Scripts.{NewsFits}
@@ -34,6 +34,7 @@ use Rattle.ft_model.specs.Copy.{copies}
 use Rattle.ft_model.specs.Node.{key_of, place_at, is_known}
 use Rattle.ft_model.specs.ServingTurn.{PlaceTurn, is_asked, opens_at}
 use Rattle.ft_model.specs.Growth.{logged_lengths}
+use Rattle.ft_model.specs.Keys.{AreDistinct}
 use Rattle.ft_model.proofs.PlaceTurns.{place_went}
 use Rattle.ft_model.proofs.StageTurns.{either_turn}
 use Rattle.ft_model.proofs.Copied.{Grows}
@@ -45,7 +46,7 @@ use Rattle.ft_model.proofs.FaithfulKept.{InputFits, place_fits, news_fit, new_fi
 use Rattle.ft_io.proofs.Booleans.{not_true}
 use Rattle.ft_io.proofs.Choices.{holds_if}
 
-all_split : {A : Type 0} (P : A → Type 0) (xs ys : List A) → AllByRecursion P (xs ++ ys) → AllByRecursion P xs × AllByRecursion P ys
+pub all_split : {A : Type 0} (P : A → Type 0) (xs ys : List A) → AllByRecursion P (xs ++ ys) → AllByRecursion P xs × AllByRecursion P ys
 all_split P [] ys a = (tt, a)
 all_split P (x ∷ xs) ys a = let s = all_split P xs ys a.1 in ((a.0, s.0), s.1)
 

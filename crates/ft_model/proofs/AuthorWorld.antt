@@ -14,7 +14,7 @@ use Rattle.ft_model.specs.Growth.{IsPrefix}
 use Rattle.ft_model.specs.Masked.{is_restarting}
 use Rattle.ft_model.specs.World.{World, IsStart, with_client}
 use Rattle.ft_model.proofs.Lists.{all_both, all_weaker, all_append, prefix_trans, all_find, found_passes, all_slice_get, same_key, none_is_some, some_is}
-use Rattle.ft_model.proofs.Keys.{AreDistinct, finds_itself, all_from_get}
+use Rattle.ft_model.proofs.Keys.{finds_itself, all_from_get}
 use Rattle.ft_model.proofs.Happened.{Happened, IsBrought}
 use Rattle.ft_model.proofs.Happened.Happened.{log_heard, client_heard, client_moved, server_turned, server_booted, server_down}
 use Rattle.ft_model.proofs.StageTurns.{StageWent, stage_went}
@@ -26,6 +26,7 @@ use Rattle.ft_model.proofs.Faithful.{PlaceFits, StageFits}
 use Rattle.server_trait.specs.Service.{reference}
 use Rattle.ft_model.specs.Node.{key_of}
 use Rattle.ft_model.specs.Growth.{logged_lengths, lengths_in}
+use Rattle.ft_model.specs.Keys.{AreDistinct}
 use Rattle.ft_model.proofs.Running.{HasSmallOutputs}
 use Rattle.ft_model.proofs.Authored.{Speaks, Follows, PlaceRuns}
 use Rattle.ft_model.proofs.FaithfulKept.{IsFaithful, InputFits, input_fits}

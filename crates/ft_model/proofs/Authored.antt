@@ -84,7 +84,7 @@ abbrev pub IsAuthor : (Key → List ℕ) → Place → Type 0
 IsAuthor author (Lives p) = author p.key ≡ p.lengths
 IsAuthor author _ = Unit {0}
 
-take_of_prefix : (k : ℕ) (xs ys : List ℕ) → IsPrefix xs ys → k ≤ length xs → take k ys ≡ take k xs
+pub take_of_prefix : (k : ℕ) (xs ys : List ℕ) → IsPrefix xs ys → k ≤ length xs → take k ys ≡ take k xs
 take_of_prefix k xs ys p h = subst (λ l. take k l ≡ take k xs) p.1 (take-append-le k xs p.0 h)
 
 -- what may leave of a connection is a front of what the log's reads give
@@ -108,7 +108,7 @@ carries_later a b sisn segment g c = (
   λ f. let x = c.3 f in let same = g.closed x.0 in (same.1, x.1 ∙ ap length (sym same.0), x.2),
 )
 
-drop_past : (k : ℕ) (xs : List ℕ) → length xs ≤ k → drop k xs ≡ []
+pub drop_past : (k : ℕ) (xs : List ℕ) → length xs ≤ k → drop k xs ≡ []
 drop_past zero [] h = refl
 drop_past zero (x ∷ xs) h = absurd (omega (arith, h))
 drop_past (suc k) [] h = refl

@@ -1,7 +1,8 @@
 -- A client's kind, and what it allows.
-use Rattle.std.proofs.Common.{◌≡◌, ℕ, true, refl, sym, ap, subst, true≢false, Some, None, [], arith}
+use Rattle.std.proofs.Common.{◌≡◌, ℕ, true, refl, sym, ap, subst, true≢false, Some, None, [], arith, Bool, false}
+use Rattle.std.specs.Prelude.{◌||◌, if◌then◌else◌}
 use Rattle.seq_arith.specs.Packet.{Segment}
-use Rattle.ft_model.specs.Client.{Client, ClientKind, Move, IsMove, move_of, may_move, suits_kind, segment_of}
+use Rattle.ft_model.specs.Client.{Client, ClientKind, Move, IsMove, move_of, may_move, suits_kind, segment_of, is_ended}
 use Rattle.ft_model.specs.Client.ClientKind.{Live}
 use Rattle.ft_model.specs.Client.Move.{Syn, Text, Fin, Acknowledge, Rst, Refuse}
 use Rattle.ft_model.specs.declared.event.Event.{Event}
@@ -9,6 +10,8 @@ use Rattle.ft_model.specs.declared.event.Event.TheVariants as events
 use Rattle.ft_model.specs.WorkedRuns.Common.{hello_text, client_with, client_segment}
 use Rattle.ft_model.specs.WorkedRuns.FirstPath.{opening}
 use Rattle.ft_model.proofs.Lists.{none_is_some, some_is}
+use Rattle.ft_model.specs.declared.phase.Phase.{Phase}
+use Rattle.ft_model.specs.declared.phase.Phase.TheVariants.{New, Opening, Established, Ended, Reset}
 
 -- what an event asks for, a client of either kind may do
 pub suits_either : (kind : ClientKind) (event : Event) (move : Move) → move_of event ≡ Some move → suits_kind kind move ≡ true
@@ -60,3 +63,11 @@ not_offered (Refuse number) window may e = true≢false (sym may)
 
 pub offers_nothing : (later : Client) → IsMove (client_with hello_text) offer later → ⊥
 offers_nothing later m = not_offered m.move m.window m.may m.segment_is
+
+pub ends_by : (phase : Phase) (b : Bool) → (if is_ended phase || b then Ended else phase) ≡ (if b then Ended else phase)
+ends_by Ended true = refl
+ends_by Ended false = refl
+ends_by New b = refl
+ends_by Opening b = refl
+ends_by Established b = refl
+ends_by Reset b = refl

@@ -16,8 +16,9 @@ use Rattle.ft_model.specs.Growth.{IsPrefix}
 use Rattle.ft_model.specs.Lawful.{all_restored}
 use Rattle.ft_model.specs.Masked.{is_restarting}
 use Rattle.ft_model.specs.World.{World}
+use Rattle.ft_model.specs.Keys.{AreDistinct, has_key}
 use Rattle.ft_model.proofs.Lists.{none_is_some, some_is}
-use Rattle.ft_model.proofs.Keys.{AreDistinct, has_key, absent_key, distinct_front, distinct_more}
+use Rattle.ft_model.proofs.Keys.{absent_key, distinct_front, distinct_more}
 use Rattle.ft_model.proofs.Happened.{Happened, IsBrought}
 use Rattle.ft_model.proofs.Happened.Happened.{log_heard, client_heard, client_moved, server_turned, server_booted, server_down}
 use Rattle.ft_model.proofs.PlaceTurns.{PlaceWent, IsDropped, place_went}

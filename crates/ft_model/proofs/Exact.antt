@@ -21,7 +21,7 @@ orderly service start trace j =
     holds_after service IsOrderly start (λ s. (start_fenced start s, start_asked start s))
     (λ before sent after o h. (fenced_goes_on service before sent after o.0 h, asked_goes_on service before sent after o.0 o.1 h)) trace j
 
-same_exact : {State : Type 0} (service : Machine State) (log : Log) (n : Option Node) → RestartIsExact service log n n
+pub same_exact : {State : Type 0} (service : Machine State) (log : Log) (n : Option Node) → RestartIsExact service log n n
 same_exact service log (Some node) = λ r. not_resumed service log node node.stage r
 same_exact service log None = tt
 

@@ -109,7 +109,7 @@ place_later script isn before after g (Lives p) f = (f.0, known_later before aft
 place_later script isn before after g (Opens n) f = f
 place_later script isn before after g (Ended key) f = tt
 
-prefix_length : {A : Type 0} (xs ys : List A) → IsPrefix xs ys → length xs ≤ length ys
+pub prefix_length : {A : Type 0} (xs ys : List A) → IsPrefix xs ys → length xs ≤ length ys
 prefix_length xs ys p =
     let more = length-append xs p.0 in
     let whole : length (xs ++ p.0) ≡ length ys = ap length p.1 in

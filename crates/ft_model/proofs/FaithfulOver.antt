@@ -21,8 +21,9 @@ use Rattle.ft_model.specs.Node.Stage.{Asking, Fetching, Serving, Fenced}
 use Rattle.ft_model.specs.Lawful.{Revives, restored, all_restored, held}
 use Rattle.ft_model.specs.Masked.{is_restarting}
 use Rattle.ft_model.specs.World.{World, Moves, client_at}
+use Rattle.ft_model.specs.Keys.{AreDistinct}
 use Rattle.ft_model.proofs.Lists.{all_weaker, all_append, all_find, all_slice_get, none_is_some, some_is}
-use Rattle.ft_model.proofs.Keys.{AreDistinct, finds_itself, all_from_get}
+use Rattle.ft_model.proofs.Keys.{finds_itself, all_from_get}
 use Rattle.ft_model.proofs.Happened.{Happened, IsBrought}
 use Rattle.ft_model.proofs.Happened.Happened.{log_heard, client_heard, client_moved, server_turned, server_booted, server_down}
 use Rattle.ft_model.proofs.PlaceTurns.{all_go_on, serving_goes_on}

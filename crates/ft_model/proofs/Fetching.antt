@@ -10,8 +10,9 @@ use Rattle.ft_model.specs.Log.{Log, Entry, entry_of, head_of, part_of, lens_of, 
 use Rattle.ft_model.specs.Restart.{Wanted, Fetched, wanted, next_entry, lacks_read_bytes, lacks_bytes, lacks_lengths, is_fetched, fetched_by, fetched_after, all_follow, entry_in}
 use Rattle.ft_model.specs.Restart.Wanted.{An_entry, Its_bytes, Its_lengths}
 use Rattle.ft_model.specs.Growth.{IsPrefix}
+use Rattle.ft_model.specs.Keys.{AreDistinct}
 use Rattle.ft_model.proofs.Lists.{take_first, found_passes, same_key, none_is_some, some_is}
-use Rattle.ft_model.proofs.Keys.{AreDistinct, finds_itself}
+use Rattle.ft_model.proofs.Keys.{finds_itself}
 use Rattle.ft_io.proofs.Choices.{holds_if}
 use Rattle.ft_io.proofs.Booleans.{first_of_three}
 
@@ -76,7 +77,7 @@ told_agrees (ReadMsg key index n) log answer t = let o = on_some (entry_of key l
 told_agrees (DoneMsg key) log answer t = let o = on_some (entry_of key log) (λ e. Some (EndedMsg key)) answer t in subst (AgreesWith log.entries) (some_is _ _ o.2) tt
 told_agrees _ log answer t = none_is_some answer t
 
-chosen_is : {A : Type 0} (b : Bool) (x y : A) → (if b then Some x else None) ≡ Some y → (b ≡ true) × (x ≡ y)
+pub chosen_is : {A : Type 0} (b : Bool) (x y : A) → (if b then Some x else None) ≡ Some y → (b ≡ true) × (x ≡ y)
 chosen_is true x y e = (refl, some_is x y e)
 chosen_is false x y e = none_is_some y e
 

@@ -144,10 +144,10 @@ server_fits [] a e = absurd (cc)
 server_fits (address ∷ word ∷ more) a e = absurd (cc)
 
 -- the lines of events
-one_number : {B : Type 0} (r : Result ℕ LineWhy) (make : ℕ → B) (y : B) → (r >>= λ a. Ok (make a)) ≡ Ok y → (a : ℕ) × (r ≡ Ok a) × (make a ≡ y)
+pub one_number : {B : Type 0} (r : Result ℕ LineWhy) (make : ℕ → B) (y : B) → (r >>= λ a. Ok (make a)) ≡ Ok y → (a : ℕ) × (r ≡ Ok a) × (make a ≡ y)
 one_number r make y e = let b = bind_ok r (λ a. Ok (make a)) y e in (b.0, b.1, (cc b.2))
 
-two_numbers : {B : Type 0} (r s : Result ℕ LineWhy) (make : ℕ → ℕ → B) (y : B) → (r >>= λ a. s >>= λ b. Ok (make a b)) ≡ Ok y
+pub two_numbers : {B : Type 0} (r s : Result ℕ LineWhy) (make : ℕ → ℕ → B) (y : B) → (r >>= λ a. s >>= λ b. Ok (make a b)) ≡ Ok y
     → (a : ℕ) × (b : ℕ) × (r ≡ Ok a) × (s ≡ Ok b) × (make a b ≡ y)
 two_numbers r s make y e =
     let f = bind_ok r (λ a. s >>= λ b. Ok (make a b)) y e in

@@ -41,14 +41,14 @@ bytes_drop zero xs a = a
 bytes_drop (suc n) [] a = tt
 bytes_drop (suc n) (x ∷ xs) a = bytes_drop n xs a.1
 
-bytes_left : (xs ys : List ℕ) → AreBytes (xs ++ ys) → AreBytes xs
+pub bytes_left : (xs ys : List ℕ) → AreBytes (xs ++ ys) → AreBytes xs
 bytes_left [] ys a = tt
 bytes_left (x ∷ xs) ys a = (a.0, bytes_left xs ys a.1)
 
 pub bytes_front : (xs ys : List ℕ) → IsPrefix xs ys → AreBytes ys → AreBytes xs
 bytes_front xs ys p a = bytes_left xs p.0 (subst AreBytes (sym p.1) a)
 
-bytes_cut : (bytes lengths : List ℕ) → AreBytes bytes → AllByRecursion AreBytes (cut bytes lengths)
+pub bytes_cut : (bytes lengths : List ℕ) → AreBytes bytes → AllByRecursion AreBytes (cut bytes lengths)
 bytes_cut bytes [] a = tt
 bytes_cut bytes (n ∷ lengths) a = (bytes_take n bytes a, bytes_cut (drop n bytes) lengths (bytes_drop n bytes a))
 

@@ -4,7 +4,7 @@ use Rattle.std.proofs.lemmas.Bool.{ltb-true, and_parts}
 use Rattle.seq_arith.specs.Number.{number_at}
 use Rattle.seq_arith.specs.Arrival.{int_eq}
 use Rattle.seq_arith.specs.Packet.{Segment, has_syn, has_rst, has_ack}
-use Rattle.seq_arith.specs.PacketGrammar.{mss_option, packet_length}
+use Rattle.seq_arith.specs.PacketGrammar.{packet_length}
 use Rattle.server_trait.specs.Service.{AreBytes}
 use Rattle.ft_model.specs.Offset.{first_of, ack_of}
 use Rattle.ft_model.specs.declared.phase.Phase.TheVariants as phases
@@ -15,6 +15,7 @@ use Rattle.ft_model.specs.World.{World}
 use Rattle.ft_model.proofs.FaithfulKept.{received_same}
 use Rattle.ft_model.proofs.Formed.{bytes_take, bytes_drop, HasClient, PacketFormed, ClientFormed}
 use Rattle.ft_io.proofs.Choices.{holds_if}
+use Rattle.seq_arith.proofs.Units.{mss_option_short}
 
 -- a client keeps the server's address
 used_server : (c : Client) (segment : Segment) → (used c segment).server ≡ c.server
@@ -98,16 +99,12 @@ mss_small kind Acknowledge e = tt
 mss_small kind Rst e = tt
 mss_small kind (Refuse number) e = tt
 
-option_small : (mss : Option ℕ) → length (mss_option mss) ≤ 4
-option_small (Some mss) = omega arith
-option_small None = omega arith
-
 packet_small : (c : Client) (m : Move) (window : ℕ) → suits_range c m ≡ true → packet_length (segment_of c m window) ≤ 1500
 packet_small c (Text from len) window r =
     let one = and_parts (nat_le c.acknowledged from && nat_le from c.sent && nat_le 1 len && nat_le len 1460) (nat_le (from + len) (length c.script)) r in
     let short : len ≤ 1460 = leb-true _ _ (and_parts (nat_le c.acknowledged from && nat_le from c.sent && nat_le 1 len) (nat_le len 1460) one.0).1 in
     let size = length-take len (drop from c.script) in omega (arith, short, size)
-packet_small c (Syn mss) window r = let option = option_small mss in omega (arith, option)
+packet_small c (Syn mss) window r = let option = mss_option_short mss in omega (arith, option)
 packet_small c Fin window r = omega arith
 packet_small c Acknowledge window r = omega arith
 packet_small c Rst window r = omega arith

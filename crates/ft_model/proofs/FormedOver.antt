@@ -42,7 +42,7 @@ WantedFormed start (An_entry index) = index ≤ 63
 WantedFormed start (Its_bytes key offset) = HasClient start key × (offset ≤ 2 ^ 24)
 WantedFormed start (Its_lengths key first) = HasClient start key × (first ≤ 2 ^ 24 + 1)
 
-newest_formed : (start : World) (entries : List Entry) (f : Fetched) (earlier : List Fetched) → AllByRecursion (EntryTells start) entries → AreFetched entries (f ∷ earlier)
+pub newest_formed : (start : World) (entries : List Entry) (f : Fetched) (earlier : List Fetched) → AllByRecursion (EntryTells start) entries → AreFetched entries (f ∷ earlier)
     → HasClient start f.head.key × (length f.bytes ≤ 2 ^ 24) × (length f.lengths ≤ 2 ^ 24 + 1)
 newest_formed start entries f earlier e a =
     let tells : EntryTells start a.0 = all_slice_get (EntryTells start) entries (length earlier) a.0 e a.1 in
@@ -58,7 +58,7 @@ next_formed start count index w h =
     holds_if (λ o. o ≡ Some w → WantedFormed start w) (nat_lt index count) (Some (An_entry index)) None
     (λ t e. subst (WantedFormed start) (some_is _ _ e) (let less : index < count = ltb-true _ _ t in omega (arith, less, h))) (λ t e. none_is_some w e)
 
-wanted_formed : (start : World) (entries : List Entry) (count : ℕ) (fetched : List Fetched) (w : Wanted) → count ≤ 64 → AllByRecursion (EntryTells start) entries
+pub wanted_formed : (start : World) (entries : List Entry) (count : ℕ) (fetched : List Fetched) (w : Wanted) → count ≤ 64 → AllByRecursion (EntryTells start) entries
     → AreFetched entries fetched → wanted count fetched ≡ Some w → WantedFormed start w
 wanted_formed start entries count [] w few e a g = next_formed start count 0 w few g
 wanted_formed start entries count (f ∷ earlier) w few e a missing =
@@ -97,11 +97,11 @@ held_formed start node fetched segment at heads =
     (λ f e. all_find (λ x. HasClient start x.head.key) (λ x. key_eq x.head.key (source_of segment) && not x.head.done) fetched f heads e)) (λ t. tt)
 
 -- the places of a restart
-point_formed : {State : Type 0} (service : Machine State) (start : World) (e : Entry) → EntryFormed start e → PointFormed start (point_of service e)
+pub point_formed : {State : Type 0} (service : Machine State) (start : World) (e : Entry) → EntryFormed start e → PointFormed start (point_of service e)
 point_formed service start e h =
     record { key = h.key; sisn = h.sisn; mss = h.mss; enough = h.enough; fetched = omega arith; count = h.count; lengths = h.lengths }
 
-revived_formed : {State : Type 0} (service : Machine State) (start : World) (log : Log) (node : Node) → WritesBytes service → StartFormed start
+pub revived_formed : {State : Type 0} (service : Machine State) (start : World) (log : Log) (node : Node) → WritesBytes service → StartFormed start
     → EntriesFit (script_of start) (isn_of start) log.entries → node.server ≡ start.server → IsBoot node.boot
     → (place : Place) (now : List Place) (sent : List Packet) → PlaceSound start log place → Revives service node place now sent
     → AllByRecursion (PlaceSound start log) now × AllByRecursion (PacketFormed start) sent
@@ -136,7 +136,7 @@ missing_formed start w node (Some y) s k e m x g =
     wanted_formed start w.log.entries m.0 m.1 x (subst (λ n. n ≤ 64) (sym agrees.0) k.formed.few) (tells_of start w s k) agrees.1 (m.3 ∙ g)
 missing_formed start w node None s k e m x g = none_is_some x g
 
-no_places : (start : World) (stage : Stage) → is_restarting stage ≡ true → StageFormed start stage
+pub no_places : (start : World) (stage : Stage) → is_restarting stage ≡ true → StageFormed start stage
 no_places start Asking r = tt
 no_places start (Fetching count fetched) r = tt
 no_places start (Serving opened places) r = absurd (true≢false (sym r))

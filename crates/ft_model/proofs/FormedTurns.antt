@@ -134,7 +134,7 @@ segment_formed service start server news p q segment writes at h bytes (spoken_b
     (h.key, (ap (λ a. a.ip) at, ap (λ a. a.port) at), (omega arith, omega arith, omega arith, omega arith, tt, tt, omega arith))
 
 -- and its messages
-text_bytes : (segment : Segment) → AreBytes segment.payload → AreBytes (text_of segment)
+pub text_bytes : (segment : Segment) → AreBytes segment.payload → AreBytes (text_of segment)
 text_bytes segment h = holds_if AreBytes (has_syn segment || has_rst segment) [] segment.payload (λ t. tt) (λ t. h)
 
 -- a segment's text is short, as the segment is

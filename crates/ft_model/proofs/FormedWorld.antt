@@ -247,7 +247,7 @@ wires_after service small writes start trace j =
     (λ packet h b. packet_wire start (s.ip, s.port) packet h (packet_acked service (script_of start) w o.author packet b)) (formed_after service small writes start trace j).packets o.backed.packets
 
 -- what was sent in a moment is after what was sent before
-all_behind : {A : Type 0} (P : A → Type 0) (xs ys : List A) → AllByRecursion P (xs ++ ys) → AllByRecursion P ys
+pub all_behind : {A : Type 0} (P : A → Type 0) (xs ys : List A) → AllByRecursion P (xs ++ ys) → AllByRecursion P ys
 all_behind P [] ys a = a
 all_behind P (x ∷ xs) ys a = all_behind P xs ys a.1
 

@@ -81,7 +81,7 @@ bit_changed bit segment w h = flipped_packet_is_refused bit (segments.spelling s
 pub message_bit_changed : (bit : ℕ) (message : Message) → CanBeTold message → bit < 8 * length (messages.spelling message) → IsErr (messages.reading (flipped bit (messages.spelling message)))
 message_bit_changed bit message w h = flipped_message_is_refused bit (messages.spelling message) message (message_is_read message w.0) h
 
-segment_is_noise : (r : Result Segment BadPacket) → IsErr r → segment_or_noise r ≡ Noise_comes
+pub segment_is_noise : (r : Result Segment BadPacket) → IsErr r → segment_or_noise r ≡ Noise_comes
 segment_is_noise (Err why) h = refl
 segment_is_noise (Ok segment) h = absurd (true≢false (sym h))
 

@@ -5,16 +5,9 @@ use Rattle.std.proofs.lemmas.Bool.{or_parts, or_right, or_from}
 use Rattle.ft_io.specs.declared.Key.{Key}
 use Rattle.ft_io.specs.Key.{key_eq}
 use Rattle.ft_model.specs.Growth.{IsPrefix}
+use Rattle.ft_model.specs.Keys.{has_key, AreDistinct}
 use Rattle.ft_model.proofs.Lists.{or_left, same_key, key_is, none_is_some, some_is}
 use Rattle.ft_io.proofs.Choices.{holds_if}
-
--- the key stands in the list
-abbrev pub has_key : Key → List Key → Bool
-has_key key keys = list_any (λ k. key_eq k key) keys
-
-abbrev pub AreDistinct : List Key → Type 0
-AreDistinct [] = Unit {0}
-AreDistinct (key ∷ keys) = (has_key key keys ≡ false) × AreDistinct keys
 
 turns : (a b : Key) (t : Bool) → key_eq a b ≡ false → key_eq b a ≡ t → t ≡ false
 turns a b false e f = refl
@@ -50,7 +43,7 @@ pub has_key_map : {A : Type 0} (of : A → Key) (key : Key) (xs : List A) → li
 has_key_map of key [] = refl
 has_key_map of key (x ∷ xs) = ap (λ b. key_eq (of x) key || b) (has_key_map of key xs)
 
-not_there : {A : Type 0} (of : A → Key) (key : Key) (xs : List A) (i : ℕ) (x : A) → has_key key (map of xs) ≡ false → slice_get xs i ≡ Some x → key_eq (of x) key ≡ false
+pub not_there : {A : Type 0} (of : A → Key) (key : Key) (xs : List A) (i : ℕ) (x : A) → has_key key (map of xs) ≡ false → slice_get xs i ≡ Some x → key_eq (of x) key ≡ false
 not_there of key [] i x h e = none_is_some x e
 not_there of key (y ∷ ys) zero x h e =
     subst (λ z. key_eq (of z) key ≡ false) (some_is y x e) (or_parts (key_eq (of y) key) (has_key key (map of ys)) h).0

@@ -30,9 +30,10 @@ use Rattle.ft_model.specs.Node.Input.{Packet_comes, Message_comes, Noise_comes, 
 use Rattle.ft_model.specs.ServingTurn.{PlaceTurn, AllGo, newcomers, refusals, is_strange, opens_at, ServingTurn}
 use Rattle.ft_model.specs.Lawful.{asked}
 use Rattle.ft_model.specs.World.{World}
+use Rattle.ft_model.specs.Keys.{has_key}
 use Rattle.ft_model.proofs.Lists.{or_left, all_both, all_weaker, all_map, all_append, same_key, key_is, or_cases}
 use Rattle.ft_model.proofs.Grows.{log_grows}
-use Rattle.ft_model.proofs.Keys.{has_key, absent_key}
+use Rattle.ft_model.proofs.Keys.{absent_key}
 use Rattle.ft_model.proofs.LogAnswers.{log_went, all_answers}
 use Rattle.ft_model.proofs.Happened.{IsBrought, IsUnderWay, all_sent, answers}
 use Rattle.ft_model.proofs.PlaceTurns.{PlaceWent, IsDropped, place_went, all_go_on, all_flat, asks_so}

@@ -40,6 +40,7 @@ pub mod StageTurns
 pub mod LogAnswers
 pub mod Fenced
 pub mod Keys
+pub mod ClientKeys
 pub mod Fetching
 pub mod Asked
 pub mod Resumed

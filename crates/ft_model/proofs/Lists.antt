@@ -1,5 +1,5 @@
 -- Lists: what holds of all elements, look-ups, and fronts.
-use Rattle.std.proofs.Common.{◌≡◌, ℕ, zero, suc, Bool, true, false, ◌&&◌, ◌||◌, refl, sym, ap, ap₂, ◌∙◌, subst, true≢false, inl, inr, ◌⊎◌, not, find, is_none, Option, Some, None, List, [], ◌∷◌, ◌++◌, map, slice_get, append-nil, append_assoc, take, drop, take-append-drop, eqb-true, eq-eqb, if◌then◌else◌, ◌==◌}
+use Rattle.std.proofs.Common.{◌≡◌, ℕ, zero, suc, Bool, true, false, ◌&&◌, ◌||◌, refl, sym, ap, ap₂, ◌∙◌, subst, true≢false, inl, inr, ◌⊎◌, not, find, is_none, Option, Some, None, List, [], ◌∷◌, ◌++◌, map, slice_get, append-nil, append_assoc, take, drop, take-append-drop, eqb-true, eq-eqb, if◌then◌else◌, ◌==◌, ◌<◌, arith, length}
 use Rattle.std.specs.List.{AllByRecursion}
 use Rattle.std.proofs.lemmas.Bool.{and_parts}
 use Rattle.ft_io.specs.declared.Key.{Key}
@@ -95,3 +95,8 @@ prefix_more xs ys = (ys, refl)
 
 pub prefix_trans : {A : Type 0} (xs ys zs : List A) → IsPrefix xs ys → IsPrefix ys zs → IsPrefix xs zs
 prefix_trans xs ys zs p q = (p.0 ++ q.0, sym (append_assoc xs p.0 q.0) ∙ (ap (λ l. l ++ q.0) p.1 ∙ q.1))
+
+pub index_within : {A : Type 0} (xs : List A) (i : ℕ) (x : A) → slice_get xs i ≡ Some x → i < length xs
+index_within [] i x e = none_is_some x e
+index_within (y ∷ xs) zero x e = omega arith
+index_within (y ∷ xs) (suc i) x e = let less : i < length xs = index_within xs i x e in omega (arith, less)

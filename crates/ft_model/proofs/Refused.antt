@@ -12,9 +12,10 @@ use Rattle.ft_model.specs.Log.{Log, Entry, entry_of, new_entry, opened, with_par
 use Rattle.ft_model.specs.Network.{Packet, source_of, destination_of}
 use Rattle.ft_model.specs.Network.Packet.{To_server, To_client, To_logger, From_logger}
 use Rattle.ft_model.specs.Growth.{LogGrows}
+use Rattle.ft_model.specs.Keys.{has_key}
 use Rattle.ft_model.proofs.Lists.{or_left, all_of, all_map, all_find, found_passes, key_is, none_is_some, some_is, or_second}
 use Rattle.ft_model.proofs.Grows.{found_later, part_grows, read_grows, done_grows}
-use Rattle.ft_model.proofs.Keys.{has_key, has_key_map, absent_key}
+use Rattle.ft_model.proofs.Keys.{has_key_map, absent_key}
 use Rattle.ft_model.proofs.LogAnswers.{LogWent, all_answers}
 use Rattle.ft_model.proofs.LogAnswers.LogWent.{ignored, raised, changed}
 use Rattle.ft_model.proofs.Happened.{answers}

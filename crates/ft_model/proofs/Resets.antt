@@ -23,9 +23,10 @@ use Rattle.ft_model.specs.Lawful.{Revives, LawfulTurn, restored, all_restored, a
 use Rattle.ft_model.specs.Masked.{is_restarting}
 use Rattle.ft_model.specs.Resets.{ResetsNoLogged}
 use Rattle.ft_model.specs.World.{World, Moment, Moves, Joint, IsStart, client_at, world_after}
+use Rattle.ft_model.specs.Keys.{has_key}
 use Rattle.ft_model.proofs.Lists.{all_weaker, all_append, none_is_some, some_is}
 use Rattle.ft_model.proofs.Grows.{log_grows}
-use Rattle.ft_model.proofs.Keys.{has_key, found_has_key}
+use Rattle.ft_model.proofs.Keys.{found_has_key}
 use Rattle.ft_model.proofs.LogAnswers.{log_went, all_answers}
 use Rattle.ft_model.proofs.Happened.{Happened, IsBrought, IsUnderWay, holds_after, answers}
 use Rattle.ft_model.proofs.Happened.Happened.{log_heard, client_heard, client_moved, server_turned, server_booted, server_down}

@@ -21,8 +21,9 @@ use Rattle.ft_model.specs.Lawful.{Revives, LawfulTurn, restored, all_restored}
 use Rattle.ft_model.specs.Growth.{IsPrefix}
 use Rattle.ft_model.specs.Masked.{IsResumed, is_restarting, Resumes, RestartIsExact}
 use Rattle.ft_model.specs.World.{World}
+use Rattle.ft_model.specs.Keys.{AreDistinct}
 use Rattle.ft_model.proofs.Lists.{none_is_some, some_is}
-use Rattle.ft_model.proofs.Keys.{AreDistinct, distinct_front, finds_itself, front_more, all_from_get}
+use Rattle.ft_model.proofs.Keys.{distinct_front, finds_itself, front_more, all_from_get}
 use Rattle.ft_model.proofs.Happened.{IsBrought}
 use Rattle.ft_model.proofs.StageTurns.{StageWent, stage_went, either_turn}
 use Rattle.ft_model.proofs.StageTurns.StageWent.{was_fenced, waited, held_off, asked_on, resumed, served}

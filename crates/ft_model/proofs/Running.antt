@@ -1,7 +1,8 @@
 -- A live connection reads no more than it has taken, and keeps its output within a stream.
-use Rattle.std.proofs.Common.{◌≡◌, ℕ, ◌+◌, ◌-◌, ◌<◌, ◌≤◌, ◌^◌, ◌==◌, ◌&&◌, not, nat_lt, nat_le, min, sum, le_of_eq, le_trans, sym, ap, subst, Some, None, List, [], ◌∷◌, ◌++◌, length, append-nil, append_assoc, arith, length-append, ltb-true, leb-true}
+use Rattle.std.proofs.Common.{◌≡◌, ℕ, ◌+◌, ◌-◌, ◌<◌, ◌≤◌, ◌^◌, ◌==◌, ◌&&◌, not, nat_lt, nat_le, min, sum, le_of_eq, le_trans, sym, ap, subst, Some, None, List, [], ◌∷◌, ◌++◌, length, append-nil, append_assoc, arith, length-append, ltb-true, leb-true, refl, ◌∙◌}
 use Rattle.std.specs.List.{list_any}
 use Rattle.std.proofs.lemmas.Bool.{and_parts}
+use Rattle.std.proofs.lemmas.Option.{none-some}
 use Rattle.ft_io.specs.declared.Addr.{Addr}
 use Rattle.server_trait.specs.Service.{Machine, reference}
 use Rattle.ft_model.specs.Network.{Packet}
@@ -115,3 +116,7 @@ live_within service server boot news p q sent small r t =
       short = subst (λ l. length (reference service q.taken l).output ≤ 2 ^ 24) (sym t.reads.lengths) m.1;
       counts = omega (arith, t.reads_answered, count, size, all);
     }
+
+pub none_made : {State : Type 0} (service : Machine State) (r : Point) (ns : List ℕ) → next_read service r ≡ None → Makes service r ns → ns ≡ []
+none_made service r [] none makes = refl
+none_made service r (n ∷ ns) none makes = absurd (none-some n (sym none ∙ makes.0))

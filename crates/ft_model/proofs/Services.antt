@@ -64,7 +64,7 @@ drop_within (suc n) (x ∷ xs) ys h = drop_within n xs ys (omega (arith, h))
 pub sum_more : (n : ℕ) (lengths : List ℕ) → sum (n ∷ lengths) ≡ n + sum lengths
 sum_more n lengths = sum_by-cons (λ x. x) n lengths
 
-cut_within : (bytes more lengths : List ℕ) → sum lengths ≤ length bytes → cut (bytes ++ more) lengths ≡ cut bytes lengths
+pub cut_within : (bytes more lengths : List ℕ) → sum lengths ≤ length bytes → cut (bytes ++ more) lengths ≡ cut bytes lengths
 cut_within bytes more [] h = refl
 cut_within bytes more (n ∷ lengths) h =
     let whole : sum (n ∷ lengths) ≡ n + sum lengths = sum_more n lengths in

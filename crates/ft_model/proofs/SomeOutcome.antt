@@ -97,7 +97,7 @@ not_refused : (b : Bool) (why : EventWhy) → (if b then Some why else None) ≡
 not_refused true why e = none_is_some why (sym e)
 not_refused false why e = refl
 
-is_up : (b : Bool) → (if b then None else Some why.Down) ≡ None → b ≡ true
+pub is_up : (b : Bool) → (if b then None else Some why.Down) ≡ None → b ≡ true
 is_up true e = refl
 is_up false e = none_is_some why.Down (sym e)
 
@@ -110,11 +110,11 @@ second_free true b e = none_is_some why.Up (sym e)
 second_free false b e = e
 
 -- a packet that an event names was sent
-named : (o : Option Packet) (why : EventWhy) → (if is_some o then None else Some why) ≡ None → (packet : Packet) × (o ≡ Some packet)
+pub named : (o : Option Packet) (why : EventWhy) → (if is_some o then None else Some why) ≡ None → (packet : Packet) × (o ≡ Some packet)
 named (Some packet) why e = (packet, refl)
 named None why e = none_is_some why (sym e)
 
-named_with_bit : (o : Option Packet) (bit : ℕ) → refusal_of_flip o bit ≡ None → (packet : Packet) × (o ≡ Some packet) × (bit < 8 * length (wire_of packet).bytes)
+pub named_with_bit : (o : Option Packet) (bit : ℕ) → refusal_of_flip o bit ≡ None → (packet : Packet) × (o ≡ Some packet) × (bit < 8 * length (wire_of packet).bytes)
 named_with_bit (Some packet) bit e = (packet, refl, leb-false _ _ (not_refused (nat_le (8 * length (wire_of packet).bytes) bit) why.Bit e))
 named_with_bit None bit e = none_is_some why.Packet (sym e)
 
@@ -130,8 +130,8 @@ move_may client event move asked free =
     allowed true false e = none_is_some why.Range (sym e)
     allowed false r e = none_is_some why.State (sym e)
 
--- and announces a window that a head can hold
-window_fits : (client : Client) (event : Event) (move : Move) → FitsEvent event → move_of event ≡ Some move → may_advertise move (window_of client event) ≡ true
+-- and advertises a window that a head can hold
+pub window_fits : (client : Client) (event : Event) (move : Move) → FitsEvent event → move_of event ≡ Some move → may_advertise move (window_of client event) ≡ true
 window_fits client (Begin n window) move h e = subst (λ m. may_advertise m window ≡ true) (some_is (Syn None) move e) (lt-ltb window (2 ^ 16) h.1)
 window_fits client (Ack n window) move h e = subst (λ m. may_advertise m window ≡ true) (some_is Acknowledge move e) (lt-ltb window (2 ^ 16) h.1)
 window_fits client (Send n from len) move h e =
@@ -145,11 +145,15 @@ window_fits client (Deliver n) move h e = none_is_some move e
 window_fits client (Flip n bit) move h e = none_is_some move e
 window_fits client (Stop part) move h e = none_is_some move e
 
-asks_for : (event : Event) (number : ℕ) (move : Move) → move_asked event ≡ Some (number, move) → move_of event ≡ Some move
+pub asks : (o : Option (ℕ × Move)) (number : ℕ) → option_map (λ a. a.0) o ≡ Some number → (move : Move) × (o ≡ Some (number, move))
+asks (Some a) number e = (a.1, (ap (λ n. Some (n, a.1)) (some_is a.0 number e)))
+asks None number e = none_is_some number e
+
+pub asks_for : (event : Event) (number : ℕ) (move : Move) → move_asked event ≡ Some (number, move) → move_of event ≡ Some move
 asks_for event number move e = subst (λ o. option_map (λ a. a.1) o ≡ Some move) (sym e) refl
 
 -- the client of a move
-mover_there : (o : Option Client) (move : Move) → refusal_of_client o move ≡ None → (client : Client) × (o ≡ Some client) × (refusal_of_move client move ≡ None)
+pub mover_there : (o : Option Client) (move : Move) → refusal_of_client o move ≡ None → (client : Client) × (o ≡ Some client) × (refusal_of_move client move ≡ None)
 mover_there (Some client) move free = (client, refl, free)
 mover_there None move free = none_is_some why.Client (sym free)
 

@@ -62,7 +62,7 @@ resent_spoken service server news before after =
     (λ t. probe_spoken service server news before after))
     (λ e. tt)
 
-or_bare_spoken : (P : Segment → Type 0) (ack_pending : Bool) (bare : Segment) (segments : List Segment) → P bare → AllByRecursion P segments
+pub or_bare_spoken : (P : Segment → Type 0) (ack_pending : Bool) (bare : Segment) (segments : List Segment) → P bare → AllByRecursion P segments
     → AllByRecursion P (or_bare ack_pending bare segments)
 or_bare_spoken P ack_pending bare [] b all = one_spoken P ack_pending bare (λ t. b)
 or_bare_spoken P ack_pending bare (segment ∷ segments) b all = all

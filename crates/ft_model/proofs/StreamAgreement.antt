@@ -10,6 +10,7 @@ use Rattle.ft_model.specs.Growth.{IsPrefix}
 use Rattle.ft_model.proofs.Stands.{nothing_first, part_stands, take_nothing}
 use Rattle.ft_model.proofs.Fetching.{join_front}
 use Rattle.ft_io.proofs.Choices.{holds_if, holds_either_way}
+use Rattle.ft_io.proofs.Numbers.{plus_none}
 
 -- the places hold bytes of the stream, each at its place
 abbrev pub Agrees : List (Option ℕ) → List ℕ → Type 0
@@ -52,12 +53,9 @@ same_rest x y xs ys e = ap (drop 1) e
 not_nothing : {A : Type 0} {X : Type 0} (x : A) (xs : List A) → (x ∷ xs) ≡ [] → X
 not_nothing x xs e = absurd (omega (arith, ap length e))
 
-drop_nothing : (k : ℕ) → drop {A = ℕ} k [] ≡ []
+pub drop_nothing : (k : ℕ) → drop {A = ℕ} k [] ≡ []
 drop_nothing zero = refl
 drop_nothing (suc k) = refl
-
-no_more : (n : ℕ) → n + 0 ≡ n
-no_more n = omega arith
 
 -- places
 
@@ -164,9 +162,9 @@ text_fits whole ends n edge fin early first text has_fin says a f e =
     })
     (λ t. record {
       added = nothing_first (drop n whole);
-      held = subst (λ k. Agrees (held_with (ahead n first) new early.text) (drop k whole)) (sym (no_more n)) (held_fits (ahead n first) new early.text (drop n whole) s a);
+      held = subst (λ k. Agrees (held_with (ahead n first) new early.text) (drop k whole)) (sym (plus_none n)) (held_fits (ahead n first) new early.text (drop n whole) s a);
       held_fin = f;
-      fin = λ h. ((e h).0, no_more n ∙ (e h).1);
+      fin = λ h. ((e h).0, plus_none n ∙ (e h).1);
     })
 
 fin_fits : (whole : List ℕ) (ends : Type 0) (n edge : ℕ) (place : ℤ) (has_fin : Bool) (c : Came) → (has_fin ≡ true → ends × (nat_abs place ≡ length whole)) → StreamFits whole ends n c

@@ -26,8 +26,9 @@ use Rattle.ft_model.specs.Node.{Node, Place, Input, key_of}
 use Rattle.ft_model.specs.Node.Place.{Opens, Lives, Ended}
 use Rattle.ft_model.specs.ServingTurn.{AllGo}
 use Rattle.ft_model.specs.Masked.{told_to, or_before, last_told, IsToldLast}
+use Rattle.ft_model.specs.Keys.{AreDistinct, has_key}
 use Rattle.ft_model.proofs.Lists.{three_true, all_both, all_weaker, all_append, key_is}
-use Rattle.ft_model.proofs.Keys.{AreDistinct, has_key, key_eq_turns}
+use Rattle.ft_model.proofs.Keys.{key_eq_turns}
 use Rattle.ft_model.proofs.PlaceTurns.{PlaceWent}
 use Rattle.ft_model.proofs.PlaceTurns.PlaceWent.{stayed, went_on, began, dropped, ended, refused}
 use Rattle.ft_model.proofs.Spoken.{Spoken, segments_spoken, IsHeaded, headed}
@@ -145,7 +146,7 @@ by_reset : {State : Type 0} {X : Type 0} (service : Machine State) (server : Add
 by_reset service server boot news p q sent true e f g t = f t
 by_reset service server boot news p q sent false e f g t = g e t
 
-was_not_reset : (news : News) (p : Point) → reset_after news p ≡ false → p.reset ≡ false
+pub was_not_reset : (news : News) (p : Point) → reset_after news p ≡ false → p.reset ≡ false
 unfolding reset_after
 was_not_reset (Comes segment) p e = (or_parts p.reset _ e).0
 was_not_reset (Logged kept) p e = e

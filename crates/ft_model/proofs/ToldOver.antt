@@ -20,7 +20,6 @@ use Rattle.ft_model.specs.Lawful.{Revives, all_restored}
 use Rattle.ft_model.specs.Masked.{or_before, last_told, IsToldLast, AllAreTold, is_restarting}
 use Rattle.ft_model.specs.World.{World, Moment, Joint, world_after}
 use Rattle.ft_model.proofs.Lists.{all_weaker, all_append, none_is_some, some_is}
-use Rattle.ft_model.proofs.Keys.{AreDistinct}
 use Rattle.ft_model.proofs.Happened.{Happened, holds_after, IsBrought}
 use Rattle.ft_model.proofs.Happened.Happened.{log_heard, client_heard, client_moved, server_turned, server_booted, server_down}
 use Rattle.ft_model.proofs.PlaceTurns.{place_went}
@@ -36,6 +35,7 @@ use Rattle.ft_model.proofs.Distinct.{distinct_after}
 use Rattle.ft_model.proofs.Keys.{distinct_front}
 use Rattle.ft_model.specs.Growth.{IsPrefix}
 use Rattle.ft_model.specs.Log.{answer_to}
+use Rattle.ft_model.specs.Keys.{AreDistinct}
 use Rattle.ft_model.proofs.Resumed.{restored_keys}
 use Rattle.ft_model.proofs.ToldLast.{last_append, IsSilentTo, TellsOnly, TellsNow, WasTold, silent_append, rst_silent, nothing_said, beginning_tells, place_tells, tells_here, all_tell}
 use Rattle.ft_io.proofs.Choices.{holds_if}
@@ -92,7 +92,7 @@ revive_tells service node packets (Opens n) now sent h t =
 revive_tells service node packets (Ended k) now sent h t =
     (subst (AllByRecursion (TellsNow packets sent)) (sym t.0) (tt, tt), λ other e. nothing_said other sent t.1, inr (Ended k, t.0, refl))
 
-all_unit : (places : List Place) → AllByRecursion (λ place. Unit {0}) places
+pub all_unit : (places : List Place) → AllByRecursion (λ place. Unit {0}) places
 all_unit [] = tt
 all_unit (place ∷ places) = (tt, all_unit places)
 
@@ -137,7 +137,7 @@ told_still packets sent Asking s t = tt
 told_still packets sent (Fetching count fetched) s t = tt
 told_still packets sent (Fenced newer) s t = tt
 
-answers_silent : (key : Key) (o : Option Message) → IsSilentTo key (option_to_list (option_map From_logger o))
+pub answers_silent : (key : Key) (o : Option Message) → IsSilentTo key (option_to_list (option_map From_logger o))
 answers_silent key (Some m) = refl
 answers_silent key None = refl
 
@@ -170,7 +170,7 @@ stage_told packets Asking t = tt
 stage_told packets (Fetching count fetched) t = tt
 stage_told packets (Fenced newer) t = tt
 
-node_told : (packets : List Packet) (node : Option Node) → ((n : Node) → node ≡ Some n → StageTold packets n.stage) → AllAreTold packets node
+pub node_told : (packets : List Packet) (node : Option Node) → ((n : Node) → node ≡ Some n → StageTold packets n.stage) → AllAreTold packets node
 node_told packets (Some n) t = stage_told packets n.stage (t n refl)
 node_told packets None t = tt
 

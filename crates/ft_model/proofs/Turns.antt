@@ -1,5 +1,5 @@
 -- Shapes of turns that the worked runs share: with them each equation of a run computes.
-use Rattle.std.proofs.Common.{◌≡◌, ℕ, Bool, true, false, nat_le, MatchBool, None, List, [], ◌∷◌, ◌++◌, length, refl, sym, ap, ◌∙◌, subst, append-nil, ◌+◌, true≢false, arith}
+use Rattle.std.proofs.Common.{◌≡◌, ℕ, Bool, true, false, nat_le, MatchBool, None, List, [], ◌∷◌, ◌++◌, length, refl, sym, ap, ◌∙◌, subst, append-nil, ◌+◌, true≢false, arith, ◌≤◌, min}
 use Rattle.ft_io.specs.declared.Addr.{Addr}
 use Rattle.seq_arith.specs.Number.{offset_of}
 use Rattle.seq_arith.specs.Arrival.{is_at_right_edge, is_allowed_at_zero}
@@ -12,7 +12,7 @@ use Rattle.ft_model.specs.Taken.{accepts, uses, counts, came, taken_after, early
 use Rattle.ft_model.specs.Answered.{answered_after, reads_answered_after}
 use Rattle.ft_model.specs.Reads.{next_length, may_read, reads_told}
 use Rattle.ft_model.specs.Timer.{must_run, interval_after, rest_after}
-use Rattle.ft_model.specs.Sending.{syn_acked_after, acknowledged_after, edge_after, wl1_after, wl2_after, is_duplicate, is_third_duplicate, congestion_after, sent_at_once, sent_after}
+use Rattle.ft_model.specs.Sending.{syn_acked_after, acknowledged_after, edge_after, wl1_after, wl2_after, is_duplicate, is_third_duplicate, congestion_after, sent_at_once, sent_after, send_edge}
 use Rattle.ft_model.specs.Copy.{copies, own_data, further_data, datas}
 use Rattle.ft_model.specs.ResetAndEnd.{reset_after, end_ticks_after, dones}
 use Rattle.ft_model.specs.PendingAck.{needs_ack, is_ack_pending}
@@ -23,7 +23,7 @@ use Rattle.seq_arith.specs.Message.Body.{HelloMsg, StableMsg, ReadsMsg}
 use Rattle.ft_model.specs.Network.{Packet}
 use Rattle.ft_model.specs.Network.Packet.{To_server, To_client, To_logger, From_logger}
 use Rattle.ft_model.specs.News.{News}
-use Rattle.ft_model.specs.Point.{Point}
+use Rattle.ft_model.specs.Point.{Point, target}
 use Rattle.ft_model.specs.Connection.{ConnectionTurn, ResetTurn, LiveTurn, sent_by}
 use Rattle.ft_model.specs.Node.{Node, Place, Input}
 use Rattle.ft_model.specs.Node.Place.{Lives}
@@ -106,3 +106,8 @@ serves service boot isn input p q sent unfenced none_new none_refused turn =
         },
       );
     }
+
+pub all_is_sent : {State : Type 0} (service : Machine State) (server : Addr) (boot : ℕ) (news : News) (p q : Point) (sent : List Packet) → LiveTurn service server boot news p q sent
+    → min (target service q) (send_edge q) ≤ q.sent
+unfolding sent_after sent_at_once
+all_is_sent service server boot news p q sent t = omega (arith, t.sent_units)

@@ -78,7 +78,7 @@ ours_stale own boot (From_logger message) o = absurd o
 ours_stale own boot _ o = tt
 
 -- no message that names no larger boot fences
-not_newer : (boot : ℕ) (body : Body) → NamesAtMost boot body → newer_than boot body ≡ None
+pub not_newer : (boot : ℕ) (body : Body) → NamesAtMost boot body → newer_than boot body ≡ None
 not_newer boot (StaleMsg newer) n =
     holds_if (λ o. o ≡ None) (nat_lt boot newer) (Some newer) None (λ t. let less : boot < newer = ltb-true _ _ t in absurd (omega (arith, n, less))) (λ t. refl)
 not_newer boot _ n = refl
@@ -166,7 +166,7 @@ unfenced_goes_on service before sent after f u (server_down s e) =
       node = λ x g. none_is_some x g;
     })
 
-start_unfenced : (w : World) → IsStart w → Unfenced w
+pub start_unfenced : (w : World) → IsStart w → Unfenced w
 start_unfenced w s = record { packets = subst (AllByRecursion (StaleWithin w.boot)) (sym s.packets) tt; node = λ x e. none_is_some x (sym s.node ∙ e) }
 
 both_after : {State : Type 0} (service : Machine State) (start : World) (trace : List Moment) → Joint service start trace → IsFenced (world_after start trace) × Unfenced (world_after start trace)

@@ -20,7 +20,7 @@ pub flag_low : (b : Bool) → flag b ≤ 1
 flag_low true = omega arith
 flag_low false = omega arith
 
-bytes_of_lens : (lens : List ℕ) → AreBytes (lens_bytes lens)
+pub bytes_of_lens : (lens : List ℕ) → AreBytes (lens_bytes lens)
 unfolding two
 bytes_of_lens [] = tt
 bytes_of_lens (n ∷ lens) = (omega arith, (omega arith, bytes_of_lens lens))
@@ -30,7 +30,7 @@ unfolding two
 length_of_lens [] = refl
 length_of_lens (n ∷ lens) = let rest = length_of_lens lens in omega (arith, rest)
 
-lengths_low : (lens : List ℕ) → AreLengths lens → list_all (λ len. nat_le len 2048) lens ≡ true
+pub lengths_low : (lens : List ℕ) → AreLengths lens → list_all (λ len. nat_le len 2048) lens ≡ true
 lengths_low [] a = refl
 lengths_low (n ∷ lens) a = and_from (nat_le n 2048) _ (le-leb n 2048 a.0) (lengths_low lens a.1)
 

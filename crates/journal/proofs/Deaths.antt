@@ -17,15 +17,15 @@ front_elim file Held next calls (call ∷ done) left (inl (is, f)) l none broken
 front_elim file Held next calls (call ∷ done) left (inr (is, last)) l none broken more =
     broken (subst (λ k. MayLeave file Held k left) is (subst (λ d. LeftBy (seen_after file call) (MayLeave file Held call) d left) last l))
 
-done_all : {P : Type 0} (file : List ℕ) (Held : List ℕ → Type 0) (done : List DiskCall) (left : List ℕ) → IsFrontOf [] done → LeftBy file Held done left → (Held left → P) → P
+pub done_all : {P : Type 0} (file : List ℕ) (Held : List ℕ → Type 0) (done : List DiskCall) (left : List ℕ) → IsFrontOf [] done → LeftBy file Held done left → (Held left → P) → P
 done_all file Held [] left f l all = all l
 done_all file Held (call ∷ done) left f l all = absurd f
 
-blocks_push : (bodies : List (List ℕ)) (body : List ℕ) → blocks (bodies ++ body ∷ []) ≡ blocks bodies ++ 209 ∷ counted body
+pub blocks_push : (bodies : List (List ℕ)) (body : List ℕ) → blocks (bodies ++ body ∷ []) ≡ blocks bodies ++ 209 ∷ counted body
 blocks_push [] body = ap (λ (l : List ℕ). 209 ∷ l) (append-nil (counted body))
 blocks_push (b ∷ bodies) body = ap (λ (l : List ℕ). 209 ∷ counted b ++ l) (blocks_push bodies body) ∙ sym (append_assoc (209 ∷ counted b) (blocks bodies) (209 ∷ counted body))
 
-front_push : (bodies : List (List ℕ)) (body : List ℕ) → front (bodies ++ body ∷ []) ≡ front bodies ++ 209 ∷ counted body
+pub front_push : (bodies : List (List ℕ)) (body : List ℕ) → front (bodies ++ body ∷ []) ≡ front bodies ++ 209 ∷ counted body
 front_push bodies body = ap (λ (l : List ℕ). magic ++ l) (blocks_push bodies body) ∙ sym (append_assoc magic (blocks bodies) (209 ∷ counted body))
 
 -- the gate is opened
@@ -117,7 +117,7 @@ module _ (file : List ℕ) (Held : List ℕ → Type 0) (bodies : List (List ℕ
   pub mended_rests : IsAtRest (seen_by file (mending gate)) (LeftBy file Held (mending gate)) bodies
   mended_rests = (cut_is, λ c is. is)
 
-left_append : (file : List ℕ) (Held : List ℕ → Type 0) (calls more : List DiskCall) (left : List ℕ) → LeftBy file Held (calls ++ more) left
+pub left_append : (file : List ℕ) (Held : List ℕ → Type 0) (calls more : List DiskCall) (left : List ℕ) → LeftBy file Held (calls ++ more) left
     → LeftBy (seen_by file calls) (LeftBy file Held calls) more left
 left_append file Held [] more left l = l
 left_append file Held (call ∷ calls) more left l = left_append (seen_after file call) (MayLeave file Held call) calls more left l

@@ -16,7 +16,7 @@ use Rattle.disk.specs.declared.calls.DeskCall.{DeskCall}
 use Rattle.disk.specs.declared.calls.DeskCall.TheVariants.{OnLink}
 use Rattle.disk.proofs.Telling.{disk_calls_of_disk}
 use Rattle.journal.specs.Format.{front, HasBlocks, seen_by}
-use Rattle.journal.proofs.Deaths.{before_or_after, mended}
+use Rattle.journal.proofs.Deaths.{before_or_after, mended, left_append}
 use Rattle.kept_log.specs.JournaledLog.{committing, end_after, with_round, HasLog}
 use Rattle.kept_log.specs.Startup.{Finds, IsWhole, cutting}
 use Rattle.node_link.specs.LoggerTurns.{handing, answer_for, answering}
@@ -25,7 +25,7 @@ use Rattle.journal_link.specs.Rounds.{Place, Round, IsRound, received_in, log_be
 use Rattle.journal_laws.specs.Moments.{IsFront, messages_in, handed_in, answers_to, ComesBack, Outlives}
 use Rattle.journal_laws.proofs.Fronts.{Within, within, link_front, one_front, disk_front}
 use Rattle.journal_laws.proofs.OneLog.{finds_one}
-use Rattle.journal_laws.proofs.Resting.{Rests, left_on, committed, has_round, rests_on, opened_rests}
+use Rattle.journal_laws.proofs.Resting.{Rests, committed, has_round, rests_on, opened_rests}
 use Rattle.journal_laws.proofs.Saying.{messages-append, handed-append, disk_calls-append, messages_of_disk, handed_of_disk, disk_calls_of_link, log-append, answers-append, said_by, said_last, said_more, log_said, handed_all}
 
 outlives : (before log : Log) (calls : List DeskCall) (left : List ℕ) (bodies : List (List ℕ)) (end : ℕ) → HasBlocks bodies left → HasLog bodies end log → ComesBack before log calls
@@ -306,7 +306,7 @@ in_rounds file Held start (last ∷ earlier) done left r all f l =
       | inl g ↦ in_rounds file Held start earlier done left r all.1 g l
       | inr some ↦
           let parts : disk_calls done ≡ disk_calls calls ++ disk_calls some.0 = ap disk_calls some.1 ∙ disk_calls-append calls some.0 in
-          let now = left_on file Held (disk_calls calls) (disk_calls some.0) left (subst (λ c. LeftBy file Held c left) parts l) in
+          let now = left_append file Held (disk_calls calls) (disk_calls some.0) left (subst (λ c. LeftBy file Held c left) parts l) in
           behind start.log at.log calls some.0 done left some.1 (rounds_tell start earlier)
           (in_round (seen_by file (disk_calls calls)) (LeftBy file Held (disk_calls calls)) at last left (rests_on file Held start earlier all.1 r) all.0 some.0 some.2 now)
     ]
@@ -336,7 +336,7 @@ pub after_opening : (file : List ℕ) (bodies : List (List ℕ)) (opening : List
 after_opening file bodies opening start local rounds done left finds has all f l =
     let parts : disk_calls (on_disk opening ++ done) ≡ opening ++ disk_calls done = disk_calls-append (on_disk opening) done ∙ ap (λ x. x ++ disk_calls done) (disk_calls_of_disk opening) in
     in_life (seen_by file opening) (LeftBy file (λ c. c ≡ file) opening) start local rounds done left (opened_rests file bodies opening start finds has) all f
-    (left_on file (λ c. c ≡ file) opening (disk_calls done) left (subst (λ c. LeftBy file (λ c. c ≡ file) c left) parts l))
+    (left_append file (λ c. c ≡ file) opening (disk_calls done) left (subst (λ c. LeftBy file (λ c. c ≡ file) c left) parts l))
 
 -- in the course of an opening
 in_cutting : (file tail : List ℕ) (bodies : List (List ℕ)) (done : List DiskCall) (left : List ℕ) → file ≡ front bodies ++ 46 ∷ tail → IsFrontOf (cutting (length (front bodies)) tail) done

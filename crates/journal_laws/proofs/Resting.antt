@@ -1,35 +1,30 @@
 -- After each round the file is at rest, and has the log.
-use Rattle.std.proofs.Common.{◌≡◌, ◌∙◌, inl, inr, ℕ, ◌*◌, ◌≤◌, Bool, true, false, refl, sym, ap, ap₂, subst, List, [], ◌∷◌, ◌++◌, length, drop, Result, Ok, Err, append_assoc, append-nil, length-append, arith, if◌then◌else◌}
-use Rattle.std.proofs.lemmas.List.{drop_at}
+use Rattle.std.proofs.Common.{◌≡◌, ◌∙◌, inl, inr, ℕ, ◌*◌, ◌≤◌, refl, sym, ap, ap₂, subst, List, [], ◌∷◌, ◌++◌, length, Result, Ok, Err, append-nil, length-append, arith}
 use Rattle.std.specs.List.{AllByRecursion}
-use Rattle.ft_io.proofs.Choices.{by_cases, if_false}
+use Rattle.ft_io.proofs.Choices.{by_cases, if_false, if_true}
 use Rattle.seq_arith.specs.Message.{Message}
 use Rattle.seq_arith.specs.MessageGrammar.{reading}
 use Rattle.seq_arith.specs.declared.kinds.BadMsg.{BadMsg}
 use Rattle.ft_model.specs.Log.{Log, empty_log, log_after}
+use Rattle.ft_model.specs.Keys.{AreDistinct}
 use Rattle.ft_model.proofs.Asked.{entry_keys}
-use Rattle.ft_model.proofs.Keys.{AreDistinct}
 use Rattle.logger_store.specs.Changes.{changes}
-use Rattle.disk.specs.Remains.{LeftBy, MayLeave, seen_after}
+use Rattle.disk.specs.Remains.{LeftBy, seen_after}
 use Rattle.disk.specs.CallRecord.{on_link, on_disk, disk_calls}
 use Rattle.disk.specs.declared.calls.DiskCall.{DiskCall}
 use Rattle.disk.proofs.Telling.{disk_calls_of_disk}
-use Rattle.journal.specs.Format.{magic, front, at_rest, IsAtRest, keeping, seen_by}
-use Rattle.journal.proofs.Deaths.{stays, mended_rests}
+use Rattle.journal.specs.Format.{front, at_rest, IsAtRest, keeping, seen_by}
+use Rattle.journal.proofs.Deaths.{stays, left_append}
 use Rattle.kept_log.specs.JournaledLog.{kept_of, committing, end_after, with_round, HasLog, Waits}
-use Rattle.kept_log.specs.Startup.{Finds, cutting}
+use Rattle.kept_log.specs.Startup.{Finds}
 use Rattle.kept_log.proofs.Logs.{waits_more, kept_none, kept_round}
 use Rattle.kept_log.proofs.Messages.{whole}
+use Rattle.kept_log.proofs.Lives.{cut_rests, made}
 use Rattle.node_link.specs.LoggerTurns.{log_with, log_then}
 use Rattle.node_link.specs.Receipt.{Received, datagram, silence, failure}
 use Rattle.journal_link.specs.Rounds.{Place, Round, IsRound, received_in, log_behind, receives, change_in, change_by, changes_in, answers_in, round_calls, place_after, calls_of}
 use Rattle.journal_laws.proofs.Saying.{disk_calls-append, disk_calls_of_link, log_said, said_by}
 use Rattle.journal_laws.proofs.Staying as change
-
-pub left_on : (file : List ℕ) (Held : List ℕ → Type 0) (calls more : List DiskCall) (left : List ℕ) → LeftBy file Held (calls ++ more) left
-    → LeftBy (seen_by file calls) (LeftBy file Held calls) more left
-left_on file Held [] more left l = l
-left_on file Held (call ∷ calls) more left l = left_on (seen_after file call) (MayLeave file Held call) calls more left l
 
 seen_on : (file : List ℕ) (calls more : List DiskCall) → seen_by file (calls ++ more) ≡ seen_by (seen_by file calls) more
 seen_on file [] more = refl
@@ -48,11 +43,6 @@ committed file Held bodies end [] is rest = rest
 committed file Held bodies end (byte ∷ body) is rest =
     subst (λ n. IsAtRest (seen_by file (keeping n (byte ∷ body))) (LeftBy file Held (keeping n (byte ∷ body))) (bodies ++ (byte ∷ body) ∷ [])) (sym is)
     (stays file Held bodies (byte ∷ body) rest)
-
--- what waits after a round's receives
-if_true : {X : Type 0} (b : Bool) (x y : X) → b ≡ true → (if b then x else y) ≡ x
-if_true true x y h = refl
-if_true false x y h = cc
 
 none_more : (before log after : Log) (round more : List ℕ) → after ≡ log → more ≡ [] → Waits before round log → Waits before (round ++ more) after
 none_more before log after round more same none w =
@@ -128,7 +118,7 @@ disk_calls_of_round at round =
 rests_more : (file : List ℕ) (Held : List ℕ → Type 0) (calls more : List DiskCall) (bodies : List (List ℕ)) → IsAtRest (seen_by (seen_by file calls) more) (LeftBy (seen_by file calls) (LeftBy file Held calls) more) bodies
     → IsAtRest (seen_by file (calls ++ more)) (LeftBy file Held (calls ++ more)) bodies
 rests_more file Held calls more bodies rest =
-    (seen_on file calls more ∙ rest.0, λ c l. rest.1 c (left_on file Held calls more c l) ∙ sym (seen_on file calls more))
+    (seen_on file calls more ∙ rest.0, λ c l. rest.1 c (left_append file Held calls more c l) ∙ sym (seen_on file calls more))
 
 pub rests_on : (file : List ℕ) (Held : List ℕ → Type 0) (start : Place) (rounds : List Round) → AllByRecursion (λ round. IsRound (received_in round)) rounds → Rests file Held start
     → Rests (seen_by file (disk_calls (calls_of start rounds))) (LeftBy file Held (disk_calls (calls_of start rounds))) (place_after start rounds)
@@ -147,23 +137,12 @@ rests_on file Held start (last ∷ earlier) all r =
       has_log = has_round before.bodies at.end at.log (received_in last) all.0 before.has_log;
     }
 
--- a file that was opened
-made : (file rest : List ℕ) → file ++ rest ≡ magic → file ++ drop (length file) (at_rest []) ≡ at_rest []
-made file rest is =
-    let all : at_rest [] ≡ file ++ (rest ++ 46 ∷ []) = ap (λ (m : List ℕ). m ++ 46 ∷ []) (sym is) ∙ append_assoc file rest (46 ∷ []) in
-    ap (λ l. file ++ l) (ap (drop (length file)) all ∙ drop_at file (rest ++ 46 ∷ []) (length file) refl) ∙ sym all
-
-opened_whole : (file tail : List ℕ) (bodies : List (List ℕ)) → file ≡ front bodies ++ 46 ∷ tail
-    → IsAtRest (seen_by file (cutting (length (front bodies)) tail)) (LeftBy file (λ c. c ≡ file) (cutting (length (front bodies)) tail)) bodies
-opened_whole file [] bodies is = (is, λ c same. same)
-opened_whole file (byte ∷ tail) bodies is = mended_rests file (λ c. c ≡ file) bodies (byte ∷ tail, is) (λ c same. same)
-
 opened : (file : List ℕ) (bodies : List (List ℕ)) (opening : List DiskCall) → Finds file bodies opening → IsAtRest (seen_by file opening) (LeftBy file (λ c. c ≡ file) opening) bodies
 opened file bodies opening (inl begun) =
     subst (λ l. IsAtRest (seen_by file l) (LeftBy file (λ c. c ≡ file) l) bodies) (sym begun.calls_are)
     (made file begun.rest begun.is ∙ ap at_rest (sym begun.none), λ c same. same)
 opened file bodies opening (inr found) =
-    subst (λ l. IsAtRest (seen_by file l) (LeftBy file (λ c. c ≡ file) l) bodies) (sym found.calls_are) (opened_whole file found.tail bodies found.is)
+    subst (λ l. IsAtRest (seen_by file l) (LeftBy file (λ c. c ≡ file) l) bodies) (sym found.calls_are) (cut_rests file found.tail bodies found.is)
 
 pub opened_rests : (file : List ℕ) (bodies : List (List ℕ)) (opening : List DiskCall) (start : Place) → Finds file bodies opening → HasLog bodies start.end start.log
     → Rests (seen_by file opening) (LeftBy file (λ c. c ≡ file) opening) start

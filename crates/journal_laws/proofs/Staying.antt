@@ -5,25 +5,17 @@ use Rattle.std.specs.Option.{option_map_or}
 use Rattle.std.proofs.lemmas.Bool.{ltb-false, or_parts, not-false}
 use Rattle.ft_io.specs.declared.Key.{Key}
 use Rattle.ft_io.specs.Key.{key_eq}
-use Rattle.ft_io.proofs.Choices.{by_cases, if_false}
+use Rattle.ft_io.proofs.Choices.{by_cases, if_false, if_true}
 use Rattle.seq_arith.specs.Message.{Message, Body, is_answer}
 use Rattle.seq_arith.specs.Message.Body.{OpenMsg, DataMsg, ReadMsg, DoneMsg}
 use Rattle.ft_model.specs.Log.{Log, Entry, log_after, with_message, with_body, with_entry, entry_of, with_part, with_read, is_next_read, is_hello}
+use Rattle.ft_model.specs.Keys.{AreDistinct, has_key}
 use Rattle.ft_model.proofs.Asked.{entry_keys, distinct_after}
-use Rattle.ft_model.proofs.Keys.{AreDistinct, has_key}
 use Rattle.ft_model.proofs.Lists.{same_key}
 use Rattle.ft_model.proofs.LogAnswers.{log_went}
 use Rattle.logger_deaths.specs.NeededMessages.{log_after_all}
 use Rattle.logger_store.specs.Changes.{part_changes, body_changes, changes}
-use Rattle.logger_store.proofs.Changed.{part_stays, read_stays, end_stays, open_stays}
-
-if_true : {X : Type 0} (b : Bool) (x y : X) → b ≡ true → (if b then x else y) ≡ x
-if_true true x y h = refl
-if_true false x y h = cc
-
-and_false : (a b : Bool) → a ≡ true → (a && b) ≡ false → b ≡ false
-and_false true b t none = none
-and_false false b t none = cc
+use Rattle.logger_store.proofs.Changed.{part_stays, read_stays, end_stays, open_stays, and_rest}
 
 abbrev each : Key → (Entry → Entry) → List Entry → List Entry
 each key change es = map (λ e. if key_eq e.key key then change e else e) es
@@ -63,7 +55,7 @@ stays log message d none =
     by_cases (is_answer message.body || nat_lt message.boot log.boot)
     (λ t. if_true (is_answer message.body || nat_lt message.boot log.boot) log (with_message message log) t)
     (λ t. let parts = or_parts (is_answer message.body) (nat_lt message.boot log.boot) t in
-    let rest = and_false (not (is_answer message.body)) _ (ap not parts.0) none in
+    let rest = and_rest (not (is_answer message.body)) _ (ap not parts.0) none in
     let above : log.boot ≤ message.boot = ltb-false message.boot log.boot parts.1 in
     if_false (is_answer message.body || nat_lt message.boot log.boot) log (with_message message log) t ∙
     by_cases (is_hello message.body)
@@ -74,7 +66,7 @@ stays log message d none =
     (λ h. let no : (message.boot == log.boot && body_changes message.body log) ≡ false = sym (if_false (is_hello message.body) _ _ h) ∙ rest in
     if_false (is_hello message.body) (record log { boot = message.boot }) _ h ∙
     by_cases (message.boot == log.boot)
-    (λ b. if_true (message.boot == log.boot) (with_body message.body log) log b ∙ body_stays message.body log d (and_false (message.boot == log.boot) _ b no))
+    (λ b. if_true (message.boot == log.boot) (with_body message.body log) log b ∙ body_stays message.body log d (and_rest (message.boot == log.boot) _ b no))
     (λ b. if_false (message.boot == log.boot) (with_body message.body log) log b)))
 
 -- the keys of a log differ that messages made

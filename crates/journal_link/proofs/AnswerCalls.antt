@@ -4,13 +4,14 @@ use Rattle.std.proofs.lemmas.List.{length-take, map-append}
 use Rattle.ft_io.specs.declared.Addr.{Addr}
 use Rattle.ft_io.specs.declared.link_call.LinkCall.{LinkCall}
 use Rattle.ft_io.specs.Told.{Tells}
+use Rattle.ft_io.proofs.Tellings.{tells_on, none_told}
 use Rattle.disk.specs.CallRecord.{on_link}
 use Rattle.disk.specs.declared.calls.DeskCall.{DeskCall}
 use Rattle.disk.specs.declared.calls.DeskCall.TheVariants.{OnLink}
 use Rattle.node_link.specs.declared.counts.Counts.{Counts}
 use Rattle.node_link.specs.Counts.{with_calls, HasRoom}
 use Rattle.node_link.specs.LoggerParts.{handing_bytes}
-use Rattle.node_link.proofs.Calls.{tells_on, tells_none, with_both, with_none, few_calls}
+use Rattle.node_link.proofs.Calls.{with_both, with_none, few_calls}
 use Rattle.journal_link.specs.declared.answers.Answer.{Answer}
 use Rattle.journal_link.specs.RoundParts.{AreHanded, HandsOver, HasAnswered}
 
@@ -42,7 +43,7 @@ few_handed (a ∷ answers) calls (lost, rest, is, h) =
     omega (arith, one, few, sum, all)
 
 pub answered_none : (told : Option (List DeskCall)) (counts : Counts) → HasAnswered [] told told counts counts
-answered_none told counts = record { calls = []; handed = refl; tells = tells_none told; counts_are = sym (with_none counts) }
+answered_none told counts = record { calls = []; handed = refl; tells = none_told told; counts_are = sym (with_none counts) }
 
 pub room_for_one : (answers : List Answer) (i : ℕ) (old new : Option (List DeskCall)) (counted counts : Counts) → i < length answers → HasRoom (length answers) counted
     → HasAnswered (take i answers) old new counted counts → HasRoom 1 counts

@@ -1,17 +1,11 @@
 -- How an end is told.
-use Rattle.std.proofs.Common.{◌≡◌, inl, inr, ℕ, ◌+◌, sym, subst, Option, List, ◌++◌, length, take, Result, Ok, Err, OnOk, OnErr}
-use Rattle.std.proofs.Math.Seq.{take-append-add}
+use Rattle.std.proofs.Common.{◌≡◌, inl, inr, ℕ, Option, List, Result, Ok, Err, OnOk, OnErr}
 use Rattle.std.specs.Io.KnownBytes.{Appends}
-use Rattle.std.proofs.KnownBytes.{Appends-trans}
 use Rattle.ft_io.specs.Faults.{Rose}
 use Rattle.ft_io.specs.Sink.{AppendsFront}
 use Rattle.ft_io.specs.declared.Failed.{Failed}
 use Rattle.journal_link.specs.declared.status.JournalEnd.{JournalEnd}
 use Rattle.journal_link.specs.Ends.{code_of, text_of, TellsEnd}
-
--- a text, and a front of the next
-pub front_more : (a b c : Option (List ℕ)) (xs ys : List ℕ) → Appends a b xs → AppendsFront b c ys → AppendsFront a c (xs ++ ys)
-front_more a b c xs ys h (n, k) = (length xs + n, subst (Appends a c) (sym (take-append-add xs ys n)) (Appends-trans a b c xs (take n ys) h k))
 
 -- the line was written, or failed to be
 pub told_end : (end : JournalEnd) (written : Result (Unit {0}) Failed) (err_old err_new : Option (List ℕ)) (faults_old faults_new code : ℕ)

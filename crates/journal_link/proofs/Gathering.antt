@@ -2,13 +2,14 @@
 use Rattle.std.proofs.Common.{◌≡◌, ◌∙◌, ℕ, Bool, true, false, suc, ◌+◌, ◌<◌, ◌≤◌, add-one, refl, sym, ap, ap₂, subst, Option, List, [], ◌∷◌, ◌++◌, length, append_assoc, append-nil, length-append, nat_lt, arith}
 use Rattle.std.specs.List.{AllByRecursion}
 use Rattle.ft_io.specs.Told.{Tells}
+use Rattle.ft_io.proofs.Tellings.{none_told}
 use Rattle.disk.specs.CallRecord.{on_link}
 use Rattle.disk.specs.declared.calls.DeskCall.{DeskCall}
 use Rattle.kept_log.specs.JournaledLog.{KeptState, is_full}
 use Rattle.node_link.specs.declared.counts.Counts.{Counts}
 use Rattle.node_link.specs.Counts.{with_calls, HasRoom}
 use Rattle.node_link.specs.Receipt.{Received, received_as}
-use Rattle.node_link.proofs.Calls.{tells_none, with_both, with_none, few_calls}
+use Rattle.node_link.proofs.Calls.{with_both, with_none, few_calls}
 use Rattle.journal_link.specs.declared.answers.Answer.{Answer}
 use Rattle.journal_link.specs.Rounds.{IsDatagram, IsRound, receives, changes_in, change_by, log_behind}
 use Rattle.journal_link.specs.RoundParts.{with_received, with_all_received, reply_to, replies_to, HasTaken, IsGathering, HasGathered, IsCutGathering}
@@ -32,7 +33,7 @@ gathering_none kept told counts answers none = record {
   received = [];
   count_is = refl;
   are_datagrams = tt;
-  tells = tells_none told;
+  tells = none_told told;
   counts_are = sym (with_none counts);
   after_is = sym (with_none_received kept);
   answers_are = none;

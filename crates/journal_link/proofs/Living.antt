@@ -4,6 +4,7 @@ use Rattle.std.specs.Result.{IsErrAnd}
 use Rattle.ft_io.specs.Sink.{AppendsFront}
 use Rattle.ft_io.specs.Told.{Tells}
 use Rattle.ft_io.specs.declared.link_call.LinkCall.TheVariants.{Bound}
+use Rattle.ft_io.proofs.Tellings.{tells_on}
 use Rattle.ft_model.specs.Log.{empty_log}
 use Rattle.logger_deaths.specs.NeededMessages.{log_after_all}
 use Rattle.disk.specs.CallRecord.{on_disk}
@@ -19,7 +20,6 @@ use Rattle.node_link.specs.declared.counts.Counts.{Counts}
 use Rattle.node_link.specs.LineOutput.{TellStops}
 use Rattle.node_link.specs.declared.status.NodeEnd.{NodeEnd}
 use Rattle.node_link.specs.declared.status.NodeEnd.TheVariants as ends
-use Rattle.node_link.proofs.Calls.{tells_on}
 use Rattle.journal_link.specs.Ends.{from_open}
 use Rattle.journal_link.specs.LoggerLife.{IsKeeper, IsCutKeeper, KeeperStops, IsOpen, OpeningStops}
 use Rattle.journal_link.specs.Rounds.{Place, calls_of}

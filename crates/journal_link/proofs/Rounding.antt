@@ -3,15 +3,15 @@ use Rattle.std.proofs.Common.{◌≡◌, ◌∙◌, inr, ℕ, Bool, false, ◌+�
 use Rattle.std.proofs.lemmas.List.{length-map}
 use Rattle.ft_io.specs.declared.Addr.{Addr}
 use Rattle.ft_io.specs.declared.link_call.LinkCall.{LinkCall}
-use Rattle.ft_io.specs.Faults.{Rose}
 use Rattle.ft_io.specs.Told.{Tells}
+use Rattle.ft_io.proofs.Tellings.{tells_on, none_told}
 use Rattle.disk.specs.CallRecord.{on_link, on_disk, link_calls}
 use Rattle.disk.specs.Remains.{IsFrontOf}
 use Rattle.disk.specs.declared.calls.DiskCall.{DiskCall}
 use Rattle.disk.specs.declared.calls.DeskCall.{DeskCall}
 use Rattle.disk.specs.declared.calls.DeskCall.TheVariants.{OnLink, OnDisk}
 use Rattle.seq_arith.specs.Message.{Message}
-use Rattle.seq_arith.specs.MessageGrammar.{reading, spelling, spelled, header}
+use Rattle.seq_arith.specs.MessageGrammar.{reading}
 use Rattle.ft_model.specs.Log.{Log}
 use Rattle.logger_store.specs.StoreState.{answer_bytes}
 use Rattle.kept_log.specs.JournaledLog.{KeptState, committing, end_after}
@@ -20,7 +20,8 @@ use Rattle.node_link.specs.Counts.{counts_of, with_calls, no_calls, HasRoom}
 use Rattle.node_link.specs.LoggerParts.{handing_bytes}
 use Rattle.node_link.specs.LoggerTurns.{LoggerTurn, answer_for, answering, handing}
 use Rattle.node_link.specs.Receipt.{Received, datagram, silence, failure}
-use Rattle.node_link.proofs.Calls.{tells_on, tells_none, counts_on, with_both, few_calls}
+use Rattle.node_link.proofs.Calls.{counts_on, with_both, few_calls}
+use Rattle.node_link.proofs.LoggerRun.{handing_is}
 use Rattle.journal_link.specs.declared.answers.Answer.{Answer}
 use Rattle.journal_link.specs.LoggerLife.{IsUnanswered}
 use Rattle.journal_link.specs.Rounds.{Place, Round, IsRound, received_in, receives, changes_in, log_behind, answers_in, after_receives, round_calls, place_after, calls_of, turns_in}
@@ -45,12 +46,6 @@ round_links : (xs zs : List LinkCall) (ys : List DiskCall) → link_calls (on_li
 round_links xs zs ys =
     link_calls-append (on_link xs) (on_disk ys ++ on_link zs)
     ∙ ap₂ (λ a b. a ++ b) (link_calls_of_link xs) (link_calls-append (on_disk ys) (on_link zs) ∙ ap₂ (λ a b. a ++ b) (link_calls_of_disk ys) (link_calls_of_link zs))
-
--- an answer has bytes
-handing_is : (to : Addr) (is_lost : Bool) (answer : Option Message) → handing_bytes to is_lost (answer_bytes answer) ≡ handing to is_lost answer
-unfolding spelling spelled header
-handing_is to is_lost None = refl
-handing_is to is_lost (Some m) = refl
 
 -- calls by which answers are handed to send are those of the first ones, and then those of the others
 record Splits (xs ys : List Answer) (calls : List LinkCall) : Type 0 where
@@ -199,7 +194,7 @@ room_to_answer count before mid old t1 c k replies room g few =
 
 -- rounds so far
 pub served_none : (at : Place) (told : Option (List DeskCall)) (counts : Counts) → counts ≡ no_calls → HasServed 0 at at told told counts
-served_none at told counts none = record { rounds = []; are_rounds = tt; count_is = refl; tells = tells_none told; counts_are = none; at_is = refl }
+served_none at told counts none = record { rounds = []; are_rounds = tt; count_is = refl; tells = none_told told; counts_are = none; at_is = refl }
 
 pub served_on : (i count : ℕ) (start : Place) (before after : KeptState) (old mid new : Option (List DeskCall)) (c counts : Counts)
     → HasServed i start (place_of before) old mid c → HasTurned count before after mid new c counts → HasServed (i + count) start (place_of after) old new counts
@@ -272,7 +267,3 @@ room_for_round i start at old new c le s =
       lost = omega (arith, calls.lost, most);
       failed = omega (arith, calls.failed, most);
     })
-
--- a count that rose from a later moment rose from an earlier one
-pub rose_from : (a b c : ℕ) → a ≤ b → Rose b c → Rose a c
-rose_from a b c le (up, more) = (omega (arith, up), omega (arith, more, up))

@@ -1,12 +1,12 @@
 -- Memory ran out while the words were read: nothing was done, whatever they ask for.
 use Rattle.std.proofs.Common.{inl, inr, ℕ, refl, Option, None, Some, List, Err}
+use Rattle.ft_io.proofs.Tellings.{none_told}
 use Rattle.server_trait.specs.Service.{Machine}
 use Rattle.disk.specs.declared.calls.DeskCall.{DeskCall}
 use Rattle.node_link.specs.declared.role.Role.{Role}
 use Rattle.node_link.specs.declared.status.NodeEnd.TheVariants as ends
 use Rattle.node_link.specs.Outcome.{Given, Lives, HasEndedWith}
 use Rattle.node_link.specs.Outcome as node
-use Rattle.node_link.proofs.Calls.{tells_none}
 use Rattle.journal_link.specs.Ends.{TellsEnd}
 use Rattle.journal_link.specs.Outcome.{IsTold, HasKept}
 use Rattle.journal_link.specs.declared.role.JournalRole.{JournalRole}
@@ -31,4 +31,4 @@ module _ (err_old err_new : Option (List ℕ)) (faults_old faults_new code : ℕ
 
   pub unread_kept : (role : JournalRole) (file : Option (List ℕ)) (calls : Option (List DeskCall)) (out : Option (List ℕ)) → TellsEnd (Node ends.NoMemory) err_old err_new faults_old faults_new code
       → HasKept role file calls calls out out err_old err_new code
-  unread_kept role file calls out t = record { end = Err (Node ends.NoMemory); keeps = (inl (tells_none calls), refl); told = told t }
+  unread_kept role file calls out t = record { end = Err (Node ends.NoMemory); keeps = (inl (none_told calls), refl); told = told t }

@@ -4,13 +4,8 @@ use Rattle.std.specs.Io.KnownBytes.{IsAtEnd}
 use Rattle.ft_io.proofs.Choices.{same_some}
 use Rattle.ft_io.specs.Faults.{Rose}
 use Rattle.ft_io.specs.Told.{Tells}
-use Rattle.disk.proofs.Telling.{tells_on}
+use Rattle.ft_io.proofs.Tellings.{tells_on}
 use Rattle.kept_log.specs.Startup.{HasNoBlock}
-
--- nothing was called
-pub none_told : {A : Type 0} (told : Option (List A)) → Tells told told []
-none_told None = tt
-none_told (Some calls) = sym (append-nil calls)
 
 -- at a file's end nothing more follows
 pub at_end : (bytes left : List ℕ) (known : Option (List ℕ)) → HasNoBlock bytes → IsAtEnd known → known ≡ Some left → HasNoBlock (bytes ++ left)

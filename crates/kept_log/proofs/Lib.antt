@@ -1,10 +1,10 @@
 mod Blocks
 mod Files
-mod Lives
+pub mod Lives
 pub mod Logs
 mod Magics
 pub mod Messages
-mod Once
+pub mod Once
 mod Onward
 mod Settled
 mod Whole

@@ -2,20 +2,15 @@
 use Rattle.std.proofs.Common.{◌≡◌, ◌∙◌, ◌⊎◌, inl, inr, ℕ, ◌+◌, List, [], ◌∷◌, ◌++◌, length, drop, refl, sym, ap, subst, append_assoc, length-append, arith, ◌≤◌}
 use Rattle.std.proofs.lemmas.List.{drop_at}
 use Rattle.disk.specs.declared.calls.DiskCall.{DiskCall}
-use Rattle.disk.specs.Remains.{seen_after, MayLeave, LeftBy, IsFrontOf}
+use Rattle.disk.specs.Remains.{LeftBy, IsFrontOf}
 use Rattle.journal.specs.Format.{magic, front, HasBlocks, at_rest, IsAtRest, keeping, seen_by}
-use Rattle.journal.proofs.Deaths.{before_or_after, stays, mended, mended_rests}
+use Rattle.journal.proofs.Deaths.{before_or_after, stays, mended, mended_rests, done_all, left_append}
 use Rattle.kept_log.specs.JournaledLog.{committing, with_round}
 use Rattle.kept_log.specs.Startup.{making, cutting, IsBegun, IsWhole, Finds}
 use Rattle.kept_log.specs.Life.{with_rounds, committed}
 
-left_append : (file : List ℕ) (Held : List ℕ → Type 0) (calls more : List DiskCall) (left : List ℕ) → LeftBy file Held (calls ++ more) left
-    → LeftBy (seen_by file calls) (LeftBy file Held calls) more left
-left_append file Held [] more left l = l
-left_append file Held (call ∷ calls) more left l = left_append (seen_after file call) (MayLeave file Held call) calls more left l
-
 -- a file that was being made is made
-made : (file rest : List ℕ) → file ++ rest ≡ magic → file ++ drop (length file) (at_rest []) ≡ at_rest []
+pub made : (file rest : List ℕ) → file ++ rest ≡ magic → file ++ drop (length file) (at_rest []) ≡ at_rest []
 made file rest is =
     let whole : file ++ (rest ++ 46 ∷ []) ≡ at_rest [] = sym (append_assoc file rest (46 ∷ [])) ∙ ap (λ (l : List ℕ). l ++ 46 ∷ []) is in
     ap (λ (l : List ℕ). file ++ l) (ap (drop (length file)) (sym whole) ∙ drop_at file (rest ++ 46 ∷ []) (length file) refl) ∙ whole
@@ -26,7 +21,7 @@ begun_rests file bodies calls begun =
     (subst (λ bs. IsAtRest (seen_by file (making (length file))) (LeftBy file (λ c. c ≡ file) (making (length file))) bs) (sym begun.none)
     (made file begun.rest begun.is, λ c is. is))
 
-cut_rests : (file tail : List ℕ) (bodies : List (List ℕ)) → file ≡ front bodies ++ 46 ∷ tail
+pub cut_rests : (file tail : List ℕ) (bodies : List (List ℕ)) → file ≡ front bodies ++ 46 ∷ tail
     → IsAtRest (seen_by file (cutting (length (front bodies)) tail)) (LeftBy file (λ c. c ≡ file) (cutting (length (front bodies)) tail)) bodies
 cut_rests file [] bodies is = (is, λ c held. held)
 cut_rests file (byte ∷ tail) bodies is = mended_rests file (λ c. c ≡ file) bodies (byte ∷ tail, is) (λ c held. held)
@@ -36,13 +31,9 @@ opened_rests file bodies calls (inl begun) = begun_rests file bodies calls begun
 opened_rests file bodies calls (inr whole) =
     subst (λ cs. IsAtRest (seen_by file cs) (LeftBy file (λ c. c ≡ file) cs) bodies) (sym whole.calls_are) (cut_rests file whole.tail bodies whole.is)
 
-none_done : {P : Type 0} (file : List ℕ) (Held : List ℕ → Type 0) (done : List DiskCall) (left : List ℕ) → IsFrontOf [] done → LeftBy file Held done left → (Held left → P) → P
-none_done file Held [] left f l all = all l
-none_done file Held (call ∷ done) left f l all = absurd f
-
 cut_keeps : (file tail left : List ℕ) (bodies : List (List ℕ)) (done : List DiskCall) → file ≡ front bodies ++ 46 ∷ tail → IsFrontOf (cutting (length (front bodies)) tail) done
     → LeftBy file (λ c. c ≡ file) done left → HasBlocks bodies left
-cut_keeps file [] left bodies done is f l = none_done file (λ c. c ≡ file) done left f l (λ same. ([], same ∙ is))
+cut_keeps file [] left bodies done is f l = done_all file (λ c. c ≡ file) done left f l (λ same. ([], same ∙ is))
 cut_keeps file (byte ∷ tail) left bodies done is f l = mended file (λ c. c ≡ file) bodies (byte ∷ tail, is) (λ c held. held) done left f l
 
 pub opening_keeps : (file left : List ℕ) (bodies : List (List ℕ)) (calls done : List DiskCall) → IsWhole file bodies calls → IsFrontOf calls done → LeftBy file (λ c. c ≡ file) done left
@@ -52,7 +43,7 @@ opening_keeps file left bodies calls done whole f l = cut_keeps file whole.tail 
 -- one commit, and those before it
 last_keeps : (file : List ℕ) (Held : List ℕ → Type 0) (bodies : List (List ℕ)) (last : List ℕ) (done : List DiskCall) (left : List ℕ) → IsAtRest file Held bodies
     → IsFrontOf (committing (length (front bodies)) last) done → LeftBy file Held done left → HasBlocks bodies left ⊎ HasBlocks (with_round bodies last) left
-last_keeps file Held bodies [] done left rest f l = none_done file Held done left f l (λ held. inl ([], rest.1 left held ∙ rest.0))
+last_keeps file Held bodies [] done left rest f l = done_all file Held done left f l (λ held. inl ([], rest.1 left held ∙ rest.0))
 last_keeps file Held bodies (byte ∷ last) done left rest f l = before_or_after file Held bodies (byte ∷ last) rest done left f l
 
 rounds_keep : (file : List ℕ) (Held : List ℕ → Type 0) (bodies rounds : List (List ℕ)) (last : List ℕ) (done : List DiskCall) (left : List ℕ) → IsAtRest file Held bodies

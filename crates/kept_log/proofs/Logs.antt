@@ -6,17 +6,11 @@ use Rattle.seq_arith.specs.Message.{Message}
 use Rattle.seq_arith.specs.MessageGrammar.{reading}
 use Rattle.ft_model.specs.Log.{Log, log_after, empty_log}
 use Rattle.logger_deaths.specs.NeededMessages.{log_after_all}
-use Rattle.journal.specs.Format.{magic, counted, blocks, front}
+use Rattle.journal.specs.Format.{counted, front}
+use Rattle.journal.proofs.Deaths.{front_push}
 use Rattle.kept_log.specs.MessageList.{Says, AllSay, IsRound}
 use Rattle.kept_log.specs.JournaledLog.{HasLog, Waits, with_round}
 use Rattle.kept_log.proofs.Messages.{whole}
-
-pub blocks_push : (bodies : List (List ℕ)) (body : List ℕ) → blocks (bodies ++ body ∷ []) ≡ blocks bodies ++ 209 ∷ counted body
-blocks_push [] body = ap (λ (l : List ℕ). 209 ∷ l) (append-nil (counted body))
-blocks_push (b ∷ bodies) body = ap (λ (l : List ℕ). 209 ∷ counted b ++ l) (blocks_push bodies body) ∙ sym (append_assoc (209 ∷ counted b) (blocks bodies) (209 ∷ counted body))
-
-pub front_push : (bodies : List (List ℕ)) (body : List ℕ) → front (bodies ++ body ∷ []) ≡ front bodies ++ 209 ∷ counted body
-front_push bodies body = ap (λ (l : List ℕ). magic ++ l) (blocks_push bodies body) ∙ sym (append_assoc magic (blocks bodies) (209 ∷ counted body))
 
 end_push : (bodies : List (List ℕ)) (body : List ℕ) → length (front (bodies ++ body ∷ [])) ≡ length (front bodies) + 5 + length body
 end_push bodies body =

@@ -3,11 +3,12 @@ use Rattle.std.proofs.Common.{◌≡◌, ◌∙◌, ℕ, ◌+◌, ◌≤◌, Opt
 use Rattle.std.specs.Io.KnownBytes.{Consumes}
 use Rattle.ft_model.specs.Log.{Log, empty_log}
 use Rattle.journal.specs.Format.{counted, blocks}
+use Rattle.journal.proofs.Deaths.{blocks_push}
 use Rattle.kept_log.specs.JournaledLog.{Waits}
 use Rattle.kept_log.specs.Startup.{HasNoBlock}
 use Rattle.kept_log.specs.ReadSteps.{IsAt, IsBrokenAt, Steps}
 use Rattle.kept_log.specs.declared.reading.Taken.TheVariants.{Block, Short}
-use Rattle.kept_log.proofs.Logs.{no_blocks, block_more, blocks_push}
+use Rattle.kept_log.proofs.Logs.{no_blocks, block_more}
 
 pub at_start : (first : List ℕ) (known : Option (List ℕ)) → IsAt first known known first 8 empty_log
 at_start first known = record { bodies = []; has_log = no_blocks; goes_on = λ left is. (left, is, refl) }

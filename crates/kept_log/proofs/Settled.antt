@@ -3,6 +3,7 @@ use Rattle.std.proofs.Common.{◌≡◌, ◌∙◌, inl, inr, ℕ, ◌+◌, true
 use Rattle.std.specs.Result.{is_err}
 use Rattle.std.proofs.lemmas.List.{length-replicate}
 use Rattle.ft_io.specs.Told.{Tells}
+use Rattle.ft_io.proofs.Tellings.{tells_on}
 use Rattle.ft_model.specs.Log.{Log}
 use Rattle.disk.specs.declared.calls.DiskCall.{DiskCall}
 use Rattle.disk.specs.declared.calls.DiskCall.TheVariants.{Cut, Synced}
@@ -13,7 +14,6 @@ use Rattle.disk.specs.CallRecord.{on_disk}
 use Rattle.kept_log.specs.Startup.{making, cutting, IsOpened, IsCutShort, Finds}
 use Rattle.kept_log.specs.ReadSteps.{FindsAs}
 use Rattle.kept_log.specs.declared.reading.Found.TheVariants as finds
-use Rattle.disk.proofs.Telling.{tells_on}
 
 -- a front of calls was told
 abbrev pub IsFrontTold : List DiskCall → Option (List DeskCall) → Option (List DeskCall) → Type 0

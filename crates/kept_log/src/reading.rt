@@ -26,14 +26,14 @@ pub const MOST_TORN: usize = 381_701;
 /// A place that no file reaches.
 pub const BEYOND: u64 = 1 << 62;
 
-/// What was taken from the beginning of the bytes read, or after more of them were read.
+/// What a step took from the beginning of the bytes read.
 #[derive(Clone, Copy, Debug, PartialEq, Eq)]
 pub enum Taken {
     /// A block whose body has this many bytes.
     Block(usize),
     /// Nothing: the closed gate is there.
     Closed,
-    /// Nothing: the bytes are no complete block, unless more follow. Or more bytes have been read.
+    /// Nothing: the bytes are no complete block, unless more follow. A step then reads more.
     Short,
     /// Nothing: the bytes are no block, whatever follows.
     Wrong,
@@ -48,10 +48,10 @@ pub enum Reached {
     Wrong(u64),
 }
 
-/// What a file has.
+/// What was found in a file.
 #[derive(Clone, Copy, Debug, PartialEq, Eq)]
 pub enum Found {
-    /// So many bytes of the magic: the file was being made.
+    /// A prefix of the magic, of this many bytes: the creation of the file wasn't completed.
     New(usize),
     /// The place of the closed gate, and how many bytes come after it.
     Whole(u64, usize),
@@ -78,7 +78,7 @@ fn take_block(alloc: Global, window: &mut Window, store: &mut LogStore) -> Resul
 }
 
 /// Takes a block into the log, or reads on.
-#[tactic(auto, using(crate::proofs::Files::none_told, crate::proofs::Files::at_end))]
+#[tactic(auto, using(ft_io::proofs::Tellings::none_told, crate::proofs::Files::at_end))]
 fn step<D: Disk>(
     alloc: Global,
     disk: &mut D,
@@ -105,7 +105,7 @@ fn step<D: Disk>(
     }
 }
 
-#[tactic(auto, using(crate::proofs::Files::quiet_on, crate::proofs::Files::rose_later, crate::proofs::Files::none_told))]
+#[tactic(auto, using(crate::proofs::Files::quiet_on, crate::proofs::Files::rose_later, ft_io::proofs::Tellings::none_told))]
 /// Takes all blocks of a file into the log. The window has what was read after the magic.
 fn read_blocks<D: Disk>(
     alloc: Global,
@@ -137,7 +137,7 @@ fn read_blocks<D: Disk>(
     Err(KeepEnd::NoMemory)
 }
 
-#[tactic(auto, using(crate::proofs::Files::quiet_on, crate::proofs::Files::rose_later, crate::proofs::Files::none_told))]
+#[tactic(auto, using(crate::proofs::Files::quiet_on, crate::proofs::Files::rose_later, ft_io::proofs::Tellings::none_told))]
 /// Counts the bytes up to the file's end, of which `have` were read already: `None` if they are more than the longest block has.
 fn count_tail<D: Disk>(
     disk: &mut D,
@@ -163,7 +163,7 @@ fn count_tail<D: Disk>(
     Ok(None)
 }
 
-#[tactic(auto, using(crate::proofs::Files::quiet_on, crate::proofs::Files::rose_later, crate::proofs::Files::none_told))]
+#[tactic(auto, using(crate::proofs::Files::quiet_on, crate::proofs::Files::rose_later, ft_io::proofs::Tellings::none_told))]
 /// Reads until there are more bytes than the magic has, or the file ends.
 fn read_front<D: Disk>(disk: &mut D, window: &mut Window, chunk: &mut [u8]) -> Result<(), KeepEnd>
     requires { 0 < length chunk.old }
@@ -183,7 +183,7 @@ fn read_front<D: Disk>(disk: &mut D, window: &mut Window, chunk: &mut [u8]) -> R
 }
 
 /// Reads what comes after the magic. The window has the first bytes of it.
-#[tactic(auto, using(crate::proofs::Files::quiet_on, crate::proofs::Files::rose_later, crate::proofs::Files::none_told))]
+#[tactic(auto, using(crate::proofs::Files::quiet_on, crate::proofs::Files::rose_later, ft_io::proofs::Tellings::none_told))]
 fn read_rest<D: Disk>(
     alloc: Global,
     disk: &mut D,
@@ -211,7 +211,7 @@ fn read_rest<D: Disk>(
 }
 
 /// Reads a file that was opened just now to its end, and takes its blocks into the empty log. It changes nothing of the file.
-#[tactic(auto, using(crate::proofs::Files::quiet_on, crate::proofs::Files::rose_later, crate::proofs::Files::none_told))]
+#[tactic(auto, using(crate::proofs::Files::quiet_on, crate::proofs::Files::rose_later, ft_io::proofs::Tellings::none_told))]
 pub fn read_file<D: Disk>(
     alloc: Global,
     disk: &mut D,

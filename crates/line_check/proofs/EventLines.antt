@@ -1,11 +1,12 @@
 -- A line is read as an event exactly where it is the event's line after those of a schedule.
 use Rattle.std.proofs.Common.{◌≡◌, ℕ, ◌+◌, ◌-◌, ◌<◌, ◌≤◌, ◌^◌, Bool, true, false, Option, None, Some, List, [], ◌∷◌, ◌++◌, codes, decimal, take, length, length-append, append_assoc, append-nil, refl, sym, ap, ap₂, ◌∙◌, subst, arith, true≢false}
-use Rattle.std.specs.Prelude.{is_some, ◌&&◌}
+use Rattle.std.specs.Prelude.{◌&&◌}
 use Rattle.std.specs.List.{AllByRecursion, flat_map, join_with_byte, slice_split}
 use Rattle.std.specs.Str.{bytes_eq}
 use Rattle.std.specs.Cmp.Derive.{both_true}
 use Rattle.std.proofs.lemmas.List.Splits.{join_with_byte-slice_split}
 use Rattle.ft_io.proofs.Booleans.{left_true, right_true}
+use Rattle.ft_io.proofs.Outcomes.{none_is_not}
 use Rattle.ft_model.specs.Grammar.{line_of, with_line}
 use Rattle.ft_model.specs.Readable.{IsWord}
 use Rattle.ft_model.specs.Report.{event_words, event_line, schedule_lines}
@@ -31,12 +32,9 @@ use Rattle.line_check.proofs.LineWords.{joined_cut, line_joined, feed_shown, fee
 use Rattle.line_check.proofs.EventWords.{event_told, event_shown}
 use Rattle.line_check.proofs.EventRanges.{askable_of, fits_of}
 
-nothing : {A P : Type 0} {x : A} → None ≡ Some x → P
-nothing e = absurd (true≢false (sym (ap is_some e)))
-
 tested : (b : Bool) (o : Option Event) (e : Event) → if_true b o ≡ Some e → (b ≡ true) × (o ≡ Some e)
 tested true o e h = (refl, h)
-tested false o e h = nothing h
+tested false o e h = none_is_not h
 
 passed : (b : Bool) (o : Option Event) (e : Event) → b ≡ true → o ≡ Some e → if_true b o ≡ Some e
 passed true o e t h = h
@@ -45,8 +43,8 @@ passed false o e t h = absurd (true≢false (sym t))
 -- the words of the line of event n
 words_told : (n : ℕ) (words : List (List ℕ)) (e : Event) → event_in_words n words ≡ Some e → (words ≡ codes "event" ∷ decimal n ∷ event_words e) × IsAskable e
 unfolding event_in_words
-words_told n [] e h = nothing h
-words_told n (a ∷ []) e h = nothing h
+words_told n [] e h = none_is_not h
+words_told n (a ∷ []) e h = none_is_not h
 words_told n (a ∷ b ∷ words) e h =
     let t = tested (bytes_eq a (codes "event") && is_numbered n (number_word (2 ^ 32 - 1) b)) (event_of_words words) e h in
     let first : a ≡ codes "event" = same_bytes a (codes "event") (left_true (bytes_eq a (codes "event")) _ t.0) in
@@ -131,7 +129,7 @@ event_line_shown schedule n e text few l =
 
 -- what the reader of event lines gives
 pub no_event_line : (schedule : Schedule) (n : ℕ) (text : List ℕ) → n < 2 ^ 32 → None ≡ event_in_text n text → (event : Event) → IsEventLine schedule n event text → ⊥
-no_event_line schedule n text few none event l = nothing (none ∙ event_line_shown schedule n event text (omega (arith, few)) l)
+no_event_line schedule n text few none event l = none_is_not (none ∙ event_line_shown schedule n event text (omega (arith, few)) l)
 
 size_is : (schedule : Schedule) (n size more : ℕ) (e : Event) (text : List ℕ) → Some e ≡ event_in_text n text → more ≡ size + length text - (7 + length (decimal n)) → length (schedule_bytes (Begun schedule)) ≡ size
     → length (schedule_bytes (with_line (Begun schedule) (says.Event e))) ≡ more

@@ -20,6 +20,7 @@ use Rattle.ft_model.specs.declared.line.Verb.TheVariants as verb
 use Rattle.ft_model.specs.declared.schedule.LineWhy.{LineWhy}
 use Rattle.ft_model.specs.declared.schedule.LineWhy.TheVariants as why
 use Rattle.ft_model.proofs.AcceptedLemmas.{bind_ok, ok_or_ok, unless, bare_says}
+use Rattle.ft_model.proofs.FitsLemmas.{one_number, two_numbers}
 use Rattle.schedule_text.specs.EventLines.{IsAskable}
 
 within_range : (least most : ℕ) (o : Option ℕ) (n : ℕ) → option_and_then (within least most) o ≡ Some n → (least ≤ n) × (n ≤ most)
@@ -37,16 +38,6 @@ within_range least most (Some m) n e = by_test (nat_le least m && nat_le m most)
 in_range : (least most : ℕ) (word : List ℕ) (n : ℕ) → number least most word ≡ Ok n → (least ≤ n) × (n ≤ most)
 unfolding number_of
 in_range least most word n e = within_range least most (numeral 20 word) n (ok_or_ok (number_of least most word) why.Number n e)
-
-one_number : {B : Type 0} (r : Result ℕ LineWhy) (make : ℕ → B) (y : B) → (r >>= λ a. Ok (make a)) ≡ Ok y → (a : ℕ) × (r ≡ Ok a) × (make a ≡ y)
-one_number r make y e = let b = bind_ok r (λ a. Ok (make a)) y e in (b.0, b.1, (cc b.2))
-
-two_numbers : {B : Type 0} (r s : Result ℕ LineWhy) (make : ℕ → ℕ → B) (y : B) → (r >>= λ a. s >>= λ b. Ok (make a b)) ≡ Ok y
-    → (a : ℕ) × (b : ℕ) × (r ≡ Ok a) × (s ≡ Ok b) × (make a b ≡ y)
-two_numbers r s make y e =
-    let f = bind_ok r (λ a. s >>= λ b. Ok (make a b)) y e in
-    let g = one_number s (make f.0) y f.2 in
-    (f.0, g.0, f.1, g.1, g.2)
 
 boot_askable : (words : List (List ℕ)) (e : Event) → boot_line words ≡ Ok e → IsAskable e
 unfolding boot_line

@@ -1,20 +1,19 @@
 -- Words are read as an event exactly where they are that event's words, and a schedule can ask for it.
-use Rattle.std.proofs.Common.{◌≡◌, ℕ, ◌<◌, ◌≤◌, ◌-◌, ◌^◌, Bool, true, false, if◌then◌else◌, Option, None, Some, List, [], ◌∷◌, codes, decimal, refl, sym, ap, ap₂, ◌∙◌, subst, arith, true≢false}
-use Rattle.std.specs.Prelude.{is_some, option_map, nat_le}
+use Rattle.std.proofs.Common.{◌≡◌, ℕ, ◌<◌, ◌≤◌, ◌-◌, ◌^◌, Bool, true, false, if◌then◌else◌, Option, None, Some, List, [], ◌∷◌, codes, decimal, refl, ap, ap₂, ◌∙◌, subst, arith}
+use Rattle.std.specs.Prelude.{option_map, nat_le}
 use Rattle.std.specs.Str.{bytes_eq}
 use Rattle.std.proofs.lemmas.Bool.{le-leb, leb-true}
+use Rattle.ft_io.proofs.Outcomes.{none_is_not}
 use Rattle.ft_model.specs.Report.{event_words}
 use Rattle.ft_model.specs.declared.event.Event.{Event}
 use Rattle.ft_model.specs.declared.event.Event.TheVariants.{Boot, Crash, Tick, Deliver, Flip, Begin, Send, Fin, Ack, Reset, Stop}
 use Rattle.ft_model.specs.declared.line.Verb.{Verb}
+use Rattle.ft_model.proofs.Fetching.{chosen_is}
 use Rattle.ft_model.specs.declared.line.Verb.TheVariants as verbs
 use Rattle.schedule_text.specs.EventLines.{IsAskable}
 use Rattle.line_check.specs.Words.{number_word}
 use Rattle.line_check.specs.EventWords.{from_least, ranged, one_of, two_of, three_of, with_two, with_three, client_in, long_in, window_in, packet_in, boot_in, bare, boot_words, deliver_words, flip_words, window_words, send_words, client_words, stop_words, verb_name, all_verbs, verb_among, verb_named, event_for, event_of_words}
-use Rattle.line_check.proofs.Spelled.{value_or, chosen, same_bytes, number_told, number_shown}
-
-nothing : {A P : Type 0} {x : A} → None ≡ Some x → P
-nothing e = absurd (true≢false (sym (ap is_some e)))
+use Rattle.line_check.proofs.Spelled.{value_or, same_bytes, number_told, number_shown}
 
 -- numbers in a range
 ranged_told : (least most n : ℕ) (word : List ℕ) → ranged least most word ≡ Some n → (least ≤ n) × (n ≤ most) × (word ≡ decimal n)
@@ -22,9 +21,9 @@ unfolding ranged
 ranged_told least most n word e = by_number (number_word most word) refl e
   where
     by_number : (o : Option ℕ) → number_word most word ≡ o → from_least least o ≡ Some n → (least ≤ n) × (n ≤ most) × (word ≡ decimal n)
-    by_number None f g = nothing g
+    by_number None f g = none_is_not g
     by_number (Some m) f g =
-        let c : (nat_le least m ≡ true) × (m ≡ n) = chosen (nat_le least m) m n g in
+        let c : (nat_le least m ≡ true) × (m ≡ n) = chosen_is (nat_le least m) m n g in
         let t : (m ≤ most) × (word ≡ decimal m) = number_told most m word f in
         let same : m ≡ n = c.1 in
         let low : least ≤ m = leb-true least m c.0 in
@@ -37,19 +36,19 @@ ranged_shown least most n low high fits =
 
 -- values of numbers
 one_told : {A : Type 0} (o : Option ℕ) (make : ℕ → A) (y : A) → option_map make o ≡ Some y → (a : ℕ) × (o ≡ Some a) × (make a ≡ y)
-one_told None make y e = nothing e
+one_told None make y e = none_is_not e
 one_told (Some a) make y e = (a, refl, ap (value_or y) e)
 
 two_told : {A : Type 0} (o p : Option ℕ) (make : ℕ → ℕ → A) (y : A) → with_two make o p ≡ Some y → (a : ℕ) × (b : ℕ) × (o ≡ Some a) × (p ≡ Some b) × (make a b ≡ y)
-two_told None p make y e = nothing e
-two_told (Some a) None make y e = nothing e
+two_told None p make y e = none_is_not e
+two_told (Some a) None make y e = none_is_not e
 two_told (Some a) (Some b) make y e = (a, b, refl, refl, ap (value_or y) e)
 
 three_told : {A : Type 0} (o p q : Option ℕ) (make : ℕ → ℕ → ℕ → A) (y : A) → with_three make o p q ≡ Some y
     → (a : ℕ) × (b : ℕ) × (c : ℕ) × (o ≡ Some a) × (p ≡ Some b) × (q ≡ Some c) × (make a b c ≡ y)
-three_told None p q make y e = nothing e
-three_told (Some a) None q make y e = nothing e
-three_told (Some a) (Some b) None make y e = nothing e
+three_told None p q make y e = none_is_not e
+three_told (Some a) None q make y e = none_is_not e
+three_told (Some a) (Some b) None make y e = none_is_not e
 three_told (Some a) (Some b) (Some c) make y e = (a, b, c, refl, refl, refl, ap (value_or y) e)
 
 -- the words of an event that a schedule can ask for
@@ -57,9 +56,9 @@ abbrev IsWordsOf : List (List ℕ) → Event → Type 0
 IsWordsOf words e = (words ≡ event_words e) × IsAskable e
 
 boot_told : (words : List (List ℕ)) (e : Event) → boot_words (two_of words) ≡ Some e → IsWordsOf (codes "boot" ∷ words) e
-boot_told [] e h = nothing h
-boot_told (a ∷ []) e h = nothing h
-boot_told (a ∷ b ∷ c ∷ more) e h = nothing h
+boot_told [] e h = none_is_not h
+boot_told (a ∷ []) e h = none_is_not h
+boot_told (a ∷ b ∷ c ∷ more) e h = none_is_not h
 boot_told (a ∷ b ∷ []) e h =
     let t = two_told (boot_in a) (long_in b) Boot e h in
     let p = ranged_told 1 (2 ^ 64 - 1) t.0 a t.2 in
@@ -68,20 +67,20 @@ boot_told (a ∷ b ∷ []) e h =
 
 bare_told : (own : Event) (words : List (List ℕ)) (e : Event) → bare own words ≡ Some e → (words ≡ []) × (own ≡ e)
 bare_told own [] e h = (refl, ap (value_or e) h)
-bare_told own (a ∷ more) e h = nothing h
+bare_told own (a ∷ more) e h = none_is_not h
 
 deliver_told : (words : List (List ℕ)) (e : Event) → deliver_words (one_of words) ≡ Some e → IsWordsOf (codes "deliver" ∷ words) e
-deliver_told [] e h = nothing h
-deliver_told (a ∷ b ∷ more) e h = nothing h
+deliver_told [] e h = none_is_not h
+deliver_told (a ∷ b ∷ more) e h = none_is_not h
 deliver_told (a ∷ []) e h =
     let t = one_told (packet_in a) Deliver e h in
     let p = ranged_told 1 (2 ^ 32 - 1) t.0 a t.1 in
     subst (IsWordsOf (codes "deliver" ∷ a ∷ [])) t.2 (ap (λ x. codes "deliver" ∷ x ∷ []) p.2, (p.0, omega (arith, p.1)))
 
 flip_told : (words : List (List ℕ)) (e : Event) → flip_words (two_of words) ≡ Some e → IsWordsOf (codes "flip" ∷ words) e
-flip_told [] e h = nothing h
-flip_told (a ∷ []) e h = nothing h
-flip_told (a ∷ b ∷ c ∷ more) e h = nothing h
+flip_told [] e h = none_is_not h
+flip_told (a ∷ []) e h = none_is_not h
+flip_told (a ∷ b ∷ c ∷ more) e h = none_is_not h
 flip_told (a ∷ b ∷ []) e h =
     let t = two_told (packet_in a) (long_in b) Flip e h in
     let p = ranged_told 1 (2 ^ 32 - 1) t.0 a t.2 in
@@ -99,9 +98,9 @@ record Windowed (words : List (List ℕ)) (make : ℕ → ℕ → Event) (e : Ev
   event_is : make client window ≡ e
 
 windowed : (make : ℕ → ℕ → Event) (words : List (List ℕ)) (e : Event) → window_words make (two_of words) ≡ Some e → Windowed words make e
-windowed make [] e h = nothing h
-windowed make (a ∷ []) e h = nothing h
-windowed make (a ∷ b ∷ c ∷ more) e h = nothing h
+windowed make [] e h = none_is_not h
+windowed make (a ∷ []) e h = none_is_not h
+windowed make (a ∷ b ∷ c ∷ more) e h = none_is_not h
 windowed make (a ∷ b ∷ []) e h =
     let t = two_told (client_in a) (window_in b) make e h in
     let p = ranged_told 1 16 t.0 a t.2 in
@@ -117,10 +116,10 @@ windowed make (a ∷ b ∷ []) e h =
     }
 
 send_told : (words : List (List ℕ)) (e : Event) → send_words (three_of words) ≡ Some e → IsWordsOf (codes "send" ∷ words) e
-send_told [] e h = nothing h
-send_told (a ∷ []) e h = nothing h
-send_told (a ∷ b ∷ []) e h = nothing h
-send_told (a ∷ b ∷ c ∷ d ∷ more) e h = nothing h
+send_told [] e h = none_is_not h
+send_told (a ∷ []) e h = none_is_not h
+send_told (a ∷ b ∷ []) e h = none_is_not h
+send_told (a ∷ b ∷ c ∷ d ∷ more) e h = none_is_not h
 send_told (a ∷ b ∷ c ∷ []) e h =
     let t = three_told (client_in a) (long_in b) (long_in c) Send e h in
     let p = ranged_told 1 16 t.0 a t.3 in
@@ -132,16 +131,16 @@ send_told (a ∷ b ∷ c ∷ []) e h =
 -- a client alone
 alone : (make : ℕ → Event) (words : List (List ℕ)) (e : Event) → client_words make (one_of words) ≡ Some e
     → (client : ℕ) × (1 ≤ client) × (client ≤ 16) × (words ≡ decimal client ∷ []) × (make client ≡ e)
-alone make [] e h = nothing h
-alone make (a ∷ b ∷ more) e h = nothing h
+alone make [] e h = none_is_not h
+alone make (a ∷ b ∷ more) e h = none_is_not h
 alone make (a ∷ []) e h =
     let t = one_told (client_in a) make e h in
     let p = ranged_told 1 16 t.0 a t.1 in
     (t.0, p.0, p.1, ap (λ x. x ∷ []) p.2, t.2)
 
 stop_told : (words : List (List ℕ)) (e : Event) → stop_words (one_of words) ≡ Some e → IsWordsOf (codes "stop" ∷ words) e
-stop_told [] e h = nothing h
-stop_told (a ∷ b ∷ more) e h = nothing h
+stop_told [] e h = none_is_not h
+stop_told (a ∷ b ∷ more) e h = none_is_not h
 stop_told (a ∷ []) e h =
     let t = one_told (ranged 1 2 a) Stop e h in
     let p = ranged_told 1 2 t.0 a t.1 in
@@ -176,7 +175,7 @@ verb_told word v e = among all_verbs e
     by_test first more false same e rest = rest e
 
     among : (more : List Verb) → verb_among more word ≡ Some v → word ≡ verb_name v
-    among [] e = nothing e
+    among [] e = none_is_not e
     among (first ∷ more) e = by_test first more (bytes_eq word (verb_name first)) refl e (among more)
 
 event_for_told : (v : Verb) (words : List (List ℕ)) (e : Event) → event_for (Some v) words ≡ Some e → IsWordsOf (verb_name v ∷ words) e
@@ -197,11 +196,11 @@ event_for_told verbs.Reset words e h =
 event_for_told verbs.Stop words e h = stop_told words e h
 
 pub event_told : (words : List (List ℕ)) (e : Event) → event_of_words words ≡ Some e → (words ≡ event_words e) × IsAskable e
-event_told [] e h = nothing h
+event_told [] e h = none_is_not h
 event_told (word ∷ words) e h = by_verb (verb_named word) refl h
   where
     by_verb : (o : Option Verb) → verb_named word ≡ o → event_for o words ≡ Some e → (word ∷ words ≡ event_words e) × IsAskable e
-    by_verb None f g = nothing g
+    by_verb None f g = none_is_not g
     by_verb (Some v) f g =
         let t : (verb_name v ∷ words ≡ event_words e) × IsAskable e = event_for_told v words e g in
         (ap (λ x. x ∷ words) (verb_told word v f) ∙ t.0, t.1)

@@ -4,11 +4,13 @@ use Rattle.std.specs.Prelude.{nat_lt, ◌&&◌, ◌||◌}
 use Rattle.std.specs.List.{list_any}
 use Rattle.std.specs.Str.{bytes_eq}
 use Rattle.ft_io.proofs.Booleans.{left_true, right_true, left_false, right_false}
+use Rattle.ft_io.proofs.Choices.{by_cases}
+use Rattle.ft_io.proofs.Numbers.{equal_of_test}
 use Rattle.ft_model.specs.Texts.{or_dash, flag_letters, flags_text}
 use Rattle.ft_model.proofs.ReportParts.{or_dash_cons}
 use Rattle.seq_arith.specs.Packet.{has}
 use Rattle.line_check.specs.Words.{without, without_all, are_letters, are_flags}
-use Rattle.line_check.proofs.Spelled.{either, same_bytes}
+use Rattle.line_check.proofs.Spelled.{same_bytes}
 
 abbrev first_is : ℕ → List ℕ → Bool
 first_is letter [] = false
@@ -17,15 +19,12 @@ first_is letter (c ∷ more) = c == letter
 abbrev letter_when : Bool → ℕ → List ℕ
 letter_when b letter = if b then letter ∷ [] else []
 
-equal_told : (a b : ℕ) → (a == b) ≡ true → a ≡ b
-equal_told a b e = grind (arith, e)
-
 stripped : (letter : ℕ) (word : List ℕ) → word ≡ letter_when (first_is letter word) letter ++ without letter word
 stripped letter [] = refl
 stripped letter (c ∷ more) = by_test (c == letter) refl
   where
     by_test : (b : Bool) → (c == letter) ≡ b → c ∷ more ≡ letter_when b letter ++ (if b then more else c ∷ more)
-    by_test true e = ap (λ x. x ∷ more) (equal_told c letter e)
+    by_test true e = ap (λ x. x ∷ more) (equal_of_test c letter e)
     by_test false e = refl
 
 abbrev bit : Bool → ℕ
@@ -42,7 +41,7 @@ one_is false r e = grind (arith, e)
 
 no_length : (word : List ℕ) → (length word == 0) ≡ true → word ≡ []
 no_length [] e = refl
-no_length (c ∷ word) e = let none : length (c ∷ word) ≡ 0 = equal_told (length (c ∷ word)) 0 e in absurd (omega (arith, none))
+no_length (c ∷ word) e = let none : length (c ∷ word) ≡ 0 = equal_of_test (length (c ∷ word)) 0 e in absurd (omega (arith, none))
 
 pub letters_told : (word : List ℕ) → are_letters word ≡ true → (flags : ℕ) × (flags < 256) × (word ≡ flag_letters flags)
 unfolding are_letters
@@ -148,7 +147,7 @@ letters_shown flags =
 
 pub flags_told : (word : List ℕ) → are_flags word ≡ true → (flags : ℕ) × (flags < 256) × (word ≡ flags_text flags)
 unfolding are_flags flags_text
-flags_told word e = either (bytes_eq word (codes "-"))
+flags_told word e = by_cases (bytes_eq word (codes "-"))
     (λ d. (0, omega arith, same_bytes word (codes "-") d))
     (λ d. let f : nat_lt 0 (length word) && are_letters word ≡ true = ap (λ b. b || (nat_lt 0 (length word) && are_letters word)) (sym d) ∙ e in
     let told : (flags : ℕ) × (flags < 256) × (word ≡ flag_letters flags) = letters_told word (right_true (nat_lt 0 (length word)) (are_letters word) f) in
@@ -166,6 +165,6 @@ flags_shown flags = by_letters (flag_letters flags) (letters_shown flags)
     by_letters [] h = refl
     by_letters (c ∷ w) h =
         let some : nat_lt 0 (length (c ∷ w)) ≡ true = grind arith in
-        either (bytes_eq (c ∷ w) (codes "-"))
+        by_cases (bytes_eq (c ∷ w) (codes "-"))
         (λ d. rw (or_dash_cons c w, d) refl)
         (λ d. rw (or_dash_cons c w, d, some, h) refl)

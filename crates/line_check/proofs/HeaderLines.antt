@@ -7,7 +7,7 @@ use Rattle.std.specs.Cmp.Derive.{both_true}
 use Rattle.std.proofs.lemmas.Bool.{leb-true}
 use Rattle.std.proofs.lemmas.List.{append_cancel_left, take-append-drop, length-take, length-drop}
 use Rattle.std.proofs.Math.Seq.{take-append-add, drop-append_seam}
-use Rattle.ft_io.proofs.Booleans.{left_true, right_true}
+use Rattle.ft_io.proofs.Booleans.{left_true, right_true, not_true}
 use Rattle.ft_model.specs.Grammar.{◌>>=◌, Refusal, no_objection, unless_objected, keyword_of, names_no_service, service_line, line_behind, line_of, with_line, is_full, is_passed_over, is_printable, is_too_much, after_line, at_line, read_lines, read_with, read_text}
 use Rattle.ft_model.specs.Grammar.Refusal.{TooLong}
 use Rattle.ft_model.specs.Report.{header, schedule_line, twin_line, marks_line, schedule_lines}
@@ -23,6 +23,7 @@ use Rattle.ft_model.specs.declared.schedule.Limit.TheVariants as limit
 use Rattle.ft_model.specs.declared.schedule.LineWhy.{LineWhy}
 use Rattle.ft_model.specs.declared.schedule.Schedule.{Schedule}
 use Rattle.ft_model.specs.declared.schedule.ServiceKind.{ServiceKind}
+use Rattle.ft_model.proofs.Fetching.{chosen_is}
 use Rattle.ft_model.specs.declared.schedule.ServiceKind.TheVariants as services
 use Rattle.schedule_text.specs.EventLines.{asked_line}
 use Rattle.report_laws.specs.declared.Law.TheVariants as law
@@ -34,7 +35,7 @@ use Rattle.report_laws.proofs.Accepted.{client_text, server_text}
 use Rattle.report_laws.proofs.Fronts.{HasFront, front_of, no_feed, printable_of, cut_last}
 use Rattle.report_laws.proofs.ReadLines.{Reads, IsClean, joined, joined_more, all_more, more_read, within_read, lines_back, spelled_by}
 use Rattle.line_check.specs.HeaderText.{IsHeaderSoFar, header_so_far, own_text, is_header_of, if_header, header_in, service_text_line, service_among, all_services, service_in}
-use Rattle.line_check.proofs.Spelled.{chosen, same_bytes, bytes_same}
+use Rattle.line_check.proofs.Spelled.{same_bytes, bytes_same}
 
 -- what the lines so far lead the grammar to
 pub service_follows : (kind : ServiceKind) → Follows Empty (says.Service kind)
@@ -141,10 +142,6 @@ text_read bytes front draft r schedule clean e = by_size (nat_le (length (bytes 
     )
     by_size false f g = absurd (cc)
 
-not_true : (b : Bool) → not b ≡ true → b ≡ false
-not_true true e = absurd (true≢false (sym e))
-not_true false e = refl
-
 not_some : (marks : Option ℕ) → is_none marks ≡ true → marks ≡ None
 not_some None e = refl
 not_some (Some every) e = absurd (true≢false (sym e))
@@ -159,7 +156,7 @@ is_read draft line schedule h clean some e = by_result (read_text (own_text text
     by_result : (r : Result Schedule Refusal) → read_text (own_text text) ≡ r → if_header r text ≡ Some schedule → IsRead draft line schedule
     by_result (Err why) f g = absurd (cc)
     by_result (Ok other) f g =
-        let c : (is_header_of other text ≡ true) × (other ≡ schedule) = chosen (is_header_of other text) other schedule g in
+        let c : (is_header_of other text ≡ true) × (other ≡ schedule) = chosen_is (is_header_of other text) other schedule g in
         let t : is_header_of schedule text ≡ true = subst (λ s. is_header_of s text ≡ true) c.1 c.0 in
         let plain : (not schedule.twin && is_none schedule.marks) ≡ true = left_true (not schedule.twin && is_none schedule.marks) _ t in
         let own : own_text text ≡ schedule_bytes draft ++ take (length line - 1) line = own_is (schedule_bytes draft) line ∙ front_is (schedule_bytes draft) line some in

@@ -1,5 +1,5 @@
 -- A line is its words, each after a space, and a line feed.
-use Rattle.std.proofs.Common.{◌≡◌, ℕ, ◌+◌, ◌-◌, ◌<◌, ◌≤◌, ◌^◌, ◌==◌, true, false, Option, None, Some, decimal, true≢false, List, [], ◌∷◌, ◌++◌, take, drop, length, length-append, append_assoc, append-nil, refl, sym, ap, ◌∙◌, arith}
+use Rattle.std.proofs.Common.{◌≡◌, ℕ, ◌+◌, ◌-◌, ◌<◌, ◌≤◌, ◌^◌, ◌==◌, true, false, Option, None, Some, decimal, true≢false, List, [], ◌∷◌, ◌++◌, take, drop, length, length-append, append_assoc, refl, sym, ap, ◌∙◌, arith}
 use Rattle.std.specs.Prelude.{All, nat_lt}
 use Rattle.std.specs.List.{AllByRecursion, join_with_byte, slice_split}
 use Rattle.std.specs.Str.{bytes_eq}
@@ -11,8 +11,9 @@ use Rattle.std.proofs.lemmas.List.Splits.{slice_split_none, slice_split_at}
 use Rattle.std.proofs.Math.Seq.{drop-append_seam}
 use Rattle.ft_io.proofs.Booleans.{right_true}
 use Rattle.ft_model.specs.Readable.{IsWord}
-use Rattle.ft_model.specs.Texts.{line, spaced}
+use Rattle.ft_model.specs.Texts.{line}
 use Rattle.ft_model.specs.Words.{is}
+use Rattle.schedule_text.proofs.RoundTrip.{spaced_joined}
 use Rattle.line_check.specs.Words.{number_word, is_numbered, ends_with_feed}
 use Rattle.line_check.proofs.Spelled.{same_bytes, number_told, number_shown}
 
@@ -25,10 +26,6 @@ pub joined_cut : (first : List ℕ) (words : List (List ℕ)) → AllByRecursion
 joined_cut first [] h = slice_split_none (is 32) first (no_space first h.0)
 joined_cut first (next ∷ words) h =
     slice_split_at (is 32) first 32 (join_with_byte 32 (next ∷ words)) (no_space first h.0) refl ∙ ap (λ ws. first ∷ ws) (joined_cut next words h.1)
-
-spaced_joined : (word : List ℕ) (words : List (List ℕ)) → spaced (word ∷ words) ≡ 32 ∷ join_with_byte 32 (word ∷ words)
-spaced_joined word [] = ap (λ rest. 32 ∷ rest) (append-nil word)
-spaced_joined word (v ∷ words) = ap (λ rest. 32 ∷ (word ++ rest)) (spaced_joined v words)
 
 pub line_joined : (first word : List ℕ) (words : List (List ℕ)) → line first (word ∷ words) ≡ join_with_byte 32 (first ∷ word ∷ words) ++ 10 ∷ []
 line_joined first word words =

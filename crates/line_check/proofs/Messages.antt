@@ -4,11 +4,10 @@ use Rattle.std.specs.Prelude.{nat_le, nat_eq, ◌&&◌, is_some, option_map, sli
 use Rattle.std.specs.List.{list_all}
 use Rattle.std.specs.Str.{bytes_eq}
 use Rattle.std.specs.Cmp.Derive.{both_true}
-use Rattle.std.proofs.lemmas.Bool.{le-leb, leb-true}
+use Rattle.std.proofs.lemmas.Bool.{leb-true}
 use Rattle.std.proofs.lemmas.Fmt.{decimal_digit}
 use Rattle.ft_io.proofs.Booleans.{left_true, right_true}
 use Rattle.server_trait.specs.Service.{AreBytes}
-use Rattle.seq_arith.specs.Bytes.{two}
 use Rattle.seq_arith.specs.Message.{Body, Message}
 use Rattle.seq_arith.specs.Message.{Body as bodies}
 use Rattle.seq_arith.specs.MessageGrammar.{all_kinds, fields_of, is_in_range, all_in_range, has_length, behind_at, kind_of, numbers_of, behind_of, lens_of, lens_in, lens_bytes, flag, body_in, is_sound, message_length, AllFit}
@@ -20,6 +19,7 @@ use Rattle.seq_arith.proofs.MessageSpelling.{lens_back}
 use Rattle.ft_model.specs.Report.{name_of, field_words, message_words}
 use Rattle.ft_model.specs.Texts.{hex_text, list_text, bit_text}
 use Rattle.ft_model.specs.Wire.{CanBeTold}
+use Rattle.ft_model.proofs.Wires.{bytes_of_lens, length_of_lens, lengths_low}
 use Rattle.line_check.specs.Words.{number_word, byte_count, lens_count, kind_name, kind_among, kind_named, columns_of, last_named, counted, nothing_more, behind_in, columns_fit, rest_fits, body_fits, is_message}
 use Rattle.line_check.proofs.Spelled.{same_bytes, bytes_same, number_told, number_shown, byte_count_told, byte_count_shown, lens_told, lens_shown, AreLengths}
 use Rattle.line_check.proofs.ColumnWords.{IsRead, column_fields, column_words, columns_told, columns_shown, behind_columns}
@@ -260,26 +260,12 @@ Follows kinds.Ended bytes = bytes ≡ []
 Follows kinds.Stale bytes = bytes ≡ []
 Follows kinds.Full bytes = bytes ≡ []
 
-lens_small : (lens : List ℕ) → AreLengths lens → list_all (λ len. nat_le len 2048) lens ≡ true
-lens_small [] h = refl
-lens_small (len ∷ lens) h = both_true (le-leb len 2048 h.0) (lens_small lens h.1)
-
 small_lens : (lens : List ℕ) → list_all (λ len. nat_le len 2048) lens ≡ true → AreLengths lens
 small_lens [] h = tt
 small_lens (len ∷ lens) h = (leb-true len 2048 (left_true (nat_le len 2048) _ h), small_lens lens (right_true (nat_le len 2048) _ h))
 
-lens_are_bytes : (lens : List ℕ) → AreBytes (lens_bytes lens)
-unfolding two
-lens_are_bytes [] = tt
-lens_are_bytes (len ∷ lens) = (omega arith, (omega arith, lens_are_bytes lens))
-
-lens_count_bytes : (lens : List ℕ) → length (lens_bytes lens) ≡ 2 * length lens
-unfolding two
-lens_count_bytes [] = refl
-lens_count_bytes (len ∷ lens) = let more : length (lens_bytes lens) ≡ 2 * length lens = lens_count_bytes lens in omega (arith, more)
-
 lens_again : (bytes lens : List ℕ) → AreLengths lens → bytes ≡ lens_bytes lens → lens_in bytes ≡ lens
-lens_again bytes lens h e = ap lens_in e ∙ lens_back lens (lens_small lens h)
+lens_again bytes lens h e = ap lens_in e ∙ lens_back lens (lengths_low lens h)
 
 behind_again : (kind : Kind) (numbers bytes : List ℕ) → Follows kind bytes → behind_of (body_in kind numbers bytes) ≡ bytes
 behind_again kinds.Hello numbers bytes h = sym h
@@ -309,7 +295,7 @@ follows_bytes kinds.Entry bytes h = subst AreBytes (sym h) tt
 follows_bytes kinds.Bytes bytes h = subst AreBytes (sym h) tt
 follows_bytes kinds.Part bytes h = h
 follows_bytes kinds.Cuts bytes h = subst AreBytes (sym h) tt
-follows_bytes kinds.Lens bytes h = subst AreBytes (sym h.2) (lens_are_bytes h.0)
+follows_bytes kinds.Lens bytes h = subst AreBytes (sym h.2) (bytes_of_lens h.0)
 follows_bytes kinds.Open bytes h = subst AreBytes (sym h) tt
 follows_bytes kinds.Opened bytes h = subst AreBytes (sym h) tt
 follows_bytes kinds.Data bytes h = h
@@ -329,7 +315,7 @@ lens_ranged kinds.Entry numbers bytes h = refl
 lens_ranged kinds.Bytes numbers bytes h = refl
 lens_ranged kinds.Part numbers bytes h = refl
 lens_ranged kinds.Cuts numbers bytes h = refl
-lens_ranged kinds.Lens numbers bytes h = ap (λ ls. list_all (λ len. nat_le len 2048) ls) (lens_again bytes h.0 h.1 h.2) ∙ lens_small h.0 h.1
+lens_ranged kinds.Lens numbers bytes h = ap (λ ls. list_all (λ len. nat_le len 2048) ls) (lens_again bytes h.0 h.1 h.2) ∙ lengths_low h.0 h.1
 lens_ranged kinds.Open numbers bytes h = refl
 lens_ranged kinds.Opened numbers bytes h = refl
 lens_ranged kinds.Data numbers bytes h = refl
@@ -386,7 +372,7 @@ by_lens n words e =
     let twice = doubled_told (counted lens_count (last_named (codes "lens") words)) n e in
     let last = last_told (codes "lens") lens_count twice.0 words twice.1 in
     let told = lens_told twice.0 last.0 last.2 in
-    let len : length (lens_bytes told.0) ≡ 2 * length told.0 = lens_count_bytes told.0 in
+    let len : length (lens_bytes told.0) ≡ 2 * length told.0 = length_of_lens told.0 in
     let count : length (lens_bytes told.0) ≡ n = len ∙ (ap (λ k. 2 * k) told.2 ∙ twice.2) in
     (told.0, told.1, count, last.1 ∙ ap (λ w. codes "lens" ∷ w ∷ []) told.3)
 
@@ -482,13 +468,13 @@ some_lens (len ∷ lens) size =
     let n : ℕ = 26 + length (lens_bytes (len ∷ lens)) in
     let bounds : nat_le 28 n && nat_le n 1050 ≡ true = left_true (nat_le 28 n && nat_le n 1050) _ size in
     let most : n ≤ 1050 = leb-true n 1050 (right_true (nat_le 28 n) (nat_le n 1050) bounds) in
-    let count : length (lens_bytes (len ∷ lens)) ≡ 2 * length (len ∷ lens) = lens_count_bytes (len ∷ lens) in
+    let count : length (lens_bytes (len ∷ lens)) ≡ 2 * length (len ∷ lens) = length_of_lens (len ∷ lens) in
     (omega arith, omega (arith, most, count))
 
 lens_behind : (lens : List ℕ) → AreLengths lens → (0 < length lens) × (length lens ≤ 512)
     → option_map (λ k. 2 * k) (counted lens_count (last_named (codes "lens") (codes "lens" ∷ list_text lens ∷ []))) ≡ Some (length (lens_bytes lens))
 lens_behind lens h some =
-    ap (λ o. option_map (λ k. 2 * k) o) (last_shown (codes "lens") (list_text lens) lens_count ∙ lens_shown lens h some.0 some.1) ∙ ap Some (sym (lens_count_bytes lens))
+    ap (λ o. option_map (λ k. 2 * k) o) (last_shown (codes "lens") (list_text lens) lens_count ∙ lens_shown lens h some.0 some.1) ∙ ap Some (sym (length_of_lens lens))
 
 -- the words after the fields tell how much follows
 behind_shown : (body : Body) → list_all (λ len. nat_le len 2048) (lens_of body) ≡ true → AreBytes (behind_of body) → has_length (kind_of body) (message_length body) ≡ true

@@ -15,6 +15,7 @@ use Rattle.ft_io.proofs.Booleans.{left_true, right_true, left_false, right_false
 use Rattle.ft_io.specs.declared.Addr.{Addr}
 use Rattle.ft_io.specs.declared.Key.{Key}
 use Rattle.ft_io.specs.Key.{key_eq}
+use Rattle.ft_io.proofs.Choices.{by_cases}
 use Rattle.server_trait.specs.Service.{AreBytes}
 use Rattle.seq_arith.specs.Message.{Message}
 use Rattle.seq_arith.specs.Packet.{Segment}
@@ -38,11 +39,12 @@ use Rattle.ft_model.proofs.ReportContent.{lit, word_way, words_content}
 use Rattle.ft_model.proofs.ReportPackets.{way_fits}
 use Rattle.ft_model.proofs.ReportParts.{decimal_begin}
 use Rattle.ft_model.proofs.ReportWords.{IsDigit, digits_decimal, word_decimal}
+use Rattle.ft_model.proofs.Lists.{key_is}
 use Rattle.report_laws.specs.Transitions.{clients_in, IsPacketLine}
 use Rattle.line_check.specs.declared.direction.Direction.{Direction}
 use Rattle.line_check.specs.declared.direction.Direction.TheVariants.{FromClient, ToClient, WithLogger}
 use Rattle.line_check.specs.Words.{number_word, byte_count, option_size, are_flags, columns_fit, segment_columns, sizes_fit, last_fits, text_fits, is_segment, ends_with, direction_of, is_client, content_fits, is_numbered, packet_words_fit, ends_with_feed, is_packet_text}
-use Rattle.line_check.proofs.Spelled.{either, decide, same_bytes, bytes_same, value_or, number_told, number_shown, byte_count_told, byte_count_shown, size_of, option_told, option_shown}
+use Rattle.line_check.proofs.Spelled.{decide, same_bytes, bytes_same, value_or, number_told, number_shown, byte_count_told, byte_count_shown, size_of, option_told, option_shown}
 use Rattle.line_check.proofs.Flags.{flags_told, flags_shown}
 use Rattle.report_laws.proofs.Fronts.{cut_last}
 use Rattle.line_check.proofs.LineWords.{numbered_told, numbered_shown, joined_cut, line_joined, feed_shown, feed_told}
@@ -187,13 +189,6 @@ segment_shown s h =
     some_of None h m e = absurd (true≢false (sym (ap is_some e)))
     some_of (Some k) h m e = let same : k ≡ m = ap (value_or k) e in omega (arith, h, same)
 
--- the clients of a schedule are known by their numbers
-key_itself : (key : Key) → key_eq key key ≡ true
-key_itself key = both_true (itself key.ip) (itself key.port)
-  where
-    itself : (n : ℕ) → (n == n) ≡ true
-    itself n = grind arith
-
 record Numbered (server : Addr) (lines : List ClientLine) (at : ℕ) : Type 0 where
   key : Key
   fits : FitsKey key
@@ -205,7 +200,7 @@ numbered server [] at h apart fits = absurd (omega (arith, h))
 numbered server (line ∷ lines) zero h apart fits = record {
   key = line.key;
   fits = fits.0.0;
-  place = rw (key_itself line.key) refl;
+  place = rw (key_is line.key) refl;
   among = λ other none. left_false (key_eq line.key other) _ none;
 }
 numbered server (line ∷ lines) (suc at) h apart fits =
@@ -289,19 +284,19 @@ from_start b word = if b then option_map ToClient (number_word (2 ^ 64 - 1) (dro
 
 direction_told : (word : List ℕ) (d : Direction) → direction_of word ≡ Some d → IsDirected d word
 unfolding direction_of
-direction_told word d e = either (bytes_eq word (codes "S>L") || bytes_eq word (codes "L>S"))
+direction_told word d e = by_cases (bytes_eq word (codes "S>L") || bytes_eq word (codes "L>S"))
     (λ t. let f : Some WithLogger ≡ Some d = sym (ap (λ b. if b then Some WithLogger else from_start (starts_with nat_eq word (codes "S>")) word) t) ∙ e in
-    subst (λ x. IsDirected x word) (ap (direction_or WithLogger) f) (either (bytes_eq word (codes "S>L")) (λ s. inl (same_bytes word (codes "S>L") s))
+    subst (λ x. IsDirected x word) (ap (direction_or WithLogger) f) (by_cases (bytes_eq word (codes "S>L")) (λ s. inl (same_bytes word (codes "S>L") s))
     (λ s. inr (same_bytes word (codes "L>S") (ap (λ b. b || bytes_eq word (codes "L>S")) (sym s) ∙ t)))))
     (λ t. let f : from_start (starts_with nat_eq word (codes "S>")) word ≡ Some d =
     sym (ap (λ b. if b then Some WithLogger else from_start (starts_with nat_eq word (codes "S>")) word) t) ∙ e in
-    either (starts_with nat_eq word (codes "S>"))
+    by_cases (starts_with nat_eq word (codes "S>"))
     (λ s. let g : option_map ToClient (number_word (2 ^ 64 - 1) (drop 2 word)) ≡ Some d = sym (ap (λ b. from_start b word) s) ∙ f in
     let m = mapped_told ToClient (2 ^ 64 - 1) (drop 2 word) d (omega arith) g in
     let begins : word ≡ codes "S>" ++ drop 2 word = (starts_is Decides-eqb word (codes "S>") (starts_with nat_eq word (codes "S>")) refl).0 s in
     subst (λ x. IsDirected x word) m.2 (m.1, begins ∙ ap (λ t. codes "S>" ++ t) m.3))
     (λ s. let g : from_end (ends_with (codes ">S") word) word ≡ Some d = sym (ap (λ b. from_start b word) s) ∙ f in
-    either (ends_with (codes ">S") word)
+    by_cases (ends_with (codes ">S") word)
     (λ r. let h : option_map FromClient (number_word (2 ^ 64 - 1) (take (length word - 2) word)) ≡ Some d = sym (ap (λ b. from_end b word) r) ∙ g in
     let m = mapped_told FromClient (2 ^ 64 - 1) (take (length word - 2) word) d (omega arith) h in
     let ends : drop (length word - 2) word ≡ codes ">S" = same_bytes (drop (length word - 2) word) (codes ">S") r in

@@ -15,6 +15,7 @@ use Rattle.std.proofs.lemmas.Slice.Eq.{bytes_eq-Decides}
 use Rattle.hex.specs.Hex.{encode_lower, encode_with, lower_digits}
 use Rattle.ft_io.proofs.Booleans.{left_true, right_true}
 use Rattle.ft_io.specs.declared.Key.{Key}
+use Rattle.ft_io.proofs.Choices.{by_cases}
 use Rattle.server_trait.specs.Service.{AreBytes}
 use Rattle.ft_model.specs.Readable.{FitsU64, FitsKey}
 use Rattle.ft_model.specs.Spelling.{numeral, number_of, within}
@@ -22,12 +23,9 @@ use Rattle.ft_model.specs.Texts.{octets, hex_text, list_text, address_text, key_
 use Rattle.ft_model.specs.Words.{is}
 use Rattle.ft_model.proofs.ReportParts.{or_dash_cons, joined_behind, list_text_cons}
 use Rattle.ft_model.proofs.ReportWords.{IsDigit, all_append, all_weaken, digits_decimal}
+use Rattle.ft_model.proofs.Fetching.{chosen_is}
+use Rattle.schedule_text.proofs.RoundTrip.{digits_of}
 use Rattle.line_check.specs.Words.{as_printed, number_word, is_number, is_lower_digit, is_hex_word, byte_count, lens_count, are_octets, are_address, is_address, option_size}
-
--- a test and what it chooses
-pub either : {P : Type 0} (b : Bool) → (b ≡ true → P) → (b ≡ false → P) → P
-either true f g = f refl
-either false f g = g refl
 
 pub decide : (b : Bool) → (b ≡ true → ⊥) → b ≡ false
 decide true no_way = absurd (no_way refl)
@@ -41,10 +39,6 @@ abbrev is_none : {A : Type 0} → Option A → Bool
 is_none None = true
 is_none (Some x) = false
 
-pub chosen : {A : Type 0} (b : Bool) (x y : A) → (if b then Some x else None) ≡ Some y → (b ≡ true) × (x ≡ y)
-chosen true x y e = (refl, ap (value_or x) e)
-chosen false x y e = absurd (true≢false (ap (λ o. is_none o) e))
-
 pub same_bytes : (xs ys : List ℕ) → bytes_eq xs ys ≡ true → xs ≡ ys
 same_bytes xs ys = (bytes_eq-Decides xs ys).0
 
@@ -55,7 +49,7 @@ bytes_same xs = (bytes_eq-Decides xs xs).1 refl
 within_most : (most : ℕ) (o : Option ℕ) (n : ℕ) → option_and_then (within 0 most) o ≡ Some n → n ≤ most
 within_most most None n e = absurd (cc)
 within_most most (Some m) n e =
-    let c : (nat_le 0 m && nat_le m most ≡ true) × (m ≡ n) = chosen (nat_le 0 m && nat_le m most) m n e in
+    let c : (nat_le 0 m && nat_le m most ≡ true) × (m ≡ n) = chosen_is (nat_le 0 m && nat_le m most) m n e in
     let same : m ≡ n = c.1 in
     let below : m ≤ most = leb-true m most (right_true (nat_le 0 m) (nat_le m most) c.0) in
     omega (arith, same, below)
@@ -67,19 +61,15 @@ number_told most n word e = by_number (option_and_then (within 0 most) (numeral 
     by_number : (o : Option ℕ) → option_and_then (within 0 most) (numeral 20 word) ≡ o → as_printed o word ≡ Some n → (n ≤ most) × (word ≡ decimal n)
     by_number None f e = absurd (cc)
     by_number (Some m) f e =
-        let c : (bytes_eq (decimal m) word ≡ true) × (m ≡ n) = chosen (bytes_eq (decimal m) word) m n e in
+        let c : (bytes_eq (decimal m) word ≡ true) × (m ≡ n) = chosen_is (bytes_eq (decimal m) word) m n e in
         (within_most most (numeral 20 word) n (f ∙ ap Some c.1), sym (same_bytes (decimal m) word c.0) ∙ ap decimal c.1)
-
-all_digits : (ds : List ℕ) → AllByRecursion IsDigit ds → list_all is_ascii_digit ds ≡ true
-all_digits [] h = refl
-all_digits (d ∷ ds) h = both_true (both_true (le-leb 48 d h.0.0) (le-leb d 57 h.0.1)) (all_digits ds h.1)
 
 pub number_shown : (most n : ℕ) → n ≤ most → n < 2 ^ 64 → number_word most (decimal n) ≡ Some n
 unfolding number_word number_of numeral
 number_shown most n high fits =
     let some : nat_le 1 (length (decimal n)) ≡ true = le-leb 1 (length (decimal n)) (omega (arith, decimal_nonempty n fits)) in
     let few : nat_le (length (decimal n)) 20 ≡ true = le-leb (length (decimal n)) 20 (length-decimal-le 20 n (omega arith) (omega (arith, fits)) fits) in
-    let digits : list_all is_ascii_digit (decimal n) ≡ true = all_digits (decimal n) (digits_decimal n fits) in
+    let digits : list_all is_ascii_digit (decimal n) ≡ true = digits_of (decimal n) (digits_decimal n fits) in
     let value : digits_value 10 (decimal n) ≡ n = (decimal_is_IsNumeral n fits).1 in
     let above : nat_le 0 n ≡ true = le-leb 0 n (omega arith) in
     let below : nat_le n most ≡ true = le-leb n most high in
@@ -136,7 +126,7 @@ glyph_lower (suc (suc (suc (suc (suc (suc (suc (suc (suc (suc (suc (suc (suc (su
 glyph_lower (suc (suc (suc (suc (suc (suc (suc (suc (suc (suc (suc (suc (suc (suc (suc (suc k)))))))))))))))) h = absurd (omega (arith, h))
 
 digit_told : (c : ℕ) → is_lower_digit c ≡ true → (k : ℕ) × (k < 16) × (slice_index lower_digits k ≡ c)
-digit_told c e = either (nat_le 48 c && nat_le c 57)
+digit_told c e = by_cases (nat_le 48 c && nat_le c 57)
     (λ d. let low : 48 ≤ c = leb-true 48 c (left_true (nat_le 48 c) (nat_le c 57) d) in
     let high : c ≤ 57 = leb-true c 57 (right_true (nat_le 48 c) (nat_le c 57) d) in
     let small : c - 48 < 16 = omega (arith, low, high) in
@@ -189,13 +179,13 @@ hex_text_some b bytes = or_dash_cons _ _
 
 pub byte_count_told : (n : ℕ) (word : List ℕ) → byte_count word ≡ Some n → (bytes : List ℕ) × AreBytes bytes × (length bytes ≡ n) × (word ≡ hex_text bytes)
 unfolding byte_count is_hex_word hex_text encode_with
-byte_count_told n word e = either (bytes_eq word (codes "-"))
+byte_count_told n word e = by_cases (bytes_eq word (codes "-"))
     (λ d. let f : Some 0 ≡ Some n = sym (ap (λ b. if b then Some 0 else (if (nat_lt 0 (length word) && (length word % 2 == 0) && list_all is_lower_digit word) then Some (length word / 2) else None)) d) ∙ e in
-    let zero_is : 0 ≡ n = (chosen true 0 n f).1 in
+    let zero_is : 0 ≡ n = (chosen_is true 0 n f).1 in
     ([], tt, zero_is, same_bytes word (codes "-") d))
     (λ d. let f : (if (nat_lt 0 (length word) && (length word % 2 == 0) && list_all is_lower_digit word) then Some (length word / 2) else None) ≡ Some n =
     sym (ap (λ b. if b then Some 0 else (if (nat_lt 0 (length word) && (length word % 2 == 0) && list_all is_lower_digit word) then Some (length word / 2) else None)) d) ∙ e in
-    let c = chosen (nat_lt 0 (length word) && (length word % 2 == 0) && list_all is_lower_digit word) (length word / 2) n f in
+    let c = chosen_is (nat_lt 0 (length word) && (length word % 2 == 0) && list_all is_lower_digit word) (length word / 2) n f in
     let front : nat_lt 0 (length word) && (length word % 2 == 0) ≡ true = left_true (nat_lt 0 (length word) && (length word % 2 == 0)) (list_all is_lower_digit word) c.0 in
     let even : length word % 2 ≡ 0 = grind (arith, right_true (nat_lt 0 (length word)) (length word % 2 == 0) front) in
     let some : 0 < length word = ltb-true 0 (length word) (left_true (nat_lt 0 (length word)) (length word % 2 == 0) front) in
@@ -275,7 +265,7 @@ pub lens_told : (n : ℕ) (word : List ℕ) → lens_count word ≡ Some n → (
 unfolding lens_count
 lens_told n word e =
     let c : (list_all (is_number 2048) (slice_split (is 44) word) && nat_le (length (slice_split (is 44) word)) 512 ≡ true) × (length (slice_split (is 44) word) ≡ n) =
-    chosen (list_all (is_number 2048) (slice_split (is 44) word) && nat_le (length (slice_split (is 44) word)) 512) (length (slice_split (is 44) word)) n e in
+    chosen_is (list_all (is_number 2048) (slice_split (is 44) word) && nat_le (length (slice_split (is 44) word)) 512) (length (slice_split (is 44) word)) n e in
     let told : (lens : List ℕ) × AreLengths lens × (slice_split (is 44) word ≡ map decimal lens) =
     pieces_told (slice_split (is 44) word) (left_true (list_all (is_number 2048) (slice_split (is 44) word)) _ c.0) in
     let count : length (slice_split (is 44) word) ≡ length told.0 = ap length told.2 ∙ length_map told.0 in
@@ -396,13 +386,13 @@ size_of (Some mss) = 4
 
 pub option_told : (n : ℕ) (word : List ℕ) → option_size word ≡ Some n → (mss : Option ℕ) × ((m : ℕ) → mss ≡ Some m → m < 2 ^ 16) × (size_of mss ≡ n) × (word ≡ mss_text mss)
 unfolding option_size mss_text
-option_told n word e = either (bytes_eq word (codes "-"))
+option_told n word e = by_cases (bytes_eq word (codes "-"))
     (λ d. let f : Some 0 ≡ Some n = sym (ap (λ b. if b then Some 0 else (if is_number 65535 word then Some 4 else None)) d) ∙ e in
-    (None, (λ m g. absurd (none_some m g)), (chosen true 0 n f).1, same_bytes word (codes "-") d))
+    (None, (λ m g. absurd (none_some m g)), (chosen_is true 0 n f).1, same_bytes word (codes "-") d))
     (λ d. let f : (if is_number 65535 word then Some 4 else None) ≡ Some n = sym (ap (λ b. if b then Some 0 else (if is_number 65535 word then Some 4 else None)) d) ∙ e in
-    let c : (is_number 65535 word ≡ true) × (4 ≡ n) = chosen (is_number 65535 word) 4 n f in
+    let c : (is_number 65535 word ≡ true) × (4 ≡ n) = chosen_is (is_number 65535 word) 4 n f in
     let told : (m : ℕ) × (m ≤ 65535) × (word ≡ decimal m) = is_number_told 65535 word c.0 in
-    (Some told.0, (λ m g. let same : told.0 ≡ m = (chosen true told.0 m g).1 in omega (arith, same, told.1)), c.1, told.2))
+    (Some told.0, (λ m g. let same : told.0 ≡ m = (chosen_is true told.0 m g).1 in omega (arith, same, told.1)), c.1, told.2))
   where
     none_some : (m : ℕ) → None ≡ Some m → ⊥
     none_some m g = true≢false (sym (ap is_some g))

@@ -1,6 +1,5 @@
 -- Words taken one after another.
-use Rattle.std.proofs.Common.{◌≡◌, ℕ, zero, suc, ◌<◌, ◌-◌, Bool, true, false, List, [], ◌∷◌, drop, refl, sym, ap, ◌∙◌, arith}
-use Rattle.std.specs.Prelude.{◌&&◌}
+use Rattle.std.proofs.Common.{◌≡◌, ℕ, zero, suc, ◌<◌, ◌-◌, List, [], ◌∷◌, drop, refl, sym, ap, ◌∙◌, arith}
 
 pub dropped : (words : List (List ℕ)) → drop 1 (drop 1 words) ≡ drop 2 words
 dropped [] = refl
@@ -15,11 +14,6 @@ dropped_six (a ∷ b ∷ c ∷ []) = refl
 dropped_six (a ∷ b ∷ c ∷ d ∷ []) = refl
 dropped_six (a ∷ b ∷ c ∷ d ∷ e ∷ []) = refl
 dropped_six (a ∷ b ∷ c ∷ d ∷ e ∷ f ∷ words) = refl
-
--- the test of a last column is the test of all
-pub last_column : (b : Bool) → (b && true) ≡ b
-last_column true = refl
-last_column false = refl
 
 -- one word less is one word taken
 pub one_less : (n : ℕ) (words : List (List ℕ)) (word : List ℕ) (more : List (List ℕ)) → words ≡ word ∷ more → 0 < n → drop (n - 1) more ≡ drop n words

@@ -1,4 +1,4 @@
-//! The words of a message between server and logger: its kind, its boot number, its fields, and what follows them.
+//! The words of a message between server and logger: its kind, its boot number, its fields, and what follows the fields.
 
 ghost use Rattle.std.specs.Prelude.{◌≡◌, ◌+◌, ◌*◌, ◌≤◌, ◌<◌, ◌^◌, Some, [], ◌∷◌, codes, drop, length, IfSome};
 ghost use Rattle.seq_arith.specs.declared.kinds.Kind.TheVariants as kinds;
@@ -12,7 +12,7 @@ use crate::values::{byte_count, lens_count, number_word};
 use crate::words::{Words, last_named, next_word, skip};
 use seq_arith::{Field, Kind};
 
-/// The kind that a word names.
+/// Returns the kind that a word names.
 #[tactic(auto, unfolding(crate::specs::Words::kind_named))]
 fn kind_named(word: &[u8]) -> Option<Kind>
     ensures { result ≡ spelled.kind_named word.now }
@@ -58,7 +58,7 @@ fn kind_named(word: &[u8]) -> Option<Kind>
     }
 }
 
-/// How many fields a kind's line names.
+/// Returns how many fields the line of a kind names.
 fn column_count(kind: Kind) -> usize
     ensures value { result ≡ length (spelled.columns_of kind) }
     ensures most { result ≤ 10 }
@@ -73,7 +73,7 @@ fn column_count(kind: Kind) -> usize
     }
 }
 
-/// Where a kind's fields end in a message.
+/// Returns where the fields of a kind end in a message.
 fn fields_end(kind: Kind) -> usize
     ensures value { result ≡ behind_at kind }
     ensures most { result ≤ 48 }
@@ -91,7 +91,7 @@ fn fields_end(kind: Kind) -> usize
     }
 }
 
-/// The fewest and the most bytes that may follow a kind's fields.
+/// Returns the smallest and the largest number of bytes that may follow a kind's fields.
 fn behind_bounds(kind: Kind) -> (usize, usize)
     ensures value { (result.0 ≡ fewest_behind kind) × (result.1 ≡ most_behind kind) }
     ensures most { (result.0 ≤ 2) × (result.1 ≤ 1460) }
@@ -113,7 +113,7 @@ fn is_of_lens(kind: Kind) -> bool
     }
 }
 
-/// Whether so many bytes may follow a kind's fields.
+/// Returns whether so many bytes may follow a kind's fields.
 #[tactic(auto, unfolding(seq_arith::specs::MessageGrammar::has_length))]
 fn length_fits(kind: Kind, behind: usize) -> bool
     requires { behind < 2 ^ 63 }
@@ -131,7 +131,7 @@ fn length_fits(kind: Kind, behind: usize) -> bool
     !is_of_lens(kind) || len % 2 == 0
 }
 
-/// How many bytes follow a kind's fields, by the words after them.
+/// Returns how many bytes follow a kind's fields, according to the words after them.
 fn behind_in(kind: Kind, words: Words<'_>) -> Option<usize>
     ensures value { result ≡ spelled.behind_in kind (words_left words.entry.rest) }
     ensures most { IfSome result (λ n. n < 2 ^ 63) }
@@ -143,7 +143,7 @@ fn behind_in(kind: Kind, words: Words<'_>) -> Option<usize>
     }
 }
 
-/// Zero, where there are no more words.
+/// Returns zero if there are no more words.
 fn nothing_more(words: Words<'_>) -> Option<usize>
     ensures value { result ≡ spelled.nothing_more (words_left words.entry.rest) }
     ensures most { IfSome result (λ n. n ≤ 0) }
@@ -155,8 +155,8 @@ fn nothing_more(words: Words<'_>) -> Option<usize>
     }
 }
 
-/// One number.
-#[tactic(auto, using(crate::proofs::Taken::last_column))]
+/// Returns whether the words begin with this name and a number that fits its field.
+#[tactic(auto, using(ft_io::proofs::Booleans::and_true))]
 fn one_fits(limits: Limits, field: Field, name: &[u8], words: Words<'_>) -> bool
     ensures { result ≡ spelled.columns_fit limits.boot limits.behind (NumberColumn name.now field ∷ []) (words_left words.entry.rest) }
 {
@@ -164,8 +164,8 @@ fn one_fits(limits: Limits, field: Field, name: &[u8], words: Words<'_>) -> bool
     number_fits(limits, field, name, &mut words)
 }
 
-/// A key alone.
-#[tactic(auto, using(crate::proofs::Taken::last_column))]
+/// Returns whether the words begin with a key.
+#[tactic(auto, using(ft_io::proofs::Booleans::and_true))]
 fn key_alone_fits(limits: Limits, words: Words<'_>) -> bool
     ensures { result ≡ spelled.columns_fit limits.boot limits.behind (KeyColumn ∷ []) (words_left words.entry.rest) }
 {
@@ -173,8 +173,8 @@ fn key_alone_fits(limits: Limits, words: Words<'_>) -> bool
     key_fits(&mut words)
 }
 
-/// A key and one number.
-#[tactic(auto, using(crate::proofs::Taken::last_column))]
+/// Returns whether the words begin with a key, and then this name and a number that fits its field.
+#[tactic(auto, using(ft_io::proofs::Booleans::and_true))]
 fn key_and_one_fit(limits: Limits, field: Field, name: &[u8], words: Words<'_>) -> bool
     ensures { result ≡ spelled.columns_fit limits.boot limits.behind (KeyColumn ∷ NumberColumn name.now field ∷ []) (words_left words.entry.rest) }
 {
@@ -182,8 +182,8 @@ fn key_and_one_fit(limits: Limits, field: Field, name: &[u8], words: Words<'_>) 
     key_fits(&mut words) && number_fits(limits, field, name, &mut words)
 }
 
-/// The numbers of a connection.
-#[tactic(auto, using(crate::proofs::Taken::last_column))]
+/// Returns whether the words begin with the numbers of a connection.
+#[tactic(auto, using(ft_io::proofs::Booleans::and_true))]
 fn opening_fits(limits: Limits, words: Words<'_>) -> bool
     ensures { result ≡ spelled.columns_fit limits.boot limits.behind (spelled.opening_columns []) (words_left words.entry.rest) }
 {
@@ -194,8 +194,8 @@ fn opening_fits(limits: Limits, words: Words<'_>) -> bool
         && number_fits(limits, Field::Mss, b"mss", &mut words)
 }
 
-/// How much of a connection is logged.
-#[tactic(auto, using(crate::proofs::Taken::last_column))]
+/// Returns whether the words begin with how much of a connection is logged.
+#[tactic(auto, using(ft_io::proofs::Booleans::and_true))]
 fn kept_fits(limits: Limits, words: Words<'_>) -> bool
     ensures { result ≡ spelled.columns_fit limits.boot limits.behind spelled.kept_columns (words_left words.entry.rest) }
 {
@@ -206,8 +206,8 @@ fn kept_fits(limits: Limits, words: Words<'_>) -> bool
         && number_fits(limits, Field::Units, b"reads", &mut words)
 }
 
-/// A read.
-#[tactic(auto, using(crate::proofs::Taken::last_column))]
+/// Returns whether the words begin with the fields of a read.
+#[tactic(auto, using(ft_io::proofs::Booleans::and_true))]
 fn read_fits(limits: Limits, words: Words<'_>) -> bool
     ensures { result ≡ spelled.columns_fit limits.boot limits.behind (spelled.columns_of kinds.Read) (words_left words.entry.rest) }
 {
@@ -217,8 +217,8 @@ fn read_fits(limits: Limits, words: Words<'_>) -> bool
         && number_fits(limits, Field::ReadLength, b"length", &mut words)
 }
 
-/// Bytes to be logged.
-#[tactic(auto, using(crate::proofs::Taken::last_column))]
+/// Returns whether the words begin with the fields of a Data.
+#[tactic(auto, using(ft_io::proofs::Booleans::and_true))]
 fn data_fits(limits: Limits, words: Words<'_>) -> bool
     ensures { result ≡ spelled.columns_fit limits.boot limits.behind (spelled.columns_of kinds.Data) (words_left words.entry.rest) }
 {
@@ -229,8 +229,8 @@ fn data_fits(limits: Limits, words: Words<'_>) -> bool
         && number_fits(limits, Field::Flag, b"fin", &mut words)
 }
 
-/// What an entry has beyond the numbers of its connection.
-#[tactic(auto, using(crate::proofs::Taken::last_column))]
+/// Returns whether the words begin with the fields of an entry after the numbers of its connection.
+#[tactic(auto, using(ft_io::proofs::Booleans::and_true))]
 fn state_fits(limits: Limits, words: Words<'_>) -> bool
     ensures { result ≡ spelled.columns_fit limits.boot limits.behind spelled.state_columns (words_left words.entry.rest) }
 {
@@ -242,7 +242,7 @@ fn state_fits(limits: Limits, words: Words<'_>) -> bool
         && number_fits(limits, Field::Units, b"acked", &mut words)
 }
 
-/// An entry of the log.
+/// Returns whether the words begin with the fields of an entry of the log.
 fn entry_fits(limits: Limits, words: Words<'_>) -> bool
     ensures { result ≡ spelled.columns_fit limits.boot limits.behind (spelled.columns_of kinds.Entry) (words_left words.entry.rest) }
 {
@@ -255,7 +255,7 @@ fn entry_fits(limits: Limits, words: Words<'_>) -> bool
         && state_fits(limits, words)
 }
 
-/// Whether these words begin with the fields of a kind.
+/// Returns whether these words begin with the fields of a kind.
 fn columns_fit(kind: Kind, limits: Limits, words: Words<'_>) -> bool
     ensures { result ≡ spelled.columns_fit limits.boot limits.behind (spelled.columns_of kind) (words_left words.entry.rest) }
 {
@@ -275,7 +275,7 @@ fn columns_fit(kind: Kind, limits: Limits, words: Words<'_>) -> bool
     }
 }
 
-/// Whether these are the fields of a kind and what follows them.
+/// Returns whether these are the fields of a kind and what follows them, for this boot number.
 fn rest_fits(kind: Kind, boot: u64, words: Words<'_>) -> bool
     ensures { result ≡ spelled.rest_fits kind boot (spelled.behind_in kind (drop (2 * length (spelled.columns_of kind)) (words_left words.entry.rest))) (words_left words.entry.rest) }
 {
@@ -292,14 +292,14 @@ fn rest_fits(kind: Kind, boot: u64, words: Words<'_>) -> bool
     columns_fit(kind, limits, words)
 }
 
-/// Whether these are a boot number and what follows it.
+/// Returns whether these are a boot number and the rest of a message of this kind.
 fn body_fits(kind: Kind, boot: u64, words: Words<'_>) -> bool
     ensures { result ≡ spelled.body_fits (Some kind) (Some boot) (words_left words.entry.rest) }
 {
     1 <= boot && rest_fits(kind, boot, words)
 }
 
-/// Whether these are the words of a message.
+/// Returns whether these are the words of a message.
 #[tactic(auto, unfolding(crate::specs::Words::is_message))]
 pub(crate) fn is_message(words: Words<'_>) -> bool
     ensures { result ≡ spelled.is_message (words_left words.entry.rest) }

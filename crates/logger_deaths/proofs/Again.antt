@@ -7,17 +7,13 @@ use Rattle.std.proofs.lemmas.List.{drop_all, append-nil}
 use Rattle.std.proofs.lemmas.List.Folds.{list_any-append}
 use Rattle.ft_io.specs.declared.Key.{Key}
 use Rattle.ft_io.specs.Key.{key_eq}
-use Rattle.ft_io.proofs.Choices.{holds_if, if_false}
+use Rattle.ft_io.proofs.Choices.{holds_if, if_false, if_true, of_if}
 use Rattle.seq_arith.specs.Message.{Numbers, Part, Body, Message, is_answer}
 use Rattle.seq_arith.specs.Message.Body.{HelloMsg, OpenMsg, DataMsg, ReadMsg, DoneMsg, StaleMsg}
 use Rattle.ft_model.specs.Log.{Log, Entry, new_entry, opened, with_entry, with_bytes, with_its_fin, with_part, with_read, is_next_read, with_body, is_hello, log_after, answer_to, answer_body, answer_from}
 use Rattle.ft_model.proofs.Lists.{key_is}
 use Rattle.ft_model.proofs.LogAnswers.{kept_boot, LogWent, log_went}
 use Rattle.ft_model.proofs.LogAnswers.LogWent.{ignored, raised, changed}
-
-if_true : {X : Type 0} (b : Bool) (x y : X) → b ≡ true → (if b then x else y) ≡ x
-if_true true x y h = refl
-if_true false x y h = absurd (true≢false (sym h))
 
 -- bytes that were kept aren't kept again
 bytes_again : (part : Part) (e : Entry) → with_bytes part (with_bytes part e) ≡ with_bytes part e
@@ -45,19 +41,14 @@ fin_again part e =
     (λ t. if_true (part.fin && part.offset + length part.bytes == length e.bytes) _ _ t)
     (λ t. if_false (part.fin && part.offset + length part.bytes == length e.bytes) _ _ t)
 
--- the acknowledgement plays no part in the others
-if_both : {X Y : Type 0} (f : X → Y) (b : Bool) (x y : X) → f (if b then x else y) ≡ (if b then f x else f y)
-if_both f true x y = refl
-if_both f false x y = refl
-
 bytes_beside : (part : Part) (e : Entry) (n : ℕ) → with_bytes part (record e { acknowledged = n }) ≡ record (with_bytes part e) { acknowledged = n }
 bytes_beside part e n =
-    sym (if_both {X = Entry} {Y = Entry} (λ x. record x { acknowledged = n }) (e.fin || nat_lt (length e.bytes) part.offset) e
+    sym (of_if {X = Entry} {Y = Entry} (λ x. record x { acknowledged = n }) (e.fin || nat_lt (length e.bytes) part.offset) e
     (record e { bytes = e.bytes ++ drop (length e.bytes - part.offset) part.bytes }))
 
 fin_beside : (part : Part) (e : Entry) (n : ℕ) → with_its_fin part (record e { acknowledged = n }) ≡ record (with_its_fin part e) { acknowledged = n }
 fin_beside part e n =
-    sym (if_both {X = Entry} {Y = Entry} (λ x. record x { acknowledged = n }) (part.fin && part.offset + length part.bytes == length e.bytes) (record e { fin = true }) e)
+    sym (of_if {X = Entry} {Y = Entry} (λ x. record x { acknowledged = n }) (part.fin && part.offset + length part.bytes == length e.bytes) (record e { fin = true }) e)
 
 beside_acked : (part : Part) (e : Entry) (n : ℕ) → done_part part (record e { acknowledged = n }) ≡ record (done_part part e) { acknowledged = n }
 beside_acked part e n = ap (with_its_fin part) (bytes_beside part e n) ∙ fin_beside part (with_bytes part e) n

@@ -1,14 +1,12 @@
 -- The four facts of the headline hold after every moment of a world with a mortal logger, since they hold of the joint trace that it looks like.
-use Rattle.std.proofs.Common.{◌≡◌, inl, inr, true, true≢false, refl, sym, ap, ◌∙◌, subst, Option, Some, None, List, [], ◌∷◌, ◌++◌}
+use Rattle.std.proofs.Common.{◌≡◌, inl, inr, refl, sym, ap, ◌∙◌, subst, Option, Some, None, List, [], ◌∷◌, ◌++◌}
 use Rattle.std.specs.List.{AllByRecursion}
 use Rattle.ft_io.specs.declared.Key.{Key}
 use Rattle.server_trait.specs.Service.{Machine}
-use Rattle.ft_model.specs.Log.{Log}
 use Rattle.ft_model.specs.Network.{Packet}
 use Rattle.ft_model.specs.Network.Packet.{To_server, To_client, To_logger, From_logger}
-use Rattle.ft_model.specs.Node.{Node, Stage, points_at}
-use Rattle.ft_model.specs.Node.Stage.{Asking, Fetching, Serving}
-use Rattle.ft_model.specs.Masked.{SeesFront, AcknowledgesLogged, RestartIsExact, Resumes, AllAreTold, IsToldLast, is_restarting, last_told, told_to, or_before}
+use Rattle.ft_model.specs.Node.{Node, points_at}
+use Rattle.ft_model.specs.Masked.{SeesFront, AcknowledgesLogged, RestartIsExact, AllAreTold, IsToldLast, last_told, told_to, or_before}
 use Rattle.ft_model.specs.World.{World, Moment, Happens, Joint}
 use Rattle.ft_model.specs.declared.event.Event.{Event}
 use Rattle.ft_model.proofs.Lists.{all_weaker}
@@ -17,7 +15,7 @@ use Rattle.ft_model.proofs.OneTrace.{goes_on}
 use Rattle.ft_model.proofs.ToldLast.{or_none}
 use Rattle.ft_model.proofs.ToldOver.{told_after}
 use Rattle.ft_model.proofs.Acknowledged.{acknowledged_after}
-use Rattle.ft_model.proofs.Exact.{exact_after}
+use Rattle.ft_model.proofs.Exact.{exact_after, same_exact}
 use Rattle.ft_model.proofs.JointMasked.{sees_front}
 use Rattle.logger_deaths.specs.Deaths.{Step, MayHappen, MortalMoment, mortal_after, MortalJoint, IsAnswer, IsWithin, IsShown, IsUnseen, Unseen}
 use Rattle.logger_deaths.specs.Deaths.Step.{Calm, Dies}
@@ -40,17 +38,6 @@ told_within : (xs ys : List Packet) (node : Option Node) → IsWithin xs ys → 
 told_within xs ys None w t = tt
 told_within xs ys (Some node) w t =
     all_weaker (IsToldLast ys) (IsToldLast xs) (points_at node.stage) (λ p told unreset. last_within p.key xs ys w ∙ told unreset) t
-
--- a server that restarts isn't restarted by the logger's death
-still : {State : Type 0} (service : Machine State) (log : Log) (node : Option Node) → RestartIsExact service log node node
-still service log None = tt
-still service log (Some node) = λ restarting. by_stage node.stage restarting
-  where
-    by_stage : (stage : Stage) → is_restarting stage ≡ true → Resumes service log node stage
-    by_stage Asking r = tt
-    by_stage (Fetching count fetched) r = tt
-    by_stage (Serving opened places) r = absurd (true≢false (sym r))
-    by_stage _ r = tt
 
 module _ {State : Type 0} (service : Machine State) (small : HasSmallOutputs service) (start : World) where
   clients_see : (w : World) → IsShown service start w → AllByRecursion (SeesFront service w.log) w.clients
@@ -95,6 +82,6 @@ module _ {State : Type 0} (service : Machine State) (small : HasSmallOutputs ser
           record {
             clients = clients_see moment.world now;
             acknowledged = subst (AllByRecursion (AcknowledgesLogged moment.world.log moment.world.clients)) (sym h.2) tt;
-            restart = subst (λ n. RestartIsExact service moment.world.log then_.node n) (sym (ap (λ w. w.node) h.3)) (still service moment.world.log then_.node);
+            restart = subst (λ n. RestartIsExact service moment.world.log then_.node n) (sym (ap (λ w. w.node) h.3)) (same_exact service moment.world.log then_.node);
             told = are_told moment.world now;
           }

@@ -9,16 +9,12 @@ use Rattle.std.proofs.lemmas.List.{drop_all, length-append, length-drop}
 use Rattle.std.proofs.lemmas.Map.Steps.{set_value_same}
 use Rattle.ft_io.specs.declared.Key.{Key}
 use Rattle.ft_io.specs.Key.{key_eq}
-use Rattle.ft_io.proofs.Choices.{by_cases, same_some, if_false, holds_either_way}
+use Rattle.ft_io.proofs.Choices.{by_cases, same_some, if_false, holds_either_way, if_true}
 use Rattle.seq_arith.specs.Message.{Message, Body, Part, Numbers, is_answer}
 use Rattle.seq_arith.specs.Message.Body.{OpenMsg, DataMsg, ReadMsg, DoneMsg}
 use Rattle.ft_model.specs.Log.{Log, Entry, log_after, with_message, with_body, with_entry, entry_of, opened, new_entry, with_bytes, with_its_fin, with_part, with_read, is_next_read, is_hello}
 use Rattle.logger_store.specs.Changes.{part_changes, body_changes, changes}
 use Rattle.logger_store.proofs.Entries.{AreKept, changed, none_changed, one_changed, log_of}
-
-if_true : {X : Type 0} (b : Bool) (x y : X) → b ≡ true → (if b then x else y) ≡ x
-if_true true x y h = refl
-if_true false x y h = absurd (false≢true h)
 
 -- a part without news
 
@@ -40,7 +36,7 @@ part_same part e bytes fin acked =
 fin_alone : (part : Part) (e : Entry) → (part.fin && part.offset + length part.bytes == length e.bytes) ≡ false → with_its_fin part e ≡ e
 fin_alone part e none = if_false _ (record e { fin = true }) e none
 
-and_rest : (x y : Bool) → x ≡ true → (x && y) ≡ false → y ≡ false
+pub and_rest : (x y : Bool) → x ≡ true → (x && y) ≡ false → y ≡ false
 and_rest x y t none = sym (ap (λ b. b && y) t) ∙ none
 
 -- its bytes and its FIN change nothing

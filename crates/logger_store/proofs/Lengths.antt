@@ -4,9 +4,10 @@ use Rattle.std.specs.Prelude.{Some}
 use Rattle.std.specs.List.{flat_map}
 use Rattle.std.specs.Option.{option_map_or}
 use Rattle.std.specs.Int.{to_be_bytes, w16}
-use Rattle.std.proofs.lemmas.List.{length-append, length-take, take_all, drop_all, drop-append-le, length-replicate, replicate_more, drop-replicate, take-replicate, flat_map_more, take_more}
+use Rattle.std.proofs.lemmas.List.{length-append, length-take, take_all, drop_all, length-replicate, replicate_more, drop-replicate, take-replicate, flat_map_more, take_more}
 use Rattle.std.proofs.lemmas.Bool.{cases_lt}
-use Rattle.std.proofs.Math.Seq.{drop-append-add, take-append-add}
+use Rattle.std.proofs.Math.Seq.{take-append-add}
+use Rattle.ft_io.proofs.Lists.{drop_append}
 use Rattle.seq_arith.specs.MessageGrammar.{lens_in}
 use Rattle.logger_store.specs.declared.runs.Run.{Run}
 use Rattle.logger_store.specs.Pages.{lengths_in, ends_with}
@@ -53,22 +54,6 @@ cut_first zero xs ys = refl
 cut_first (suc n) [] ys = refl
 cut_first (suc n) (x ∷ xs) ys = ap (λ zs. x ∷ zs) (cut_first n xs ys)
 
-behind_both : (n : ℕ) (xs ys : List ℕ) → drop n (xs ++ ys) ≡ drop n xs ++ drop (n - length xs) ys
-behind_both n xs ys = elim (cases_lt n (length xs)) [ inl less ↦ inside less | inr more ↦ beyond more ]
-  where
-    nothing : (n m : ℕ) → n < m → 0 ≡ n - m
-    nothing n m h = omega (arith, h)
-
-    inside : n < length xs → drop n (xs ++ ys) ≡ drop n xs ++ drop (n - length xs) ys
-    inside h = drop-append-le n xs ys (omega (arith, h)) ∙ ap (λ k. drop n xs ++ drop k ys) (nothing n (length xs) h)
-
-    whole : (n m : ℕ) → m ≤ n → n ≡ m + (n - m)
-    whole n m h = omega (arith, h)
-
-    beyond : length xs ≤ n → drop n (xs ++ ys) ≡ drop n xs ++ drop (n - length xs) ys
-    beyond h = ap (λ k. drop k (xs ++ ys)) (whole n (length xs) h)
-        ∙ (drop-append-add xs ys (n - length xs) ∙ ap (λ zs. zs ++ drop (n - length xs) ys) (sym (drop_all n xs h)))
-
 -- one run more
 pub lengths_more : (first skip : ℕ) (old done now run : List ℕ) → now ≡ take 512 (old ++ drop first done) → skip ≡ first - length done
     → take 512 (now ++ drop skip run) ≡ take 512 (old ++ drop first (done ++ run))
@@ -76,7 +61,7 @@ lengths_more first skip old done now run is left =
     ap (λ xs. take 512 (xs ++ drop skip run)) is
     ∙ (cut_first 512 (old ++ drop first done) (drop skip run)
     ∙ ap (take 512) (append_assoc old (drop first done) (drop skip run)
-    ∙ ap (λ xs. old ++ xs) (ap (λ n. drop first done ++ drop n run) left ∙ sym (behind_both first done run))))
+    ∙ ap (λ xs. old ++ xs) (ap (λ n. drop first done ++ drop n run) left ∙ sym (drop_append first done run))))
 
 -- the last of some lengths is that of the last run
 last_there : (ys : List ℕ) (y : ℕ) → slice_get (ys ++ y ∷ []) (length ys) ≡ Some y

@@ -4,10 +4,10 @@ use Rattle.std.specs.List.{list_any, flat_map}
 use Rattle.std.proofs.Math.Nat.{suc-mul, zero-mul, mul-le-mul_right}
 use Rattle.std.proofs.Math.Seq.{take-append-add}
 use Rattle.std.proofs.lemmas.Bool.{cases_lt}
-use Rattle.std.proofs.lemmas.List.{take_all, take-append-le, take-append-drop, length-replicate, drop_more}
+use Rattle.std.proofs.lemmas.List.{take_all, take-append-le, length-replicate, drop_more}
 use Rattle.std.proofs.lemmas.List.Folds.{list_any-append}
 use Rattle.ft_io.proofs.Choices.{same_some}
-use Rattle.ft_model.proofs.Services.{sum_more}
+use Rattle.ft_model.proofs.Services.{sum_more, sum_take}
 use Rattle.logger_store.specs.declared.runs.Run.{Run}
 use Rattle.logger_store.specs.Pages.{lengths_in, reads_on, took}
 use Rattle.logger_store.proofs.Lengths.{front_of_equals}
@@ -112,9 +112,6 @@ some_of k n xs is = by (list_any (λ m. m == 0) (take k xs)) is
     by true p = absurd (true≢false (sym (ap is_some p)))
     by false p = sym (same_some p)
 
-front_sum : (k : ℕ) (xs : List ℕ) → sum (take k xs) ≤ sum xs
-front_sum k xs = let both = sum_of (take k xs) (drop k xs) in let all = ap sum (take-append-drop k xs) in omega (arith, both, all)
-
 pub run_taken : (runs : List Run) (i reads left after total n : ℕ) (d : Run) (last whole : List ℕ) → i < length runs
     → (took reads whole ≡ plus (Some total) (took left (flat_map lengths_in (drop i runs) ++ last))) × (total + sum (flat_map lengths_in (drop i runs) ++ last) ≤ 2 ^ 24)
     → took left (lengths_in (get_or runs i d)) ≡ Some n → after ≡ left - (get_or runs i d).count
@@ -128,7 +125,7 @@ run_taken runs i reads left after total n d last whole there so_far next is =
     let behind : left - length (lengths_in run) ≡ after = ap (λ k. left - k) (length-replicate run.count run.length) ∙ sym is in
     let sums = ap sum cut ∙ sum_of (lengths_in run) rest in
     let counted = some_of left n (lengths_in run) next in
-    let within = front_sum left (lengths_in run) in
+    let within = sum_take left (lengths_in run) in
     let few = so_far.1 in (
       so_far.0
           ∙ (ap (λ l. plus (Some total) (took left l)) cut
@@ -169,4 +166,4 @@ on_took reads xs (Some n) is = by (list_any (λ m. m == 0) (take reads xs)) (sym
 pub few_took : (reads bytes : ℕ) (xs : List ℕ) (o : Option ℕ) → o ≡ took reads xs → sum xs ≤ bytes → IfSome o (λ n. n ≤ bytes)
 few_took reads bytes xs None is few = tt
 few_took reads bytes xs (Some n) is few =
-    let one = some_of reads n xs (sym is) in let all = front_sum reads xs in omega (arith, one, all, few)
+    let one = some_of reads n xs (sym is) in let all = sum_take reads xs in omega (arith, one, all, few)

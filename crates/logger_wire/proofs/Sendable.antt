@@ -131,7 +131,7 @@ pub read_fit : (fields : List Field) (bytes : List ℕ) → AreBytes bytes → A
 read_fit [] bytes are = tt
 read_fit (field ∷ rest) bytes are = (number_small (width field) bytes are, read_fit rest (drop (width field) bytes) (bytes_left (width field) bytes are))
 
-lens_length : (bytes : List ℕ) → length bytes % 2 ≡ 0 → length (lens_bytes (lens_in bytes)) ≡ length bytes
+pub lens_length : (bytes : List ℕ) → length bytes % 2 ≡ 0 → length (lens_bytes (lens_in bytes)) ≡ length bytes
 unfolding two
 lens_length [] even = refl
 lens_length (high ∷ []) even = absurd (omega arith)

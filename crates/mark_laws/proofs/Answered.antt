@@ -17,7 +17,7 @@ use Rattle.ft_model.specs.Node.Place.{Lives}
 use Rattle.ft_model.proofs.Resumed.{nothing_missing, restored_at}
 use Rattle.std.proofs.lemmas.Option.{slice_get_within}
 use Rattle.ft_model.proofs.Lists.{none_is_some, some_is, same_key, take_first, all_slice_get}
-use Rattle.ft_model.proofs.Fetching.{AgreesWith, AreFetched, told_agrees, fetched_agrees}
+use Rattle.ft_model.proofs.Fetching.{AgreesWith, AreFetched, told_agrees, fetched_agrees, chosen_is}
 use Rattle.mark_laws.specs.MarkedLog.{MarkedLog, AnyMessage, no_mark, after_mark, answer_above, answer_to_mark, is_below, is_mark_answer, told_of_mark, about_mark}
 use Rattle.mark_laws.specs.MarkedLog.AnyMessage.{About_mark, Of_log}
 use Rattle.mark_laws.specs.Runs.{IsRunOf}
@@ -111,10 +111,6 @@ fetched_on_agrees l marks boot count answer before more service writing log was 
     subst (λ x. AreFetched l.log.entries x.entries) parts.2 (fetched_agrees l.log.entries count before.entries parts.0 answer.body log.distinct was agrees parts.1))
     (λ s e. none_is_some more e))
 
-chosen : {A : Type 0} (b : Bool) (x y : A) → (if b then Some x else None) ≡ Some y → (b ≡ true) × (x ≡ y)
-chosen true x y e = (refl, some_is x y e)
-chosen false x y e = none_is_some y e
-
 front_of : {State : Type 0} (service : Machine State) (writing : Writing State) (l : MarkedLog) (f : Fetched) (earlier : List Fetched) (key : Key) (m : Mark) → ReadsBack service writing
     → HasTrueMarks service writing l → AreFetched l.log.entries (f ∷ earlier) → key_eq key f.head.key ≡ true → m ≡ l.marks key
     → (bytes : List ℕ) × (lengths : List ℕ) × IsFront service writing m bytes lengths × AreFetched l.log.entries (with_front bytes lengths (f ∷ earlier))
@@ -144,7 +140,7 @@ newest_front : {State : Type 0} (service : Machine State) (writing : Writing Sta
     → mark_of_newest writing body entries ≡ Some m
     → (bytes : List ℕ) × (lengths : List ℕ) × IsFront service writing m bytes lengths × AreFetched l.log.entries (with_front bytes lengths entries)
 newest_front service writing l (HeldMsg key held) (f ∷ earlier) m back log was agrees e =
-    let taken = chosen (key_eq key f.head.key && mark_fits writing f.head held) held m e in
+    let taken = chosen_is (key_eq key f.head.key && mark_fits writing f.head held) held m e in
     front_of service writing l f earlier key m back log was (and_parts (key_eq key f.head.key) (mark_fits writing f.head held) taken.0).0
     (sym taken.1 ∙ agrees key held refl)
 newest_front service writing l (HeldMsg key held) [] m back log was agrees e = none_is_some m e

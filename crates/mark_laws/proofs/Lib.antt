@@ -1,4 +1,4 @@
 mod Runs
 pub mod Closing
-mod MarksSent
+pub mod MarksSent
 mod Answered

@@ -4,7 +4,6 @@ use Rattle.std.specs.Prelude.{nat_lt, nat_le, is_none}
 use Rattle.std.specs.Bool.{MatchBool}
 use Rattle.std.specs.Option.{option_map_or}
 use Rattle.std.proofs.lemmas.List.{take-append-drop, map-append}
-use Rattle.std.proofs.lemmas.Option.{none-some}
 use Rattle.std.proofs.Math.Seq.{take-append_seam, drop-append_seam}
 use Rattle.ft_io.specs.declared.Addr.{Addr}
 use Rattle.ft_io.specs.declared.Key.{Key}
@@ -24,13 +23,14 @@ use Rattle.ft_model.specs.News.{News}
 use Rattle.ft_model.specs.News.News.{Ticks}
 use Rattle.ft_model.specs.Answered.{reads_answered_after}
 use Rattle.ft_model.specs.Point.{Point, blank_point, made, whole_run}
-use Rattle.ft_model.specs.Reads.{next_read, next_length, may_read, Makes, MakesReads, reads_told}
+use Rattle.ft_model.specs.Reads.{next_read, next_length, may_read, MakesReads, reads_told}
 use Rattle.ft_model.specs.Segments.{segments_of}
 use Rattle.ft_model.specs.Sending.{acknowledged_after}
 use Rattle.ft_model.specs.Taken.{taken_after, fin_after}
 use Rattle.ft_model.specs.Timer.{is_tick}
 use Rattle.ft_model.proofs.Lists.{all_append}
 use Rattle.ft_model.proofs.TurnTells.{settled_reads}
+use Rattle.ft_model.proofs.Running.{none_made}
 use Rattle.mark_laws.specs.MarkedLog.{has_closing}
 use Rattle.mark_laws.specs.Quiet.{IsQuiet, is_quiet, mark_of}
 use Rattle.mark_laws.specs.Runs.{IsRunOf}
@@ -67,11 +67,11 @@ without_append [] ys = refl
 without_append (Plain packet ∷ xs) ys = ap (λ l. packet ∷ l) (without_append xs ys)
 without_append (Mark_to_logger message ∷ xs) ys = without_append xs ys
 
-without_plain : (packets : List Packet) → without_marks (map Plain packets) ≡ packets
+pub without_plain : (packets : List Packet) → without_marks (map Plain packets) ≡ packets
 without_plain [] = refl
 without_plain (packet ∷ packets) = ap (λ l. packet ∷ l) (without_plain packets)
 
-without_out : (boot : ℕ) (p : Point) (marks : List Mark) → without_marks (marks_out boot p marks) ≡ []
+pub without_out : (boot : ℕ) (p : Point) (marks : List Mark) → without_marks (marks_out boot p marks) ≡ []
 without_out boot p [] = refl
 without_out boot p (mark ∷ marks) = without_out boot p marks
 
@@ -117,7 +117,7 @@ stand_before_done service server boot news p q marks =
     ap₂ (λ n l. with_marks n marks l) (sym (same_length boot (dones news p q))) parts ∙ before_the_last marks (segments ++ told) last
 
 -- a node that marks nothing
-plain_map : (k : ℕ) (packets : List Packet) → with_marks k [] packets ≡ map Plain packets
+pub plain_map : (k : ℕ) (packets : List Packet) → with_marks k [] packets ≡ map Plain packets
 plain_map k packets =
     let n : ℕ = length packets - k in sym (map-append Plain (take n packets) (drop n packets)) ∙ ap (map Plain) (take-append-drop n packets)
 
@@ -137,7 +137,7 @@ unmarked_turn service writing server boot news p q m n sent none t = record {
 }
 
 -- after a turn no mark is due
-not_twice : (a b c : Bool) → (a && false && b && c) ≡ false
+pub not_twice : (a b c : Bool) → (a && false && b && c) ≡ false
 not_twice a b c = grind (arith)
 
 pub none_due : {State : Type 0} (service : Machine State) (writing : Writing State) (every : ℕ) (m : Marking) (p : Point) → is_due service every (with_new service writing every p m) p ≡ false
@@ -206,10 +206,6 @@ same_part key p q s lengths =
       una = s.una j;
       reads_answered = s.reads_answered j;
     }
-
-none_made : {State : Type 0} (service : Machine State) (r : Point) (ns : List ℕ) → next_read service r ≡ None → Makes service r ns → ns ≡ []
-none_made service r [] none makes = refl
-none_made service r (n ∷ ns) none makes = absurd (none-some n (sym none ∙ makes.0))
 
 tick_lengths : {State : Type 0} (service : Machine State) (p q : Point) → next_read service p ≡ None → IsStill p q → MakesReads service p q → q.lengths ≡ p.lengths
 tick_lengths service p q none still made =

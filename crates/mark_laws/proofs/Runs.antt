@@ -1,7 +1,7 @@
 -- What a mark says: it stays true while the log grows, a quiet point makes it true, and the front of the entry is then one.
-use Rattle.std.proofs.Common.{◌≡◌, ℕ, zero, suc, ◌≤◌, ◌==◌, sym, ap, ◌∙◌, subst, Some, List, [], ◌∷◌, ◌++◌, length, sum, take, drop, append-nil, length-append, length-take, arith, le_refl, le_trans}
-use Rattle.std.specs.List.{AllByRecursion, list_any}
-use Rattle.std.proofs.lemmas.List.{take-append-le, take_all}
+use Rattle.std.proofs.Common.{◌≡◌, ℕ, ◌≤◌, ◌==◌, sym, ap, ◌∙◌, Some, List, [], ◌∷◌, ◌++◌, length, sum, take, append-nil, length-append, length-take, arith, le_refl, le_trans}
+use Rattle.std.specs.List.{list_any}
+use Rattle.std.proofs.lemmas.List.{take_all}
 use Rattle.server_trait.specs.Service.{Machine, reference, cut, AreBytes}
 use Rattle.ft_model.specs.Log.{Entry}
 use Rattle.ft_model.specs.Growth.{IsPrefix, EntryGrows}
@@ -10,16 +10,15 @@ use Rattle.ft_model.proofs.Lists.{take_first}
 use Rattle.ft_model.proofs.Services.{more_bytes, prefix_length}
 use Rattle.server_trait.specs.Saved.{Writing, ReadsBack}
 use Rattle.seq_arith.specs.Mark.{Mark}
+use Rattle.ft_model.proofs.Authored.{take_of_prefix}
+use Rattle.ft_model.proofs.Formed.{bytes_cut}
 use Rattle.mark_laws.specs.Runs.{IsRunOf}
 use Rattle.mark_laws.specs.Quiet.{IsQuiet, mark_of}
 use Rattle.mark_laws.specs.Front.{IsBelow, bytes_below, lengths_below}
 
-same_front : (k : ℕ) (xs ys : List ℕ) → IsPrefix xs ys → k ≤ length xs → take k ys ≡ take k xs
-same_front k xs ys p h = subst (λ l. take k l ≡ take k xs) p.1 (take-append-le k xs p.0 h)
-
 pub grows : {State : Type 0} (service : Machine State) (writing : Writing State) (a b : Entry) (m : Mark) → EntryGrows a b → IsRunOf service writing a m → IsRunOf service writing b m
 grows service writing a b m g r =
-    let lengths : take m.reads b.lengths ≡ take m.reads a.lengths = same_front m.reads a.lengths b.lengths g.lengths r.count in
+    let lengths : take m.reads b.lengths ≡ take m.reads a.lengths = take_of_prefix m.reads a.lengths b.lengths g.lengths r.count in
     let longer : length a.lengths ≤ length b.lengths = prefix_length a.lengths b.lengths g.lengths in
     let size : length a.bytes ≤ length b.bytes = prefix_length a.bytes b.bytes g.bytes in
     let total : sum (take m.reads b.lengths) ≡ sum (take m.reads a.lengths) = ap sum lengths in
@@ -67,20 +66,6 @@ quiet_marks service writing script p e taken within fits enough front known quie
       running = ap (λ x. x.closed) run ∙ quiet.running;
     }
 
-bytes_take : (n : ℕ) (xs : List ℕ) → AreBytes xs → AreBytes (take n xs)
-bytes_take zero xs a = tt
-bytes_take (suc n) [] a = tt
-bytes_take (suc n) (x ∷ xs) a = (a.0, bytes_take n xs a.1)
-
-bytes_drop : (n : ℕ) (xs : List ℕ) → AreBytes xs → AreBytes (drop n xs)
-bytes_drop zero xs a = a
-bytes_drop (suc n) [] a = tt
-bytes_drop (suc n) (x ∷ xs) a = bytes_drop n xs a.1
-
-cut_bytes : (bytes lengths : List ℕ) → AreBytes bytes → AllByRecursion AreBytes (cut bytes lengths)
-cut_bytes bytes [] a = tt
-cut_bytes bytes (n ∷ lengths) a = (bytes_take n bytes a, cut_bytes (drop n bytes) lengths (bytes_drop n bytes a))
-
 pub front_is : {State : Type 0} (service : Machine State) (writing : Writing State) (e : Entry) (m : Mark) → ReadsBack service writing → AreBytes e.bytes
     → IsRunOf service writing e m → IsBelow service writing m (bytes_below m e) (lengths_below m e)
 unfolding reference
@@ -92,7 +77,7 @@ front_is service writing e m reads_back bytes r =
     let within : sum lengths ≤ length (take m.length e.bytes) = omega (arith, size, r.bytes) in
     let run : reference service (take m.length e.bytes) lengths ≡ reference service e.bytes lengths =
     sym (more_bytes service (take m.length e.bytes) e.bytes lengths (take_first m.length e.bytes) within) in
-    let back = reads_back (cut e.bytes lengths) (cut_bytes e.bytes lengths bytes) r.running in
+    let back = reads_back (cut e.bytes lengths) (bytes_cut e.bytes lengths bytes) r.running in
     record {
       reads = count;
       size = size;

@@ -1,10 +1,10 @@
--- A restart that a log with marks answers.
+-- A restart's questions to a log with marks, and the answers.
 use Rattle.std.specs.Prelude.{◌≡◌, ◌⊎◌, Option, option_map, map}
 use Rattle.std.specs.List.{AllByRecursion}
 use Rattle.server_trait.specs.Service.{Machine, AreBytes}
 use Rattle.server_trait.specs.Saved.{Writing}
 use Rattle.ft_model.specs.Log.{log_after}
-use Rattle.ft_model.proofs.Keys.{AreDistinct}
+use Rattle.ft_model.specs.Keys.{AreDistinct}
 use Rattle.mark_laws.specs.MarkedLog.{MarkedLog, AnyMessage, no_mark, after_mark, answer_above, answer_to_mark}
 use Rattle.mark_laws.specs.MarkedLog.AnyMessage.{About_mark, Of_log}
 use Rattle.mark_laws.specs.Runs.{IsRunOf}

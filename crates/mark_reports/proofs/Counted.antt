@@ -21,7 +21,7 @@ use Rattle.ft_model.specs.Node.Input.{Message_comes, Tick_comes}
 use Rattle.ft_model.specs.Point.{Point}
 use Rattle.ft_model.specs.Restart.{Fetched, Wanted, wanted, question}
 use Rattle.ft_model.specs.ServingTurn.{PlaceTurn, concerns, newcomers, refusals, opens_at}
-use Rattle.ft_model.proofs.Lists.{all_append, all_map, all_of}
+use Rattle.ft_model.proofs.Lists.{all_append, all_of}
 use Rattle.mark_laws.specs.MarkedLog.{AnyMessage}
 use Rattle.mark_laws.specs.MarkedLog.AnyMessage.{Of_log}
 use Rattle.mark_laws.specs.Marking.{Marking, MarkedTurn, Outgoing, is_due, marking_answered, marks_out, new_marks, outstanding_in, with_new}
@@ -30,7 +30,7 @@ use Rattle.mark_laws.specs.Quiet.{is_quiet, mark_of}
 use Rattle.mark_laws.specs.Restart.{FetchedSoFar, begun_on, fetched_on, log_question, mark_question, mark_reported, next_question, or_else}
 use Rattle.mark_traces.specs.MarkedNode.{Marker, MarkedNode, MarkedInput, Continues, FetchesMarked, HearsOfMark, InputTurn, MarkTurn, PlainTurn, RestsMarked, ServesMarked, UnlessFenced, is_tick_input, live_at, marking_fetched, marking_then, marks_at, marks_in, outgoing, so_far, with_marking, with_stage}
 use Rattle.mark_traces.specs.MarkedNode.MarkedInput.{Plain_comes, Mark_comes}
-use Rattle.mark_traces.proofs.Truth.{gone_all}
+use Rattle.mark_traces.proofs.Truth.{gone_all, plain_all}
 
 -- a mark of at least one read, by a server that marks
 abbrev pub Counts : (every : ℕ) → Mark → Type 0
@@ -105,13 +105,10 @@ pub record TurnCounts {State : Type 0} (by : Marker State) (boot : ℕ) (out : L
   pub sent : AllByRecursion (OutCounts boot by.every later.plain.stage) out
   pub outstanding : (key : Key) → AllCount by.every (later.marking key)
 
-plain_count : (P : Outgoing → Type 0) → ((packet : Packet) → P (Plain packet)) → (packets : List Packet) → AllByRecursion P (map Plain packets)
-plain_count P plain packets = all_map P Plain packets (all_of (λ packet. P (Plain packet)) packets plain)
-
 plainly : {State : Type 0} (by : Marker State) (boot : ℕ) (node : MarkedNode) (packets : List Packet) (out : List Outgoing) (later : MarkedNode) → ((key : Key) → AllCount by.every (node.marking key))
     → out ≡ map Plain packets → later.marking ≡ node.marking → TurnCounts by boot out later
 plainly by boot node packets out later a sent same = record {
-  sent = subst (AllByRecursion (OutCounts boot by.every later.plain.stage)) (sym sent) (plain_count (OutCounts boot by.every later.plain.stage) (λ p. tt) packets);
+  sent = subst (AllByRecursion (OutCounts boot by.every later.plain.stage)) (sym sent) (plain_all (OutCounts boot by.every later.plain.stage) (λ p. tt) packets);
   outstanding = λ key. subst (λ (marking : Key → Marking). AllCount by.every (marking key)) (sym same) (a key);
 }
 
@@ -163,7 +160,7 @@ serves by node input opened places later_places marking out later a t after =
           (all_of (λ x. AllByRecursion P (marks x)) t.went
           (λ x. holds_if (AllByRecursion P) (concerns node.plain input (key_of x)) (marks_at by node.plain.boot (is_tick_input input) node.marking x) []
           (λ c. at_counts by node.plain.boot stage (is_tick_input input) node.marking a x) (λ c. tt))))
-          (plain_count P (λ p. tt) (refusals node.plain input places ++ flat_map (opens_at node.plain input) later_places))));
+          (plain_all P (λ p. tt) (refusals node.plain input places ++ flat_map (opens_at node.plain input) later_places))));
       outstanding = λ key. subst (λ (n : MarkedNode). AllCount by.every (n.marking key)) (sym after)
           (subst (λ (x : Key → Marking). AllCount by.every (x key)) (sym t.marking_is)
           (holds_if (AllCount by.every) (concerns node.plain input key) (marking_then by (place_at key t.went) (node.marking key)) (node.marking key)

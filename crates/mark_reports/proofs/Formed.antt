@@ -1,5 +1,5 @@
 -- What is sent without marks in a trace with marks is well formed.
-use Rattle.std.proofs.Common.{◌≡◌, ⊎_elim, ℕ, ◌+◌, ◌<◌, ◌≤◌, ◌^◌, ◌==◌, ◌&&◌, true, true≢false, refl, sym, ◌∙◌, subst, arith, Option, Some, None, option_map, option_to_list, List, [], ◌∷◌, ◌++◌, map, length, if◌then◌else◌}
+use Rattle.std.proofs.Common.{◌≡◌, ⊎_elim, ℕ, ◌+◌, ◌<◌, ◌≤◌, ◌^◌, ◌==◌, ◌&&◌, true, refl, sym, ◌∙◌, subst, Option, Some, None, option_map, option_to_list, List, [], ◌∷◌, ◌++◌, map, length, if◌then◌else◌}
 use Rattle.std.specs.Prelude.{nat_lt}
 use Rattle.std.specs.List.{AllByRecursion}
 use Rattle.std.proofs.lemmas.Bool.{ltb-true}
@@ -14,30 +14,26 @@ use Rattle.seq_arith.specs.Message.Body.{StaleMsg}
 use Rattle.server_trait.specs.Service.{Machine, WritesBytes}
 use Rattle.ft_model.specs.Lawful.{Continues as PlainContinues, Revives, all_restored, asked}
 use Rattle.ft_model.specs.Log.{Log, Entry, answer_to}
-use Rattle.ft_model.specs.Masked.{is_restarting}
 use Rattle.ft_model.specs.Network.{Packet}
 use Rattle.ft_model.specs.Network.Packet.{From_logger}
-use Rattle.ft_model.specs.News.News.{Begins}
-use Rattle.ft_model.specs.Node.{Node, Place, Stage}
-use Rattle.ft_model.specs.Node.Place.{Lives, Opens, Ended}
-use Rattle.ft_model.specs.Node.Stage.{Asking, Fetching, Serving, Fenced}
-use Rattle.ft_model.specs.Restart.{Fetched, Wanted, wanted, next_entry, lacks_read_bytes, lacks_bytes, lacks_lengths, point_of}
+use Rattle.ft_model.specs.Node.{Node, Stage}
+use Rattle.ft_model.specs.Node.Place.{Lives}
+use Rattle.ft_model.specs.Restart.{Fetched, Wanted, wanted, point_of}
 use Rattle.ft_model.specs.Restart.Wanted.{An_entry, Its_bytes, Its_lengths}
 use Rattle.ft_model.specs.World.{World, Happens}
 use Rattle.ft_model.specs.declared.event.Event.{Event}
 use Rattle.ft_model.proofs.Faithful.{EntriesFit, PlaceFits}
 use Rattle.ft_model.proofs.FaithfulOver.{script_of, isn_of, points_fit, restored_all}
 use Rattle.ft_model.proofs.Fetching.{AreFetched}
-use Rattle.ft_model.proofs.Formed.{HasClient, IsBoot, PacketFormed, StartFormed, EntryFormed, PointFormed, PlaceFormed, StageFormed, NodeFormed, WorldFormed}
+use Rattle.ft_model.proofs.Formed.{HasClient, IsBoot, PacketFormed, StartFormed, EntryFormed, PlaceFormed, StageFormed, NodeFormed, WorldFormed}
 use Rattle.ft_model.proofs.FormedLog.{EntryTells, AckedWithin, entries_tell}
-use Rattle.ft_model.proofs.FormedOver.{Knows, turn_formed}
-use Rattle.ft_model.proofs.FormedTurns.{PlaceSound, connection_formed}
+use Rattle.ft_model.proofs.FormedOver.{Knows, turn_formed, no_places, point_formed, revived_formed, wanted_formed}
+use Rattle.ft_model.proofs.FormedTurns.{PlaceSound}
 use Rattle.ft_model.proofs.FormedWorld.{moment_formed}
 use Rattle.ft_model.proofs.Happened.{answers, happened}
-use Rattle.ft_model.proofs.Lists.{all_append, all_both, all_slice_get, all_weaker, none_is_some, some_is}
+use Rattle.ft_model.proofs.Lists.{all_append, all_both, all_weaker}
 use Rattle.ft_model.proofs.PlaceTurns.{all_go_on}
 use Rattle.ft_model.proofs.Resumed.{nothing_missing}
-use Rattle.ft_model.proofs.Services.{prefix_length}
 use Rattle.ft_model.proofs.StageTurns.{stage_went}
 use Rattle.mark_laws.specs.MarkedLog.{MarkedLog, AnyMessage, acknowledging, after_mark, answer_above, answer_to_mark, about_mark, is_below, is_mark_answer, keeps, told_of_mark, with_mark, with_mark_body}
 use Rattle.mark_laws.specs.MarkedLog.AnyMessage.{Of_log}
@@ -45,6 +41,7 @@ use Rattle.mark_traces.specs.MarkedNode.{MarkedNode}
 use Rattle.mark_traces.specs.MarkedWorld.{Parcel, MarkedWorld, answered_as, seen, usual}
 use Rattle.mark_traces.specs.MarkedWorld.Parcel.{Usual}
 use Rattle.mark_traces.proofs.Strip.{usual_append, usual_of}
+use Rattle.mark_traces.proofs.LogSteps.{mapped_node}
 use Rattle.mark_reports.proofs.SeenTurns.{SeenTurn}
 use Rattle.mark_reports.proofs.SeenTurns.SeenTurn.{as_without, unseen, asks_mark, from_mark}
 
@@ -56,54 +53,10 @@ WantedFormed start (An_entry index) = index ≤ 63
 WantedFormed start (Its_bytes key offset) = HasClient start key × (offset ≤ 2 ^ 24)
 WantedFormed start (Its_lengths key first) = HasClient start key × (first ≤ 2 ^ 24 + 1)
 
-pub newest_formed : (start : World) (entries : List Entry) (f : Fetched) (earlier : List Fetched) → AllByRecursion (EntryTells start) entries → AreFetched entries (f ∷ earlier)
-    → HasClient start f.head.key × (length f.bytes ≤ 2 ^ 24) × (length f.lengths ≤ 2 ^ 24 + 1)
-newest_formed start entries f earlier e a =
-    let tells : EntryTells start a.0 = all_slice_get (EntryTells start) entries (length earlier) a.0 e a.1 in
-    let bytes = prefix_length f.bytes a.0.bytes a.2.bytes in
-    let lengths = prefix_length f.lengths a.0.lengths a.2.lengths in (
-      subst (λ h. HasClient start h.key) (sym a.2.head) tells.formed.key,
-      omega (arith, bytes, tells.short),
-      omega (arith, lengths, tells.formed.count, tells.formed.enough, tells.short),
-    )
-
-next_formed : (start : World) (count index : ℕ) (w : Wanted) → count ≤ 64 → next_entry count index ≡ Some w → WantedFormed start w
-next_formed start count index w few =
-    holds_if (λ o. o ≡ Some w → WantedFormed start w) (nat_lt index count) (Some (An_entry index)) None
-    (λ t e. subst (WantedFormed start) (some_is _ _ e) (let less : index < count = ltb-true _ _ t in omega (arith, less, few))) (λ t e. none_is_some w e)
-
-wanted_formed : (start : World) (entries : List Entry) (count : ℕ) (fetched : List Fetched) (w : Wanted) → count ≤ 64 → AllByRecursion (EntryTells start) entries
-    → AreFetched entries fetched → wanted count fetched ≡ Some w → WantedFormed start w
-wanted_formed start entries count [] w few e a g = next_formed start count 0 w few g
-wanted_formed start entries count (f ∷ earlier) w few e a missing =
-    let newest = newest_formed start entries f earlier e a in
-    let Asks : Option Wanted → Type 0 = λ o. o ≡ Some w → WantedFormed start w in
-    holds_if Asks (lacks_read_bytes f) (Some (Its_bytes f.head.key (length f.bytes))) _ (λ t g. subst (WantedFormed start) (some_is _ _ g) (newest.0, newest.1))
-    (λ t. holds_if Asks (lacks_lengths f) (Some (Its_lengths f.head.key (length f.lengths))) _ (λ x g. subst (WantedFormed start) (some_is _ _ g) (newest.0, newest.2))
-    (λ x. holds_if Asks (lacks_bytes f) (Some (Its_bytes f.head.key (length f.bytes))) _ (λ y g. subst (WantedFormed start) (some_is _ _ g) (newest.0, newest.1))
-    (λ y g. next_formed start count (length (f ∷ earlier)) w few g))) missing
-
 asked_formed : (start : World) (node : Node) (w : Wanted) → IsBoot node.boot → WantedFormed start w → AllByRecursion (PacketFormed start) (asked node (Some w))
 asked_formed start node (An_entry index) b h = ((b, h), tt)
 asked_formed start node (Its_bytes key offset) b h = ((b, h), tt)
 asked_formed start node (Its_lengths key first) b h = ((b, h), tt)
-
--- .. and its end
-point_formed : {State : Type 0} (service : Machine State) (start : World) (e : Entry) → EntryFormed start e → PointFormed start (point_of service e)
-point_formed service start e h =
-    record { key = h.key; sisn = h.sisn; mss = h.mss; enough = h.enough; fetched = omega arith; count = h.count; lengths = h.lengths }
-
-revived_formed : {State : Type 0} (service : Machine State) (start : World) (log : Log) (node : Node) → WritesBytes service → StartFormed start
-    → EntriesFit (script_of start) (isn_of start) log.entries → node.server ≡ start.server → IsBoot node.boot
-    → (place : Place) (now : List Place) (sent : List Packet) → PlaceSound start log place → Revives service node place now sent
-    → AllByRecursion (PlaceSound start log) now × AllByRecursion (PacketFormed start) sent
-revived_formed service start log node writes s entries at b (Lives p) now sent h t =
-    let c = connection_formed service start log node Begins p t.0 sent writes s entries at b tt tt tt h t.2 in
-    (subst (AllByRecursion (PlaceSound start log)) (sym t.1) (c.0, tt), c.1)
-revived_formed service start log node writes s entries at b (Opens n) now sent h t =
-    (subst (AllByRecursion (PlaceSound start log)) (sym t.0) (h, tt), subst (AllByRecursion (PacketFormed start)) (sym t.1) tt)
-revived_formed service start log node writes s entries at b (Ended k) now sent h t =
-    (subst (AllByRecursion (PlaceSound start log)) (sym t.0) (h, tt), subst (AllByRecursion (PacketFormed start)) (sym t.1) tt)
 
 -- A turn
 abbrev TurnFormed : World → Node → List Packet → Type 0
@@ -111,12 +64,6 @@ TurnFormed start later sent = NodeFormed start later × AllByRecursion (PacketFo
 
 with_stage_formed : (start : World) (node later : Node) (stage : Stage) → NodeFormed start node → StageFormed start stage → later ≡ record node { stage = stage } → NodeFormed start later
 with_stage_formed start node later stage n s e = subst (NodeFormed start) (sym e) (record { server = n.server; boot = n.boot; stage = s })
-
-no_places : (start : World) (stage : Stage) → is_restarting stage ≡ true → StageFormed start stage
-no_places start Asking r = tt
-no_places start (Fetching count fetched) r = tt
-no_places start (Serving opened places) r = absurd (true≢false (sym r))
-no_places start (Fenced newer) r = tt
 
 module _ {State : Type 0} (service : Machine State) (start u : World) (node : Node) (writes : WritesBytes service) (s : StartFormed start) (k : Knows start u) (up : u.node ≡ Some node) where
   tells : AllByRecursion (EntryTells start) u.log.entries
@@ -219,11 +166,6 @@ told_formed start l message boot below =
     (λ older. (((boot, (ltb-true message.boot l.log.boot older, below)), tt), tt))
     (λ newer. holds_either_way Are (message.boot == l.log.boot) (option_map (about_mark message.boot) (told_of_mark message.body (after_mark l message))) None
     (none_usual start message.boot (told_of_mark message.body (after_mark l message))) tt))
-
--- The world becomes one with this log, server and boot, and these parcels are sent
-mapped_node : (o : Option MarkedNode) (n : Node) → option_map (λ (x : MarkedNode). x.plain) o ≡ Some n → (node : MarkedNode) × (o ≡ Some node) × (node.plain ≡ n)
-mapped_node (Some node) n e = (node, refl, some_is node.plain n e)
-mapped_node None n e = none_is_some n e
 
 pub next_formed_world : (start : World) (w : MarkedWorld) (log : MarkedLog) (boot : ℕ) (node : Option MarkedNode) (new : List Parcel) → WorldFormed start (seen w) → LogFormed start log.log
     → AnswersFormed start new → ((n : MarkedNode) → node ≡ Some n → NodeFormed start n.plain) → WorldFormed start (seen (record w { log = log; boot = boot; node = node; parcels = w.parcels ++ new }))

@@ -33,10 +33,11 @@ use Rattle.mark_laws.specs.Front.{bytes_below, lengths_below}
 use Rattle.mark_laws.specs.MarkedLog.AnyMessage.{Of_log}
 use Rattle.mark_laws.specs.Marking.{Marking, Outgoing, MarkedTurn, marking_answered, new_marks, without_marks}
 use Rattle.mark_laws.specs.Restart.{awaits_after, fetched_on, mark_question, log_question, or_else, mark_fits, mark_reported, mark_of_newest, begun_on}
+use Rattle.mark_laws.proofs.MarksSent.{without_out, without_plain}
 use Rattle.mark_traces.specs.MarkedNode.{Marker, MarkedNode, MarkedInput, Continues, FetchesMarked, HearsOfMark, InputTurn, MarkTurn, PlainTurn, RestsMarked, UnlessFenced, live_at, marking_fetched, marks_at, outgoing, so_far, with_marking}
 use Rattle.mark_traces.specs.MarkedNode.MarkedInput.{Plain_comes, Mark_comes}
 use Rattle.mark_traces.specs.MarkedWorld.{bytes_held, lengths_held, bytes_told, lengths_told}
-use Rattle.mark_traces.proofs.Strip.{only_marks, serves_plainly, stripped, without_out, without_plain}
+use Rattle.mark_traces.proofs.Strip.{only_marks, serves_plainly, stripped}
 use Rattle.mark_traces.proofs.Turns.{fits_stage, lawful_at}
 
 pub data SeenTurn {State : Type 0} (service : Machine State) (u : World) (node : Node) (sent : List Packet) (later : Node) : Type 0 where

@@ -1,5 +1,5 @@
 -- All that was sent in a trace with marks is read as what was sent: what is sent without marks is well formed, and so is what is sent about marks.
-use Rattle.std.proofs.Common.{◌≡◌, ◌⊎◌, inl, inr, ⊎_elim, ℕ, ◌+◌, ◌<◌, ◌≤◌, ◌^◌, ◌==◌, refl, sym, ap, ◌∙◌, subst, arith, Option, Some, None, option_map, option_to_list, List, [], ◌∷◌, ◌++◌, map, length, take, drop, append-nil}
+use Rattle.std.proofs.Common.{◌≡◌, ◌⊎◌, inl, inr, ⊎_elim, ℕ, ◌+◌, ◌<◌, ◌≤◌, ◌^◌, ◌==◌, refl, sym, ap, ◌∙◌, subst, arith, Option, Some, None, option_map, option_to_list, List, [], ◌∷◌, ◌++◌, map, length, take, append-nil}
 use Rattle.std.specs.Prelude.{nat_lt, nat_le}
 use Rattle.std.specs.List.{AllByRecursion}
 use Rattle.std.proofs.lemmas.Bool.{and_from}
@@ -40,11 +40,11 @@ use Rattle.ft_model.proofs.Backed.{PacketBacked}
 use Rattle.ft_model.proofs.Faithful.{units_within}
 use Rattle.ft_model.proofs.FaithfulOver.{script_of, isn_of}
 use Rattle.ft_model.proofs.Fetching.{AreFetched}
-use Rattle.ft_model.proofs.Formed.{IsBoot, PacketFormed, StartFormed, NodeFormed, WorldFormed, bytes_take, bytes_drop}
+use Rattle.ft_model.proofs.Formed.{IsBoot, PacketFormed, StartFormed, NodeFormed, WorldFormed, bytes_cut}
 use Rattle.ft_model.proofs.FormedLog.{EntryTells, entries_tell}
-use Rattle.ft_model.proofs.FormedOver.{Knows}
-use Rattle.ft_model.proofs.FormedWorld.{entries_acked, moment_formed, packet_acked, start_formed, world_start}
-use Rattle.ft_model.proofs.Happened.{IsUnderWay, answers}
+use Rattle.ft_model.proofs.FormedOver.{Knows, newest_formed}
+use Rattle.ft_model.proofs.FormedWorld.{entries_acked, moment_formed, packet_acked, start_formed, world_start, all_behind}
+use Rattle.ft_model.proofs.Happened.{IsUnderWay, answers, segment_is_noise}
 use Rattle.ft_model.proofs.Happened.Happened.{log_heard}
 use Rattle.ft_model.proofs.Lists.{all_append, all_both, all_find, all_map, all_of, found_passes, none_is_some, prefix_trans, same_key, some_is, take_first}
 use Rattle.ft_model.proofs.Services.{more_bytes, prefix_length, reads_go_on}
@@ -60,11 +60,11 @@ use Rattle.mark_traces.specs.MarkedWorld.{Parcel, MarkedWorld, MarkedMoment, Can
 use Rattle.mark_traces.specs.MarkedWorld.Parcel.{Usual, Mark_sent, Mark_answered}
 use Rattle.mark_traces.specs.TrueMarks.{HasTrueMark, IsTrueMark, IsTrueOrNone, TellsTrueMark}
 use Rattle.mark_traces.proofs.MarkSteps.{Kept, Grounds, of_parcel, under_way, up_plain}
-use Rattle.mark_traces.proofs.Noise.{mark_noise, message_noise, segment_noise}
+use Rattle.mark_traces.proofs.Noise.{mark_noise, message_noise}
 use Rattle.mark_traces.proofs.Strip.{usual_out}
 use Rattle.mark_traces.proofs.Traces.{kept_after}
 use Rattle.mark_reports.proofs.Counted.{AllCount, BodyCounts, Counts, IsNewest, OutCounts, TurnCounts, turn_counts}
-use Rattle.mark_reports.proofs.Formed.{above_formed, happens_formed, log_of, marked_formed, newest_formed, next_formed_world, told_formed, turned_formed}
+use Rattle.mark_reports.proofs.Formed.{above_formed, happens_formed, log_of, marked_formed, next_formed_world, told_formed, turned_formed}
 use Rattle.mark_reports.proofs.SeenTurns.{BringsPlain, Stands, turn_seen}
 
 -- A message about marks is well formed: its boot number and its key fit, and its mark is there for a reason
@@ -93,10 +93,6 @@ pub record Wired {State : Type 0} (by : Marker State) (start : World) (w : Marke
 
 usual_formed : (every : ℕ) (packets : List Packet) → AllByRecursion (ParcelFormed every) (map Usual packets)
 usual_formed every packets = all_map (ParcelFormed every) Usual packets (all_of (λ p. Unit {0}) packets (λ p. tt))
-
-all_behind : {A : Type 0} (P : A → Type 0) (xs ys : List A) → AllByRecursion P (xs ++ ys) → AllByRecursion P ys
-all_behind P [] ys a = a
-all_behind P (x ∷ xs) ys a = all_behind P xs ys a.1
 
 -- the answers of the log
 answer_formed : (every boot : ℕ) (l : MarkedLog) (body : MarkBody) → IsBoot boot → BodyFormed every body → AreMarks every l → ((key : Key) → (l.marks key).reads ≤ 2 ^ 24 + 1)
@@ -137,15 +133,10 @@ marks_kept : (every : ℕ) (l : MarkedLog) (message : MarkMessage) → MessageFo
 unfolding after_mark
 marks_kept every l message f kept = holds_either_way (AreMarks every) (message.boot == l.log.boot) (with_mark_body message.body l) l (body_kept every message.body l f.1 kept) kept
 
--- A true mark is within the limits of a stream
-cut_bytes : (bytes lengths : List ℕ) → AreBytes bytes → AllByRecursion AreBytes (cut bytes lengths)
-cut_bytes bytes [] a = tt
-cut_bytes bytes (n ∷ lengths) a = (bytes_take n bytes a, cut_bytes (drop n bytes) lengths (bytes_drop n bytes a))
-
 short_state : {State : Type 0} (service : Machine State) (writing : Writing State) (e : Entry) (m : Mark) → ReadsBack service writing → AreBytes e.bytes → IsRunOf service writing e m → length m.state ≤ 1100
 unfolding reference
 short_state service writing e m reads_back bytes run =
-    let back = reads_back (cut e.bytes (take m.reads e.lengths)) (cut_bytes e.bytes (take m.reads e.lengths) bytes) run.running in
+    let back = reads_back (cut e.bytes (take m.reads e.lengths)) (bytes_cut e.bytes (take m.reads e.lengths) bytes) run.running in
     subst (λ (s : List ℕ). length s ≤ 1100) (sym run.state) back.short
 
 record Bounded (m : Mark) : Type 0 where
@@ -341,7 +332,7 @@ module _ {State : Type 0} (by : Marker State) (start : World) (writes : WritesBy
 
   flip_wired : (number bit : ℕ) (parcel : Parcel) (sent : List Parcel) (after : MarkedWorld) → parcel_at before.parcels number ≡ Some parcel → Kept by start after → FlippedTo by parcel bit before sent after → Wired by start after
   flip_wired number bit (Usual (To_server segment)) sent after at k' t =
-      noise_wired _ sent after (ap Plain_comes (segment_noise _ (flipped_packet_is_refused bit (segments.spelling segment) segment (spelling_is_read segment t.read.0) t.within))) k' t.comes
+      noise_wired _ sent after (ap Plain_comes (segment_is_noise _ (flipped_packet_is_refused bit (segments.spelling segment) segment (spelling_is_read segment t.read.0) t.within))) k' t.comes
   flip_wired number bit (Usual (To_client segment)) sent after at k' t =
       let u = under_way before number (To_client segment) at in
       elsewhere_wired (ClientReads (destination_of segment) (segments.reading (flipped bit (segments.spelling segment)))) sent after

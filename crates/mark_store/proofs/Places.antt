@@ -7,6 +7,7 @@ use Rattle.std.proofs.lemmas.Bool.{eqb-true}
 use Rattle.ft_io.specs.declared.Key.{Key}
 use Rattle.ft_io.specs.Key.{key_eq}
 use Rattle.ft_io.proofs.Choices.{same_some}
+use Rattle.ft_io.proofs.Numbers.{equal_itself}
 use Rattle.ft_model.proofs.Lists.{same_key}
 use Rattle.ft_model.proofs.PlayableLemmas.{same_either_way}
 use Rattle.ft_model.specs.Log.{Entry}
@@ -83,13 +84,6 @@ same_place a b (k ∷ keys) i at_a at_b = by i (key_eq a k) (key_eq b k) refl re
         let same : two.0 ≡ one.0 = omega (arith, one.2, two.2) in
         rest one.0 one.1 (two.1 ∙ ap Some same)
 
-pub alike : (n : ℕ) → (n == n) ≡ true
-alike n = own (n == n) refl
-  where
-    own : (c : Bool) → (n == n) ≡ c → (n == n) ≡ true
-    own true p = p
-    own false p = grind (arith, p)
-
 -- what is put at the place of one key is found there, and what stands at those of the others stays
 pub put_at_key : {X : Type 0} (d x : X) (before after : List X) (keys : List Key) (key k : Key) (i : ℕ) → position (key_eq key) keys ≡ Some i
     → ((j : ℕ) → slice_index_or after j d ≡ (if j == i then x else slice_index_or before j d))
@@ -101,7 +95,7 @@ put_at_key d x before after keys key k i at is = by (key_eq k key) refl (positio
         → option_map_or (λ j. slice_index_or after j d) o d ≡ (if c then x else option_map_or (λ j. slice_index_or before j d) o d)
     by true same o found =
         let there : o ≡ Some i = sym found ∙ (ap (λ a. position (key_eq a) keys) (same_key k key same) ∙ at) in
-        ap (λ p. option_map_or (λ j. slice_index_or after j d) p d) there ∙ (is i ∙ ap (λ c. if c then x else slice_index_or before i d) (alike i))
+        ap (λ p. option_map_or (λ j. slice_index_or after j d) p d) there ∙ (is i ∙ ap (λ c. if c then x else slice_index_or before i d) (equal_itself i))
     by false other None found = refl
     by false other (Some j) found = is j ∙ ap (λ c. if c then x else slice_index_or before j d) (elsewhere (j == i) refl)
       where

@@ -7,6 +7,7 @@ use Rattle.std.proofs.lemmas.List.{get_or-set_same, get_or-set_other, length-set
 use Rattle.ft_io.specs.declared.Key.{Key}
 use Rattle.ft_io.specs.Key.{key_eq}
 use Rattle.ft_io.proofs.Choices.{same_some}
+use Rattle.ft_io.proofs.Numbers.{equal_itself, test_of_equal}
 use Rattle.seq_arith.specs.MarkGrammar.{IsSpellable, is_sound, has_length, kind_of, fields_of, behind_of, numbers_of}
 use Rattle.seq_arith.specs.declared.mark.MarkKind.{MarkKind}
 use Rattle.seq_arith.specs.declared.mark.MarkKind.TheVariants as kinds
@@ -27,7 +28,7 @@ use Rattle.mark_laws.specs.MarkedLog.{MarkedLog, no_mark, nothing_logged, after_
 use Rattle.mark_laws.specs.MarkedLog.AnyMessage.{Of_log}
 use Rattle.mark_store.specs.Bytes.{reply_bytes, kept_at}
 use Rattle.mark_store.specs.Refinement.{TrimmedAtMarks, IsLeftOfMarked, mark_at}
-use Rattle.mark_store.proofs.Places.{alike, at_more, nowhere, put_at_key, found_left, left_at, IsSameEntry, IsLeftAt}
+use Rattle.mark_store.proofs.Places.{at_more, nowhere, put_at_key, found_left, left_at, IsSameEntry, IsLeftAt}
 
 -- the keys of entries stay, and others come after them
 keys_grow : (es fs : List Entry) → EntriesGrow es fs → (more : List Key) × (map (λ e. e.key) fs ≡ map (λ e. e.key) es ++ more)
@@ -135,7 +136,7 @@ trim_set trims i j u there = by (j == i) refl
   where
     by : (c : Bool) → (j == i) ≡ c → trim_at (slice_set trims i u) j ≡ (if c then u else trim_at trims j)
     by true p = ap (trim_at (slice_set trims i u)) (eqb-true j i p) ∙ get_or-set_same trims i u no_trim there
-    by false p = get_or-set_other trims i j u no_trim (λ same. true≢false (sym (ap (λ n. n == i) same ∙ alike i) ∙ p))
+    by false p = get_or-set_other trims i j u no_trim (λ same. true≢false (sym (ap (λ n. n == i) same ∙ equal_itself i) ∙ p))
 
 -- the store after a mark
 abbrev pub marked : TrimmedAtMarks → Key → Mark → (i : ℕ) → List Mark → TrimmedAtMarks
@@ -261,12 +262,9 @@ not_less n k is = by (nat_lt n k) refl
     by true p = let less = ltb-true n k p in absurd (omega (arith, less, is))
     by false p = p
 
-same_number : (n k : ℕ) → n ≡ k → (n == k) ≡ true
-same_number n k is = ap (λ m. n == m) (sym is) ∙ alike n
-
 pub own_after : (l : MarkedLog) (message : MarkMessage) → message.boot ≡ l.log.boot → after_mark l message ≡ with_mark_body message.body l
 unfolding after_mark
-own_after l message own = ap (λ c. if c then with_mark_body message.body l else l) (same_number message.boot l.log.boot own)
+own_after l message own = ap (λ c. if c then with_mark_body message.body l else l) (test_of_equal message.boot l.log.boot own)
 
 pub own_answer : (l : MarkedLog) (message : MarkMessage) → message.boot ≡ l.log.boot
     → answer_to_mark l message ≡ option_map (about_mark message.boot) (told_of_mark message.body (with_mark_body message.body l))
@@ -274,7 +272,7 @@ unfolding answer_to_mark
 own_answer l message own =
     (λ i. if is_mark_answer message.body then None
     else (if not_less message.boot l.log.boot own i then Some (Of_log (record { boot = message.boot; body = StaleMsg l.log.boot }))
-    else (if same_number message.boot l.log.boot own i then option_map (about_mark message.boot) (told_of_mark message.body (own_after l message own i)) else None)))
+    else (if test_of_equal message.boot l.log.boot own i then option_map (about_mark message.boot) (told_of_mark message.body (own_after l message own i)) else None)))
     ∙ by message.body (with_mark_body message.body l)
   where
     by : (body : MarkBody) (next : MarkedLog) → (if is_mark_answer body then None else option_map (about_mark message.boot) (told_of_mark body next))

@@ -1,10 +1,11 @@
 -- A mark that is held out, where it is awaited: the restart goes on as it would, had the log told what is below the mark in two messages.
-use Rattle.std.proofs.Common.{◌≡◌, ⊎_elim, subst₂, le_of_eq, ℕ, ◌+◌, ◌≤◌, ◌<◌, ◌==◌, ◌&&◌, ◌||◌, ◌⊎◌, arith, Bool, true, false, not, refl, sym, ap, ◌∙◌, subst, true≢false, Option, Some, None, MatchOption, List, [], ◌∷◌, ◌++◌, length, take, sum, append_assoc, length-append, if◌then◌else◌}
+use Rattle.std.proofs.Common.{◌≡◌, ⊎_elim, subst₂, le_of_eq, ℕ, ◌+◌, ◌≤◌, ◌<◌, ◌==◌, ◌&&◌, ◌||◌, ◌⊎◌, arith, Bool, true, false, not, refl, sym, ap, ◌∙◌, subst, true≢false, Option, Some, None, MatchOption, List, [], ◌∷◌, ◌++◌, length, take, sum, append_assoc}
 use Rattle.std.specs.Prelude.{nat_lt, nat_le}
 use Rattle.std.proofs.lemmas.Bool.{and_parts}
 use Rattle.ft_io.specs.declared.Key.{Key}
 use Rattle.ft_io.specs.Key.{key_eq}
-use Rattle.ft_io.proofs.Choices.{some_if}
+use Rattle.ft_io.proofs.Choices.{some_if, if_true, if_none}
+use Rattle.ft_io.proofs.Numbers.{equal_itself}
 use Rattle.seq_arith.specs.Mark.{Mark, MarkBody, MarkMessage}
 use Rattle.seq_arith.specs.Mark.MarkBody.{MarkMsg, MarkedMsg, AskMsg, HeldMsg}
 use Rattle.seq_arith.specs.Message.{EntryHead, Message}
@@ -24,7 +25,7 @@ use Rattle.ft_model.specs.Restart.{Fetched, wanted, fetched_after, all_follow, l
 use Rattle.ft_model.specs.Restart.Wanted.{Its_bytes, Its_lengths}
 use Rattle.ft_model.specs.World.{World}
 use Rattle.ft_model.proofs.Asked.{StageAgrees}
-use Rattle.ft_model.proofs.Faithful.{AnswerFits}
+use Rattle.ft_model.proofs.Faithful.{AnswerFits, prefix_length}
 use Rattle.ft_model.proofs.Fetching.{AgreesWith, AreFetched}
 use Rattle.ft_model.proofs.Fenced.{IsLogged}
 use Rattle.ft_model.proofs.Happened.Happened.{server_turned}
@@ -39,7 +40,7 @@ use Rattle.mark_laws.specs.Restart.{may_have_mark, log_question, begun_on, mark_
 use Rattle.mark_laws.specs.Runs.{IsRunOf}
 use Rattle.mark_traces.specs.MarkedNode.{Marker, MarkedNode, RestsMarked, so_far, Continues, FetchesMarked, marking_fetched}
 use Rattle.mark_traces.proofs.Packets.{Sound, MayStand, with_packets, fewer, more}
-use Rattle.mark_traces.proofs.Steps.{Stepped, went, if_true, last_under_way}
+use Rattle.mark_traces.proofs.Steps.{Stepped, went, last_under_way}
 use Rattle.mark_traces.proofs.Turns.{At, TurnSteps, GoesOn, turned, plain_turn, rests, lawful_at, fits_stage, goes_on, new_fetched, AwaitsNewest, wants_lengths}
 
 -- what is below a mark that is told: nothing, or the beginning of its entry, of which it is true
@@ -122,9 +123,6 @@ three_hold a b c p q r = grind (arith, p, q, r)
 two_hold : (a b : Bool) → a ≡ true → b ≡ true → (a && b) ≡ true
 two_hold a b p q = grind (arith, p, q)
 
-itself : (n : ℕ) → (n == n) ≡ true
-itself n = grind (arith)
-
 within : (n m : ℕ) → n ≤ m → nat_le (0 + n) m ≡ true
 within n m h = grind (arith, h)
 
@@ -134,17 +132,13 @@ above_none n h = grind (arith, h)
 not_done : (done : Bool) (b : Bool) → (not done && b) ≡ true → not done ≡ true
 not_done done b h = grind (arith, h)
 
-either_none : (b : Bool) (o : Option ℕ) → o ≡ None → (if b then o else None) ≡ None
-either_none true o e = e
-either_none false o e = refl
-
 -- all lengths below the mark come at once ..
 lengths_got : (node : Node) (count : ℕ) (head : EntryHead) (earlier : List Fetched) (lengths : List ℕ) → may_have_mark head ≡ true → length lengths ≤ head.reads → has_closing lengths ≡ false → sum lengths ≤ head.length
     → fetched_then node (record { boot = node.boot; body = LensMsg head.key 0 lengths }) count (new_fetched head ∷ earlier) ≡ Some (record { head = head; bytes = []; lengths = lengths } ∷ earlier)
 lengths_got node count head earlier lengths may few closing low =
     let body = LensMsg head.key 0 lengths in
     let fetched : List Fetched = new_fetched head ∷ earlier in
-    if_true (node.boot == node.boot) (fetched_after (wanted count fetched) body fetched) None (itself node.boot)
+    if_true (node.boot == node.boot) (fetched_after (wanted count fetched) body fetched) None (equal_itself node.boot)
     ∙ (ap (λ w. fetched_after w body fetched) (wants_lengths count head earlier may)
     ∙ if_true (key_eq head.key head.key && 0 == 0 && nat_le (0 + length lengths) head.reads && all_follow head.length head.fin [] lengths)
     (Some (record { head = head; bytes = []; lengths = lengths } ∷ earlier)) None
@@ -165,7 +159,7 @@ bytes_got : (node : Node) (count : ℕ) (head : EntryHead) (earlier : List Fetch
 bytes_got node count head earlier bytes lengths may some low =
     let body = PartMsg head.key 0 bytes in
     let fetched : List Fetched = record { head = head; bytes = []; lengths = lengths } ∷ earlier in
-    if_true (node.boot == node.boot) (fetched_after (wanted count fetched) body fetched) None (itself node.boot)
+    if_true (node.boot == node.boot) (fetched_after (wanted count fetched) body fetched) None (equal_itself node.boot)
     ∙ (ap (λ w. fetched_after w body fetched) (wants_bytes count head earlier lengths may some)
     ∙ if_true (key_eq head.key head.key && 0 == 0 && nat_le (0 + length bytes) head.length) (Some (record { head = head; bytes = bytes; lengths = lengths } ∷ earlier)) None
     (three_hold (key_eq head.key head.key) (0 == 0) (nat_le (0 + length bytes) head.length) (key_is head.key) refl (within (length bytes) head.length low)))
@@ -206,7 +200,7 @@ whole_front by start u node count head earlier e bytes lengths marking out later
     let asks : List Packet = asked node.plain (Some (Its_bytes head.key 0)) in
     let half : Node = record node.plain { stage = Fetching count middle } in
     let turn_one : LawfulTurn service node.plain (Message_comes first) asks half =
-    lawful_at service node.plain (Message_comes first) asks (Fetching count (new_fetched head ∷ earlier)) (Fetching count middle) at.live (either_none (node.plain.boot == node.plain.boot) None refl) is
+    lawful_at service node.plain (Message_comes first) asks (Fetching count (new_fetched head ∷ earlier)) (Fetching count middle) at.live (if_none (node.plain.boot == node.plain.boot) None refl) is
     (fits_stage service node.plain count (new_fetched head ∷ earlier) middle first (Fetching count middle) asks (lengths_got node.plain count head earlier lengths may few closing all)
     (subst (λ w. PlainContinues service node.plain count middle w (Fetching count middle) asks) (sym (wants_bytes count head earlier lengths may some)) (refl, refl))) in
     let u1 : World = with_packets u (u.packets ++ From_logger first ∷ []) in
@@ -221,7 +215,7 @@ whole_front by start u node count head earlier e bytes lengths marking out later
     let g : GoesOn service node.plain count now out later = goes_on by node count now marking out later (wanted count now) refl t in
     let next : Node = record node.plain { stage = g.stage } in
     let turn_two : LawfulTurn service half (Message_comes second) sent next =
-    lawful_at service half (Message_comes second) sent (Fetching count middle) g.stage refl (either_none (node.plain.boot == node.plain.boot) None refl) refl
+    lawful_at service half (Message_comes second) sent (Fetching count middle) g.stage refl (if_none (node.plain.boot == node.plain.boot) None refl) refl
     (fits_stage service half count middle now second g.stage sent (bytes_got half count head earlier bytes lengths may some low) g.fetches) in
     let step_two : Stepped service start u2 sent (turned u2 next sent) =
     went service at.small start u2 sent (turned u2 next sent) at.starts s2 (server_turned (Message_comes second) half next (last_under_way w1 (From_logger second)) refl turn_two refl) in
@@ -236,11 +230,6 @@ whole_front by start u node count head earlier e bytes lengths marking out later
           (record { sound = less; acknowledged = step_two.acknowledged; restart = exact_same service u.log u.node node.plain next (Fetching count middle) at.up refl step_two.restart });
       awaiting = λ x. absurd (true≢false (sym x ∙ g.awaits));
     }
-
--- by the mark that is told
-prefix_short : {A : Type 0} (xs ys : List A) → IsPrefix xs ys → length xs ≤ length ys
-prefix_short xs ys p =
-    let more_ = length-append xs p.0 in let whole : length (xs ++ p.0) ≡ length ys = ap length p.1 in omega (arith, more_, whole)
 
 some_sum : (n : ℕ) (lengths : List ℕ) → has_closing (n ∷ lengths) ≡ false → 0 < sum (n ∷ lengths)
 some_sum n lengths c =
@@ -265,8 +254,8 @@ by_lengths by start u node count head earlier e m bytes (n ∷ lengths) marking 
     let size : length e.bytes ≡ head.length = ap (λ (h : EntryHead). h.length) (sym head_is) in
     let closing : has_closing (n ∷ lengths) ≡ false = ap has_closing lengths_are ∙ run.reads_on in
     let total : sum (n ∷ lengths) ≤ length e.bytes = subst (λ l. sum l ≤ length e.bytes) (sym lengths_are) run.enough in
-    let few : length (n ∷ lengths) ≤ length e.lengths = prefix_short (n ∷ lengths) e.lengths front in
-    let low : length bytes ≤ length e.bytes = prefix_short bytes e.bytes of_bytes in
+    let few : length (n ∷ lengths) ≤ length e.lengths = prefix_length (n ∷ lengths) e.lengths front in
+    let low : length bytes ≤ length e.bytes = prefix_length bytes e.bytes of_bytes in
     whole_front by start u node count head earlier e bytes (n ∷ lengths) marking out later at is may own found head_is of_bytes front
     (subst (λ k. length (n ∷ lengths) ≤ k) reads few) (subst (λ k. length bytes ≤ k) size low) closing (subst (λ k. sum (n ∷ lengths) ≤ k) size total)
     (some_sum n lengths closing) t

@@ -1,13 +1,13 @@
 mod Own
 pub mod Packets
-mod Steps
+pub mod Steps
 pub mod Strip
 pub mod Turns
 mod Fronts
 pub mod Truth
 pub mod MarkSteps
 pub mod Noise
-mod LogSteps
+pub mod LogSteps
 pub mod Traces
 mod OneTurn
 mod OneWorld

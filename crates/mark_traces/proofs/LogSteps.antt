@@ -1,10 +1,11 @@
 -- What the log with marks hears.
-use Rattle.std.proofs.Common.{◌≡◌, ◌⊎◌, inl, inr, ⊎_elim, ℕ, ◌≤◌, ◌<◌, ◌==◌, ◌&&◌, arith, le_refl, Bool, true, false, refl, sym, ap, ap₂, ◌∙◌, subst, true≢false, ltb-true, eqb-true, Option, Some, None, option_map, option_to_list, List, [], ◌∷◌, ◌++◌, map, length, take, append-nil, if◌then◌else◌}
+use Rattle.std.proofs.Common.{◌≡◌, ◌⊎◌, inl, inr, ⊎_elim, ℕ, ◌≤◌, ◌<◌, ◌==◌, ◌&&◌, arith, le_refl, true, false, refl, sym, ap, ap₂, ◌∙◌, subst, true≢false, ltb-true, eqb-true, Option, Some, None, option_map, option_to_list, List, [], ◌∷◌, ◌++◌, map, length, take, append-nil, if◌then◌else◌}
 use Rattle.std.specs.List.{AllByRecursion}
 use Rattle.std.specs.Prelude.{nat_lt}
 use Rattle.ft_io.specs.declared.Key.{Key}
 use Rattle.ft_io.specs.Key.{key_eq}
-use Rattle.ft_io.proofs.Choices.{holds_if, holds_either_way, by_cases, if_false}
+use Rattle.ft_io.proofs.Choices.{holds_if, holds_either_way, by_cases, if_false, if_true}
+use Rattle.ft_io.proofs.Booleans.{right_true}
 use Rattle.seq_arith.specs.Mark.{Mark, MarkBody, MarkMessage}
 use Rattle.seq_arith.specs.Mark.MarkBody.{MarkMsg, MarkedMsg, AskMsg, HeldMsg}
 use Rattle.seq_arith.specs.Message.{Body, Message}
@@ -35,7 +36,7 @@ use Rattle.mark_traces.specs.MarkedWorld.Parcel.{Usual}
 use Rattle.mark_traces.specs.TrueMarks.{IsTrueMark, IsTrueOrNone, TellsTrueMark, HasTrueMark}
 use Rattle.mark_traces.proofs.MarkSteps.{Kept, MarkStep, Grounds, IsNotSent, grown_kept, usual_true, usual_not_sent, or_none_later}
 use Rattle.mark_traces.proofs.Packets.{Sound, with_packets}
-use Rattle.mark_traces.proofs.Steps.{Stepped, RestartsAbove, went, nothing_went, raised, stale_told, if_true}
+use Rattle.mark_traces.proofs.Steps.{Stepped, RestartsAbove, went, nothing_went, raised, stale_told}
 use Rattle.mark_traces.proofs.Strip.{usual_append, usual_of}
 use Rattle.mark_traces.proofs.Truth.{is_mark, true_later}
 
@@ -54,9 +55,6 @@ below_stays l boot (CutsMsg key first) e =
     holds_either_way (λ (x : Log). x ≡ l.log) (nat_lt boot l.log.boot) l.log (if boot == l.log.boot then l.log else l.log) refl (holds_either_way (λ (x : Log). x ≡ l.log) (boot == l.log.boot) l.log l.log refl refl)
 below_stays l boot body e = absurd (true≢false (sym e))
 
-second_true : (a b : Bool) → (a && b) ≡ true → b ≡ true
-second_true a b h = grind (arith, h)
-
 -- in the world that is seen
 heard_plain : {State : Type 0} (by : Marker State) (start : World) (before : MarkedWorld) (message : Message) (packets : List Packet) (after : World) → Grounds by start → Kept by start before
     → IsUnderWay (seen before) (To_logger message) → packets ≡ option_to_list (option_map From_logger (answer_above before.log message))
@@ -64,7 +62,7 @@ heard_plain : {State : Type 0} (by : Marker State) (start : World) (before : Mar
 heard_plain by start before message packets after g k under sent is =
     let l : MarkedLog = before.log in
     by_cases (message.boot == l.log.boot && is_below l message.body)
-    (λ below. let stays : log_after l.log message ≡ l.log = below_stays l message.boot message.body (second_true (message.boot == l.log.boot) (is_below l message.body) below) in
+    (λ below. let stays : log_after l.log message ≡ l.log = below_stays l message.boot message.body (right_true (message.boot == l.log.boot) (is_below l message.body) below) in
     let none : packets ≡ [] =
     sent ∙ ap (λ (o : Option Message). option_to_list (option_map From_logger o)) (answer_is l message ∙ if_true (message.boot == l.log.boot && is_below l message.body) None (answer_to l.log message) below) in
     nothing_went by.service start (seen before) packets after none
@@ -146,7 +144,7 @@ mark_backed by start w key m s t =
     let made : m.made ≡ length (reference by.service script (take m.reads e.lengths)).output = run.made ∙ ap (λ r. length r.output) (sym same) in
     omega (arith, all, made)
 
-mapped_node : (o : Option MarkedNode) (n : Node) → option_map (λ (x : MarkedNode). x.plain) o ≡ Some n → (node : MarkedNode) × (o ≡ Some node) × (node.plain ≡ n)
+pub mapped_node : (o : Option MarkedNode) (n : Node) → option_map (λ (x : MarkedNode). x.plain) o ≡ Some n → (node : MarkedNode) × (o ≡ Some node) × (node.plain ≡ n)
 mapped_node (Some node) n e = (node, refl, some_is node.plain n e)
 mapped_node None n e = none_is_some n e
 

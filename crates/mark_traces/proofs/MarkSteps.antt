@@ -25,6 +25,7 @@ use Rattle.mark_laws.specs.Front.{bytes_below, lengths_below}
 use Rattle.mark_laws.specs.MarkedLog.{MarkedLog, no_mark}
 use Rattle.mark_laws.specs.Marking.{Marking, Outgoing, new_marks, marking_answered, without_marks, MarkedTurn}
 use Rattle.mark_laws.specs.Marking.Outgoing.{Plain, Mark_to_logger}
+use Rattle.mark_laws.proofs.MarksSent.{without_out}
 use Rattle.mark_traces.specs.MarkedNode.{Marker, MarkedNode, MarkedInput, RestsMarked, PlainTurn, UnlessFenced, MarkTurn, HearsOfMark, InputTurn, LawfulMarkedTurn, live_at, with_marking}
 use Rattle.mark_traces.specs.MarkedNode.MarkedInput.{Plain_comes, Mark_comes}
 use Rattle.mark_traces.specs.MarkedWorld.{Parcel, MarkedWorld, usual, seen, parcel_at, parcel_of, Elsewhere, bytes_held, lengths_held, bytes_told, lengths_told, ServerMoves, ServerTurn}
@@ -33,7 +34,7 @@ use Rattle.mark_traces.specs.TrueMarks.{IsTrueMark, IsTrueOrNone, TellsTrueMark,
 use Rattle.mark_traces.proofs.Fronts.{IsToldFront, mark_fetched}
 use Rattle.mark_traces.proofs.Packets.{Sound}
 use Rattle.mark_traces.proofs.Steps.{Stepped, went, nothing_went}
-use Rattle.mark_traces.proofs.Strip.{without_out, usual_append, usual_of, usual_out}
+use Rattle.mark_traces.proofs.Strip.{usual_append, usual_of, usual_out}
 use Rattle.mark_traces.proofs.Truth.{MarkLaws, OutIsTrue, IsNoMark, OutGoesTrue, OutstandingTrue, is_mark, true_later, turn_true}
 use Rattle.mark_traces.proofs.Turns.{At, TurnSteps, IsAwaiting, AwaitsNewest, turned, rested, rests, input_steps}
 

@@ -1,28 +1,17 @@
 -- A turn of a server that marks is determined by where it stands and by what comes.
 use Rattle.std.proofs.Common.{◌≡◌, ℕ, ◌+◌, ◌==◌, ◌++◌, Bool, true, false, refl, sym, ap, ap₂, ◌∙◌, MatchBool, Option, Some, None, MatchOption, List, [], ◌∷◌, map, length, filter, flat_map, if◌then◌else◌}
 use Rattle.std.specs.Prelude.{nat_lt}
-use Rattle.ft_io.specs.declared.Addr.{Addr}
 use Rattle.ft_io.specs.declared.Key.{Key}
 use Rattle.seq_arith.specs.Mark.{Mark, MarkBody, MarkMessage}
 use Rattle.seq_arith.specs.Mark.MarkBody.{MarkMsg, MarkedMsg, AskMsg, HeldMsg}
-use Rattle.seq_arith.specs.Message.{Numbers, Body}
-use Rattle.seq_arith.specs.Message.Body.{OpenedMsg, StableMsg, ReadsMsg, EndedMsg, FullMsg}
-use Rattle.server_trait.specs.Service.{Machine}
 use Rattle.ft_model.specs.Network.{Packet}
-use Rattle.ft_model.specs.News.{News}
-use Rattle.ft_model.specs.News.News.{Comes, Logged, Ticks, Begins}
 use Rattle.ft_model.specs.Point.{Point}
-use Rattle.ft_model.specs.ResetAndEnd.{reset_after, dones}
-use Rattle.ft_model.specs.Opening.{point_opened}
-use Rattle.ft_model.specs.Connection.{ResetTurn, LiveTurn, told_by}
-use Rattle.ft_model.specs.Node.{Node, Place, Stage, Input, key_of, place_at}
-use Rattle.ft_model.specs.Node.Place.{Opens, Lives}
+use Rattle.ft_model.specs.Node.{Node, Place, Stage, Input, place_at}
 use Rattle.ft_model.specs.Node.Stage.{Asking, Fetching, Serving, Fenced}
 use Rattle.ft_model.specs.Node.Input.{Packet_comes, Message_comes, Noise_comes, Tick_comes}
-use Rattle.ft_model.specs.ServingTurn.{Stays, LivesOn, Hears, Meets, PlaceTurn, concerns, newcomers, refusals, opens_at}
+use Rattle.ft_model.specs.ServingTurn.{PlaceTurn, concerns, newcomers, refusals, opens_at}
 use Rattle.ft_model.specs.Lawful.{Revives, StageTurn, all_restored, restored_count, fence, is_fenced}
-use Rattle.ft_model.proofs.LiveOnce.{live_once}
-use Rattle.ft_model.proofs.TurnOnce.{turn_once}
+use Rattle.ft_model.proofs.TurnOnce.{turn_once, place_once, revives_once}
 use Rattle.mark_laws.specs.MarkedLog.{AnyMessage}
 use Rattle.mark_laws.specs.Marking.{Marking, Outgoing, with_marks, MarkedTurn}
 use Rattle.mark_laws.specs.Marking.Outgoing.{Plain}
@@ -32,60 +21,6 @@ use Rattle.mark_traces.specs.MarkedNode.MarkedInput.{Plain_comes, Mark_comes}
 use Rattle.mark_traces.proofs.Turns.{lawful_at}
 
 -- one place in one turn
-
-reset_once : (boot : ℕ) (news : News) (p q r : Point) (sent other : List Packet) → ResetTurn boot news p q sent → ResetTurn boot news p r other → (q ≡ r) × (sent ≡ other)
-reset_once boot news p q r sent other t u =
-    let same : q ≡ r = t.point ∙ sym u.point in
-    (same, t.packets ∙ (ap (λ x. map (told_by boot) (dones news p x)) same ∙ sym u.packets))
-
-by_reset : {State : Type 0} (service : Machine State) (server : Addr) (boot : ℕ) (news : News) (b : Bool) (p q r : Point) (sent other : List Packet)
-    → MatchBool b (ResetTurn boot news p q sent) (LiveTurn service server boot news p q sent)
-    → MatchBool b (ResetTurn boot news p r other) (LiveTurn service server boot news p r other) → (q ≡ r) × (sent ≡ other)
-by_reset service server boot news true p q r sent other t u = reset_once boot news p q r sent other t u
-by_reset service server boot news false p q r sent other t u = live_once service server boot news p q r sent other t u
-
-lives_once : {State : Type 0} (service : Machine State) (node : Node) (news : News) (p : Point) (now later : List Place) (sent other : List Packet)
-    → LivesOn service node news p now sent → LivesOn service node news p later other → (now ≡ later) × (sent ≡ other)
-lives_once service node news p now later sent other s t =
-    let once : (s.0 ≡ t.0) × (sent ≡ other) = by_reset service node.server node.boot news (reset_after news p) p s.0 t.0 sent other s.2 t.2 in
-    (s.1 ∙ (ap (λ q. Lives q ∷ []) once.0 ∙ sym t.1), once.1)
-
-opened_once : {State : Type 0} (service : Machine State) (node : Node) (b : Bool) (kept : Numbers) (now later : List Place) (sent other : List Packet)
-    → MatchBool b (LivesOn service node Begins (point_opened kept) now sent) ((now ≡ []) × (sent ≡ []))
-    → MatchBool b (LivesOn service node Begins (point_opened kept) later other) ((later ≡ []) × (other ≡ [])) → (now ≡ later) × (sent ≡ other)
-opened_once service node true kept now later sent other s t = lives_once service node Begins (point_opened kept) now later sent other s t
-opened_once service node false kept now later sent other s t = (s.0 ∙ sym t.0, s.1 ∙ sym t.1)
-
-hears_once : {State : Type 0} (service : Machine State) (node : Node) (body : Body) (place : Place) (now later : List Place) (sent other : List Packet)
-    → Hears service node body place now sent → Hears service node body place later other → (now ≡ later) × (sent ≡ other)
-hears_once service node (StableMsg kept) (Lives p) now later sent other s t = lives_once service node (Logged kept) p now later sent other s t
-hears_once service node (ReadsMsg kept) (Lives p) now later sent other s t = lives_once service node (Logged kept) p now later sent other s t
-hears_once service node (OpenedMsg kept) (Opens asked) now later sent other s t = opened_once service node (kept.cisn == asked.cisn) kept now later sent other s t
-hears_once service node (EndedMsg key) (Lives p) now later sent other s t = (s.0 ∙ sym t.0, s.1 ∙ sym t.1)
-hears_once service node (FullMsg key) (Opens asked) now later sent other s t = (s.0 ∙ sym t.0, s.1 ∙ sym t.1)
-hears_once service node _ place now later sent other s t = (s.0 ∙ sym t.0, s.1 ∙ sym t.1)
-
-meets_once : {State : Type 0} (service : Machine State) (node : Node) (input : Input) (place : Place) (now later : List Place) (sent other : List Packet)
-    → Meets service node input place now sent → Meets service node input place later other → (now ≡ later) × (sent ≡ other)
-meets_once service node (Packet_comes segment) (Lives p) now later sent other s t = lives_once service node (Comes segment) p now later sent other s t
-meets_once service node (Message_comes message) place now later sent other s t = hears_once service node message.body place now later sent other s t
-meets_once service node Tick_comes (Lives p) now later sent other s t = lives_once service node Ticks p now later sent other s t
-meets_once service node _ place now later sent other s t = (s.0 ∙ sym t.0, s.1 ∙ sym t.1)
-
-by_concern : {State : Type 0} (service : Machine State) (node : Node) (input : Input) (b : Bool) (place : Place) (now later : List Place) (sent other : List Packet)
-    → MatchBool b (Meets service node input place now sent) (Stays place now sent)
-    → MatchBool b (Meets service node input place later other) (Stays place later other) → (now ≡ later) × (sent ≡ other)
-by_concern service node input true place now later sent other s t = meets_once service node input place now later sent other s t
-by_concern service node input false place now later sent other s t = (s.0 ∙ sym t.0, s.1 ∙ sym t.1)
-
-place_once : {State : Type 0} (service : Machine State) (node : Node) (input : Input) (place : Place) (now later : List Place) (sent other : List Packet)
-    → PlaceTurn service node input place now sent → PlaceTurn service node input place later other → (now ≡ later) × (sent ≡ other)
-place_once service node input place now later sent other s t = by_concern service node input (concerns node input (key_of place)) place now later sent other s t
-
-revives_once : {State : Type 0} (service : Machine State) (node : Node) (place : Place) (now later : List Place) (sent other : List Packet)
-    → Revives service node place now sent → Revives service node place later other → (now ≡ later) × (sent ≡ other)
-revives_once service node (Lives p) now later sent other s t = lives_once service node Begins p now later sent other s t
-revives_once service node _ now later sent other s t = (s.0 ∙ sym t.0, s.1 ∙ sym t.1)
 
 -- .. with its marks, and all places
 abbrev Once : (Place → List Place → List Packet → Type 0) → Type 0

@@ -7,7 +7,6 @@ use Rattle.ft_model.specs.Client.{Client, ClientKind, Move, may_move, suits_kind
 use Rattle.ft_model.specs.Client.ClientKind.{Scripted}
 use Rattle.ft_model.specs.Client.Move.{Syn, Text, Fin, Acknowledge, Rst, Refuse}
 use Rattle.ft_model.specs.Network.{Packet, destination_of}
-use Rattle.ft_model.specs.Network.Packet.{To_server}
 use Rattle.ft_model.specs.World.{World, IsStart, Moves, with_client}
 use Rattle.ft_model.proofs.Fenced.{IsOurs, turn_ours}
 use Rattle.ft_model.proofs.FaithfulKept.{ClientFits, IsSameClient, received_same, clients_fit}
@@ -19,7 +18,7 @@ use Rattle.ft_model.proofs.Lists.{all_append, all_weaker}
 use Rattle.ft_model.proofs.LogAnswers.{all_answers}
 use Rattle.ft_model.proofs.StageTurns.{stage_went}
 use Rattle.trace_laws.specs.Premises.{is_refusal}
-use Rattle.trace_laws.proofs.Legal.{OwnNear}
+use Rattle.trace_laws.proofs.Legal.{OwnNear, ours_own}
 use Rattle.trace_laws.proofs.Near.{SentWithin, SendsNear, FirstNear, begins_near}
 
 abbrev pub IsScriptedClient : Client → Type 0
@@ -40,10 +39,6 @@ no_refusal c (Text from len) kind may = refl
 no_refusal c Fin kind may = refl
 no_refusal c Acknowledge kind may = refl
 no_refusal c Rst kind may = refl
-
-ours_own : (isn : Key → ℕ) (own : ℕ) (packet : Packet) → IsOurs own packet → OwnNear isn packet
-ours_own isn own (To_server segment) o = absurd o
-ours_own isn own _ o = tt
 
 more_own : (start w : World) (clients : List Client) (sent : List Packet) → OwnsNear start w → AllByRecursion (OwnNear (isn_of start)) sent → AllByRecursion IsScriptedClient clients
     → OwnsNear start (record w { clients = clients; packets = w.packets ++ sent })

@@ -22,6 +22,7 @@ use Rattle.ft_model.proofs.Lists.{all_append, all_weaker}
 use Rattle.ft_model.proofs.ToldLast.{IsSilentTo, WasTold, last_append, or_none}
 use Rattle.ft_model.proofs.ToldOver.{IsTelling, StageTold}
 use Rattle.ft_model.proofs.Unfenced.{Unfenced, StaleWithin}
+use Rattle.ft_model.proofs.FormedWorld.{all_behind}
 use Rattle.trace_laws.proofs.FinsBelow.{FinsBelow, PacketBelow}
 use Rattle.trace_laws.proofs.Legal.{OwnNear}
 use Rattle.trace_laws.proofs.Near.{SendsNear, PacketNear}
@@ -40,10 +41,6 @@ abbrev pub with_packets : World → List Packet → World
 with_packets w packets = record w { packets = packets }
 
 -- fewer packets
-
-all_behind : {A : Type 0} (P : A → Type 0) (hs ys : List A) → AllByRecursion P (hs ++ ys) → AllByRecursion P ys
-all_behind P [] ys a = a
-all_behind P (h ∷ hs) ys a = all_behind P hs ys a.1
 
 pub all_without : {A : Type 0} (P : A → Type 0) (xs hs ys : List A) → AllByRecursion P (xs ++ (hs ++ ys)) → AllByRecursion P (xs ++ ys)
 all_without P [] hs ys a = all_behind P hs ys a

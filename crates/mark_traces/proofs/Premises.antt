@@ -1,5 +1,5 @@
 -- The premises of the turn of a server that marks hold in every trace with marks.
-use Rattle.std.proofs.Common.{◌≡◌, inl, inr, ⊎_elim, ℕ, ◌<◌, ◌==◌, ◌&&◌, arith, Bool, true, false, true≢false, not, nat_lt, refl, sym, ap, ◌∙◌, subst, subst₂, ltb-true, eqb-true, Option, Some, None, List, [], ◌∷◌, ◌++◌, find, length}
+use Rattle.std.proofs.Common.{◌≡◌, inl, inr, ⊎_elim, ℕ, ◌==◌, ◌&&◌, Bool, true, refl, sym, ap, ◌∙◌, subst, subst₂, eqb-true, Option, Some, None, List, [], ◌∷◌, find, length}
 use Rattle.std.specs.List.{AllByRecursion}
 use Rattle.std.specs.Option.{option_map_or}
 use Rattle.std.proofs.lemmas.Bool.{and_parts}
@@ -9,8 +9,7 @@ use Rattle.ft_io.specs.Key.{key_eq}
 use Rattle.ft_io.proofs.Choices.{holds_if, some_if}
 use Rattle.seq_arith.specs.Mark.{Mark, MarkBody, MarkMessage}
 use Rattle.seq_arith.specs.Mark.MarkBody.{MarkMsg, MarkedMsg, AskMsg, HeldMsg}
-use Rattle.seq_arith.specs.Message.{EntryHead, Body, Message}
-use Rattle.seq_arith.specs.Message.Body.{StaleMsg}
+use Rattle.seq_arith.specs.Message.{EntryHead, Message}
 use Rattle.server_trait.specs.Service.{Machine, AreBytes}
 use Rattle.ft_model.specs.Client.{Client}
 use Rattle.ft_model.specs.Growth.{IsPrefix}
@@ -21,24 +20,24 @@ use Rattle.ft_model.specs.Network.Packet.{To_server, From_logger}
 use Rattle.ft_model.specs.Node.{Node, Stage, Input}
 use Rattle.ft_model.specs.Node.Stage.{Asking, Fetching, Serving, Fenced}
 use Rattle.ft_model.specs.Node.Input.{Packet_comes, Message_comes, Noise_comes, Tick_comes}
-use Rattle.ft_model.specs.Restart.{Fetched, IsSoundEntry, wanted, fetched_after, lacks_lengths, lacks_bytes}
+use Rattle.ft_model.specs.Restart.{Fetched, IsSoundEntry, wanted, fetched_after}
 use Rattle.ft_model.specs.Schedule.{clients_of, client_of}
 use Rattle.ft_model.specs.World.{World, IsStart, IsNewClient, MayCome}
 use Rattle.ft_model.specs.declared.schedule.ClientLine.{ClientLine}
-use Rattle.ft_model.proofs.Formed.{bytes_take}
+use Rattle.ft_model.proofs.Formed.{bytes_take, bytes_left}
 use Rattle.ft_model.proofs.Asked.{StageAgrees, progress_agrees}
 use Rattle.ft_model.proofs.Faithful.{units_within}
 use Rattle.ft_model.proofs.FaithfulOver.{script_of, isn_of, script_in}
-use Rattle.ft_model.proofs.Fetching.{AreFetched, IsFront as IsEntryFront, whole_is}
+use Rattle.ft_model.proofs.Fetching.{AreFetched, IsFront as IsEntryFront}
 use Rattle.ft_model.proofs.Happened.{all_sent}
 use Rattle.ft_model.proofs.Keys.{finds_itself}
-use Rattle.ft_model.proofs.Lists.{all_map, all_of, all_slice_get, all_find, none_is_some, some_is, same_key, take_first}
+use Rattle.ft_model.proofs.Lists.{all_map, all_of, all_find, none_is_some, some_is, same_key, take_first}
 use Rattle.ft_model.proofs.StageTurns.{Progress}
-use Rattle.ft_model.proofs.Unfenced.{StaleWithin, NamesAtMost, if_some}
+use Rattle.ft_model.proofs.Unfenced.{StaleWithin, NamesAtMost, if_some, not_newer}
 use Rattle.trace_laws.specs.Premises.{IsSoundFront, HasSoundFronts}
 use Rattle.trace_laws.proofs.Legal.{OwnNear}
 use Rattle.trace_laws.proofs.Near.{all_near}
-use Rattle.trace_laws.proofs.Sound.{entries_sound}
+use Rattle.trace_laws.proofs.Sound.{entries_sound, fronts_sound, wholes_sound}
 use Rattle.mark_laws.specs.Front.{IsBelow, bytes_below, lengths_below}
 use Rattle.mark_laws.specs.Restart.{IsFront, with_front, mark_reported, mark_of_newest, mark_fits}
 use Rattle.mark_laws.specs.Runs.{IsRunOf}
@@ -65,11 +64,6 @@ input_near service start w node Tick_comes s scripted up comes = tt
 
 -- no fence
 
-not_newer : (boot : ℕ) (body : Body) → NamesAtMost boot body → newer_than boot body ≡ None
-not_newer boot (StaleMsg newer) n =
-    holds_if (λ (o : Option ℕ). o ≡ None) (nat_lt boot newer) (Some newer) None (λ t. let less : boot < newer = ltb-true _ _ t in absurd (omega (arith, n, less))) (λ t. refl)
-not_newer boot _ n = refl
-
 pub no_fence : {State : Type 0} (service : Machine State) (start w : World) (node : Node) (input : Input) → Sound service start w → w.node ≡ Some node → MayCome w input → fence node input ≡ None
 no_fence service start w node (Message_comes message) s up comes =
     let own : node.boot ≡ w.boot = (s.joint.fenced.node node up).boot in
@@ -80,29 +74,6 @@ no_fence service start w node Noise_comes s up comes = refl
 no_fence service start w node Tick_comes s up comes = refl
 
 -- sound
-
-fronts_sound : {State : Type 0} (service : Machine State) (entries : List Entry) (fetched : List Fetched) → AllByRecursion (IsSoundEntry service) entries → AreFetched entries fetched
-    → AllByRecursion (IsSoundFront service) fetched
-fronts_sound service entries [] s a = tt
-fronts_sound service entries (f ∷ earlier) s a = (
-  record { entry = a.0; head = a.2.head; bytes = a.2.bytes; lengths = a.2.lengths; sound = all_slice_get (IsSoundEntry service) entries (length earlier) a.0 s a.1 },
-  fronts_sound service entries earlier s a.4,
-)
-
-not_either : (a b : Bool) → not a && not b ≡ true → (b ≡ false) × (a ≡ false)
-not_either false false w = (refl, refl)
-not_either false true w = absurd (true≢false (sym w))
-not_either true b w = absurd (true≢false (sym w))
-
-wholes_sound : {State : Type 0} (service : Machine State) (entries : List Entry) (fetched : List Fetched) → AllByRecursion (IsSoundEntry service) entries → AreFetched entries fetched → AreSound service fetched
-wholes_sound service entries [] s a = tt
-wholes_sound service entries (f ∷ earlier) s a =
-    let e : Entry = a.0 in
-    let front : IsEntryFront f e = a.2 in
-    let sound : IsSoundEntry service e = all_slice_get (IsSoundEntry service) entries (length earlier) e s a.1 in (
-      λ live whole. subst (IsSoundEntry service) (sym (whole_is f e front (sym (ap (λ (h : EntryHead). h.done) front.head) ∙ live) (not_either (lacks_lengths f) (lacks_bytes f) whole))) sound,
-      wholes_sound service entries earlier s a.4,
-    )
 
 answer_agrees : {State : Type 0} (service : Machine State) (start w : World) (node : Node) (message : Message) (count : ℕ) (fetched more : List Fetched) → Sound service start w → w.node ≡ Some node
     → node.stage ≡ Fetching count fetched → MayCome w (Message_comes message) → fetched_then node message count fetched ≡ Some more → AreFetched w.log.entries more
@@ -132,10 +103,6 @@ inputs_sound service start w node input s up sent = input_sound service start w 
 pub record BelowLaw {State : Type 0} (by : Marker State) : Type 0 where
   pub back : (e : Entry) (m : Mark) → AreBytes e.bytes → IsRunOf by.service by.writing e m → IsBelow by.service by.writing m (bytes_below m e) (lengths_below m e)
 
-bytes_front : (xs ys : List ℕ) → AreBytes (xs ++ ys) → AreBytes xs
-bytes_front [] ys a = tt
-bytes_front (x ∷ xs) ys a = (a.0, bytes_front xs ys a.1)
-
 found_bytes : (server : Addr) (clients : List Client) (key : Key) (o : Option Client) → AllByRecursion (IsNewClient server) clients → find (λ c. key_eq c.key key) clients ≡ o → AreBytes (script_in o)
 found_bytes server clients key (Some c) a e = (all_find (IsNewClient server) (λ c. key_eq c.key key) clients c a e).bytes
 found_bytes server clients key None a e = tt
@@ -143,7 +110,7 @@ found_bytes server clients key None a e = tt
 entry_bytes : {State : Type 0} (service : Machine State) (start w : World) (key : Key) (e : Entry) → IsStart start → Sound service start w → entry_of key w.log ≡ Some e → AreBytes e.bytes
 entry_bytes service start w key e starts s found =
     let front : IsPrefix e.bytes (script_of start key) = (units_within (script_of start) (isn_of start) w.log key e s.joint.faithful.entries found).0.front in
-    bytes_front e.bytes front.0 (subst AreBytes (sym front.1) (found_bytes start.server start.clients key (find (λ c. key_eq c.key key) start.clients) starts.clients refl))
+    bytes_left e.bytes front.0 (subst AreBytes (sym front.1) (found_bytes start.server start.clients key (find (λ c. key_eq c.key key) start.clients) starts.clients refl))
 
 -- what is then fetched is the log's
 held_leads : {State : Type 0} (by : Marker State) (start : World) (w : MarkedWorld) (f : Fetched) (earlier : List Fetched) (key : Key) (m : Mark) → BelowLaw by → IsStart start → Sound by.service start (seen w)

@@ -1,10 +1,11 @@
 -- The steps of the world that is seen: what happens without marks, nothing, and the log's acknowledged units rise to what a true mark made.
-use Rattle.std.proofs.Common.{◌≡◌, ℕ, suc, ◌-◌, ◌≤◌, ◌<◌, ◌==◌, ◌||◌, Bool, true, false, refl, sym, ap, ap₂, ◌∙◌, subst, true≢false, Option, Some, None, option_map, option_to_list, List, [], ◌∷◌, ◌++◌, map, max, length, drop, slice_get, append-nil, append_assoc, arith, le_refl, nat_lt, if◌then◌else◌}
+use Rattle.std.proofs.Common.{◌≡◌, ℕ, suc, ◌-◌, ◌≤◌, ◌<◌, ◌==◌, ◌||◌, true, false, refl, sym, ap, ap₂, ◌∙◌, subst, true≢false, Some, List, [], ◌∷◌, ◌++◌, map, max, length, drop, slice_get, append-nil, append_assoc, arith, le_refl, nat_lt, if◌then◌else◌}
 use Rattle.std.specs.List.{AllByRecursion}
 use Rattle.std.proofs.Math.Seq.{drop-nil}
 use Rattle.ft_io.specs.declared.Key.{Key}
 use Rattle.ft_io.specs.Key.{key_eq}
-use Rattle.ft_io.proofs.Choices.{holds_if, if_false}
+use Rattle.ft_io.proofs.Choices.{holds_if, if_false, if_true}
+use Rattle.ft_io.proofs.Numbers.{equal_itself, not_less_itself}
 use Rattle.seq_arith.specs.Message.{Message, Part}
 use Rattle.seq_arith.specs.Message.Body.{DataMsg, StaleMsg}
 use Rattle.server_trait.specs.Service.{Machine}
@@ -16,15 +17,14 @@ use Rattle.ft_model.specs.Node.{Node}
 use Rattle.ft_model.specs.World.{World, IsStart}
 use Rattle.ft_model.proofs.Acknowledged.{acknowledged_moment, short_scripts}
 use Rattle.ft_model.proofs.Backed.{logged_output}
-use Rattle.ft_model.proofs.Exact.{exact_moment}
+use Rattle.ft_model.proofs.Exact.{exact_moment, same_exact}
 use Rattle.ft_model.proofs.FaithfulOver.{script_of, isn_of}
 use Rattle.ft_model.proofs.Happened.{Happened, IsUnderWay, answers}
 use Rattle.ft_model.proofs.Happened.Happened.{log_heard}
 use Rattle.ft_model.proofs.JointMasked.{sound_goes_on}
-use Rattle.ft_model.proofs.Resumed.{not_resumed}
 use Rattle.ft_model.proofs.Running.{HasSmallOutputs}
 use Rattle.ft_model.proofs.ToldLast.{IsSilentTo, silent_append}
-use Rattle.ft_model.proofs.ToldOver.{telling_goes_on}
+use Rattle.ft_model.proofs.ToldOver.{telling_goes_on, answers_silent}
 use Rattle.ft_model.proofs.Unfenced.{unfenced_goes_on}
 use Rattle.trace_laws.proofs.FinsBelow.{below_goes_on}
 use Rattle.trace_laws.proofs.Near.{near_goes_on}
@@ -54,16 +54,12 @@ went service small start before sent after starts s h = record {
   restart = exact_moment service before sent after (s.joint.fenced, s.joint.asked) h;
 }
 
-pub still_exact : {State : Type 0} (service : Machine State) (log : Log) (n : Option Node) → RestartIsExact service log n n
-still_exact service log (Some node) = λ r. not_resumed service log node node.stage r
-still_exact service log None = tt
-
 -- nothing
 pub nothing_went : {State : Type 0} (service : Machine State) (start before : World) (sent : List Packet) (after : World) → sent ≡ [] → after ≡ before
     → Sound service start before → Stepped service start before sent after
 nothing_went service start before sent after none same s =
     subst (λ w. Stepped service start before sent w) (sym same)
-    (subst (λ ps. Stepped service start before ps before) (sym none) (record { sound = s; acknowledged = tt; restart = still_exact service before.log before.node }))
+    (subst (λ ps. Stepped service start before ps before) (sym none) (record { sound = s; acknowledged = tt; restart = same_exact service before.log before.node }))
 
 -- what happens, but that these last packets, which no client gets, aren't sent
 pub went_without : {State : Type 0} (service : Machine State) (start before after : World) (hs : List Packet) → ((key : Key) → IsSilentTo key hs)
@@ -82,43 +78,29 @@ get_last (y ∷ xs) x = get_last xs x
 pub last_under_way : (w : World) (packet : Packet) → IsUnderWay (with_packets w (w.packets ++ packet ∷ [])) packet
 last_under_way w packet = (suc (length w.packets), get_last w.packets packet)
 
-pub answers_silent : (key : Key) (o : Option Message) → IsSilentTo key (option_to_list (option_map From_logger o))
-answers_silent key (Some m) = refl
-answers_silent key None = refl
-
 -- Data without bytes only acknowledges
 abbrev pub no_bytes : Key → (offset units : ℕ) → Part
 no_bytes key offset units = record { key = key; offset = offset; acked = units; fin = false; bytes = [] }
 
-only_acknowledges : (key : Key) (offset units : ℕ) (e : Entry) → with_part (no_bytes key offset units) e ≡ acknowledging units e
+pub only_acknowledges : (key : Key) (offset units : ℕ) (e : Entry) → with_part (no_bytes key offset units) e ≡ acknowledging units e
 only_acknowledges key offset units e =
     let same : e.bytes ++ drop (length e.bytes - offset) [] ≡ e.bytes = ap (λ l. e.bytes ++ l) (drop-nil (length e.bytes - offset)) ∙ append-nil e.bytes in
     ap (λ (x : Entry). record x { acknowledged = max e.acknowledged units })
     (holds_if (λ (x : Entry). x ≡ e) (e.fin || nat_lt (length e.bytes) offset) e (record e { bytes = e.bytes ++ drop (length e.bytes - offset) [] }) (λ t. refl)
     (λ t. ap (λ (l : List ℕ). record e { bytes = l }) same))
 
-same_changes : (key : Key) (f g : Entry → Entry) → ((e : Entry) → f e ≡ g e) → (es : List Entry)
+pub same_changes : (key : Key) (f g : Entry → Entry) → ((e : Entry) → f e ≡ g e) → (es : List Entry)
     → map (λ e. if key_eq e.key key then f e else e) es ≡ map (λ e. if key_eq e.key key then g e else e) es
 same_changes key f g same [] = refl
 same_changes key f g same (e ∷ es) = ap₂ ◌∷◌ (ap (λ x. if key_eq e.key key then x else e) (same e)) (same_changes key f g same es)
-
-not_below : (n : ℕ) → nat_lt n n ≡ false
-not_below n = grind (arith)
-
-itself : (n : ℕ) → (n == n) ≡ true
-itself n = grind (arith)
-
-pub if_true : {X : Type 0} (b : Bool) (x y : X) → b ≡ true → (if b then x else y) ≡ x
-if_true true x y h = refl
-if_true false x y h = absurd (true≢false (sym h))
 
 data_logged : (log : Log) (key : Key) (offset units : ℕ)
     → log_after log (record { boot = log.boot; body = DataMsg (no_bytes key offset units) }) ≡ with_entry key (acknowledging units) log
 unfolding log_after
 data_logged log key offset units =
     let part = no_bytes key offset units in
-    if_false (nat_lt log.boot log.boot) log _ (not_below log.boot)
-    ∙ (if_true (log.boot == log.boot) (with_entry key (with_part part) log) log (itself log.boot)
+    if_false (nat_lt log.boot log.boot) log _ (not_less_itself log.boot)
+    ∙ (if_true (log.boot == log.boot) (with_entry key (with_part part) log) log (equal_itself log.boot)
     ∙ ap (λ (es : List Entry). record log { entries = es }) (same_changes key (with_part part) (acknowledging units) (only_acknowledges key offset units) log.entries))
 
 -- a restart is of a newer boot than the log's
@@ -163,7 +145,7 @@ raised service small start w key units starts s above backed =
     (subst (λ ps. Sound service start (with_packets after ps)) packets step.sound) in
     let is : with_packets after (w.packets ++ []) ≡ record w { log = with_entry key (acknowledging units) w.log } =
     ap₂ (λ (ps : List Packet) (l : Log). record w { log = l; packets = ps }) (append-nil w.packets) (data_logged w.log key 0 units) in
-    record { sound = subst (Sound service start) is less; acknowledged = tt; restart = still_exact service (with_entry key (acknowledging units) w.log) w.node }
+    record { sound = subst (Sound service start) is less; acknowledged = tt; restart = same_exact service (with_entry key (acknowledging units) w.log) w.node }
 
 -- the log says that an older boot is stale
 pub stale_told : {State : Type 0} (service : Machine State) (start w : World) (boot : ℕ) → Sound service start w → boot < w.log.boot
@@ -189,5 +171,5 @@ stale_told service start w boot s older =
             own = tt;
           });
       acknowledged = (tt, tt);
-      restart = still_exact service w.log w.node;
+      restart = same_exact service w.log w.node;
     }

@@ -4,30 +4,16 @@ use Rattle.std.specs.List.{flat_map}
 use Rattle.std.proofs.lemmas.List.{take-append-drop}
 use Rattle.ft_io.specs.declared.Key.{Key}
 use Rattle.ft_io.proofs.Choices.{holds_if}
-use Rattle.seq_arith.specs.Mark.{Mark}
 use Rattle.ft_model.specs.Network.{Packet}
 use Rattle.ft_model.specs.Node.{Place, Input, key_of}
 use Rattle.ft_model.specs.Node.Place.{Lives, Opens, Ended}
-use Rattle.ft_model.specs.Point.{Point}
 use Rattle.ft_model.specs.ServingTurn.{AllGo, PlaceTurn, ServingTurn, concerns, refusals, opens_at}
-use Rattle.mark_laws.specs.Marking.{Marking, Outgoing, marks_out, with_marks, without_marks}
+use Rattle.mark_laws.specs.Marking.{Marking, Outgoing, with_marks, without_marks}
 use Rattle.mark_laws.specs.Marking.Outgoing.{Plain, Mark_to_logger}
+use Rattle.mark_laws.proofs.MarksSent.{without_append, without_out, without_plain}
 use Rattle.mark_traces.specs.MarkedNode.{Marker, MarkedNode, GoesMarked, AllGoMarked, ServesMarked, marks_at, marks_in, is_tick_input}
 use Rattle.mark_traces.specs.MarkedWorld.{Parcel, usual, parcel_of}
 use Rattle.mark_traces.specs.MarkedWorld.Parcel.{Usual, Mark_sent, Mark_answered}
-
-pub without_append : (xs ys : List Outgoing) → without_marks (xs ++ ys) ≡ without_marks xs ++ without_marks ys
-without_append [] ys = refl
-without_append (Plain packet ∷ xs) ys = ap (λ l. packet ∷ l) (without_append xs ys)
-without_append (Mark_to_logger message ∷ xs) ys = without_append xs ys
-
-pub without_plain : (packets : List Packet) → without_marks (map Plain packets) ≡ packets
-without_plain [] = refl
-without_plain (packet ∷ packets) = ap (λ l. packet ∷ l) (without_plain packets)
-
-pub without_out : (boot : ℕ) (p : Point) (marks : List Mark) → without_marks (marks_out boot p marks) ≡ []
-without_out boot p [] = refl
-without_out boot p (mark ∷ marks) = without_out boot p marks
 
 -- marks among packets
 packets_stay : (behind : ℕ) (marks : List Outgoing) (packets : List Packet) → without_marks marks ≡ [] → without_marks (with_marks behind marks packets) ≡ packets

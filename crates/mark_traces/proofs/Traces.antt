@@ -1,5 +1,5 @@
 -- A trace with marks: all its marks are true, and it is masked.
-use Rattle.std.proofs.Common.{◌≡◌, inl, arith, ℕ, ◌<◌, true, true≢false, refl, sym, ap, ◌∙◌, subst, Option, Some, None, option_map, List, [], ◌∷◌, ◌++◌, map}
+use Rattle.std.proofs.Common.{◌≡◌, inl, arith, ℕ, ◌<◌, true, true≢false, refl, sym, ap, ◌∙◌, subst, Some, None, option_map, List, [], ◌∷◌, ◌++◌, map}
 use Rattle.std.specs.List.{AllByRecursion}
 use Rattle.seq_arith.specs.Damage.{flipped}
 use Rattle.seq_arith.specs.MarkGrammar as marks
@@ -9,17 +9,14 @@ use Rattle.seq_arith.proofs.MessageSpelling.{message_is_read}
 use Rattle.seq_arith.proofs.Refused.{flipped_packet_is_refused}
 use Rattle.seq_arith.proofs.Spelling.{spelling_is_read}
 use Rattle.server_trait.specs.Service.{Machine, reference}
-use Rattle.ft_io.specs.declared.Key.{Key}
 use Rattle.ft_model.specs.Growth.{IsPrefix, logged_lengths}
 use Rattle.ft_model.specs.Lawful.{hello}
-use Rattle.ft_model.specs.Masked.{IsMasked, Masked, SeesFront, unfailing, AllAreTold, IsToldLast, is_restarting}
+use Rattle.ft_model.specs.Masked.{IsMasked, Masked, SeesFront, unfailing, is_restarting}
 use Rattle.ft_model.specs.Network.{Packet, destination_of}
 use Rattle.ft_model.specs.Network.Packet.{To_server, To_client, To_logger, From_logger}
-use Rattle.ft_model.specs.Node.{Node, Place, Stage, booted, points_at, points_in}
-use Rattle.ft_model.specs.Node.Place.{Lives, Opens, Ended}
-use Rattle.ft_model.specs.Node.Stage.{Asking, Fetching, Serving, Fenced}
+use Rattle.ft_model.specs.Node.{booted}
 use Rattle.ft_model.specs.Node.Input.{Packet_comes, Message_comes, Noise_comes, Tick_comes}
-use Rattle.ft_model.specs.World.{World, Moment, IsStart, IsNewClient, ClientHears, ClientReads, Happens, world_after}
+use Rattle.ft_model.specs.World.{World, Moment, ClientHears, ClientReads, Happens, world_after}
 use Rattle.ft_model.specs.declared.event.Event.{Event}
 use Rattle.ft_model.specs.declared.event.Event.TheVariants.{Boot, Crash, Tick, Deliver, Flip}
 use Rattle.ft_model.proofs.Authored.{logged_run}
@@ -30,11 +27,11 @@ use Rattle.ft_model.proofs.JointMasked.{start_sound}
 use Rattle.ft_model.proofs.Lists.{all_both, all_append, all_weaker, none_is_some, some_is}
 use Rattle.ft_model.proofs.Running.{HasSmallOutputs}
 use Rattle.ft_model.proofs.Seen.{IsSeen}
-use Rattle.ft_model.proofs.ToldLast.{WasTold}
-use Rattle.ft_model.proofs.ToldOver.{StageTold}
-use Rattle.ft_model.proofs.Unfenced.{Unfenced, StaleWithin}
+use Rattle.ft_model.proofs.ToldOver.{node_told}
+use Rattle.ft_model.proofs.Unfenced.{start_unfenced}
+use Rattle.ft_model.proofs.Happened.{segment_is_noise}
 use Rattle.trace_laws.proofs.FinsBelow.{start_below}
-use Rattle.trace_laws.proofs.Near.{SentWithin, SendsNear, PacketNear}
+use Rattle.trace_laws.proofs.Near.{start_near}
 use Rattle.mark_traces.proofs.Own.{start_owns}
 use Rattle.mark_laws.specs.Marking.{outstanding_in}
 use Rattle.mark_traces.specs.MarkedNode.{Marker, MarkedNode, MarkedInput, booted_to_mark}
@@ -44,7 +41,7 @@ use Rattle.mark_traces.specs.MarkedWorld.Parcel.{Usual, Mark_sent, Mark_answered
 use Rattle.mark_traces.specs.TrueMarks.{IsTrueMark, IsTrueOrNone, HasTrueMark}
 use Rattle.mark_traces.proofs.LogSteps.{plain_steps, about_steps}
 use Rattle.mark_traces.proofs.MarkSteps.{Kept, MarkStep, Grounds, MarkBoot, IsNoMarkOf, happens_steps, under_way, of_parcel, elsewhere_steps, server_steps, still_steps}
-use Rattle.mark_traces.proofs.Noise.{message_noise, mark_noise, segment_noise}
+use Rattle.mark_traces.proofs.Noise.{message_noise, mark_noise}
 use Rattle.mark_traces.proofs.Packets.{Sound}
 use Rattle.mark_traces.proofs.Steps.{Stepped, went}
 use Rattle.mark_traces.proofs.Strip.{usual_append, usual_of}
@@ -84,7 +81,7 @@ flip_steps : {State : Type 0} (by : Marker State) (start : World) (before : Mark
     → parcel_at before.parcels number ≡ Some parcel → FlippedTo by parcel bit before sent after → MarkStep by start before sent after
 flip_steps by start before number bit (Usual (To_server segment)) sent after g k at t =
     noise_steps by start before _ sent after g k
-    (ap Plain_comes (segment_noise _ (flipped_packet_is_refused bit (segments.spelling segment) segment (spelling_is_read segment t.read.0) t.within))) t.comes
+    (ap Plain_comes (segment_is_noise _ (flipped_packet_is_refused bit (segments.spelling segment) segment (spelling_is_read segment t.read.0) t.within))) t.comes
 flip_steps by start before number bit (Usual (To_client segment)) sent after g k at t =
     let u = under_way before number (To_client segment) at in
     elsewhere_steps by start (ClientReads (destination_of segment) (segments.reading (flipped bit (segments.spelling segment)))) before sent after g k
@@ -176,15 +173,6 @@ pub start_of_joint : {State : Type 0} (by : Marker State) (first : MarkedWorld) 
 start_of_joint by first [] j = j
 start_of_joint by first (moment ∷ earlier) j = start_of_joint by first earlier j.0
 
-start_near : (isn : Key → ℕ) (w : World) → IsStart w → SendsNear isn w
-start_near isn w s = record {
-  clients = all_weaker (IsNewClient w.server) SentWithin w.clients (λ c x. subst SentWithin (sym x.new) (omega arith)) s.clients;
-  packets = subst (AllByRecursion (PacketNear isn w.log)) (sym s.packets) tt;
-}
-
-start_unfenced : (w : World) → IsStart w → Unfenced w
-start_unfenced w s = record { packets = subst (AllByRecursion (StaleWithin w.boot)) (sym s.packets) tt; node = λ x e. none_is_some x (sym s.node ∙ e) }
-
 start_kept : {State : Type 0} (by : Marker State) (first : MarkedWorld) → IsMarkedStart first → Kept by (seen first) first
 start_kept by first s = record {
   sound = record { joint = start_sound by.service (seen first) s.start; telling = λ n e. none_is_some n (sym s.start.node ∙ e); below = start_below (script_of (seen first)) (seen first) s.start; near = start_near (isn_of (seen first)) (seen first) s.start; unfenced = start_unfenced (seen first) s.start; owns = start_owns (seen first) s.start };
@@ -221,23 +209,6 @@ sees_front service start w s =
       accepted = subst (λ r. IsPrefix c.accepted r.output) same x.front;
       ended = λ e. subst (λ r. (r.closed ≡ true) × (c.accepted ≡ r.output)) same (x.ended e);
     }) s.joint.sees s.joint.faithful.clients
-
--- what holds of the places holds of the points
-points_told : (packets : List Packet) (places : List Place) → AllByRecursion (WasTold packets) places → AllByRecursion (IsToldLast packets) (points_in places)
-points_told packets [] a = tt
-points_told packets (Lives p ∷ places) a = (a.0, points_told packets places a.1)
-points_told packets (Opens n ∷ places) a = points_told packets places a.1
-points_told packets (Ended k ∷ places) a = points_told packets places a.1
-
-stage_told : (packets : List Packet) (stage : Stage) → StageTold packets stage → AllByRecursion (IsToldLast packets) (points_at stage)
-stage_told packets (Serving opened places) t = points_told packets places t
-stage_told packets Asking t = tt
-stage_told packets (Fetching count fetched) t = tt
-stage_told packets (Fenced newer) t = tt
-
-node_told : (packets : List Packet) (node : Option Node) → ((n : Node) → node ≡ Some n → StageTold packets n.stage) → AllAreTold packets node
-node_told packets (Some n) t = stage_told packets n.stage (t n refl)
-node_told packets None t = tt
 
 masked_moment : {State : Type 0} (service : Machine State) (start before : World) (moment : Moment) → Stepped service start before moment.sent moment.world → IsMasked service before moment
 masked_moment service start before moment s = record {

@@ -30,6 +30,7 @@ use Rattle.ft_model.proofs.Faithful.{PlaceFits, StageFits, units_within}
 use Rattle.ft_model.proofs.FaithfulOver.{script_of, isn_of}
 use Rattle.ft_model.proofs.Grows.{found_later}
 use Rattle.ft_model.proofs.Lists.{all_append, all_map, all_of, all_weaker, all_both, all_find, found_passes, some_is, same_key}
+use Rattle.ft_model.proofs.AuthorTurns.{all_split}
 use Rattle.mark_laws.specs.MarkedLog.{AnyMessage}
 use Rattle.mark_laws.specs.MarkedLog.AnyMessage.{Of_log}
 use Rattle.mark_laws.specs.Marking.{Marking, Outgoing, outstanding_in, with_new, marks_out, with_marks, marks_sent, marking_answered, MarkedTurn, AreTrue, TellsTruth}
@@ -96,7 +97,7 @@ abbrev pub IsNoMark : Outgoing → Type 0
 IsNoMark (Plain packet) = Unit {0}
 IsNoMark (Mark_to_logger message) = is_mark message.body ≡ false
 
-plain_all : (P : Outgoing → Type 0) → ((packet : Packet) → P (Plain packet)) → (packets : List Packet) → AllByRecursion P (map Plain packets)
+pub plain_all : (P : Outgoing → Type 0) → ((packet : Packet) → P (Plain packet)) → (packets : List Packet) → AllByRecursion P (map Plain packets)
 plain_all P plain packets = all_map P Plain packets (all_of (λ p. P (Plain p)) packets plain)
 
 placed_all : (P : Outgoing → Type 0) → ((packet : Packet) → P (Plain packet)) → (k : ℕ) (marks : List Outgoing) (packets : List Packet) → AllByRecursion P marks → AllByRecursion P (with_marks k marks packets)
@@ -108,15 +109,11 @@ flat_all : (P : Outgoing → Type 0) (marks : Place → List Outgoing) (places :
 flat_all P marks [] a = tt
 flat_all P marks (place ∷ places) a = all_append P (marks place) (flat_map marks places) a.0 (flat_all P marks places a.1)
 
-all_first : {A : Type 0} (P : A → Type 0) (xs ys : List A) → AllByRecursion P (xs ++ ys) → AllByRecursion P xs × AllByRecursion P ys
-all_first P [] ys a = (tt, a)
-all_first P (x ∷ xs) ys a = let rest = all_first P xs ys a.1 in ((a.0, rest.0), rest.1)
-
 pub gone_all : (P : Outgoing → Type 0) → ((packet : Packet) → P (Plain packet)) → (Goes : Place → List Place → List Packet → Type 0) (marks : Place → List Outgoing) (places after : List Place) (sent : List Outgoing)
     → AllGoMarked (GoesMarked Goes marks) places after sent → AllByRecursion (λ x. AllByRecursion P (marks x)) after → AllByRecursion P sent
 gone_all P plain Goes marks [] after sent t a = subst (AllByRecursion P) (sym t.1) tt
 gone_all P plain Goes marks (place ∷ places) after sent t a =
-    let parts = all_first (λ x. AllByRecursion P (marks x)) t.0 t.1 (subst (AllByRecursion (λ x. AllByRecursion P (marks x))) t.4 a) in
+    let parts = all_split (λ x. AllByRecursion P (marks x)) t.0 t.1 (subst (AllByRecursion (λ x. AllByRecursion P (marks x))) t.4 a) in
     subst (AllByRecursion P) (sym t.5)
     (all_append P t.2 t.3 (subst (AllByRecursion P) (sym t.6.sent_are) (placed_all P plain _ (flat_map marks t.0) t.6.packets (flat_all P marks t.0 parts.0)))
     (gone_all P plain Goes marks places t.1 t.3 t.7 parts.1))
@@ -210,7 +207,7 @@ serves_true by start w node later input opened places later_places marking out l
     let all = known_places by start w later.plain (opened + length (newcomers node.plain input opened places)) later_places s up (ap (λ (n : MarkedNode). n.plain.stage) after) in
     let author = s.joint.author.author in
     let known : AllByRecursion (KnownPlace by start w author) t.went =
-    (all_first (KnownPlace by start w author) t.went (newcomers node.plain input opened places) (subst (AllByRecursion (KnownPlace by start w author)) t.places all)).0 in
+    (all_split (KnownPlace by start w author) t.went (newcomers node.plain input opened places) (subst (AllByRecursion (KnownPlace by start w author)) t.places all)).0 in
     let P : Outgoing → Type 0 = OutIsTrue by node.plain.boot w.log in
     let marks : Place → List Outgoing = λ place. if concerns node.plain input (key_of place) then marks_at by node.plain.boot (is_tick_input input) node.marking place else [] in
     record {

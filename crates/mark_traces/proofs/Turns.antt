@@ -2,7 +2,7 @@
 use Rattle.std.proofs.Common.{◌≡◌, ℕ, ◌+◌, ◌==◌, ◌&&◌, arith, Bool, true, false, not, refl, sym, ap, ap₂, ◌∙◌, subst, true≢false, Option, Some, None, MatchOption, option_map, option_to_list, List, [], ◌∷◌, ◌++◌, map, length, append-nil, if◌then◌else◌}
 use Rattle.std.specs.Prelude.{nat_lt}
 use Rattle.ft_io.specs.declared.Key.{Key}
-use Rattle.ft_io.proofs.Choices.{if_false}
+use Rattle.ft_io.proofs.Choices.{if_false, if_true}
 use Rattle.ft_io.proofs.Booleans.{right_true}
 use Rattle.seq_arith.specs.Message.{EntryHead, Body, Message}
 use Rattle.seq_arith.specs.Message.Body.{EntryMsg}
@@ -25,10 +25,11 @@ use Rattle.mark_laws.specs.MarkedLog.AnyMessage.{Of_log}
 use Rattle.mark_laws.specs.Marking.{Marking, Outgoing, without_marks}
 use Rattle.mark_laws.specs.Marking.Outgoing.{Plain}
 use Rattle.mark_laws.specs.Restart.{may_have_mark, mark_question, log_question, or_else, awaits_after, fetched_on}
+use Rattle.mark_laws.proofs.MarksSent.{without_plain}
 use Rattle.mark_traces.specs.MarkedNode.{Marker, MarkedNode, RestsMarked, with_stage, outgoing, Continues, FetchesMarked, ServesMarked, PlainTurn, UnlessFenced, marks_at}
 use Rattle.mark_traces.proofs.Packets.{Sound}
-use Rattle.mark_traces.proofs.Steps.{Stepped, went, nothing_went, went_without, if_true}
-use Rattle.mark_traces.proofs.Strip.{without_plain, stripped, only_marks, serves_plainly}
+use Rattle.mark_traces.proofs.Steps.{Stepped, went, nothing_went, went_without}
+use Rattle.mark_traces.proofs.Strip.{stripped, only_marks, serves_plainly}
 
 -- a mark is awaited of an entry of which nothing but the head has come
 abbrev pub new_fetched : EntryHead → Fetched

@@ -21,7 +21,7 @@ use Rattle.ft_model.specs.Wire.{wire_of, HasWire}
 use Rattle.ft_model.specs.World.{World as Seen, WasSent, MayCome, ServerMoves, ClientReads, LogReads, NothingHappens, Delivered, DeliveredAs, segment_or_noise, message_or_noise, with_client}
 use Rattle.ft_model.specs.declared.way.Way.TheVariants.{ClientToServer, ServerToClient, ServerToLogger, LoggerToServer, HeadToTail, TailToHead}
 use Rattle.ft_model.specs.declared.way.Way.{Way}
-use Rattle.ft_model.proofs.Keys.{AreDistinct}
+use Rattle.ft_model.specs.Keys.{AreDistinct}
 use Rattle.peer_client.specs.Scripted.{delivered, hearing}
 use Rattle.net_schedule.specs.StoredPackets.{Carried, number_in, way_along}
 use Rattle.net_schedule.specs.Actors.{ActorsStand, ActorsGoOn}
@@ -35,7 +35,8 @@ use Rattle.net_schedule.specs.declared.logs.Logs.TheVariants.{One, Two, Marked}
 use Rattle.net_schedule.specs.Premises.{Premises, ComesAs}
 use Rattle.net_schedule.specs.Refinement.{Kept, WorldStands, ReachesNext}
 use Rattle.net_schedule.proofs.Goings.{client_hears, logger_hears, nothing_happens, actors_of, one_goes}
-use Rattle.net_schedule.proofs.Peers.{keys_in, first_of, apart_distinct, at_first, by_number, changed_past}
+use Rattle.net_schedule.proofs.Peers.{first_of, at_first, by_number, changed_past}
+use Rattle.ft_model.proofs.ClientKeys.{keys_in, apart_distinct}
 
 -- a direction from one of two loggers to the other
 abbrev is_between : Way → Bool

@@ -2,15 +2,13 @@
 use Rattle.std.proofs.Common.{◌≡◌, ◌∙◌, sym, ap, subst, refl, ℕ, zero, suc, ◌+◌, ◌≤◌, true, false, cond, find, Option, Some, None, option_map, List, [], ◌∷◌, length, drop, slice_get, arith}
 use Rattle.ft_io.specs.declared.Key.{Key}
 use Rattle.ft_io.specs.Key.{key_eq}
+use Rattle.ft_io.proofs.Numbers.{plus_one}
 use Rattle.seq_arith.specs.Message.{EntryHead}
 use Rattle.ft_model.specs.Log.{Entry, head_of}
 use Rattle.ft_model.proofs.Lists.{none_is_some, some_is}
 
 abbrev pub found_from : Key → List Entry → ℕ → Option Entry
 found_from key es i = find (λ e. key_eq e.key key) (drop i es)
-
-next : (i : ℕ) → i + 1 ≡ suc i
-next i = omega arith
 
 here_so : (key : Key) (es : List Entry) (i : ℕ) (e : Entry) → slice_get es i ≡ Some e → key_eq e.key key ≡ true → found_from key es i ≡ Some e
 here_so key [] i e at t = none_is_some e at
@@ -56,7 +54,7 @@ pub found_later : (key : Key) (es : List Entry) (i : ℕ) (h : EntryHead) → So
     → found_from key es i ≡ found_from key es (i + 1)
 found_later key es i h is f =
     let e = head_there (slice_get es i) h is in
-    later_so key es i e.0 e.1 (subst (λ (y : EntryHead). key_eq y.key key ≡ false) (sym e.2) f) ∙ sym (ap (found_from key es) (next i))
+    later_so key es i e.0 e.1 (subst (λ (y : EntryHead). key_eq y.key key ≡ false) (sym e.2) f) ∙ sym (ap (found_from key es) (plus_one i))
 
 pub found_no_more : (key : Key) (es : List Entry) (i : ℕ) → None ≡ option_map head_of (slice_get es i) → found_from key es i ≡ None
 found_no_more key es i is = nothing_there key es i (none_there (slice_get es i) is)

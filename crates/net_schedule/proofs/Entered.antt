@@ -1,12 +1,11 @@
 -- A mark that a store keeps is told to its journal as Data without bytes: the journal then acknowledges what the log does.
-use Rattle.std.proofs.Common.{◌≡◌, ◌∙◌, sym, ap, ap₂, subst, refl, ℕ, ◌-◌, ◌<◌, ◌≤◌, ◌==◌, ◌||◌, Bool, true, false, true≢false, nat_lt, max, find, Option, Some, None, option_map, List, [], ◌∷◌, ◌++◌, map, length, drop, append-nil, arith, if◌then◌else◌}
-use Rattle.std.proofs.Math.Seq.{drop-nil}
+use Rattle.std.proofs.Common.{◌≡◌, ◌∙◌, sym, ap, ap₂, subst, refl, ℕ, ◌<◌, ◌≤◌, ◌==◌, Bool, true, false, true≢false, nat_lt, max, find, Option, Some, None, option_map, List, [], ◌∷◌, map, arith, if◌then◌else◌}
 use Rattle.std.proofs.lemmas.Bool.{or_parts}
 use Rattle.std.specs.Option.{option_map_or}
 use Rattle.std.specs.Prelude.{IfSome}
 use Rattle.ft_io.specs.declared.Key.{Key}
 use Rattle.ft_io.specs.Key.{key_eq}
-use Rattle.ft_io.proofs.Choices.{by_cases, holds_if, if_false}
+use Rattle.ft_io.proofs.Choices.{by_cases, holds_if, if_false, if_true}
 use Rattle.seq_arith.specs.Mark.{Mark, MarkBody, MarkMessage}
 use Rattle.seq_arith.specs.Mark.MarkBody.{MarkMsg, MarkedMsg, AskMsg, HeldMsg}
 use Rattle.seq_arith.specs.Message.Body.{DataMsg}
@@ -15,28 +14,12 @@ use Rattle.checkpoint.specs.Value.{body_of}
 use Rattle.checkpoint.specs.declared.mark_msg.MarkBody.{MarkBody as Told}
 use Rattle.checkpoint.specs.declared.mark_msg.MarkBody.TheVariants as told
 use Rattle.ft_model.specs.Log.{Log, Entry, entry_of, with_entry, with_part, log_after}
-use Rattle.ft_model.proofs.Keys.{AreDistinct, has_key}
+use Rattle.ft_model.specs.Keys.{AreDistinct, has_key}
 use Rattle.ft_model.proofs.Lists.{none_is_some, some_is, same_key}
 use Rattle.mark_laws.specs.MarkedLog.{MarkedLog, acknowledging, after_mark, keeps, may_follow, with_mark, with_mark_body}
+use Rattle.mark_traces.proofs.Steps.{only_acknowledges, same_changes}
 use Rattle.mark_store.specs.Refinement.{IsLeftOfMarked}
 use Rattle.net_schedule.specs.Journal.{StoreAndJournal, AreAt, HasDistinctKeys, no_bytes}
-
--- Data without bytes only acknowledges
-only_acknowledges : (key : Key) (offset units : ℕ) (e : Entry) → with_part (no_bytes key offset units) e ≡ acknowledging units e
-only_acknowledges key offset units e =
-    let same : e.bytes ++ drop (length e.bytes - offset) [] ≡ e.bytes = ap (λ l. e.bytes ++ l) (drop-nil (length e.bytes - offset)) ∙ append-nil e.bytes in
-    ap (λ (x : Entry). record x { acknowledged = max e.acknowledged units })
-    (holds_if (λ (x : Entry). x ≡ e) (e.fin || nat_lt (length e.bytes) offset) e (record e { bytes = e.bytes ++ drop (length e.bytes - offset) [] }) (λ t. refl)
-    (λ t. ap (λ (l : List ℕ). record e { bytes = l }) same))
-
-same_changes : (key : Key) (f g : Entry → Entry) → ((e : Entry) → f e ≡ g e) → (es : List Entry)
-    → map (λ e. if key_eq e.key key then f e else e) es ≡ map (λ e. if key_eq e.key key then g e else e) es
-same_changes key f g same [] = refl
-same_changes key f g same (e ∷ es) = ap₂ ◌∷◌ (ap (λ x. if key_eq e.key key then x else e) (same e)) (same_changes key f g same es)
-
-if_true : {X : Type 0} (b : Bool) (x y : X) → b ≡ true → (if b then x else y) ≡ x
-if_true true x y h = refl
-if_true false x y h = absurd (true≢false (sym h))
 
 not_below : (m n : ℕ) → m == n ≡ true → nat_lt m n ≡ false
 not_below m n e = grind (arith, e)

@@ -24,7 +24,7 @@ use Rattle.net_schedule.specs.MarkedRefinement.{marker_for}
 use Rattle.net_schedule.specs.MarkedStep.{MarkedStandsAfter}
 use Rattle.net_schedule.specs.declared.logs.Logs.{Logs}
 use Rattle.net_schedule.specs.declared.logs.Logs.TheVariants.{One, Two}
-use Rattle.net_schedule.proofs.Peers.{keys_in}
+use Rattle.ft_model.proofs.ClientKeys.{keys_in}
 
 pub keys_begin : (server : Addr) (lines : List ClientLine) → map (λ line. line.key) lines ≡ keys_in (clients_of server lines)
 keys_begin server [] = refl

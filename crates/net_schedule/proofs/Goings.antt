@@ -16,6 +16,7 @@ use Rattle.ft_model.specs.World.{World as Seen, MayCome, ServerTurn, ServerMoves
 use Rattle.ft_model.specs.declared.event.Event.{Event}
 use Rattle.ft_model.proofs.FaithfulKept.{received_same}
 use Rattle.ft_model.proofs.Lists.{none_is_some}
+use Rattle.ft_model.proofs.ClientKeys.{keys_stay}
 use Rattle.logger_store.specs.StoreState.{answer_bytes}
 use Rattle.server_node.specs.Identity.{node_of}
 use Rattle.server_node.specs.Stages.{StageStands, NodeGoes}
@@ -24,7 +25,6 @@ use Rattle.net_schedule.specs.StoredPackets.{carried, with_wires, with_answer}
 use Rattle.net_schedule.specs.Premises.{Premises}
 use Rattle.net_schedule.specs.Refinement.{Kept, Server, IsAt, NodeStands, WorldStands, ReachesNext, Advances}
 use Rattle.net_schedule.proofs.PacketStore.{sent_kept, none_sent, answer_kept}
-use Rattle.net_schedule.proofs.Peers.{keys_stay}
 
 -- the server is down in both worlds at once, ..
 pub down : {State : Type 0} (service : Machine State) (kind : ℕ) (s : Option (Server State)) (n : Option Node) → NodeStands service kind s n → s ≡ None → n ≡ None

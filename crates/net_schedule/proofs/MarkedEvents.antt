@@ -23,6 +23,7 @@ use Rattle.ft_model.specs.World.{MayCome, ClientReads, segment_or_noise}
 use Rattle.ft_model.specs.declared.event.Event.TheVariants as events
 use Rattle.ft_model.specs.declared.event.EventWhy.TheVariants as why
 use Rattle.ft_model.specs.declared.way.Way.{Way}
+use Rattle.ft_model.proofs.Happened.{segment_is_noise}
 use Rattle.mark_laws.specs.MarkedLog.AnyMessage.{About_mark, Of_log}
 use Rattle.mark_traces.specs.MarkedLegal.{marked_refusal, refusal_of_marked_flip}
 use Rattle.mark_traces.specs.MarkedNode.{Marker}
@@ -30,7 +31,7 @@ use Rattle.mark_traces.specs.MarkedNode.MarkedInput.{Plain_comes}
 use Rattle.mark_traces.specs.MarkedWorld.{Parcel, MarkedWorld, CanBeRead, ParcelComes, ComesAs, LogReads, ServerMoves, Elsewhere, bytes_of, either_said, said_by, input_of, seen, parcel_at}
 use Rattle.mark_traces.specs.MarkedWorld.Parcel.{Usual, Mark_sent, Mark_answered}
 use Rattle.mark_traces.proofs.MarkSteps.{of_parcel, under_way}
-use Rattle.mark_traces.proofs.Noise.{message_noise, mark_noise, segment_noise}
+use Rattle.mark_traces.proofs.Noise.{message_noise, mark_noise}
 use Rattle.net_schedule.specs.AtNumber.{at_number}
 use Rattle.net_schedule.specs.Refinement.{Kept}
 use Rattle.net_schedule.specs.MarkedRefinement.{MarkedWorldStands, MarkedGoesOn, MarkedAdvances, MarkedPremises, MayComeMarked, MarkedComesAs, way_of_parcel}
@@ -88,7 +89,7 @@ comes_whole v n (Mark_answered message) read at = subst (λ o. MayComeMarked v (
 comes_changed : (v : MarkedWorld) (parcel : Parcel) (bit : ℕ) → CanBeRead parcel → bit < 8 * length (bytes_of parcel) → MarkedComesAs v parcel (flipped bit (bytes_of parcel))
 comes_changed v (Usual (To_server segment)) bit read within =
     subst (MayCome (seen v))
-    (sym (segment_noise (segments.reading (flipped bit (segments.spelling segment))) (flipped_packet_is_refused bit (segments.spelling segment) segment (spelling_is_read segment read.0) within))) tt
+    (sym (segment_is_noise (segments.reading (flipped bit (segments.spelling segment))) (flipped_packet_is_refused bit (segments.spelling segment) segment (spelling_is_read segment read.0) within))) tt
 comes_changed v (Usual (To_client segment)) bit read within = tt
 comes_changed v (Usual (To_logger message)) bit read within = tt
 comes_changed v (Usual (From_logger message)) bit read within =

@@ -19,8 +19,8 @@ use Rattle.net_schedule.specs.MarkedStep.{MarkedStandsAfter}
 use Rattle.net_schedule.proofs.FirstWorld.{keys_begin}
 use Rattle.net_schedule.proofs.MarkedParcels.{FoundMarked, found_marked}
 use Rattle.net_schedule.proofs.MarkedKeys.{marked_keys_after}
-use Rattle.net_schedule.proofs.Peers.{keys_in}
 use Rattle.net_schedule.proofs.Sent.{way_is}
+use Rattle.ft_model.proofs.ClientKeys.{keys_in}
 
 -- a way by keys is one by clients
 marked_way_is : (cs : List Client) (x : Parcel) → way_of_parcel (keys_in cs) x ≡ marked_way cs x

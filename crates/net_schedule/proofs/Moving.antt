@@ -1,5 +1,5 @@
 -- A client's move is what may happen in the world of the definitions.
-use Rattle.std.proofs.Common.{◌≡◌, ◌∙◌, sym, ap, subst, refl, ℕ, zero, suc, ◌+◌, ◌-◌, ◌<◌, ◌≤◌, ◌^◌, ◌&&◌, Bool, true, false, cond, Option, Some, None, option_map, List, [], ◌∷◌, ◌++◌, length, slice_get, get_or, take, drop, min, arith, sub-one, length-append, length-drop}
+use Rattle.std.proofs.Common.{◌≡◌, ◌∙◌, sym, ap, subst, refl, ℕ, zero, suc, ◌+◌, ◌-◌, ◌<◌, ◌≤◌, ◌^◌, ◌&&◌, Bool, true, false, cond, Some, None, option_map, List, [], ◌∷◌, ◌++◌, length, slice_get, get_or, take, drop, min, arith, sub-one, length-append, length-drop}
 use Rattle.std.proofs.Math.ListN.{set}
 use Rattle.std.proofs.lemmas.Bool.{lt-ltb}
 use Rattle.std.proofs.lemmas.List.{take-append-le, take_all}
@@ -16,8 +16,8 @@ use Rattle.ft_model.specs.declared.event.Event.TheVariants as events
 use Rattle.ft_model.specs.declared.event.EventWhy.{EventWhy}
 use Rattle.ft_model.specs.declared.event.EventWhy.TheVariants as why
 use Rattle.ft_model.specs.declared.way.Way.TheVariants.{ClientToServer}
-use Rattle.ft_model.proofs.Keys.{AreDistinct}
-use Rattle.ft_model.proofs.Lists.{none_is_some, some_is, same_key}
+use Rattle.ft_model.specs.Keys.{AreDistinct}
+use Rattle.ft_model.proofs.Lists.{none_is_some, some_is, same_key, index_within}
 use Rattle.peer_client.specs.Scripted.{Makes, Refuses as RefusesMove}
 use Rattle.net_schedule.specs.StoredPackets.{with_packet, number_in}
 use Rattle.net_schedule.specs.Delivery.{changed_at, delivered_to}
@@ -26,9 +26,10 @@ use Rattle.net_schedule.specs.Premises.{Premises}
 use Rattle.net_schedule.specs.Actors.{ActorsStand, ActorsAdvance}
 use Rattle.net_schedule.specs.Refinement.{Kept}
 use Rattle.net_schedule.proofs.Numbered.{past}
-use Rattle.net_schedule.proofs.Peers.{keys_in, number_is, at_first, first_is, keys_stay, changed_past, within}
+use Rattle.net_schedule.proofs.Peers.{number_is, at_first, first_is, changed_past}
 use Rattle.net_schedule.proofs.Bringing.{distinct_keys}
-use Rattle.ft_model.proofs.SomeOutcome.{move_may as may}
+use Rattle.ft_model.proofs.SomeOutcome.{asks, move_may as may}
+use Rattle.ft_model.proofs.ClientKeys.{keys_in, keys_stay}
 
 -- an element that is written over is changed
 pub changed_set : {X : Type 0} (change : X → X) (xs : List X) (i : ℕ) (d y : X) → i < length xs → y ≡ change (get_or xs i d) → set xs i y ≡ changed_at i change xs
@@ -72,7 +73,7 @@ may_if true true false k e = none_is_some why.Range (sym e)
 may_if true false range k e = none_is_some why.State (sym e)
 may_if false phase range k e = absurd (cc)
 
--- it may announce its window
+-- it may advertise its window
 advertises : (client : Client) (event : Event) (move : Move) → move_of event ≡ Some move → window_of client event < 2 ^ 16 → may_advertise move (window_of client event) ≡ true
 advertises client (events.Begin n window) move e h = subst (λ x. may_advertise x window ≡ true) (some_is (Syn None) move e) (lt-ltb window (2 ^ 16) h)
 advertises client (events.Send n from len) move e h =
@@ -101,10 +102,6 @@ happen service v after (events.Flip n bit) number sent e m = none_is_some number
 happen service v after (events.Stop part) number sent e m = none_is_some number e
 
 -- the move that is asked of a client
-asks : (o : Option (ℕ × Move)) (number : ℕ) → option_map (λ a. a.0) o ≡ Some number → (move : Move) × (o ≡ Some (number, move))
-asks (Some a) number e = (a.1, (ap (λ n. Some (n, a.1)) (some_is a.0 number e)))
-asks None number e = none_is_some number e
-
 both_asked : (event : Event) (number : ℕ) (move : Move) → mover_of event ≡ Some number → move_of event ≡ Some move → move_asked event ≡ Some (number, move)
 both_asked event number move e f =
     let a = asks (move_asked event) number e in
@@ -132,7 +129,7 @@ replaced : (cs : List Client) (number : ℕ) (c later : Client) → AreDistinct 
 replaced cs zero c later d e = none_is_some c e
 replaced cs (suc i) c later d e =
     let one : suc i - 1 ≡ i = omega arith in
-    let inside : i < length cs = within cs i c e in
+    let inside : i < length cs = index_within cs i c e in
     let next : i + 1 ≡ suc i = omega arith in (
       ap (λ k. set cs k later) one ∙ changed_set (λ _. later) cs i c later inside refl
           ∙ sym (at_first c.key (λ _. later) cs d ∙ ap (λ k. changed_at k (λ _. later) cs) (first_is cs i c d e)),

@@ -1,43 +1,22 @@
 -- Clients whose keys differ: what is done to the one of a key is done to the one of its number, and the keys stay.
-use Rattle.std.proofs.Common.{◌≡◌, ◌∙◌, sym, ap, subst, refl, ℕ, zero, suc, ◌+◌, ◌≤◌, ◌<◌, ◌&&◌, ◌==◌, not, nat_lt, cond, true, false, Some, None, List, [], ◌∷◌, length, map, slice_get, arith}
-use Rattle.std.specs.List.{prefix_len, list_any}
+use Rattle.std.proofs.Common.{◌≡◌, ◌∙◌, sym, ap, subst, refl, ℕ, zero, suc, ◌+◌, ◌≤◌, ◌<◌, not, nat_lt, cond, true, false, Some, None, List, [], ◌∷◌, length, map, slice_get, arith}
+use Rattle.std.specs.List.{prefix_len}
 use Rattle.std.specs.Option.{option_map_or}
 use Rattle.std.proofs.lemmas.List.{length-map}
 use Rattle.std.proofs.lemmas.Bool.Decides.{nat_tests}
-use Rattle.std.proofs.lemmas.Bool.{and_parts, or_parts}
-use Rattle.ft_io.specs.declared.Addr.{Addr}
 use Rattle.ft_io.specs.declared.Key.{Key}
 use Rattle.ft_io.specs.Key.{key_eq}
 use Rattle.ft_model.specs.Client.{Client}
-use Rattle.ft_model.specs.World.{with_client, is_apart, are_apart}
+use Rattle.ft_model.specs.World.{with_client}
 use Rattle.ft_model.specs.Report.{number_of_client}
-use Rattle.ft_model.proofs.Lists.{some_is, none_is_some, key_is, same_key}
-use Rattle.ft_model.proofs.Keys.{AreDistinct, has_key, has_key_map, key_eq_turns}
+use Rattle.ft_model.specs.Keys.{AreDistinct, has_key}
+use Rattle.ft_model.proofs.Lists.{some_is, none_is_some, key_is, same_key, index_within}
+use Rattle.ft_model.proofs.Keys.{key_eq_turns, not_there}
+use Rattle.ft_model.proofs.ClientKeys.{keys_in, no_one}
 use Rattle.net_schedule.specs.StoredPackets.{number_in}
 use Rattle.net_schedule.specs.Delivery.{changed_at}
-use Rattle.ft_io.proofs.Booleans.{not_true}
 use Rattle.ft_io.proofs.Choices.{by_cases}
-
-abbrev pub keys_in : List Client → List Key
-keys_in clients = map (λ c. c.key) clients
-
--- clients that are apart have distinct keys
-pub apart_distinct : (server : Addr) (clients : List Client) → are_apart server clients ≡ true → AreDistinct (keys_in clients)
-apart_distinct server [] e = tt
-apart_distinct server (c ∷ clients) e =
-    let parts = and_parts (is_apart server c.key clients) (are_apart server clients) e in
-    let none = not_true (list_any (λ x. key_eq x.key c.key) clients) (and_parts (not (c.key.ip == server.ip && c.key.port == server.port)) (not (list_any (λ x. key_eq x.key c.key) clients)) parts.0).1 in
-    (sym (has_key_map (λ x. x.key) c.key clients) ∙ none, apart_distinct server clients parts.1)
-
-one_more : (n : ℕ) → 1 + n ≡ suc n
-one_more n = omega arith
-
--- nobody has the key
-no_one : (key : Key) (change : Client → Client) (cs : List Client) → has_key key (keys_in cs) ≡ false → with_client key change cs ≡ cs
-no_one key change [] h = refl
-no_one key change (c ∷ cs) h =
-    let parts = or_parts (key_eq c.key key) (has_key key (keys_in cs)) h in
-    ap (λ b. cond b (change c) c ∷ with_client key change cs) parts.0 ∙ ap (λ xs. c ∷ xs) (no_one key change cs parts.1)
+use Rattle.logger_store.proofs.LeftLogs.{one_more}
 
 -- the first with the key, if there is one, is the only one
 abbrev pub first_of : Key → List Key → ℕ
@@ -62,11 +41,6 @@ changed_past n change [] h = refl
 changed_past zero change (x ∷ xs) h = absurd (omega arith)
 changed_past (suc n) change (x ∷ xs) h = ap (λ ys. x ∷ ys) (changed_past n change xs (omega arith))
 
-not_there : (key : Key) (cs : List Client) (i : ℕ) (c : Client) → has_key key (keys_in cs) ≡ false → slice_get cs i ≡ Some c → key_eq c.key key ≡ false
-not_there key [] i c h e = none_is_some c e
-not_there key (x ∷ cs) zero c h e = subst (λ y. key_eq y.key key ≡ false) (some_is x c e) (or_parts (key_eq x.key key) (has_key key (keys_in cs)) h).0
-not_there key (x ∷ cs) (suc i) c h e = not_there key cs i c (or_parts (key_eq x.key key) (has_key key (keys_in cs)) h).1 e
-
 -- each client is the first with its key
 pub first_is : (cs : List Client) (i : ℕ) (c : Client) → AreDistinct (keys_in cs) → slice_get cs i ≡ Some c → first_of c.key (keys_in cs) ≡ i
 first_is [] i c d e = none_is_some c e
@@ -74,14 +48,8 @@ first_is (x ∷ cs) zero c d e =
     let same : key_eq x.key c.key ≡ true = subst (λ y. key_eq x.key y.key ≡ true) (some_is x c e) (key_is x.key) in
     ap (λ b. cond (not b) (1 + first_of c.key (keys_in cs)) 0) same
 first_is (x ∷ cs) (suc i) c d e =
-    let other : key_eq x.key c.key ≡ false = key_eq_turns c.key x.key (not_there x.key cs i c d.0 e) in
+    let other : key_eq x.key c.key ≡ false = key_eq_turns c.key x.key (not_there (λ y. y.key) x.key cs i c d.0 e) in
     ap (λ b. cond (not b) (1 + first_of c.key (keys_in cs)) 0) other ∙ ap (λ n. 1 + n) (first_is cs i c d.1 e) ∙ one_more i
-
--- where one is, there are so many
-pub within : {X : Type 0} (xs : List X) (i : ℕ) (x : X) → slice_get xs i ≡ Some x → i < length xs
-within [] i x e = none_is_some x e
-within (y ∷ xs) zero x e = omega arith
-within (y ∷ xs) (suc i) x e = omega (arith, within xs i x e)
 
 number_at : (n l : ℕ) → n < l → option_map_or (λ i. i + 1) (cond (nat_lt n l) (Some n) None) 0 ≡ n + 1
 number_at n l h = let t : nat_lt n l ≡ true = grind (arith, nat_tests) in ap (λ b. option_map_or (λ i. i + 1) (cond b (Some n) None) 0) t
@@ -89,7 +57,7 @@ number_at n l h = let t : nat_lt n l ≡ true = grind (arith, nat_tests) in ap (
 pub number_is : (cs : List Client) (i : ℕ) (c : Client) → AreDistinct (keys_in cs) → slice_get cs i ≡ Some c → number_in (keys_in cs) c.key ≡ i + 1
 number_is cs i c d e =
     let first : first_of c.key (keys_in cs) ≡ i = first_is cs i c d e in
-    let inside : first_of c.key (keys_in cs) < length (keys_in cs) = omega (arith, first, within cs i c e, length-map cs (λ x. x.key)) in
+    let inside : first_of c.key (keys_in cs) < length (keys_in cs) = omega (arith, first, index_within cs i c e, length-map cs (λ x. x.key)) in
     number_at (first_of c.key (keys_in cs)) (length (keys_in cs)) inside ∙ ap (λ n. n + 1) first
 
 -- what a number means: the first with its key, or nobody
@@ -104,18 +72,6 @@ by_number P keys key there none =
     (λ e.
     let past : length keys ≤ n = grind (arith, nat_tests) in
     subst P (sym (ap (λ b. option_map_or (λ i. i + 1) (cond b (Some n) None) 0) e)) (none past))
-
--- the keys stay, where the one of the key keeps its own
-head_key : (key : Key) (change : Client → Client) (c : Client) → (key_eq c.key key ≡ true → (change c).key ≡ c.key) → (cond (key_eq c.key key) (change c) c).key ≡ c.key
-head_key key change c keeps =
-    by_cases (key_eq c.key key)
-    (λ e. ap (λ b. (cond b (change c) c).key) e ∙ keeps e)
-    (λ e. ap (λ b. (cond b (change c) c).key) e)
-
-pub keys_stay : (key : Key) (change : Client → Client) (cs : List Client) → ((c : Client) → key_eq c.key key ≡ true → (change c).key ≡ c.key) → keys_in (with_client key change cs) ≡ keys_in cs
-keys_stay key change [] keeps = refl
-keys_stay key change (c ∷ cs) keeps =
-    ap (λ k. k ∷ keys_in (with_client key change cs)) (head_key key change c (keeps c)) ∙ ap (λ ks. c.key ∷ ks) (keys_stay key change cs keeps)
 
 -- numbers by keys and by clients are the same
 first_among : (key : Key) (cs : List Client) → first_of key (keys_in cs) ≡ prefix_len (λ c. not (key_eq c.key key)) cs

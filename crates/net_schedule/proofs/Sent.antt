@@ -21,9 +21,10 @@ use Rattle.net_schedule.specs.Refinement.{Kept}
 use Rattle.net_schedule.specs.Step.{StandsAfter}
 use Rattle.net_schedule.proofs.Events.{all_numbered}
 use Rattle.net_schedule.proofs.PacketStore.{Found, found, twice}
-use Rattle.net_schedule.proofs.Peers.{keys_in, number_among}
+use Rattle.net_schedule.proofs.Peers.{number_among}
 use Rattle.net_schedule.proofs.FirstWorld.{keys_begin}
 use Rattle.net_schedule.proofs.Trace.{keys_after}
+use Rattle.ft_model.proofs.ClientKeys.{keys_in}
 
 -- a way by keys is one by clients
 pub way_is : (cs : List Client) (p : Packet) → way_along (keys_in cs) (wire_of p) ≡ way_of cs p

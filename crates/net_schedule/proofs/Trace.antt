@@ -19,6 +19,7 @@ use Rattle.ft_model.proofs.FaithfulKept.{received_same}
 use Rattle.ft_model.proofs.Happened.{Happened, holds_after}
 use Rattle.ft_model.proofs.Happened.Happened.{log_heard, client_heard, client_moved, server_turned, server_booted, server_down}
 use Rattle.ft_model.proofs.Lists.{same_key}
+use Rattle.ft_model.proofs.ClientKeys.{keys_in, keys_stay}
 use Rattle.server_node.specs.Markers.{Saving}
 use Rattle.net_schedule.specs.WorldView.{kept, services_of}
 use Rattle.net_schedule.specs.Premises.{Premises}
@@ -31,7 +32,6 @@ use Rattle.net_schedule.specs.declared.end.StepEnd.TheVariants.{NoMemory, BadEve
 use Rattle.net_schedule.specs.declared.step_out.StepOut.{StepOut}
 use Rattle.net_schedule.specs.declared.world.World.{World}
 use Rattle.net_schedule.proofs.PacketStore.{as_many}
-use Rattle.net_schedule.proofs.Peers.{keys_in, keys_stay}
 
 -- the clients keep the keys with which they started
 pub step_keeps : {State : Type 0} (service : Machine State) (start before : Seen) (sent : List Packet) (after : Seen) → keys_in before.clients ≡ keys_in start.clients → Happened service before sent after

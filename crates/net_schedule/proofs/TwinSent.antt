@@ -19,12 +19,12 @@ use Rattle.net_schedule.specs.Refinement.{Kept}
 use Rattle.net_schedule.specs.TwinRefinement.{stored_way}
 use Rattle.net_schedule.specs.TwinStep.{TwinStandsAfter}
 use Rattle.net_schedule.proofs.Parcels.{FoundParcel, found_parcel}
-use Rattle.net_schedule.proofs.Peers.{keys_in}
 use Rattle.net_schedule.proofs.Sent.{way_is}
 use Rattle.net_schedule.proofs.FirstWorld.{keys_begin}
 use Rattle.net_schedule.proofs.Trace.{keys_after}
 use Rattle.net_schedule.proofs.TwinEvents.{written_at}
 use Rattle.net_schedule.proofs.TwinTrace.{AreTwinLaws}
+use Rattle.ft_model.proofs.ClientKeys.{keys_in}
 
 -- a way by keys is one by clients
 parcel_way_is : (cs : List Client) (x : Parcel) → stored_way (keys_in cs) x ≡ way_of_parcel cs x

@@ -1,26 +1,10 @@
 -- Calls recorded one after another, and their counts.
-use Rattle.std.proofs.Common.{◌≡◌, ◌∙◌, ℕ, ◌+◌, ◌≤◌, sym, ap, Option, None, Some, List, [], ◌++◌, length, append_assoc, append-nil, arith}
+use Rattle.std.proofs.Common.{◌≡◌, ◌∙◌, ℕ, ◌+◌, ◌≤◌, sym, ap, List, [], ◌++◌, length, arith}
 use Rattle.std.proofs.lemmas.List.Sums.{sum_by-append, count_by-le-length}
 use Rattle.std.specs.Prelude.{cond}
 use Rattle.ft_io.specs.declared.link_call.LinkCall.{LinkCall}
-use Rattle.ft_io.specs.Told.{Tells}
 use Rattle.node_link.specs.declared.counts.Counts.{Counts}
 use Rattle.node_link.specs.Counts.{counts_of, plus, with_calls, is_receive, is_datagram, is_sent, is_lost, is_failed}
-
--- calls are recorded one after another
-pub tells_on : {A : Type 0} (old mid new : Option (List A)) (xs ys : List A) → Tells old mid xs → Tells mid new ys → Tells old new (xs ++ ys)
-tells_on None None None xs ys a b = tt
-tells_on None None (Some n) xs ys a b = absurd b
-tells_on None (Some m) None xs ys a b = tt
-tells_on None (Some m) (Some n) xs ys a b = absurd a
-tells_on (Some o) None None xs ys a b = tt
-tells_on (Some o) None (Some n) xs ys a b = absurd b
-tells_on (Some o) (Some m) None xs ys a b = tt
-tells_on (Some o) (Some m) (Some n) xs ys a b = b ∙ (ap (λ l. l ++ ys) a ∙ append_assoc o xs ys)
-
-pub tells_none : {A : Type 0} (told : Option (List A)) → Tells told told []
-tells_none None = tt
-tells_none (Some xs) = sym (append-nil xs)
 
 plus_assoc : (a b c : Counts) → plus (plus a b) c ≡ plus a (plus b c)
 plus_assoc a b c =

@@ -12,6 +12,7 @@ use Rattle.ft_io.specs.declared.Failed.{Failed}
 use Rattle.ft_io.specs.Link.{send_told}
 use Rattle.ft_io.specs.Told.{Tells}
 use Rattle.ft_io.specs.Sink.{AppendsFront}
+use Rattle.ft_io.proofs.Tellings.{tells_on, none_told}
 use Rattle.tcp_endpoint.specs.Output.{packets}
 use Rattle.ft_model.specs.Client.{Client, new_client}
 use Rattle.ft_model.specs.Client.ClientKind.{Live}
@@ -31,7 +32,6 @@ use Rattle.node_link.specs.ClientRuns.{Runs, IsEndedBy, IsSpent, IsCutShort, IsC
 use Rattle.node_link.specs.ClientParts.{AreHanded, HasReceived, HasTurned, IsLimited, IsFresh, BeginsBeside, RunStops}
 use Rattle.node_link.proofs.ClientLimits.{receive_limited, turned_limited, limited_at, new_limited, limited_unread}
 use Rattle.node_link.proofs.ClientBeside.{Beside, beside_none, beside_on, beside_ends}
-use Rattle.node_link.proofs.Calls.{tells_on, tells_none}
 
 -- packets are handed to send one by one
 handings_more : (to : Addr) (packet : List ℕ) (others : List (List ℕ)) (losses : List Bool) (is_lost : Bool) → length losses ≡ length others
@@ -75,7 +75,7 @@ hands_all to i all old new e h =
     record { losses = h.losses; tells = subst (λ xs. Tells old new (handings to xs h.losses)) whole h.tells }
 
 pub hands_none : (to : Addr) (all : List (List ℕ)) (told : Option (List LinkCall)) → Hands to 0 all told told
-hands_none to all told = record { losses = []; each = refl; tells = tells_none told }
+hands_none to all told = record { losses = []; each = refl; tells = none_told told }
 
 -- one turn
 module _ (isn : ℕ) (server : Addr) where
@@ -256,7 +256,7 @@ module _ (role : ClientRole) (script : List ℕ) (client : LiveState) (before mi
 
 -- nothing was done
 pub does_nothing : (told : Option (List LinkCall)) (out : Option (List ℕ)) → DoesNothing told told out out
-does_nothing told out = (tells_none told, refl)
+does_nothing told out = (none_told told, refl)
 
 pub without_memory : (role : ClientRole) (script : List ℕ) (told : Option (List LinkCall)) (out : Option (List ℕ)) (end : NodeEnd) → end ≡ ends.NoMemory
     → ScriptRunStops role script told told out out end

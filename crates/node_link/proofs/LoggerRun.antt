@@ -13,12 +13,13 @@ use Rattle.node_link.specs.declared.role.LoggerRole.{LoggerRole}
 use Rattle.node_link.specs.declared.status.NodeEnd.{NodeEnd}
 use Rattle.node_link.specs.declared.status.NodeEnd.TheVariants as ends
 use Rattle.ft_io.specs.Sink.{AppendsFront}
+use Rattle.ft_io.proofs.Tellings.{tells_on, none_told}
 use Rattle.node_link.specs.Counts.{count_line, counts_of, plus, with_calls, HasRoom}
 use Rattle.node_link.specs.LoggerTurns.{LoggerTurn, answer_for, log_with, log_then, handing, turn_calls, log_at, calls_of}
 use Rattle.node_link.specs.Receipt.{Received, datagram, silence, failure, received_as, IsQuiet}
 use Rattle.node_link.specs.LineOutput.{TellStops}
 use Rattle.node_link.specs.LoggerParts.{IsLogger, IsCutLogger, LoggerStops, handing_bytes, Replies, HasTurned, HasServed, HasCounted, IsCutOff, IsCutServing}
-use Rattle.node_link.proofs.Calls.{tells_on, tells_none, counts_on, with_both, IsFew}
+use Rattle.node_link.proofs.Calls.{counts_on, with_both, IsFew}
 
 few_received : (r : Received) → IsFew 1 (counts_of (received_as r ∷ []))
 few_received (datagram from bytes) = record { turns = omega arith; datagrams = omega arith; sent = omega arith; lost = omega arith; failed = omega arith }
@@ -91,7 +92,7 @@ quiet log old new c counts (datagram from bytes) t k (inl e) = cc
 quiet log old new c counts (datagram from bytes) t k (inr e) = cc
 
 -- an answer has bytes
-handing_is : (to : Addr) (lost : Bool) (answer : Option Message) → handing_bytes to lost (answer_bytes answer) ≡ handing to lost answer
+pub handing_is : (to : Addr) (lost : Bool) (answer : Option Message) → handing_bytes to lost (answer_bytes answer) ≡ handing to lost answer
 unfolding spelling spelled header
 handing_is to lost None = refl
 handing_is to lost (Some m) = refl
@@ -112,7 +113,7 @@ replied log after old mid new c between counts r from bytes answer t k e next is
 
 -- turns so far
 pub served_none : (told : Option (List LinkCall)) (log : Log) (counts : Counts) → log ≡ empty_log → counts ≡ counts_of [] → HasServed 0 told told log counts
-served_none told log counts l c = record { turns = []; count_is = refl; tells = tells_none told; log_is = l; counts_are = c }
+served_none told log counts l c = record { turns = []; count_is = refl; tells = none_told told; log_is = l; counts_are = c }
 
 pub served_on : (i : ℕ) (old mid new : Option (List LinkCall)) (log after : Log) (c counts : Counts) → HasServed i old mid log c → HasTurned log after mid new c counts
     → HasServed (i + 1) old new after counts

@@ -7,6 +7,7 @@ use Rattle.ft_io.specs.declared.spawn_call.SpawnCall.{SpawnCall}
 use Rattle.ft_io.specs.declared.spawn_call.SpawnCall.TheVariants.{Started, Ended}
 use Rattle.ft_io.specs.Told.{Tells}
 use Rattle.ft_io.specs.Sink.{AppendsFront}
+use Rattle.ft_io.proofs.Tellings.{tells_on, none_told}
 use Rattle.node_link.specs.declared.pair.Children.{Children}
 use Rattle.node_link.specs.declared.pair.ChildName.{ChildName}
 use Rattle.node_link.specs.declared.role.PairRole.{PairRole}
@@ -16,7 +17,6 @@ use Rattle.node_link.specs.declared.pair.PairFault.{PairFault}
 use Rattle.node_link.specs.declared.pair.PairFault.TheVariants as faults
 use Rattle.node_link.specs.Pair.{status_line, steps_of, StepsTell, IsPair, StepsStop}
 use Rattle.node_link.specs.PairParts.{StartDone, IsCounted, FitsStep, count_after, FitSteps, WaitDone, WaitStops, StepDone, StepStops}
-use Rattle.node_link.proofs.Calls.{tells_on, tells_none}
 use Rattle.node_link.proofs.ClientRunning.{front_more}
 
 pub two_more : {X : Type 0} (f : X → List ℕ) (xs : List X) (a b : X) → map f ((xs ++ a ∷ []) ++ b ∷ []) ≡ map f xs ++ (f a ∷ f b ∷ [])
@@ -59,7 +59,7 @@ pub record Goes (steps : List PairStep) (count before : ℕ) (children : Childre
 pub goes_none : (steps : List PairStep) (children : Children) (started : ℕ) (told : Option (List SpawnCall)) (out : Option (List ℕ)) → children.count ≡ 0 → FitSteps 0 steps
     → Goes steps 0 started children started told told out out
 goes_none steps children started told out none fit = record {
-  pair = record { calls = []; lines = []; steps_tell = (refl, refl); tells = tells_none told; written = Appends-nil out };
+  pair = record { calls = []; lines = []; steps_tell = (refl, refl); tells = none_told told; written = Appends-nil out };
   fit = subst (λ (n : ℕ). FitSteps n steps) (sym none) fit;
   started_is = omega arith;
   counted = record { among = omega arith; last = λ some. absurd (omega (arith, some, none)) };

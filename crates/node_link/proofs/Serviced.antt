@@ -11,6 +11,7 @@ use Rattle.ft_io.specs.declared.link_call.LinkCall.TheVariants.{Bound, Handed}
 use Rattle.ft_io.specs.Link.{send_told}
 use Rattle.ft_io.specs.Sink.{AppendsFront}
 use Rattle.ft_io.specs.Told.{Tells}
+use Rattle.ft_io.proofs.Tellings.{tells_on, none_told}
 use Rattle.seq_arith.specs.PacketGrammar as packets
 use Rattle.seq_arith.specs.MessageGrammar as messages
 use Rattle.ft_model.specs.Node as law
@@ -38,7 +39,7 @@ use Rattle.node_link.specs.Incarnation.{kind_in, service_of, first_of, input_in,
 use Rattle.node_link.specs.ServerLife.{IsServer, IsCutServer, ServerStops}
 use Rattle.node_link.specs.ServerParts.{Standing, HasHanded, HasSent, identity_of, HasBooted, Goes, HasTurned, EndsTurn, TurnStops, IsAfterTurns, StandsForKey, IsServing, HasServed, IsCutServing, ServeStops}
 use Rattle.node_link.proofs.KeyGoing.{GoesFor, begins_for, key_goes}
-use Rattle.node_link.proofs.Calls.{tells_on, tells_none, counts_on, with_both, with_none, few_calls, IsFew}
+use Rattle.node_link.proofs.Calls.{counts_on, with_both, with_none, few_calls, IsFew}
 
 -- what came, as an input
 pub message_in : (loggers : Loggers) (from : Addr) (bytes : List ℕ) (r : Received) → r ≡ datagram from bytes → is_from_logger loggers from ≡ true
@@ -87,7 +88,7 @@ sent_twice loggers wire second old mid new c c' c'' is h k =
 
 -- packets that were handed to send so far
 pub sent_none : (loggers : Loggers) (told : Option (List LinkCall)) (c : Counts) → HasSent loggers [] told told c c
-sent_none loggers told c = record { sent = []; wires_are = refl; tells = tells_none told; counts_are = sym (with_none c) }
+sent_none loggers told c = record { sent = []; wires_are = refl; tells = none_told told; counts_are = sym (with_none c) }
 
 sent_more : (loggers : Loggers) (wires : List Wire) (wire : Wire) (old mid new : Option (List LinkCall)) (c c' c'' : Counts) → HasSent loggers wires old mid c c'
     → HasSent loggers (wire ∷ []) mid new c' c'' → HasSent loggers (wires ++ wire ∷ []) old new c c''

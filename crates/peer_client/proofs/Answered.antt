@@ -23,10 +23,10 @@ use Rattle.endpoint_laws.proofs.Connecting.{received_by}
 use Rattle.peer_client.specs.declared.live.ClientEnd.TheVariants as ends
 use Rattle.peer_client.specs.Live.{LiveState, is_of, end_of, first_end, met, ticked}
 use Rattle.peer_client.specs.Refinement.{IsSame, AnswersBy, Waits, IsWaiting, IsConnected, IsReset, IsDue}
-use Rattle.peer_client.proofs.Leaves.{eq_of}
 use Rattle.peer_client.proofs.Comes.{both_if}
 use Rattle.peer_client.proofs.News.{ticked_sends, ticked_same}
 use Rattle.ft_io.proofs.Booleans.{left_true, right_true}
+use Rattle.ft_io.proofs.Numbers.{equal_of_test, test_of_equal}
 
 -- the number that acknowledges the SYN
 same_tests : (a b : Bool) → (a ≡ true → b ≡ true) → (b ≡ true → a ≡ true) → a ≡ b
@@ -40,9 +40,6 @@ zero_of z h = grind (arith, ints, h)
 is_zero : (z : ℤ) → z ≡ pos 0 → int_eq z (pos 0) ≡ true
 is_zero z h = ap (λ y. int_eq y (pos 0)) h
 
-eq_is : (n m : ℕ) → n ≡ m → (n == m) ≡ true
-eq_is n m h = grind (arith, h)
-
 zero_at : (isn n : ℕ) → n < 2 ^ 32 → int_eq (offset_of isn n) (pos 0) ≡ (n == number_at isn 0)
 zero_at isn n fits =
     let l = offset_leads isn n fits in
@@ -51,8 +48,8 @@ zero_at isn n fits =
     let same : number_at isn 0 ≡ (isn + 1) % 2 ^ 32 = ap (λ k. k % 2 ^ 32) plus in
     same_tests (int_eq (offset_of isn n) (pos 0)) (n == number_at isn 0)
     (λ h. let z : offset_of isn n ≡ pos 0 = zero_of (offset_of isn n) h in
-    eq_is n (number_at isn 0) (omega (arith, ints, z, l.leads, fits, first, same)))
-    (λ h. let is : n ≡ number_at isn 0 = eq_of n (number_at isn 0) h in
+    test_of_equal n (number_at isn 0) (omega (arith, ints, z, l.leads, fits, first, same)))
+    (λ h. let is : n ≡ number_at isn 0 = equal_of_test n (number_at isn 0) h in
     is_zero (offset_of isn n) (omega (arith, ints, is, l.leads, l.low, l.high, first, same)))
 
 -- nothing changes
@@ -129,9 +126,9 @@ refuses l c p h from fits wrong =
         ap is_opening h.phase,
         record {
           src = ap (λ (a : Addr). a.ip) same.local;
-          dst = eq_of p.head.src l.server.ip (left_true (p.head.src == l.server.ip) (p.head.sport == l.server.port) by_ports);
+          dst = equal_of_test p.head.src l.server.ip (left_true (p.head.src == l.server.ip) (p.head.sport == l.server.port) by_ports);
           sport = ap (λ (a : Addr). a.port) same.local;
-          dport = eq_of p.head.sport l.server.port (right_true (p.head.src == l.server.ip) (p.head.sport == l.server.port) by_ports);
+          dport = equal_of_test p.head.sport l.server.port (right_true (p.head.src == l.server.ip) (p.head.sport == l.server.port) by_ports);
           seq = fits;
           wrong = wrong;
           ack = refl;

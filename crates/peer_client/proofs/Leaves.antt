@@ -15,6 +15,7 @@ use Rattle.peer_client.specs.Refinement.{AreMoves, Told}
 use Rattle.peer_client.proofs.Spoken.{grown, Speaks, Goes, edge_after, text_move, fin_move, bare_move, texts_go, goes_none, goes_one, goes_on, edge_low}
 use Rattle.ft_io.proofs.Booleans.{left_true, right_true, not_true, or_other}
 use Rattle.ft_io.proofs.Choices.{holds_if}
+use Rattle.ft_io.proofs.Numbers.{equal_of_test}
 use Rattle.endpoint_laws.proofs.TimerAt.{some_left}
 
 -- where two choices are made by one test
@@ -28,9 +29,6 @@ lt_of n m h = grind (arith, h)
 
 pub not_lt_of : (n m : ℕ) → nat_lt n m ≡ false → m ≤ n
 not_lt_of n m h = grind (arith, h)
-
-pub eq_of : (n m : ℕ) → (n == m) ≡ true → n ≡ m
-eq_of n m h = grind (arith, h)
 
 -- the endpoint with so much sent, and a FIN or not
 abbrev pub at : Tcb → ℕ → Bool → Tcb
@@ -86,7 +84,7 @@ retransmission_goes u c written edge x h w low =
     (λ k. absurd (false≢true (sym (ap not h.syn_acked) ∙ k)))
     (λ k. holds_if O (length q.held == 0) (fin_at u 0) (text_at u 0 (resent_length q))
     (λ none.
-    let gone : length q.held ≡ 0 = eq_of (length q.held) 0 none in
+    let gone : length q.held ≡ 0 = equal_of_test (length q.held) 0 none in
     let fin : q.fin_sent ≡ true = fin_is q.fin_sent (λ f. absurd (omega (arith, w.text f, gone, held, unacked))) in
     let whole = w.ended fin in
     goes_one c edge q.sent x q.sent (fin_at u 0)
@@ -229,7 +227,7 @@ fin_steps u c written edge s x f h w low =
     let whole : (sure && not f && all) ≡ true = left_true (sure && not f && all) room due in
     let off : f ≡ false = not_true f (right_true sure (not f) (left_true (sure && not f) all whole)) in
     let is_closed : q.closed ≡ true = right_true q.syn_acked q.closed (left_true sure (not f) (left_true (sure && not f) all whole)) in
-    let ends : s ≡ q.una + length q.held = eq_of s (q.una + length q.held) (right_true (sure && not f) all whole) in
+    let ends : s ≡ q.una + length q.held = equal_of_test s (q.una + length q.held) (right_true (sure && not f) all whole) in
     let sent : s ≡ written = omega (arith, ends, held, w.text off, w.order) in
     record {
       sent = s + 1;
@@ -243,7 +241,7 @@ fin_steps u c written edge s x f h w low =
     })
     (λ k. stays u c written edge s x f w)
 
--- what was announced last is the edge, where nothing is pending
+-- what was advertised last is the edge, where nothing is pending
 same_edge : (before now : ℕ) (f g : Bool) (told edge : ℕ) → before ≤ now → (f ≡ true → g ≡ true) → before + one_if f ≡ now + one_if g → told + one_if f ≡ edge + one_if g
     → told ≡ edge
 same_edge before now true true told edge less stays_taken units edges = omega (arith, edges)
@@ -266,8 +264,8 @@ edge_told u c begun (inl ack_pending) none =
 edge_told u c begun (inr t) none =
     let k = no_ack_pending (has_begun u.name) u.ack_pending (u.last_ack_sent == next u.receiving) (u.last_advertised_edge == advertised_edge u.receiving) begun none in
     same_edge t.bytes (taken u.receiving) t.fin u.receiving.fin c.edge (receive_edge u.receiving) t.bytes_taken t.fin_taken
-    (sym t.next_is ∙ eq_of u.last_ack_sent (next u.receiving) k.1.0)
-    (sym t.edge_is ∙ eq_of u.last_advertised_edge (advertised_edge u.receiving) k.1.1)
+    (sym t.next_is ∙ equal_of_test u.last_ack_sent (next u.receiving) k.1.0)
+    (sym t.edge_is ∙ equal_of_test u.last_advertised_edge (advertised_edge u.receiving) k.1.1)
 
 edge_told_at : (u : Tcb) (c : Client) (s : ℕ) (f : Bool) → has_begun u.name ≡ true → (u.ack_pending ≡ true) ⊎ Told u c → is_ack_pending (at u s f) ≡ false
     → c.edge ≡ receive_edge u.receiving

@@ -1,4 +1,4 @@
--- Each segment that leaves an established connection is a move of the client machine, which then has sent and announced what TCP has.
+-- Each segment that leaves an established connection is a move of the client machine, which then has sent and advertised what TCP has.
 use Rattle.std.proofs.Common.{◌≡◌, ℕ, zero, suc, ◌<◌, ◌≤◌, ◌+◌, ◌-◌, ◌^◌, true, None, List, [], ◌∷◌, ◌++◌, length, take, drop, drop-drop, max, min, refl, sym, ap, subst, arith, ◌∙◌}
 use Rattle.std.specs.Prelude.{◌&&◌, nat_lt, nat_le}
 use Rattle.std.proofs.lemmas.List.{drop-take, take-take}
@@ -12,7 +12,7 @@ use Rattle.ft_model.specs.Client.Move.{Text, Fin, Acknowledge}
 use Rattle.peer_client.specs.Refinement.{AreMoves}
 use Rattle.ft_io.proofs.Choices.{holds_if}
 
--- a machine that has sent and announced so much
+-- a machine that has sent and advertised so much
 abbrev pub grown : Client → (sent edge : ℕ) → Client
 grown c sent edge = record c { sent = sent; edge = edge }
 
@@ -147,7 +147,7 @@ abbrev pub edge_after : List Segment → (edge x : ℕ) → ℕ
 edge_after [] edge x = x
 edge_after (segment ∷ segments) edge x = edge
 
--- the segments lead the machine on from so much sent and announced to so much sent
+-- the segments lead the machine on from so much sent and advertised to so much sent
 abbrev pub Goes : Client → (edge s x : ℕ) → List Segment → (after : ℕ) → Type 0
 Goes c edge s x segments after = AreMoves (grown c s x) segments (grown c after (edge_after segments edge x))
 

@@ -24,6 +24,7 @@ use Rattle.peer_client.proofs.Leaves.{at, IsWithin, Flushes, Left, leaves}
 use Rattle.peer_client.proofs.Named.{follows_of, over_at}
 use Rattle.ft_io.proofs.Booleans.{right_true}
 use Rattle.ft_io.proofs.Choices.{holds_if}
+use Rattle.ft_io.proofs.Numbers.{at_most_of_test}
 
 -- bytes that are read
 pub read_edge : (r : Receiving) (n : ℕ) → receive_edge r ≤ receive_edge (read_out r n)
@@ -133,9 +134,6 @@ close_sends s written c whole h = record {
   most = h.most;
 }
 
-le_of : (n m : ℕ) → nat_le n m ≡ true → n ≤ m
-le_of n m h = grind (arith, h)
-
 -- what stands before the flush
 pub record Ready (l : LiveState) (c : Client) (u : Tcb) (written : ℕ) : Type 0 where
   pub local : u.local ≡ l.local
@@ -205,7 +203,7 @@ ready_shut l c m script h =
       syn_acked = h.syn_acked;
       hears = h.hears;
       sends = close_sends m.tcb.sending m.written c
-          (omega (arith, h.sends.within, le_of (length m.script) m.written (right_true (has_begun m.tcb.name) (nat_le (length m.script) m.written) k), ap length script)) h.sends;
+          (omega (arith, h.sends.within, at_most_of_test (length m.script) m.written (right_true (has_begun m.tcb.name) (nat_le (length m.script) m.written) k), ap length script)) h.sends;
       reset_reply = h.reset_reply;
       unreset = h.unreset;
       edge = h.edge;

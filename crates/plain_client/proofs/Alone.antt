@@ -1,13 +1,13 @@
 -- What comes to a client that holds nothing, in plain words.
-use Rattle.std.proofs.Common.{◌≡◌, ℕ, ◌+◌, Bool, true, false, List, ◌++◌, length, refl, ap, ◌∙◌}
+use Rattle.std.proofs.Common.{◌≡◌, ℕ, ◌+◌, Bool, List, ◌++◌, length, ap, ◌∙◌}
 use Rattle.std.specs.Prelude.{ℤ, pos, ◌+ℤ◌, ◌&&◌, ◌||◌, if◌then◌else◌}
 use Rattle.seq_arith.specs.Coming.{nothing_early, comes}
 use Rattle.seq_arith.proofs.Coming.{comes_alone}
 use Rattle.ft_model.specs.Client as machine
 use Rattle.ft_model.specs.Client.{Client, is_ended, holds}
 use Rattle.ft_model.specs.Client.ClientKind.{Scripted}
-use Rattle.ft_model.specs.declared.phase.Phase.{Phase}
-use Rattle.ft_model.specs.declared.phase.Phase.TheVariants.{New, Opening, Established, Ended, Reset}
+use Rattle.ft_model.specs.declared.phase.Phase.TheVariants.{Ended}
+use Rattle.ft_model.proofs.ClientKinds.{ends_by}
 use Rattle.plain_client.specs.Accepting.{added, next_text, is_fin_at}
 
 text_alone : (n edge : ℕ) (fin : Bool) (first : ℤ) (text : List ℕ) (has_fin : Bool)
@@ -22,15 +22,6 @@ unfolding is_fin_at next_text
 fin_alone n edge fin first text has_fin =
     (comes_alone n edge fin first text has_fin).fin
     ∙ ap (λ (bytes : List ℕ). fin || (has_fin && is_fin_at (n + length bytes) edge (first +ℤ pos (length text)))) (text_alone n edge fin first text has_fin)
-
--- one that has ended stays so
-ends_by : (phase : Phase) (b : Bool) → (if is_ended phase || b then Ended else phase) ≡ (if b then Ended else phase)
-ends_by Ended true = refl
-ends_by Ended false = refl
-ends_by New b = refl
-ends_by Opening b = refl
-ends_by Established b = refl
-ends_by Reset b = refl
 
 -- a scripted client takes the text that continues what it has accepted, and drops all else
 pub accepted_is : (c : Client) (first : ℤ) (text : List ℕ) (fin : Bool) → c.kind ≡ Scripted

@@ -1,10 +1,10 @@
 -- The messages of a turn's copies and reads, one after another.
-use Rattle.std.proofs.Common.{◌≡◌, ◌∙◌, ℕ, zero, suc, ◌+◌, ◌≤◌, ◌<◌, Bool, true, false, true≢false, refl, sym, ap, subst, List, [], ◌∷◌, ◌++◌, length, take, drop, map, arith, add-one, nat_lt, ltb-true, length-drop, if◌then◌else◌}
+use Rattle.std.proofs.Common.{◌≡◌, ◌∙◌, ℕ, zero, suc, ◌+◌, ◌≤◌, ◌<◌, Bool, true, false, refl, sym, ap, subst, List, [], ◌∷◌, ◌++◌, length, take, drop, map, arith, add-one, nat_lt, ltb-true, length-drop, if◌then◌else◌}
 use Rattle.std.specs.Prelude.{◌||◌, slice_index}
-use Rattle.std.proofs.lemmas.Bool.{false≢true}
 use Rattle.std.proofs.Math.Seq.{drop-cons}
 use Rattle.ft_io.specs.declared.Key.{Key}
-use Rattle.ft_io.proofs.Choices.{by_cases, if_false}
+use Rattle.ft_io.proofs.Choices.{by_cases, if_false, if_true}
+use Rattle.ft_io.proofs.Booleans.{left_false}
 use Rattle.seq_arith.specs.Message.{Body, Part}
 use Rattle.seq_arith.specs.Message.Body.{DataMsg, ReadMsg}
 use Rattle.seq_arith.specs.Packet.{Segment}
@@ -20,10 +20,6 @@ use Rattle.plain_packets.proofs.Sent.{appends_none, appends_same}
 use Rattle.plain_point.specs.Copying.{further_part}
 use Rattle.plain_connection.specs.Copying.{datas_of}
 use Rattle.plain_connection.proofs.Telling.{IsTelling, one_told, told_both}
-
-or_first : (a b : Bool) → (a || b) ≡ false → a ≡ false
-or_first false b e = refl
-or_first true b e = absurd (true≢false e)
 
 -- one part of 1,460 bytes, and the part after all such
 abbrev full_part : Key → (acked offset : ℕ) → List ℕ → Part
@@ -47,10 +43,6 @@ datas_alike (suc k) (suc m) key acked offset bytes fin h g =
     datas_alike k m key acked (offset + 1460) (drop 1460 bytes) fin (omega (arith, h, long, left)) (omega (arith, g, long, left)) in
     ap (λ l. if nat_lt 1460 (length bytes) then DataMsg (full_part key acked offset bytes) ∷ l else last) rest)
     (λ f. if_false (nat_lt 1460 (length bytes)) _ last f ∙ sym (if_false (nat_lt 1460 (length bytes)) _ last f))
-
-if_true : {X : Type 0} (b : Bool) (x y : X) → b ≡ true → (if b then x else y) ≡ x
-if_true true x y h = refl
-if_true false x y h = absurd (false≢true h)
 
 pub datas_more : (key : Key) (acked offset : ℕ) (bytes : List ℕ) (fin : Bool) → 1460 < length bytes
     → datas (length bytes + 1) key acked offset bytes fin
@@ -77,7 +69,7 @@ datas_last key acked offset bytes fin short some =
 datas_none : (key : Key) (acked offset : ℕ) (bytes : List ℕ) (fin : Bool) → (nat_lt 0 (length bytes) || fin) ≡ false → datas (length bytes + 1) key acked offset bytes fin ≡ []
 unfolding datas
 datas_none key acked offset bytes fin none =
-    let empty : nat_lt 0 (length bytes) ≡ false = or_first (nat_lt 0 (length bytes)) fin none in
+    let empty : nat_lt 0 (length bytes) ≡ false = left_false (nat_lt 0 (length bytes)) fin none in
     let long : nat_lt 1460 (length bytes) ≡ false = grind (arith, empty) in
     rw add-one (if_false (nat_lt 1460 (length bytes)) _ _ long ∙ if_false (nat_lt 0 (length bytes) || fin) _ [] none)
 

@@ -1,6 +1,5 @@
 -- A connection is served as before once the news are noted: more bytes change nothing of what was read.
-use Rattle.std.proofs.Common.{◌≡◌, ◌∙◌, ℕ, ◌+◌, ◌≤◌, refl, sym, ap, ap₂, subst, le_trans, sum, List, [], ◌∷◌, ◌++◌, length, drop, arith, length-drop}
-use Rattle.std.proofs.lemmas.List.{take-append-le}
+use Rattle.std.proofs.Common.{◌≡◌, ◌∙◌, ℕ, ◌≤◌, sym, ap, subst, le_trans, sum, List, length}
 use Rattle.server_trait.specs.Service.{Machine, cut}
 use Rattle.made_output.specs.Made.{nothing_made, after_reads, made_of}
 use Rattle.ft_model.specs.News.{News}
@@ -8,19 +7,10 @@ use Rattle.ft_model.specs.Growth.{IsPrefix}
 use Rattle.ft_model.specs.Taken.{taken_after}
 use Rattle.ft_model.proofs.LiveTurns.{counts_within}
 use Rattle.ft_model.proofs.Running.{taken_grows}
-use Rattle.ft_model.proofs.Services.{drop_within, sum_more, prefix_length}
+use Rattle.ft_model.proofs.Services.{prefix_length, cut_within}
 use Rattle.plain_point.specs.Turn.{noted}
 use Rattle.plain_connection.specs.State.{ConnectionState, IsServed}
 use Rattle.plain_connection.specs.Turn.{reset_noted}
-
-cut_within : (bytes more lengths : List ℕ) → sum lengths ≤ length bytes → cut (bytes ++ more) lengths ≡ cut bytes lengths
-cut_within bytes more [] h = refl
-cut_within bytes more (n ∷ lengths) h =
-    let whole : sum (n ∷ lengths) ≡ n + sum lengths = sum_more n lengths in
-    let low : n ≤ length bytes = omega (arith, h, whole) in
-    let left = length-drop n bytes in
-    let within : sum lengths ≤ length (drop n bytes) = omega (arith, h, whole, left) in
-    ap₂ ◌∷◌ (take-append-le n bytes more low) (ap (λ l. cut l lengths) (drop_within n bytes more low) ∙ cut_within (drop n bytes) more lengths within)
 
 made_more : {S : Type 0} (service : Machine S) (bytes whole lengths : List ℕ) → IsPrefix bytes whole → sum lengths ≤ length bytes
     → made_of service whole lengths ≡ made_of service bytes lengths

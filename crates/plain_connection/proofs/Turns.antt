@@ -1,5 +1,5 @@
 -- A turn's parts, put together.
-use Rattle.std.proofs.Common.{◌≡◌, ◌∙◌, ℕ, ◌+◌, ◌||◌, Bool, true, false, true≢false, refl, sym, ap, ap₂, subst, not, nat_lt, max, min, if◌then◌else◌, List, [], ◌∷◌, ◌++◌, map}
+use Rattle.std.proofs.Common.{◌≡◌, ◌∙◌, ℕ, ◌+◌, ◌||◌, Bool, true, false, refl, sym, ap, ap₂, subst, not, nat_lt, max, min, if◌then◌else◌, List, [], ◌∷◌, ◌++◌, map}
 use Rattle.std.specs.Bool.{MatchBool}
 use Rattle.std.specs.Int.{from_bool}
 use Rattle.ft_io.specs.declared.Addr.{Addr}
@@ -8,7 +8,6 @@ use Rattle.ft_model.specs.Connection.{LiveTurn, ResetTurn, sent_by, told_by}
 use Rattle.ft_model.specs.Copy.{copies}
 use Rattle.ft_model.specs.Network.Packet.{To_client}
 use Rattle.ft_model.specs.News.{News}
-use Rattle.ft_model.specs.News.News.{Comes, Logged, Ticks, Begins}
 use Rattle.ft_model.specs.Offset.{one_if}
 use Rattle.ft_model.specs.Point.{Point, target}
 use Rattle.ft_model.specs.Reads.{Makes, next_length, may_read, reads_told}
@@ -25,18 +24,6 @@ use Rattle.plain_connection.specs.declared.before.Before.{Before}
 use Rattle.plain_connection.specs.Before.{IsBefore}
 use Rattle.plain_connection.specs.Turn.{TakesTurn, reset_noted, settled_since}
 use Rattle.plain_connection.proofs.Telling.{told_both}
-
-or_first : (a b : Bool) → (a || b) ≡ false → a ≡ false
-or_first false b e = refl
-or_first true b e = absurd (true≢false e)
-
--- a connection that isn't reset by the news wasn't reset before
-pub was_live : (news : News) (p : Point) → reset_after news p ≡ false → p.reset ≡ false
-unfolding reset_after
-was_live (Comes segment) p e = or_first p.reset _ e
-was_live (Logged kept) p e = e
-was_live Ticks p e = e
-was_live Begins p e = e
 
 -- the point after a turn: the news noted, these reads made, and the rest settled
 abbrev pub point_after : {State : Type 0} → Machine State → News → Point → List ℕ → Point

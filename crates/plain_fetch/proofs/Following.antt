@@ -1,9 +1,8 @@
 -- The log's rule for reads, by the sum of the reads before.
-use Rattle.std.proofs.Common.{◌≡◌, ◌∙◌, ℕ, ◌+◌, ◌/◌, ◌≤◌, ◌==◌, ◌||◌, Bool, true, false, refl, sym, ap, ap₂, subst, sum, arith, List, [], ◌∷◌, ◌++◌, length, length-append, append_assoc, append-nil}
+use Rattle.std.proofs.Common.{◌≡◌, ◌∙◌, ℕ, ◌+◌, ◌≤◌, ◌==◌, ◌||◌, Bool, true, false, refl, sym, ap, ap₂, subst, sum, arith, List, [], ◌∷◌, ◌++◌, length, length-append, append_assoc, append-nil}
 use Rattle.std.specs.Prelude.{◌&&◌, not, nat_lt, nat_le}
 use Rattle.std.specs.List.{list_any, list_all}
 use Rattle.std.proofs.lemmas.Bool.{leb-true, and_parts}
-use Rattle.seq_arith.specs.MessageGrammar.{lens_in}
 use Rattle.ft_model.specs.Log.{may_follow}
 use Rattle.ft_model.specs.Restart.{Fetched, all_follow}
 use Rattle.ft_model.proofs.Services.{sum_append}
@@ -27,9 +26,6 @@ short_more [] n e h = grind (arith, h)
 short_more (x ∷ lengths) n e h =
     let both = and_parts (nat_le x 2048) (are_short lengths) e in
     ap₂ (λ a b. a && b) both.0 (short_more lengths n both.1 h)
-
-pub sum_more : (lengths : List ℕ) (n : ℕ) → sum (lengths ++ n ∷ []) ≡ sum lengths + n
-sum_more lengths n = sum_append lengths n
 
 pub all_follow_is : (len : ℕ) (fin : Bool) (lengths more : List ℕ) → all_follow len fin lengths more ≡ follow_on len fin (sum lengths) (list_any (λ k. k == 0) lengths) more
 all_follow_is len fin lengths [] = refl
@@ -85,9 +81,3 @@ one_added before now later lens rest more n h cut is =
 
 pub all_added : (lengths lens whole : List ℕ) → lens ≡ [] → lengths ++ lens ≡ whole → lengths ≡ whole
 all_added lengths lens whole none e = sym (append-nil lengths) ∙ (ap (λ l. lengths ++ l) (sym none) ∙ e)
-
--- lengths have two bytes each
-pub count_of_lens : (bytes : List ℕ) → length (lens_in bytes) ≡ length bytes / 2
-count_of_lens [] = omega arith
-count_of_lens (x ∷ []) = omega arith
-count_of_lens (high ∷ low ∷ bytes) = let rest = count_of_lens bytes in omega (arith, rest)

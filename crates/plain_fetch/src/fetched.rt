@@ -1,4 +1,4 @@
-//! An entry of the log, as far as it is fetched.
+//! An entry of the log, as far as it has been fetched.
 
 ghost use Rattle.std.specs.Prelude.{◌≡◌, ◌<◌, ◌≤◌, ◌+◌, ◌++◌, [], ◌∷◌, true, false, OnOk, MatchOption, nat_le, length, sum, option_map};
 ghost use Rattle.std.specs.List.{list_all};
@@ -17,9 +17,9 @@ use std::marker::Model;
 pub struct EntryHead {
     /// The client's address and port.
     pub key: Key,
-    /// The client's initial number.
+    /// The client's initial sequence number.
     pub cisn: u32,
-    /// The server's initial number, as the client knows it.
+    /// The server's initial sequence number, as the client knows it.
     pub sisn: u32,
     /// The segment size, in bytes.
     pub mss: u16,
@@ -35,7 +35,7 @@ pub struct EntryHead {
     pub acked: u32,
 }
 
-/// An entry, as far as it is fetched. Of one that is done only the head is fetched.
+/// An entry, as far as it has been fetched. If it is done, only its head is fetched.
 #[derive(Debug, Drop)]
 pub struct PlainFetched {
     pub(crate) head: EntryHead,
@@ -43,7 +43,7 @@ pub struct PlainFetched {
     bytes: Vec<u8>,
     /// The lengths of the first reads.
     lengths: Vec<u16>,
-    /// Their sum.
+    /// The sum of the lengths.
     read: u64,
     /// Whether the read of length 0 is among them.
     closed: bool,
@@ -78,7 +78,7 @@ impl PlainFetched {
     ghost use Rattle.ft_model.specs.Restart.{lacks_read_bytes as read_bytes_lem, lacks_lengths as lengths_lem, lacks_bytes as bytes_lem, is_whole as whole_lem, all_follow};
     ghost use Rattle.ft_model.specs.Log.{may_follow};
 
-    /// An entry of which only the head is fetched. Nothing is allocated.
+    /// Creates an entry of which only the head is fetched. Allocates nothing.
     pub(crate) fn new(alloc: Global, head: EntryHead) -> PlainFetched
         ensures { result ≡ record { head = head_in head; bytes = []; lengths = [] } }
     {
@@ -91,14 +91,14 @@ impl PlainFetched {
         }
     }
 
-    /// Its head.
+    /// Returns its head.
     pub fn head(&self) -> EntryHead
         ensures { head_in result ≡ self.now.head }
     {
         self.head
     }
 
-    /// Its parts. The reads end within the entry's length, and none is longer than 2,048 bytes.
+    /// Returns its parts. The reads end within the entry's length, and none is longer than 2,048 bytes.
     pub fn into_parts(self) -> EntryParts
         ensures head { head_in result.head ≡ self.head }
         ensures bytes { result.bytes.items ≡ self.bytes }
@@ -114,49 +114,49 @@ impl PlainFetched {
         }
     }
 
-    /// Whether bytes of a read whose length is fetched are missing.
+    /// Returns whether bytes of a read whose length is fetched are missing.
     fn lacks_read_bytes(&self) -> bool
         ensures { result ≡ read_bytes_lem self.now }
     {
         !self.head.done && (self.bytes.len() as u64) < self.read
     }
 
-    /// Whether lengths of reads are missing.
+    /// Returns whether lengths of reads are missing.
     fn lacks_lengths(&self) -> bool
         ensures { result ≡ lengths_lem self.now }
     {
         !self.head.done && (self.lengths.len() as u64) < u64::from(self.head.reads)
     }
 
-    /// Whether any bytes are missing.
+    /// Returns whether any bytes are missing.
     fn lacks_bytes(&self) -> bool
         ensures { result ≡ bytes_lem self.now }
     {
         !self.head.done && (self.bytes.len() as u64) < u64::from(self.head.length)
     }
 
-    /// Whether nothing of it is missing.
+    /// Returns whether nothing is missing.
     pub fn is_whole(&self) -> bool
         ensures { result ≡ whole_lem self.now }
     {
         !self.lacks_lengths() && !self.lacks_bytes()
     }
 
-    /// How many of its bytes are fetched.
+    /// Returns how many of its bytes are fetched.
     fn bytes_fetched(&self) -> u32
         ensures { result ≡ length self.now.bytes }
     {
         (self.bytes.len() as u64).min(u64::from(self.head.length)) as u32
     }
 
-    /// How many lengths of its reads are fetched.
+    /// Returns how many lengths of its reads are fetched.
     fn reads_fetched(&self) -> u32
         ensures { result ≡ length self.now.lengths }
     {
         (self.lengths.len() as u64).min(u64::from(self.head.reads)) as u32
     }
 
-    /// What of it is asked for next, if anything: its bytes as far as its fetched reads go, then further lengths, and at last the bytes after all reads.
+    /// Returns what is requested next, if anything: the bytes of its fetched reads, then further lengths, and at last the bytes after all reads.
     pub(crate) fn wanted(&self) -> Option<Wanted>
         ensures { option_map wanted_in result ≡ wanted_of self.now }
     {
@@ -172,7 +172,7 @@ impl PlainFetched {
         None
     }
 
-    /// Whether so many more bytes end within the entry's length.
+    /// Returns whether so many more bytes end within the entry's length.
     pub(crate) fn has_room(&self, bytes: &[u8]) -> bool
         ensures { result ≡ nat_le (length self.now.bytes + length bytes.now) self.now.head.length }
     {
@@ -188,15 +188,15 @@ impl PlainFetched {
         Ok(())
     }
 
-    /// Whether so many more lengths end within the entry's count.
-    #[tactic(auto, using(crate::proofs::Following::count_of_lens))]
+    /// Returns whether so many more lengths end within the entry's count.
+    #[tactic(auto, using(seq_arith::proofs::Texts::lens_in_length))]
     pub(crate) fn has_reads_left(&self, lens: &[u8]) -> bool
         ensures { result ≡ nat_le (length self.now.lengths + length (lens_in lens.now)) self.now.head.reads }
     {
         (lens.len() / 2) as u64 <= u64::from(self.head.reads) - self.lengths.len() as u64
     }
 
-    /// How many bytes are read with one more read of this length, if it may follow those that took so many bytes.
+    /// Returns how many bytes are read after one more read of this length, or `None` if it may not follow the reads that took `read` bytes.
     fn end_of_read(&self, read: u64, closed: bool, len: u16) -> Option<u64>
         requires { read ≤ self.now.head.length }
         ensures { MatchOption result (follows self.now.head.length self.now.head.fin read closed len ≡ false)
@@ -211,7 +211,7 @@ impl PlainFetched {
         }
     }
 
-    /// Whether each of these lengths may follow those before it, by the log's rule for reads.
+    /// Returns whether each of these lengths may follow those before it, by the log's rule for reads.
     #[tactic(auto, using(crate::proofs::Following::all_follow_is))]
     pub(crate) fn all_follow(&self, lens: &[u8]) -> bool
         ensures { result ≡ all_follow self.now.head.length self.now.head.fin self.now.lengths (lens_in lens.now) }
@@ -229,7 +229,7 @@ impl PlainFetched {
     }
 
     /// Adds the length of a read that may follow. After `NoMemory` the entry may only be dropped.
-    #[tactic(auto, using(crate::proofs::Following::sum_more, crate::proofs::Following::short_more, crate::proofs::Following::closes_more, crate::proofs::Following::was_open, crate::proofs::Following::ends_within))]
+    #[tactic(auto, using(ft_model::proofs::Services::sum_append, crate::proofs::Following::short_more, crate::proofs::Following::closes_more, crate::proofs::Following::was_open, crate::proofs::Following::ends_within))]
     fn add_length(&mut self, len: u16) -> Result<(), NoMemory>
         requires count { length self.old.lengths < self.old.head.reads }
         requires follow { may_follow self.old.head.length self.old.head.fin self.old.lengths len ≡ true }

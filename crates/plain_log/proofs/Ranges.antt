@@ -1,8 +1,8 @@
 -- The bytes of a message that may be sent lie within the longest stream.
-use Rattle.std.proofs.Common.{◌≡◌, ℕ, ◌+◌, ◌^◌, ◌≤◌, ◌&&◌, Bool, true, nat_le, List, [], ◌∷◌, length, subst}
+use Rattle.std.proofs.Common.{◌≡◌, ℕ, ◌+◌, ◌^◌, ◌≤◌, ◌&&◌, true, nat_le, List, [], ◌∷◌, length}
 use Rattle.std.proofs.lemmas.Bool.{leb-true, and_parts}
 use Rattle.seq_arith.specs.declared.kinds.Kind.TheVariants as kinds
-use Rattle.seq_arith.specs.Message.{Body, Message}
+use Rattle.seq_arith.specs.Message.{Body}
 use Rattle.seq_arith.specs.Message.Body.{HelloMsg, SummaryMsg, ListMsg, EntryMsg, BytesMsg, PartMsg, CutsMsg, LensMsg, OpenMsg, OpenedMsg, DataMsg, StableMsg, ReadMsg, ReadsMsg, DoneMsg, EndedMsg, StaleMsg, FullMsg}
 use Rattle.seq_arith.specs.MessageGrammar.{kind_of, numbers_of, behind_of, lens_of, all_in_range, fields_of, is_sound, flag}
 use Rattle.logger_wire.specs.declared.Msg.{Msg}

@@ -3,9 +3,9 @@ use Rattle.std.proofs.Common.{◌≡◌, ◌∙◌, ℕ, Bool, true, false, refl
 use Rattle.std.specs.Prelude.{nat_lt, option_map, ◌||◌}
 use Rattle.std.proofs.lemmas.Bool.{eqb-true}
 use Rattle.seq_arith.specs.Message.{Body, Message, is_answer}
-use Rattle.seq_arith.specs.Message.Body.{HelloMsg, SummaryMsg, ListMsg, EntryMsg, BytesMsg, PartMsg, CutsMsg, LensMsg, OpenMsg, OpenedMsg, DataMsg, StableMsg, ReadMsg, ReadsMsg, DoneMsg, EndedMsg, StaleMsg, FullMsg}
-use Rattle.ft_model.specs.Log.{Log, is_hello, opened, with_body, with_message, log_after, answer_from, answer_body, answer_to}
-use Rattle.plain_log.specs.Reply.{reply, reply_body}
+use Rattle.seq_arith.specs.Message.Body.{StaleMsg}
+use Rattle.ft_model.specs.Log.{Log, is_hello, with_body, log_after, answer_from, answer_to}
+use Rattle.plain_log.specs.Reply.{reply}
 use Rattle.ft_model.proofs.LogAnswers.{kept_boot}
 
 -- a message of the log's own boot is answered

@@ -7,6 +7,7 @@ use Rattle.std.proofs.lemmas.List.Elements.{filter-append}
 use Rattle.std.proofs.lemmas.Grind.{flat_map-append}
 use Rattle.ft_io.specs.declared.Key.{Key}
 use Rattle.ft_io.specs.Key.{key_eq}
+use Rattle.ft_io.proofs.Numbers.{bool_byte_low}
 use Rattle.ft_model.specs.Network.{Packet}
 use Rattle.ft_model.specs.Node.{Place, key_of, is_known, is_pending, pending_count}
 use Rattle.ft_model.specs.Node.Place.{Opens, Lives, Ended}
@@ -23,10 +24,6 @@ found_is p f (x ∷ xs) = found_first p (f x) (map f xs) (p (f x)) refl ∙ ap (
 
 pub known_is : {S : Type 0} (key : Key) (places : List (PlainPlace S)) → is_known key (places_in places) ≡ list_any (λ place. key_eq (key_of (place_in place)) key) places
 known_is key places = found_is (λ place. key_eq (key_of place) key) place_in places
-
-byte_low : (b : Bool) → bool_byte b ≤ 1
-byte_low true = omega arith
-byte_low false = omega arith
 
 pending_one : (place : Place) → pending_count (place ∷ []) ≡ bool_byte (is_pending place)
 pending_one (Opens numbers) = refl
@@ -46,7 +43,7 @@ one_more_pending places i count byte place lt is e h =
     ap length (filter-append is_pending front (place_in place ∷ [])) ∙ length-append (filter is_pending front) (filter is_pending (place_in place ∷ [])) in
     let one : pending_count (place_in place ∷ []) ≡ bool_byte (is_pending (place_in place)) = pending_one (place_in place) in
     let all : pending_count (places_in (take (i + 1) places)) ≡ pending_count (front ++ place_in place ∷ []) = ap pending_count more in
-    let low : bool_byte (is_pending (place_in place)) ≤ 1 = byte_low (is_pending (place_in place)) in
+    let low : bool_byte (is_pending (place_in place)) ≤ 1 = bool_byte_low (is_pending (place_in place)) in
     let were : count ≡ pending_count front = h.0 in
     let few : count ≤ i = h.1 in
     (omega (arith, all, sum, one, e, were), omega (arith, few, low, e))

@@ -2,8 +2,7 @@
 use Rattle.std.proofs.Common.{◌≡◌, ◌∙◌, ℕ, zero, suc, ◌-◌, ◌%◌, List, [], ◌∷◌, ◌++◌, length, take, drop, append-nil, ◌≤◌, ◌+◌, ◌*◌, refl, ap, arith}
 use Rattle.std.specs.Prelude.{slice_index}
 use Rattle.std.proofs.lemmas.List.{drop_all}
-use Rattle.seq_arith.specs.Bytes.{two}
-use Rattle.seq_arith.specs.MessageGrammar.{lens_in, lens_bytes}
+use Rattle.seq_arith.specs.MessageGrammar.{lens_in}
 
 -- a byte that is left over is no length
 pub left_out : (bytes : List ℕ) (n : ℕ) → n ≡ length bytes - length bytes % 2 → lens_in (take n bytes) ≡ lens_in bytes
@@ -19,12 +18,6 @@ pub first_length : (bytes : List ℕ) → 2 ≤ length bytes → lens_in bytes �
 first_length [] h = absurd (omega arith)
 first_length (high ∷ []) h = absurd (omega arith)
 first_length (high ∷ low ∷ bytes) h = refl
-
-pub lens_length : (bytes : List ℕ) → length bytes % 2 ≡ 0 → length (lens_bytes (lens_in bytes)) ≡ length bytes
-unfolding two
-lens_length [] even = refl
-lens_length (high ∷ []) even = absurd (omega arith)
-lens_length (high ∷ low ∷ bytes) even = omega (arith, lens_length bytes (omega arith))
 
 -- nothing is behind what fills its place
 pub none_left : (bytes old : List ℕ) (n : ℕ) → length old ≡ n → bytes ++ drop n old ≡ bytes

@@ -5,6 +5,7 @@ use Rattle.std.specs.List.{AllByRecursion}
 use Rattle.std.proofs.lemmas.List.{map-append}
 use Rattle.ft_model.specs.Network.{Packet, packet_at}
 use Rattle.ft_model.specs.Wire.{Wire, wire_of, HasWire}
+use Rattle.ft_model.proofs.FormedWorld.{all_behind}
 use Rattle.plain_packets.specs.Sent.{Appends, wire_at}
 
 pub appends_none : (wires : List Wire) → Appends wires wires []
@@ -17,14 +18,10 @@ first_of_all : {X : Type 0} (P : X → Type 0) (xs ys : List X) → AllByRecursi
 first_of_all P [] ys all = tt
 first_of_all P (x ∷ xs) ys all = (all.0, first_of_all P xs ys all.1)
 
-rest_of_all : {X : Type 0} (P : X → Type 0) (xs ys : List X) → AllByRecursion P (xs ++ ys) → AllByRecursion P ys
-rest_of_all P [] ys all = all
-rest_of_all P (x ∷ xs) ys all = rest_of_all P xs ys all.1
-
 pub appends_both : {before middle after : List Wire} {first more : List Packet} → Appends before middle first → Appends middle after more → Appends before after (first ++ more)
 appends_both {before} {middle} {after} {first} {more} a b = record {
   follow = λ wires.
-      b.follow (rest_of_all HasWire first more wires) ∙ ap (λ w. w ++ map wire_of more) (a.follow (first_of_all HasWire first more wires))
+      b.follow (all_behind HasWire first more wires) ∙ ap (λ w. w ++ map wire_of more) (a.follow (first_of_all HasWire first more wires))
       ∙ append_assoc before (map wire_of first) (map wire_of more) ∙ ap (λ w. before ++ w) (sym (map-append wire_of first more));
 }
 

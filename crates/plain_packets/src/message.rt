@@ -10,13 +10,13 @@ use ft_io::{Key, NoMemory};
 use logger_wire::{Body, Msg, len_at, put_msg};
 use std::alloc::Global;
 
-/// The most bytes of a stream.
+/// The largest size of a stream, in bytes.
 const STREAM_LIMIT: u32 = 1 << 24;
 
-/// The most units of a stream: its FIN counts as one.
+/// The largest number of units in a stream: its FIN counts as one.
 const UNIT_LIMIT: u32 = STREAM_LIMIT + 1;
 
-/// Lengths of two bytes each, without a last byte that is left over.
+/// Returns lengths of two bytes each, without a last byte that is left over.
 #[tactic(auto, using(crate::proofs::Lengths::left_out))]
 fn whole(lens: &[u8]) -> &[u8]
     ensures same { lens_in result.now ≡ lens_in lens.now }
@@ -25,7 +25,7 @@ fn whole(lens: &[u8]) -> &[u8]
     &lens[..lens.len() - lens.len() % 2]
 }
 
-/// The same body with its flags as 0 or 1, and with two bytes for each length.
+/// Returns the same body with its flags as 0 or 1, and with two bytes for each length.
 fn plain(body: Body<'_>) -> Body<'_>
     ensures same { body_of result ≡ body_of body.entry }
     ensures flags { list_all (λ flag. nat_le flag 1) (flags_of result) ≡ true }
@@ -99,7 +99,7 @@ fn plain(body: Body<'_>) -> Body<'_>
     }
 }
 
-/// The same message with its flags as 0 or 1, and with two bytes for each length.
+/// Returns the same message with its flags as 0 or 1, and with two bytes for each length.
 fn plain_message<'a>(msg: &Msg<'a>) -> Msg<'a>
     ensures same { message_of result ≡ message_of msg.now }
     ensures flags { list_all (λ flag. nat_le flag 1) (flags_of result.body) ≡ true }
@@ -111,7 +111,7 @@ fn plain_message<'a>(msg: &Msg<'a>) -> Msg<'a>
     }
 }
 
-/// Where a message's fields end.
+/// Returns where a message's fields end.
 fn fields_end(body: &Body<'_>) -> usize
     ensures value { result ≡ behind_at (kind_of (body_of body.now)) }
     ensures most { result ≤ 48 }
@@ -132,7 +132,7 @@ fn fields_end(body: &Body<'_>) -> usize
     }
 }
 
-/// How many bytes these are.
+/// Returns the number of bytes.
 fn count(bytes: &[u8]) -> usize
     ensures value { result ≡ length bytes.now }
     ensures most { result < 2 ^ 63 }
@@ -140,8 +140,8 @@ fn count(bytes: &[u8]) -> usize
     bytes.len()
 }
 
-/// How many bytes follow a message's fields.
-#[tactic(auto, using(crate::proofs::Lengths::lens_length))]
+/// Returns how many bytes follow a message's fields.
+#[tactic(auto, using(logger_wire::proofs::Sendable::lens_length))]
 fn behind(body: &Body<'_>) -> usize
     requires { left_over body.now ≡ 0 }
     ensures value { result ≡ length (behind_of (body_of body.now)) }
@@ -154,7 +154,7 @@ fn behind(body: &Body<'_>) -> usize
     }
 }
 
-/// Whether so many bytes may be the lengths of a message.
+/// Returns whether the lengths of a message may have so many bytes.
 #[tactic(auto, unfolding(seq_arith::specs::MessageGrammar::has_length))]
 fn lens_length_fits(behind: usize) -> bool
     ensures { result ≡ has_length kinds.Lens (behind_at kinds.Lens + behind) }
@@ -162,7 +162,7 @@ fn lens_length_fits(behind: usize) -> bool
     2 <= behind && behind <= 1_024 && behind % 2 == 0
 }
 
-/// Whether so many bytes may follow a message's fields.
+/// Returns whether so many bytes may follow a message's fields.
 #[tactic(auto, unfolding(seq_arith::specs::MessageGrammar::has_length))]
 fn length_fits(body: &Body<'_>, behind: usize) -> bool
     requires { behind ≡ length (behind_of (body_of body.now)) }
@@ -176,14 +176,14 @@ fn length_fits(body: &Body<'_>, behind: usize) -> bool
     }
 }
 
-/// Whether a segment size is in its range.
+/// Returns whether a segment size is in its range.
 fn mss_fits(mss: u16) -> bool
     ensures { result ≡ (nat_le 64 mss && nat_le mss 1460) }
 {
     64 <= mss && mss <= 1_460
 }
 
-/// Whether an offset and the bytes after it are within a stream.
+/// Returns whether an offset and the bytes after it are within a stream.
 fn offset_fits(offset: u32, behind: usize) -> bool
     requires { behind < 2 ^ 63 }
     ensures { result ≡ nat_le (offset + behind) (2 ^ 24) }
@@ -191,7 +191,7 @@ fn offset_fits(offset: u32, behind: usize) -> bool
     offset as usize + behind <= STREAM_LIMIT as usize
 }
 
-/// Whether each number of a message is in its field's range.
+/// Returns whether each number of a message is in its field's range.
 #[tactic(auto, using(crate::proofs::Ranges::flag_fits))]
 fn numbers_fit(boot: u64, body: &Body<'_>, behind: usize) -> bool
     requires { behind < 2 ^ 63 }
@@ -229,7 +229,7 @@ fn numbers_fit(boot: u64, body: &Body<'_>, behind: usize) -> bool
     }
 }
 
-/// Whether no length is longer than a read.
+/// Returns whether no length is longer than a read.
 #[tactic(auto, using(std::proofs::lemmas::List::take_rest, crate::proofs::Lengths::first_length, logger_wire::proofs::Lens::lens_end))]
 fn are_reads(lens: &[u8]) -> bool
     ensures { result ≡ list_all (λ len. nat_le len 2048) (lens_in lens.now) }
@@ -244,7 +244,7 @@ fn are_reads(lens: &[u8]) -> bool
     true
 }
 
-/// Whether each length of a message is that of a read.
+/// Returns whether each length of a message is that of a read.
 fn lens_fit(body: &Body<'_>) -> bool
     ensures { result ≡ list_all (λ len. nat_le len 2048) (lens_of (body_of body.now)) }
 {
@@ -254,7 +254,7 @@ fn lens_fit(body: &Body<'_>) -> bool
     }
 }
 
-/// Whether a message has a spelling: each number is in its field's range, and the message has one of its kind's lengths.
+/// Returns whether a message has a spelling: each number is in its field's range, and the message has one of its kind's lengths.
 #[tactic(auto, unfolding(seq_arith::specs::MessageGrammar::is_sound))]
 fn is_spellable(msg: &Msg<'_>) -> bool
     requires { left_over msg.now.body ≡ 0 }
@@ -267,56 +267,56 @@ fn is_spellable(msg: &Msg<'_>) -> bool
         && length_fits(&msg.body, behind)
 }
 
-/// A number of two bytes, by its type.
+/// A number of two bytes is in range by its type.
 fn fit_word(n: u16)
     ensures { n < 2 ^ 16 }
 {
     let _n = n;
 }
 
-/// A number of eight bytes, by its type.
+/// A number of eight bytes is in range by its type.
 fn fit_huge(n: u64)
     ensures { n < 2 ^ 64 }
 {
     let _n = n;
 }
 
-/// A key, by its type.
+/// The numbers of a key are in range by their types.
 fn fit_key(key: Key)
     ensures { AllFit (with_key []) (key_and key []) }
 {
     let (_ip, _port) = (key.ip, key.port);
 }
 
-/// A key and a place in a stream, by their types.
+/// The numbers of a key and of a place in a stream are in range by their types.
 fn fit_place(key: Key, place: u32)
     ensures { AllFit (fields_of kinds.Bytes) (key_and key (place ∷ [])) }
 {
     let (_ip, _port, _place) = (key.ip, key.port, place);
 }
 
-/// The numbers of a connection, by their types.
+/// The numbers of a connection are in range by their types.
 fn fit_opening(key: Key, cisn: u32, sisn: u32, mss: u16)
     ensures { AllFit opening (key_and key (cisn ∷ sisn ∷ mss ∷ [])) }
 {
     let (_ip, _port, _numbers) = (key.ip, key.port, (cisn, sisn, mss));
 }
 
-/// A key and two counts, by their types.
+/// The numbers of a key and two counts are in range by their types.
 fn fit_counts(key: Key, count: u32, other: u32)
     ensures { AllFit (fields_of kinds.Data) (key_and key (count ∷ other ∷ 0 ∷ [])) }
 {
     let (_ip, _port, _counts) = (key.ip, key.port, (count, other));
 }
 
-/// A read, by its types.
+/// The numbers of a read are in range by their types.
 fn fit_read(key: Key, index: u32, length: u16)
     ensures { AllFit (fields_of kinds.Read) (key_and key (index ∷ length ∷ [])) }
 {
     let (_ip, _port, _read) = (key.ip, key.port, (index, length));
 }
 
-/// Each number of a message has the size of its type.
+/// Each number of a message is in range by its type.
 #[tactic(auto, using(crate::proofs::Ranges::flag_small))]
 fn fit_numbers(body: &Body<'_>)
     ensures { AllFit (fields_of (kind_of (body_of body.now))) (numbers_of (body_of body.now)) }
@@ -383,7 +383,7 @@ fn fit_numbers(body: &Body<'_>)
     }
 }
 
-/// The bytes of a message.
+/// Returns the bytes of a message.
 #[tactic(auto, using(crate::proofs::Lengths::none_left))]
 fn message_bytes(alloc: Global, msg: &Msg<'_>) -> Result<Vec<u8>, NoMemory>
     requires { IsSendable msg.now }
@@ -396,7 +396,7 @@ fn message_bytes(alloc: Global, msg: &Msg<'_>) -> Result<Vec<u8>, NoMemory>
     Ok(bytes)
 }
 
-/// The bytes of a message; none where it has no spelling.
+/// Returns the bytes of a message, or `None` if it has no spelling.
 pub(crate) fn spelled(alloc: Global, msg: &Msg<'_>) -> Result<Option<Vec<u8>>, NoMemory>
     ensures some { IfOk result (λ bytes. IfSome bytes (λ b. b.items ≡ spelling (message_of msg.now))) }
     ensures none { IfOk result (λ bytes. IfNone bytes (¬ (IsSpellable (message_of msg.now)))) }

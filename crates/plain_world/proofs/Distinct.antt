@@ -1,46 +1,19 @@
 -- Clients whose keys differ: what is done to the one of a key is done to one alone, and the keys stay over a trace.
-use Rattle.std.proofs.Common.{◌≡◌, ◌∙◌, sym, ap, subst, refl, zero, suc, ℕ, true, false, cond, not, ◌&&◌, ◌==◌, Some, List, [], ◌∷◌, map, slice_get}
-use Rattle.std.specs.List.{list_any}
+use Rattle.std.proofs.Common.{◌≡◌, ◌∙◌, sym, ap, subst, refl, zero, suc, ℕ, true, false, cond, Some, List, [], ◌∷◌, slice_get}
 use Rattle.std.proofs.Math.ListN.{set}
-use Rattle.std.proofs.lemmas.Bool.{and_parts, or_parts}
-use Rattle.ft_io.specs.declared.Addr.{Addr}
-use Rattle.ft_io.specs.declared.Key.{Key}
 use Rattle.ft_io.specs.Key.{key_eq}
-use Rattle.ft_io.proofs.Booleans.{not_true}
-use Rattle.ft_io.proofs.Choices.{by_cases}
 use Rattle.server_trait.specs.Service.{Machine}
 use Rattle.ft_model.specs.Client.{Client, received}
 use Rattle.ft_model.specs.Network.{Packet, destination_of}
-use Rattle.ft_model.specs.World.{World, Moment, Joint, with_client, world_after, is_apart, are_apart}
+use Rattle.ft_model.specs.World.{World, Moment, Joint, with_client, world_after}
+use Rattle.ft_model.specs.Keys.{AreDistinct, has_key}
 use Rattle.ft_model.proofs.Acknowledged.{start_is}
 use Rattle.ft_model.proofs.FaithfulKept.{received_same}
 use Rattle.ft_model.proofs.Happened.{Happened, holds_after}
 use Rattle.ft_model.proofs.Happened.Happened.{log_heard, client_heard, client_moved, server_turned, server_booted, server_down}
-use Rattle.ft_model.proofs.Keys.{AreDistinct, has_key, has_key_map, key_eq_turns}
+use Rattle.ft_model.proofs.Keys.{key_eq_turns, not_there}
 use Rattle.ft_model.proofs.Lists.{none_is_some, some_is, key_is, same_key}
-
-abbrev pub keys_in : List Client → List Key
-keys_in clients = map (λ c. c.key) clients
-
--- clients that are apart have distinct keys
-apart_distinct : (server : Addr) (clients : List Client) → are_apart server clients ≡ true → AreDistinct (keys_in clients)
-apart_distinct server [] e = tt
-apart_distinct server (c ∷ clients) e =
-    let parts = and_parts (is_apart server c.key clients) (are_apart server clients) e in
-    let none = not_true (list_any (λ x. key_eq x.key c.key) clients) (and_parts (not (c.key.ip == server.ip && c.key.port == server.port)) (not (list_any (λ x. key_eq x.key c.key) clients)) parts.0).1 in
-    (sym (has_key_map (λ x. x.key) c.key clients) ∙ none, apart_distinct server clients parts.1)
-
--- nobody has the key
-no_one : (key : Key) (change : Client → Client) (cs : List Client) → has_key key (keys_in cs) ≡ false → with_client key change cs ≡ cs
-no_one key change [] h = refl
-no_one key change (c ∷ cs) h =
-    let parts = or_parts (key_eq c.key key) (has_key key (keys_in cs)) h in
-    ap (λ b. cond b (change c) c ∷ with_client key change cs) parts.0 ∙ ap (λ xs. c ∷ xs) (no_one key change cs parts.1)
-
-not_there : (key : Key) (cs : List Client) (i : ℕ) (c : Client) → has_key key (keys_in cs) ≡ false → slice_get cs i ≡ Some c → key_eq c.key key ≡ false
-not_there key [] i c h e = none_is_some c e
-not_there key (x ∷ cs) zero c h e = subst (λ y. key_eq y.key key ≡ false) (some_is x c e) (or_parts (key_eq x.key key) (has_key key (keys_in cs)) h).0
-not_there key (x ∷ cs) (suc i) c h e = not_there key cs i c (or_parts (key_eq x.key key) (has_key key (keys_in cs)) h).1 e
+use Rattle.ft_model.proofs.ClientKeys.{keys_in, apart_distinct, no_one, keys_stay}
 
 -- the client of a key is replaced alone
 pub alone : (cs : List Client) (i : ℕ) (c later : Client) → AreDistinct (keys_in cs) → slice_get cs i ≡ Some c → with_client c.key (λ _. later) cs ≡ set cs i later
@@ -51,20 +24,8 @@ alone (x ∷ cs) zero c later d e =
     let none : has_key c.key (keys_in cs) ≡ false = subst (λ y. has_key y.key (keys_in cs) ≡ false) same d.0 in
     ap (λ b. cond b later x ∷ with_client c.key (λ _. later) cs) here ∙ ap (λ xs. later ∷ xs) (no_one c.key (λ _. later) cs none)
 alone (x ∷ cs) (suc i) c later d e =
-    let other : key_eq x.key c.key ≡ false = key_eq_turns c.key x.key (not_there x.key cs i c d.0 e) in
+    let other : key_eq x.key c.key ≡ false = key_eq_turns c.key x.key (not_there (λ y. y.key) x.key cs i c d.0 e) in
     ap (λ b. cond b later x ∷ with_client c.key (λ _. later) cs) other ∙ ap (λ xs. x ∷ xs) (alone cs i c later d.1 e)
-
--- the keys stay, where the one of the key keeps its own
-head_key : (key : Key) (change : Client → Client) (c : Client) → (key_eq c.key key ≡ true → (change c).key ≡ c.key) → (cond (key_eq c.key key) (change c) c).key ≡ c.key
-head_key key change c keeps =
-    by_cases (key_eq c.key key)
-    (λ e. ap (λ b. (cond b (change c) c).key) e ∙ keeps e)
-    (λ e. ap (λ b. (cond b (change c) c).key) e)
-
-keys_stay : (key : Key) (change : Client → Client) (cs : List Client) → ((c : Client) → key_eq c.key key ≡ true → (change c).key ≡ c.key) → keys_in (with_client key change cs) ≡ keys_in cs
-keys_stay key change [] keeps = refl
-keys_stay key change (c ∷ cs) keeps =
-    ap (λ k. k ∷ keys_in (with_client key change cs)) (head_key key change c (keeps c)) ∙ ap (λ ks. c.key ∷ ks) (keys_stay key change cs keeps)
 
 step_keeps : {State : Type 0} (service : Machine State) (start before : World) (sent : List Packet) (after : World) → keys_in before.clients ≡ keys_in start.clients → Happened service before sent after
     → keys_in after.clients ≡ keys_in start.clients

@@ -1,27 +1,25 @@
 -- What each event does to the plain world, in the world of the definitions.
-use Rattle.std.proofs.Common.{◌≡◌, ◌∙◌, sym, ap, ap₂, subst, refl, ℕ, zero, suc, ◌+◌, ◌-◌, ◌*◌, ◌<◌, ◌≤◌, ◌^◌, max, nat_le, Bool, true, false, arith, Option, Some, None, is_some, option_map, List, [], ◌∷◌, ◌++◌, length, map, slice_get, if◌then◌else◌}
+use Rattle.std.proofs.Common.{◌≡◌, ◌∙◌, sym, ap, ap₂, subst, refl, ℕ, zero, suc, ◌+◌, ◌-◌, ◌<◌, ◌≤◌, max, nat_le, Bool, true, false, arith, Some, None, is_some, option_map, List, [], ◌∷◌, ◌++◌, map, slice_get, if◌then◌else◌}
 use Rattle.std.proofs.Math.ListN.{set}
-use Rattle.std.proofs.lemmas.Bool.{leb-false, lt-ltb}
+use Rattle.std.proofs.lemmas.Bool.{leb-false}
 use Rattle.server_trait.specs.Service.{Machine}
-use Rattle.ft_model.specs.Client.{Client, Move, move_asked, mover_of, move_of, window_of, refusal_of_move, segment_of, moved, may_advertise}
+use Rattle.ft_model.specs.Client.{Client, Move, move_asked, mover_of, move_of, window_of, refusal_of_move, segment_of, moved}
 use Rattle.ft_model.specs.Client.{Move as moves}
 use Rattle.ft_model.specs.Lawful.{hello}
-use Rattle.ft_model.specs.Legal.{refusal, refusal_of_client, refusal_of_asked, refusal_of_flip}
+use Rattle.ft_model.specs.Legal.{refusal, refusal_of_client, refusal_of_asked}
 use Rattle.ft_model.specs.Network.{Packet, packet_at}
 use Rattle.ft_model.specs.Network.Packet.{To_server, To_client, To_logger, From_logger}
 use Rattle.ft_model.specs.Node.{booted}
 use Rattle.ft_model.specs.Node.Input.{Packet_comes, Message_comes, Tick_comes}
-use Rattle.ft_model.specs.Readable.{FitsEvent}
 use Rattle.ft_model.specs.Wire.{Wire, wire_of, HasWire}
 use Rattle.ft_model.specs.World.{World, Delivered, Flipped, Moves, Happens, client_at, with_client}
 use Rattle.ft_model.specs.declared.event.Event.{Event}
 use Rattle.ft_model.specs.declared.event.Event.TheVariants.{Boot, Crash, Tick, Deliver, Flip, Begin, Send, Fin, Ack, Reset, Stop}
-use Rattle.ft_model.specs.declared.event.EventWhy.{EventWhy}
 use Rattle.ft_model.specs.declared.event.EventWhy.TheVariants as why
 use Rattle.ft_model.proofs.AskedMoves.{quiet_event, scripted}
 use Rattle.ft_model.proofs.Happened.{all_sent}
 use Rattle.ft_model.proofs.Lists.{none_is_some, some_is}
-use Rattle.ft_model.proofs.SomeOutcome.{move_may, is_none}
+use Rattle.ft_model.proofs.SomeOutcome.{move_may, is_none, asks, asks_for, is_up, mover_there, named, named_with_bit, window_fits}
 use Rattle.plain_packets.specs.Sent.{Appends, wire_at}
 use Rattle.plain_packets.proofs.Sent.{wire_numbered, appends_same}
 use Rattle.plain_node.specs.Served.{IsServedNode}
@@ -40,23 +38,6 @@ pub record Keeps {State : Type 0} (before after : WorldState State) : Type 0 whe
 
 pub keeps_all : {State : Type 0} (before after : WorldState State) → after ≡ before → Keeps before after
 keeps_all before after same = record { kind = ap (λ w. w.kind) same; turns = ap (λ w. w.turns) same; server = ap (λ w. w.server) same }
-
--- what the tests of an event leave
-named : (o : Option Packet) (why : EventWhy) → (if is_some o then None else Some why) ≡ None → (packet : Packet) × (o ≡ Some packet)
-named (Some packet) why e = (packet, refl)
-named None why e = none_is_some why (sym e)
-
-named_with_bit : (o : Option Packet) (bit : ℕ) → refusal_of_flip o bit ≡ None → (packet : Packet) × (o ≡ Some packet) × (bit < 8 * length (wire_of packet).bytes)
-named_with_bit (Some packet) bit e = (packet, refl, leb-false _ _ (allowed (nat_le (8 * length (wire_of packet).bytes) bit) e))
-  where
-    allowed : (b : Bool) → (if b then Some why.Bit else None) ≡ None → b ≡ false
-    allowed true f = none_is_some why.Bit (sym f)
-    allowed false f = refl
-named_with_bit None bit e = none_is_some why.Packet (sym e)
-
-is_up : (b : Bool) → (if b then None else Some why.Down) ≡ None → b ≡ true
-is_up true e = refl
-is_up false e = none_is_some why.Down (sym e)
 
 may_start : (a b : Bool) → (if a then Some why.Up else (if b then Some why.Boot else None)) ≡ None → (a ≡ false) × (b ≡ false)
 may_start true b e = none_is_some why.Up (sym e)
@@ -263,14 +244,6 @@ module _ {State : Type 0} (service : ℕ → Machine State) (before after : Worl
           ∙ ap (λ m. let w : World = record { server = before.server; clients = before.clients; log = before.log; packets = packets ++ sent; boot = boot; node = m } in w)
           (ap node_of up ∙ ap (λ m. Some m) is)
 
--- The move that an event asks for: its client and its refusal
-asks : (o : Option (ℕ × Move)) (number : ℕ) → option_map (λ a. a.0) o ≡ Some number → (m : Move) × (o ≡ Some (number, m))
-asks (Some a) number e = (a.1, (ap (λ n. Some (n, a.1)) (some_is a.0 number e)))
-asks None number e = none_is_some number e
-
-asks_for : (event : Event) (number : ℕ) (m : Move) → move_asked event ≡ Some (number, m) → move_of event ≡ Some m
-asks_for event number m e = subst (λ o. option_map (λ a. a.1) o ≡ Some m) (sym e) refl
-
 refusal_asked : (w : World) (event : Event) (number : ℕ) → mover_of event ≡ Some number → refusal w event ≡ refusal_of_asked w.clients (move_asked event)
 refusal_asked w (Begin n window) number e = refl
 refusal_asked w (Send n from len) number e = refl
@@ -300,21 +273,6 @@ pub place_of : (clients : List Client) (number : ℕ) (client : Client) → clie
 place_of clients zero client e = none_is_some client e
 place_of clients (suc n) client e = let one : suc n - 1 ≡ n = omega arith in subst (λ k. slice_get clients k ≡ Some client) (sym one) e
 
--- the window that a scripted client advertises has 16 bits
-window_fits : (client : Client) (event : Event) (m : Move) → FitsEvent event → move_of event ≡ Some m → may_advertise m (window_of client event) ≡ true
-window_fits client (Begin n window) m h e = subst (λ x. may_advertise x window ≡ true) (some_is (moves.Syn None) m e) (lt-ltb window (2 ^ 16) h.1)
-window_fits client (Ack n window) m h e = subst (λ x. may_advertise x window ≡ true) (some_is moves.Acknowledge m e) (lt-ltb window (2 ^ 16) h.1)
-window_fits client (Send n from len) m h e =
-    subst (λ x. may_advertise x (window_of client (Send n from len)) ≡ true) (some_is (moves.Text from len) m e) (lt-ltb _ _ (omega arith))
-window_fits client (Fin n) m h e = subst (λ x. may_advertise x (window_of client (Fin n)) ≡ true) (some_is moves.Fin m e) (lt-ltb _ _ (omega arith))
-window_fits client (Reset n) m h e = subst (λ x. may_advertise x 0 ≡ true) (some_is moves.Rst m e) refl
-window_fits client (Boot boot isn) m h e = none_is_some m e
-window_fits client Crash m h e = none_is_some m e
-window_fits client Tick m h e = none_is_some m e
-window_fits client (Deliver n) m h e = none_is_some m e
-window_fits client (Flip n bit) m h e = none_is_some m e
-window_fits client (Stop part) m h e = none_is_some m e
-
 happen : {State : Type 0} (service : Machine State) (w after : World) (event : Event) (number : ℕ) (sent : List Packet) → mover_of event ≡ Some number → Moves w number sent after → Happens service w event sent after
 happen service w after (Begin n window) number sent e m = subst (λ k. Moves w k sent after) (sym (some_is n number e)) m
 happen service w after (Send n from len) number sent e m = subst (λ k. Moves w k sent after) (sym (some_is n number e)) m
@@ -327,11 +285,6 @@ happen service w after Tick number sent e m = none_is_some number e
 happen service w after (Deliver n) number sent e m = none_is_some number e
 happen service w after (Flip n bit) number sent e m = none_is_some number e
 happen service w after (Stop part) number sent e m = none_is_some number e
-
--- the client of a move
-mover_there : (o : Option Client) (m : Move) → refusal_of_client o m ≡ None → (client : Client) × (o ≡ Some client) × (refusal_of_move client m ≡ None)
-mover_there (Some client) m free = (client, refl, free)
-mover_there None m free = none_is_some why.Client (sym free)
 
 module _ {State : Type 0} (service : ℕ → Machine State) (before after : WorldState State) (event : Event) (number : ℕ) (mover : mover_of event ≡ Some number) where
   -- a client moves

@@ -5,13 +5,13 @@ use Rattle.std.specs.Option.{option_to_list}
 use Rattle.server_trait.specs.Service.{Machine, reference}
 use Rattle.ft_model.specs.Restart.{Fetched, is_whole, entry_in}
 use Rattle.ft_model.proofs.Services.{sum_more}
+use Rattle.logger_store.proofs.Took.{sum_of}
 use Rattle.reincarnate.specs.declared.entries.Restored.{Restored}
 use Rattle.reincarnate.specs.declared.entries.Restored.TheVariants as restored
 use Rattle.reincarnate.specs.Replay.{RunsTo}
 use Rattle.reincarnate.specs.Progress.{EntryState, ReplayedState, replayed_state, next_live, behind_next, IsShort}
 use Rattle.reincarnate.specs.Questions.{FetchingState, entries_of, asked_of, asked}
 use Rattle.reincarnate.specs.Refinement.{StandsFor, StandFor, StandsFetching, StandsWhole, AreWhole, IsReplayed, NextIs, live_from, first_restored, RestoredIs, FirstIs}
-use Rattle.reincarnate.proofs.Sized.{sum_both}
 use Rattle.reincarnate.proofs.Ready.{asked_nothing, newest_is_ready}
 use Rattle.reincarnate.proofs.EntryLaw.{lacks_is, nothing_lacks}
 
@@ -76,7 +76,7 @@ replayed_is service f e st whole live =
     let bytes : length f.bytes ≡ f.head.length = grind (arith, none, st.bytes_fit) in
     let lengths : length f.lengths ≡ f.head.reads = grind (arith, none, st.lengths_fit) in
     let h = st.replay in
-    let both_sums : sum f.lengths ≡ sum h.replayed + sum e.waiting = ap sum (sym h.lengths_are) ∙ sum_both h.replayed e.waiting in
+    let both_sums : sum f.lengths ≡ sum h.replayed + sum e.waiting = ap sum (sym h.lengths_are) ∙ sum_of h.replayed e.waiting in
     let held : length e.replay.held ≡ length f.bytes - sum h.replayed = ap length h.held ∙ length-drop (sum h.replayed) f.bytes in
     let nothing : e.waiting ≡ [] = none_waits e.waiting (length e.replay.held) st.next (omega (arith, both_sums, held, bytes, st.enough)) in
     let all : h.replayed ≡ f.lengths = sym (append-nil h.replayed) ∙ ap (λ l. h.replayed ++ l) (sym nothing) ∙ h.lengths_are in

@@ -1,18 +1,12 @@
 -- Lengths of two bytes each, one after another.
-use Rattle.std.proofs.Common.{◌≡◌, ℕ, zero, suc, ◌<◌, ◌≤◌, ◌+◌, ◌/◌, ◌∙◌, Bool, true, false, List, [], ◌∷◌, ◌++◌, length, take, drop, sum, append_assoc, Option, Some, None, refl, ap, sym, arith, if◌then◌else◌}
+use Rattle.std.proofs.Common.{◌≡◌, ℕ, zero, suc, ◌<◌, ◌≤◌, ◌+◌, ◌∙◌, Bool, true, false, List, [], ◌∷◌, ◌++◌, length, take, drop, sum, append_assoc, Option, Some, None, refl, ap, sym, arith, if◌then◌else◌}
 use Rattle.std.specs.Prelude.{slice_index}
 use Rattle.std.proofs.lemmas.List.{drop_more, take_all}
 use Rattle.std.proofs.Math.Seq.{drop-nil}
-use Rattle.seq_arith.specs.MessageGrammar.{lens_in}
 use Rattle.ft_model.proofs.Lists.{some_is, none_is_some}
 use Rattle.ft_model.proofs.Services.{sum_more}
 use Rattle.reincarnate.specs.declared.cuts.Cuts.{Cuts}
 use Rattle.reincarnate.specs.ReadLengths.{may_cut, cut_on, cuts_through}
-
-pub length_lens : (bytes : List ℕ) → length (lens_in bytes) ≡ length bytes / 2
-length_lens [] = refl
-length_lens (high ∷ []) = refl
-length_lens (high ∷ low ∷ bytes) = let rest = length_lens bytes in omega (arith, rest)
 
 by_choice : (len : ℕ) (fin : Bool) (on next : Cuts) (rest : List ℕ) (b : Bool) → (if b then Some on else None) ≡ Some next
     → (if b then cuts_through len fin on rest else None) ≡ cuts_through len fin next rest

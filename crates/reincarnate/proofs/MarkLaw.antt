@@ -1,7 +1,8 @@
 -- A mark leads a restart as the law says: the entry that begins there stands for the whole entry as far as it is fetched, whatever is below the mark.
-use Rattle.std.proofs.Common.{◌≡◌, ⊎_elim, ℕ, zero, suc, ◌≤◌, ◌==◌, ◌&&◌, ◌||◌, ◌∙◌, Bool, true, false, true≢false, is_some, Option, Some, None, MatchOption, List, [], ◌∷◌, length, sum, drop, option_map, append-nil, eqb-true, refl, ap, sym, subst, arith, if◌then◌else◌}
+use Rattle.std.proofs.Common.{◌≡◌, ⊎_elim, ℕ, ◌==◌, ◌&&◌, ◌||◌, ◌∙◌, Bool, true, false, true≢false, is_some, Option, Some, None, MatchOption, List, [], ◌∷◌, sum, option_map, append-nil, eqb-true, refl, ap, sym, subst, arith, if◌then◌else◌}
 use Rattle.ft_io.specs.declared.Key.{Key}
 use Rattle.ft_io.specs.Key.{key_eq}
+use Rattle.ft_io.proofs.Lists.{empty_of_length}
 use Rattle.seq_arith.specs.Mark.{Mark, MarkBody, MarkMessage}
 use Rattle.seq_arith.specs.Mark.MarkBody.{MarkMsg, MarkedMsg, AskMsg, HeldMsg}
 use Rattle.seq_arith.specs.Message.{EntryHead, Body, Message}
@@ -10,11 +11,12 @@ use Rattle.server_trait.specs.Service.{Machine, Served, machine, reference}
 use Rattle.server_trait.specs.Saved.{Writing, writing}
 use Rattle.ft_model.specs.Restart.{Fetched, wanted, question}
 use Rattle.ft_model.proofs.Lists.{none_is_some, some_is}
+use Rattle.ft_model.proofs.Authored.{drop_past}
 use Rattle.mark_laws.specs.MarkedLog.{AnyMessage}
 use Rattle.mark_laws.specs.MarkedLog.AnyMessage.{About_mark, Of_log}
 use Rattle.mark_laws.specs.Front.{IsBelow}
 use Rattle.mark_laws.specs.Restart as law
-use Rattle.mark_laws.specs.Restart.{FetchedSoFar, awaits_after, lies_within, mark_fits, mark_of_newest, mark_reported, IsFront, with_front, begun_on, fetched_on, mark_question, next_question}
+use Rattle.mark_laws.specs.Restart.{FetchedSoFar, awaits_after, lies_within, mark_of_newest, mark_reported, IsFront, begun_on, fetched_on, mark_question, next_question}
 use Rattle.reincarnate.specs.declared.marks.Marks.{Marks}
 use Rattle.reincarnate.specs.declared.marks.Marks.TheVariants as marks
 use Rattle.reincarnate.specs.Progress.{EntryState, begun_entry}
@@ -24,12 +26,6 @@ use Rattle.reincarnate.specs.Refinement.{StandsFor, StandsFetching, StandsSoFar,
 use Rattle.reincarnate.proofs.EntryLaw.{head_stands}
 use Rattle.reincarnate.proofs.Sized.{within_is}
 use Rattle.reincarnate.proofs.AnswerLaw.{Leads, log_leads, asked_is, cons_is_not_nil}
-
-drop_past : (k : ℕ) (xs : List ℕ) → length xs ≤ k → drop k xs ≡ []
-drop_past zero [] h = refl
-drop_past zero (x ∷ xs) h = absurd (omega (arith, h))
-drop_past (suc k) [] h = refl
-drop_past (suc k) (x ∷ xs) h = drop_past k xs (omega (arith, h))
 
 -- What is below the mark counts as fetched, read and replayed
 pub mark_stands : {S : Type 0} (service : Machine S) (writing : Writing S) (head : EntryHead) (m : Mark) (state : S) (bytes lengths : List ℕ) → lies_within head m ≡ true
@@ -60,17 +56,13 @@ mark_stands service writing head m state bytes lengths within read below =
       };
     }
 
-no_bytes : (xs : List ℕ) → length xs ≡ 0 → xs ≡ []
-no_bytes [] h = refl
-no_bytes (x ∷ xs) h = absurd (omega (arith, h))
-
 -- below a mark of no reads is nothing
 nothing_below : {S : Type 0} (service : Machine S) (writing : Writing S) (m : Mark) (bytes lengths : List ℕ) → m.reads ≡ 0 → IsFront service writing m bytes lengths
     → (bytes ≡ []) × (lengths ≡ [])
 nothing_below service writing m bytes lengths none front =
     ⊎_elim (λ empty. (empty.1, empty.2))
-    (λ below. let no_reads : lengths ≡ [] = no_bytes lengths (below.reads ∙ none) in
-    (no_bytes bytes (sym below.whole ∙ ap sum no_reads), no_reads)) front
+    (λ below. let no_reads : lengths ≡ [] = empty_of_length lengths (below.reads ∙ none) in
+    (empty_of_length bytes (sym below.whole ∙ ap sum no_reads), no_reads)) front
 
 start_stands : {S : Type 0} (service : Machine S) (writing : Writing S) (head : EntryHead) (m : Mark) (bytes lengths : List ℕ) → m.reads ≡ 0 → IsFront service writing m bytes lengths
     → StandsFor service (record { head = head; bytes = bytes; lengths = lengths }) (begun_entry service.fresh head)

@@ -1,5 +1,5 @@
 -- What is replayed is the uncrashed server's run, as far as reads are whole.
-use Rattle.std.proofs.Common.{◌≡◌, ℕ, zero, suc, ◌+◌, ◌-◌, ◌^◌, ◌≤◌, ◌∙◌, Bool, true, false, nat_le, le_trans, List, [], ◌∷◌, ◌++◌, length, take, drop, sum, refl, ap, sym, subst, arith, append_assoc, length-append, length-drop, if◌then◌else◌}
+use Rattle.std.proofs.Common.{◌≡◌, ℕ, ◌+◌, ◌-◌, ◌^◌, ◌≤◌, ◌∙◌, Bool, true, false, nat_le, le_trans, List, [], ◌∷◌, ◌++◌, length, take, drop, sum, refl, ap, sym, subst, arith, append_assoc, length-append, length-drop, if◌then◌else◌}
 use Rattle.std.proofs.lemmas.List.{drop-append-le}
 use Rattle.std.proofs.Math.Seq.{drop-nil}
 use Rattle.server_trait.specs.Service.{Machine, Run, Served, fed, with_served, reference}
@@ -9,11 +9,7 @@ use Rattle.reincarnate.specs.Replay.{ReplayState, RunsTo, passes_the_stream, ser
 use Rattle.reincarnate.specs.Progress.{replayed_from}
 use Rattle.reincarnate.specs.Refinement.{HasReplayed}
 use Rattle.ft_io.proofs.Choices.{holds_if}
-
-drop_join : (k : ℕ) (xs ys : List ℕ) → drop k xs ++ drop (k - length xs) ys ≡ drop k (xs ++ ys)
-drop_join zero xs ys = let none : 0 - length xs ≡ 0 = omega arith in ap (λ n. xs ++ drop n ys) none
-drop_join (suc k) [] ys = let same : suc k - 0 ≡ suc k = omega arith in ap (λ n. drop n ys) same
-drop_join (suc k) (x ∷ xs) ys = (let less : suc k - suc (length xs) ≡ k - length xs = omega arith in ap (λ n. drop k xs ++ drop n ys) less) ∙ drop_join k xs ys
+use Rattle.ft_io.proofs.Lists.{drop_across}
 
 served_runs : {S : Type 0} (run : Run S) (acked : ℕ) (r : ReplayState S) (a b : Served S) → a ≡ b → RunsTo run acked r → r.acked ≡ acked
     → length (with_served run a).output ≤ 2 ^ 24 → RunsTo (with_served run a) acked (served_on r b)
@@ -31,7 +27,7 @@ served_runs run acked r a b same t known small =
       service = ap (λ x. x.next) back;
       closed = ap (λ x. x.closed) back;
       made = (λ j. t.made j + length (back j).output) ∙ sym more;
-      pending = (λ j. t.pending j ++ drop (known j - t.made j) (back j).output) ∙ drop_join acked run.output a.output;
+      pending = (λ j. t.pending j ++ drop (known j - t.made j) (back j).output) ∙ drop_across acked run.output a.output;
     })
 
 by_closed : {S : Type 0} (service : Machine S) (run : Run S) (acked : ℕ) (r : ReplayState S) (chunk : List ℕ) (c : Bool) → RunsTo run acked r → r.acked ≡ acked

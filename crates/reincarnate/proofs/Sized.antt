@@ -1,5 +1,5 @@
 -- The counts of an entry go on to hang together.
-use Rattle.std.proofs.Common.{◌≡◌, ◌⊎◌, ℕ, ◌+◌, ◌^◌, ◌<◌, ◌≤◌, ◌/◌, ◌==◌, ◌&&◌, ◌∙◌, Bool, true, false, None, nat_le, List, [], ◌∷◌, ◌++◌, length, sum, refl, ap, sym, arith, length-append, inl, inr, ⊎_elim, if◌then◌else◌}
+use Rattle.std.proofs.Common.{◌≡◌, ◌⊎◌, ℕ, ◌+◌, ◌^◌, ◌<◌, ◌≤◌, ◌/◌, ◌==◌, ◌&&◌, ◌∙◌, true, false, None, nat_le, List, [], ◌∷◌, ◌++◌, length, sum, refl, ap, sym, arith, length-append, inl, inr, ⊎_elim, if◌then◌else◌}
 use Rattle.std.specs.List.{AllByRecursion}
 use Rattle.std.proofs.lemmas.Bool.{and_parts}
 use Rattle.seq_arith.specs.Mark.{Mark}
@@ -12,9 +12,11 @@ use Rattle.reincarnate.specs.declared.cuts.Cuts.{Cuts}
 use Rattle.seq_arith.specs.MessageGrammar.{lens_in}
 use Rattle.ft_io.specs.declared.Key.{Key}
 use Rattle.ft_io.specs.Key.{key_eq}
+use Rattle.seq_arith.proofs.Texts.{lens_in_length}
+use Rattle.logger_store.proofs.Took.{sum_of}
+use Rattle.wrapped_conn.proofs.Copied.{last_true}
 use Rattle.reincarnate.specs.declared.lack.Lack.TheVariants as lack
 use Rattle.reincarnate.specs.ReadLengths.{HaveBytes, cuts_through}
-use Rattle.reincarnate.proofs.Lengths.{length_lens}
 use Rattle.reincarnate.specs.Replay.{ReplayState}
 use Rattle.reincarnate.specs.Progress.{EntryState, Waiting, lacks, asks_bytes, asks_lengths, part_fits, lengths_fit, cuts_with, replayed_from, with_bytes, with_lengths, begun_entry, IsShort, IsSegmentSize, IsSized}
 use Rattle.reincarnate.proofs.ReplayOn.{Replays, replays}
@@ -79,10 +81,6 @@ asked_bytes e asked missing = grind (arith, asked, missing)
 asked_lengths : {S : Type 0} (e : EntryState S) → asks_lengths (lacks e) ≡ true → e.cuts.count < e.head.reads
 asked_lengths e asked = grind (arith, asked)
 
-pub sum_both : (xs ys : List ℕ) → sum (xs ++ ys) ≡ sum xs + sum ys
-sum_both [] ys = omega arith
-sum_both (x ∷ xs) ys = let a = sum_more x (xs ++ ys) in let b = sum_more x xs in let c = sum_both xs ys in omega (arith, a, b, c)
-
 all_both : (xs ys : List ℕ) → AllByRecursion (λ k. k ≤ 2048) xs → AllByRecursion (λ k. k ≤ 2048) ys → AllByRecursion (λ k. k ≤ 2048) (xs ++ ys)
 all_both [] ys a b = b
 all_both (x ∷ xs) ys a b = (a.0, all_both xs ys a.1 b)
@@ -115,7 +113,7 @@ pub lengths_sized : {S : Type 0} (after : S → List ℕ → Served S) (cuts : C
 lengths_sized after cuts lens e s asked sums have within most =
     let w : Waiting _ = replayed_from after (e.waiting ++ lens) e.replay in
     let r : Replays (e.waiting ++ lens) e.replay w = replays after (e.waiting ++ lens) e.replay in
-    let both = sum_both e.waiting lens in
+    let both = sum_of e.waiting lens in
     let all = r.most (all_both e.waiting lens s.most most) in
     record {
       stream = s.stream;
@@ -136,13 +134,13 @@ lengths_sized after cuts lens e s asked sums have within most =
 pub cuts_fit : {S : Type 0} (e : EntryState S) (key : Key) (first count : ℕ) (bytes : List ℕ) → lengths_fit key first count e ≡ true → count ≡ length bytes / 2
     → cuts_with key first (lens_in bytes) e ≡ cuts_through e.head.length e.head.fin e.cuts (lens_in bytes)
 cuts_fit e key first count bytes fits size =
-    let at : count ≡ length (lens_in bytes) = size ∙ sym (length_lens bytes) in
+    let at : count ≡ length (lens_in bytes) = size ∙ sym (lens_in_length bytes) in
     ap (λ b. if b then cuts_through e.head.length e.head.fin e.cuts (lens_in bytes) else None) (ap (λ n. lengths_fit key first n e) (sym at) ∙ fits)
 
 pub cuts_refused : {S : Type 0} (e : EntryState S) (key : Key) (first count : ℕ) (bytes : List ℕ) → lengths_fit key first count e ≡ false → count ≡ length bytes / 2
     → cuts_with key first (lens_in bytes) e ≡ None
 cuts_refused e key first count bytes fits size =
-    let at : count ≡ length (lens_in bytes) = size ∙ sym (length_lens bytes) in
+    let at : count ≡ length (lens_in bytes) = size ∙ sym (lens_in_length bytes) in
     ap (λ b. if b then cuts_through e.head.length e.head.fin e.cuts (lens_in bytes) else None) (ap (λ n. lengths_fit key first n e) (sym at) ∙ fits)
 
 pub lengths_asked : {S : Type 0} (e : EntryState S) (key : Key) (first count : ℕ) → lengths_fit key first count e ≡ true → asks_lengths (lacks e) ≡ true
@@ -153,12 +151,9 @@ pub part_asked : {S : Type 0} (e : EntryState S) (key : Key) (offset count : ℕ
 part_asked e key offset count fits =
     first_of_four (asks_bytes (lacks e)) (key_eq key e.head.key) (offset == e.bytes) (nat_le (e.bytes + count) e.head.length) fits
 
-last_of_four : (a b c d : Bool) → (a && b && c && d) ≡ true → d ≡ true
-last_of_four a b c d e = grind (arith, e)
-
 pub part_within : {S : Type 0} (e : EntryState S) (key : Key) (offset count : ℕ) → part_fits key offset count e ≡ true → e.bytes + count ≤ e.head.length
 part_within e key offset count fits =
-    let last = last_of_four (asks_bytes (lacks e)) (key_eq key e.head.key) (offset == e.bytes) (nat_le (e.bytes + count) e.head.length) fits in grind (arith, last)
+    let last = last_true (asks_bytes (lacks e)) (key_eq key e.head.key) (offset == e.bytes) (nat_le (e.bytes + count) e.head.length) fits in grind (arith, last)
 
 -- where nothing is missing, all reads are replayed, and the rest is held
 none_left : (ws : List ℕ) (held : ℕ) → IsShort ws held → sum ws ≤ held → sum ws ≡ 0

@@ -24,7 +24,7 @@ impl Cuts {
         ended: false,
     };
 
-    /// The reads below a mark, each of which has a byte.
+    /// The reads below a mark. The closing one isn't among them.
     pub(crate) fn below(count: u32, sum: u32) -> Cuts
         ensures { result ≡ record { count = count; sum = sum; ended = false } }
     {
@@ -35,7 +35,7 @@ impl Cuts {
         }
     }
 
-    /// With one more read, if the log's rule lets it follow in a stream of `len` bytes.
+    /// Returns these reads and one more, if the log's rule lets it follow in a stream of `len` bytes, whose FIN is logged if `fin`.
     fn with(self, n: u16, len: u32, fin: bool) -> Option<Cuts>
         requires len { len ≤ 2 ^ 24 }
         requires bytes { HaveBytes self }
@@ -57,8 +57,8 @@ impl Cuts {
         })
     }
 
-    /// With the reads of these lengths, of two bytes each, if they may follow.
-    #[tactic(auto, using(crate::proofs::Lengths::length_lens, crate::proofs::Lengths::goes_through, crate::proofs::Lengths::stops_there, crate::proofs::Lengths::all_through, crate::proofs::Lengths::sum_through))]
+    /// Returns these reads and those of the lengths `lens`, two bytes for each length, if all of these may follow.
+    #[tactic(auto, using(seq_arith::proofs::Texts::lens_in_length, crate::proofs::Lengths::goes_through, crate::proofs::Lengths::stops_there, crate::proofs::Lengths::all_through, crate::proofs::Lengths::sum_through))]
     pub(crate) fn through(self, lens: &[u8], len: u32, fin: bool) -> Option<Cuts>
         requires len { len ≤ 2 ^ 24 }
         requires bytes { HaveBytes self }

@@ -60,7 +60,7 @@ impl<S: Service> Model for FetchedEntry<S> {
 }
 
 impl<S: Service> FetchedEntry<S> {
-    /// An entry of which only the head has come.
+    /// An entry of which only the head is fetched.
     pub(crate) fn begin(alloc: Global, kind: u8, head: EntryHead) -> FetchedEntry<S>
         requires stream { head.length ≤ 2 ^ 24 }
         requires segments { IsSegmentSize head.mss }
@@ -110,7 +110,7 @@ impl<S: Service> FetchedEntry<S> {
         self.head.key == key
     }
 
-    /// What of it is asked for next.
+    /// What is asked for next of the entry.
     pub(crate) fn lacks(&self) -> Lack
         ensures { result ≡ lacks self.now }
     {
@@ -157,7 +157,7 @@ impl<S: Service> FetchedEntry<S> {
         self.replay.held()
     }
 
-    /// Whether `count` bytes of this key and place answer what is asked for.
+    /// Whether `count` bytes of this key, from this offset on, answer what is asked for.
     pub(crate) fn part_fits(&self, key: Key, offset: u32, count: usize) -> bool
         ensures { result ≡ part_fits key offset count self.now }
     {
@@ -192,7 +192,7 @@ impl<S: Service> FetchedEntry<S> {
         })
     }
 
-    /// Whether `count` lengths of this key and place answer what is asked for.
+    /// Whether `count` lengths of this key, from read `first` on, answer what is asked for.
     fn lengths_fit(&self, key: Key, first: u32, count: usize) -> bool
         ensures { result ≡ lengths_fit key first count self.now }
     {
@@ -202,7 +202,7 @@ impl<S: Service> FetchedEntry<S> {
             && count <= (self.head.reads - self.cuts.count) as usize
     }
 
-    /// The reads with those of these lengths, of two bytes each, if they answer what is asked for.
+    /// The reads with those of the lengths `lens`, two bytes for each length, if these answer what is asked for and may follow.
     #[tactic(auto, using(crate::proofs::Sized::cuts_fit, crate::proofs::Sized::cuts_refused, crate::proofs::Sized::lengths_asked))]
     pub(crate) fn cuts_with(&self, key: Key, first: u32, lens: &[u8]) -> Option<Cuts>
         ensures value { result ≡ cuts_with key first (lens_in lens.now) self.now }
@@ -294,8 +294,8 @@ impl<S: Saved> FetchedEntry<S> {
     }
 }
 
-/// Appends these lengths, of two bytes each, to those that wait.
-#[tactic(auto, using(crate::proofs::Lengths::length_lens, crate::proofs::Lengths::one_pushed, crate::proofs::Lengths::all_pushed))]
+/// Appends the lengths `lens`, two bytes for each length, to those that wait.
+#[tactic(auto, using(seq_arith::proofs::Texts::lens_in_length, crate::proofs::Lengths::one_pushed, crate::proofs::Lengths::all_pushed))]
 fn push_lengths(waiting: &mut VecDeque<u16>, lens: &[u8]) -> Result<(), NoMemory>
     ensures { OnOk result (waiting.new.items ≡ waiting.old.items ++ lens_in lens.now) }
 {

@@ -1,5 +1,5 @@
 -- The ends of a check: what each says of the report, and that the report settles the status.
-use Rattle.std.proofs.Common.{◌≡◌, ◌∙◌, ◌⊎◌, inl, inr, ℕ, zero, suc, ◌<◌, ◌≤◌, Bool, true, Option, None, Some, IfSome, Result, Ok, Err, List, [], ◌∷◌, ◌++◌, length, refl, sym, ap, ap₂, subst, arith}
+use Rattle.std.proofs.Common.{◌≡◌, ◌∙◌, inl, inr, ℕ, zero, suc, ◌<◌, ◌≤◌, true, Option, None, Some, IfSome, List, [], ◌∷◌, length, refl, ap, ap₂, subst, arith}
 use Rattle.std.specs.Io.KnownBytes.{Appends, IsAtEnd}
 use Rattle.ft_io.specs.declared.reading.ReadEnd.{ReadEnd}
 use Rattle.ft_io.specs.declared.reading.ReadEnd.TheVariants as reads

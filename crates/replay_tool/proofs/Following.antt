@@ -11,12 +11,11 @@ use Rattle.ft_model.specs.Report.{log_line, entry_line}
 use Rattle.ft_model.specs.Wire.{wire_of, HasWire}
 use Rattle.ft_model.specs.World.{client_at}
 use Rattle.ft_model.specs.declared.schedule.Schedule.{Schedule}
-use Rattle.ft_model.proofs.Lists.{some_is, none_is_some}
+use Rattle.ft_model.proofs.Lists.{some_is, none_is_some, index_within}
 use Rattle.logger_store.specs.StoreState.{head_value, lengths_of}
 use Rattle.logger_store.specs.declared.entry_head.EntryHead.{EntryHead}
 use Rattle.net_schedule.specs.SentPackets.{reported_way}
 use Rattle.schedule_text.specs.Bytes.{packet_in, said_as}
-use Rattle.net_schedule.proofs.Peers.{within as is_within}
 
 -- lines of a list's elements, numbered on from n
 abbrev pub AreLines : {X : Type 0} → (ℕ → List X → List ℕ) → (ℕ → X → List ℕ) → Type 0
@@ -25,10 +24,10 @@ AreLines {X} lines line = (n : ℕ) (x : X) (xs : List X) → lines n (x ∷ xs)
 -- one line more is written, and one less is left
 pub one_line : {X : Type 0} (lines : ℕ → List X → List ℕ) (line : ℕ → X → List ℕ) → AreLines lines line → (xs : List X) (n i : ℕ) (now next whole : List ℕ)
     → ((x : X) → slice_get xs i ≡ Some x → next ≡ now ++ line n x) → i < length xs → now ++ lines n (drop i xs) ≡ whole → next ++ lines (n + 1) (drop (i + 1) xs) ≡ whole
-one_line lines line are [] n i now next whole written within so_far = absurd (omega arith)
-one_line lines line are (x ∷ xs) n zero now next whole written within so_far =
+one_line lines line are [] n i now next whole written index_within so_far = absurd (omega arith)
+one_line lines line are (x ∷ xs) n zero now next whole written index_within so_far =
     ap (λ l. l ++ lines (n + 1) xs) (written x refl) ∙ append_assoc now (line n x) (lines (n + 1) xs) ∙ ap (λ l. now ++ l) (sym (are n x xs)) ∙ so_far
-one_line lines line are (x ∷ xs) n (suc i) now next whole written within so_far =
+one_line lines line are (x ∷ xs) n (suc i) now next whole written index_within so_far =
     let place : suc i + 1 ≡ suc (i + 1) = omega arith in
     ap (λ k. next ++ lines (n + 1) (drop k (x ∷ xs))) place ∙ one_line lines line are xs n i now next whole written (omega arith) so_far
 
@@ -44,7 +43,7 @@ pub one_line_or_none : {X : Type 0} (lines : ℕ → List X → List ℕ) (line 
 one_line_or_none {X} lines line are nil xs n i now next whole written unwritten so_far = by_place (slice_get xs i) refl
   where
     by_place : (o : Option X) → slice_get xs i ≡ o → next ++ lines (n + 1) (drop (i + 1) xs) ≡ whole
-    by_place (Some x) e = one_line lines line are xs n i now next whole written (is_within xs i x e) so_far
+    by_place (Some x) e = one_line lines line are xs n i now next whole written (index_within xs i x e) so_far
     by_place None e =
         let past : length xs ≤ i = none_past xs i e in
         let further : length xs ≤ i + 1 = omega arith in

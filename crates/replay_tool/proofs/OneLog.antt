@@ -1,5 +1,5 @@
 -- The traces of the world with one log: what a step of the code's world does is one event more of them.
-use Rattle.std.proofs.Common.{◌≡◌, ◌∙◌, ℕ, ◌+◌, Some, is_some, IsSome, List, [], ◌∷◌, ◌++◌, length, refl, sym, ap, ap₂, arith, length-append}
+use Rattle.std.proofs.Common.{◌≡◌, ◌∙◌, ℕ, ◌+◌, Some, is_some, IsSome, List, [], ◌∷◌, ◌++◌, length, refl, sym, ap, ap₂, length-append}
 use Rattle.std.specs.Option.{option_map_or}
 use Rattle.server_trait.specs.Service.{Machine}
 use Rattle.sample_servers.specs.AnyService.{any_machine}
@@ -11,7 +11,7 @@ use Rattle.ft_model.specs.Outcome.{packets_sent}
 use Rattle.ft_model.specs.Report.{header, event_line, packet_line, packet_lines, line_of_packet, content_words, packet_count, event_lines, client_lines, log_line, end_line, report}
 use Rattle.ft_model.specs.Schedule.{clients_of, kind_of}
 use Rattle.ft_model.specs.Wire.{wire_of, HasWire}
-use Rattle.ft_model.specs.World.{World, Moment, Joint, events_of, world_after}
+use Rattle.ft_model.specs.World.{World, Moment, Joint, world_after}
 use Rattle.ft_model.specs.declared.event.Event.{Event}
 use Rattle.ft_model.specs.declared.schedule.Schedule.{Schedule}
 use Rattle.ft_model.proofs.OneTrace.{goes_on}
@@ -24,18 +24,14 @@ use Rattle.net_schedule.specs.Refinement.{Kept}
 use Rattle.net_schedule.specs.Step.{StandsAfter}
 use Rattle.schedule_text.specs.Bytes.{content_in}
 use Rattle.schedule_text.proofs.Contents.{content_of_packet}
+use Rattle.report_laws.proofs.LineLemmas.{events_count}
 use Rattle.replay_tool.specs.PacketLines.{line_of, stored_lines}
 use Rattle.replay_tool.proofs.Following.{packet_is_read}
 use Rattle.replay_tool.proofs.Stored.{lines_stored, stored_is_read}
 use Rattle.seed_run.proofs.Stepping.{last_event as last_same}
 
--- a trace has a moment for each event
-as_many_events : (trace : List Moment) → length (events_of trace) ≡ length trace
-as_many_events [] = refl
-as_many_events (moment ∷ earlier) = omega (arith, length-append (events_of earlier) (moment.event ∷ []), as_many_events earlier)
-
 pub as_many : (schedule : Schedule) (events : List Event) (trace : List Moment) → IsLegalFor any_machine schedule events trace → length events ≡ length trace
-as_many schedule events trace l = ap length (sym l.events_are) ∙ as_many_events trace
+as_many schedule events trace l = ap length (sym l.events_are) ∙ events_count trace
 
 -- all packets are counted
 all_counted : {State : Type 0} (service : Machine State) (start : World) (trace : List Moment) → start.packets ≡ [] → Joint service start trace → length (world_after start trace).packets ≡ packet_count trace

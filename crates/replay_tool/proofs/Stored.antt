@@ -5,6 +5,7 @@ use Rattle.std.specs.List.{AllByRecursion}
 use Rattle.ft_model.specs.declared.way.Way.{Way}
 use Rattle.ft_model.specs.Report.{line_of_packet}
 use Rattle.ft_model.proofs.Lists.{some_is, none_is_some}
+use Rattle.ft_model.proofs.FormedWorld.{all_behind}
 use Rattle.net_schedule.specs.AtNumber.{at_number}
 use Rattle.net_schedule.specs.StoredPackets.{Carried}
 use Rattle.schedule_text.specs.Bytes.{content_in}
@@ -45,10 +46,6 @@ pub all_stored : (kept : Carried) (first count k : ℕ) (now whole : List ℕ) �
 all_stored kept first count k now whole past so_far =
     let left : count - k ≡ 0 = omega arith in
     sym (append-nil now) ∙ sym (ap (λ m. now ++ stored_lines kept (first + k) m) left) ∙ so_far
-
-pub all_behind : {X : Type 0} (P : X → Type 0) (xs ys : List X) → AllByRecursion P (xs ++ ys) → AllByRecursion P ys
-all_behind P [] ys a = a
-all_behind P (x ∷ xs) ys a = all_behind P xs ys a.1
 
 first_behind : {X Y : Type 0} (f : X → Y) (before : List X) (x : X) (behind : List X) → slice_get (map f (before ++ x ∷ behind)) (length before) ≡ Some (f x)
 first_behind f [] x behind = refl

@@ -36,7 +36,7 @@ all_spaced (w ∷ words) h =
     (omega arith, all_append HasNoFeed w (spaced words) (all_weaken (λ c. 32 < c) HasNoFeed (λ c p. omega (arith, p)) w h.0) (all_spaced words h.1))
 
 -- a line of words is cut from what follows it
-line_cut : (first : List ℕ) (words : List (List ℕ)) (rest : List ℕ) → AllByRecursion HasNoFeed first → AllByRecursion IsWord words
+pub line_cut : (first : List ℕ) (words : List (List ℕ)) (rest : List ℕ) → AllByRecursion HasNoFeed first → AllByRecursion IsWord words
     → lines_in (line first words ++ rest) ≡ line first words ∷ lines_in rest
 line_cut first words rest f w =
     let whole : line first words ≡ (first ++ spaced words) ++ 10 ∷ [] = sym (append_assoc first (spaced words) (10 ∷ [])) in

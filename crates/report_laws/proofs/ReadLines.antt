@@ -172,7 +172,7 @@ events_read s text (e ∷ more) r h few =
     subst (λ es. Reads (text ++ (line ++ rest_lines)) (Begun (record s { events = es }))) (append_assoc s.events (e ∷ []) more)
     (subst (λ t. Reads t (Begun (record s { events = (s.events ++ e ∷ []) ++ more }))) (append_assoc text line rest_lines) rest)
 
-clients_short : (s : Schedule) (clients : List ClientLine) → FitsLimit (Begun s) → ClientsAccepted s clients → FitsLimit (Begun (record s { clients = s.clients ++ clients }))
+pub clients_short : (s : Schedule) (clients : List ClientLine) → FitsLimit (Begun s) → ClientsAccepted s clients → FitsLimit (Begun (record s { clients = s.clients ++ clients }))
 clients_short s [] short h = subst (λ cs. FitsLimit (Begun (record s { clients = cs }))) (sym (append-nil s.clients)) short
 clients_short s (c ∷ more) short h =
     subst (λ cs. FitsLimit (Begun (record s { clients = cs }))) (append_assoc s.clients (c ∷ []) more) (clients_short (record s { clients = s.clients ++ c ∷ [] }) more h.0.short h.1)

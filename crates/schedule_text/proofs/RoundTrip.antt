@@ -91,7 +91,7 @@ lit word e = (ltb-true 0 (length word) (left_true _ _ e), plain word (right_true
 numbered : (n : ℕ) → n < 2 ^ 64 → IsPlainWord (decimal n)
 numbered n fits = (decimal_nonempty n fits, all_weaken IsDigit IsPlain (λ c d. (omega (arith, d.0), omega (arith, d.1))) (decimal n) (digits_decimal n fits))
 
-digits_of : (ds : List ℕ) → AllByRecursion IsDigit ds → list_all is_ascii_digit ds ≡ true
+pub digits_of : (ds : List ℕ) → AllByRecursion IsDigit ds → list_all is_ascii_digit ds ≡ true
 digits_of [] h = refl
 digits_of (d ∷ ds) h = both_true (both_true (le-leb 48 d h.0.0) (le-leb d 57 h.0.1)) (digits_of ds h.1)
 
@@ -190,7 +190,7 @@ read_back s (Stop part) h =
     (lit (codes "stop") refl, (numbered part (omega (arith, h.1)), tt)) refl (stop_read part h.0 h.1)
 
 -- the words of a line, each after a space, are a space and the joined words
-spaced_joined : (word : List ℕ) (words : List (List ℕ)) → spaced (word ∷ words) ≡ 32 ∷ join_with_byte 32 (word ∷ words)
+pub spaced_joined : (word : List ℕ) (words : List (List ℕ)) → spaced (word ∷ words) ≡ 32 ∷ join_with_byte 32 (word ∷ words)
 spaced_joined word [] = ap (λ rest. 32 ∷ rest) (append-nil word)
 spaced_joined word (v ∷ words) = ap (λ rest. 32 ∷ (word ++ rest)) (spaced_joined v words)
 

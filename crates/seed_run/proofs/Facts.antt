@@ -8,6 +8,7 @@ use Rattle.ft_model.specs.Schedule.{client_of, clients_of}
 use Rattle.ft_model.specs.World.{World, Moment, client_at}
 use Rattle.ft_model.specs.declared.event.Event.{Event}
 use Rattle.ft_model.specs.declared.schedule.ClientLine.{ClientLine}
+use Rattle.ft_model.proofs.ClientKeys.{keys_in}
 use Rattle.ft_model.proofs.Lists.{none_is_some, some_is}
 use Rattle.net_schedule.specs.Refinement.{Kept}
 use Rattle.seed_run.specs.Generated.{server_address, client_line, client_lines, after_draws}
@@ -20,9 +21,6 @@ use Rattle.seed_run.proofs.FirstSchedule.{count_lines}
 use Rattle.seed_run.proofs.Stepping.{world_of, clients_keep}
 use Rattle.seq_arith.proofs.Units.{one_at_most}
 use Rattle.ft_model.proofs.FaithfulOver.{client_there}
-
-abbrev keys_in : List Client → List Key
-keys_in cs = map (λ c. c.key) cs
 
 -- addresses in a row, from this one after the network's on
 abbrev AreInRow : ℕ → List Key → Type 0

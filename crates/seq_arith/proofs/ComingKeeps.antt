@@ -8,6 +8,7 @@ use Rattle.seq_arith.specs.Arrival.{below}
 use Rattle.seq_arith.specs.Early.{laid, run_count, most_runs, held_with, front_run, behind_front_run, holds_some}
 use Rattle.seq_arith.specs.Coming.{Early, nothing_early, Came, nothing_came, bounded_by, text_edge, ahead, new_text, with_text, is_none, holds_fin, with_fin, continued, stands_at, with_fin_taken, comes, StandsBehind}
 use Rattle.ft_io.proofs.Choices.{holds_if, if_false}
+use Rattle.ft_io.proofs.Booleans.{not_true}
 
 length_laid : (at : ℕ) (new : List ℕ) (held : List (Option ℕ)) (most : ℕ) → length held ≤ most → (0 < length new → at + length new ≤ most)
     → length (laid at new held) ≤ most
@@ -87,7 +88,7 @@ record Holding (n edge : ℕ) (c : Came) : Type 0 where
   pub held_fin : IfSome c.early.fin (Past (n + length c.added) edge c.early.text)
   pub unended : c.fin ≡ false
 
-bounded : (o : Option ℕ) (edge : ℕ) → bounded_by o edge ≤ edge
+pub bounded : (o : Option ℕ) (edge : ℕ) → bounded_by o edge ≤ edge
 bounded None edge = omega arith
 bounded (Some offset) edge = omega arith
 
@@ -157,10 +158,6 @@ pub record FinFits (n edge : ℕ) (place : ℤ) (c : Came) : Type 0 where
   pub alone : is_none c.early.fin ≡ true
   pub unended : not c.fin ≡ true
 
-is_false : (b : Bool) → not b ≡ true → b ≡ false
-is_false true h = absurd (true≢false (sym h))
-is_false false h = refl
-
 at_place : (place : ℤ) (low : ℕ) → int_le (pos low) place ≡ true → place ≡ pos (nat_abs place)
 at_place (pos p) low h = refl
 at_place (negsuc p) low h = absurd (grind (arith, ints, h))
@@ -186,7 +183,7 @@ fin_fits n edge place c h =
     let one = and_parts high low two.0 in
     record {
       at = at_place place end one.1;
-      past = (place_low place end one.1, place_high place end edge one.0 one.1, is_false (holds_some (drop (nat_abs place - end) c.early.text)) two.1);
+      past = (place_low place end one.1, place_high place end edge one.0 one.1, not_true (holds_some (drop (nat_abs place - end) c.early.text)) two.1);
       alone = three.1;
       unended = four.1;
     }

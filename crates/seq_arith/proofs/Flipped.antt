@@ -17,14 +17,14 @@ use Rattle.seq_arith.proofs.Passing.{same_from}
 use Rattle.seq_arith.proofs.Refused.{refused, accepted, goes_on}
 
 -- what is refused last is a field: a string that comes so far holds its checksum
-sum_held : {V E : Type 0} (length_test : Bool) (length_why sum_why : E) (bytes : List ℕ) (last : Result V E)
+pub sum_held : {V E : Type 0} (length_test : Bool) (length_why sum_why : E) (bytes : List ℕ) (last : Result V E)
     → IsOk (if length_test then Err length_why else (if not (nat_eq (checksum bytes) 0) then Err sum_why else last)) → checksum bytes ≡ 0
 sum_held length_test length_why sum_why bytes last ok =
     let sum_test : Bool = not (nat_eq (checksum bytes) 0)
     in same_from _ _ (goes_on sum_test sum_why last (goes_on length_test length_why (if sum_test then Err sum_why else last) ok).1).0
 
 -- what comes to the kind was refused by none of the first three tests
-kind_comes : {V E : Type 0} (short magic version : Bool) (short_why magic_why version_why : E) (last : Result V E)
+pub kind_comes : {V E : Type 0} (short magic version : Bool) (short_why magic_why version_why : E) (last : Result V E)
     → IsOk (if short then Err short_why else (if magic then Err magic_why else (if version then Err version_why else last))) → IsOk last
 kind_comes {V = V} {E = E} short magic version short_why magic_why version_why last ok =
     let third : Result V E = if version then Err version_why else last
@@ -44,14 +44,14 @@ twin_sum bytes ok =
     (kind_comes (nat_lt (length bytes) 16) (not (nat_eq (word_at bytes 0) 18005)) (not (nat_eq (slice_index bytes 2) 1)) bad_twin.Short bad_twin.Magic bad_twin.Version
     (twins.reading_if (twins.kind_numbered (slice_index bytes 3)) bytes) ok)
 
-mark_sum_if : (kind : Option MarkKind) (bytes : List ℕ) → IsOk (marks.reading_if kind bytes) → checksum bytes ≡ 0
+pub mark_sum_if : (kind : Option MarkKind) (bytes : List ℕ) → IsOk (marks.reading_if kind bytes) → checksum bytes ≡ 0
 unfolding marks.reading_of
 mark_sum_if None bytes ok = absurd (cc)
 mark_sum_if (Some kind) bytes ok =
     sum_held (not (nat_eq (word_at bytes 4) (length bytes)) || not (marks.has_length kind (length bytes))) bad_mark.Length bad_mark.Sum bytes
     (if not (marks.is_sound_in kind bytes) then Err bad_mark.Field else Ok (marks.message_in kind bytes)) ok
 
-mark_sum : (bytes : List ℕ) → IsOk (marks.reading bytes) → checksum bytes ≡ 0
+pub mark_sum : (bytes : List ℕ) → IsOk (marks.reading bytes) → checksum bytes ≡ 0
 unfolding marks.reading
 mark_sum bytes ok =
     mark_sum_if (marks.kind_numbered (slice_index bytes 3)) bytes

@@ -1,11 +1,12 @@
 -- The text between two offsets.
-use Rattle.std.proofs.Common.{◌≡◌, ℕ, ◌+◌, ◌-◌, ◌≤◌, ◌<◌, List, take, drop, ap, sym, arith, ◌∙◌, ⊎_elim, length, length-take}
+use Rattle.std.proofs.Common.{◌≡◌, ℕ, ◌+◌, ◌-◌, ◌≤◌, ◌<◌, List, take, drop, ap, sym, arith, ◌∙◌, ⊎_elim, length, length-take, ◌/◌, [], ◌∷◌, refl}
 use Rattle.std.specs.Prelude.{ℤ, pos, negsuc, ◌+ℤ◌, nat_abs}
 use Rattle.std.proofs.lemmas.Int.{ints}
 use Rattle.std.proofs.lemmas.Bool.{cases_lt}
 use Rattle.std.proofs.lemmas.List.{drop-take}
 use Rattle.std.proofs.Math.ListN.{drop_of_length-le}
 use Rattle.seq_arith.specs.Arrival.{below, text_between}
+use Rattle.seq_arith.specs.MessageGrammar.{lens_in}
 
 -- what is cut and then shortened in front is shortened in front and then cut
 cut : (a b n : ℕ) (text : List ℕ) → n ≡ b - a → drop a (take b text) ≡ take n (drop a text)
@@ -20,3 +21,8 @@ pub text_between_is_cut : (from to : ℕ) (first : ℤ) (text : List ℕ)
 unfolding text_between
 text_between_is_cut from to (pos first) text = cut (from - first) (to - first) (to - (first + (from - first))) text (omega arith)
 text_between_is_cut from to (negsuc first) text = cut (from + first + 1) (to + first + 1) (to - nat_abs (negsuc first +ℤ pos (from + first + 1))) text (omega (arith, ints))
+
+pub lens_in_length : (bytes : List ℕ) → length (lens_in bytes) ≡ length bytes / 2
+lens_in_length [] = refl
+lens_in_length (high ∷ []) = refl
+lens_in_length (high ∷ low ∷ bytes) = let rest = lens_in_length bytes in omega (arith, rest)

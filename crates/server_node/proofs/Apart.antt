@@ -19,21 +19,18 @@ use Rattle.ft_model.specs.Opening.{is_syn, initial_number}
 use Rattle.ft_model.specs.ServingTurn.{ServingTurn, concerns, is_asked, opens_at, newcomers, refusals}
 use Rattle.ft_model.specs.Wire.{Wire, wire_of, HasWire}
 use Rattle.ft_model.proofs.Lists.{same_key, key_is, all_append, all_weaker}
+use Rattle.ft_model.proofs.AuthorTurns.{all_split}
 use Rattle.server_node.specs.declared.serving.Serving.{Serving}
 use Rattle.server_node.specs.declared.slot.Slot.{Slot}
 use Rattle.server_node.specs.declared.slot.Slot.TheVariants as slot
 use Rattle.server_node.specs.Alone.{StandsFor, IsNearFor, IsForSubject, KeyMeets, KeyGoes, SlotsAlone, ServesAlone, coming_to, slot_of}
 use Rattle.server_node.specs.Openings.{ArePut, slot_opens, all_opens}
 use Rattle.server_node.specs.Slots.{numbers_of}
-use Rattle.server_node.specs.Ownership.{of_key, IsFor, IsOnlyFor}
+use Rattle.server_node.specs.Ownership.{of_key, IsFor}
 use Rattle.server_node.proofs.Found.{not_found}
 use Rattle.server_node.proofs.Keyed.{none_of, all_its}
 use Rattle.server_node.proofs.Opens.{slot_is}
 use Rattle.server_node.proofs.Ticked.{of_both}
-
-all_split : {X : Type 0} (P : X → Type 0) (xs ys : List X) → AllByRecursion P (xs ++ ys) → AllByRecursion P xs × AllByRecursion P ys
-all_split P [] ys a = (tt, a)
-all_split P (x ∷ xs) ys a = let more = all_split P xs ys a.1 in ((a.0, more.0), more.1)
 
 -- an opening is asked for only by an input that is about its key
 asked_about : (node : Node) (input : Input) (n : Numbers) → is_asked node input n ≡ true → concerns node input n.key ≡ true

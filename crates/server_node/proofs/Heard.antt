@@ -1,5 +1,5 @@
 -- A message at the slot of the key that it names.
-use Rattle.std.proofs.Common.{◌≡◌, ◌∙◌, true, false, ◌&&◌, ◌==◌, eq-eqb, ap₂, refl, sym, ap, subst, true≢false, List, [], ◌∷◌, append-nil, Some, None, ◌⊎◌, inl, inr, ⊎_elim}
+use Rattle.std.proofs.Common.{◌≡◌, ◌∙◌, true, false, ◌&&◌, ◌==◌, eq-eqb, ap₂, refl, sym, ap, subst, List, [], ◌∷◌, append-nil, Some, ◌⊎◌, inl, inr, ⊎_elim}
 use Rattle.std.proofs.lemmas.Bool.{and_right}
 use Rattle.ft_io.specs.declared.Key.{Key}
 use Rattle.ft_io.specs.Key.{key_eq}
@@ -22,10 +22,8 @@ use Rattle.server_node.specs.LogMessages.{logged_in}
 use Rattle.server_node.specs.Slots.{SlotStands, SlotGoes}
 use Rattle.server_node.proofs.OneKey.{place_meets, place_key}
 use Rattle.ft_io.proofs.Choices.{same_some}
+use Rattle.ft_io.proofs.Outcomes.{none_is_not}
 use Rattle.ft_model.proofs.Lists.{key_is}
-
-none_is_not : {X A : Type 0} {x : X} → None ≡ Some x → A
-none_is_not e = absurd (true≢false (sym (ap Rattle.std.specs.Option.is_some e)))
 
 -- a Stable or a Reads
 two_ways : (said : Body) (kept : Kept) → logged_in said ≡ Some kept → (said ≡ body.StableMsg kept) ⊎ (said ≡ body.ReadsMsg kept)

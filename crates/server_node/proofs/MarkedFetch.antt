@@ -1,17 +1,16 @@
 -- A node that marks, while it fetches the log.
-use Rattle.std.proofs.Common.{◌≡◌, ◌∙◌, ℕ, ◌<◌, ◌+◌, Bool, true, false, true≢false, ◌==◌, ◌&&◌, not, refl, sym, ap, subst, arith, nat_lt, nat_le, Option, Some, None, IfSome, MatchOption, option_map, List, [], ◌∷◌, ◌++◌, map, length, ltb-true, eq-eqb, if◌then◌else◌}
+use Rattle.std.proofs.Common.{◌≡◌, ◌∙◌, ℕ, ◌<◌, ◌+◌, Bool, true, false, true≢false, ◌==◌, ◌&&◌, not, refl, sym, ap, subst, nat_lt, nat_le, Option, Some, None, IfSome, MatchOption, option_map, List, [], ◌∷◌, ◌++◌, map, length, ltb-true, eq-eqb, if◌then◌else◌}
 use Rattle.std.specs.Option.{option_to_list}
-use Rattle.std.specs.List.{AllByRecursion}
 use Rattle.std.proofs.lemmas.Bool.{and_parts}
 use Rattle.ft_io.specs.declared.Key.{Key}
 use Rattle.ft_io.specs.Key.{key_eq}
-use Rattle.ft_io.proofs.Choices.{by_cases, holds_if}
+use Rattle.ft_io.proofs.Choices.{holds_if}
 use Rattle.seq_arith.specs.Mark.{Mark, MarkBody, MarkMessage}
 use Rattle.seq_arith.specs.Mark.MarkBody.{MarkMsg, MarkedMsg, AskMsg, HeldMsg}
-use Rattle.seq_arith.specs.Message.{Message, Body, EntryHead}
+use Rattle.seq_arith.specs.Message.{Message, Body}
 use Rattle.seq_arith.specs.Message.Body.{HelloMsg, EntryMsg, PartMsg, LensMsg}
 use Rattle.seq_arith.specs.Packet.{Segment}
-use Rattle.server_trait.specs.Service.{Machine, Served, AreBytes}
+use Rattle.server_trait.specs.Service.{Served, AreBytes}
 use Rattle.ft_model.specs.Connection.{told_by}
 use Rattle.ft_model.specs.Lawful.{AreSound, StageTurn, Rests, Fetches, Continues as PlainContinues, asked, held, count_told, summary_count, fence, fetched_then, restored_count}
 use Rattle.ft_model.specs.Node.{Node, Place, Input, Stage as law_stage, place_at}
@@ -27,14 +26,14 @@ use Rattle.mark_laws.specs.Marking.{Marking, Outgoing}
 use Rattle.mark_laws.specs.Marking.Outgoing.{Plain}
 use Rattle.mark_traces.specs.MarkedNode.MarkedInput.{Plain_comes}
 use Rattle.mark_laws.specs.Restart.{FetchedSoFar, next_question, fetched_on, mark_reported, mark_of_newest, IsFront, begun_on, with_front, awaits_after}
-use Rattle.mark_traces.specs.MarkedNode.{Marker, MarkedNode, RestsMarked, InputTurn, UnlessFenced, PlainTurn, MarkTurn, Continues, FetchesMarked, so_far, outgoing, marking_fetched, with_marking, marking_then}
+use Rattle.mark_traces.specs.MarkedNode.{Marker, MarkedNode, RestsMarked, InputTurn, UnlessFenced, PlainTurn, MarkTurn, Continues, FetchesMarked, so_far, outgoing, marking_fetched, marking_then}
 use Rattle.reincarnate.specs.Marking.{uses, used_if, awaits, marks_after, marked_on}
 use Rattle.reincarnate.specs.Progress.{EntryState}
 use Rattle.reincarnate.specs.Questions.{FetchingState, begun_fetching, after_answer, noted, log_heard, with_marked, held_heard, mark_heard, any_heard}
 use Rattle.reincarnate.specs.Refinement.{StandsSoFar, AnyLeads}
 use Rattle.reincarnate.specs.declared.marks.Marks.{Marks}
 use Rattle.reincarnate.specs.declared.marks.Marks.TheVariants as marks
-use Rattle.conn_marks.specs.KeyMarks.{KeyMarks, marking_in, Changes, every_for}
+use Rattle.conn_marks.specs.KeyMarks.{KeyMarks, every_for}
 use Rattle.conn_marks.specs.MarkSends.{AreOut}
 use Rattle.conn_marks.specs.Settled.{Keeps}
 use Rattle.server_node.specs.declared.identity.Identity.{Identity}
@@ -46,7 +45,7 @@ use Rattle.server_node.specs.FetchStage.{AreDistinct, FetchingStands}
 use Rattle.server_node.specs.SentBytes.{ArePut}
 use Rattle.server_node.specs.Identity.{node_of}
 use Rattle.server_node.specs.MarkedRestart.{AllBytes, AreRestoredMarked}
-use Rattle.server_node.specs.MarkedTurns.{FetchingStandsMarked, MarkedStands, StageStandsMarked, GoesOn, IsFairTo, IsSoundStart, IsUnfencedMarked, Notes, marking_noted, BodyBytes, IsPartBytes, SendsQuestion, input_of_any}
+use Rattle.server_node.specs.MarkedTurns.{FetchingStandsMarked, MarkedStands, GoesOn, IsFairTo, IsSoundStart, IsUnfencedMarked, Notes, marking_noted, BodyBytes, IsPartBytes, SendsQuestion, input_of_any}
 use Rattle.server_node.specs.Markers.{node_at}
 use Rattle.server_node.proofs.FetchAnswer.{IsSame, heard_same, then_distinct}
 use Rattle.server_node.proofs.Staged.{stand_again}

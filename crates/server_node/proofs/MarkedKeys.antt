@@ -1,9 +1,8 @@
 -- The mark of one key, as it is made and sent.
-use Rattle.std.proofs.Common.{◌≡◌, ◌∙◌, ℕ, zero, suc, ◌<◌, ◌≤◌, ◌+◌, ◌-◌, Bool, true, false, true≢false, not, refl, sym, ap, subst, arith, Option, Some, None, option_map, List, [], ◌∷◌, ◌++◌, filter, map, length, take, drop, length-append, length-drop, if◌then◌else◌}
+use Rattle.std.proofs.Common.{◌≡◌, ◌∙◌, ℕ, ◌<◌, ◌≤◌, ◌+◌, ◌-◌, Bool, true, false, not, refl, sym, ap, subst, arith, Option, Some, None, option_map, List, [], ◌∷◌, ◌++◌, filter, length, take, drop, length-append, length-drop, if◌then◌else◌}
 use Rattle.std.specs.Prelude.{is_none}
 use Rattle.std.proofs.Math.Seq.{take-append_seam}
 use Rattle.std.specs.Option.{is_some}
-use Rattle.std.specs.List.{AllByRecursion}
 use Rattle.ft_io.specs.declared.Addr.{Addr}
 use Rattle.ft_io.specs.declared.Key.{Key}
 use Rattle.ft_io.proofs.Choices.{if_false}
@@ -13,7 +12,7 @@ use Rattle.seq_arith.specs.MarkGrammar as marks
 use Rattle.server_trait.specs.Service.{Machine, AreBytes}
 use Rattle.checkpoint.specs.declared.mark_msg.MarkMsg.{MarkMsg as CodeMsg}
 use Rattle.checkpoint.specs.Value.{message_of}
-use Rattle.ft_model.specs.Node.{Node, Place, place_at}
+use Rattle.ft_model.specs.Node.{Node, Place}
 use Rattle.ft_model.specs.Node.Place.{Opens, Lives, Ended}
 use Rattle.ft_model.specs.Point.{Point}
 use Rattle.ft_model.specs.Wire.{Wire}
@@ -25,9 +24,8 @@ use Rattle.wrapped_conn.specs.ConnState.{ConnState}
 use Rattle.wrapped_conn.specs.Refinement.{Stands}
 use Rattle.wrapped_conn.specs.Sound.{IsSound as IsSoundConn}
 use Rattle.conn_marks.specs.KeyMarks.{KeyMarks, marking_in, every_for, Changes}
-use Rattle.conn_marks.specs.MarkSends.{outgoing_wire, SendsMarks, mark_message, mark_wires, put_before, is_done_wire}
+use Rattle.conn_marks.specs.MarkSends.{outgoing_wire, SendsMarks, mark_message, put_before, is_done_wire}
 use Rattle.conn_marks.specs.Settled.{MarksNew, MarksPlace}
-use Rattle.conn_marks.proofs.KeyMarks.{changes_none}
 use Rattle.conn_marks.proofs.MarkWires.{sends_none}
 use Rattle.conn_marks.proofs.Settling.{made_are}
 use Rattle.server_node.specs.Conn.{IsSound, IsOursAt}

@@ -1,5 +1,5 @@
 -- The turn of a node that marks, as that of its stage and of the whole node.
-use Rattle.std.proofs.Common.{◌≡◌, ◌∙◌, ℕ, Bool, true, false, true≢false, ◌==◌, ◌&&◌, refl, sym, ap, subst, nat_lt, Result, Ok, Err, Option, Some, None, MatchOption, option_map, List, [], ◌∷◌, if◌then◌else◌}
+use Rattle.std.proofs.Common.{◌≡◌, ◌∙◌, ℕ, Bool, true, false, true≢false, ◌==◌, ◌&&◌, refl, sym, ap, subst, nat_lt, Result, Ok, Err, Option, None, MatchOption, option_map, List, [], if◌then◌else◌}
 use Rattle.ft_io.specs.declared.Key.{Key}
 use Rattle.seq_arith.specs.Mark.{MarkMessage}
 use Rattle.seq_arith.specs.MarkGrammar as marks
@@ -8,18 +8,18 @@ use Rattle.seq_arith.specs.MessageGrammar as messages
 use Rattle.seq_arith.specs.declared.kinds.BadMsg.{BadMsg}
 use Rattle.seq_arith.specs.declared.mark.BadMark.{BadMark}
 use Rattle.server_trait.specs.declared.Service.{Ghosts}
-use Rattle.ft_model.specs.Lawful.{StageTurn, Rests, Fetches, is_fenced, fence, newer_than, summary_count}
+use Rattle.ft_model.specs.Lawful.{Rests, Fetches, is_fenced, fence, newer_than, summary_count}
 use Rattle.ft_model.specs.Node.{Place, Stage as law_stage}
 use Rattle.ft_model.specs.Node.Input.{Message_comes, Noise_comes}
 use Rattle.ft_model.specs.Node.Stage.{Asking, Fetching, Serving, Fenced}
-use Rattle.ft_model.specs.Restart.{Fetched, wanted, fetched_after}
+use Rattle.ft_model.specs.Restart.{wanted, fetched_after}
 use Rattle.ft_model.specs.ServingTurn.{names}
 use Rattle.ft_model.specs.Wire.{Wire}
 use Rattle.ft_model.specs.World.{message_or_noise}
-use Rattle.mark_laws.specs.Marking.{Marking, Outgoing}
+use Rattle.mark_laws.specs.Marking.{Marking}
 use Rattle.mark_laws.specs.Restart.{FetchedSoFar, fetched_on, awaits_after}
 use Rattle.mark_traces.specs.MarkedNode.{Marker, MarkedNode, MarkedInput, RestsMarked, InputTurn, UnlessFenced, FetchesMarked, so_far}
-use Rattle.mark_traces.specs.MarkedNode.MarkedInput.{Plain_comes, Mark_comes}
+use Rattle.mark_traces.specs.MarkedNode.MarkedInput.{Plain_comes}
 use Rattle.mark_traces.specs.MarkedWorld.{either_said, input_of as marked_of}
 use Rattle.conn_marks.specs.KeyMarks.{KeyMarks}
 use Rattle.server_node.specs.declared.identity.Identity.{Identity}
@@ -34,7 +34,7 @@ use Rattle.server_node.specs.declared.stage.Stage.TheVariants as stage
 use Rattle.server_node.specs.Identity.{node_of}
 use Rattle.server_node.specs.Inputs.{input_of}
 use Rattle.server_node.specs.Marked.{AreApart}
-use Rattle.server_node.specs.MarkedTurns.{MarkedStands, MarkedTurns, GoesOn, IsFairTo, IsUnfencedMarked, IsTurnMarked, HasSlotsApart, NodeStandsAt, MarkedNodeStands, MarkedNodeGoes, MarkedNodeTurns, marked_input_of, heard_of}
+use Rattle.server_node.specs.MarkedTurns.{MarkedStands, MarkedTurns, GoesOn, IsFairTo, IsUnfencedMarked, IsTurnMarked, HasSlotsApart, NodeStandsAt, MarkedNodeGoes, MarkedNodeTurns, marked_input_of, heard_of}
 use Rattle.server_node.specs.Markers.{Saving, marker_of, node_at}
 use Rattle.server_node.specs.Stages.{is_marked}
 use Rattle.server_node.specs.Turns.{IsUnfenced}

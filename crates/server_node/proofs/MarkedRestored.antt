@@ -1,17 +1,14 @@
 -- The slots of the entries that a node that marks restores, one more after another, with the marks that go out.
-use Rattle.std.proofs.Common.{◌≡◌, ◌∙◌, ℕ, suc, ◌+◌, ◌%◌, ◌^◌, Bool, true, false, true≢false, not, refl, sym, ap, subst, arith, Option, Some, None, List, [], ◌∷◌, ◌++◌, map, filter, length, append-nil, append_assoc, cond, if◌then◌else◌}
-use Rattle.std.specs.List.{AllByRecursion}
-use Rattle.std.specs.Map.{lookup, keys_of}
-use Rattle.std.specs.Option.{is_some}
+use Rattle.std.proofs.Common.{◌≡◌, ◌∙◌, ℕ, suc, ◌+◌, ◌%◌, ◌^◌, Bool, true, false, not, refl, sym, ap, subst, arith, Option, Some, None, List, [], ◌∷◌, ◌++◌, map, filter, length, append-nil, cond, if◌then◌else◌}
+use Rattle.std.specs.Map.{lookup}
 use Rattle.std.proofs.lemmas.Bool.{or_parts, or_from}
 use Rattle.ft_io.specs.declared.Key.{Key}
 use Rattle.ft_io.specs.Key.{key_eq}
-use Rattle.ft_io.proofs.Choices.{by_cases, if_false}
+use Rattle.ft_io.proofs.Choices.{by_cases}
 use Rattle.server_trait.specs.Service.{AreBytes}
 use Rattle.ft_model.specs.Connection.{ConnectionTurn}
 use Rattle.ft_model.specs.Lawful.{Revives, restored, all_restored, restored_count}
 use Rattle.ft_model.specs.Log.{Entry}
-use Rattle.ft_model.specs.Network.{Packet}
 use Rattle.ft_model.specs.News.News.{Begins}
 use Rattle.ft_model.specs.Node.{Node, Place, key_of, place_at}
 use Rattle.ft_model.specs.Node.Place.{Opens, Lives, Ended}
@@ -20,17 +17,18 @@ use Rattle.ft_model.specs.Point.{Point}
 use Rattle.ft_model.specs.Restart.{Fetched, is_fetched, entry_in, point_of}
 use Rattle.ft_model.specs.ServingTurn.{LivesOn}
 use Rattle.ft_model.specs.Wire.{Wire}
-use Rattle.ft_model.proofs.Keys.{has_key, key_eq_turns}
+use Rattle.ft_model.specs.Keys.{has_key}
+use Rattle.ft_model.proofs.Keys.{key_eq_turns}
 use Rattle.ft_model.proofs.Lists.{all_append, key_is, same_key, none_is_some}
 use Rattle.mark_laws.specs.Marking.{Marking, Outgoing, with_new, new_marks, with_marks, marks_out}
-use Rattle.mark_traces.specs.MarkedNode.{Marker, GoesMarked, AllGoMarked, marks_at, marking_then, is_done}
+use Rattle.mark_traces.specs.MarkedNode.{Marker, GoesMarked, marks_at, marking_then, is_done}
 use Rattle.conn_marks.specs.KeyMarks.{KeyMarks, marking_in, Changes}
 use Rattle.conn_marks.specs.MarkSends.{AreOut}
 use Rattle.conn_marks.specs.Settled.{Keeps, IsSettledPoint, IsSettledPlace, AllSettled, MarksPlace}
 use Rattle.conn_marks.proofs.KeyMarks.{changes_none}
 use Rattle.conn_marks.proofs.MarkWires.{put_out, out_on, out_none}
 use Rattle.conn_marks.proofs.OneMarked.{found_here, found_there, found_in, found_behind}
-use Rattle.conn_marks.proofs.Serving.{turn_settled, turn_key}
+use Rattle.conn_marks.proofs.Serving.{turn_settled}
 use Rattle.server_node.specs.declared.serving.Serving.{Serving}
 use Rattle.server_node.specs.declared.slot.Slot.{Slot}
 use Rattle.server_node.specs.declared.slot.Slot.TheVariants as slot

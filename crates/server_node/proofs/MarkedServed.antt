@@ -1,5 +1,5 @@
 -- The turn of a node that marks, while it serves, from that without marks.
-use Rattle.std.proofs.Common.{◌≡◌, ◌∙◌, ℕ, ◌+◌, Bool, true, false, true≢false, ◌==◌, ◌&&◌, refl, sym, ap, ap₂, subst, eq-eqb, Ok, Option, Some, None, MatchOption, List, [], ◌∷◌, ◌++◌, map, filter, length, append-nil, if◌then◌else◌}
+use Rattle.std.proofs.Common.{◌≡◌, ◌∙◌, ℕ, ◌+◌, Bool, false, ◌==◌, ◌&&◌, refl, sym, ap, ap₂, subst, eq-eqb, Ok, Option, Some, None, MatchOption, List, [], ◌∷◌, ◌++◌, map, length, append-nil, if◌then◌else◌}
 use Rattle.std.specs.Bool.{MatchBool}
 use Rattle.std.specs.List.{AllByRecursion, IsDistinct}
 use Rattle.std.specs.Map.{keys_of}
@@ -7,8 +7,8 @@ use Rattle.std.proofs.lemmas.Bool.{or_from}
 use Rattle.ft_io.specs.declared.Key.{Key}
 use Rattle.ft_io.specs.Key.{key_eq}
 use Rattle.ft_io.proofs.Choices.{by_cases}
-use Rattle.seq_arith.specs.Mark.{MarkBody, MarkMessage}
-use Rattle.seq_arith.specs.Mark.MarkBody.{MarkMsg, MarkedMsg, AskMsg, HeldMsg}
+use Rattle.seq_arith.specs.Mark.{MarkMessage}
+use Rattle.seq_arith.specs.Mark.MarkBody.{MarkedMsg}
 use Rattle.server_trait.specs.Service.{AreBytes}
 use Rattle.ft_model.specs.Lawful.{fence}
 use Rattle.ft_model.specs.Network.{Packet}
@@ -22,9 +22,10 @@ use Rattle.seq_arith.specs.PacketGrammar.{reading, payload_at, segment_in}
 use Rattle.ft_model.specs.ServingTurn.{PlaceTurn, AllGo, concerns, newcomers}
 use Rattle.ft_model.proofs.Formed.{bytes_drop}
 use Rattle.ft_model.specs.Wire.{Wire}
-use Rattle.ft_model.proofs.Keys.{AreDistinct, has_key, key_eq_turns, finds_itself, all_from_get}
+use Rattle.ft_model.specs.Keys.{AreDistinct, has_key}
+use Rattle.ft_model.proofs.Keys.{key_eq_turns, finds_itself, all_from_get}
 use Rattle.ft_model.proofs.Lists.{all_slice_get, all_find, found_passes, same_key, key_is, some_is}
-use Rattle.mark_laws.specs.Marking.{Marking, Outgoing, IsSettled, MarkedTurn, is_due, with_new, new_marks, marking_answered, marks_out, with_marks}
+use Rattle.mark_laws.specs.Marking.{Marking, Outgoing, MarkedTurn, is_due, with_new, new_marks, marking_answered, marks_out}
 use Rattle.mark_traces.specs.MarkedNode.{Marker, MarkedNode, RestsMarked, InputTurn, UnlessFenced, HearsOfMark, FetchesMarked, so_far, marking_fetched, is_tick_input, live_at, with_marking}
 use Rattle.mark_traces.specs.MarkedNode.MarkedInput.{Plain_comes, Mark_comes}
 use Rattle.mark_laws.specs.Restart.{begun_on, mark_of_newest}
@@ -53,7 +54,7 @@ use Rattle.server_node.specs.Openings.{ArePut, all_opens}
 use Rattle.server_node.specs.declared.slot.Slot.TheVariants as slot
 use Rattle.server_node.specs.Markers.{node_at}
 use Rattle.server_node.specs.ServingStage.{ServingStands, ServingGoes}
-use Rattle.server_node.specs.Slots.{SlotStands, AllStand}
+use Rattle.server_node.specs.Slots.{AllStand}
 use Rattle.server_node.proofs.MarkedFetch.{goes_by, rests_on}
 use Rattle.server_node.proofs.OneKey.{place_key, none_concerned}
 use Rattle.server_node.proofs.Opens.{put_none}

@@ -1,8 +1,7 @@
 -- The stage of a node that marks: the law of a node that makes no marks says nothing of it, and its restart stays that of its incarnation.
 use Rattle.std.proofs.Common.{◌≡◌, ◌∙◌, ◌<◌, ◌^◌, ℕ, Bool, true, false, true≢false, refl, sym, ap, subst, List, [], Option, Some, None, IfSome, option_map, MatchOption, if◌then◌else◌, ◌==◌, ◌&&◌}
-use Rattle.ft_io.specs.declared.Key.{Key}
-use Rattle.ft_model.proofs.Lists.{none_is_some, some_is}
-use Rattle.seq_arith.specs.Mark.{Mark, MarkBody, MarkMessage}
+use Rattle.ft_model.proofs.Lists.{none_is_some}
+use Rattle.seq_arith.specs.Mark.{MarkBody, MarkMessage}
 use Rattle.seq_arith.specs.Mark.MarkBody.{MarkMsg, MarkedMsg, AskMsg, HeldMsg}
 use Rattle.seq_arith.specs.Message.{Body, Message}
 use Rattle.server_trait.specs.Service.{Machine, Served}
@@ -18,7 +17,6 @@ use Rattle.reincarnate.specs.Questions.{FetchingState, asked, any_asked, mark_as
 use Rattle.server_node.specs.declared.identity.Identity.{Identity}
 use Rattle.server_node.specs.declared.stage.Stage.{Stage}
 use Rattle.server_node.specs.declared.stage.Stage.TheVariants as stage
-use Rattle.server_node.specs.Alone.{IsUntouched}
 use Rattle.server_node.specs.Apart.{TurnsApart}
 use Rattle.server_node.specs.FetchStage.{IsOf}
 use Rattle.server_node.specs.Identity.{node_of, service_of}

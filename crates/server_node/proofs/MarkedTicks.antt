@@ -1,12 +1,9 @@
 -- A tick of a node that marks: the outstanding mark of each live connection goes out again among the packets of its place.
-use Rattle.std.proofs.Common.{◌≡◌, ◌∙◌, ℕ, zero, suc, ◌+◌, ◌<◌, ◌≤◌, Bool, true, false, refl, sym, ap, ap₂, subst, arith, Option, Some, None, List, [], ◌∷◌, ◌++◌, map, filter, length, append_assoc, length-append, append-nil, slice_get, if◌then◌else◌}
+use Rattle.std.proofs.Common.{◌≡◌, ◌∙◌, ℕ, zero, suc, ◌+◌, ◌<◌, ◌≤◌, Bool, true, false, refl, sym, ap, subst, arith, Option, Some, None, List, [], ◌∷◌, ◌++◌, map, filter, length, append_assoc, length-append, append-nil, slice_get}
 use Rattle.std.specs.List.{AllByRecursion, flat_map}
 use Rattle.indexmap.specs.IndexMap.{set_value_at}
-use Rattle.ft_io.specs.declared.Addr.{Addr}
 use Rattle.ft_io.specs.declared.Key.{Key}
 use Rattle.ft_io.specs.Key.{key_eq}
-use Rattle.ft_io.proofs.Choices.{by_cases}
-use Rattle.seq_arith.specs.Mark.{Mark}
 use Rattle.ft_model.specs.Connection.{ConnectionTurn}
 use Rattle.ft_model.specs.Network.{Packet}
 use Rattle.ft_model.specs.News.News.{Ticks}
@@ -15,17 +12,17 @@ use Rattle.ft_model.specs.Node.Place.{Opens, Lives, Ended}
 use Rattle.ft_model.specs.Node.Input.{Tick_comes}
 use Rattle.ft_model.specs.Opening.{initial_number}
 use Rattle.ft_model.specs.Point.{Point}
-use Rattle.ft_model.specs.ServingTurn.{PlaceTurn, AllGo, Stays, LivesOn, opens_at}
+use Rattle.ft_model.specs.ServingTurn.{PlaceTurn, Stays, LivesOn, opens_at}
 use Rattle.ft_model.specs.Wire.{Wire, wire_of, HasWire}
 use Rattle.ft_model.proofs.Lists.{all_append, all_find, found_passes, same_key, none_is_some}
 use Rattle.mark_laws.specs.Marking.{Marking, Outgoing, IsSettled, is_due, with_new, new_marks, outstanding_in, with_marks, marks_out}
 use Rattle.mark_laws.specs.Marking.Outgoing.{Plain}
-use Rattle.mark_traces.specs.MarkedNode.{Marker, GoesMarked, AllGoMarked, ServesMarked, marks_at, marking_then, is_done}
-use Rattle.conn_marks.specs.KeyMarks.{KeyMarks, marking_in}
-use Rattle.conn_marks.specs.MarkSends.{AreOut, SendsMarks}
+use Rattle.mark_traces.specs.MarkedNode.{Marker, GoesMarked, AllGoMarked, marks_at, marking_then, is_done}
+use Rattle.conn_marks.specs.KeyMarks.{KeyMarks}
+use Rattle.conn_marks.specs.MarkSends.{SendsMarks}
 use Rattle.conn_marks.specs.Settled.{Keeps, IsSettledPoint, IsSettledPlace, AllSettled}
 use Rattle.conn_marks.proofs.HeldBytes.{HasBytes, turn_bytes}
-use Rattle.conn_marks.proofs.MarkWires.{put_out, plain_out, plain_wires, plain_spelled, no_marks, out_on}
+use Rattle.conn_marks.proofs.MarkWires.{put_out, plain_out, out_on}
 use Rattle.conn_marks.proofs.Serving.{new_none, turn_key}
 use Rattle.conn_marks.proofs.Settling.{settles, same_due, new_same}
 use Rattle.wrapped_conn.specs.ConnState.{ConnState}
@@ -38,7 +35,6 @@ use Rattle.server_node.specs.Loan.{conn_in}
 use Rattle.server_node.specs.MarkedServing.{SlotTicks, AllTick, FirstTick, ServingGoesMarked}
 use Rattle.server_node.specs.Markers.{node_at}
 use Rattle.server_node.specs.Openings.{ArePut, all_opens}
-use Rattle.server_node.specs.ServingStage.{ServingStands}
 use Rattle.server_node.specs.Slots.{SlotStands, AllStand, SlotGoes}
 use Rattle.server_node.proofs.AllSlots.{at_slot, put_slot}
 use Rattle.server_node.proofs.Opens.{opens_are}

@@ -40,10 +40,6 @@ pub place_meets : {S : Type 0} (service : Machine S) (node : Node) (input : Inpu
 place_meets service node input place now sent concerned meets =
     subst (λ b. MatchBool b (Meets service node input place now sent) (Stays place now sent)) (sym concerned) meets
 
-pub all_units : (places : List Place) → AllByRecursion (λ place. Unit {0}) places
-all_units [] = tt
-all_units (q ∷ qs) = (tt, all_units qs)
-
 -- an input that concerns none changes nothing
 pub none_concerned : {S : Type 0} (service : Machine S) (node : Node) (input : Input) (es : List (Key × Slot S)) (places : List Place) (told : List Wire)
     → ((k : Key) → concerns node input k ≡ false) → AllStand service node es places → AllSlotsGo service node input places es told told

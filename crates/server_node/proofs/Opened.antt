@@ -18,6 +18,7 @@ use Rattle.ft_model.specs.Node.Input.{Message_comes}
 use Rattle.ft_model.specs.Refusal.{full_rst}
 use Rattle.ft_model.specs.ServingTurn.{Hears, LivesOn, names}
 use Rattle.ft_model.specs.Wire.{Wire}
+use Rattle.ft_model.proofs.ToldOver.{all_unit}
 use Rattle.wrapped_conn.specs.ConnState.{ConnState}
 use Rattle.server_node.specs.declared.slot.Slot.{Slot}
 use Rattle.server_node.specs.declared.slot.Slot.TheVariants as slot
@@ -27,7 +28,7 @@ use Rattle.server_node.specs.Conn.{ConnGoes}
 use Rattle.server_node.specs.LogMessages.{opening_in, ended}
 use Rattle.server_node.specs.RefusalPackets.{AreSent}
 use Rattle.server_node.specs.Slots.{numbers_of, SlotStands, SlotGoes, SlotLeaves, AllStand, AllSlotsGo}
-use Rattle.server_node.proofs.OneKey.{place_meets, place_key, one_goes, none_goes, none_found, all_units}
+use Rattle.server_node.proofs.OneKey.{place_meets, place_key, one_goes, none_goes, none_found}
 use Rattle.server_node.proofs.Heard.{only_its_key, its_key}
 use Rattle.server_node.proofs.Keyed.{same_alone}
 
@@ -155,7 +156,7 @@ module _ {S : Type 0} (service : Machine S) (node : Node) (message : Message) (b
         go None f = none_goes service node (Message_comes message) key (only_its_key node message key named) es places told st (none_found (key_eq key) es f)
         go (Some s) f =
             subst (λ xs. AllSlotsGo service node (Message_comes message) places xs told told) (set_same (key_eq key) es s f)
-            (one_goes service node (Message_comes message) key (only_its_key node message key named) (λ place. Unit {0}) es places s s told told st distinct f (all_units places)
+            (one_goes service node (Message_comes message) key (only_its_key node message key named) (λ place. Unit {0}) es places s s told told st distinct f (all_unit places)
             (λ place u at. unpending s told (sym (ap opening_in f) ∙ none) place at))
 
     pub none_pending_alone : (es : List (Key × Slot S)) (told : List Wire) → opening_in (lookup (key_eq key) es) ≡ None → SlotsAlone service node (Message_comes message) es es told told

@@ -7,11 +7,9 @@ use Rattle.std.proofs.lemmas.Grind.{flat_map-append}
 use Rattle.std.specs.List.{flat_map}
 use Rattle.ft_io.specs.declared.Key.{Key}
 use Rattle.server_trait.specs.Service.{Machine}
-use Rattle.seq_arith.specs.Message.{Message}
 use Rattle.ft_model.specs.Network.{Packet}
 use Rattle.ft_model.specs.Node.{Node, Place, Input}
 use Rattle.ft_model.specs.Node.Place.{Opens, Lives, Ended}
-use Rattle.ft_model.specs.Node.Input.{Message_comes}
 use Rattle.ft_model.specs.ServingTurn.{opens_at}
 use Rattle.ft_model.proofs.Lists.{all_append}
 use Rattle.ft_model.specs.Wire.{Wire, wire_of, HasWire}
@@ -40,13 +38,6 @@ opens_are service node input [] [] st = refl
 opens_are service node input [] (q ∷ qs) st = absurd st
 opens_are service node input (e ∷ es) [] st = absurd st
 opens_are service node input (e ∷ es) (q ∷ qs) st = ap₂ ◌++◌ (slot_is service node input e.0 e.1 q st.0) (opens_are service node input es qs st.1)
-
--- a message asks for no opening
-pub no_opens : (node : Node) (message : Message) (places : List Place) → flat_map (opens_at node (Message_comes message)) places ≡ []
-no_opens node message [] = refl
-no_opens node message (Opens n ∷ qs) = no_opens node message qs
-no_opens node message (Lives p ∷ qs) = no_opens node message qs
-no_opens node message (Ended k ∷ qs) = no_opens node message qs
 
 -- packets after packets
 pub put_on : (first more : List Packet) (old mid new : List Wire) → ArePut first old mid → ArePut more mid new → ArePut (first ++ more) old new

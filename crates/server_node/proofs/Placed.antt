@@ -1,5 +1,5 @@
 -- A packet that is put before the last ones of a turn.
-use Rattle.std.proofs.Common.{◌≡◌, ◌∙◌, ℕ, suc, ◌+◌, ◌-◌, ◌≤◌, refl, sym, ap, arith, List, [], ◌∷◌, ◌++◌, length, take, drop}
+use Rattle.std.proofs.Common.{◌≡◌, ◌∙◌, ℕ, suc, ◌+◌, ◌-◌, ◌≤◌, sym, ap, arith, List, [], ◌∷◌, ◌++◌, length, take, drop}
 use Rattle.std.specs.List.{insert}
 use Rattle.std.proofs.lemmas.List.{length-take-le, take-take, drop-take}
 use Rattle.std.proofs.Math.Seq.{take-append-add}

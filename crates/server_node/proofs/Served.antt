@@ -19,6 +19,7 @@ use Rattle.ft_model.specs.Opening.{is_syn, initial_number, numbers_for}
 use Rattle.ft_model.specs.Refusal.{as_listen}
 use Rattle.ft_model.specs.ServingTurn.{opens_at, newcomers, refusals, is_strange}
 use Rattle.ft_model.specs.Wire.{Wire}
+use Rattle.conn_marks.proofs.Serving.{quiet_message}
 use Rattle.server_node.specs.declared.serving.Serving.{Serving}
 use Rattle.server_node.specs.declared.slot.Slot.{Slot}
 use Rattle.server_node.specs.declared.slot.Slot.TheVariants as slot
@@ -29,7 +30,7 @@ use Rattle.server_node.specs.ServingStage.{ServingStands, ServingGoes}
 use Rattle.server_node.proofs.Admitted.{known, unknown}
 use Rattle.server_node.proofs.SegmentArrival.{only_its_client}
 use Rattle.server_node.proofs.OneKey.{all_stay, none_concerned, none_found}
-use Rattle.server_node.proofs.Opens.{opens_are, no_opens, put_on, put_none}
+use Rattle.server_node.proofs.Opens.{opens_are, put_on, put_none}
 
 module _ {S : Type 0} (service : Machine S) (node : Node) where
   -- a turn in which no opening is made and no unknown client refused: the slots go, and then pending openings are asked for
@@ -64,7 +65,7 @@ module _ {S : Type 0} (service : Machine S) (node : Node) where
       → AllSlotsGo service node (Message_comes message) places now.slots.entries old new → ServingGoes service node (Message_comes message) opened places now old new
   message_goes message opened places now old new number goes =
       let nothing : all_opens node (Message_comes message) now.slots.entries ≡ [] =
-      sym (opens_are service node (Message_comes message) now.slots.entries goes.after goes.stands) ∙ no_opens node message goes.after in
+      sym (opens_are service node (Message_comes message) now.slots.entries goes.after goes.stands) ∙ quiet_message node message goes.after in
       known_goes (Message_comes message) opened places now old new new refl refl number goes
       (subst (λ ps. ArePut ps new new) (sym nothing) (record { wires = sym (append-nil new); spelled = tt }))
 

@@ -14,7 +14,7 @@ use Rattle.server_trait.specs.Service.{Machine}
 use Rattle.ft_model.specs.Connection.{told_by}
 use Rattle.ft_model.specs.Network.{Packet, source_of}
 use Rattle.ft_model.specs.Network.Packet.{To_client}
-use Rattle.ft_model.specs.Node.{Node, Place, key_of, is_for, is_known}
+use Rattle.ft_model.specs.Node.{Node, Place, is_for, is_known}
 use Rattle.ft_model.specs.Node.Place.{Opens}
 use Rattle.ft_model.specs.Node.Input.{Packet_comes}
 use Rattle.ft_model.specs.Opening.{is_syn, initial_number, numbers_for}
@@ -25,7 +25,7 @@ use Rattle.ft_model.proofs.Lists.{same_key, key_is, all_append, all_weaker}
 use Rattle.server_node.specs.declared.serving.Serving.{Serving}
 use Rattle.server_node.specs.declared.slot.Slot.{Slot}
 use Rattle.server_node.specs.declared.slot.Slot.TheVariants as slot
-use Rattle.server_node.specs.Alone.{StandsFor, IsNearFor, IsForSubject, KeyGoes, SlotsAlone, ServesAlone, coming_to, slot_of}
+use Rattle.server_node.specs.Alone.{StandsFor, IsForSubject, KeyGoes, SlotsAlone, ServesAlone, coming_to, slot_of}
 use Rattle.server_node.specs.Openings.{ArePut, Opened, Waits, Knocks, all_opens, pending_slots}
 use Rattle.server_node.specs.RefusalPackets.{AreSent}
 use Rattle.server_node.specs.Slots.{numbers_of}
@@ -33,7 +33,7 @@ use Rattle.server_node.specs.Ownership.{IsFor, IsOnlyFor}
 use Rattle.server_node.proofs.Apart.{open_for, opens_of_key, rests_key, served_alone, comes}
 use Rattle.server_node.proofs.SegmentArrival.{only_its_client, its_client}
 use Rattle.server_node.proofs.Found.{other_last}
-use Rattle.server_node.proofs.Keyed.{none_of, none_alone, told_its, refused_for, listen_back}
+use Rattle.server_node.proofs.Keyed.{none_of, told_its, refused_for, listen_back}
 use Rattle.server_node.proofs.OneKey.{place_key}
 use Rattle.server_node.proofs.Restored.{found_last}
 

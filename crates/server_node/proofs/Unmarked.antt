@@ -1,19 +1,17 @@
 -- A restart that uses no marks asks and takes what a server without marks does.
 use Rattle.std.proofs.Common.{◌≡◌, ◌∙◌, ℕ, Bool, true, false, refl, sym, ap, subst, List, Option, Some, None, IfSome, MatchOption, option_map, if◌then◌else◌}
-use Rattle.ft_model.proofs.Lists.{none_is_some, some_is}
 use Rattle.seq_arith.specs.Message.{Body, Message}
-use Rattle.seq_arith.specs.Message.Body.{EntryMsg}
-use Rattle.server_trait.specs.Service.{Machine, Served, machine}
+use Rattle.server_trait.specs.Service.{Machine, Served}
 use Rattle.server_trait.specs.Saved.{Writing}
 use Rattle.ft_model.specs.Restart.{Fetched, Wanted, wanted, question}
 use Rattle.mark_laws.specs.MarkedLog.{AnyMessage}
-use Rattle.mark_laws.specs.MarkedLog.AnyMessage.{About_mark, Of_log}
+use Rattle.mark_laws.specs.MarkedLog.AnyMessage.{Of_log}
 use Rattle.mark_laws.specs.Restart as law
-use Rattle.mark_laws.specs.Restart.{awaits_after, fetched_on}
+use Rattle.mark_laws.specs.Restart.{awaits_after}
 use Rattle.reincarnate.specs.declared.marks.Marks.{Marks}
 use Rattle.reincarnate.specs.declared.marks.Marks.TheVariants as marks
 use Rattle.reincarnate.specs.Marking.{uses, awaits, marks_after}
-use Rattle.reincarnate.specs.Questions.{FetchingState, asked, any_asked, mark_asked, after_answer, noted, any_heard, log_heard}
+use Rattle.reincarnate.specs.Questions.{FetchingState, asked, any_asked, mark_asked, after_answer, noted, any_heard}
 use Rattle.server_node.specs.FetchStage.{UsesNone, of_log}
 use Rattle.server_node.proofs.FetchAnswer.{IsSame, heard_same}
 use Rattle.reincarnate.specs.Refinement.{StandsFetching, StandsSoFar, AnswerLeads, AnyLeads, fetched_then}

@@ -1,5 +1,4 @@
 pub mod NumbersTell
-pub mod Places
 pub mod Outstanding
 pub mod Overwrites
 pub mod Marked

@@ -4,6 +4,7 @@ use Rattle.std.specs.Prelude.{slice_set, replicate}
 use Rattle.std.proofs.lemmas.List.{take_min, drop_min, take-append-drop, take-replicate, length-replicate}
 use Rattle.std.proofs.Math.Seq.{drop-nil, take-nil}
 use Rattle.std.proofs.Math.Nat.{min_comm}
+use Rattle.ft_io.proofs.Numbers.{plus_one}
 use Rattle.tcp_buffers.specs.Runs.{written}
 
 pub zero_plus : (k : ℕ) → k ≡ 0 + k
@@ -118,9 +119,6 @@ written_whole from over bytes items padded set after some within o p s a =
 pub no_items : {A : Type 0} (xs : List A) → length xs ≡ 0 → xs ≡ []
 no_items [] h = refl
 no_items (x ∷ xs) h = absurd (omega (arith, h))
-
-plus_one : (n : ℕ) → n + 1 ≡ suc n
-plus_one n = omega arith
 
 pub set_next : (at x : ℕ) (bytes items : List ℕ) → at < length items → written (at + 1) bytes (slice_set items at x) ≡ written at (x ∷ bytes) items
 set_next at x bytes items h = ap (λ k. written k bytes (slice_set items at x)) (plus_one at) ∙ set_one at x bytes items h

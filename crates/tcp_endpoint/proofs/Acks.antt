@@ -14,8 +14,7 @@ use Rattle.tcp_buffers.specs.SendNumbers.{acks_new, acks_beyond, kind_of, una_by
 use Rattle.tcp_buffers.specs.Near.{is_ahead}
 use Rattle.tcp_buffers.proofs.NumbersTell.{ahead_is, WasSent, sent_by, from_is, up_to_is, new_is}
 use Rattle.tcp_endpoint.specs.SendHalf.{Sending, own, sending_of, moves_edge, acknowledged, units_of, was_sent, repeats, is_duplicate, duplicated, answered_by, NumbersFit, IsShort}
-use Rattle.std.proofs.lemmas.Bool.{false≢true}
-use Rattle.ft_io.proofs.Booleans.{left_true, and_when, second_of_three, first_of_three}
+use Rattle.ft_io.proofs.Booleans.{left_true, and_when, second_of_three, first_of_three, second_of_four}
 
 pub first_is : (iss ack : ℕ) → ack < 2 ^ 32 → nat_eq ack ((iss + 1) % 2 ^ 32) ≡ int_eq (offset_of iss ack) (pos 0)
 first_is iss ack small = grind (arith, ints, offset_leads iss ack small)
@@ -296,16 +295,11 @@ used_is iss n n' seq ack window syn_acked held held' closed fin_sent kind fits s
 not_new : (u s : ℕ) (z : ℤ) → int_eq z (pos u) ≡ true → is_new_ack u s z ≡ false
 not_new u s z at = grind (arith, ints)
 
-at_first : (bare a b c : Bool) → (bare && a && b && c) ≡ true → a ≡ true
-at_first true true b c h = refl
-at_first true false b c h = h
-at_first false a b c h = absurd (false≢true h)
-
 -- so the congestion window is what it was when a duplicate is counted
 pub duplicate_keeps : (s : Sending) (bare : Bool) (seq : ℕ) (z : ℤ) (window : ℕ) → is_duplicate s bare z window ≡ true
     → (acknowledged s seq z window).congestion ≡ s.congestion
 unfolding is_duplicate acknowledged
-duplicate_keeps s bare seq z window h = rw (not_new s.una s.sent z (at_first bare _ _ _ h)) refl
+duplicate_keeps s bare seq z window h = rw (not_new s.una s.sent z (second_of_four bare _ _ _ h)) refl
 
 -- what an acknowledgement makes of the sender, where it is no duplicate, and where it is one
 pub answered_once : (s : Sending) (bare : Bool) (seq : ℕ) (z : ℤ) (window : ℕ) → is_duplicate s bare z window ≡ false

@@ -6,10 +6,11 @@ use Rattle.std.proofs.lemmas.List.{take_all}
 use Rattle.ft_io.proofs.Choices.{by_cases, holds_either_way}
 use Rattle.seq_arith.specs.Arrival.{below}
 use Rattle.seq_arith.specs.Early.{laid, held_with, front_run, behind_front_run, holds_some}
-use Rattle.seq_arith.specs.Coming.{Early, Came, StandsBehind, nothing_came, bounded_by, text_edge, ahead, new_text, with_text, holds_fin, continued, stands_at, with_fin_taken, comes}
+use Rattle.seq_arith.specs.Coming.{Early, Came, StandsBehind, nothing_came, text_edge, ahead, new_text, with_text, holds_fin, continued, stands_at, with_fin_taken, comes}
 use Rattle.tcp_buffers.specs.Queue.{Queue, empty_queue, added_by, pushed}
 use Rattle.tcp_endpoint.specs.ReceiveHalf.{Receiving, ReceiverInvariant, taken, receive_edge, came, with_came, with_segment}
 use Rattle.seq_arith.proofs.Coming.{behind_gap, behind_within, stays_behind, comes_bare, nothing_behind}
+use Rattle.seq_arith.proofs.ComingKeeps.{bounded}
 use Rattle.tcp_endpoint.proofs.Steps.{text_step, fin_step, fin_then, in_steps, step_adds_none, not_held, held_at, was_none, text_alone, is_taken, isnt_taken}
 
 -- a queue appends bytes, or holds them where they are ahead
@@ -69,11 +70,6 @@ text_is n edge fin early first text unread gap fits =
       same_held_fin = ap (λ (c : Came). (continued c).early.fin) start;
       same_fin = ap (λ (c : Came). (continued c).fin) start;
     })
-
--- the new part of a text ends below the receive edge
-bounded : (held : Option ℕ) (edge : ℕ) → bounded_by held edge ≤ edge
-bounded None edge = omega arith
-bounded (Some offset) edge = omega arith
 
 edge_within : (n edge : ℕ) (fin : Bool) (early : Early) → n ≤ edge → text_edge n edge fin early ≤ edge
 edge_within n edge true early up = up

@@ -1,10 +1,10 @@
 -- What goes out, as lists of packets.
 use Rattle.std.proofs.Common.{◌≡◌, ℕ, ◌<◌, ◌≤◌, ◌+◌, ◌-◌, zero, suc, Bool, true, false, min, List, [], ◌∷◌, ◌++◌, length, refl, sym, ap, subst, arith, ◌∙◌, append_assoc, append-nil}
-use Rattle.std.specs.Prelude.{Option, None, Some, if◌then◌else◌, nat_lt, ◌==◌, ◌&&◌}
+use Rattle.std.specs.Prelude.{if◌then◌else◌, nat_lt, ◌==◌, ◌&&◌}
 use Rattle.std.proofs.lemmas.Bool.{false≢true}
 use Rattle.std.proofs.lemmas.List.{map-append}
 use Rattle.seq_arith.specs.Packet.{Segment}
-use Rattle.seq_arith.specs.PacketGrammar.{mss_option, packet_length, spelling}
+use Rattle.seq_arith.specs.PacketGrammar.{packet_length, spelling}
 use Rattle.seq_arith.proofs.Spelling.{size}
 use Rattle.tcp_endpoint.specs.Packets.{byte_count, IsReadable, AreReadable}
 use Rattle.tcp_endpoint.specs.Tcb.{Tcb}
@@ -16,10 +16,6 @@ byte_count_push (q ∷ ps) p = omega (arith, byte_count_push ps p)
 
 pub spelled_bytes : (ps : List (List ℕ)) (segment : Segment) → byte_count (ps ++ spelling segment ∷ []) ≡ byte_count ps + packet_length segment
 spelled_bytes ps segment = byte_count_push ps (spelling segment) ∙ ap (λ n. byte_count ps + n) (size segment)
-
-pub options_short : (mss : Option ℕ) → length (mss_option mss) ≤ 4
-options_short None = omega arith
-options_short (Some mss) = omega arith
 
 pub packets_one : (segment : Segment) → packets (segment ∷ []) ≡ spelling segment ∷ []
 unfolding packets

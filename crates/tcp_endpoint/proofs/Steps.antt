@@ -6,6 +6,7 @@ use Rattle.std.proofs.lemmas.Bool.{true≢false, and_parts}
 use Rattle.std.proofs.lemmas.Int.{ints}
 use Rattle.ft_io.proofs.Booleans.{and_false}
 use Rattle.ft_io.proofs.Choices.{by_cases, holds_either_way}
+use Rattle.ft_io.proofs.Numbers.{plus_none}
 use Rattle.seq_arith.specs.Early.{laid, held_with, holds_some}
 use Rattle.seq_arith.specs.Coming.{Early, Came, nothing_came, with_text, is_none, holds_fin, with_fin, continued, stands_at, with_fin_taken, comes}
 use Rattle.tcp_endpoint.proofs.Commutes.{fin_after_text}
@@ -15,9 +16,6 @@ pub none_held : (at : ℕ) (bytes : List ℕ) (held : List (Option ℕ)) → len
 unfolding held_with laid
 none_held at [] held h = holds_either_way (λ l. l ≡ held) _ held held refl refl
 none_held at (x ∷ bytes) held h = absurd (omega (arith, h))
-
-plus_none : (n : ℕ) → n + 0 ≡ n
-plus_none n = omega arith
 
 -- the bytes taken so far
 abbrev pub end_of : ℕ → Came → ℕ

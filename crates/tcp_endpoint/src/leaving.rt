@@ -18,7 +18,7 @@ use segment_codec::Head;
 use seq_arith::{ACK, FIN, SYN, Seq};
 
 impl Endpoint {
-    /// Ends the turn: puts what is sent into the outbox, at most 1,030 packets and 110,000 bytes.
+    /// Ends the turn: puts the packets that it sends into `out`, which is empty before. They are at most 1,030, of at most 110,000 bytes in all.
     #[tactic(auto, using(crate::proofs::Spelled::leaving_is), unfolding(crate::specs::Output::flushed, crate::specs::Output::after_full))]
     pub fn flush(&mut self, out: &mut Outbox)
         requires { out.old ≡ [] }
@@ -77,7 +77,7 @@ impl Endpoint {
     }
 
     /// Sends the RST in answer, where one is due.
-    #[tactic(auto, using(crate::proofs::Spelled::options_short, crate::proofs::Spelled::packets_one, crate::proofs::Spelled::packets_none), unfolding(crate::specs::Output::reset_reply_out))]
+    #[tactic(auto, using(seq_arith::proofs::Units::mss_option_short, crate::proofs::Spelled::packets_one, crate::proofs::Spelled::packets_none), unfolding(crate::specs::Output::reset_reply_out))]
     fn send_reset_reply(&self, out: &mut Outbox)
         requires { out.old ≡ [] }
         ensures sent { out.new ≡ packets (reset_reply_out self.now) }
@@ -122,7 +122,7 @@ impl Endpoint {
     }
 
     /// Sends the first unacknowledged segment, where it is due.
-    #[tactic(auto, using(crate::proofs::Spelled::options_short, crate::proofs::Spelled::packets_one, crate::proofs::Spelled::nothing_more), unfolding(crate::specs::Output::retransmission_out, crate::specs::Output::retransmitted_segment))]
+    #[tactic(auto, using(seq_arith::proofs::Units::mss_option_short, crate::proofs::Spelled::packets_one, crate::proofs::Spelled::nothing_more), unfolding(crate::specs::Output::retransmission_out, crate::specs::Output::retransmitted_segment))]
     fn retransmit(&self, out: &mut Outbox)
         requires count { length out.old ≤ 1 }
         requires bytes { byte_count out.old ≤ 44 }
@@ -248,14 +248,14 @@ impl Endpoint {
                 || self.last_advertised_edge != self.receiver.advertised_edge())
     }
 
-    /// Whether the segment without data is sent: an ACK is pending, and no other segment is sent.
+    /// Whether a segment without data is sent: an ACK is pending, and no other segment is sent.
     fn sends_bare(&self, out: &Outbox) -> bool
         ensures { result ≡ ((length out.now == 0) && is_ack_pending self.now) }
     {
         out.is_empty() && self.is_ack_pending()
     }
 
-    /// Sends the segment without data, if an ACK is pending and no other segment is sent.
+    /// Sends a segment without data, if an ACK is pending and no other segment is sent.
     #[tactic(auto, unfolding(crate::specs::Output::bare_segment))]
     fn send_pending_ack(&self, out: &mut Outbox)
         requires count { length out.old ≤ 1028 }
@@ -294,7 +294,7 @@ impl Endpoint {
         (self.name.has_begun() || self.name.is_syn_sent()) && self.sender.must_run()
     }
 
-    /// Ends the turn.
+    /// Notes what was advertised, and starts or stops the timer.
     #[tactic(auto, unfolding(crate::specs::Output::with_turn_ended, crate::specs::Output::with_advertised))]
     fn end_turn(&mut self)
         ensures { self.new ≡ with_turn_ended self.old }

@@ -8,9 +8,9 @@ use Rattle.server_trait.specs.Service.{Machine}
 use Rattle.ft_model.specs.Client.{Client}
 use Rattle.ft_model.specs.Legal.{IsLegalFor, Legal, start_of, refusal}
 use Rattle.ft_model.specs.Network.{Packet}
-use Rattle.ft_model.specs.Readable.{FitsEvent, FitsSchedule, IsReadable, IsReadableTurn, IsWord}
+use Rattle.ft_model.specs.Readable.{FitsEvent, FitsSchedule, IsReadable, IsReadableTurn}
 use Rattle.ft_model.specs.Report.{content_words, event_line, packet_count, packet_line, packet_lines, way_of}
-use Rattle.ft_model.specs.Texts.{line, spaced, way_text}
+use Rattle.ft_model.specs.Texts.{line, way_text}
 use Rattle.ft_model.specs.Wire.{wire_of, HasWire}
 use Rattle.ft_model.specs.World.{World, Moment, events_of, world_after}
 use Rattle.ft_model.specs.declared.event.Event.{Event}
@@ -20,7 +20,7 @@ use Rattle.ft_model.specs.declared.line.Line.TheVariants as says
 use Rattle.ft_model.specs.declared.schedule.Schedule.{Schedule}
 use Rattle.ft_model.proofs.ReportContent.{word_way, words_content}
 use Rattle.ft_model.proofs.ReportPackets.{way_fits}
-use Rattle.ft_model.proofs.ReportWords.{all_append, all_weaken, word_decimal}
+use Rattle.ft_model.proofs.ReportWords.{word_decimal}
 use Rattle.line_check.proofs.EventRanges.{askable_of, fits_of}
 use Rattle.plain_world.specs.WorldState.{WorldState, IsAt, Steps}
 use Rattle.report_laws.specs.declared.Law.{Law}
@@ -31,7 +31,7 @@ use Rattle.report_laws.specs.Transitions.Position.{InTurn}
 use Rattle.report_laws.specs.TurnLines.{schedule_through}
 use Rattle.report_laws.specs.Verdict.{IsRejected}
 use Rattle.report_laws.proofs.Accepted.{begun, event_accepted, whole_turn}
-use Rattle.report_laws.proofs.CutLines.{HasNoFeed, lines_cut}
+use Rattle.report_laws.proofs.CutLines.{line_cut}
 use Rattle.report_laws.proofs.EventLines.{event_is_spelled}
 use Rattle.report_laws.proofs.LineLemmas.{events_count}
 use Rattle.report_laws.proofs.WholeReports.{fits_schedule}
@@ -44,18 +44,6 @@ use Rattle.trace_check.specs.Walk.{IsPlayed, IsWalked}
 use Rattle.trace_check.proofs.HeaderLines.{front_grows, leads_on}
 use Rattle.trace_check.proofs.JudgedTurns.{legal_turn_leads, other_turn_decides}
 use Rattle.trace_check.proofs.SentLines.{actor_is}
-
--- a packet's line is cut from what follows it
-all_spaced : (words : List (List ℕ)) → AllByRecursion IsWord words → AllByRecursion HasNoFeed (spaced words)
-all_spaced [] h = tt
-all_spaced (w ∷ words) h =
-    (omega arith, all_append HasNoFeed w (spaced words) (all_weaken (λ c. 32 < c) HasNoFeed (λ c p. omega (arith, p)) w h.0) (all_spaced words h.1))
-
-line_cut : (first : List ℕ) (words : List (List ℕ)) (rest : List ℕ) → AllByRecursion HasNoFeed first → AllByRecursion IsWord words
-    → lines_in (line first words ++ rest) ≡ line first words ∷ lines_in rest
-line_cut first words rest f w =
-    let whole : line first words ≡ (first ++ spaced words) ++ 10 ∷ [] = sym (append_assoc first (spaced words) (10 ∷ [])) in
-    ap (λ l. lines_in (l ++ rest)) whole ∙ (lines_cut (first ++ spaced words) rest (all_append HasNoFeed first (spaced words) f (all_spaced words w)) ∙ ap (λ l. l ∷ lines_in rest) (sym whole))
 
 packet_cut : (schedule : Schedule) (n : ℕ) (packet : Packet) (rest : List ℕ) → n < 2 ^ 64 → IsReadable schedule.server (clients_in schedule) packet
     → lines_in (packet_line n (way_of (clients_in schedule) packet) packet ++ rest) ≡ packet_line n (way_of (clients_in schedule) packet) packet ∷ lines_in rest

@@ -1,5 +1,5 @@
 -- A walk begins after the header of a report, and ends before its closing lines.
-use Rattle.std.proofs.Common.{◌≡◌, ℕ, ◌+◌, ◌-◌, ◌≤◌, List, [], ◌∷◌, ◌++◌, take, drop, length, append_assoc, append-nil, refl, sym, ap, ap₂, ◌∙◌, subst, arith}
+use Rattle.std.proofs.Common.{◌≡◌, ℕ, ◌+◌, ◌-◌, ◌≤◌, List, [], ◌++◌, take, drop, length, append_assoc, append-nil, refl, sym, ap, ap₂, ◌∙◌, subst, arith}
 use Rattle.std.specs.List.{flat_map}
 use Rattle.std.proofs.lemmas.List.{length-map, take-append-drop}
 use Rattle.server_trait.specs.Service.{Machine}
@@ -11,7 +11,6 @@ use Rattle.ft_model.specs.Playable.{IsPlayable}
 use Rattle.ft_model.specs.Report.{client_lines, closing_lines, end_line, event_lines, header, log_line, report}
 use Rattle.ft_model.specs.World.{World, Moment, Joint, world_after, with_client}
 use Rattle.ft_model.specs.declared.line.Draft.TheVariants.{Begun}
-use Rattle.ft_model.specs.declared.schedule.ClientLine.{ClientLine}
 use Rattle.ft_model.specs.declared.schedule.Schedule.{Schedule}
 use Rattle.ft_model.proofs.Happened.{Happened, holds_after}
 use Rattle.ft_model.proofs.Happened.Happened.{log_heard, client_heard, client_moved, server_turned, server_booted, server_down}
@@ -19,10 +18,10 @@ use Rattle.ft_model.proofs.PlayableLemmas.{playable}
 use Rattle.line_check.specs.HeaderText.{header_so_far}
 use Rattle.line_check.proofs.HeaderLines.{header_is}
 use Rattle.plain_world.specs.WorldState.{WorldState, IsAt}
-use Rattle.report_laws.specs.Canonical.{ClientsAccepted, FitsLimit, HeaderAccepted, IsWithinLimits, bare, schedule_bytes}
+use Rattle.report_laws.specs.Canonical.{FitsLimit, HeaderAccepted, IsWithinLimits, bare, schedule_bytes}
 use Rattle.report_laws.specs.Transitions.{IsReport, clients_in}
 use Rattle.report_laws.specs.TurnLines.{schedule_through}
-use Rattle.report_laws.proofs.ReadLines.{own_text_read}
+use Rattle.report_laws.proofs.ReadLines.{own_text_read, clients_short}
 use Rattle.report_laws.proofs.WholeReports.{few_clients, fits_schedule}
 use Rattle.trace_check.specs.declared.check.Yes.{Yes}
 use Rattle.trace_check.specs.declared.walk.Place.{Place}
@@ -51,12 +50,6 @@ one_more service start before sent after h (server_down t e) = stays start befor
 
 clients_count : {State : Type 0} (service : Machine State) (start : World) (trace : List Moment) → Joint service start trace → HasAll start (world_after start trace)
 clients_count service start trace j = holds_after service (HasAll start) start (λ s. refl) (one_more service start) trace j
-
--- the limit of a header's own text
-clients_short : (s : Schedule) (clients : List ClientLine) → FitsLimit (Begun s) → ClientsAccepted s clients → FitsLimit (Begun (record s { clients = s.clients ++ clients }))
-clients_short s [] short h = subst (λ cs. FitsLimit (Begun (record s { clients = cs }))) (sym (append-nil s.clients)) short
-clients_short s (c ∷ more) short h =
-    subst (λ cs. FitsLimit (Begun (record s { clients = cs }))) (append_assoc s.clients (c ∷ []) more) (clients_short (record s { clients = s.clients ++ c ∷ [] }) more h.0.short h.1)
 
 header_short : (schedule : Schedule) → HeaderAccepted schedule → FitsLimit (Begun (record schedule { events = [] }))
 header_short schedule h = clients_short (bare schedule) schedule.clients h.server.short h.clients

@@ -68,7 +68,7 @@ abbrev pub OwnNear : (Key → ℕ) → Packet → Type 0
 OwnNear isn (To_server segment) = FirstNear isn segment
 OwnNear isn _ = Unit {0}
 
-ours_own : (isn : Key → ℕ) (own : ℕ) (packet : Packet) → IsOurs own packet → OwnNear isn packet
+pub ours_own : (isn : Key → ℕ) (own : ℕ) (packet : Packet) → IsOurs own packet → OwnNear isn packet
 ours_own isn own (To_server segment) o = absurd o
 ours_own isn own _ o = tt
 

@@ -244,7 +244,7 @@ near_goes_on service start before sent after o n (server_down s e) =
     subst (SendsNear (isn_of start)) (sym e)
     (record { clients = n.clients; packets = more_near (isn_of start) before sent n (subst (AllByRecursion (PacketNear (isn_of start) before.log)) (sym s) tt) })
 
-start_near : (isn : Key → ℕ) (w : World) → IsStart w → SendsNear isn w
+pub start_near : (isn : Key → ℕ) (w : World) → IsStart w → SendsNear isn w
 start_near isn w s = record {
   clients = all_weaker (IsNewClient w.server) SentWithin w.clients (λ c x. subst SentWithin (sym x.new) (omega arith)) s.clients;
   packets = subst (AllByRecursion (PacketNear isn w.log)) (sym s.packets) tt;

@@ -4,7 +4,7 @@ use Rattle.std.specs.List.{AllByRecursion}
 use Rattle.std.specs.Option.{option_to_list}
 use Rattle.seq_arith.specs.Message.{Message, is_answer}
 use Rattle.server_trait.specs.Service.{Machine}
-use Rattle.ft_io.proofs.Choices.{holds_if, if_false}
+use Rattle.ft_io.proofs.Choices.{holds_if, if_false, if_true}
 use Rattle.ft_model.specs.Log.{empty_log, log_after, answer_to}
 use Rattle.ft_model.specs.Network.{Packet, packet_at, destination_of}
 use Rattle.ft_model.specs.Network.Packet.{To_server, To_client, To_logger, From_logger}
@@ -149,10 +149,6 @@ pub serves : {State : Type 0} (service : Machine State) (first before : TwinWorl
 serves service first before pair name q r sent f s at log answer stands taken are =
     stay service first before (with_pair before pair sent) name (Deliver q) sent f s
     (To_logger r.message, at, (answer, ap (λ l. record (seen before (f.packets ++ outside sent)) { log = l }) log)) stands refl taken are
-
-if_true : {X : Type 0} (b : Bool) (x y : X) → b ≡ true → (if b then x else y) ≡ x
-if_true true x y h = refl
-if_true false x y h = absurd (true≢false (sym h))
 
 -- what is true stays true where the head has taken the same, and the tail has applied as much
 true_with : (p q : Pair) (b : Between) → q.head.taken ≡ p.head.taken → q.tail.applied ≡ p.tail.applied → IsTrueOf p (Inside b) → IsTrueOf q (Inside b)

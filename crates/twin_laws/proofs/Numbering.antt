@@ -3,19 +3,15 @@ use Rattle.std.proofs.Common.{◌≡◌, ℕ, zero, suc, ◌+◌, ◌-◌, Bool,
 use Rattle.ft_model.specs.Network.{Packet, packet_at}
 use Rattle.ft_model.specs.Network.Packet.{To_logger}
 use Rattle.ft_model.proofs.Lists.{none_is_some, some_is}
+use Rattle.ft_model.proofs.Resumed.{get_left}
 use Rattle.twin_laws.specs.Twin.{Request, Between}
 use Rattle.twin_laws.specs.TwinWorld.{Parcel, parcel_at}
 use Rattle.twin_laws.specs.TwinWorld.Parcel.{Outside, Inside}
 use Rattle.twin_laws.specs.Flat.{outside, numbers_of, number_at}
 
-get_more : {A : Type 0} (xs ys : List A) (i : ℕ) (x : A) → slice_get xs i ≡ Some x → slice_get (xs ++ ys) i ≡ Some x
-get_more [] ys i x e = none_is_some x e
-get_more (z ∷ xs) ys zero x e = e
-get_more (z ∷ xs) ys (suc i) x e = get_more xs ys i x e
-
 pub packet_more : (ps more : List Packet) (q : ℕ) (p : Packet) → packet_at ps q ≡ Some p → packet_at (ps ++ more) q ≡ Some p
 packet_more ps more zero p e = none_is_some p e
-packet_more ps more (suc q) p e = get_more ps more q p e
+packet_more ps more (suc q) p e = get_left ps more q p e
 
 -- the parcels that go outside have these numbers
 abbrev pub Named : List Packet → List Parcel → List ℕ → Type 0

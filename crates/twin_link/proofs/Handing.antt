@@ -11,7 +11,8 @@ use Rattle.ft_io.specs.declared.Addr.{Addr}
 use Rattle.ft_io.specs.declared.Failed.{Failed}
 use Rattle.ft_io.specs.declared.link_call.LinkCall.{LinkCall}
 use Rattle.ft_io.specs.declared.link_call.LinkCall.TheVariants.{Handed}
-use Rattle.node_link.proofs.Calls.{tells_on, tells_none, with_both, with_none, few_calls, IsFew}
+use Rattle.ft_io.proofs.Tellings.{tells_on, none_told}
+use Rattle.node_link.proofs.Calls.{with_both, with_none, few_calls, IsFew}
 use Rattle.node_link.specs.Counts.{counts_of, with_calls, HasRoom}
 use Rattle.node_link.specs.declared.counts.Counts.{Counts}
 use Rattle.twin_laws.specs.declared.part.Side.{Side}
@@ -34,7 +35,7 @@ handed to bytes old new c c' (Err e) t k =
 
 -- none
 pub sent_none : (told : Option (List LinkCall)) (c : Counts) → HasSent [] told told c c
-sent_none told c = record { sent = []; datagrams_are = refl; tells = tells_none told; counts_are = sym (with_none c) }
+sent_none told c = record { sent = []; datagrams_are = refl; tells = none_told told; counts_are = sym (with_none c) }
 
 -- by its address
 pub sent_to : (to : Option Addr) (at : Addr) (bytes : List ℕ) (old new : Option (List LinkCall)) (c c' : Counts) (r : Result (Unit {0}) Failed) → to ≡ Some at

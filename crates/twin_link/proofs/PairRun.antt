@@ -6,7 +6,8 @@ use Rattle.ft_io.specs.Told.{Tells}
 use Rattle.ft_io.specs.declared.Addr.{Addr}
 use Rattle.ft_io.specs.declared.link_call.LinkCall.{LinkCall}
 use Rattle.ft_io.specs.declared.link_call.LinkCall.TheVariants.{Bound, Handed}
-use Rattle.node_link.proofs.Calls.{tells_on, tells_none, counts_on, with_both, few_calls, IsFew}
+use Rattle.ft_io.proofs.Tellings.{tells_on, none_told}
+use Rattle.node_link.proofs.Calls.{counts_on, with_both, few_calls, IsFew}
 use Rattle.node_link.specs.Counts.{count_line, counts_of, with_calls, HasRoom}
 use Rattle.node_link.specs.LoggerParts.{IsCutOff}
 use Rattle.node_link.specs.Receipt.{Received, datagram, silence, failure, received_as, IsQuiet}
@@ -62,7 +63,7 @@ room_left c counts r room is =
 -- turns so far
 pub serving_none : (role : PartRole) (s : Standing) (told : Option (List LinkCall)) (counts : Counts) → s ≡ at_start role.part → counts ≡ counts_of [] → IsServing role 0 s told told counts
 serving_none role s told counts is none =
-    record { turns = []; count_is = refl; defined = tt; at_is = is; total = omega arith; tells = tells_none told; counts_are = none }
+    record { turns = []; count_is = refl; defined = tt; at_is = is; total = omega arith; tells = none_told told; counts_are = none }
 
 pub serving_on : (role : PartRole) (i : ℕ) (s after : Standing) (old mid new : Option (List LinkCall)) (c counts : Counts) → IsServing role i s old mid c
     → HasTurned role.other s after mid new c counts → IsServing role (i + 1) after old new counts
@@ -103,7 +104,7 @@ cut_serving role i s old mid new counts cut lt h off t =
 
 -- memory ran out before the first turn
 pub cut_before : (role : PartRole) (told : Option (List LinkCall)) → IsCutServing role told told
-cut_before role told = record { turns = []; cut = []; within = omega arith; defined = tt; cut_off = inl refl; tells = tells_none told }
+cut_before role told = record { turns = []; cut = []; within = omega arith; defined = tt; cut_off = inl refl; tells = none_told told }
 
 -- a whole life
 pub part_done : (role : PartRole) (before mid new : Option (List LinkCall)) (counts : Counts) (Writes : List ℕ → Type 0) → Tells before mid (Bound role.logger.local ∷ [])

@@ -3,11 +3,11 @@ use Rattle.std.proofs.Common.{inl, inr, ℕ, refl, Option, None, Some, List, Err
 use Rattle.server_trait.specs.Service.{Machine}
 use Rattle.disk.specs.declared.calls.DeskCall.{DeskCall}
 use Rattle.ft_io.specs.declared.link_call.LinkCall.{LinkCall}
+use Rattle.ft_io.proofs.Tellings.{none_told}
 use Rattle.node_link.specs.Ends.{TellsEnd}
 use Rattle.node_link.specs.Outcome.{Given, IsTold, Lives, HasEndedWith}
 use Rattle.node_link.specs.declared.role.Role.{Role}
 use Rattle.node_link.specs.declared.status.NodeEnd.TheVariants as ends
-use Rattle.node_link.proofs.Calls.{tells_none}
 use Rattle.journal_link.specs.Outcome as journal
 use Rattle.journal_link.specs.declared.role.JournalRole.{JournalRole}
 use Rattle.journal_link.specs.declared.status.JournalEnd.TheVariants.{Node}
@@ -33,7 +33,7 @@ module _ (err_old err_new : Option (List ℕ)) (faults_old faults_new code : ℕ
 
   pub unread_kept : (role : JournalRole) (file : Option (List ℕ)) (calls : Option (List DeskCall)) (out : Option (List ℕ)) → TellsEnd ends.NoMemory err_old err_new faults_old faults_new code
       → journal.HasKept role file calls calls out out err_old err_new code
-  unread_kept role file calls out t = record { end = Err (Node ends.NoMemory); keeps = (inl (tells_none calls), refl); told = told_journal t }
+  unread_kept role file calls out t = record { end = Err (Node ends.NoMemory); keeps = (inl (none_told calls), refl); told = told_journal t }
 
   pub unread_twin : (role : TwinRole) (calls : Option (List LinkCall)) (out : Option (List ℕ)) → TellsEnd ends.NoMemory err_old err_new faults_old faults_new code
       → HasLived role calls calls out out err_old err_new code

@@ -1,5 +1,5 @@
 -- What was written at the front of some room, and what is after it.
-use Rattle.std.proofs.Common.{◌≡◌, ◌∙◌, ℕ, zero, suc, ◌+◌, ◌<◌, ◌≤◌, sym, ap, arith, refl, subst, append_assoc, get_or, List, [], ◌∷◌, ◌++◌, length, length-append, take, drop}
+use Rattle.std.proofs.Common.{◌≡◌, ◌∙◌, ℕ, zero, suc, ◌+◌, ◌<◌, sym, ap, arith, refl, subst, append_assoc, get_or, List, [], ◌∷◌, ◌++◌, length, length-append, take, drop}
 use Rattle.std.specs.Prelude.{slice_get, Some}
 use Rattle.ft_io.proofs.Choices.{same_some}
 use Rattle.ft_model.proofs.Lists.{none_is_some}
@@ -24,11 +24,6 @@ read_in_front n xs front i x is within read =
     let inside : i < length (take n xs) = subst (λ ys. i < length ys) (sym is) within
     in let all : i < length xs = omega (arith, inside, length-take n xs)
     in ap (λ ys. slice_get ys i) (sym is) ∙ in_front n xs i inside ∙ slice_get_read xs (length xs) i x refl all read
-
-pub at_within : {A : Type 0} (xs : List A) (i : ℕ) (x : A) → slice_get xs i ≡ Some x → i < length xs
-at_within [] i x e = none_is_some x e
-at_within (y ∷ xs) zero x e = omega arith
-at_within (y ∷ xs) (suc i) x e = let less : i < length xs = at_within xs i x e in omega (arith, less)
 
 -- one Forward more
 pub forward_more : (confirmed i : ℕ) (messages : List (List ℕ)) (message : List ℕ) → slice_get messages i ≡ Some message

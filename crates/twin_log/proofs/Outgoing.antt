@@ -3,7 +3,7 @@ use Rattle.std.proofs.Common.{◌≡◌, ℕ, zero, suc, ◌+◌, ◌^◌, ◌<�
 use Rattle.std.specs.Prelude.{Option, Some, None, slice_get}
 use Rattle.std.specs.declared.alloc.Global.{Global}
 use Rattle.std.proofs.lemmas.List.{length-map}
-use Rattle.ft_model.proofs.Lists.{all_slice_get}
+use Rattle.ft_model.proofs.Lists.{all_slice_get, index_within}
 use Rattle.seq_arith.specs.Message.{Message}
 use Rattle.seq_arith.specs.Message.Body.{HelloMsg}
 use Rattle.seq_arith.specs.MessageGrammar as messages
@@ -15,7 +15,6 @@ use Rattle.twin_laws.specs.declared.part.Side.TheVariants as sides
 use Rattle.twin_laws.specs.StoredState.{answers_sent}
 use Rattle.twin_laws.proofs.Asking.{forward_spells, got_spells}
 use Rattle.twin_log.specs.Outbox.{answer_out, AreAsking, texts_of}
-use Rattle.twin_log.proofs.Fronts.{at_within}
 
 pub answer_some : (bytes : List ℕ) → (length bytes == 0) ≡ false → answer_out bytes ≡ (sides.Server, bytes) ∷ []
 answer_some [] some = absurd (true≢false some)
@@ -60,7 +59,7 @@ bytes_spell number bytes some few is =
 pub forward_fits : (confirmed i : ℕ) (held : List (Vec ℕ Global)) (text : List ℕ) → AreAsking (texts_of held) → confirmed + length held < 2 ^ 64
     → slice_get (texts_of held) i ≡ Some text → IsSpellable (datagrams.Forward (confirmed + i + 1) text)
 forward_fits confirmed i held text all few at =
-    let within : i < length (texts_of held) = at_within (texts_of held) i text at
+    let within : i < length (texts_of held) = index_within (texts_of held) i text at
     in let count : length (texts_of held) ≡ length held = length-map held (λ v. v.items)
     in bytes_spell (confirmed + i + 1) text (omega arith) (omega (arith, within, count, few)) (asking_at (texts_of held) i text all at)
 

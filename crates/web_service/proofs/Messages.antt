@@ -1,9 +1,10 @@
 -- A message is read as the request that its lines say.
 use Rattle.std.proofs.Common.{◌≡◌, ℕ, ◌+◌, ◌-◌, ◌<◌, ◌≤◌, ◌==◌, Bool, true, false, List, [], ◌∷◌, ◌++◌, length, refl, sym, ◌∙◌, ap, subst, arith, append_assoc, append-nil, length-append}
-use Rattle.std.specs.Prelude.{Option, Some, None, Result, Ok, Err, ◌&&◌, nat_lt, codes, if◌then◌else◌}
+use Rattle.std.specs.Prelude.{Option, Some, None, Result, Ok, Err, nat_lt, codes, if◌then◌else◌}
 use Rattle.std.specs.List.{list_all}
 use Rattle.std.proofs.lemmas.Bool.Decides.{nat_tests}
 use Rattle.std.proofs.Math.Seq.{drop-append_seam, take-append_seam}
+use Rattle.ft_io.proofs.Booleans.{left_true, right_true}
 use Rattle.web_service.specs.declared.request.Request.{Request}
 use Rattle.web_service.specs.declared.answer.Status.{Status}
 use Rattle.web_service.specs.declared.answer.Reply.{Reply}
@@ -44,14 +45,6 @@ no_feed : (byte : ℕ) (is : Bool) → (byte == 10) ≡ is → is_plain_byte byt
 no_feed byte true is plain = let same : byte ≡ 10 = grind (arith, nat_tests) in let wrong : is_plain_byte 10 ≡ true = subst (λ (b : ℕ). is_plain_byte b ≡ true) same plain in cc
 no_feed byte false is plain = is
 
-and_first : (a b : Bool) → (a && b) ≡ true → a ≡ true
-and_first true b both = refl
-and_first false b both = both
-
-and_second : (a b : Bool) → (a && b) ≡ true → b ≡ true
-and_second true b both = both
-and_second false b both = cc
-
 -- bytes of a line are read by `line_byte`
 abbrev InLine : Stage → Type 0
 InLine stage = (reading : Reading) (byte : ℕ) → staged_byte stage reading byte ≡ line_byte reading byte
@@ -79,8 +72,8 @@ line_reads stage held [] rest size in_line plain fits =
     ∙ ap (λ (line : List ℕ). after_line (line_end stage (size + 1 + 1) line) rest) (without_one held ∙ sym (append-nil held))
     ∙ ap (λ (n : ℕ). after_line (line_end stage n (held ++ [])) rest) (omega arith)
 line_reads stage held (byte ∷ line) rest size in_line plain fits =
-    let first = and_first (is_plain_byte byte) (list_all is_plain_byte line) plain in
-    let others = and_second (is_plain_byte byte) (list_all is_plain_byte line) plain in
+    let first = left_true (is_plain_byte byte) (list_all is_plain_byte line) plain in
+    let others = right_true (is_plain_byte byte) (list_all is_plain_byte line) plain in
     one_longer stage held size byte (line ++ 13 ∷ 10 ∷ rest) in_line (omega arith) (no_feed byte (byte == 10) refl first)
     ∙ line_reads stage (held ++ byte ∷ []) line rest (size + 1) in_line others (omega arith)
     ∙ ap (λ (bytes : List ℕ). after_line (line_end stage (size + 1 + length line + 2) bytes) rest) (append_assoc held (byte ∷ []) line)
@@ -97,7 +90,7 @@ request_line_is_plain line request is = plain_choice (is_plain line) _ request _
 
 field_line_is_plain : (request next : Request) (line : List ℕ) → with_field request line ≡ Ok next → list_all is_plain_byte line ≡ true
 unfolding with_field is_plain
-field_line_is_plain request next line is = and_first (is_plain line) _ (and_first _ _ (plain_choice _ _ next _ is))
+field_line_is_plain request next line is = left_true (is_plain line) _ (left_true _ _ (plain_choice _ _ next _ is))
 
 length_test : (x : ℕ) (xs : List ℕ) → (length (x ∷ xs) == 0) ≡ false
 length_test x xs = grind arith

@@ -1,5 +1,5 @@
 -- The service writes the replies that are due in its bytes, however these are cut.
-use Rattle.std.proofs.Common.{◌≡◌, ℕ, ◌-◌, ◌<◌, ◌≤◌, ◌==◌, Bool, true, false, List, [], ◌∷◌, ◌++◌, length, refl, sym, ◌∙◌, ap, subst, arith, append-nil, append_assoc, length-append}
+use Rattle.std.proofs.Common.{◌≡◌, ℕ, ◌-◌, ◌<◌, ◌≤◌, Bool, true, false, List, [], ◌∷◌, ◌++◌, length, refl, sym, ◌∙◌, ap, subst, arith, append-nil, append_assoc, length-append}
 use Rattle.std.specs.Prelude.{Option, Some, None, ◌||◌, nat_lt, if◌then◌else◌}
 use Rattle.std.proofs.lemmas.Bool.Decides.{nat_tests}
 use Rattle.std.proofs.lemmas.List.Folds.{list_any-append}
@@ -7,6 +7,7 @@ use Rattle.std.proofs.lemmas.List.Elements.{All-head, All-tail}
 use Rattle.server_trait.specs.Service.{Served, Run, with_served, fold_from}
 use Rattle.sample_servers.specs.Stream.{and_then, each_byte}
 use Rattle.sample_servers.specs.Cuts.{joined, NoneEmpty}
+use Rattle.sample_servers.proofs.Cuts.{length_test}
 use Rattle.web_service.specs.declared.request.Request.{Request}
 use Rattle.web_service.specs.declared.answer.Reply.{Reply}
 use Rattle.web_service.specs.declared.answer.Reply.TheVariants.{Answer, Refusal}
@@ -109,9 +110,6 @@ pub record Runs (before : List ℕ) (replies : List Reply) (run : Run WebState) 
 
 abbrev pub open_run : WebState → List ℕ → Run WebState
 open_run state output = record { state = state; output = output; closed = false }
-
-length_test : (chunk : List ℕ) → 0 < length chunk → (length chunk == 0) ≡ false
-length_test chunk some = grind arith
 
 runs_on : (state : WebState) (before output : List ℕ) (closed : Bool) (here later : List Reply) (next : Reading) (chunks : List (List ℕ))
     → Gives here next (record { next = state; output = output; closed = closed })

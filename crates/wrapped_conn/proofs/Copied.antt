@@ -79,7 +79,7 @@ pub start_from : {S : Type 0} (before : Before) (segment : Segment) (c : ConnSta
 unfolding further_start
 start_from before segment c logged taken end own inner start a b few d e f h = omega (arith, a, b, few, d, e, f, h)
 
-last_true : (a b c d : Bool) → (a && b && c && d) ≡ true → d ≡ true
+pub last_true : (a b c d : Bool) → (a && b && c && d) ≡ true → d ≡ true
 last_true false b c d h = absurd (false≢true h)
 last_true true false c d h = absurd (false≢true h)
 last_true true true false d h = absurd (false≢true h)

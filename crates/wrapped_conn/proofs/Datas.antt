@@ -8,7 +8,6 @@ use Rattle.ft_io.proofs.Choices.{by_cases, if_false}
 use Rattle.seq_arith.specs.Message.{Body}
 use Rattle.seq_arith.specs.Message.Body.{DataMsg}
 use Rattle.ft_model.specs.Copy.{datas}
-use Rattle.ft_model.proofs.Resumed.{map_append}
 use Rattle.wrapped_conn.specs.ConnState.{ConnState}
 use Rattle.wrapped_conn.specs.Numbers.{una_units}
 use Rattle.wrapped_conn.specs.LoggerMessages.{spelled, datas_of}

@@ -1,6 +1,5 @@
 -- The end of TCP's turn, and a tick, keep a connection sound.
 use Rattle.std.proofs.Common.{◌≡◌, ℕ, ◌<◌, ◌≤◌, ◌+◌, ◌%◌, ◌^◌, Bool, true, false, length, refl, sym, ap, subst, arith, ◌∙◌}
-use Rattle.std.proofs.lemmas.Bool.{false≢true}
 use Rattle.std.specs.Prelude.{◌==◌, if◌then◌else◌}
 use Rattle.seq_arith.specs.Number.{distance, number_at}
 use Rattle.tcp_endpoint.specs.States.{is_listen, has_begun}

@@ -1,7 +1,6 @@
 -- What news and the end of a turn leave of TCP, whatever comes.
-use Rattle.std.proofs.Common.{◌≡◌, ℕ, ◌<◌, ◌≤◌, ◌+◌, ◌-◌, ◌^◌, Bool, true, false, List, ◌++◌, length, length-append, take, drop, max, min, refl, sym, subst, arith, ◌∙◌}
-use Rattle.std.specs.Prelude.{ℤ, pos, ◌||◌, nat_abs, int_lt, if◌then◌else◌}
-use Rattle.std.proofs.lemmas.List.{length-take}
+use Rattle.std.proofs.Common.{◌≡◌, ℕ, ◌<◌, ◌≤◌, ◌+◌, ◌-◌, ◌^◌, Bool, true, false, List, ◌++◌, length, length-append, drop, max, refl, sym, subst, arith, ◌∙◌}
+use Rattle.std.specs.Prelude.{ℤ, nat_abs, if◌then◌else◌}
 use Rattle.std.proofs.lemmas.Bool.{false≢true}
 use Rattle.seq_arith.specs.Number.{offset_of}
 use Rattle.seq_arith.specs.Arrival.{is_new_ack}

@@ -1,5 +1,5 @@
 -- A turn of the north wrapper keeps it and TCP sound: what it writes has room in the stream, and what it reads is there.
-use Rattle.std.proofs.Common.{◌≡◌, ℕ, zero, suc, ◌<◌, ◌≤◌, ◌+◌, ◌-◌, ◌^◌, ◌==◌, ◌&&◌, ◌||◌, Bool, true, false, true≢false, not, min, max, nat_lt, refl, sym, ◌∙◌, subst, Some, None, List, [], ◌∷◌, ◌++◌, length, take, drop, arith, length-append, length-drop, length-take, if◌then◌else◌}
+use Rattle.std.proofs.Common.{◌≡◌, ℕ, zero, suc, ◌<◌, ◌≤◌, ◌+◌, ◌-◌, ◌^◌, ◌==◌, ◌&&◌, ◌||◌, Bool, true, false, true≢false, not, min, max, nat_lt, refl, sym, ◌∙◌, subst, Some, None, List, [], ◌∷◌, ◌++◌, length, take, drop, arith, length-append, length-drop, length-take}
 use Rattle.std.proofs.lemmas.Bool.{false≢true, or_parts}
 use Rattle.std.specs.List.{AllByRecursion}
 use Rattle.seq_arith.specs.Offset.{one_if}
@@ -20,6 +20,7 @@ use Rattle.wrapped_conn.specs.LoggerMessages.{IsTellable, AreTellable}
 use Rattle.wrapped_conn.specs.Sound.{has_peer, AreSound}
 use Rattle.seq_arith.proofs.Units.{one_at_most}
 use Rattle.ft_io.proofs.Choices.{holds_if}
+use Rattle.connection_laws.proofs.Fed.{room_none}
 
 -- wrapper and TCP have gone on from others, and no segment came
 pub record ServedOn {S : Type 0} (fetched : ℕ) (n : NorthState S) (e : Tcb) (m : NorthState S) (t : Tcb) : Type 0 where
@@ -189,17 +190,12 @@ all_reads after una fetched n e (k ∷ ks) m t short s reads =
     let one = read_step after una fetched k n e short s reads.0 in
     on_and fetched n e _ _ m t one (all_reads after una fetched (read_on after e.receiving.unread k n) (socket_on tcp_reader k n e) ks m t short one.sound reads.1)
 
--- output is given: no more than waits, and none once TCP is closed
-no_room : (c r : Bool) (n : ℕ) → c ≡ true → (if c || r then 0 else n) ≡ 0
-no_room true r n h = refl
-no_room false r n h = absurd (false≢true h)
-
 written_few : {S : Type 0} (fetched : ℕ) (n : NorthState S) (e : Tcb) → AreSound fetched n e
     → e.sending.una + length e.sending.held + length (gives (write_room e) (unreleased n) n.run) ≤ 2 ^ 24 + one_if e.sending.fin_sent
 written_few fetched n e s = by_closed e.sending.closed refl
   where
     by_closed : (c : Bool) → e.sending.closed ≡ c → e.sending.una + length e.sending.held + length (gives (write_room e) (unreleased n) n.run) ≤ 2 ^ 24 + one_if e.sending.fin_sent
-    by_closed true h = let room : write_room e ≡ 0 = no_room e.sending.closed e.reset _ h in omega (arith, room, s.tcp.bounds.written, length-take (given_count (write_room e) (unreleased n) n.run) n.run.pending)
+    by_closed true h = let room : write_room e ≡ 0 = room_none e.sending.closed e.reset _ h in omega (arith, room, s.tcp.bounds.written, length-take (given_count (write_room e) (unreleased n) n.run) n.run.pending)
     by_closed false h = omega (arith, s.written h, s.made, length-take (given_count (write_room e) (unreleased n) n.run) n.run.pending)
 
 given_on : {S : Type 0} (fetched : ℕ) (n : NorthState S) (e : Tcb) → AreSound fetched n e → AreSound fetched (given_north tcp_writer n e) (given_socket tcp_writer n e)

@@ -1,9 +1,9 @@
 -- What a connection tells may be sent.
-use Rattle.std.proofs.Common.{◌≡◌, ℕ, ◌<◌, ◌≤◌, ◌+◌, ◌^◌, ◌==◌, Bool, true, false, ◌&&◌, nat_le, refl, List, length, arith}
-use mir.Val.{bool_byte}
+use Rattle.std.proofs.Common.{ℕ, ◌<◌, ◌≤◌, ◌+◌, ◌^◌, ◌==◌, true, ◌&&◌, nat_le, refl, List, length, arith}
 use Rattle.std.specs.Borrow.{Bor}
-use Rattle.std.proofs.lemmas.Bool.{and_from, false≢true, and_parts}
+use Rattle.std.proofs.lemmas.Bool.{and_from, and_parts}
 use Rattle.ft_io.specs.declared.Key.{Key}
+use Rattle.ft_io.proofs.Numbers.{at_most_of_test}
 use Rattle.seq_arith.specs.MessageGrammar.{flag, is_sound, has_length}
 use Rattle.logger_wire.specs.declared.Body.{Body}
 use Rattle.logger_wire.specs.declared.Body.TheVariants as body
@@ -13,10 +13,6 @@ use Rattle.ft_model.proofs.Wires.{flag_low, is_low, has_size}
 pub record FitsKey (key : Key) : Type 0 where
   pub ip : key.ip < 2 ^ 32
   pub port : key.port < 2 ^ 16
-
-pub byte_low : (b : Bool) → bool_byte b ≤ 1
-byte_low true = omega arith
-byte_low false = omega arith
 
 pub done_sendable : (boot : ℕ) (key : Key) → 1 ≤ boot → boot < 2 ^ 64 → FitsKey key → IsSendable (record { boot = boot; body = body.DoneMsg key })
 unfolding is_sound has_length
@@ -49,8 +45,8 @@ read_sendable boot key index count live fits k few short = record {
 pub data_sendable : (boot : ℕ) (key : Key) (offset acked fin : ℕ) (bytes : Bor (List ℕ)) → 1 ≤ boot → boot < 2 ^ 64 → FitsKey key → offset + length bytes.now ≤ 2 ^ 24 → acked ≤ 2 ^ 24 + 1
     → fin ≤ 1 → length bytes.now ≤ 1460 → IsSendable (record { boot = boot; body = body.DataMsg key offset acked fin bytes })
 unfolding is_sound has_length
-data_sendable boot key offset acked fin bytes live fits k within few low short = record {
-  flags = and_from _ true (is_low fin 1 low) refl;
+data_sendable boot key offset acked fin bytes live fits k within few at_most_of_test short = record {
+  flags = and_from _ true (is_low fin 1 at_most_of_test) refl;
   lens = refl;
   spellable = record {
     boot = omega (arith, fits);
@@ -61,10 +57,6 @@ data_sendable boot key offset acked fin bytes live fits k within few low short =
   };
 }
 
--- a count of bytes that is told is within a stream
-low : (m n : ℕ) → nat_le m n ≡ true → m ≤ n
-low m n h = grind (arith, h)
-
 abbrev pub HasLowLength : Body → Type 0
 HasLowLength (body.StableMsg key length fin reads) = length ≤ 2 ^ 24
 HasLowLength (body.ReadsMsg key length fin reads) = length ≤ 2 ^ 24
@@ -72,6 +64,6 @@ HasLowLength _ = Unit {0}
 
 pub length_low : (boot : ℕ) (said : Body) → IsSendable (record { boot = boot; body = said }) → HasLowLength said
 unfolding is_sound
-length_low boot (body.StableMsg key length fin reads) s = low length (2 ^ 24) (and_parts _ _ (and_parts _ _ (and_parts _ _ s.spellable.sound).0).1).0
-length_low boot (body.ReadsMsg key length fin reads) s = low length (2 ^ 24) (and_parts _ _ (and_parts _ _ (and_parts _ _ s.spellable.sound).0).1).0
+length_low boot (body.StableMsg key length fin reads) s = at_most_of_test length (2 ^ 24) (and_parts _ _ (and_parts _ _ (and_parts _ _ s.spellable.sound).0).1).0
+length_low boot (body.ReadsMsg key length fin reads) s = at_most_of_test length (2 ^ 24) (and_parts _ _ (and_parts _ _ (and_parts _ _ s.spellable.sound).0).1).0
 length_low boot _ s = tt

@@ -1,5 +1,5 @@
 -- Messages, one after the other.
-use Rattle.std.proofs.Common.{◌≡◌, ℕ, zero, suc, ◌<◌, ◌≤◌, ◌+◌, ◌*◌, ◌^◌, Bool, true, false, sym, ap, subst, ◌∙◌, List, [], ◌∷◌, ◌++◌, length, drop, arith, length-append, append_assoc}
+use Rattle.std.proofs.Common.{◌≡◌, ℕ, zero, suc, ◌<◌, ◌≤◌, ◌+◌, ◌^◌, Bool, true, false, sym, ap, subst, ◌∙◌, List, [], ◌∷◌, ◌++◌, length, drop, arith, append_assoc}
 use Rattle.std.specs.Prelude.{slice_get, IfSome}
 use Rattle.std.specs.Bool.{OnTrue, OnFalse}
 use Rattle.seq_arith.specs.Message.Body.{ReadMsg}

@@ -1,4 +1,4 @@
-use Rattle.endpoint_laws.proofs.Announced.{acknowledges_law}
+use Rattle.endpoint_laws.proofs.Advertised.{acknowledges_law}
 use Rattle.endpoint_laws.proofs.laws.endpoints_acknowledge_all_that_they_took.Goals as goal
 
 pub returns : goal.returns

@@ -1,4 +1,4 @@
-use Rattle.endpoint_laws.proofs.Announced.{advertises_law}
+use Rattle.endpoint_laws.proofs.Advertised.{advertises_law}
 use Rattle.endpoint_laws.proofs.laws.segments_acknowledge_all_that_is_taken.Goals as goal
 
 pub returns : goal.returns

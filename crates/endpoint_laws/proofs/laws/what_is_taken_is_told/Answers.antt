@@ -1,4 +1,4 @@
-use Rattle.endpoint_laws.proofs.Announced.{all_told_law}
+use Rattle.endpoint_laws.proofs.Advertised.{all_told_law}
 use Rattle.endpoint_laws.proofs.laws.what_is_taken_is_told.Goals as goal
 
 pub returns : goal.returns

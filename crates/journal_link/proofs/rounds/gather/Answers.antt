@@ -1,5 +1,5 @@
 use Rattle.std.proofs.Common.{◌∙◌}
-use Rattle.disk.proofs.Telling.{at_err}
+use Rattle.ft_io.proofs.Outcomes.{at_err}
 use Rattle.journal_link.proofs.Gathering.{room_to_receive, gathering_cut, gathered_with, gathering_on}
 use Rattle.journal_link.proofs.rounds.gather.Goals as goal
 

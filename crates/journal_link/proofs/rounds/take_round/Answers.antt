@@ -1,6 +1,6 @@
 use Rattle.std.proofs.Common.{arith, length, subst, sym}
 use Rattle.node_link.specs.Counts.{HasRoom}
-use Rattle.disk.proofs.Telling.{at_err}
+use Rattle.ft_io.proofs.Outcomes.{at_err}
 use Rattle.journal_link.specs.RoundParts.{HasAnswered}
 use Rattle.journal_link.proofs.Rounding.{cut_by_commit, room_to_answer, turned}
 use Rattle.journal_link.proofs.rounds.take_round.Goals as goal

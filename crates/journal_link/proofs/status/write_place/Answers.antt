@@ -4,19 +4,20 @@ use Rattle.std.specs.Io.KnownBytes.{Appends}
 use Rattle.std.proofs.KnownBytes.{Appends-trans}
 use Rattle.std.proofs.lemmas.Result.{on_ok_weaker, on_err_weaker}
 use Rattle.ft_io.specs.Sink.{AppendsFront}
-use Rattle.node_link.proofs.Fronts.{front_before, at_failed}
-use Rattle.journal_link.proofs.EndReport.{front_more}
+use Rattle.node_link.proofs.Fronts.{front_before}
+use Rattle.ft_io.proofs.Outcomes.{at_err}
+use Rattle.node_link.proofs.ClientRunning.{front_more}
 use Rattle.journal_link.proofs.status.write_place.Goals as goal
 
 pub returns-in_err-write_all-clause-front : goal.returns-in_err-write_all-clause-front
 returns-in_err-write_all-clause-front g c =
-    at_failed c.from_residual.result
+    at_err c.from_residual.result
     (front_before (g.E.Sink.taken c.args.err.now) (g.E.Sink.taken c.write_all.new.out) (codes "ftnode: journal: byte ") (decimal c.args.at ++ codes "\n") c.in_err-write_all.ensures.front)
 
 pub returns-in_err-write_all-2-clause-front : goal.returns-in_err-write_all-2-clause-front
 returns-in_err-write_all-2-clause-front g c =
     let number = subst (AppendsFront (g.E.Sink.taken c.write_all.new.out) (g.E.Sink.taken c.write_all-2.new.out)) (c.as_bytes.ensures.value ∙ c.format.ensures.text) c.in_err-write_all-2.ensures.front in
-    at_failed c.from_residual-in_err-write_all-2.result
+    at_err c.from_residual-in_err-write_all-2.result
     (front_more (g.E.Sink.taken c.args.err.now) (g.E.Sink.taken c.write_all.new.out) (g.E.Sink.taken c.write_all-2.new.out) (codes "ftnode: journal: byte ") (decimal c.args.at ++ codes "\n")
     c.in_ok-write_all.ensures.whole
     (front_before (g.E.Sink.taken c.write_all.new.out) (g.E.Sink.taken c.write_all-2.new.out) (decimal c.args.at) (codes "\n") number))

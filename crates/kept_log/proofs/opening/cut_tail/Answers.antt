@@ -1,7 +1,7 @@
 use Rattle.std.proofs.Common.{◌+◌, [], ◌∷◌, false}
 use Rattle.std.proofs.lemmas.Result.{on_err_weaker}
 use Rattle.disk.specs.declared.calls.DiskCall.TheVariants.{Cut, Synced}
-use Rattle.disk.proofs.Telling.{at_err}
+use Rattle.ft_io.proofs.Outcomes.{at_err}
 use Rattle.kept_log.proofs.Settled.{IsFrontTold, first_failed, sync_failed, some_cut}
 use Rattle.kept_log.proofs.opening.cut_tail.Goals as goal
 

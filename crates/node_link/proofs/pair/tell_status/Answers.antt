@@ -6,20 +6,21 @@ use Rattle.std.proofs.KnownBytes.{Appends-trans}
 use Rattle.std.proofs.lemmas.Result.{on_ok_weaker, on_err_weaker}
 use Rattle.ft_io.specs.Sink.{AppendsFront}
 use Rattle.node_link.specs.Pair.{status_text}
-use Rattle.node_link.proofs.Fronts.{front_before, at_failed}
+use Rattle.node_link.proofs.Fronts.{front_before}
+use Rattle.ft_io.proofs.Outcomes.{at_err}
 use Rattle.node_link.proofs.pair.tell_status.Goals as goal
 use Rattle.node_link.proofs.ClientRunning.{front_more}
 
 pub returns-in_err-write_all-clause-front : goal.returns-in_err-write_all-clause-front
 returns-in_err-write_all-clause-front g c =
     let text = subst (AppendsFront (g.O.Sink.taken c.args.out.now) (g.O.Sink.taken c.write_all.new.out)) c.status_text.ensures c.in_err-write_all.ensures.front in
-    at_failed c.from_residual.result
+    at_err c.from_residual.result
     (front_before (g.O.Sink.taken c.args.out.now) (g.O.Sink.taken c.write_all.new.out) (status_text c.args.name) (signed_decimal c.args.status ++ codes "\n") text)
 
 pub returns-in_err-write_number-clause-front : goal.returns-in_err-write_number-clause-front
 returns-in_err-write_number-clause-front g c =
     let text = subst (Appends (g.O.Sink.taken c.args.out.now) (g.O.Sink.taken c.write_all.new.out)) c.status_text.ensures c.in_ok-write_all.ensures.whole in
-    at_failed c.from_residual-in_err-write_number.result
+    at_err c.from_residual-in_err-write_number.result
     (front_more (g.O.Sink.taken c.args.out.now) (g.O.Sink.taken c.write_all.new.out) (g.O.Sink.taken c.write_number.new.out) (status_text c.args.name) (signed_decimal c.args.status ++ codes "\n")
     text
     (front_before (g.O.Sink.taken c.write_all.new.out) (g.O.Sink.taken c.write_number.new.out) (signed_decimal c.args.status) (codes "\n")

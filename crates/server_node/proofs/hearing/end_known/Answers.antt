@@ -9,7 +9,8 @@ use Rattle.ft_model.proofs.Lists.{none_is_some}
 use Rattle.server_node.specs.Alone.{SlotsAlone}
 use Rattle.server_node.proofs.Heard.{only_its_key, its_key}
 use Rattle.server_node.proofs.Keyed.{set_alone, same_alone, quiet_for}
-use Rattle.server_node.proofs.OneKey.{one_goes, none_goes, none_found, all_units}
+use Rattle.server_node.proofs.OneKey.{one_goes, none_goes, none_found}
+use Rattle.ft_model.proofs.ToldOver.{all_unit}
 use Rattle.server_node.proofs.Opened.{ends}
 use Rattle.server_node.proofs.Sound.{sound_found, sound_set, sound_ended}
 use Rattle.server_node.proofs.hearing.end_known.Goals as goal
@@ -22,7 +23,7 @@ returns-in-Some-clause-turn g c = λ service node places message told is st.
     subst (λ xs. AllSlotsGo service node (Message_comes message) places xs told told) (sym (c.get_mut.follows.holds c.end_slot.new.slot).0)
     (subst (λ m. AllSlotsGo service node (Message_comes m) places (set_value (key_eq c.args.key) es c.end_slot.new.slot) told told) (sym is)
     (one_goes service node (Message_comes ended) c.args.key (only_its_key node ended c.args.key (λ k. refl)) (λ place. Unit {0}) es places c.in-Some.slot.now c.end_slot.new.slot told told
-    st c.get_mut.ensures.unique found (all_units places)
+    st c.get_mut.ensures.unique found (all_unit places)
     (λ place u at. subst (λ s. SlotGoes service node (Message_comes ended) c.args.key place s told told) (sym c.end_slot.ensures)
     (ends service node ended refl c.args.key (λ k. refl) refl place c.in-Some.slot.now told at))))
 

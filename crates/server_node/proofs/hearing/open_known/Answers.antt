@@ -13,7 +13,8 @@ use Rattle.server_node.specs.Slots.{numbers_of, AllSlotsGo, AllSound}
 use Rattle.server_node.specs.Alone.{SlotsAlone}
 use Rattle.server_node.proofs.Heard.{only_its_key, its_key}
 use Rattle.server_node.proofs.Keyed.{set_alone, drop_alone, quiet_for}
-use Rattle.server_node.proofs.OneKey.{one_goes, one_leaves, all_units}
+use Rattle.server_node.proofs.OneKey.{one_goes, one_leaves}
+use Rattle.ft_model.proofs.ToldOver.{all_unit}
 use Rattle.server_node.proofs.Opened.{none_pending, none_pending_alone, pending_found, opening_drops, opening_lives}
 use Rattle.server_node.proofs.Sound.{sound_set, sound_drop}
 use Rattle.server_node.proofs.hearing.open_known.Goals as goal
@@ -53,7 +54,7 @@ returns-clause-turn g c = λ message is stage places near st.
     subst (λ m. AllSlotsGo service node (Message_comes m) places c.put_slot.new.slots.entries c.args.turn.now.sent.items c.begin_live.new.turn.sent.items) (sym is)
     (subst (λ xs. AllSlotsGo service node (Message_comes opened) places xs c.args.turn.now.sent.items c.begin_live.new.turn.sent.items) (sym c.put_slot.ensures)
     (one_goes service node (Message_comes opened) c.args.key (only_its_key node opened c.args.key (λ k. refl)) (λ place. Unit {0}) es places (slot.Pending c.in-Some.opening)
-    (slot.Live c.in_ok-conn.conn) c.args.turn.now.sent.items c.begin_live.new.turn.sent.items st c.opening_at.ensures.unique found (all_units places)
+    (slot.Live c.in_ok-conn.conn) c.args.turn.now.sent.items c.begin_live.new.turn.sent.items st c.opening_at.ensures.unique found (all_unit places)
     (λ place u at. opening_lives service node opened refl c.args.key (λ k. refl) c.args.numbers refl place c.in-Some.opening c.in_ok-conn.conn
     c.args.turn.now.sent.items c.begin_live.new.turn.sent.items at (search rules) c.in_ok-conn.ensures.turn)))
 

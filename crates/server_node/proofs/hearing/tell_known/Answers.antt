@@ -7,7 +7,8 @@ use Rattle.ft_model.specs.Node.Input.{Message_comes}
 use Rattle.server_node.specs.Alone.{SlotsAlone}
 use Rattle.server_node.specs.Identity.{node_of}
 use Rattle.server_node.specs.Slots.{AllSlotsGo, AllSound}
-use Rattle.server_node.proofs.OneKey.{one_goes, none_goes, none_found, all_units}
+use Rattle.server_node.proofs.OneKey.{one_goes, none_goes, none_found}
+use Rattle.ft_model.proofs.ToldOver.{all_unit}
 use Rattle.ft_model.proofs.Lists.{none_is_some}
 use Rattle.server_node.proofs.Heard.{only_its_key, its_key, logged_names}
 use Rattle.server_node.proofs.Keyed.{set_alone, same_alone}
@@ -29,7 +30,7 @@ returns-in_ok-tell_slot-clause-turn g c = λ kept log stage places near st.
     (sym (c.get_mut.follows.holds c.tell_slot.new.slot).0)
     (one_goes service node (Message_comes message) c.args.key (only_its_key node message c.args.key (λ k. logged_names message.body kept log.says k ∙ ap (λ x. key_eq x k) log.client))
     (λ place. Unit {0}) c.args.slots.now.entries places c.in-Some.slot.now c.tell_slot.new.slot c.args.turn.now.sent.items c.tell_slot.new.turn.sent.items
-    st c.get_mut.ensures.unique found (all_units places)
+    st c.get_mut.ensures.unique found (all_unit places)
     (λ place u stands. c.in_ok-tell_slot.ensures.turn kept log stage place tt stands))
 
 pub returns-in_ok-tell_slot-clause-sound : goal.returns-in_ok-tell_slot-clause-sound

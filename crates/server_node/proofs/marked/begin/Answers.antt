@@ -1,16 +1,15 @@
-use Rattle.std.proofs.Common.{rules, ◌≡◌, ◌∙◌, ◌==◌, ◌&&◌, ◌<◌, Bool, true, false, ℕ, refl, sym, ap, subst, nat_lt, Option, Some, None, List, [], if◌then◌else◌, eq-eqb}
+use Rattle.std.proofs.Common.{rules, ◌≡◌, ◌∙◌, false, refl, sym, subst, None}
 use Rattle.ft_io.proofs.Outcomes.{if_ok}
 use Rattle.logger_wire.specs.Value.{body_of, message_of}
-use Rattle.ft_model.specs.Lawful.{StageTurn, Rests, Fetches, summary_count}
+use Rattle.ft_model.specs.Lawful.{summary_count}
 use Rattle.ft_model.specs.Node.Input.{Message_comes}
 use Rattle.ft_model.specs.Node.Stage.{Asking}
-use Rattle.mark_traces.specs.MarkedNode.{InputTurn, FetchesMarked}
+use Rattle.mark_traces.specs.MarkedNode.{InputTurn}
 use Rattle.mark_traces.specs.MarkedNode.MarkedInput.{Plain_comes}
-use Rattle.conn_marks.specs.KeyMarks.{KeyMarks}
 use Rattle.server_node.specs.FetchStage.{IsOf}
 use Rattle.server_node.specs.Identity.{node_of}
 use Rattle.server_node.specs.Markers.{saving, marker_of, node_at}
-use Rattle.server_node.specs.MarkedTurns.{GoesOn, MarkedStands}
+use Rattle.server_node.specs.MarkedTurns.{GoesOn}
 use Rattle.server_node.proofs.FetchAnswer.{same_ok}
 use Rattle.server_node.proofs.MarkedFetch.{asking_rests, begun_at, begun_stands, told_no_count, told_count, nothing_yet}
 use Rattle.server_node.proofs.Ranged.{count_in_range}

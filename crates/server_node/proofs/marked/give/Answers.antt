@@ -1,4 +1,4 @@
-use Rattle.std.proofs.Common.{◌≡◌, ◌∙◌, refl, sym, ap, subst, List, []}
+use Rattle.std.proofs.Common.{refl, sym, subst, List}
 use Rattle.segment_codec.specs.Value.{segment_of}
 use Rattle.ft_model.specs.Lawful.{AreNear, held}
 use Rattle.ft_model.specs.Node.Input.{Packet_comes}
@@ -6,7 +6,6 @@ use Rattle.ft_model.specs.Wire.{Wire}
 use Rattle.mark_traces.specs.MarkedNode.{InputTurn}
 use Rattle.mark_traces.specs.MarkedNode.MarkedInput.{Plain_comes}
 use Rattle.server_node.specs.Identity.{node_of}
-use Rattle.server_node.specs.Marked.{IsSoundAt}
 use Rattle.server_node.specs.Markers.{saving, marker_of, node_at}
 use Rattle.server_node.specs.MarkedServing.{ServingGoesMarked}
 use Rattle.server_node.specs.MarkedTurns.{GoesOn, MarkedStands}

@@ -1,12 +1,10 @@
-use Rattle.std.proofs.Common.{◌≡◌, ◌∙◌, true, false, true≢false, refl, sym, ap, subst, rules, [], List, reverse}
+use Rattle.std.proofs.Common.{◌≡◌, ◌∙◌, true, false, sym, subst, rules, List, reverse}
 use Rattle.server_trait.specs.Service.{machine}
 use Rattle.ft_model.specs.Wire.{Wire}
-use Rattle.mark_laws.specs.Restart.{FetchedSoFar, next_question}
+use Rattle.mark_laws.specs.Restart.{next_question}
 use Rattle.reincarnate.specs.Questions.{any_asked}
 use Rattle.reincarnate.specs.Refinement.{StandsSoFar, StandsFetching, StandsWhole}
 use Rattle.mark_traces.specs.MarkedNode.{FetchesMarked}
-use Rattle.server_node.specs.Identity.{node_of, service_of}
-use Rattle.server_node.specs.MarkedRestart.{AreRestoredMarked}
 use Rattle.server_node.specs.MarkedTurns.{GoesOn, SendsQuestion}
 use Rattle.server_node.specs.Markers.{saving, marker_of, node_at}
 use Rattle.server_node.proofs.MarkedFetch.{asked_on, ended_on}

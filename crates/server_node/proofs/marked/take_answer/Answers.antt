@@ -1,11 +1,9 @@
-use Rattle.std.proofs.Common.{◌≡◌, ◌∙◌, true, false, true≢false, refl, sym, ap, subst, rules}
+use Rattle.std.proofs.Common.{◌≡◌, ◌∙◌, true, false, true≢false, sym, subst, rules}
 use Rattle.ft_io.proofs.Outcomes.{if_ok}
 use Rattle.server_trait.specs.Service.{machine}
 use Rattle.server_trait.specs.Saved.{writing}
-use Rattle.mark_laws.specs.Restart.{FetchedSoFar}
 use Rattle.reincarnate.specs.Marking.{any_of}
 use Rattle.reincarnate.specs.Refinement.{StandsSoFar, AnyLeads}
-use Rattle.server_node.specs.FetchStage.{IsOf}
 use Rattle.server_node.specs.Marked.{IsSoundMarked}
 use Rattle.server_node.specs.Markers.{saving, marker_of}
 use Rattle.server_node.proofs.MarkedFetch.{took_at, kept_on}

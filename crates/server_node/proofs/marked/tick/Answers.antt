@@ -1,6 +1,6 @@
-use Rattle.std.proofs.Common.{◌≡◌, ◌∙◌, sym, ap, subst, rules, List, [], ◌∷◌, Ok}
+use Rattle.std.proofs.Common.{◌≡◌, sym, subst, List, [], ◌∷◌}
 use Rattle.server_trait.specs.Service.{machine}
-use Rattle.mark_laws.specs.Restart.{FetchedSoFar, next_question}
+use Rattle.mark_laws.specs.Restart.{next_question}
 use Rattle.ft_model.specs.Connection.{told_by}
 use Rattle.ft_model.specs.Node.Input.{Tick_comes}
 use Rattle.ft_model.specs.Wire.{Wire}

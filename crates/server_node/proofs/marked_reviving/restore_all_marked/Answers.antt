@@ -1,10 +1,6 @@
 use Rattle.std.proofs.Common.{rules, ◌≡◌, refl, sym, subst}
-use Rattle.std.specs.List.{AllByRecursion}
-use Rattle.server_trait.specs.Service.{AreBytes}
 use Rattle.ft_model.specs.Lawful.{AreSound}
 use Rattle.ft_model.specs.Opening.{initial_number}
-use Rattle.ft_model.specs.Restart.{Fetched}
-use Rattle.ft_model.proofs.Lists.{all_slice_get}
 use Rattle.reincarnate.specs.Refinement.{FirstIs}
 use Rattle.server_node.specs.FetchStage.{AreDistinct}
 use Rattle.server_node.specs.Identity.{node_of, service_of}

@@ -1,4 +1,4 @@
-use Rattle.std.proofs.Common.{ℕ, List, ◌≡◌, length, reverse}
+use Rattle.std.proofs.Common.{ℕ, List, length, reverse}
 use Rattle.ft_io.specs.declared.Key.{Key}
 use Rattle.ft_model.specs.Lawful.{AreSound}
 use Rattle.ft_model.specs.Node.{Stage}

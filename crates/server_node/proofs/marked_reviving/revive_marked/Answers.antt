@@ -1,5 +1,5 @@
 use Rattle.std.proofs.Common.{◌≡◌, ◌∙◌, ap, sym, subst, Some}
-use Rattle.server_node.specs.Identity.{node_of, service_of}
+use Rattle.server_node.specs.Identity.{node_of}
 use Rattle.server_node.specs.Markers.{saving, marker_of}
 use Rattle.server_node.specs.Slots.{SlotStands}
 use Rattle.conn_marks.specs.Settled.{MarksPlace}

@@ -1,12 +1,11 @@
-use Rattle.std.proofs.Common.{◌≡◌, ◌∙◌, refl, sym, ap, subst, [], List, Option, Some, None}
+use Rattle.std.proofs.Common.{◌∙◌, refl, sym, subst, List}
 use Rattle.std.proofs.lemmas.Result.{on_ok_weaker}
 use Rattle.std.specs.Option.{option_copied}
 use Rattle.seq_arith.specs.Mark.MarkBody.{MarkedMsg}
 use Rattle.conn_marks.specs.Settled.{MarksNew}
-use Rattle.ft_model.specs.Node.{Place, place_at}
+use Rattle.ft_model.specs.Node.{place_at}
 use Rattle.ft_model.specs.Wire.{Wire}
-use Rattle.server_node.specs.Conn.{IsOursAt}
-use Rattle.server_node.specs.Identity.{node_of, service_of}
+use Rattle.server_node.specs.Identity.{node_of}
 use Rattle.server_node.specs.Loan.{IsConnAt}
 use Rattle.server_node.specs.Markers.{saving, marker_of, node_at}
 use Rattle.server_node.specs.MarkedServing.{HeardOfMark}

@@ -1,4 +1,3 @@
-use Rattle.std.proofs.Common.{◌≡◌, ◌∙◌, refl, sym, ap, subst}
 use Rattle.server_node.proofs.marked_serving.mark_key.Goals as goal
 
 pub send_new-requires-clause-sound : goal.send_new-requires-clause-sound

@@ -1,4 +1,4 @@
-use Rattle.std.proofs.Common.{◌≡◌, ◌∙◌, refl, sym, ap, subst, [], List}
+use Rattle.std.proofs.Common.{refl, sym, subst, []}
 use Rattle.std.proofs.lemmas.Result.{on_ok_weaker}
 use Rattle.seq_arith.specs.Mark.{MarkMessage}
 use Rattle.checkpoint.specs.Value.{message_of, body_of}

@@ -1,4 +1,4 @@
-use Rattle.std.proofs.Common.{◌≡◌, ◌∙◌, ◌&&◌, ◌==◌, false, refl, sym, ap, subst, [], List, rules}
+use Rattle.std.proofs.Common.{◌∙◌, ◌&&◌, ◌==◌, refl, sym, ap, subst, List}
 use Rattle.std.proofs.lemmas.Result.{on_ok_weaker}
 use Rattle.ft_io.proofs.Booleans.{and_false}
 use Rattle.logger_wire.specs.Value.{message_of}

@@ -1,4 +1,4 @@
-use Rattle.std.proofs.Common.{◌≡◌, ◌∙◌, refl, sym, ap, subst, [], List}
+use Rattle.std.proofs.Common.{refl, sym, subst, List}
 use Rattle.std.proofs.lemmas.Result.{on_ok_weaker}
 use Rattle.segment_codec.specs.Value.{segment_of}
 use Rattle.ft_model.specs.Network.{source_of}

@@ -1,6 +1,4 @@
-use Rattle.std.proofs.Common.{◌≡◌, ◌∙◌}
 use Rattle.std.proofs.lemmas.Result.{on_ok_weaker}
-use Rattle.server_node.specs.Identity.{node_of}
 use Rattle.server_node.specs.Markers.{saving, marker_of}
 use Rattle.server_node.proofs.MarkedTicks.{serving_ticks}
 use Rattle.server_node.proofs.marked_serving.serve_tick_marked.Goals as goal

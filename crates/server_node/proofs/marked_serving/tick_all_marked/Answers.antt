@@ -1,8 +1,7 @@
-use Rattle.std.proofs.Common.{rules, ◌≡◌, ◌∙◌, ◌<◌, ◌≤◌, length, subst, sym, arith, refl, []}
-use Rattle.std.specs.List.{AllByRecursion}
+use Rattle.std.proofs.Common.{rules, ◌≡◌, ◌∙◌, ◌<◌, ◌≤◌, length, subst, sym, refl, []}
 use Rattle.indexmap.specs.Layout.{length-set_value_at}
 use Rattle.conn_marks.proofs.MarkWires.{out_none}
-use Rattle.server_node.specs.Identity.{node_of, service_of}
+use Rattle.server_node.specs.Identity.{node_of}
 use Rattle.server_node.specs.Markers.{saving, marker_of}
 use Rattle.server_node.specs.MarkedServing.{SlotTicks}
 use Rattle.server_node.specs.Slots.{SlotStands}

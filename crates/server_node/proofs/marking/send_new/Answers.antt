@@ -1,10 +1,6 @@
-use Rattle.std.proofs.Common.{◌≡◌, ◌∙◌, ◌<◌, true, false, refl, sym, ap, subst, Some, None}
-use Rattle.std.specs.Prelude.{is_none}
+use Rattle.std.proofs.Common.{◌∙◌, true, false, sym}
 use Rattle.std.proofs.lemmas.Result.{on_ok_weaker}
-use Rattle.mark_laws.specs.Marking.{outstanding_in}
 use Rattle.conn_marks.specs.KeyMarks.{marking_in}
-use Rattle.conn_marks.specs.MarkSends.{SendsMarks}
-use Rattle.server_node.specs.Conn.{IsSound, IsOursAt}
 use Rattle.server_node.specs.Markers.{saving, marker_of}
 use Rattle.server_node.proofs.MarkedKeys.{told_is, savable_of, waits_new, waits_not, conn_stands, sound_of}
 use Rattle.server_node.proofs.marking.send_new.Goals as goal

@@ -1,11 +1,9 @@
-use Rattle.std.proofs.Common.{◌≡◌, ◌∙◌, refl, sym, ap, subst, Some, None, ◌∷◌, [], take, rules}
+use Rattle.std.proofs.Common.{◌≡◌, ◌∙◌, ◌∷◌, [], take, rules}
 use Rattle.std.proofs.lemmas.Result.{on_ok_weaker}
 use Rattle.seq_arith.specs.MarkGrammar.{spelling}
 use Rattle.checkpoint.specs.Value.{message_of}
-use Rattle.mark_laws.specs.Marking.{outstanding_in}
-use Rattle.mark_laws.specs.Marking.Outgoing.{Mark_to_logger}
 use Rattle.conn_marks.specs.KeyMarks.{marking_in}
-use Rattle.conn_marks.specs.MarkSends.{put_before, outgoing_wire}
+use Rattle.conn_marks.specs.MarkSends.{put_before}
 use Rattle.server_node.specs.SentBytes.{message_to_logger}
 use Rattle.server_node.proofs.MarkedKeys.{sends_one, sends_nothing, text_is}
 use Rattle.server_node.proofs.marking.send_outstanding.Goals as goal

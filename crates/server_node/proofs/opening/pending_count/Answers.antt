@@ -5,7 +5,7 @@ use Rattle.server_node.specs.Openings.{pending_slots, is_pending_slot}
 use Rattle.server_node.proofs.Collecting.{entry_with}
 use Rattle.server_node.proofs.Opens.{pending_more, one_pending}
 use Rattle.server_node.proofs.opening.pending_count.Goals as goal
-use Rattle.wrapped_conn.proofs.Sendable.{byte_low}
+use Rattle.ft_io.proofs.Numbers.{bool_byte_low}
 
 pub loop-i-preserved : goal.loop-i-preserved
 loop-i-preserved g c =
@@ -13,7 +13,7 @@ loop-i-preserved g c =
     let at = entry_with es c.loop-i.i c.index.result.now c.index.ensures in
     let count : c.from-count.result ≡ bool_byte (is_pending_slot c.index.result.now) = c.from-count.ensures ∙ ap bool_byte c.is_pending.ensures in (
       ap₂ ◌+◌ c.loop-i.invariant.0 (count ∙ sym (one_pending at.0 c.index.result.now)) ∙ sym (pending_more es c.loop-i.i at.0 c.index.result.now at.1),
-      omega (arith, c.loop-i.invariant.1, count, byte_low (is_pending_slot c.index.result.now)),
+      omega (arith, c.loop-i.invariant.1, count, bool_byte_low (is_pending_slot c.index.result.now)),
     )
 
 pub returns : goal.returns

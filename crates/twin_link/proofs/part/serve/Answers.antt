@@ -1,6 +1,6 @@
 use Rattle.std.proofs.Common.{◌∙◌, refl}
 use Rattle.twin_link.specs.PartSteps.{standing_of}
-use Rattle.node_link.proofs.Fronts.{at_failed}
+use Rattle.ft_io.proofs.Outcomes.{at_err}
 use Rattle.twin_link.proofs.PairRun.{serving_none, serving_on, room_in_turn, cut_before, cut_serving}
 use Rattle.twin_link.proofs.part.serve.Goals as goal
 
@@ -21,11 +21,11 @@ loop-turn-preserved g c = (
 )
 
 pub returns-in_err-twin-clause-cut_off : goal.returns-in_err-twin-clause-cut_off
-returns-in_err-twin-clause-cut_off g c = at_failed c.from_residual.result (cut_before c.args.role.now (g.L.Link.told c.args.link.now))
+returns-in_err-twin-clause-cut_off g c = at_err c.from_residual.result (cut_before c.args.role.now (g.L.Link.told c.args.link.now))
 
 pub returns-in_err-take_turn-clause-cut_off : goal.returns-in_err-take_turn-clause-cut_off
 returns-in_err-take_turn-clause-cut_off g c =
     let off = c.in_err-take_turn.ensures.cut_off in
-    at_failed c.from_residual-in_err-take_turn.result
+    at_err c.from_residual-in_err-take_turn.result
     (cut_serving c.args.role.now c.loop-turn._turn (standing_of c.loop-turn.twin) (g.L.Link.told c.args.link.now) (g.L.Link.told c.loop-turn.link) (g.L.Link.told c.take_turn.new.link)
     c.loop-turn.counts off.0 c.loop-turn-test.true c.loop-turn.invariant.0 off.1 off.2)

@@ -5,7 +5,8 @@ use Rattle.disk.specs.declared.calls.DiskCall.TheVariants.{Appended, Put, Synced
 use Rattle.disk.specs.Remains.{IsFrontOf}
 use Rattle.disk.specs.CallRecord.{on_disk}
 use Rattle.journal.specs.Format.{sized, keeping}
-use Rattle.disk.proofs.Telling.{tells_on, at_err}
+use Rattle.ft_io.proofs.Tellings.{tells_on}
+use Rattle.ft_io.proofs.Outcomes.{at_err}
 use Rattle.journal.proofs.journal.Journal.keep.Goals as goal
 
 pub returns-in_err-append-clause-stopped : goal.returns-in_err-append-clause-stopped

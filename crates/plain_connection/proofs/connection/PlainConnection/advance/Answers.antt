@@ -7,7 +7,8 @@ use Rattle.plain_connection.specs.Before.{IsBefore}
 use Rattle.plain_connection.specs.State.{IsServed, ReadsOn}
 use Rattle.plain_connection.specs.Turn.{settled_since}
 use Rattle.plain_connection.proofs.Noting.{noted_served}
-use Rattle.plain_connection.proofs.Turns.{was_live, advanced}
+use Rattle.plain_connection.proofs.Turns.{advanced}
+use Rattle.ft_model.proofs.ToldLast.{was_not_reset}
 use Rattle.plain_connection.proofs.connection.PlainConnection.advance.Goals as goal
 
 pub read_on-requires : goal.read_on-requires
@@ -25,6 +26,6 @@ returns-clause-turn g c = λ server boot.
     let before = subst (λ k. IsBefore (machine (g.S.Service.started k) g.S.Service.after) news p c.args.before.now) (sym reads.kind) c.requires.before in
     on_ok_weaker c.settle.result
     (λ e. advanced service server boot news p c.read_on.new.self.point c.settle.new.self.point reads.news
-    (was_live news p (sym c.requires.before.reset ∙ c.requires.live)) reads.point reads.makes
+    (was_not_reset news p (sym c.requires.before.reset ∙ c.requires.live)) reads.point reads.makes
     (ap (λ x. x.point) e ∙ ap (λ k. settled_since (machine (g.S.Service.started k) g.S.Service.after) news p c.read_on.new.self.point) reads.kind))
     (c.settle.ensures.settled p before)

@@ -8,7 +8,8 @@ use Rattle.plain_connection.specs.Before.{IsBefore}
 use Rattle.plain_connection.specs.News.{news_in}
 use Rattle.plain_connection.specs.State.{IsServed}
 use Rattle.plain_connection.proofs.Noting.{reset_served}
-use Rattle.plain_connection.proofs.Turns.{was_live, live_taken, reset_taken}
+use Rattle.plain_connection.proofs.Turns.{live_taken, reset_taken}
+use Rattle.ft_model.proofs.ToldLast.{was_not_reset}
 use Rattle.plain_connection.proofs.connection.PlainConnection.turn.Goals as goal
 
 pub returns-then-before-clause-served : goal.returns-then-before-clause-served
@@ -40,4 +41,4 @@ returns-clause-turn g c =
     on_ok_weaker c.send_turn.result
     (λ e. live_taken service c.args.server c.args.boot news p q c.args.sent.now c.send_turn.new.sent live (c.in_ok-advance.ensures.turn c.args.server c.args.boot) e)
     (subst (λ k. OnOk c.send_turn.result (Appends c.args.sent.now c.send_turn.new.sent (sent_by (machine (g.S.Service.started k) g.S.Service.after) c.args.server c.args.boot news p q))) kind
-    (c.send_turn.ensures p (was_live news p live) before))
+    (c.send_turn.ensures p (was_not_reset news p live) before))

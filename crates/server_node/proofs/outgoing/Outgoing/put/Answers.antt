@@ -1,5 +1,4 @@
-use Rattle.std.proofs.Common.{rules, Ok, refl, ◌≡◌, ◌∙◌, ◌+◌, ◌-◌, ◌≤◌, ◌∷◌, [], length, take, sym, ap, arith}
-use Rattle.std.specs.List.{insert}
+use Rattle.std.proofs.Common.{rules, Ok, refl, ◌≡◌, ◌∙◌, ◌+◌, ◌-◌, ◌≤◌, ◌∷◌, [], length, take, ap}
 use Rattle.conn_marks.specs.MarkSends.{put_before}
 use Rattle.server_node.specs.SentBytes.{sent_to}
 use Rattle.server_node.proofs.FetchAnswer.{same_ok}

@@ -26,6 +26,7 @@ use Rattle.endpoint_laws.proofs.EndingLaw.{used_keeps, call_answers}
 use Rattle.endpoint_laws.proofs.Rsts.{IsRst, Refuses, refuses_arrived, unbegun_same}
 use Rattle.endpoint_laws.proofs.Calls.{begun_closing}
 use Rattle.ft_io.proofs.Choices.{by_cases}
+use Rattle.ft_model.proofs.Spoken.{or_bare_spoken}
 
 -- a segment that tells it, and no RST
 abbrev Tells : Tcb → Segment → Type 0
@@ -50,12 +51,6 @@ all_chosen P false first second a b = b
 chosen_one : (P : Segment → Type 0) (chosen : Bool) (first second : Segment) → P first → P second → P (if chosen then first else second)
 chosen_one P true first second a b = a
 chosen_one P false first second a b = b
-
-all_or_bare : (P : Segment → Type 0) (ack_pending : Bool) (bare : Segment) (segments : List Segment) → P bare → AllByRecursion P segments
-    → AllByRecursion P (or_bare ack_pending bare segments)
-all_or_bare P true bare [] a b = (a, tt)
-all_or_bare P false bare [] a b = tt
-all_or_bare P ack_pending bare (segment ∷ segments) a b = b
 
 -- the segments that the flush builds: text, the FIN, and the first segment that is unacknowledged
 text_tells : (u : Tcb) (place n : ℕ) → Tells u (text_at u place n)
@@ -145,7 +140,7 @@ advertising u segment tells = λ h. (tells.1, tells.2, tells.3)
 pub leaving_advertises : (u : Tcb) → has_begun u.name ≡ true → AllByRecursion (Advertises u) (reset_reply_out u) → AllByRecursion (Advertises u) (leaving u)
 unfolding leaving
 leaving_advertises u begun reset_reply =
-    all_or_bare (Advertises u) (is_ack_pending (after_full u)) (bare_segment (after_full u)) (full_out u) (advertising u (bare_segment (after_full u)) (bare_tells u))
+    or_bare_spoken (Advertises u) (is_ack_pending (after_full u)) (bare_segment (after_full u)) (full_out u) (advertising u (bare_segment (after_full u)) (bare_tells u))
     (full_all u (Advertises u) (advertising u) begun reset_reply)
 
 -- what the user's calls leave
@@ -184,7 +179,7 @@ advertises_law news calls e none may begun =
     leaving_advertises u begun
     (reset_reply_advertises (next e.receiving) u (refuses_used (next e.receiving) calls (arrived news e) may (refuses_arrived news e none)))
 
--- what was last announced stays, until the flush
+-- what was last advertised stays, until the flush
 told_arrived : (news : News) (e : Tcb) → has_begun e.name ≡ true → last_advertised (arrived news e) ≡ last_advertised e
 unfolding after_tick timer_ticked waited
 told_arrived (Comes segment) e begun = told_by_segment e segment begun
@@ -192,7 +187,7 @@ told_arrived (Logged kept) e begun = refl
 told_arrived Ticks e begun = refl
 told_arrived Begins e begun = refl
 
--- a segment goes out where what is taken or the edge isn't what was last announced
+-- a segment goes out where what is taken or the edge isn't what was last advertised
 some_bare : (bare : Segment) (segments : List Segment) → or_bare true bare segments ≡ [] → ⊥
 some_bare bare [] h = cc
 some_bare bare (segment ∷ segments) h = cc
