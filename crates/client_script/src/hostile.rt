@@ -26,7 +26,7 @@ const SERVER_ISN: u32 = 5_000;
 
 const SCRIPT: &[u8] = b"what the client says";
 
-/// The window that a scripted client announces with its SYN.
+/// The window that a scripted client advertises with its SYN.
 const WINDOW: u16 = 400;
 
 /// What came of all datagrams.

@@ -10,7 +10,7 @@ pub(crate) enum Rule {
     Silence,
     /// What was accepted stays, and what is accepted is what a datagram carried at that place.
     Text,
-    /// No more is accepted than was announced.
+    /// No more is accepted than was advertised.
     Window,
     /// What was sent stays sent, and no more is acknowledged.
     Numbers,

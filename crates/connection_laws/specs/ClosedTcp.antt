@@ -16,7 +16,7 @@ use Rattle.endpoint_laws.specs.Refinement.{ReceivesAt, IsUsedAt}
 use Rattle.connection_laws.specs.Inside.{swallowing, inside}
 use Rattle.connection_laws.specs.Traffic.{news_inside, passed}
 
--- TCP counts its output from u on, under the initial number i. Its number of a unit is delta below the client's
+-- TCP's output begins at unit u, with the initial sequence number i. TCP's sequence number of a unit is delta below the client's
 pub record CountsFrom (u i delta : ℕ) (p : Point) (e : Tcb) : Type 0 where
   pub iss : e.sending.iss ≡ i
   pub syn_acked : e.sending.syn_acked ≡ true
@@ -50,13 +50,13 @@ abbrev pub SendsAlone : {State : Type 0} → Machine State → Addr → News →
 SendsAlone service server news before after =
     segments_of service server news before after ≡ or_bare (is_ack_pending service news before after) (bare_segment server after) []
 
--- a turn that leaves TCP CLOSED: its user reads and writes as before
+-- a turn in which TCP becomes CLOSED: its user reads and writes as before
 pub record LeavesInside {State : Type 0} (service : Machine State) (u i delta : ℕ) (news : News) (p q : Point) (calls : List Call) (e : Tcb) : Type 0 where
   pub may : MayUse calls (arrived (news_inside delta p news) e)
   pub ended : has_begun (before_flush (news_inside delta p news) calls e).name ≡ false
   pub used : IsUsedAt (swallowing u service) (inside u i q) (before_flush (news_inside delta p news) calls e)
 
--- TCP takes and sends nothing in it
+-- TCP takes and sends nothing in that turn
 pub record EndsInside {State : Type 0} (service : Machine State) (u i delta : ℕ) (news : News) (p q : Point) (calls : List Call) (e : Tcb) : Type 0 where
   pub stands : StandsClosed service u i delta q (turned (news_inside delta p news) calls e)
   pub silent : sent_in (news_inside delta p news) calls e ≡ []

@@ -22,15 +22,15 @@ pub record MayOpen (numbers : Numbers) : Type 0 where
   pub cisn : numbers.cisn < 2 ^ 32
   pub sisn : numbers.sisn < 2 ^ 32
 
--- its TCP listens with the server's own initial number and the limit of a complete stream, and the client's SYN is forged to it
+-- its TCP listens with the server's own initial sequence number and the limit of a complete stream, and receives a forged SYN of the client
 abbrev pub opened_syn : Addr → Numbers → Segment
 opened_syn local numbers = forged_syn numbers.key local numbers.cisn 0 numbers.mss
 
 abbrev pub listens_with : Addr → Numbers → Tcb
 listens_with local numbers = listening local numbers.sisn (2 ^ 24)
 
--- output begins at its start, under the initial number that the client knows. What is sent, as the client receives it, is what the law says, and the connection
--- adds nothing
+-- output begins at its start, with the initial sequence number that the client knows. What is sent, as the client receives it, is what the law says, and the
+-- connection adds nothing
 pub record BeginsInside {State : Type 0} (service : Machine State) (local : Addr) (numbers : Numbers) (q : Point) (calls : List Call) : Type 0 where
   pub stands : StandsInside 0 numbers.sisn 0 q (turned (Comes (opened_syn local numbers)) calls (listens_with local numbers))
   pub named : IsNamedRightly (turned (Comes (opened_syn local numbers)) calls (listens_with local numbers))

@@ -1,12 +1,12 @@
--- What the inner TCP of a wrapped connection sees: the same connection under an initial number of its own. Its output continues where the restart continued,
--- its user writes all output except what was acknowledged before, and all that is taken may be acknowledged (FT-TCP, INFOCOM 2001: the restarted TCP counts
--- from a number of its own, and the wrappers hide the difference).
+-- What the inner TCP of a wrapped connection sees: the same connection with an initial sequence number of its own. Its output continues where the restart
+-- continued, its user writes all output except what was acknowledged before, and all that is taken may be acknowledged (FT-TCP, INFOCOM 2001: the restarted TCP
+-- counts from a number of its own, and the wrappers hide the difference).
 use Rattle.std.specs.Prelude.{◌≡◌, ℕ, false, ◌+◌, ◌-◌, ◌%◌, ◌^◌, ◌<◌, ◌≤◌, [], drop, length}
 use Rattle.server_trait.specs.Service.{Machine, Served, Run}
 use Rattle.seq_arith.specs.Coming.{nothing_early}
 use Rattle.ft_model.specs.Point.{Point, taken_units}
 
--- a service of whose output `left` bytes are still to be swallowed
+-- a service's answer to a chunk, where `left` bytes of output are still to be swallowed
 abbrev pub swallowed : {State : Type 0} → (left : ℕ) → Served State → Served (State × ℕ)
 swallowed left served = record { next = (served.next, left - length served.output); output = drop left served.output; closed = served.closed }
 
@@ -18,12 +18,12 @@ swallowing u service = record { fresh = (service.fresh, u); after = λ state chu
 abbrev pub swallowed_run : {State : Type 0} → ℕ → Run State → Run (State × ℕ)
 swallowed_run u run = record { state = (run.state, u - length run.output); output = drop u run.output; closed = run.closed }
 
--- the point inside: the server's initial number is i, output counts from u on, and TCP, which knows of no log, may acknowledge all that it took
+-- the point inside: the server's initial sequence number is i, output counts from u on, and TCP, which knows of no log, may acknowledge all that it took
 abbrev pub inside : (u i : ℕ) → Point → Point
 inside u i p = record p { sisn = i; answered = taken_units p; una = p.una - u; sent = p.sent - u; edge = p.edge - u; wl2 = p.wl2 - u }
 
--- The output of a connection continues inside at u, under the initial number i: delta is the difference of the numbers of one unit, and u isn't past what is
--- acknowledged, sent, or allowed by the client's window
+-- The output of a connection continues inside at u, with the initial sequence number i: delta is the difference of one unit's sequence numbers, and u isn't
+-- past what is acknowledged, sent, or allowed by the client's window
 pub record GoesOn (u i delta : ℕ) (p : Point) : Type 0 where
   pub shift : (i + delta) % 2 ^ 32 ≡ (p.sisn + u) % 2 ^ 32
   pub small : u ≤ 2 ^ 24

@@ -35,7 +35,7 @@ pub record Feeds {State : Type 0} (service : Machine State) (u : ℕ) (p : Point
   pub low : given ≤ released service p
   pub queued : length e.sending.held ≤ 65535
 
--- what a turn of the north wrapper calls: it writes, may close, and reads
+-- the calls that a turn of the north wrapper makes: it writes, may close, and reads
 abbrev pub north_calls : (text : List ℕ) → (closes : Bool) → (reads : List ℕ) → List Call
 north_calls text closes reads = Writes text ∷ ((if closes then Closes ∷ [] else []) ++ map Reads reads)
 
@@ -43,7 +43,7 @@ north_calls text closes reads = Writes text ∷ ((if closes then Closes ∷ [] e
 abbrev pub before_reads : (before after : Point) → Point
 before_reads before after = record after { lengths = before.lengths }
 
--- in a lawful turn the north wrapper makes its calls of TCP, between the news and the flush
+-- in a lawful turn the north wrapper makes its calls to TCP, between the news and the flush
 pub record TurnsNorth {S : Type 0} (service : Machine S) (boot u i delta : ℕ) (news : News) (p q : Point) (sent : List Packet) (given : ℕ) (old new : NorthState S) (reads : List ReadRecord) (e t : Tcb) : Type 0 where
   pub fits : NewsFit p news
   pub goes : LiveTurn service e.local boot news p q sent
@@ -57,11 +57,11 @@ pub record TurnsNorth {S : Type 0} (service : Machine S) (boot u i delta : ℕ) 
   pub stands : NorthStands service (before_reads p q) given old
   pub turn : NorthTurn service tcp_reader tcp_writer (before_reads p q) given old (arrived (news_inside delta p news) e) reads new t
 
--- how much it has given then, in all
+-- how much output it has given then, in all
 abbrev pub given_after : {S : Type 0} → Machine S → (p q : Point) → (given : ℕ) → Tcb → ℕ
 given_after service p q given arrived_tcp = given + given_more service (before_reads p q) (write_room arrived_tcp) given
 
--- TCP, before the flush, after these calls: its user is the service after what is swallowed, and this much is given to it in all
+-- TCP, before the flush, after these calls: its user is the service without the swallowed output, and `given` bytes are given to it in all
 pub record FedBy {S : Type 0} (service : Machine S) (u i : ℕ) (q : Point) (given : ℕ) (new : NorthState S) (calls : List Call) (m : Tcb) : Type 0 where
   pub may : MayUse calls m
   pub is_used : IsUsedAt (swallowing u service) (inside u i q) (used calls m)
@@ -71,7 +71,7 @@ pub record FedBy {S : Type 0} (service : Machine S) (u i : ℕ) (q : Point) (giv
   pub exact : new.shut ≡ is_all_given service q given
   pub all_or_full : (given ≡ released service q) ⊎ (length (flushed (used calls m)).sending.held ≡ 65535)
 
--- the turn of the north wrapper in it
+-- the north wrapper's turn, as TCP sees it
 pub record FedInside {S : Type 0} (service : Machine S) (u i delta : ℕ) (news : News) (p q : Point) (given : ℕ) (new : NorthState S) (calls : List Call) (e t : Tcb) : Type 0 where
   pub calls_are : t ≡ before_flush (news_inside delta p news) calls e
   pub released : u ≤ released service q

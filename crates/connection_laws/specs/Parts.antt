@@ -55,7 +55,7 @@ abbrev pub repeats : News → Point → Bool
 repeats (Comes segment) before = repeats_syn before segment
 repeats _ before = false
 
--- the connection adds a segment without data where an ACK is pending of which TCP doesn't know, and where one is pending and TCP is CLOSED
+-- the connection adds a segment without data if an ACK is pending for a reason that TCP doesn't know, or if one is pending and TCP is CLOSED
 abbrev pub adds : {S : Type 0} → Machine S → News → (before after : Point) → Tcb → Bool
 adds service news before after t = needs_ack_besides service news before after || (is_closed t.name && is_ack_pending service news before after)
 

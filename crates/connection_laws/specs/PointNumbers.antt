@@ -13,18 +13,18 @@ use Rattle.tcp_endpoint.specs.UserCalls.{sent_number, acked_number}
 use Rattle.endpoint_laws.specs.ConnectionEnd.{has_taken_fin}
 use Rattle.north_wrap.specs.NorthState.{NorthState}
 
--- a TCP that isn't reset shows by its state whether the client's FIN is taken, and whether both FINs are through
+-- a TCP that isn't reset shows by its state whether the client's FIN is taken, and whether both FINs are done
 abbrev pub tells_fin : Tcb → Bool
 tells_fin e = has_taken_fin e.name || is_closed e.name
 
 abbrev pub tells_over : Tcb → Bool
 tells_over e = is_time_wait e.name || is_closed e.name
 
--- the number up to which output is acknowledged; until the SYN is acknowledged, that of the SYN
+-- the sequence number up to which output is acknowledged; until the SYN is acknowledged, that of the SYN
 abbrev pub acked_at : (syn_acked : Bool) → (sisn una : ℕ) → ℕ
 acked_at syn_acked sisn una = if syn_acked then number_at sisn una else sisn
 
--- TCP's number as the client knows it, and the units before a number: none before the end of the SYN
+-- TCP's sequence number as the client knows it, and the units before a sequence number: none before the end of the SYN
 abbrev pub raised_by : (delta number : ℕ) → ℕ
 raised_by delta number = (number + delta) % 2 ^ 32
 
@@ -44,7 +44,7 @@ pub record PartsTell {S : Type 0} (service : Machine S) (delta : ℕ) (p : Point
   pub order : p.una ≤ p.sent
   pub few : p.sent ≤ n.run.made + 1
 
--- once the news has come, before the north wrapper's turn
+-- once the news has arrived, before the north wrapper's turn
 pub record NewsTell {S : Type 0} (delta : ℕ) (news : News) (p : Point) (n : NorthState S) (m : Tcb) : Type 0 where
   pub taken : length (taken_after news p) ≡ max p.fetched n.read + length m.receiving.unread
   pub unread : drop (max p.fetched n.read) (taken_after news p) ≡ m.receiving.unread

@@ -21,7 +21,7 @@ forged key local seq ack flags mss = record {
   payload = [];
 }
 
--- its SYN comes before the bytes that are still to come, ..
+-- its SYN has the sequence number before the bytes that are still to come, ..
 abbrev pub forged_syn : Key → Addr → (cisn fetched mss : ℕ) → Segment
 forged_syn key local cisn fetched mss = forged key local ((cisn + fetched) % 2 ^ 32) 0 SYN (Some mss)
 
@@ -44,7 +44,7 @@ spliced key local cisn fetched mss i fin =
     if fin then turned (Comes (forged_fin key local cisn fetched i)) [] (connected key local cisn fetched mss i)
     else connected key local cisn fetched mss i
 
--- the entry and the initial number from which a restart continues
+-- the entry and the initial sequence number from which a restart continues
 pub record GoesOnFrom {State : Type 0} (service : Machine State) (e : Entry) (i : ℕ) : Type 0 where
   pub least : 64 ≤ e.mss
   pub most : e.mss ≤ 1460
@@ -55,11 +55,11 @@ pub record GoesOnFrom {State : Type 0} (service : Machine State) (e : Entry) (i 
   pub sisn : e.sisn < 2 ^ 32
   pub i_fits : i < 2 ^ 32
 
--- the number of the unit at which output continues, less the initial number
+-- the client's sequence number of the unit at which output continues, less TCP's initial sequence number
 abbrev pub delta_from : {State : Type 0} → Machine State → Entry → (i : ℕ) → ℕ
 delta_from service e i = distance ((e.sisn + resumed_at service e) % 2 ^ 32) i
 
--- the result is at the point inside that of the entry. Nothing is written to it yet, so it holds nothing of the output
+-- the endpoint is at the point inside that of the entry. Nothing is written to it yet, so it holds nothing of the output
 pub record StandsAtEntry {State : Type 0} (service : Machine State) (e : Entry) (i : ℕ) (t : Tcb) : Type 0 where
   pub tcp : StandsOpen (resumed_at service e) i (delta_from service e i) (point_of service e) t
   pub feeds : Feeds service (resumed_at service e) (point_of service e) (resumed_at service e) t

@@ -20,7 +20,7 @@ news_inside delta before news = news
 abbrev pub passed : (delta : ℕ) → Point → List Segment → List Segment
 passed delta after segments = if list_any has_rst segments then [] else map (outward (south_at delta after)) segments
 
--- an ACK is pending of which TCP doesn't know: the connection was over before, or has become live ..
+-- an ACK is pending for a reason that TCP doesn't know: the connection was over before, or just became live ..
 abbrev pub asks_besides : {State : Type 0} → Machine State → News → Point → Bool
 asks_besides service (Comes segment) before = is_over service before && not (has_rst segment)
 asks_besides service Begins before = true
@@ -30,7 +30,7 @@ asks_besides service _ before = false
 abbrev pub needs_ack_besides : {State : Type 0} → Machine State → News → (before after : Point) → Bool
 needs_ack_besides service news before after = asks_besides service news before || nat_lt before.answered after.answered
 
--- what is sent: the logged SYN-ACK, then what comes out of TCP, or else a segment without data for the ACK of which TCP doesn't know
+-- what is sent: the logged SYN-ACK, then what comes out of TCP, or else a segment without data for such an ACK
 abbrev pub leaves : {State : Type 0} → Machine State → Addr → News → (before after : Point) → List Segment → List Segment
 leaves service server news before after passed_on =
     or_bare (needs_ack_besides service news before after) (bare_segment server after) (syn_acks server news before after ++ passed_on)

@@ -49,13 +49,13 @@ pub record StandsInside (u i delta : ℕ) (p : Point) (e : Tcb) : Type 0 where
   pub stands : StandsAt (inside u i p) e
   pub goes_on : GoesOn u i delta p
 
--- what the connection does with it in a turn: its user reads and writes as the service does after what is swallowed, and the turn doesn't end it
+-- what the connection does with TCP in a turn: TCP's user reads and writes as the service without the swallowed output, and the turn doesn't end TCP
 pub record UsesInside {State : Type 0} (service : Machine State) (u i delta : ℕ) (news : News) (p q : Point) (calls : List Call) (e : Tcb) : Type 0 where
   pub may : MayUse calls (arrived (news_inside delta p news) e)
   pub begun : has_begun (before_flush (news_inside delta p news) calls e).name ≡ true
   pub used : IsUsedAt (swallowing u service) (inside u i q) (before_flush (news_inside delta p news) calls e)
 
--- it is then at the point inside, and what it sent is, as the client gets it and with what the connection adds, what the law says
+-- TCP is then at the point inside, and what it sent, as the client receives it and with what the connection adds, is what the law says
 pub record TurnsInside {State : Type 0} (service : Machine State) (u i delta : ℕ) (news : News) (p q : Point) (calls : List Call) (e : Tcb) : Type 0 where
   pub stands : StandsInside u i delta q (turned (news_inside delta p news) calls e)
   pub segments : leaves service e.local news p q (passed delta q (sent_in (news_inside delta p news) calls e)) ≡ segments_of service e.local news p q

@@ -34,8 +34,8 @@ ghost use Rattle.connection_laws.specs.Splice.{GoesOnFrom, delta_from, StandsAtE
 
 use server_trait::Service;
 
-/// A lawful turn of a connection is one of its inner TCP: where that is at the point inside before the turn, and its user is the service after what is
-/// swallowed, it is at the point inside after the turn. Its segments, as the client gets them and with what the connection adds, are the law's.
+/// A lawful turn of a connection is also one of its inner TCP: if TCP is at the point inside before the turn, and its user is the service without the swallowed
+/// output, TCP is at the point inside after the turn. TCP's segments, as the client receives them and with what the connection adds, are the law's.
 pub fn connections_turn_by_their_tcp<S: Service>()
     ensures { (fresh : S) (boot u i delta : ℕ) (news : News) (before after : Point) (calls : List Call) (e : Tcb) (sent : List Packet)
         → StandsInside u i delta before e → Turns (machine fresh S.after) e.local boot news before after sent u i delta
@@ -43,8 +43,8 @@ pub fn connections_turn_by_their_tcp<S: Service>()
         → TurnsInside (machine fresh S.after) u i delta news before after calls e }
 {}
 
-/// A fresh endpoint to which an entry's segments are forged is, inside, at the point of the entry. So are the parts of a connection, where its north wrapper
-/// was replayed.
+/// A fresh endpoint that has received the forged segments of an entry is at the point inside that of the entry. The parts of a connection are then at the point
+/// of the entry, if its north wrapper was replayed.
 pub fn splices_stand_at_the_entry<S: Service>()
     ensures tcp { (fresh : S) (i : ℕ) (local : Addr) (e : Entry) → GoesOnFrom (machine fresh S.after) e i
         → StandsAtEntry (machine fresh S.after) e i (spliced e.key local e.cisn (length e.bytes) e.mss i e.fin) }
@@ -54,7 +54,7 @@ pub fn splices_stand_at_the_entry<S: Service>()
         (resumed_at (machine fresh S.after) e) (point_of (machine fresh S.after) e) n (spliced e.key local e.cisn (length e.bytes) e.mss i e.fin) }
 {}
 
-/// A new connection begins with its SYN: its TCP is at the point inside, with no difference between the numbers, and sends only the law's SYN-ACK.
+/// A new connection begins with its SYN: its TCP is at the point inside, with delta 0, and sends only the law's SYN-ACK.
 pub fn new_connections_begin_by_their_syn<S: Service>()
     ensures { (fresh : S) (boot : ℕ) (local : Addr) (numbers : Numbers) (after : Point) (calls : List Call) (sent : List Packet) → MayOpen numbers
         → MayUse calls (received (listens_with local numbers) (opened_syn local numbers))
@@ -62,8 +62,8 @@ pub fn new_connections_begin_by_their_syn<S: Service>()
         → BeginsInside (machine fresh S.after) local numbers after calls }
 {}
 
-/// In the turn that leaves its TCP CLOSED, since it has taken the client's FIN and its own is acknowledged, TCP sends nothing, the connection is over, and what
-/// is sent is a segment without data if an ACK is pending.
+/// In the turn in which TCP becomes CLOSED, since it has taken the client's FIN and its own is acknowledged, TCP sends nothing, and the connection is over. A
+/// segment without data is sent if an ACK is pending, and nothing else.
 pub fn connections_end_with_their_tcp<S: Service>()
     ensures { (fresh : S) (boot u i delta : ℕ) (news : News) (before after : Point) (calls : List Call) (e : Tcb) (sent : List Packet)
         → StandsInside u i delta before e → IsNamedRightly e → before.reset ≡ false → reset_after news before ≡ false → e.reset ≡ false
@@ -72,7 +72,7 @@ pub fn connections_end_with_their_tcp<S: Service>()
         → EndsInside (machine fresh S.after) u i delta news before after calls e }
 {}
 
-/// From then on the connection continues without it: TCP answers at most with a RST, which isn't passed on, and only its user's reads change it.
+/// From then on the connection continues without TCP: TCP answers at most with a RST, which isn't passed on, and only its user's reads change it.
 pub fn connections_outlive_their_tcp<S: Service>()
     ensures { (fresh : S) (boot u i delta : ℕ) (server : Addr) (news : News) (before after : Point) (calls : List Call) (e : Tcb) (sent : List Packet)
         → StandsClosed (machine fresh S.after) u i delta before e → LiveTurn (machine fresh S.after) server boot news before after sent
@@ -86,9 +86,9 @@ pub fn connections_are_reset_at_the_next_number()
         → resets (news_inside delta p (Comes segment)) e ≡ reset_after (Comes segment) p }
 {}
 
-/// From the parts at a point to the parts at the point after it: whatever arrives, except a RST at the next number, and whatever the north wrapper then reads,
-/// the turn is a lawful one of the connection, and what is sent is what the laws say. This holds in every incarnation, from the turn on in which a connection
-/// becomes live at the end of a restart, with its TCP open or CLOSED.
+/// A turn leads the parts of a connection from a point to the point after it: whatever arrives, except a RST at the next number, and whatever the north wrapper
+/// then reads, the turn is lawful, and what is sent is what the laws say. This holds in every incarnation, from the turn on in which a connection becomes live
+/// at the end of a restart, with its TCP open or CLOSED.
 pub fn connections_turn_by_their_parts<S: Service>()
     ensures { (fresh : S) (boot u i delta given : ℕ) (news : News) (before : Point) (old new : NorthState S) (reads : List ReadRecord) (e t : Tcb)
         → PartsStand (machine fresh S.after) u i delta given before old e → NewsFit before news → IsLater news before → reset_after news before ≡ false
@@ -115,7 +115,7 @@ pub fn connections_tick_by_their_tcp<S: Service>()
         → adds (machine fresh S.after) Ticks before after t ≡ false }
 {}
 
-/// Where the north wrapper makes its calls of TCP in a lawful turn, TCP is used as `connections_turn_by_their_tcp` requires, and fed as before.
+/// If the north wrapper makes its calls to TCP in a lawful turn, TCP is used as `connections_turn_by_their_tcp` requires, and `Feeds` holds after the turn.
 pub fn north_feeds_tcp<S: Service>()
     ensures { (fresh : S) (boot u i delta given : ℕ) (news : News) (before after : Point) (sent : List Packet) (old new : NorthState S)
         (reads : List ReadRecord) (e t : Tcb)
@@ -136,7 +136,7 @@ pub fn parts_tell_the_point<S: Service>()
         → PartsTell (machine fresh S.after) delta p n e }
 {}
 
-/// Once the news of a turn has come, they show what the laws on taking and on acknowledgements lead to.
+/// Once a turn's news has arrived, the parts show what the laws on taking and on acknowledgements lead to.
 pub fn news_tell_the_point<S: Service>()
     ensures { (fresh : S) (u i delta given : ℕ) (news : News) (p : Point) (n : NorthState S) (e : Tcb)
         → PartsStand (machine fresh S.after) u i delta given p n e

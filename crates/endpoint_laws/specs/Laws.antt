@@ -1,7 +1,7 @@
 -- What a segment and a flush do to an endpoint, in the endpoint's own terms: one definition for each sentence of the model's laws, and not for each check in
--- `Arrival` and `Leaving`. The laws are Taken and Sending, the one on pending ACKs, and that of the timer. `Standing` leads from here to the model's own
--- definitions, for passive opens; these hold of active ones too. The endpoint's limit bounds the right edge of its window in place of 2^24, and the target is
--- the bytes written, and one more once the user has closed.
+-- `tcp_endpoint`'s `Arrival` and `Output`. The laws are Taken and Sending, the one on pending ACKs, and that of the timer. They hold of passive and active
+-- opens. For passive ones, `Refinement` states the same in the model's own definitions. The endpoint's limit bounds the right edge of its window in place of
+-- 2^24, and the target is the bytes written, and one more once the user has closed.
 use Rattle.std.specs.Prelude.{◌≡◌, ℕ, Bool, true, false, pos, ◌+◌, ◌-◌, ◌*◌, ◌^◌, ◌<◌, ◌≤◌, ◌-ℤ◌, ◌≤ℤ◌, ◌==◌, ◌&&◌, ◌||◌, not, nat_lt, int_lt, int_le, max, min, nat_abs, length, if◌then◌else◌}
 use Rattle.seq_arith.specs.Number.{offset_of}
 use Rattle.seq_arith.specs.Arrival.{int_eq, is_acceptable_or_at_edge, is_usable, una_after, updates_window}
@@ -15,7 +15,7 @@ use Rattle.tcp_endpoint.specs.SendHalf.{Sending, target}
 use Rattle.tcp_endpoint.specs.Tcb.{Tcb}
 use Rattle.tcp_endpoint.specs.Arrival.{first, ack_at}
 
--- Taken: acceptable by the next number and the announced edge, or at that edge, ..
+-- Taken: acceptable by the next number and the advertised edge, or at that edge, ..
 abbrev pub accepts : Tcb → Segment → Bool
 accepts e p = is_acceptable_or_at_edge (next e.receiving) (advertised_edge e.receiving - next e.receiving) (first e p) (length_of p)
 
@@ -42,8 +42,8 @@ uses_window e p =
     && (not e.sending.syn_acked
     || updates_window e.sending.una (offset_of e.receiving.irs e.sending.wl1) e.sending.wl2 (first e p) (nat_abs (ack_at e p)))
 
--- Sending: a duplicate acknowledgement (RFC 5681, 2). It is used, its segment has neither text nor FIN, it acknowledges what is acknowledged already
--- while something is in flight, and it leaves the right edge as it is
+-- Sending: a duplicate acknowledgement (RFC 5681, 2). It is used, its segment has neither text nor FIN, it acknowledges what is acknowledged already while
+-- something is in flight, and it has the same right edge
 abbrev pub is_duplicate : Tcb → Segment → Bool
 is_duplicate e p =
     acknowledges e p
@@ -64,7 +64,7 @@ congestion_by e p =
     then with_new_data e.sending.mss (nat_abs (ack_at e p) - e.sending.una) e.sending.congestion
     else (if is_duplicate e p then with_duplicate e.sending.mss (e.sending.sent - e.sending.una) e.sending.congestion else e.sending.congestion)
 
--- Sending: what a tick does to them. Where the timer expires, what is in flight counts as lost if the peer has room for it
+-- Sending: what a tick does to them. Where the timer expires, what is in flight counts as lost if the right edge is past SND.UNA
 abbrev pub congestion_ticked : Sending → Congestion
 congestion_ticked s =
     if s.rest == 1 && nat_lt s.una s.sent && nat_lt s.una s.edge then with_expiry s.mss (s.sent - s.una) (s.interval == 1) s.congestion
@@ -83,7 +83,7 @@ pub record IsSentBy (e : Tcb) (p : Segment) (after : Sending) : Type 0 where
   pub held : after.una + length after.held ≡ max after.una (e.sending.una + length e.sending.held)
   pub closed : after.closed ≡ e.sending.closed
 
--- a packet that acknowledges at most what was sent, and nothing far before our stream. Its fields fit their bytes
+-- a packet that acknowledges at most what was sent, and nothing far before our stream; its fields fit their bytes
 pub record IsUsual (e : Tcb) (p : Segment) : Type 0 where
   pub sent : has_ack p ≡ true → ack_at e p ≤ℤ pos e.sending.sent
   pub near : has_ack p ≡ true → (pos 0 -ℤ pos (2 ^ 30 + 2 ^ 24)) ≤ℤ ack_at e p
@@ -124,7 +124,7 @@ abbrev pub sent_by_law : Tcb → ℕ
 sent_by_law e =
     max e.sending.sent (min (target e.sending) (min e.sending.edge (e.sending.una + e.sending.congestion.cwnd))) + one_if e.probe
 
--- the SYN isn't acknowledged yet, and the segment acknowledges less
+-- the SYN isn't acknowledged yet, and the segment has an acknowledgement of less than the SYN
 abbrev pub acknowledges_less : Tcb → Segment → Bool
 acknowledges_less e p = not e.sending.syn_acked && has_ack p && int_lt (ack_at e p) (pos 0)
 
@@ -173,7 +173,7 @@ last_advertised e = (e.last_ack_sent, e.last_advertised_edge)
 abbrev pub asks : Bool → Tcb → Bool
 asks ack_pending e = ack_pending || not (e.last_ack_sent == next e.receiving) || not (e.last_advertised_edge == advertised_edge e.receiving)
 
--- where the timer runs with all that was sent acknowledged, something is waiting that has no room below the edge
+-- where the timer runs and all that was sent is acknowledged, something is waiting that has no room below the edge
 pub record IsShut (s : Sending) : Type 0 where
   pub edge : 1 ≤ s.rest → s.syn_acked ≡ true → s.una ≡ s.sent → s.edge ≤ s.sent
   pub waits : 1 ≤ s.rest → s.syn_acked ≡ true → s.una ≡ s.sent → s.sent + 1 ≤ target s

@@ -1,4 +1,4 @@
--- An endpoint of `listen` before its SYN has come, and news that brings it no SYN.
+-- An endpoint of `listen` before a SYN has arrived, and whether news brings it one.
 use Rattle.std.specs.Prelude.{◌≡◌, ℕ, Bool, false, ◌≤◌, ◌^◌, length, None}
 use Rattle.ft_model.specs.News.{News}
 use Rattle.ft_model.specs.News.News.{Comes}

@@ -60,7 +60,7 @@ pub record StandsAt (p : Point) (e : Tcb) : Type 0 where
   pub interval : p.interval ≡ e.sending.interval
   pub rest : p.rest ≡ e.sending.rest
 
--- all output of a service is written, and the user has closed where it has
+-- all output of a service is written, and the user has closed exactly if the service has
 pub record HasWrittenAll {State : Type 0} (service : Machine State) (p : Point) (s : Sending) : Type 0 where
   pub written : released service p ≡ bytes_end s
   pub closed : (answered_run service p).closed ≡ s.closed
@@ -112,9 +112,9 @@ abbrev pub refusals : Addr → News → Point → List Segment
 refusals server (Comes segment) before = if refuses before segment then rst_at_ack server segment ∷ [] else []
 refusals server _ before = []
 
--- what is sent in a turn: that RST; retransmissions and probes; text and FIN; else a segment without data if an ACK is pending. The model's wrapped connection
--- sends the same, except that it drops TCP's RST, answers a repeated SYN with the logged SYN-ACK, and also has an ACK pending for what only it knows: what is
--- logged, and that it has become live or is over
+-- what is sent in a turn: that RST; retransmissions and probes; text and FIN; else a segment without data if an ACK is pending. The model's wrapped
+-- connection sends the same, except that it drops TCP's RST, answers a repeated SYN with the logged SYN-ACK, and also has an ACK pending where more is known
+-- to be logged, where it has become live, and where a segment arrives after it is over
 abbrev pub segments_by_laws : {State : Type 0} → Machine State → Addr → News → (before after : Point) → List Segment
 segments_by_laws service server news before after =
     or_bare (is_ack_pending news before after) (bare_segment server after)
@@ -124,7 +124,7 @@ segments_by_laws service server news before after =
 abbrev pub point_begun : (fetched : List ℕ) → Numbers → Point
 point_begun fetched numbers = record (point_opened numbers) { fetched = length fetched; taken = fetched; answered = length fetched; rest = 1 }
 
--- the numbers of a connection whose peer's stream has this initial number, once its SYN has come
+-- the numbers of a connection whose peer has this initial number, once its SYN has arrived
 abbrev pub numbers_with : (cisn sisn : ℕ) → Segment → Numbers
 numbers_with cisn sisn syn = record { key = source_of syn; cisn = cisn; sisn = sisn; mss = segment_size syn.head.mss }
 
@@ -141,7 +141,8 @@ pub record LeadsTo {State : Type 0} (service : Machine State) (news : News) (bef
   pub stands : StandsAt after (turned news calls e)
   pub segments : sent_in news calls e ≡ segments_by_laws service e.local news before after
 
--- a turn in which both FINs are through: the endpoint is CLOSED, nothing is sent, and its halves are at the point after it
+-- the end of a connection by FINs: the peer's is taken and ours is acknowledged, the endpoint is CLOSED, nothing is sent, and the halves are at the point
+-- after the turn
 pub record EndsAt (after : Point) (u : Tcb) : Type 0 where
   pub closed : u.name ≡ Closed
   pub over : is_over u ≡ true
@@ -150,22 +151,22 @@ pub record EndsAt (after : Point) (u : Tcb) : Type 0 where
   pub sent : after.sent ≡ u.sending.sent
   pub silent : leaving u ≡ []
 
--- a turn of a run: what arrives, what the user does, a service that has read and written like the user up to then, and the point after it. Whatever a user
--- writes, some service has written the same, and nothing else is required of it. So two turns may have different services
+-- a step of a run is a turn: what arrives, what the user does, a service that has read and written like the user up to then, and the point after it. Whatever
+-- a user writes, some service has written the same, and nothing else is required of it. So two turns may have different services
 pub record Step : Type 0 where
   pub news : News
   pub calls : List Call
   pub user : Machine ℕ
   pub after : Point
 
--- what is required of it: its segment is a usual one, the user's calls are allowed, and the point after it follows from the one before by the laws
+-- what is required of a step: its segment is a usual one, the user's calls are allowed, and the point after it follows by the laws from the point before it
 pub record IsStep (before : Point) (e : Tcb) (step : Step) : Type 0 where
   pub usual : IsUsualNews step.news e
   pub may : MayUse step.calls (arrived step.news e)
   pub laws : MeetsLaws step.user step.news before step.after
   pub used : IsUsedAt step.user step.after (before_flush step.news step.calls e)
 
--- a turn that leaves the endpoint CLOSED: a RST arrived at exactly the next number, or both FINs are through
+-- a turn that leaves the endpoint CLOSED: a RST arrived at exactly the next number, or the peer's FIN is taken and ours is acknowledged
 abbrev pub Ends : News → List Call → Tcb → Type 0
 Ends news calls e = (resets news e ≡ true) ⊎ (is_over (before_flush news calls e) ≡ true)
 

@@ -21,7 +21,7 @@ brings_fin_again (Comes segment) e =
     fin_of segment && int_eq (first_of e.receiving.irs segment +ℤ pos (length segment.payload + 1)) (pos (next e.receiving))
 brings_fin_again _ e = false
 
--- the ticks since the FIN last came
+-- the ticks since the peer's FIN last arrived
 abbrev pub ticks_after : (ticks : ℕ) → News → Tcb → ℕ
 ticks_after ticks Ticks e = ticks + 1
 ticks_after ticks news e = if brings_fin_again news e then 0 else ticks

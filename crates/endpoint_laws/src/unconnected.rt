@@ -24,7 +24,7 @@ pub fn closed_endpoints_refuse()
     ensures { (news : News) (calls : List Call) (e : Tcb) → e.name ≡ Closed → e.reset_reply ≡ None → sent_in news calls e ≡ sent_in_closed e.local news }
 {}
 
-/// It stays so, whatever arrives and whatever the user does.
+/// A CLOSED endpoint stays CLOSED, whatever arrives and whatever the user does.
 pub fn closed_endpoints_stay_closed()
     ensures { (news : News) (calls : List Call) (e : Tcb) → e.name ≡ Closed → e.reset_reply ≡ None
         → ((turned news calls e).name ≡ Closed) × ((turned news calls e).reset_reply ≡ None) × ((turned news calls e).local ≡ e.local)
@@ -37,14 +37,14 @@ pub fn listening_endpoints_refuse()
         → sent_in news calls e ≡ sent_in_listen e.local news }
 {}
 
-/// Only such a SYN ends that state, and nothing resets it.
+/// Of all that arrives only a SYN that opens a connection ends LISTEN, and nothing resets a listening endpoint.
 pub fn listening_endpoints_wait_for_a_syn()
     ensures { (iss limit : ℕ) (news : News) (e : Tcb) → IsListening iss limit e → brings_syn news ≡ false
         → ((arrived news e).name ≡ Listen) × ((arrived news e).reset ≡ e.reset) }
 {}
 
-/// In the turn of that SYN a segment is sent that isn't a RST, and each such segment has ACK, acknowledges exactly the SYN, and advertises the window. This
-/// holds for every limit.
+/// In the turn of that SYN at least one segment is sent that isn't a RST, and each such segment has ACK, acknowledges exactly the SYN, and advertises the
+/// window. This holds for every limit.
 pub fn syns_are_acknowledged()
     ensures { (iss limit : ℕ) (syn : Segment) (calls : List Call) (e : Tcb) → IsListening iss limit e → is_syn syn ≡ true
         → ReadsOnlyTaken calls (received e syn)
@@ -62,7 +62,7 @@ pub fn active_opens_send_their_syn_again()
         ++ (if is_syn_sent (before_flush news calls e).name && expires_at news e.sending then syn_of e.local e.remote iss limit ∷ [] else []) }
 {}
 
-/// The timer continues at each tick, and no segment changes it.
+/// While an active open waits, its timer continues at each tick, and no segment changes it.
 pub fn active_opens_time_by_law()
     ensures { (iss limit : ℕ) (news : News) (calls : List Call) (e : Tcb) → IsConnecting iss limit e → MayUse calls (arrived news e)
         → (before_flush news calls e).name ≡ SynSent

@@ -1,5 +1,5 @@
 -- What the laws Acknowledgement and Window promise of a turn's packets: every segment to the client reports what is taken and answered, and a turn without a
--- segment has nothing new to report. So after each turn the last report to the client is of what holds now.
+-- segment has nothing new to report. So after each turn the last report to the client is up to date.
 use Rattle.std.specs.Prelude.{◌≡◌, Bool, true, false, List}
 use Rattle.std.specs.List.{AllByRecursion, list_any}
 use Rattle.seq_arith.specs.Number.{number_at}
@@ -14,7 +14,7 @@ is_segment (To_server segment) = false
 is_segment (To_logger message) = false
 is_segment (From_logger message) = false
 
--- a segment to the client acknowledges what the point does, and advertises its window
+-- a segment to the client has the acknowledgement and the window of the point
 abbrev pub Tells : Point → Packet → Type 0
 Tells p (To_client segment) = (segment.head.ack ≡ number_at p.cisn (acknowledgement p)) × (segment.head.window ≡ window p)
 Tells p (To_server segment) = Unit {0}

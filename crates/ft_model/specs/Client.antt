@@ -14,8 +14,8 @@ use Rattle.ft_model.specs.declared.event.Event.TheVariants as events
 use Rattle.ft_model.specs.declared.event.EventWhy.{EventWhy}
 use Rattle.ft_model.specs.declared.event.EventWhy.TheVariants.{State, Range}
 
--- Which of the two kinds a client is, from its start on. A scripted one makes exactly the moves that the events of a schedule ask for. A live one is a TCP of
--- its own
+-- The two kinds of clients. A client is of one kind from its start on. A scripted one makes exactly the moves that the events of a schedule ask for. A live
+-- one is a TCP of its own
 pub data ClientKind : Type 0 where
   Scripted : ClientKind
   Live : ClientKind
@@ -29,10 +29,10 @@ pub record Client : Type 0 where
   pub phase : Phase
   pub sisn : ℕ  -- the server's initial number; 0 until it is known
   pub sent : ℕ  -- units sent, from the first on
-  pub acknowledged : ℕ  -- units of these that the server acknowledged
+  pub acknowledged : ℕ  -- how many of these units the server has acknowledged
   pub accepted : List ℕ  -- the server's bytes
   pub edge : ℕ  -- the right edge: no byte from here on is accepted
-  pub early : Early  -- of a live client: the server's text behind the accepted bytes, and its FIN, that are held
+  pub early : Early  -- of a live client: the server's text after the accepted bytes, and its FIN, that are held
 
 abbrev pub new_client : ClientKind → Addr → Key → ℕ → List ℕ → Client
 new_client kind server key isn script = record { kind = kind; key = key; server = server; isn = isn; script = script; phase = New; sisn = 0; sent = 0; acknowledged = 0; accepted = []; edge = 0; early = nothing_early }
@@ -59,8 +59,8 @@ is_open _ = false
 abbrev pub accepted_units : Client → ℕ
 accepted_units client = length client.accepted + one_if (is_ended client.phase)
 
--- What a client may send (RFC 9293, 3.10.4 and 3.10.7.3). A refusal answers a wrong acknowledgement of its SYN by a RST with that number. The client is then
--- opening as before.
+-- What a client may send (RFC 9293, 3.10.4 and 3.10.7.3). A refusal is a RST that answers a wrong acknowledgement of the client's SYN, and has that number.
+-- The client is then opening as before.
 pub data Move : Type 0 where
   Syn : (mss : Option ℕ) → Move
   Text : (from len : ℕ) → Move
@@ -94,7 +94,7 @@ suits_phase client Rst = is_opening client.phase || is_open client.phase
 suits_phase client (Refuse number) = is_opening client.phase
 
 -- text begins no earlier than at the first unacknowledged unit and no later than at the first unsent one, has 1 to 1,460 bytes and stays within the script. A
--- FIN comes once the whole script is sent. A refused acknowledgement isn't that of what was sent (RFC 9293, 3.10.7.3)
+-- FIN comes once the whole script is sent. A refused acknowledgement is any but that of the SYN (RFC 9293, 3.10.7.3)
 abbrev pub suits_range : Client → Move → Bool
 suits_range client (Text from len) = nat_le client.acknowledged from && nat_le from client.sent && nat_le 1 len && nat_le len 1460 && nat_le (from + len) (length client.script)
 suits_range client Fin = nat_le (length client.script) client.sent
@@ -171,7 +171,7 @@ phase_after phase _ = phase
 abbrev pub moved : Client → Move → ℕ → Client
 moved client move window = record client { phase = phase_after client.phase move; sent = sent_after client move; edge = max client.edge (length client.accepted + window) }
 
--- a move advertises a window that a header can hold, and a RST none
+-- a move advertises a window that a header can hold. A RST advertises none: its window is 0
 abbrev pub may_advertise : Move → ℕ → Bool
 may_advertise Rst window = window == 0
 may_advertise (Refuse number) window = window == 0
@@ -200,14 +200,14 @@ move_asked (events.Deliver packet) = None
 move_asked (events.Flip packet bit) = None
 move_asked (events.Stop part) = None
 
--- only the client, and only the move
+-- the client alone, and the move alone
 abbrev pub mover_of : Event → Option ℕ
 mover_of event = option_map (λ a. a.0) (move_asked event)
 
 abbrev pub move_of : Event → Option Move
 move_of event = option_map (λ a. a.1) (move_asked event)
 
--- .. and with which window: that of the event; for text and FIN the room that was advertised before; none with a RST
+-- .. and with which window: that of the event; for text and FIN the room that is left of what was advertised; 0 with a RST
 abbrev pub window_of : Client → Event → ℕ
 window_of client (events.Begin number window) = window
 window_of client (events.Ack number window) = window
@@ -239,8 +239,8 @@ opened_by client segment =
     then (if has_rst segment then record client { phase = Reset } else (if has_syn segment then record client { phase = Established; sisn = segment.head.seq } else client))
     else client
 
--- whether the acknowledgement of a segment may be used. A scripted client uses only TCP's four cases. A live one also accepts what is at its right edge, and
--- uses what a zero window allows
+-- whether the acknowledgement of a segment may be used. A scripted client uses only segments that are acceptable by TCP's four cases. A live one also uses
+-- those of length 0 at its right edge, and those that a zero window allows
 abbrev pub may_use : Client → Segment → Bool
 may_use client segment =
     if is_live client.kind

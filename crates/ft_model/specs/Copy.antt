@@ -1,6 +1,6 @@
--- The law Copy: which part of a segment is sent to the logger, and which part of the held text that is taken because of it (FT-TCP, INFOCOM 2001: the south
--- side wrapper). Nothing is stored for retransmission: the client gets no acknowledgement, so it retransmits. Whether the segment was acceptable doesn't
--- matter.
+-- The law Copy: which part of a segment is sent to the logger, and which part of the held text that is taken in the same turn (FT-TCP, INFOCOM 2001: the
+-- south side wrapper). No Data is stored for retransmission: where one is lost, the client gets no acknowledgement, and so retransmits. Whether the segment
+-- was acceptable doesn't matter.
 use Rattle.std.specs.Prelude.{ℕ, ℤ, Bool, false, zero, suc, pos, negsuc, ◌+◌, ◌-◌, ◌&&◌, ◌||◌, not, nat_lt, nat_le, max, min, List, [], ◌∷◌, ◌++◌, length, take, drop, if◌then◌else◌}
 use Rattle.ft_io.specs.declared.Key.{Key}
 use Rattle.seq_arith.specs.Arrival.{int_eq, below}
@@ -26,7 +26,7 @@ copy_start p segment = max p.answered (from_start (first_of p.cisn segment))
 abbrev pub copied_text : Point → Segment → List ℕ
 copied_text p segment = take (length p.taken - copy_start p segment) (drop (below p.answered (first_of p.cisn segment)) (text_of segment))
 
--- whether the segment's FIN is the one that is taken, and isn't known to be logged
+-- whether the FIN that is taken is this segment's, and isn't known to be logged
 abbrev pub copies_fin : Point → Segment → Bool
 copies_fin p segment = fin_of segment && p.fin && int_eq (end_of p segment) (pos (length p.taken)) && nat_le p.answered (length p.taken)
 
@@ -37,11 +37,12 @@ una_part p = record { key = p.key; offset = min p.answered (length p.taken); ack
 abbrev pub copied_part : Point → Segment → Part
 copied_part p segment = record { key = p.key; offset = copy_start p segment; acked = p.una; fin = copies_fin p segment; bytes = copied_text p segment }
 
--- the part of the segment between what is answered and what is taken after the turn, if there is one
+-- the part of the segment that isn't known to be logged and is taken after the turn, as one Data, if there is such a part
 unfoldable pub own_data : Point → Segment → List Body
 own_data p segment = if nat_lt 0 (length (copied_text p segment)) || copies_fin p segment then DataMsg (copied_part p segment) ∷ [] else []
 
--- where the text begins that was held, is taken in this turn and isn't known to be logged: after the bytes taken before and after the segment's own
+-- where the text begins that was held, is taken in this turn and isn't known to be logged: it is past the bytes that were taken before the turn, and past the
+-- segment's own text
 abbrev pub further_start : (before after : Point) → Segment → ℕ
 further_start before after segment = max after.answered (max (length before.taken) (min (from_start (end_of after segment)) (length after.taken)))
 

@@ -1,8 +1,8 @@
 -- The grammar of a schedule's text: the schedule that it spells, or the first line that is refused and why.
 --
--- First `service NAME`, then `server ADDRESS`, then `twin` where there are two loggers or `marks EVERY` where the server marks the log, then 0 to 16 times `client N ADDRESS ISN SCRIPT` with N from 1 in order,
--- then events: `boot BOOT ISN`, `crash`, `tick`, `deliver P`, `flip P BIT`, `open N W`, `send N FROM LEN`, `fin N`, `ack N W`, `reset N`, `stop PART`. A line
--- without words, or whose first byte is `#`, is skipped, but counted.
+-- First `service NAME`, then `server ADDRESS`, then `twin` where there are two loggers or `marks EVERY` where the server marks the log, then 0 to 16 times
+-- `client N ADDRESS ISN SCRIPT` with N from 1 in order, then events: `boot BOOT ISN`, `crash`, `tick`, `deliver P`, `flip P BIT`, `open N W`,
+-- `send N FROM LEN`, `fin N`, `ack N W`, `reset N`, `stop PART`. A line without words, or whose first byte is `#`, is skipped, but counted.
 use Rattle.std.specs.Prelude.{ℕ, Bool, true, false, ◌+◌, ◌-◌, ◌^◌, ◌==◌, ◌&&◌, ◌||◌, not, nat_lt, nat_le, Option, Some, None, is_none, option_map, Result, Ok, Err, List, [], ◌∷◌, ◌++◌, length, codes, if◌then◌else◌}
 use Rattle.std.specs.List.{list_all, list_any}
 use Rattle.std.specs.Option.{ok_or}
@@ -193,7 +193,7 @@ verbs =
     ∷ (codes "stop", verb.Stop)
     ∷ []
 
--- what such a table has for a word
+-- the verb that such a table has for a word
 abbrev pub announced : List (List ℕ × Verb) → List ℕ → Option Verb
 announced [] word = None
 announced (row ∷ rows) word = if bytes_eq word row.0 then Some row.1 else announced rows word
@@ -230,7 +230,7 @@ has_next_number count (client ∷ more) = is_next count (numeral 20 client)
 unfoldable pub may_join : Schedule → List (List ℕ) → Bool
 may_join schedule words = length schedule.events == 0 && nat_lt (length schedule.clients) 16 && has_next_number (length schedule.clients) words
 
--- that there are two loggers, or that the server marks the log, is said directly behind the server's line
+-- the line `twin` or `marks` comes directly after the server's line
 unfoldable pub has_only_server : Schedule → Bool
 has_only_server schedule = length schedule.events == 0 && length schedule.clients == 0 && not schedule.twin && is_none schedule.marks
 
@@ -315,7 +315,7 @@ after_line objection n draft text =
     else (if is_too_much draft text then Err (TooLong limit.Events)
     else at_line n (line_of draft text >>= λ l. unless_objected (objection draft l) (with_line draft l)))
 
--- a text that ends before its server line is refused for lack of it, at the line after its last
+-- a text that ends before its server line is refused because that is missing, at the number after its last line
 abbrev pub schedule_of : ℕ → Draft → Result Schedule Refusal
 schedule_of n (Begun schedule) = Ok schedule
 schedule_of n _ = Err (BadLine n why.Place)

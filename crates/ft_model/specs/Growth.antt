@@ -1,14 +1,14 @@
--- How the log grows: what it has it never loses.
+-- How the log grows: it never loses anything that it has.
 use Rattle.std.specs.Prelude.{◌≡◌, ℕ, ◌≤◌, ◌+◌, true, Option, Some, None, List, [], ◌∷◌, ◌++◌, length}
 use Rattle.ft_io.specs.declared.Key.{Key}
 use Rattle.ft_model.specs.Offset.{one_if}
 use Rattle.ft_model.specs.Log.{Entry, Log, entry_of}
 
--- a list with which the other begins
+-- the first list is a prefix of the second
 abbrev pub IsPrefix : {A : Type 0} → List A → List A → Type 0
 IsPrefix {A} front whole = (rest : List A) × (front ++ rest ≡ whole)
 
--- an entry and its later state: its numbers and its bytes stay, no byte is added after a FIN, and reads are only appended
+-- an entry and its later state: the numbers and the bytes stay, no byte is added after a FIN, and reads are only appended
 pub record EntryGrows (before after : Entry) : Type 0 where
   pub key : after.key ≡ before.key
   pub cisn : after.cisn ≡ before.cisn

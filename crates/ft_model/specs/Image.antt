@@ -5,7 +5,7 @@ use Rattle.ft_model.specs.Wire.{Wire, wire_of, HasWire}
 use Rattle.ft_model.specs.World.{Moment}
 use Rattle.ft_model.specs.declared.event.Event.{Event}
 
--- the bytes of a trace, its newest moment first
+-- the events and wires of a trace, its newest moment first
 abbrev pub wires_of : List Moment → List (Event × List Wire)
 wires_of trace = map (λ moment. (moment.event, map wire_of moment.sent)) trace
 

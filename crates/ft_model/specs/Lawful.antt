@@ -57,7 +57,7 @@ Continues service node count fetched (Some w) after sent = (after ≡ Fetching c
 Continues service node count fetched None after sent =
     (places : List Place) × (after ≡ Serving (restored_count fetched) places) × AllGo (Revives service node) (all_restored service fetched) places sent
 
--- .. with what is now missing of the log's entries
+-- the same, where the question is for what is now missing of the log's entries
 abbrev pub Fetches : {State : Type 0} → Machine State → Node → (count : ℕ) → List Fetched → Stage → List Packet → Type 0
 Fetches service node count fetched after sent = Continues service node count fetched (wanted count fetched) after sent
 
@@ -69,11 +69,11 @@ summary_count _ = None
 abbrev pub count_told : Node → Message → Option ℕ
 count_told node message = if message.boot == node.boot then summary_count message.body else None
 
--- what is fetched after a message, if it is a fitting answer of this boot
+-- what is fetched after a message, if the message is an answer of this boot that fits
 abbrev pub fetched_then : Node → Message → (count : ℕ) → List Fetched → Option (List Fetched)
 fetched_then node message count fetched = if message.boot == node.boot then fetched_after (wanted count fetched) message.body fetched else None
 
--- what a client is sent while the server fetches. Nothing is sent until its entry has come, nor where that is done, nor in answer to a RST
+-- what a client is sent while the server fetches. Nothing is sent before its entry is fetched, nor if that is done, nor in answer to a RST
 abbrev pub held : Node → List Fetched → Segment → List Packet
 held node fetched segment =
     if is_for node.server segment && not (has_rst segment)
@@ -100,7 +100,7 @@ abbrev pub newer_than : ℕ → Body → Option ℕ
 newer_than boot (StaleMsg newer) = if nat_lt boot newer then Some newer else None
 newer_than boot _ = None
 
--- a Stale of the server's own boot that names a larger one
+-- a Stale with the server's own boot, which names a larger one: it fences the server
 abbrev pub fence : Node → Input → Option ℕ
 fence node (Message_comes message) = if message.boot == node.boot then newer_than node.boot message.body else None
 fence node (Packet_comes segment) = None
@@ -160,8 +160,7 @@ IsNearInput server (Message_comes message) stage = Unit {0}
 IsNearInput server Noise_comes stage = Unit {0}
 IsNearInput server Tick_comes stage = Unit {0}
 
--- .. and the entries that it has fetched completely are sound. An entry of which something is missing is no entry of the log yet, and one that is done isn't
--- replayed
+-- .. and the entries that it has fetched completely are sound. An entry that isn't complete yet needn't be sound, and one that is done isn't replayed
 abbrev pub AreSound : {State : Type 0} → Machine State → List Fetched → Type 0
 AreSound service fetched = AllByRecursion (λ f. f.head.done ≡ false → is_whole f ≡ true → IsSoundEntry service (entry_in f)) fetched
 

@@ -1,5 +1,5 @@
--- A legal trace of a schedule: it starts from the schedule's clients and the empty log, its server runs the schedule's service, its events are all of the
--- schedule's, in order and each of them allowed, and its clients follow the script.
+-- A legal trace of a schedule: it starts with the schedule's clients and the empty log, its server runs the schedule's service, its events are exactly the
+-- schedule's, in order, each of them is allowed, and its clients are scripted.
 use Rattle.std.specs.Prelude.{◌≡◌, ℕ, ◌*◌, length, nat_le, Option, Some, None, is_some, List, [], ◌∷◌, if◌then◌else◌}
 use Rattle.server_trait.specs.Service.{Served, Machine, machine}
 use Rattle.ft_model.specs.Client.{Client, Move, move_asked, window_of, refusal_of_move, segment_of, moved}
@@ -48,7 +48,7 @@ refusal w (Ack client window) = refusal_of_asked w.clients (move_asked (Ack clie
 refusal w (Reset client) = refusal_of_asked w.clients (move_asked (Reset client))
 refusal w (Stop part) = Some why.Stop
 
--- a client makes the move that the event asks for, with the scripted client's window: it sends that move's packet, and is then the client after the move
+-- a client makes the move that the event asks for, with the scripted client's window: it sends that move's packet, and its state is then that after the move
 abbrev pub IsScripted : World → Event → List Packet → World → Type 0
 IsScripted before event sent after =
     (number : ℕ) (move : Move) (client : Client) → move_asked event ≡ Some (number, move) → client_at before.clients number ≡ Some client

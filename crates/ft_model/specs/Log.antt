@@ -108,7 +108,7 @@ abbrev pub on_entry : (Entry → Option Body) → Option Entry → Option Body
 on_entry tell (Some e) = tell e
 on_entry tell None = None
 
--- the log's answer once it has taken a message of its own boot
+-- the answer to a message of the log's own boot, from the log after that message
 abbrev pub answer_from : Body → Log → Option Body
 answer_from HelloMsg log = Some (SummaryMsg (length log.entries))
 answer_from (ListMsg index) log = on_entry (λ e. Some (EntryMsg index (head_of e))) (slice_get log.entries index)

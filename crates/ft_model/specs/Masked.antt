@@ -40,7 +40,7 @@ AcknowledgesLogged log clients (To_server segment) = Unit {0}
 AcknowledgesLogged log clients (To_logger message) = Unit {0}
 AcknowledgesLogged log clients (From_logger message) = Unit {0}
 
--- an entry's connection is live: it was at the entry's point, and continued from there by the law of every turn
+-- an entry's connection is live: it began at the entry's point, and its first turn followed the law of every turn
 pub record IsResumed {State : Type 0} (service : Machine State) (node : Node) (places : List Place) (entry : Entry) : Type 0 where
   pub point : Point
   pub sent : List Packet

@@ -22,9 +22,9 @@ key_of (Ended key) = key
 
 pub data Stage : Type 0 where
   Asking : Stage  -- Hello is unanswered
-  Fetching : (count : ℕ) → List Fetched → Stage  -- of so many entries these have come, the newest first
-  Serving : (opened : ℕ) → List Place → Stage  -- so many initial numbers are used up; the places stand in the log's order, then in that of the SYNs
-  Fenced : (newer : ℕ) → Stage  -- a newer incarnation has spoken to the log: this one has ended
+  Fetching : (count : ℕ) → List Fetched → Stage  -- of so many entries these have been fetched, at least in part, the newest first
+  Serving : (opened : ℕ) → List Place → Stage  -- so many initial numbers are used up; the places are in the log's order, then in that of the SYNs
+  Fenced : (newer : ℕ) → Stage  -- a newer incarnation has said Hello to the log: this one has ended
 
 pub record Node : Type 0 where
   pub server : Addr

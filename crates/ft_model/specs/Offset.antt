@@ -1,4 +1,4 @@
--- Offsets that name the right place: those of a packet (`Rattle.seq_arith.specs.Offset`), where they are near the stream.
+-- A packet in stream offsets (`Rattle.seq_arith.specs.Offset`), and when these are near: then they name the right place in the stream.
 use Rattle.std.specs.Prelude.{◌≡◌, ℕ, ℤ, true, pos, ◌-ℤ◌, ◌≤ℤ◌, ◌^◌}
 use Rattle.seq_arith.specs.Packet.{Segment, has_ack}
 pub use Rattle.seq_arith.specs.Offset.{first_of, ack_of, text_of, fin_of, one_if, length_of}

@@ -9,12 +9,12 @@ use Rattle.ft_model.specs.News.{News}
 use Rattle.ft_model.specs.News.News.{Comes, Logged, Ticks, Begins}
 use Rattle.ft_model.specs.Taken.{accepts}
 
--- while the SYN is unacknowledged, TCP answers an acknowledgement of less with a RST, which isn't passed on, and with nothing else
+-- while the SYN is unacknowledged, TCP answers an acknowledgement of less than the SYN with a RST only, and that RST isn't passed on
 abbrev pub is_refused : Point → Segment → Bool
 is_refused p segment = not p.syn_acked && has_ack segment && int_lt (ack_of p.sisn segment) (pos 0)
 
--- which acceptable segments TCP answers: a SYN, and a RST that isn't at the next number, with a challenge ACK, and a segment with a length with an ACK. A
--- segment without length past the next number gets no answer: otherwise two ends that each miss a segment would answer each other forever
+-- which acceptable segments TCP answers: a SYN, and a RST that isn't at the next number, get a challenge ACK, and a segment whose length isn't 0 gets an ACK.
+-- A segment of length 0 past the next number gets no answer: otherwise two ends that each miss a segment would answer each other forever
 abbrev pub needs_ack_if_acceptable : Point → Segment → Bool
 needs_ack_if_acceptable p segment =
     if has_rst segment then not (int_eq (first_of p.cisn segment) (pos (taken_units p)))
@@ -25,7 +25,7 @@ needs_ack_if_acceptable p segment =
 unfoldable pub needs_ack : Point → Segment → Bool
 needs_ack p segment = if accepts p segment then needs_ack_if_acceptable p segment else not (has_rst segment)
 
--- the turn's news requires a segment: TCP answers, or the connection was over before and the segment is no RST, or the connection has become live
+-- the turn's news requires a segment: TCP answers, or the connection was over before and the segment that arrives is no RST, or the connection becomes live
 abbrev pub asks : {State : Type 0} → Machine State → News → Point → Bool
 asks service (Comes segment) before = needs_ack before segment || (is_over service before && not (has_rst segment))
 asks service (Logged kept) before = false

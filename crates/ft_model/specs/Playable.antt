@@ -1,4 +1,4 @@
--- What a schedule must be to be played: its clients can start, and its events' numbers have the sizes of their types.
+-- What a schedule must be to be played: its clients can start, and its events' numbers fit their types.
 use Rattle.std.specs.Prelude.{◌≡◌, true, ◌<◌, ◌≤◌, ◌^◌, length, All}
 use Rattle.std.specs.List.{AllByRecursion}
 use Rattle.ft_model.specs.Readable.{FitsAddr, FitsClient, FitsEvent}
@@ -6,7 +6,7 @@ use Rattle.ft_model.specs.Schedule.{bytes_of, clients_of}
 use Rattle.ft_model.specs.World.{are_apart}
 use Rattle.ft_model.specs.declared.schedule.Schedule.{Schedule}
 
--- the clients' scripts fit a stream, the numbers of clients and events have their sizes, and all addresses differ
+-- the clients' scripts fit a stream, the numbers of clients and events fit their types, and all addresses differ
 pub record IsPlayable (schedule : Schedule) : Type 0 where
   pub server : FitsAddr schedule.server
   pub short : All (λ line. length (bytes_of line.script) ≤ 2 ^ 24) schedule.clients

@@ -16,15 +16,15 @@ pub record Point : Type 0 where
   pub fetched : ℕ  -- the client's bytes that a restart fetched from the log; else 0
   pub taken : List ℕ  -- the client's bytes that are taken, the fetched ones first
   pub fin : Bool  -- whether the client's FIN is taken
-  pub early : Early  -- the client's text behind the bytes taken, and its FIN, that are held until the gap before them is filled
+  pub early : Early  -- the client's text after the bytes taken, and its FIN, that are held until the gap before them is filled
   pub answered : ℕ  -- the client's units that are known to be logged
   pub lengths : List ℕ  -- of all reads, the fetched ones first
   pub reads_answered : ℕ  -- how many of these, from the first on, are known to be logged
   pub una : ℕ  -- SND.UNA: the units of output that are acknowledged
   pub sent : ℕ  -- SND.NXT: the units of output that are sent
   pub edge : ℕ  -- the client's right edge, from which on nothing may be sent. It is absolute: SND.UNA + SND.WND when a segment sets it, and it stays where only SND.UNA moves
-  pub wl1 : ℤ  -- SND.WL1: where the segment began that set the edge last
-  pub wl2 : ℕ  -- SND.WL2: what it acknowledged
+  pub wl1 : ℤ  -- SND.WL1: where the segment begins that last set the edge
+  pub wl2 : ℕ  -- SND.WL2: what that segment acknowledged
   pub congestion : Congestion  -- the congestion window, the slow start threshold, and the duplicate acknowledgements
   pub syn_acked : Bool  -- whether the SYN is acknowledged: an acknowledgement has counted
   pub interval : ℕ  -- of the timer, in ticks
@@ -91,15 +91,15 @@ released service p = length (answered_run service p).output
 abbrev pub target : {State : Type 0} → Machine State → Point → ℕ
 target service p = released service p + one_if (answered_run service p).closed
 
--- the receive edge: 65,535 bytes are buffered past what is read, the fetched bytes are there already, and a stream has at most 2^24 bytes
+-- the right edge of the receive window: 65,535 bytes are buffered past what is read, the fetched bytes are there already, and a stream has at most 2^24 bytes
 abbrev pub receive_edge : Point → ℕ
 receive_edge p = min (max p.fetched (bytes_read p) + 65535) (2 ^ 24)
 
--- what is held is after what is taken, and within the receive edge. This holds in every joint trace
+-- the data that is held is after a gap and below the right edge of the receive window. This holds in every joint trace
 abbrev pub HoldsBehind : Point → Type 0
 HoldsBehind p = StandsBehind (length p.taken) (receive_edge p) p.fin p.early
 
--- the edge that TCP advertises: a FIN that is taken has used up one number
+-- the right edge that TCP advertises: a FIN that is taken has used up one number
 abbrev pub advertised_edge : Point → ℕ
 advertised_edge p = receive_edge p + one_if p.fin
 
@@ -107,6 +107,6 @@ advertised_edge p = receive_edge p + one_if p.fin
 abbrev pub room : Point → ℕ
 room p = advertised_edge p - taken_units p
 
--- the connection is over: both FINs are through, the client's is taken, and the server's, the unit after all output, is acknowledged
+-- the connection is over, that is, both FINs are done: the client's is taken, and the server's, the unit after all output, is acknowledged
 abbrev pub is_over : {State : Type 0} → Machine State → Point → Bool
 is_over service p = p.fin && nat_lt (released service p) p.una

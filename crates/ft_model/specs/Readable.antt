@@ -84,7 +84,7 @@ FitsScript (Fill n) = FitsU64 n
 abbrev pub FitsClient : ClientLine → Type 0
 FitsClient asked = FitsKey asked.key × FitsU64 asked.isn × FitsScript asked.script
 
--- a schedule whose numbers have the sizes of their types
+-- a schedule whose numbers fit their types
 pub record FitsSchedule (schedule : Schedule) : Type 0 where
   pub ip : schedule.server.ip < 2 ^ 32
   pub port : schedule.server.port < 2 ^ 16

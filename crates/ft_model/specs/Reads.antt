@@ -37,7 +37,7 @@ abbrev pub Makes : {State : Type 0} → Machine State → Point → List ℕ →
 Makes service p [] = next_read service p ≡ None
 Makes service p (n ∷ lengths) = (next_read service p ≡ Some n) × Makes service (with_read n p) lengths
 
--- Reads: given what is taken, answered and acknowledged after the turn, reads are made after those of before
+-- Reads: given what is taken, answered and acknowledged after the turn, new reads are appended to the earlier ones
 pub record MakesReads {State : Type 0} (service : Machine State) (before after : Point) : Type 0 where
   pub news : List ℕ
   pub lengths : after.lengths ≡ before.lengths ++ news

@@ -46,8 +46,8 @@ is_whole f = not (lacks_lengths f) && not (lacks_bytes f)
 abbrev pub next_entry : (count index : ℕ) → Option Wanted
 next_entry count index = if nat_lt index count then Some (An_entry index) else None
 
--- What is asked for next, of `count` entries. The list has the newest fetched one first, and that is completed before the next is asked for: first its bytes as
--- far as its fetched reads go, then further lengths, and at last the bytes after all reads. So a read can be replayed as soon as it is complete, and its bytes
+-- What is asked for next, of `count` entries. The list has the newest fetched one first, and that is completed before the next is asked for: first the bytes
+-- of its fetched reads, then further lengths, and at last the bytes after all reads. So a read can be replayed as soon as it is complete, and its bytes
 -- needn't be kept
 abbrev pub wanted : (count : ℕ) → List Fetched → Option Wanted
 wanted count [] = next_entry count 0
@@ -89,7 +89,7 @@ abbrev pub fetched_after : Option Wanted → Body → List Fetched → Option (L
 fetched_after (Some w) body fetched = fetched_by w body fetched
 fetched_after None body fetched = None
 
--- The answer to a client whose entry has come, while the node still fetches: it acknowledges the logged length and FIN, with window 0
+-- The answer to a client whose entry is fetched, while the server still fetches: it acknowledges the logged length and FIN, with window 0
 abbrev pub holding_segment : Addr → EntryHead → Segment
 holding_segment server head = record {
   head = record {
@@ -128,7 +128,7 @@ entry_in f = record {
 abbrev pub run_of : {State : Type 0} → Machine State → Entry → Run State
 run_of service e = reference service e.bytes e.lengths
 
--- where the output continues: after what the client acknowledged of it. A FIN is retransmitted even where it was acknowledged
+-- where the output continues: after what the client acknowledged of it. The server's FIN is retransmitted even if it was acknowledged
 abbrev pub resumed_at : {State : Type 0} → Machine State → Entry → ℕ
 resumed_at service e = min e.acknowledged (length (run_of service e).output)
 

@@ -84,7 +84,7 @@ unacknowledged_text service before after = min before.sent (released service aft
 abbrev pub room_or_one : Point → ℕ
 room_or_one p = max 1 (p.edge - p.una)
 
--- how many bytes are retransmitted: at most one segment of what was sent, and no more than the client has room for, where its room counts as at least one
+-- how many bytes are retransmitted: at most one segment of what was sent, and no more than the client's room, which counts as at least one byte
 abbrev pub resent_length : {State : Type 0} → Machine State → Point → Point → ℕ
 resent_length service before after = min after.mss (min (unacknowledged_text service before after) (room_or_one after))
 
@@ -115,7 +115,7 @@ resent service server news before after =
     then (if is_unacknowledged before after then first_unacknowledged service server before after else probe service server before after)
     else []
 
--- up to where text is sent now: all that is sent except the FIN
+-- the offset up to which text is sent now: all that is sent at once, except the FIN
 abbrev pub text_sent : {State : Type 0} → Machine State → Point → Point → ℕ
 text_sent service before after = min (sent_at_once service before after) (released service after)
 

@@ -12,11 +12,11 @@ use Rattle.ft_model.specs.News.News.{Comes, Logged, Ticks, Begins}
 use Rattle.ft_model.specs.Taken.{counts}
 use Rattle.ft_model.specs.Timer.{expires, probes}
 
--- the segment's acknowledgement is used: it counts, and names an offset of the output
+-- the segment's acknowledgement is used: the segment counts, and its acknowledgement is at offset 0 of the output or later
 abbrev pub acknowledges : Point → Segment → Bool
 acknowledges p segment = counts p segment && int_le (pos 0) (ack_of p.sisn segment)
 
--- what it acknowledges, but at most what this incarnation sent. The client may have more from an earlier one ..
+-- what a segment acknowledges, but at most what this incarnation sent. The client may have received more from an earlier one ..
 abbrev pub acknowledged_by : Point → Segment → ℕ
 acknowledged_by p segment = min (nat_abs (ack_of p.sisn segment)) p.sent
 
@@ -24,7 +24,7 @@ acknowledged_by p segment = min (nat_abs (ack_of p.sisn segment)) p.sent
 abbrev pub window_by : Point → Segment → ℕ
 window_by p segment = min 65535 (segment.head.window + nat_abs (ack_of p.sisn segment) - acknowledged_by p segment)
 
--- whether the window is used: by TCP's test for older segments, and always where none has counted yet
+-- whether the window is used: by TCP's test for older segments, and always where no acknowledgement has counted yet
 abbrev pub moves_edge : Point → Segment → Bool
 moves_edge p segment =
     acknowledges p segment
@@ -68,12 +68,12 @@ wl2_after Begins p = p.wl2
 abbrev pub flight : Point → ℕ
 flight p = p.sent - p.una
 
--- it acknowledges something new
+-- the segment acknowledges something new
 abbrev pub acknowledges_new : Point → Segment → Bool
 acknowledges_new p segment = acknowledges p segment && nat_lt p.una (acknowledged_by p segment)
 
--- A duplicate acknowledgement (RFC 5681, 2): the segment has neither text nor FIN, acknowledges what is acknowledged already while something is in
--- flight, and leaves the right edge as it is
+-- A duplicate acknowledgement (RFC 5681, 2): the segment has neither text nor FIN, acknowledges what is acknowledged already while something is in flight,
+-- with the same right edge
 unfoldable pub is_duplicate : Point → Segment → Bool
 is_duplicate p segment =
     acknowledges p segment
@@ -90,7 +90,7 @@ is_third_duplicate (Logged kept) p = false
 is_third_duplicate Ticks p = false
 is_third_duplicate Begins p = false
 
--- the timer expires while something is in flight and the client has room for it, so it counts as lost
+-- the timer expires while something is in flight and the client's right edge is past SND.UNA: what is in flight counts as lost
 abbrev pub is_lost : Point → Bool
 is_lost p = expires Ticks p && nat_lt p.una p.sent && nat_lt p.una p.edge
 
@@ -107,7 +107,7 @@ congestion_after Begins p = p.congestion
 abbrev pub send_edge : Point → ℕ
 send_edge p = min p.edge (p.una + p.congestion.cwnd)
 
--- what is sent at once: all that may be sent, up to that offset, and never less than before
+-- SND.NXT without a probe: all that may be sent is sent at once, up to that offset. SND.NXT never decreases
 unfoldable pub sent_at_once : {State : Type 0} → Machine State → Point → Point → ℕ
 sent_at_once service before after = max before.sent (min (target service after) (send_edge after))
 

@@ -28,8 +28,8 @@ Stays place now sent = (now ≡ place ∷ []) × (sent ≡ [])
 abbrev pub LivesOn : {State : Type 0} → Machine State → Node → News → Point → List Place → List Packet → Type 0
 LivesOn service node news p now sent = (after : Point) × (now ≡ Lives after ∷ []) × ConnectionTurn service node.server node.boot news p after sent
 
--- what a message of this boot does at the place of its key. Ended ends a live connection, whether or not Done was sent. Opened with the client's
--- number makes the connection, by the numbers that the log keeps; with another number it drops the opening. Full drops an opening and refuses its SYN
+-- what a message of this boot does at the place of its key. Ended ends a live connection, whether or not Done was sent. Opened with the client's number makes
+-- the connection, by the numbers that the log keeps; with another number it drops the opening. Full drops an opening and refuses its SYN
 abbrev pub Hears : {State : Type 0} → Machine State → Node → Body → Place → List Place → List Packet → Type 0
 Hears service node (StableMsg kept) (Lives p) now sent = LivesOn service node (Logged kept) p now sent
 Hears service node (ReadsMsg kept) (Lives p) now sent = LivesOn service node (Logged kept) p now sent
@@ -66,11 +66,11 @@ concerns node (Message_comes message) key = message.boot == node.boot && names m
 concerns node Noise_comes key = false
 concerns node Tick_comes key = true
 
--- one place in one turn: what it becomes, one place or none, and what is sent
+-- one place in one turn: the place that it becomes, or none, and the packets that are sent
 abbrev pub PlaceTurn : {State : Type 0} → Machine State → Node → Input → Place → List Place → List Packet → Type 0
 PlaceTurn service node input place now sent = MatchBool (concerns node input (key_of place)) (Meets service node input place now sent) (Stays place now sent)
 
--- all places, one after another, each by this law: so places and packets stay in order
+-- all places, one after another, each by this law, so that places and packets stay in order
 abbrev pub AllGo : (Place → List Place → List Packet → Type 0) → List Place → List Place → List Packet → Type 0
 AllGo Goes [] after sent = (after ≡ []) × (sent ≡ [])
 AllGo Goes (place ∷ places) after sent =

@@ -28,7 +28,7 @@ within least most n = if nat_le least n && nat_le n most then Some n else None
 unfoldable pub number_of : ℕ → ℕ → List ℕ → Option ℕ
 number_of least most word = option_and_then (within least most) (numeral 20 word)
 
--- a number of an address
+-- a number in an address, or its port
 unfoldable pub short_number_of : ℕ → ℕ → List ℕ → Option ℕ
 short_number_of least most word = option_and_then (within least most) (numeral 5 word)
 

@@ -13,7 +13,7 @@ use Rattle.ft_model.specs.News.News.{Comes, Logged, Ticks, Begins}
 unfoldable pub accepts : Point → Segment → Bool
 accepts p segment = is_acceptable_or_at_edge (taken_units p) (room p) (first_of p.cisn segment) (length_of segment)
 
--- its acknowledgement is used: it is acceptable, or begins at the next number while the window is zero
+-- the segment's acknowledgement is used: the segment is acceptable, or begins at the next number while the window is zero
 unfoldable pub uses : Point → Segment → Bool
 uses p segment = is_usable (taken_units p) (room p) (first_of p.cisn segment) (length_of segment)
 
@@ -22,11 +22,11 @@ unfoldable pub counts : Point → Segment → Bool
 counts p segment =
     has_ack segment && not (has_syn segment) && not (has_rst segment) && uses p segment && (p.syn_acked || int_le (pos 0) (ack_of p.sisn segment))
 
--- where its text ends
+-- where the segment's text ends
 abbrev pub end_of : Point → Segment → ℤ
 end_of p segment = first_of p.cisn segment +ℤ pos (length (text_of segment))
 
--- what its text and its FIN do to the client's stream, where it counts
+-- what the segment's text and FIN do to the client's stream, if the segment counts
 unfoldable pub came : Point → Segment → Came
 came p segment =
     if counts p segment

@@ -15,11 +15,11 @@ is_tick Begins = false
 abbrev pub expires : News → Point → Bool
 expires news before = is_tick news && before.rest == 1
 
--- it expires with nothing unacknowledged, so one unit is sent past the edge
+-- the timer expires with nothing unacknowledged, so one unit is sent past the edge
 abbrev pub probes : News → Point → Bool
 probes news before = expires news before && before.syn_acked && not (nat_lt before.una before.sent)
 
--- It must run while something is unacknowledged, the SYN included, or is waiting to be sent
+-- The timer must run while something is unacknowledged, the SYN included, or is waiting to be sent
 unfoldable pub must_run : {State : Type 0} → Machine State → Point → Bool
 must_run service p = not p.syn_acked || nat_lt p.una (max p.sent (target service p))
 
@@ -27,8 +27,8 @@ must_run service p = not p.syn_acked || nat_lt p.una (max p.sent (target service
 abbrev pub is_renewed : Point → Point → Bool
 is_renewed before after = nat_lt before.una after.una || (after.syn_acked && not before.syn_acked)
 
--- the timer's past no longer counts: it didn't run, or something new was acknowledged. Whether it runs now is a separate question, so this holds also of a
--- timer that stays stopped
+-- the timer's interval so far no longer counts: the timer didn't run, or something new was acknowledged. This doesn't say whether the timer runs now, so it
+-- also holds of a timer that stays stopped
 abbrev pub is_set_anew : Point → Point → Bool
 is_set_anew before after = before.rest == 0 || is_renewed before after
 

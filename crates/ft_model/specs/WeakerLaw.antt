@@ -9,7 +9,7 @@ abbrev pub EachHappens : {State : Type 0} → Machine State → World → List M
 EachHappens service before [] = Unit {0}
 EachHappens service before (moment ∷ earlier) = EachHappens service before earlier × Happens service (world_after before earlier) moment.event moment.sent moment.world
 
--- one moment doesn't happen by the laws, by which the same event has another outcome; before it and after it everything happens
+-- one moment doesn't follow the laws, by which the same event would have another outcome; all moments before and after it do
 pub record IsWrongOnce {State : Type 0} (service : Machine State) (start : World) (later : List Moment) (wrong : Moment) (earlier : List Moment) : Type 0 where
   pub before : Joint service start earlier
   pub refused : Happens service (world_after start earlier) wrong.event wrong.sent wrong.world → ⊥

@@ -31,7 +31,7 @@ wire_of (From_logger message) = record { from = The_logger; to = The_server; byt
 abbrev pub CanBeSent : Segment → Type 0
 CanBeSent segment = segments.IsSpellable segment × AreBytes segment.payload
 
--- so can a message: each number fits its place and is in its field's range, and what follows the fields is bytes
+-- a message can be written: each number fits its place and is in its field's range, and what follows the fields is bytes
 abbrev pub CanBeTold : Message → Type 0
 CanBeTold message = messages.IsSpellable message × AreBytes (messages.behind_of message.body)
 

@@ -106,7 +106,7 @@ pub record Flipped {State : Type 0} (service : Machine State) (before : World) (
 abbrev pub WasSent : World → Packet → Type 0
 WasSent w packet = (number : ℕ) × (packet_at w.packets number ≡ Some packet)
 
--- what may come to the server next: what was sent to it, noise, or a tick
+-- what may arrive at the server next: what was sent to it, noise, or a tick
 abbrev pub MayCome : World → Input → Type 0
 MayCome w (Packet_comes segment) = WasSent w (To_server segment)
 MayCome w (Message_comes message) = WasSent w (From_logger message)
@@ -123,7 +123,7 @@ pub record Moves (before : World) (number : ℕ) (sent : List Packet) (after : W
   pub sent_is : sent ≡ To_server segment ∷ []
   pub after_is : after ≡ record before { clients = with_client client.key (λ _. later) before.clients; packets = before.packets ++ sent }
 
--- a boot number rises, and has 64 bits
+-- a new boot number is larger than all before, and has at most 64 bits
 abbrev pub IsNextBoot : World → ℕ → Type 0
 IsNextBoot w boot = (w.boot < boot) × (boot < 2 ^ 64)
 

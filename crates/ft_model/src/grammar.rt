@@ -84,8 +84,8 @@ pub fn accepted_schedules_keep_the_limits()
     ensures { (text : List ℕ) (schedule : Schedule) → read_text text ≡ Ok schedule → IsAccepted schedule }
 {}
 
-/// A schedule that a text spells can be played: its clients' addresses differ from one another and from the server's, their initial numbers
-/// are modulo 2^32, their scripts have at most 2^24 bytes, and the numbers of its events have the sizes of their types.
+/// A schedule that a text spells can be played: its clients' addresses differ from one another and from the server's, their initial numbers are modulo 2^32,
+/// their scripts have at most 2^24 bytes, and the numbers of its events fit their types.
 pub fn accepted_schedules_can_be_played()
     ensures { (text : List ℕ) (schedule : Schedule) → read_text text ≡ Ok schedule → IsPlayable schedule }
 {}
@@ -95,7 +95,7 @@ pub fn playable_schedules_start()
     ensures { (schedule : Schedule) → IsPlayable schedule → IsStart (start_of schedule) }
 {}
 
-/// The numbers of a schedule that a text spells have the sizes of their types: addresses 32 bits and 16, bytes eight, others at most 64.
+/// The numbers of a schedule that a text spells fit their types: addresses have 32 bits, ports 16, bytes eight, and other numbers at most 64.
 pub fn accepted_schedules_fit()
     ensures { (text : List ℕ) (schedule : Schedule) → read_text text ≡ Ok schedule → FitsSchedule schedule }
 {}

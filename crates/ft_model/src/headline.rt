@@ -18,13 +18,13 @@ ghost use Rattle.ft_model.specs.Lawful.{LawfulTurn, fence, is_fenced};
 
 use server_trait::Service;
 
-/// The headline: every joint trace is masked, whatever is delivered, lost, repeated and reordered, and whenever the server crashes and restarts.
+/// The headline: every joint trace is masked, whatever is delivered, lost, repeated, reordered or damaged, and whenever the server crashes and restarts.
 pub fn every_joint_trace_is_masked<S: Service>()
     ensures { (kind : ℕ) (start : World) (trace : List Moment) → Joint (machine (S.started kind) S.after) start trace
         → Masked (machine (S.started kind) S.after) start trace }
 {}
 
-/// What each client has accepted is a prefix of the uncrashed server's output on its script, in the reads that are logged, and all of it where the server's FIN
+/// What each client has accepted is a prefix of the uncrashed server's output on its script, cut into the logged reads, and all of it where the server's FIN
 /// has ended the stream.
 pub fn clients_see_an_unfailing_server<S: Service>()
     ensures { (kind : ℕ) (start : World) (trace : List Moment) → Joint (machine (S.started kind) S.after) start trace
@@ -46,8 +46,8 @@ pub fn logged_bytes_are_the_clients<S: Service>()
         (world_after start trace).log.entries) (world_after start trace).clients }
 {}
 
-/// The lengths of the logged reads cut the logged bytes: together they are no longer, and only the last may be the closing read's 0. So the
-/// unfailing server is asked for nothing that its client didn't send.
+/// The sum of the lengths of an entry's logged reads is at most the number of its logged bytes, and only the last length may be 0, that of the closing read.
+/// So the unfailing server reads only bytes that its client sent.
 pub fn logged_reads_cut_the_bytes<S: Service>()
     ensures { (kind : ℕ) (start : World) (trace : List Moment) → Joint (machine (S.started kind) S.after) start trace
         → AllByRecursion (λ e. CanCut e.bytes e.lengths) (world_after start trace).log.entries }
@@ -60,14 +60,14 @@ pub fn no_byte_is_acknowledged_before_it_is_logged<S: Service>()
         → AllByRecursion (AcknowledgesLogged moment.world.log moment.world.clients) moment.sent }
 {}
 
-/// Fence: after a Hello no message of an older boot changes the log, however far it has grown since.
+/// Fence: after a Hello no message of an older boot changes the log, however much the log has grown since.
 pub fn older_boots_are_fenced()
     ensures { (log later : Log) (hello message : Message) → is_hello hello.body ≡ true → LogGrows (log_after log hello) later → message.boot < hello.boot
         → log_after later message ≡ later }
 {}
 
-/// In the turn that ends a restart, every entry of the log that isn't done has its connection again: it was at the entry's point, with all that is logged taken
-/// and read as before, and continued from there by the law of every turn.
+/// In the turn that ends a restart, every entry of the log that isn't done has its connection again. The connection begins at the entry's point, with all
+/// that is logged taken and read as before, and its first turn follows the law of every turn.
 pub fn restarts_are_exact<S: Service>()
     ensures { (kind : ℕ) (start : World) (moment : Moment) (earlier : List Moment) → Joint (machine (S.started kind) S.after) start (moment ∷ earlier)
         → RestartIsExact (machine (S.started kind) S.after) moment.world.log (world_after start earlier).node moment.world.node }
@@ -80,7 +80,8 @@ pub fn clients_are_told_what_is_logged<S: Service>()
         → AllAreTold (world_after start trace).packets (world_after start trace).node }
 {}
 
-/// What the log says a client has acknowledged is at most the uncrashed server's output over the logged reads, and one more where that run has closed.
+/// The output that a client has acknowledged, as an entry of the log records it, is at most the uncrashed server's output over the logged reads, and one more
+/// where that run has closed.
 pub fn acknowledged_output_was_made<S: Service>()
     ensures { (kind : ℕ) (start : World) (trace : List Moment) → Joint (machine (S.started kind) S.after) start trace
         → AllByRecursion (λ e.
@@ -95,7 +96,8 @@ pub fn no_logged_connection_is_reset<S: Service>()
         → AllByRecursion (ResetsNoLogged (world_after start trace).log) (world_after start trace).packets }
 {}
 
-/// No server of a joint trace is ever fenced, since no Stale in flight names a boot beyond the newest incarnation's; and nothing that may come next fences it.
+/// No server of a joint trace is ever fenced, and nothing that may arrive next fences it: no Stale on the network names a boot later than the newest
+/// incarnation's.
 pub fn no_server_is_fenced<S: Service>()
     ensures stage { (kind : ℕ) (start : World) (trace : List Moment) → Joint (machine (S.started kind) S.after) start trace
         → IfSome (world_after start trace).node (λ node. is_fenced node.stage ≡ false) }
@@ -103,7 +105,7 @@ pub fn no_server_is_fenced<S: Service>()
         → (world_after start trace).node ≡ Some node → MayCome (world_after start trace) input → fence node input ≡ None }
 {}
 
-/// A server of a joint trace never gets stuck: whatever comes to it, it has a turn.
+/// A server of a joint trace never gets stuck: it has a lawful turn for every input.
 pub fn servers_have_turns<S: Service>()
     ensures { (kind : ℕ) (start : World) (trace : List Moment) (node : Node) (input : Input) → Joint (machine (S.started kind) S.after) start trace
         → (world_after start trace).node ≡ Some node

@@ -37,7 +37,7 @@ pub fn turns_are_determined<S: Service>()
 {}
 
 /// Each turn can be made: from each state in which no more reads are known to be logged than were made, each input has a lawful turn, and it leads to such a
-/// state again. Only a server that is fenced has no turn any more. The laws never contradict one another.
+/// state again. Only a fenced server has no turn any more. So the laws never contradict one another.
 pub fn turns_exist<S: Service>()
     ensures { (kind : ℕ) (before : Node) (input : Input) → is_fenced before.stage ≡ false → AllCount before.stage
         → (after : Node) × (sent : List Packet) × LawfulTurn (machine (S.started kind) S.after) before input sent after × AllCount after.stage }
@@ -56,15 +56,15 @@ pub fn live_connections_begin_with_a_segment<S: Service>()
         → LiveTurn (machine (S.started kind) S.after) server boot Begins before after sent → list_any is_segment sent ≡ true }
 {}
 
-/// After a turn there is no read that may be made.
+/// After a turn no read is left that may be made.
 pub fn turns_leave_no_read<S: Service>()
     ensures { (kind boot : ℕ) (server : Addr) (news : News) (before after : Point) (sent : List Packet)
         → LiveTurn (machine (S.started kind) S.after) server boot news before after sent
         → next_read (machine (S.started kind) S.after) after ≡ None }
 {}
 
-/// Where the unit after all output is sent for the first time, a logged read has closed the service. So of a new FIN the law on output requires nothing that
-/// the laws of sending don't give.
+/// Where the unit after all output is sent for the first time, a logged read has closed the service. So for a new FIN the law on output follows from the laws
+/// of sending.
 pub fn new_fins_are_closed<S: Service>()
     ensures { (kind : ℕ) (server : Addr) (before after : Point)
         → new_fin (machine (S.started kind) S.after) server before after
@@ -80,7 +80,8 @@ pub fn shut_windows_pass_acknowledgements()
     ensures ack_pending { (p : Point) (segment : Segment) → room p ≡ 0 → 0 < length_of segment → has_rst segment ≡ false → needs_ack p segment ≡ true }
 {}
 
-/// In every joint trace what a live connection holds is after what it has taken, and within the receive edge.
+/// In every joint trace the data that a live connection holds is after a gap and below the right edge of the receive window, and nothing is held once the FIN
+/// is taken.
 pub fn held_text_stands_behind<S: Service>()
     ensures { (kind : ℕ) (start : World) (trace : List Moment) (node : Node) → Joint (machine (S.started kind) S.after) start trace
         → (world_after start trace).node ≡ Some node → AllByRecursion HoldsBehind (points_at node.stage) }
@@ -98,14 +99,14 @@ pub fn legal_traces_are_determined<S: Service>()
         → Legal (machines S.started S.after) schedule trace → Legal (machines S.started S.after) schedule other → trace ≡ other }
 {}
 
-/// A schedule has an outcome: all its events are done, one is refused, or the packets exceed their limit. Its premises: the schedule can start, and its events'
-/// numbers have the sizes of their types, as in every schedule that a text spells.
+/// A schedule has an outcome: all its events are done, one is refused, or the packets exceed their limit. Its premises: the schedule can start, and its
+/// events' numbers fit their types, as in every schedule that a text spells.
 pub fn schedules_have_an_outcome<S: Service>()
     ensures { (schedule : Schedule) → IsStart (start_of schedule) → AllByRecursion FitsEvent schedule.events
         → HasOutcome (machines S.started S.after) schedule }
 {}
 
-/// And it has only one: never two of the three, at only one event, and for only one cause.
+/// A schedule has only one outcome: no two of the three hold of it, and the event that is refused or exceeds the limit is determined, and so is the cause.
 pub fn schedules_have_one_outcome<S: Service>()
     ensures whole_or_refused { (schedule : Schedule)
         → IsWhole (machines S.started S.after) schedule → IsRefused (machines S.started S.after) schedule → ⊥ }
@@ -118,7 +119,7 @@ pub fn schedules_have_one_outcome<S: Service>()
     ensures past_once { (schedule : Schedule) (a b : IsPastPackets (machines S.started S.after) schedule) → (a.played ≡ b.played) × (a.event ≡ b.event) }
 {}
 
-/// A changed bit changes nothing at a client or the log. To a server that is up it is noise, on which it takes a turn.
+/// A packet that is delivered with a changed bit changes nothing at a client or the log.
 pub fn changed_bits_are_noise<S: Service>()
     ensures { (kind number bit : ℕ) (before after : World) (sent : List Packet) → Happens (machine (S.started kind) S.after) before (Flip number bit) sent after
         → (after.clients ≡ before.clients) × (after.log ≡ before.log) }

@@ -1,5 +1,5 @@
-//! The model of FT-TCP: what a schedule asks for, what clients, log, server and network may do, and what a report says of it. The definitions are in `specs/`.
-//! Here are the plain types that they share with the programs.
+//! The model of FT-TCP: what a schedule asks for, what clients, log, server and network may do, and what a report says of it. The definitions are in
+//! `specs/`. This crate has the plain types that they share with the programs, and laws about the definitions.
 #![tactic(auto)]
 
 pub use event::{Event, EventWhy};

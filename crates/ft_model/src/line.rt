@@ -1,5 +1,5 @@
-//! The lines of a schedule as values: what a line's first word announces, what a well-formed line says, and what the lines read so
-//! far spell together.
+//! The lines of a schedule as values: the kind of line that its first word names, what a well-formed line says, and what the lines read so far spell
+//! together.
 
 use crate::event::Event;
 use crate::schedule::{ClientLine, Schedule, ServiceKind};
@@ -21,7 +21,7 @@ pub enum Verb {
     Stop,
 }
 
-/// The first word of a line, which announces what the line is.
+/// The first word of a line, which names the kind of line.
 #[derive(Clone, Copy, Debug, PartialEq, Eq)]
 pub enum Keyword {
     Service,

@@ -5,9 +5,9 @@
 pub enum Phase {
     /// Nothing was sent.
     New,
-    /// The SYN was sent, and no SYN-ACK has come.
+    /// The SYN was sent, and no SYN-ACK has arrived.
     Opening,
-    /// The SYN-ACK has come. The report prints `open`.
+    /// The SYN-ACK has arrived. The report prints `open`.
     Established,
     /// The server's FIN was accepted.
     Ended,

@@ -111,7 +111,7 @@ pub fn reports_tell_their_traces<S: Service>()
 {}
 
 /// All that is sent in a legal trace has a line that determines it: it has a wire, and a segment has the addresses of a client and of the server. The premise
-/// is that the schedule's numbers have the sizes of their types.
+/// is that the schedule's numbers fit their types.
 pub fn legal_turns_are_readable<S: Service>()
     ensures { (schedule : Schedule) (trace : List Moment) → FitsSchedule schedule → Legal (machines S.started S.after) schedule trace
         → AllByRecursion (IsReadableTurn schedule.server (clients_of schedule.server schedule.clients)) trace }

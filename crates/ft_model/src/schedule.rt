@@ -18,7 +18,7 @@ pub enum ServiceKind {
 }
 
 impl ServiceKind {
-    /// The number under which a service with several kinds knows this one.
+    /// Returns the number by which a service of several kinds knows this kind.
     pub fn number(self) -> u8
         ensures { result ≡ kind_of self }
     {
@@ -41,7 +41,7 @@ pub enum Script {
 }
 
 impl Script {
-    /// The bytes that it describes.
+    /// Returns the bytes that the script describes. Fails where an allocation fails.
     pub fn bytes(&self, alloc: Global) -> Result<Vec<u8>, NoMemory>
         ensures { IfOk result (λ bytes. bytes.items ≡ bytes_of self.now) }
     {
@@ -91,21 +91,21 @@ impl Model for ClientLines {
 }
 
 impl ClientLines {
-    /// The list of these clients. It allocates nothing.
+    /// Makes the list of these clients, without allocating.
     pub fn new(lines: Vec<ClientLine>) -> ClientLines
         ensures { result ≡ lines.items }
     {
         ClientLines { lines }
     }
 
-    /// The clients, in order.
+    /// Returns the clients, in order.
     pub fn as_slice(&self) -> &[ClientLine]
         ensures { result.now ≡ self.now }
     {
         self.lines.as_slice()
     }
 
-    /// Adds the next client.
+    /// Appends a client. Where an allocation fails, the list is as before.
     pub fn push(&mut self, line: ClientLine) -> Result<(), NoMemory>
         ensures ok { OnOk result (self.new ≡ self.old ++ line ∷ []) }
         ensures err { OnErr result (self.new ≡ self.old) }
@@ -131,21 +131,21 @@ impl Model for Events {
 }
 
 impl Events {
-    /// The list of these events. It allocates nothing.
+    /// Makes the list of these events, without allocating.
     pub fn new(events: Vec<Event>) -> Events
         ensures { result ≡ events.items }
     {
         Events { events }
     }
 
-    /// The events, in order.
+    /// Returns the events, in order.
     pub fn as_slice(&self) -> &[Event]
         ensures { result.now ≡ self.now }
     {
         self.events.as_slice()
     }
 
-    /// Adds the next event.
+    /// Appends an event. Where an allocation fails, the list is as before.
     pub fn push(&mut self, event: Event) -> Result<(), NoMemory>
         ensures ok { OnOk result (self.new ≡ self.old ++ event ∷ []) }
         ensures err { OnErr result (self.new ≡ self.old) }
@@ -164,7 +164,7 @@ pub struct Schedule {
     pub server: Addr,
     /// Whether two loggers keep the log, a head and a tail.
     pub twin: bool,
-    /// After how many reads the server marks the log, where it does.
+    /// The number of reads after which the server marks the log, if it does.
     pub marks: Option<u32>,
     /// At most 16 in a schedule that a text spells.
     pub clients: ClientLines,

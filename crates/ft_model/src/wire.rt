@@ -28,7 +28,7 @@ pub fn packets_have_wires<S: Service>()
         → AllByRecursion HasWire (world_after start trace).packets }
 {}
 
-/// The bytes of a legal trace determine it: two legal traces of a schedule, or of two with the same service and start, are the same where their bytes are.
+/// The events and the bytes of a legal trace determine it: two legal traces of a schedule, or of two with the same service and start, are equal if these are.
 pub fn wires_tell_traces<S: Service>()
     ensures { (schedule other : Schedule) (trace also : List Moment) → schedule.service ≡ other.service → start_of schedule ≡ start_of other
         → Legal (machines S.started S.after) schedule trace → Legal (machines S.started S.after) other also

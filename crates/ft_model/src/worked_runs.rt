@@ -59,14 +59,15 @@ pub fn acknowledgements_beyond_next_are_not_answered()
     ensures answered { IsUnlawful BeyondNext.turn_3.node BeyondNext.turn_4.input BeyondNext.answered }
 {}
 
-/// Out-of-order text is held, and taken and copied once the gap before it is filled. The complete run is a legal trace of its schedule, and its report has
-/// these lines.
+/// Out-of-order text is held. Once the gap before it is filled, it is taken and sent to the log. The complete run is a legal trace of its schedule, and its
+/// report has these lines.
 pub fn held_segments_are_legal()
     ensures legal { Legal (λ kind. echo) HeldSegments.schedule HeldSegments.trace }
     ensures told { report HeldSegments.schedule HeldSegments.trace ≡ concat HeldSegments.report_lines }
 {}
 
-/// In the turn in which the gap is filled, what was held may not be left uncopied, be sent before the segment's own part, or be in one Data with it.
+/// In the turn in which the gap is filled, the text that was held may not be left out of what is sent to the log, be sent before the segment's own part, or
+/// be in one Data with it.
 pub fn wrong_copies_of_held_text_are_refused()
     ensures left_out { IsUnlawful (FirstPath.node_live HeldSegments.held_point) HeldSegments.gap_filled HeldSegments.without_held }
     ensures held_first { IsUnlawful (FirstPath.node_live HeldSegments.held_point) HeldSegments.gap_filled HeldSegments.held_first }
@@ -88,12 +89,12 @@ pub fn wrong_windows_are_refused()
     ensures never { CongestionWindow.IsUnlawful (FirstPath.node_live (CongestionWindow.repeated 2)) CongestionWindow.acknowledgement_comes CongestionWindow.never_again }
 {}
 
-/// A segment that comes during a restart is answered with window 0, and taken afterwards.
+/// A segment that arrives during a restart is answered with window 0, and taken afterwards.
 pub fn segment_while_restarting_is_lawful()
     ensures { Lawful echo server 2 900000 (hello (booted server 2 900000)) SegmentWhileRestarting.restart_turns }
 {}
 
-/// A restart whose answers are short asks for lengths and bytes in turns.
+/// A restart whose answers are short asks for lengths and bytes alternately.
 pub fn restart_in_turns_is_lawful()
     ensures { Lawful echo server 2 900000 (hello (booted server 2 900000)) RestartInTurns.turns }
 {}
@@ -103,7 +104,7 @@ pub fn client_knows_more_is_lawful()
     ensures { Lawful echo server 2 900000 (hello (booted server 2 900000)) ClientKnowsMore.restart_turns }
 {}
 
-/// A restarted connection answers its client's SYN with the kept SYN-ACK.
+/// A restarted connection answers its client's SYN with the SYN-ACK that has the logged numbers.
 pub fn crash_before_syn_ack_is_lawful()
     ensures { Lawful echo server 2 900000 (hello (booted server 2 900000)) CrashBeforeSynAck.restart_turns }
 {}
@@ -115,7 +116,7 @@ pub fn wrong_copies_are_refused()
     ensures index_off { IsUnlawful (FirstPath.node_live FirstPath.open_point) FirstPath.text_comes FirstPath.one_index_off }
 {}
 
-/// Nothing may be acknowledged that isn't logged, not one unit, and what is logged may not be left without an acknowledgement.
+/// Nothing may be acknowledged that isn't logged, not even one unit. When the log's answer arrives, what is logged must be acknowledged.
 pub fn wrong_acknowledgements_are_refused()
     ensures one_too_high { IsUnlawful (FirstPath.node_live FirstPath.open_point) FirstPath.text_comes FirstPath.one_too_high }
     ensures passed_on { IsUnlawful (FirstPath.node_live FirstPath.open_point) FirstPath.text_comes FirstPath.passed_on }
@@ -139,12 +140,12 @@ pub fn fin_probe_is_lawful()
     ensures { Lawful echo server 1 5000 (hello (booted server 1 5000)) ZeroWindow.fin_turns }
 {}
 
-/// A tick retransmits the unanswered Reads by index, and not out of order.
+/// A tick retransmits the unanswered Reads in the order of their indices, and in no other.
 pub fn turned_reads_are_refused()
     ensures { IsUnlawful (FirstPath.node_live FirstPath.twice_read_point) Tick_comes FirstPath.reads_turned }
 {}
 
-/// A client without room gets no output past its edge except the probe, of one byte, when the timer expires and not earlier. And it does get the probe.
+/// A client without room gets no output past its edge except the probe, of one byte, when the timer expires and not earlier. The probe may not be left out.
 pub fn wrong_probes_are_refused()
     ensures past_the_edge { IsUnlawful ZeroWindow.probe_6.node ZeroWindow.probe_7.input ZeroWindow.past_the_edge }
     ensures none { IsUnlawful ZeroWindow.probe_7.node Tick_comes [] }
@@ -152,13 +153,13 @@ pub fn wrong_probes_are_refused()
     ensures early { IsUnlawful ZeroWindow.probe_8.node Tick_comes ZeroWindow.probe_8.sent }
 {}
 
-/// A restart asks for no bytes before their read's length has come, and for no further lengths while the bytes of a fetched read are missing.
+/// A restart asks for no bytes before their read's length is fetched, and for no further lengths while the bytes of a fetched read are missing.
 pub fn wrong_questions_are_refused()
     ensures bytes_first { IsUnlawful RestartInTurns.turn_1.node RestartInTurns.turn_2.input RestartInTurns.bytes_first }
     ensures lengths_ahead { IsUnlawful RestartInTurns.turn_2.node RestartInTurns.turn_3.input RestartInTurns.lengths_ahead }
 {}
 
-/// While a server fetches, a client whose entry has come is neither reset nor left without an answer. In the turn of the last answer it gets a segment that
+/// While a server fetches, a client whose entry is fetched is neither reset nor left without an answer. In the turn of the last answer it gets a segment that
 /// shows that the server serves again.
 pub fn wrong_restarts_are_refused()
     ensures reset { IsUnlawful SegmentWhileRestarting.restart_2.node SegmentWhileRestarting.restart_3.input SegmentWhileRestarting.reset_meanwhile }

@@ -15,13 +15,13 @@ use Rattle.peer_client.specs.declared.live.ClientEnd.TheVariants.{Closed, Reset}
 pub record LiveState : Type 0 where
   pub local : Addr
   pub server : Addr
-  pub tcb : Tcb  -- its TCP
+  pub tcb : Tcb  -- the client's TCP
   pub script : List ℕ
-  pub written : ℕ  -- how many bytes of the script TCP was given
+  pub written : ℕ  -- how many bytes of the script were given to TCP
   pub seen : ℕ  -- how many of the bytes that TCP holds unread were handed to the caller
   pub outcome : Option ClientEnd
 
--- before its first flush
+-- a new client, before its first flush
 abbrev pub new_live : Addr → Addr → ℕ → List ℕ → LiveState
 new_live local server isn script = record {
   local = local;
@@ -81,7 +81,7 @@ next_part l = take (write_room l.tcb) (drop l.written l.script)
 abbrev pub supplied : LiveState → LiveState
 supplied l = record l { tcb = after_write l.tcb (next_part l); written = l.written + length (next_part l) }
 
--- .. and is closed after it, once the connection is established
+-- .. and is closed after the whole script, once the connection has begun
 abbrev pub closes : LiveState → Bool
 closes l = has_begun l.tcb.name && nat_le (length l.script) l.written
 

@@ -47,7 +47,7 @@ pub record IsSame (l : LiveState) (c : Client) : Type 0 where
   pub local : l.tcb.local ≡ l.local
   pub remote : l.tcb.remote ≡ l.server
 
--- what TCP has taken is accepted, and what TCP holds is held
+-- the machine has accepted what TCP has taken, and holds what TCP holds
 pub record Hears (r : Receiving) (c : Client) : Type 0 where
   pub sisn : c.sisn ≡ r.irs
   pub limit : r.limit ≡ 2 ^ 24
@@ -59,7 +59,8 @@ pub record Hears (r : Receiving) (c : Client) : Type 0 where
   pub within : taken r ≤ r.limit
   pub queued : length r.unread ≤ 65535
 
--- what TCP has sent is sent, and what it still holds is the script after what is acknowledged. A FIN is sent after the complete script
+-- TCP and the machine have sent the same, and TCP's send queue has the bytes of the script that were written and aren't acknowledged. A FIN is sent after the
+-- complete script
 pub record Sends (s : Sending) (written : ℕ) (c : Client) : Type 0 where
   pub sent : c.sent ≡ s.sent
   pub acknowledged : c.acknowledged ≡ s.una
@@ -113,7 +114,7 @@ pub record Waits (l : LiveState) (c : Client) : Type 0 where
   pub told : c.phase ≡ phases.Opening → c.edge ≡ receive_edge l.tcb.receiving
   pub outcome : l.outcome ≡ None
 
--- what was advertised last: this many bytes, with a FIN or without, and the right edge
+-- what was advertised last: an acknowledgement of this many bytes, with a FIN or without, and the right edge
 pub record Told (e : Tcb) (c : Client) : Type 0 where
   pub bytes : ℕ
   pub fin : Bool
@@ -122,7 +123,7 @@ pub record Told (e : Tcb) (c : Client) : Type 0 where
   pub bytes_taken : bytes ≤ taken e.receiving
   pub fin_taken : fin ≡ true → e.receiving.fin ≡ true
 
--- the connection is established, or the FINs of both sides are through
+-- the connection is established, or both sides have closed it
 pub record IsConnected (l : LiveState) (c : Client) : Type 0 where
   pub agrees : Agrees l c
   pub syn_acked : l.tcb.sending.syn_acked ≡ true
@@ -135,7 +136,7 @@ pub record IsConnected (l : LiveState) (c : Client) : Type 0 where
   pub told : (l.tcb.ack_pending ≡ true) ⊎ Told l.tcb c
   pub outcome : l.outcome ≡ outcome_of c
 
--- what was accepted and not handed out is what the caller may still have
+-- the machine has accepted as much as TCP has taken, and TCP's unread bytes are the last of the accepted ones
 pub record HasHeard (r : Receiving) (c : Client) : Type 0 where
   pub count : length c.accepted ≡ taken r
   pub rest : drop r.read c.accepted ≡ r.unread
@@ -188,8 +189,8 @@ abbrev pub receiving : LiveState → Client → Result Segment BadPacket → Cli
 receiving l c (Ok segment) = if is_of l.local l.server segment then received c segment else c
 receiving l c (Err bad) = c
 
--- at the end of a turn: the segments that are sent are moves, what is left to be handed out stays, and where the connection continues the machine corresponds
--- to it as before
+-- at the end of a turn: the segments sent are moves of the machine, the bytes that weren't handed out are still there, and as long as there is no outcome the
+-- machine corresponds to the client as before
 pub record Moves (after : LiveState) (segments : List Segment) (c : Client) : Type 0 where
   pub later : Client
   pub moves : AreMoves c segments later

@@ -9,7 +9,7 @@ use Rattle.ft_model.specs.Client.{Client, Move as Moves, move_of, window_of, ref
 use Rattle.ft_model.specs.declared.event.Event.{Event}
 use Rattle.ft_model.specs.declared.event.EventWhy.{EventWhy}
 
--- it makes the move that the event asks for, which is allowed, and writes that move's packet over the beginning of the room
+-- the client makes the move that the event asks for, which is allowed, and writes that move's packet over the beginning of the room
 pub record Makes (before : Client) (event : Event) (room : List ℕ) (count : ℕ) (written : List ℕ) (after : Client) : Type 0 where
   pub move : Moves
   pub asked : move_of event ≡ Some move
@@ -20,7 +20,7 @@ pub record Makes (before : Client) (event : Event) (room : List ℕ) (count : �
   pub read : reading (take count written) ≡ Ok (segment_of before move (window_of before event))
   pub after_is : after ≡ moved before move (window_of before event)
 
--- a refusal is the client machine's
+-- the client machine refuses the move that the event asks for, for this reason
 pub record Refuses (client : Client) (event : Event) (why : EventWhy) : Type 0 where
   pub move : Moves
   pub asked : move_of event ≡ Some move
@@ -30,8 +30,8 @@ pub record Refuses (client : Client) (event : Event) (why : EventWhy) : Type 0 w
 abbrev pub added : Client → ℤ → List ℕ → Bool → Came
 added client first text fin = comes (length client.accepted) client.edge (is_ended client.phase) nothing_early first text fin
 
--- In plain words, for a client that holds nothing: the text from the end of the accepted bytes up to the right edge. A text that begins after a gap has none,
--- and there is none once the FIN is accepted
+-- the same written out, for a client that holds nothing: of the text the part from the end of the accepted bytes up to the right edge. It is empty if the
+-- text begins after a gap, and once the FIN is accepted
 unfoldable pub next_text : (n edge : ℕ) → Bool → ℤ → List ℕ → List ℕ
 next_text n edge fin first text = if fin || int_lt (pos n) first then [] else take (edge - n) (drop (below n first) text)
 

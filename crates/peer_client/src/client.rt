@@ -12,7 +12,7 @@ use seq_arith::Seq;
 use std::alloc::Global;
 use std::marker::Model;
 
-/// The client's state does not allow the move.
+/// The error of a move that the client's state doesn't allow.
 #[derive(Clone, Copy, Debug, PartialEq, Eq)]
 pub struct Refused {
     /// The first test that the move fails.
@@ -69,7 +69,7 @@ impl Client {
     ghost use Rattle.ft_model.specs.Client.{new_client, accepted_units as units_lem, suits_phase, suits_range, seq_of, ack_number_of, payload_of, segment_of};
     ghost use Rattle.ft_model.specs.Client.{moved, move_of, window_of, refusal_of_move};
 
-    /// A client that has sent nothing. Its script has at most 2^24 bytes. Nothing is allocated.
+    /// Creates a client that has sent nothing, without allocating. Its script has at most 2^24 bytes.
     pub fn new(alloc: Global, key: Key, server: Addr, isn: u32, script: Vec<u8>) -> Client
         requires { length script.items ≤ 2 ^ 24 }
         ensures { result ≡ new_client Scripted server key isn script.items }
@@ -88,35 +88,35 @@ impl Client {
         }
     }
 
-    /// The server's bytes that the client has accepted.
+    /// Returns the server's bytes that the client has accepted.
     pub fn accepted(&self) -> &[u8]
         ensures { result.now ≡ self.now.accepted }
     {
         self.accepted.as_slice()
     }
 
-    /// How many units it has sent: bytes, and one more for its FIN.
+    /// Returns how many units the client has sent: bytes, and one more for its FIN.
     pub fn sent(&self) -> u32
         ensures { result ≡ self.now.sent }
     {
         self.sent
     }
 
-    /// How many units of these the server has acknowledged.
+    /// Returns how many of the units sent the server has acknowledged.
     pub fn acked(&self) -> u32
         ensures { result ≡ self.now.acknowledged }
     {
         self.acknowledged
     }
 
-    /// The state of its connection.
+    /// Returns the state of the client's connection.
     pub fn phase(&self) -> Phase
         ensures { result ≡ self.now.phase }
     {
         self.phase
     }
 
-    /// How many units it has accepted.
+    /// How many units the client has accepted: bytes, and one more for the server's FIN.
     pub(crate) fn accepted_units(&self) -> u64
         ensures value { result ≡ units_lem self.now }
         ensures within { result ≤ 2 ^ 63 }
@@ -166,7 +166,7 @@ impl Client {
         }
     }
 
-    /// The window that is sent with the move of an event.
+    /// The window that the move of an event advertises.
     fn window(&self, event: &Event) -> u16
         ensures { result ≡ window_of self.now event.now }
     {
@@ -228,7 +228,7 @@ impl Client {
         }
     }
 
-    /// Writes the packet of a move that it may make.
+    /// Writes the packet of a move, which the client may make, at the beginning of `out`, and returns its length.
     fn write(&self, made: Move, window: u16, out: &mut [u8]) -> usize
         requires may { refusal_of_move self.now (move_value made) ≡ None }
         requires room { 1500 ≤ length out.old }
@@ -238,7 +238,7 @@ impl Client {
         write_packet(&self.head(made, window), self.payload(made), out)
     }
 
-    /// The client's state after a move that it may make.
+    /// Updates the client's state for a move that it may make.
     fn note(&mut self, made: Move, window: u16)
         requires { refusal_of_move self.old (move_value made) ≡ None }
         ensures { self.new ≡ moved self.old (move_value made) window }
@@ -255,8 +255,8 @@ impl Client {
             .max(self.accepted.len() as u64 + u64::from(window));
     }
 
-    /// Makes the move that an event asks for: one of the five moves of a client. The client's number in the event is ignored. It writes the move's packet at
-    /// the beginning of `out`, which has room for 1,500 bytes, and returns how many bytes it has. A refused move leaves everything as it was.
+    /// Makes the move that an event asks for: one of the five moves of a client. The client's number in the event is ignored. Writes the move's packet at the
+    /// beginning of `out`, which has room for at least 1,500 bytes, and returns the packet's length. A refused move changes nothing.
     pub fn step(&mut self, event: &Event, out: &mut [u8]) -> Result<usize, Refused>
         requires asks { IsSome (move_of event.now) }
         requires room { 1500 ≤ length out.old }

@@ -35,7 +35,7 @@ pub enum ClientEnd {
 }
 
 /// A client that is a TCP of its own. It opens a connection to the server, writes its script as there is room, closes after it, and holds the server's bytes
-/// until `accept` hands them out. `on_packet` and `on_tick` begin a turn and `flush` ends it, so there is one flush between any two of them.
+/// until `accept` hands them out. `on_packet` and `on_tick` begin a turn and `flush` ends it, so call `flush` once between any two of them.
 #[derive(Drop)]
 pub struct LiveClient {
     local: Addr,
@@ -69,8 +69,8 @@ impl Model for LiveClient {
 }
 
 impl LiveClient {
-    /// A client that connects from `local` to `server` with the initial number `isn`. Its script has at most 2^24 bytes. The next flush sends
-    /// the SYN.
+    /// Creates a client that connects from `local` to `server` with the initial sequence number `isn`. Its script has at most 2^24 bytes. The next flush
+    /// sends the SYN. Fails where an allocation fails.
     pub fn new(
         alloc: Global,
         local: Addr,
@@ -95,14 +95,14 @@ impl LiveClient {
         })
     }
 
-    /// How its connection ended, if it has. An outcome stays.
+    /// Returns how the connection ended, if it has. An outcome never changes.
     pub fn outcome(&self) -> Option<ClientEnd>
         ensures { result ≡ self.now.outcome }
     {
         self.outcome
     }
 
-    /// A datagram arrives. Bytes that are no packet from the server to this client are dropped.
+    /// Receives a datagram. Bytes that are no packet from the server to this client are dropped.
     pub fn on_packet(&mut self, bytes: &[u8])
         ensures state { IsShort self.old.tcb.sending → self.new ≡ after_packet self.old bytes.now }
         // The client machine receives what the client does ..
@@ -146,7 +146,7 @@ impl LiveClient {
         self.note_end();
     }
 
-    /// The first end of the connection is its outcome.
+    /// Notes how the connection has ended, if it has. The first outcome stays.
     fn note_end(&mut self)
         ensures { self.new ≡ record self.old { outcome = first_end self.old.outcome (end_of self.old.tcb) } }
     {
@@ -168,7 +168,7 @@ impl LiveClient {
         }
     }
 
-    /// A tick passes.
+    /// Counts a tick of the client's TCP.
     pub fn on_tick(&mut self)
         ensures state { self.new ≡ ticked self.old }
         ensures beside { (c : Client) → IsBetween self.old c → IsDue self.new c }
@@ -209,7 +209,7 @@ impl LiveClient {
         count
     }
 
-    /// Ends the turn: puts what is sent into the outbox, which is empty.
+    /// Ends the turn: puts the packets that it sends into `out`, which is empty before.
     pub fn flush(&mut self, out: &mut Outbox)
         requires { out.old ≡ [] }
         ensures state { self.new ≡ turned self.old }
@@ -233,7 +233,7 @@ impl LiveClient {
         self.endpoint.flush(out);
     }
 
-    /// The endpoint drops what was handed out.
+    /// Drops from the endpoint what was handed out.
     fn give_up(&mut self)
         ensures { self.new ≡ given_up self.old }
     {
@@ -241,14 +241,14 @@ impl LiveClient {
         self.seen = 0;
     }
 
-    /// The endpoint takes as much of the script as it has room for.
+    /// Gives the endpoint as much of the script as it has room for.
     fn supply(&mut self)
         ensures { self.new ≡ supplied self.old }
     {
         self.written += self.endpoint.write(&self.script[self.written..]);
     }
 
-    /// The endpoint is closed after the script, once the connection is established.
+    /// Closes the endpoint once it was given the whole script and the connection has begun.
     fn shut(&mut self)
         ensures { self.new ≡ shut_lem self.old }
     {

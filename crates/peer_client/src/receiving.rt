@@ -15,7 +15,7 @@ use segment_codec::{PacketRef, read_packet};
 use std::alloc::Global;
 
 impl Client {
-    /// Takes a packet that arrives at the client. Bytes that are no packet change nothing. After `NoMemory` the client is as before.
+    /// Receives a packet. Bytes that are no packet change nothing. After `NoMemory` the client is as before.
     pub fn deliver(&mut self, _alloc: Global, packet: &[u8]) -> Result<(), NoMemory>
         ensures taken { OnOk result (self.new ≡ delivered self.old packet.now) }
         ensures kept { OnErr result (self.new ≡ self.old) }
@@ -40,7 +40,7 @@ impl Client {
         }
     }
 
-    /// A segment that arrives while the SYN is unacknowledged.
+    /// Handles a segment that arrives while the SYN is unacknowledged.
     fn open_by(&mut self, segment: &PacketRef<'_>)
         ensures { self.new ≡ machine.opened_by self.old (value_of segment.now) }
     {
@@ -55,7 +55,7 @@ impl Client {
         }
     }
 
-    /// A segment that arrives while the connection is open.
+    /// Handles a segment that arrives while the connection is open.
     fn arrive(&mut self, segment: &PacketRef<'_>) -> Result<(), NoMemory>
         ensures taken { OnOk result (self.new ≡ machine.arrived self.old (value_of segment.now)) }
         ensures kept { OnErr result (self.new ≡ self.old) }
@@ -78,8 +78,8 @@ impl Client {
         self.use_segment(segment)
     }
 
-    /// An acceptable segment with ACK. One that acknowledges what was not sent is dropped. If an allocation for the text fails, its acknowledgement isn't used
-    /// either.
+    /// Handles an acceptable segment with ACK. A segment that acknowledges what was not sent is dropped. If an allocation for the text fails, the
+    /// acknowledgement isn't used either.
     fn use_segment(&mut self, segment: &PacketRef<'_>) -> Result<(), NoMemory>
         ensures taken { OnOk result (self.new ≡ machine.used self.old (value_of segment.now)) }
         ensures kept { OnErr result (self.new ≡ self.old) }

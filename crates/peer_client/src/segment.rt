@@ -45,7 +45,7 @@ pub fn counted_text<'a>(segment: &PacketRef<'a>) -> &'a [u8]
     segment.payload
 }
 
-/// Whether it ends its sender's stream. A FIN with a SYN or a RST doesn't count.
+/// Whether the segment ends its sender's stream. A FIN with a SYN or a RST doesn't count.
 pub fn counts_fin(segment: &PacketRef<'_>) -> bool
     ensures { result ≡ fin_of (segment_of segment.now) }
 {

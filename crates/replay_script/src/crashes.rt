@@ -18,7 +18,7 @@ const PACKET_LIMIT: u32 = 200_000;
 /// A number of the client whose accepted bytes are printed.
 const CLIENT: u8 = 1;
 
-/// The window that the client announces, in bytes.
+/// The window that the client advertises, in bytes.
 const WINDOW: u16 = 65_535;
 
 /// The schedule that a text spells.

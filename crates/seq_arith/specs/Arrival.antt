@@ -6,7 +6,7 @@ use Rattle.std.specs.Prelude.{ℕ, ℤ, Bool, false, pos, negsuc, ◌+◌, ◌-�
 abbrev pub int_eq : ℤ → ℤ → Bool
 int_eq x y = int_le x y && int_le y x
 
--- the offset lies in a window that begins at next
+-- whether an offset lies in the window that begins at `next`
 abbrev pub lies_in : ℕ → ℕ → ℤ → Bool
 lies_in next window offset = int_le (pos next) offset && int_lt offset (pos (next + window))
 
@@ -31,16 +31,16 @@ is_acceptable_or_at_edge next window first len = is_acceptable next window first
 unfoldable pub is_allowed_at_zero : ℕ → ℕ → ℤ → Bool
 is_allowed_at_zero next window first = window == 0 && int_eq first (pos next)
 
--- the acknowledgement of such a segment is used
+-- the acknowledgement of a segment is used: the segment is acceptable, at the right edge, or allowed at a zero window
 abbrev pub is_usable : ℕ → ℕ → ℤ → ℕ → Bool
 is_usable next window first len = is_acceptable_or_at_edge next window first len || is_allowed_at_zero next window first
 
--- how much of a text that begins at first is below next
+-- how much of a text that begins at `first` is below `next`
 abbrev pub below : ℕ → ℤ → ℕ
 below next (pos first) = next - first
 below next (negsuc first) = next + first + 1
 
--- the part of a text between two offsets, where the text begins at first
+-- the part of a text between the offsets `from` and `to`. The text begins at `first`
 unfoldable pub text_between : (from to : ℕ) → (first : ℤ) → List ℕ → List ℕ
 text_between from to first text = drop (below from first) (take (below to first) text)
 

@@ -17,7 +17,7 @@ odd_after odd (byte ∷ bytes) = odd_after (not odd) bytes
 unfoldable pub folded : ℕ → ℕ
 folded total = if total == 0 then 0 else (total - 1) % 65535 + 1
 
--- the checksum of what has this sum
+-- the checksum of a string with this sum
 unfoldable pub check_of : ℕ → ℕ
 check_of total = 65535 - folded total
 
@@ -34,7 +34,7 @@ pub record Summed : Type 0 where
 abbrev pub nothing_summed : Summed
 nothing_summed = record { total = 0; odd = false; count = 0 }
 
--- the same with more bytes after it
+-- what has been summed once these bytes follow
 abbrev pub with_bytes : Summed → List ℕ → Summed
 with_bytes summed bytes = record { total = summed.total + word_sum summed.odd bytes; odd = odd_after summed.odd bytes; count = summed.count + length bytes }
 

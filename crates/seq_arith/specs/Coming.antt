@@ -34,16 +34,16 @@ abbrev pub bounded_by : Option ℕ → ℕ → ℕ
 bounded_by None edge = edge
 bounded_by (Some offset) edge = min offset edge
 
--- text counts below this offset: below the receive edge, and below a FIN that is held or taken
+-- text counts only below this offset: below the right edge of the receive window, and below a FIN that is held or taken
 abbrev pub text_edge : (n edge : ℕ) → Bool → Early → ℕ
 text_edge n edge fin early = if fin then n else bounded_by early.fin edge
 
--- how far past the end of the bytes taken a text begins
+-- how far past the end of the bytes taken a text begins; 0 if it doesn't begin past it
 abbrev pub ahead : ℕ → ℤ → ℕ
 ahead n (pos first) = first - n
 ahead n (negsuc before) = 0
 
--- the new text of a segment: from the bytes taken up to that edge
+-- the new text of a segment: the part between the end of the bytes taken and that offset
 unfoldable pub new_text : (n edge : ℕ) → Bool → Early → ℤ → List ℕ → List ℕ
 new_text n edge fin early first text = take (text_edge n edge fin early - (n + ahead n first)) (drop (below n first) text)
 
@@ -58,7 +58,7 @@ abbrev pub is_none : Option ℕ → Bool
 is_none None = true
 is_none (Some offset) = false
 
--- the FIN is held where it is below the receive edge and not below the bytes taken, no text at or past it is held, and no FIN is held or taken
+-- the FIN is held where it is below the right edge and not below the bytes taken, no text at or past it is held, and no FIN is held or taken
 unfoldable pub holds_fin : (n edge : ℕ) → ℤ → Came → Bool
 holds_fin n edge place c =
     int_lt place (pos edge) && int_le (pos (n + length c.added)) place && not (holds_some (drop (nat_abs place - (n + length c.added)) c.early.text))

@@ -1,11 +1,11 @@
--- Congestion control (RFC 5681, 3.1 and 3.2): how far past SND.UNA may be sent, and how acknowledgements and losses change that. `mss` is the segment size, and
--- `flight` is what is sent and not acknowledged. All counts are in units, and divisions are of whole numbers.
+-- Congestion control (RFC 5681, 3.1 and 3.2): how far past SND.UNA new data may be sent, and how acknowledgements and losses change that. `mss` is the
+-- segment size, and `flight` is what is sent and not acknowledged. All counts are in units, and divisions are of whole numbers.
 use Rattle.std.specs.Prelude.{ℕ, Bool, ◌≤◌, ◌+◌, ◌*◌, ◌/◌, ◌^◌, ◌==◌, nat_le, nat_lt, max, min, if◌then◌else◌}
 
 pub record Congestion : Type 0 where
   pub cwnd : ℕ  -- the congestion window
   pub ssthresh : ℕ  -- the slow start threshold
-  pub dups : ℕ  -- the duplicate acknowledgements since SND.UNA rose, up to four
+  pub dups : ℕ  -- the duplicate acknowledgements since SND.UNA rose or the timer expired with a loss, up to four
 
 -- the congestion window is never above this
 abbrev pub most_window : ℕ
@@ -19,7 +19,7 @@ abbrev pub initial_congestion : (mss : ℕ) → Congestion
 initial_congestion mss = record { cwnd = initial_window mss; ssthresh = 65535; dups = 0 }
 
 -- below the threshold slow start adds what was acknowledged, up to a segment (3.1, equation 2); otherwise congestion avoidance adds a segment for each window
--- (3.1, equation 3). No window is 0, so the divisor may be the larger of it and 1
+-- (3.1, equation 3). A congestion window is never 0, so it doesn't matter that the divisor is at least 1
 abbrev pub growth : (mss units : ℕ) → Congestion → ℕ
 growth mss units c = if nat_lt c.cwnd c.ssthresh then min units mss else max 1 (mss * mss / max 1 c.cwnd)
 
@@ -45,8 +45,8 @@ with_duplicate mss flight c =
     then record { cwnd = min most_window (lowered_threshold mss flight + 3 * mss); ssthresh = lowered_threshold mss flight; dups = 3 }
     else record c { dups = c.dups + 1 })
 
--- The timer expires: all that is in flight counts as lost (3.1). Only the first expiry lowers the threshold, which is held while the same segment is
--- retransmitted
+-- The timer expires: all that is in flight counts as lost (3.1). Only the first expiry lowers the threshold. It stays the same at further expiries, while the
+-- same segment is retransmitted
 unfoldable pub with_expiry : (mss flight : ℕ) → (first : Bool) → Congestion → Congestion
 with_expiry mss flight first c =
     record { cwnd = min most_window mss; ssthresh = if first then lowered_threshold mss flight else c.ssthresh; dups = 0 }

@@ -44,7 +44,7 @@ most_behind kinds.Mark = 1100
 most_behind kinds.Held = 1100
 most_behind _ = 0
 
--- a mark is of at least one read. What is held where there is none is of no read
+-- a mark is of at least one read. A Held says 0 reads where no state is logged
 abbrev pub fewest_reads : MarkKind → ℕ
 fewest_reads kinds.Mark = 1
 fewest_reads _ = 0
@@ -120,7 +120,7 @@ reading bytes =
     else (if not (word_at bytes 0 == 18006) then Err bad.Magic
     else (if not (slice_index bytes 2 == 1) then Err bad.Version else reading_if (kind_numbered (slice_index bytes 3)) bytes))
 
--- a spelling after its header
+-- the part of a spelling after its header
 abbrev pub behind_header : MarkBody → List ℕ
 behind_header body = numbers_bytes (fields_of (kind_of body)) (numbers_of body) ++ behind_of body
 

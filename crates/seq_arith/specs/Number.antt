@@ -6,7 +6,7 @@ use Rattle.std.specs.Prelude.{ℕ, ℤ, Bool, pos, negsuc, ◌+◌, ◌-◌, ◌
 abbrev pub distance : ℕ → ℕ → ℕ
 distance to from = (to + 2 ^ 32 - from) % 2 ^ 32
 
--- the only number from -2^31 to 2^31 - 1 that is to - from modulo 2^32
+-- the only number from -2^31 to 2^31 - 1 that equals `to` - `from` modulo 2^32
 abbrev pub gap : ℕ → ℕ → ℤ
 gap to from = if nat_lt (distance to from) (2 ^ 31) then pos (distance to from) else negsuc (2 ^ 32 - 1 - distance to from)
 
@@ -26,6 +26,6 @@ precedes a b = nat_lt 0 (distance b a) && nat_lt (distance b a) (2 ^ 31)
 abbrev pub precedes_or_is : ℕ → ℕ → Bool
 precedes_or_is a b = a == b || precedes a b
 
--- a number is one of the len numbers from first on
+-- whether a number is one of the `len` numbers from `first` on
 abbrev pub is_in_window : ℕ → ℕ → ℕ → Bool
 is_in_window number first len = nat_lt (distance number first) len

@@ -23,7 +23,7 @@ pub record Segment : Type 0 where
 abbrev pub has : (flags flag : ℕ) → Bool
 has flags flag = flags / flag % 2 == 1
 
--- the same, the flag first
+-- `has` with the flag first
 abbrev pub is_flagged : (flag flags : ℕ) → Bool
 is_flagged flag flags = has flags flag
 
@@ -39,12 +39,12 @@ has_rst segment = has segment.head.flags RST
 abbrev pub has_ack : Segment → Bool
 has_ack segment = has segment.head.flags ACK
 
--- RFC 9293, 3.7.1: the segment size that a SYN asks for is the one that it offers, limited to 64 to 1,460, or 536 where it offers none
+-- RFC 9293, 3.7.1: the segment size for a peer whose SYN offers this one: it is limited to the range from 64 to 1,460, and it is 536 where none is offered
 abbrev pub segment_size : Option ℕ → ℕ
 segment_size (Some mss) = max 64 (min 1460 mss)
 segment_size None = 536
 
--- the same segment with one field changed
+-- the segment with one field changed
 abbrev pub with_seq : ℕ → Segment → Segment
 with_seq seq segment = record segment { head = record segment.head { seq = seq } }
 

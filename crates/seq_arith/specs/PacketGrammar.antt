@@ -51,7 +51,7 @@ ip_tests bytes =
     ∷ (not (checksum (take 20 bytes) == 0), IpChecksum)
     ∷ []
 
--- and then of the TCP header and of the packet's length
+-- then those of the TCP header and of the packet's length
 unfoldable pub tcp_tests : List ℕ → List (Bool × BadPacket)
 tcp_tests bytes =
     (nat_lt (payload_at bytes) 40 || nat_lt (length bytes) (payload_at bytes), DataOffset)

@@ -22,7 +22,7 @@ impl Model for Sum16 {
 }
 
 impl Sum16 {
-    /// The sum of no bytes.
+    /// Returns the sum of no bytes.
     pub fn new() -> Sum16
         ensures { result ≡ nothing_summed }
     {
@@ -43,7 +43,7 @@ impl Sum16 {
         self.count += bytes.len() as u32;
     }
 
-    /// The checksum of all bytes so far (RFC 1071).
+    /// Returns the checksum of all bytes so far (RFC 1071).
     pub fn check(&self) -> u16
         ensures { result ≡ check_of self.now.total }
     {
@@ -51,7 +51,7 @@ impl Sum16 {
     }
 }
 
-/// The sum of the words of a string that begins inside a word where `odd`.
+/// The sum of the words of a string, which begins inside a word if `odd`.
 fn sum_behind(odd: bool, bytes: &[u8]) -> u32
     requires { length bytes.now ≤ 65535 }
     ensures sum { result ≡ word_sum odd bytes.now }
@@ -63,7 +63,7 @@ fn sum_behind(odd: bool, bytes: &[u8]) -> u32
     }
 }
 
-/// Whether a string that begins inside a word where `odd` also ends inside one.
+/// Whether a string ends inside a word. It begins inside one if `odd`.
 #[tactic(auto, using(crate::proofs::Sums::odd_after_parity))]
 fn ends_inside(odd: bool, bytes: &[u8]) -> bool
     ensures { result ≡ odd_after odd bytes.now }
@@ -101,11 +101,11 @@ fn complement(total: u32) -> u16
     }
 }
 
-/// The checksum after the summed word `old` was replaced by `new` (RFC 1624, equation 3).
+/// Returns the checksum after the summed word `old` was replaced by `new` (RFC 1624, equation 3).
 #[tactic(auto, unfolding(crate::specs::Checksum::patched, crate::specs::Checksum::check_of, crate::specs::Checksum::folded))]
 pub fn patch16(check: u16, old: u16, new: u16) -> u16
     ensures exact { result ≡ patched check old new }
-    // Where the words are not all zero before and after, it is what summing them again gives.
+    // It is the checksum of the sum with `new` in place of `old`, if that sum is 0 neither before nor after.
     ensures anew { (total : ℕ) → check ≡ check_of total → old ≤ total → 0 < total → 0 < total - old + new → result ≡ check_of (total - old + new) }
 {
     complement(u32::from(!check) + u32::from(!old) + u32::from(new))

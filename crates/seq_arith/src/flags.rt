@@ -27,7 +27,7 @@ pub const ECE: u8 = 64;
 /// The congestion window was reduced.
 pub const CWR: u8 = 128;
 
-/// Whether an octet of control bits has a flag, which is one of the eight above.
+/// Returns whether an octet of control bits has `flag`, which is one of the eight above.
 pub fn has(flags: u8, flag: u8) -> bool
     requires { 0 < flag }
     ensures { result ≡ has flags flag }

@@ -1,4 +1,4 @@
-//! Pseudorandom numbers from a seed, for schedules and tests that a seed makes.
+//! Pseudorandom numbers from a seed, for generated schedules and tests.
 
 ghost use Rattle.std.specs.Prelude.{◌≡◌, ◌<◌, ◌^◌};
 ghost use Rattle.seq_arith.specs.Generator.{stepped, drawn};
@@ -11,14 +11,14 @@ pub struct Generator {
 }
 
 impl Generator {
-    /// A generator whose first state is `seed`.
+    /// Creates a generator whose first state is `seed`.
     pub fn new(seed: u64) -> Generator
         ensures { result.state ≡ seed }
     {
         Generator { state: seed }
     }
 
-    /// The next number, which is below 2^31.
+    /// Returns the next number, which is below 2^31.
     pub fn draw(&mut self) -> u32
         ensures steps { self.new.state ≡ stepped self.old.state }
         ensures shows { result ≡ drawn self.new.state }

@@ -32,7 +32,7 @@ pub struct Head {
 }
 
 impl Head {
-    /// A RST to a peer, with window 0 and without options.
+    /// Makes the header of a RST to a peer, with window 0 and without options.
     pub fn reset(local: Addr, peer: Key, seq: Seq, ack: Seq, flags: u8) -> Head
         ensures { said result ≡ reset local peer seq.0 ack.0 flags }
     {
@@ -49,14 +49,14 @@ impl Head {
         }
     }
 
-    /// The RST at this segment's acknowledgement: SEQ=SEG.ACK, CTL=RST (RFC 9293, 3.10.7.1).
+    /// Makes the RST at this segment's acknowledgement: SEQ=SEG.ACK, CTL=RST (RFC 9293, 3.10.7.1).
     pub fn reset_at_ack(&self, local: Addr) -> Head
         ensures { said result ≡ reset_at_ack local (said self.now) }
     {
         Head::reset(local, self.sender(), self.ack, Seq(0), RST)
     }
 
-    /// The RST that acknowledges this segment, whose length is `len`: SEQ=0, ACK=SEG.SEQ+SEG.LEN, CTL=RST,ACK (RFC 9293, 3.10.7.1).
+    /// Makes the RST that acknowledges this segment, whose length is `len`: SEQ=0, ACK=SEG.SEQ+SEG.LEN, CTL=RST,ACK (RFC 9293, 3.10.7.1).
     pub fn reset_behind(&self, local: Addr, len: u32) -> Head
         ensures { said result ≡ reset_behind local len (said self.now) }
     {
@@ -64,7 +64,7 @@ impl Head {
         Head::reset(local, self.sender(), Seq(0), ack, RST | ACK)
     }
 
-    /// Its sender.
+    /// Returns the address and port of the segment's sender.
     pub fn sender(&self) -> Key
         ensures { result ≡ record { ip = self.now.src; port = self.now.sport } }
     {

@@ -52,7 +52,7 @@ pub enum Kind {
     Reads = 14,
     /// A connection has ended.
     Done = 15,
-    /// Its end is logged.
+    /// The end of the connection is logged.
     Ended = 16,
     /// A server with a larger boot number has started.
     Stale = 17,

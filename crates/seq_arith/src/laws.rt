@@ -1,5 +1,5 @@
-//! Laws of the words in `specs`, each the clause of a function that does nothing, for the crates above to cite. Most say that a test on numbers or on offsets
-//! stays the same if both its sides move by the same number.
+//! Laws of the definitions in `specs`, each the contract of a function with an empty body, for the crates above to cite. Most say that a test on numbers or
+//! on offsets has the same result if both sides of it move by the same number.
 
 ghost use Rattle.std.specs.Prelude.{◌≡◌, ◌<◌, ◌≤◌, ◌+◌, ◌-◌, ◌*◌, ◌/◌, ◌%◌, ◌^◌, ℕ, ℤ, pos, ◌+ℤ◌, ◌-ℤ◌, ◌≤ℤ◌, Bool, true, false, List, [], ◌∷◌, ◌++◌, length, take, drop};
 ghost use Rattle.std.specs.Prelude.{nat_abs, Ok, IsErr};
@@ -35,12 +35,12 @@ pub fn gap_shortens()
         → gap to ((from + k) % 2 ^ 32) ≡ gap to from -ℤ pos k }
 {}
 
-/// An offset's number names that offset.
+/// The number of an offset names that offset, if the offset is below 2^31.
 pub fn number_names_its_offset()
     ensures { (isn k : ℕ) → k < 2 ^ 31 → offset_of isn (number_at isn k) ≡ pos k }
 {}
 
-/// A number names the same offset if the initial number and it move by the same number.
+/// A number names the same offset if the number and the initial number move by the same distance.
 pub fn offset_shifts()
     ensures { (isn number d : ℕ) → number < 2 ^ 32
         → offset_of ((isn + d) % 2 ^ 32) ((number + d) % 2 ^ 32) ≡ offset_of isn number }
@@ -52,38 +52,38 @@ pub fn acceptable_shifts()
         → is_acceptable (next + k) window (first +ℤ pos k) len ≡ is_acceptable next window first len }
 {}
 
-/// So does whether a segment's acknowledgement is used.
+/// Whether a segment's acknowledgement is used stays the same if RCV.NXT and the segment's offset move by the same number.
 pub fn usable_shifts()
     ensures { (next window k : ℕ) (first : ℤ) (len : ℕ) → is_usable (next + k) window (first +ℤ pos k) len ≡ is_usable next window first len }
 {}
 
-/// So does what a segment does to the stream. What is held then moves by that number too.
+/// What a segment does to the stream stays the same if all offsets move by the same number; the offsets of what is held move by it too.
 pub fn coming_shifts()
     ensures { (n edge k : ℕ) (fin : Bool) (early : Early) (first : ℤ) (text : List ℕ) (has_fin : Bool)
         → comes (n + k) (edge + k) fin (early_from k early) (first +ℤ pos k) text has_fin ≡ came_from k (comes n edge fin early first text has_fin) }
 {}
 
-/// So does how much of a text was taken before.
+/// How much of a text is below an offset stays the same if that offset and the text's move by the same number.
 pub fn below_shifts()
     ensures { (next k : ℕ) (first : ℤ) → below (next + k) (first +ℤ pos k) ≡ below next first }
 {}
 
-/// So does whether an acknowledgement is new.
+/// Whether an acknowledgement is new stays the same if it, SND.UNA and SND.NXT move by the same number.
 pub fn new_ack_shifts()
     ensures { (una sent k : ℕ) (ack : ℤ) → is_new_ack (una + k) (sent + k) (ack +ℤ pos k) ≡ is_new_ack una sent ack }
 {}
 
-/// So does whether an acknowledgement is of what was never sent.
+/// Whether an acknowledgement is of something never sent stays the same if it and SND.NXT move by the same number.
 pub fn beyond_shifts()
     ensures { (sent k : ℕ) (ack : ℤ) → is_beyond (sent + k) (ack +ℤ pos k) ≡ is_beyond sent ack }
 {}
 
-/// What is acknowledged moves by that number too.
+/// SND.UNA after an acknowledgement moves by k if SND.UNA before it and the acknowledgement do.
 pub fn una_shifts()
     ensures { (una k ack : ℕ) → una_after (una + k) (ack + k) ≡ una_after una ack + k }
 {}
 
-/// Whether a segment updates the window stays the same if the receiver's offsets move by j and the sender's by k.
+/// Whether a segment updates the window stays the same if the offsets in the peer's stream move by j and those in our stream by k.
 pub fn window_update_shifts()
     ensures { (una : ℕ) (wl1 : ℤ) (wl2 : ℕ) (first : ℤ) (ack j k : ℕ)
         → updates_window (una + k) (wl1 +ℤ pos j) (wl2 + k) (first +ℤ pos j) (ack + k) ≡ updates_window una wl1 wl2 first ack }
@@ -127,7 +127,7 @@ pub fn congestion_window_is_bounded()
     ensures expiry { (mss flight : ℕ) (first : Bool) (c : Congestion) → (with_expiry mss flight first c).cwnd ≤ most_window }
 {}
 
-/// The text between two offsets is what follows its bytes below the first, cut at the second.
+/// The text between two offsets is the text without its bytes below the first offset, cut at the second.
 pub fn text_between_is_cut()
     ensures { (from to : ℕ) (first : ℤ) (text : List ℕ)
         → text_between from to first text ≡ take (to - nat_abs (first +ℤ pos (below from first))) (drop (below from first) text) }
@@ -144,7 +144,7 @@ pub fn checksum_fits_in_place()
         → check_of (word_sum false (front ++ check / 256 % 256 ∷ check % 256 ∷ rest)) ≡ 0 }
 {}
 
-/// A word that is replaced changes the sum by the difference.
+/// Replacing a word of a string changes its sum by the difference of the two words.
 pub fn word_replaced()
     ensures { (front rest : List ℕ) (x y z w : ℕ) → odd_after false front ≡ false
         → word_sum false (front ++ z ∷ w ∷ rest) ≡ word_sum false (front ++ x ∷ y ∷ rest) - (256 * x + y) + (256 * z + w) }

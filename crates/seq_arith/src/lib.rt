@@ -1,4 +1,4 @@
-//! Numbers modulo 2^32, the Internet checksum, and the definitions of what packets and messages say and how they are spelled. Nothing here allocates.
+//! Numbers modulo 2^32, the Internet checksum, and the definitions of packets and messages as values and as bytes. Nothing here allocates.
 #![tactic(auto)]
 
 ghost use Rattle.std.specs.Prelude.{◌≡◌, ◌+◌, ◌%◌, ◌^◌};
@@ -59,21 +59,21 @@ pub enum BadPacket {
 pub struct Seq(pub u32);
 
 impl Seq {
-    /// The number `n` further on.
+    /// Returns the number `n` further on.
     pub fn add(self, n: u32) -> Seq
         ensures { result.0 ≡ (self.0 + n) % 2 ^ 32 }
     {
         Seq(self.0.wrapping_add(n))
     }
 
-    /// How far this number is past `from`: the n with `from.add(n) == self`.
+    /// Returns how far this number is past `from`: the n with `from.add(n) == self`.
     pub fn minus(self, from: Seq) -> u32
         ensures { result ≡ distance self.0 from.0 }
     {
         self.0.wrapping_sub(from.0)
     }
 
-    /// Whether `other` is 1 to 2^31 - 1 further on.
+    /// Returns whether this number is less than `other` in TCP's order: `other` is 1 to 2^31 - 1 further on.
     pub fn lt(self, other: Seq) -> bool
         ensures { result ≡ precedes self.0 other.0 }
     {
@@ -81,21 +81,21 @@ impl Seq {
         0 < n && n < 1 << 31
     }
 
-    /// Whether `other` is this number or comes after it.
+    /// Returns whether `other` is this number or comes after it in TCP's order.
     pub fn le(self, other: Seq) -> bool
         ensures { result ≡ precedes_or_is self.0 other.0 }
     {
         self.0 == other.0 || self.lt(other)
     }
 
-    /// Whether this is one of the `len` numbers from `first` on.
+    /// Returns whether this is one of the `len` numbers from `first` on.
     pub fn in_window(self, first: Seq, len: u32) -> bool
         ensures { result ≡ is_in_window self.0 first.0 len }
     {
         self.minus(first) < len
     }
 
-    /// The only number from -2^31 to 2^31 - 1 that is this number less `from`, modulo 2^32.
+    /// Returns the signed distance from `from` to this number: the only one from -2^31 to 2^31 - 1 that equals their difference modulo 2^32.
     pub fn signed_gap(self, from: Seq) -> i64
         ensures { result ≡ gap self.0 from.0 }
     {

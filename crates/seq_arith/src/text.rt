@@ -3,7 +3,7 @@
 ghost use Rattle.std.specs.Prelude.{◌≡◌, ◌<◌, ◌≤◌, ◌^◌};
 ghost use Rattle.seq_arith.specs.Arrival.{below, text_between};
 
-/// How much of a text that begins at the offset `first` is below the offset `next`. A hostile segment may begin before its stream.
+/// Returns how much of a text that begins at the offset `first` is below the offset `next`. A hostile segment may begin before its stream.
 pub fn below(next: u64, first: i64) -> u64
     requires { next < 2 ^ 63 }
     ensures { result ≡ below next first }
@@ -15,7 +15,7 @@ pub fn below(next: u64, first: i64) -> u64
     }
 }
 
-/// The part of a text between two offsets, where the text begins at the offset `first`.
+/// Returns the part of a text between the offsets `from` and `to`. The text begins at the offset `first`.
 #[tactic(auto, unfolding(crate::specs::Arrival::text_between))]
 pub fn text_between(text: &[u8], first: i64, from: u64, to: u64) -> &[u8]
     requires begins { from < 2 ^ 63 }

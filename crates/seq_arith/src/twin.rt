@@ -22,9 +22,9 @@ pub enum BadTwin {
 /// The kinds of datagrams between two loggers, each with its number on the wire.
 #[derive(Clone, Copy, Debug)]
 pub enum TwinKind {
-    /// A server's message with its number, from the head to the tail.
+    /// From the head to the tail: a server's message, with its number.
     Forward = 1,
-    /// All messages up to this number are applied, from the tail to the head.
+    /// From the tail to the head: all messages up to this number are applied.
     Got = 2,
     /// The other logger has stopped. Only someone who has made sure of that may send this.
     Alone = 3,

@@ -4,7 +4,7 @@ use Rattle.seq_arith.specs.Early.{front_run, behind_front_run}
 
 pub record Queue : Type 0 where
   pub unread : List ℕ  -- in order, the oldest first
-  pub early : List (Option ℕ)  -- behind them
+  pub early : List (Option ℕ)  -- out of order: the places after those, each with a byte or none
 
 abbrev pub empty_queue : Queue
 empty_queue = record { unread = []; early = [] }
@@ -13,11 +13,11 @@ empty_queue = record { unread = []; early = [] }
 abbrev pub fitting : List ℕ → Queue → List ℕ
 fitting bytes q = take (65535 - length q.unread) bytes
 
--- what stays held: bytes held at the places of these are dropped
+-- the places after those of the fitting bytes. What is held at the places of these bytes is dropped
 abbrev pub left_over : List ℕ → Queue → List (Option ℕ)
 left_over bytes q = drop (length (fitting bytes q)) q.early
 
--- a push appends them, and then the held bytes that continue them
+-- a push appends the fitting bytes, and then the held bytes that continue them
 unfoldable pub added_by : List ℕ → Queue → List ℕ
 added_by bytes q = fitting bytes q ++ front_run (left_over bytes q)
 

@@ -62,7 +62,7 @@ with_congestion s c = record s { cwnd = c.cwnd; ssthresh = c.ssthresh; dups = c.
 abbrev pub segment_of : SendState → ℕ
 segment_of s = min (2 ^ 31 - 1) s.mss
 
--- what is in flight
+-- how many units are in flight
 abbrev pub flight_of : SendState → ℕ
 flight_of s = distance s.nxt.0 s.una.0
 
@@ -75,11 +75,11 @@ congestion_by kind s = congestion_of s
 abbrev pub duplicated : SendState → SendState
 duplicated s = with_congestion s (with_duplicate (segment_of s) (flight_of s) (congestion_of s))
 
--- something is in flight, and the peer's right edge leaves room for it
+-- something is in flight, and the peer's right edge is past SND.UNA
 abbrev pub is_lost : SendState → Bool
 is_lost s = not (s.una.0 == s.nxt.0) && precedes s.una.0 (edge_of s)
 
--- the timer expires: what is in flight counts as lost, where the peer has room for it
+-- the timer expires: what is in flight counts as lost, if the peer's right edge is past SND.UNA
 abbrev pub expired : SendState → SendState
 expired s = if is_lost s then with_congestion s (with_expiry (segment_of s) (flight_of s) (s.interval == 1) (congestion_of s)) else s
 

@@ -30,7 +30,7 @@ impl Model for EarlyRuns {
 }
 
 impl EarlyRuns {
-    /// No run.
+    /// Creates a list of no runs.
     pub(crate) fn new() -> EarlyRuns
         ensures { result ≡ [] }
     {
@@ -69,7 +69,8 @@ impl EarlyRuns {
         true
     }
 
-    /// Puts `n` places in order, and the run that continues them. Returns how many are in order then. The other runs are counted from there.
+    /// Notes that the first `n` places are in order now, and with them the run that continues them. Returns how many places are in order then. The places of
+    /// the other runs are counted from there.
     pub(crate) fn grow(&mut self, n: usize) -> usize
         ensures grown { result ≡ grown_to n self.old }
         ensures left { self.new ≡ shifted (grown_to n self.old) (runs_past n self.old) }
@@ -88,7 +89,7 @@ fn few(runs: &ArrayVec<Run, 16>)
     let _count = runs.as_slice().len();
 }
 
-/// How many places are in order once the first `n` are, and the runs past that.
+/// Returns how many places are in order once the first `n` are, and the runs past those.
 #[tactic(auto, using(crate::proofs::Grown::first_grows, crate::proofs::Grown::first_waits, crate::proofs::Grown::first_is_past), unfolding(crate::specs::Runs::grown_to, crate::specs::Runs::runs_past))]
 fn past(runs: &[Run], n: usize) -> (usize, &[Run])
     ensures grown { result.0 ≡ grown_to n runs.now }
@@ -135,19 +136,19 @@ impl Run {
     }
 }
 
-/// Runs that are passed in order while one more is inserted.
+/// The insertion of a run: the others are passed, one after another in their order.
 #[derive(Drop)]
 struct Covering {
     /// The runs kept so far.
     kept: ArrayVec<Run, 16>,
     /// The added run, merged with those that it touched.
     run: Run,
-    /// Whether it is among those kept.
+    /// Whether the added run is among those kept.
     is_kept: bool,
 }
 
 impl Covering {
-    /// Passes a run. Returns false where no room is left.
+    /// Passes a run: keeps it, or merges it with the added run. Returns false where no room is left.
     #[tactic(auto, using(crate::proofs::Covered::long_more), unfolding(crate::specs::Runs::covered, crate::specs::Runs::covered_more))]
     fn pass(&mut self, run: Run) -> bool
         ensures passed { OnTrue result ((rest : List Run) → self.new.kept.items ++ covered_more self.new.is_kept self.new.run rest
@@ -169,7 +170,7 @@ impl Covering {
         true
     }
 
-    /// Appends a run to those kept.
+    /// Appends a run to those kept. Returns false where no room is left.
     fn keep(&mut self, run: Run) -> bool
         ensures kept { OnTrue result (self.new.kept.items ≡ self.old.kept.items ++ run ∷ []) }
         ensures full { OnFalse result (length self.old.kept.items ≡ 16) }
@@ -179,7 +180,7 @@ impl Covering {
         self.kept.try_push(run).is_ok()
     }
 
-    /// Passes all of these runs.
+    /// Passes all of these runs, and keeps the added one. Returns false where no room is left.
     fn pass_all(&mut self, runs: &[Run]) -> bool
         ensures done { OnTrue result (self.new.kept.items ≡ self.old.kept.items ++ covered_more self.old.is_kept self.old.run runs.now) }
         ensures full { OnFalse result (nat_le (length (self.old.kept.items ++ covered_more self.old.is_kept self.old.run runs.now)) 16 ≡ false) }
@@ -194,7 +195,7 @@ impl Covering {
         self.finish()
     }
 
-    /// Keeps the added run once all others are passed, where it isn't kept yet.
+    /// Keeps the added run, if it isn't kept yet, after all others are passed. Returns false where no room is left.
     #[tactic(auto, using(crate::proofs::Covered::long_more), unfolding(crate::specs::Runs::covered, crate::specs::Runs::covered_more))]
     fn finish(&mut self) -> bool
         ensures done { OnTrue result (self.new.kept.items ≡ self.old.kept.items ++ covered_more self.old.is_kept self.old.run []) }

@@ -36,7 +36,7 @@ fn pad(queue: &mut HeapCircularBuffer<u8>, to: usize)
     }
 }
 
-/// The same by these zeros, as often as it takes.
+/// Fills a shorter queue with zeros up to place `to`, by appending these zeros as often as needed.
 fn pad_with(zeros: &[u8], queue: &mut HeapCircularBuffer<u8>, to: usize)
     requires zeros { zeros.now ≡ replicate 512 0 }
     requires fits { to ≤ 65535 }
@@ -63,7 +63,7 @@ fn append(queue: &mut HeapCircularBuffer<u8>, bytes: &[u8])
     queue.fill_from_slice(bytes);
 }
 
-/// Writes bytes over those of a queue from place `from` on. Where the queue continues at the beginning of its room, to move it would cost more.
+/// Writes bytes over those of a queue from place `from` on. A queue that wraps around in its room is written byte by byte, since moving it would cost more.
 fn set_all(queue: &mut HeapCircularBuffer<u8>, from: usize, bytes: &[u8])
     requires within { from + length bytes.now ≤ length queue.old.items }
     requires fits { from + length bytes.now ≤ 65535 }
@@ -79,7 +79,7 @@ fn set_all(queue: &mut HeapCircularBuffer<u8>, from: usize, bytes: &[u8])
     }
 }
 
-/// The same by one copy.
+/// Writes bytes over those of a queue from place `from` on, by one copy.
 fn set_slice(queue: &mut HeapCircularBuffer<u8>, from: usize, bytes: &[u8])
     requires within { from + length bytes.now ≤ length queue.old.items }
     requires fits { from + length bytes.now ≤ 65535 }
@@ -100,7 +100,7 @@ fn copy_over(items: &mut [u8], from: usize, bytes: &[u8])
     items[from..from + bytes.len()].copy_from_slice(bytes);
 }
 
-/// The same byte by byte.
+/// Writes bytes over those of a queue from place `from` on, byte by byte.
 #[tactic(auto, using(crate::proofs::Overwrites::set_one, crate::proofs::Overwrites::length_set), unfolding(crate::specs::Runs::written))]
 fn set_each(queue: &mut HeapCircularBuffer<u8>, from: usize, bytes: &[u8])
     requires within { from + length bytes.now ≤ length queue.old.items }

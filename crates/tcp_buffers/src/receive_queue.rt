@@ -39,7 +39,7 @@ impl Model for RecvQueue {
 }
 
 impl RecvQueue {
-    /// An empty queue. All its room is allocated here.
+    /// Creates an empty queue, and allocates all its room. Fails where an allocation fails.
     pub fn new(alloc: Global) -> Result<RecvQueue, NoMemory>
         ensures { IfOk result (λ queue. queue ≡ empty_queue) }
     {
@@ -51,7 +51,7 @@ impl RecvQueue {
         })
     }
 
-    /// How many bytes are in order.
+    /// Returns the number of bytes in order.
     pub fn len(&self) -> usize
         ensures count { result ≡ length self.now.unread }
         ensures most { result ≤ 65535 }
@@ -59,15 +59,15 @@ impl RecvQueue {
         self.in_order
     }
 
-    /// Whether no byte is in order.
+    /// Returns whether no byte is in order.
     pub fn is_empty(&self) -> bool
         ensures { result ≡ (length self.now.unread == 0) }
     {
         self.in_order == 0
     }
 
-    /// Appends the first bytes of `bytes`, as many as fit, in place of what was held there, and then the held bytes that continue them. Returns how many bytes
-    /// more are in order.
+    /// Appends the first bytes of `bytes`, as many as fit, in place of what was held there, and then the held bytes that continue them. Returns how many
+    /// bytes are added to those in order.
     pub fn push(&mut self, bytes: &[u8]) -> usize
         ensures count { result ≡ length (added_by bytes.now self.old) }
         ensures state { self.new ≡ pushed bytes.now self.old }
@@ -78,7 +78,7 @@ impl RecvQueue {
         self.fill_gap(bytes)
     }
 
-    /// `push` where nothing is held.
+    /// Does what `push` does, where nothing is held.
     fn append(&mut self, bytes: &[u8]) -> usize
         requires { length self.old.early ≡ 0 }
         ensures count { result ≡ length (added_by bytes.now self.old) }
@@ -89,7 +89,7 @@ impl RecvQueue {
         count
     }
 
-    /// `push` where something is held.
+    /// Does what `push` does, where something may be held.
     fn fill_gap(&mut self, bytes: &[u8]) -> usize
         ensures count { result ≡ length (added_by bytes.now self.old) }
         ensures state { self.new ≡ pushed bytes.now self.old }
@@ -120,7 +120,7 @@ impl RecvQueue {
         true
     }
 
-    /// How far past the end of the bytes in order the last held byte ends. Nothing is held from there on.
+    /// Returns where the last held byte ends, counted from the end of the bytes in order; 0 where no byte is held.
     pub fn held_to(&self) -> usize
         ensures { (k : ℕ) → holds_some (drop k self.now.early) ≡ nat_lt k result }
     {

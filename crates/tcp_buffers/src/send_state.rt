@@ -42,15 +42,15 @@ pub struct SendState {
     pub cwnd: u32,
     /// ssthresh: the slow start threshold, in bytes.
     pub ssthresh: u32,
-    /// The duplicate acknowledgements since `una` rose, counted up to four.
+    /// The duplicate acknowledgements since `una` rose or the timer expired with a loss, counted up to four.
     pub dups: u8,
 }
 
 impl SendState {
-    /// Uses the acknowledgement and the window of a segment whose number is `seq` (RFC 9293, 3.10.7.4, fifth check). The right edge moves where the segment is
-    /// newer than the one that last moved it, and stays where only `una` moves. An acknowledgement of something new sets the interval back to one tick. It
-    /// restarts the timer or, where nothing is left in flight, stops it (RFC 6298, 5.2 and 5.3). It also lets the congestion window grow, or ends fast recovery
-    /// (RFC 5681, 3.1 and 3.2).
+    /// Uses the acknowledgement and the window of a segment whose number is `seq` (RFC 9293, 3.10.7.4, fifth check). The right edge moves if SND.UNA =<
+    /// SEG.ACK =< SND.NXT and the segment isn't older than the segment that last moved it. It stays where only `una` moves. An acknowledgement of something
+    /// new sets the interval back to one tick. It restarts the timer or, where nothing is left in flight, stops it (RFC 6298, 5.2 and 5.3). It also lets the
+    /// congestion window grow, or ends fast recovery (RFC 5681, 3.1 and 3.2).
     pub fn on_ack(&mut self, seq: Seq, ack: Seq, wnd: u16) -> AckKind
         ensures kind { result ≡ kind_of self.old.una.0 self.old.nxt.0 ack.0 }
         ensures used { IsUsed self.old self.new seq.0 ack.0 wnd }
@@ -102,7 +102,7 @@ impl SendState {
     }
 
     /// Counts a tick, and returns whether the timer expires at it. The timer then restarts with twice the interval, at most 64 ticks (RFC 6298, 5.5 and 5.6).
-    /// What is in flight then counts as lost, where the peer's right edge leaves room for it (RFC 5681, 3.1).
+    /// What is in flight then counts as lost, if the peer's right edge is past SND.UNA (RFC 5681, 3.1).
     pub fn on_tick(&mut self) -> bool
         ensures expires { result ≡ (self.old.left == 1) }
         ensures state { self.new ≡ ticked self.old }
@@ -117,7 +117,7 @@ impl SendState {
         false
     }
 
-    /// What is in flight counts as lost, where the peer's right edge leaves room for it.
+    /// Notes that what is in flight is lost, if the peer's right edge is past SND.UNA.
     #[tactic(auto, unfolding(seq_arith::specs::Congestion::with_expiry))]
     fn expire(&mut self)
         ensures state { self.new ≡ expired self.old }
@@ -131,7 +131,7 @@ impl SendState {
         self.dups = 0;
     }
 
-    /// Whether something is in flight, and the peer's right edge leaves room for it.
+    /// Whether something is in flight, and the peer's right edge is past SND.UNA.
     fn is_lost(&self) -> bool
         ensures { result ≡ is_lost self.now }
     {
@@ -226,7 +226,7 @@ impl SendState {
         }
     }
 
-    /// Whether the segment's window is used: SND.UNA =< SEG.ACK =< SND.NXT, and the segment isn't older than the one that last moved the edge.
+    /// Whether the segment's window is used: SND.UNA =< SEG.ACK =< SND.NXT, and the segment isn't older than the segment that last moved the edge.
     fn is_window_used(&self, seq: Seq, ack: Seq) -> bool
         ensures { result ≡ is_window_used self.now seq.0 ack.0 }
     {

@@ -172,6 +172,6 @@ received_in name e p = in_others e p
 unfoldable pub received : Tcb → Segment → Tcb
 received e p = received_in e.name e p
 
--- the segment with at most 65,535 bytes of text. IP's total length, which has two bytes, leaves room for no more (RFC 791, 3.1)
+-- the segment with at most 65,535 bytes of text. IP's total length, which has two bytes, allows no more (RFC 791, 3.1)
 abbrev pub within_ip : Segment → Segment
 within_ip p = record p { payload = take 65535 p.payload }

@@ -51,7 +51,7 @@ texts (suc k) e place left =
     then text_at e place (min left e.sending.mss) ∷ texts k e (place + min left e.sending.mss) (left - min left e.sending.mss)
     else []
 
--- the RST in answer
+-- the RST that answers a segment
 abbrev pub reset_reply_segments : Option codec.Head → List Segment
 reset_reply_segments None = []
 reset_reply_segments (Some head) = record { head = said head; payload = [] } ∷ []
@@ -107,7 +107,7 @@ fin_out e = if new_fin e then fin_at e (in_flight e.sending) ∷ [] else []
 unfoldable pub with_fin_out : Tcb → Tcb
 with_fin_out e = record e { sending = if new_fin e then with_fin_sent e.sending else e.sending }
 
--- all but a segment without data
+-- all segments that are sent, except one that is sent only because an ACK is pending
 unfoldable pub full_out : Tcb → List Segment
 full_out e = reset_reply_out e ++ retransmission_out e ++ probe_out e ++ text_out (with_probe e) ++ fin_out (with_text_sent (with_probe e))
 
@@ -122,12 +122,12 @@ is_ack_pending e = has_begun e.name && (e.ack_pending || not (e.last_ack_sent ==
 unfoldable pub bare_segment : Tcb → Segment
 bare_segment e = segment_at e (in_flight e.sending) 16 []
 
--- the list; or only `bare`, where the list is empty and an ACK is pending. The lists are of segments or of packets
+-- the list, or only `bare` if the list is empty and an ACK is pending. It is a list of segments, or of packets
 abbrev pub or_bare : {A : Type 0} → Bool → A → List A → List A
 or_bare ack_pending bare [] = if ack_pending then bare ∷ [] else []
 or_bare ack_pending bare (first ∷ others) = first ∷ others
 
--- what is sent, in order: a segment without data only where no other is sent
+-- the segments that are sent, in order: one without data only where no other is sent
 unfoldable pub leaving : Tcb → List Segment
 leaving e = or_bare (is_ack_pending (after_full e)) (bare_segment (after_full e)) (full_out e)
 

@@ -9,7 +9,7 @@ abbrev pub byte_count : List (List ℕ) → ℕ
 byte_count [] = 0
 byte_count (packet ∷ packets) = length packet + byte_count packets
 
--- the packets that end at these places, the first of which begins at `start`
+-- the packets that end at these places. The first one begins at `start`
 abbrev pub pieces : (start : ℕ) (ends bytes : List ℕ) → List (List ℕ)
 pieces start [] bytes = []
 pieces start (end ∷ ends) bytes = take (end - start) (drop start bytes) ∷ pieces end ends bytes

@@ -10,8 +10,8 @@ pub record Receiving : Type 0 where
   pub read : ℕ  -- how many bytes the user has read
   pub unread : List ℕ  -- the bytes taken and not read
   pub fin : Bool  -- whether the peer's FIN is taken
-  pub early : Early  -- the peer's text behind the bytes taken, and its FIN, that are held until the gap before them is filled
-  pub limit : ℕ  -- the receive edge never passes this
+  pub early : Early  -- the peer's text after the bytes taken, and its FIN, that are held until the gap before them is filled
+  pub limit : ℕ  -- the right edge of the receive window never passes this
 
 -- how many bytes are taken
 abbrev pub taken : Receiving → ℕ
@@ -25,7 +25,7 @@ next r = taken r + one_if r.fin
 abbrev pub receive_edge : Receiving → ℕ
 receive_edge r = min (r.read + 65535) r.limit
 
--- the edge that is advertised: a FIN that is taken has used up one number
+-- the right edge that is advertised: a FIN that is taken has used up one number
 abbrev pub advertised_edge : Receiving → ℕ
 advertised_edge r = receive_edge r + one_if r.fin
 

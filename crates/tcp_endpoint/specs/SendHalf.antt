@@ -19,8 +19,8 @@ pub record Sending : Type 0 where
   pub una : ℕ  -- SND.UNA: the first offset that isn't acknowledged
   pub sent : ℕ  -- SND.NXT: the next offset to be sent
   pub edge : ℕ  -- SND.UNA + SND.WND: the peer's right edge, from which on nothing may be sent
-  pub wl1 : ℕ  -- SND.WL1: the segment that set the edge last, by the peer's number
-  pub wl2 : ℕ  -- SND.WL2: what it acknowledged, as an offset
+  pub wl1 : ℕ  -- SND.WL1: the sequence number of the segment that last set the edge
+  pub wl2 : ℕ  -- SND.WL2: what that segment acknowledged, as an offset
   pub held : List ℕ  -- the bytes written and not acknowledged
   pub closed : Bool  -- whether the user has closed
   pub fin_sent : Bool  -- whether the FIN is sent
@@ -56,14 +56,14 @@ with_segment_size mss s = record s { mss = mss; congestion = initial_congestion 
 abbrev pub with_syn_acked : Sending → ℕ → ℕ → Sending
 with_syn_acked s seq window = record s { syn_acked = true; una = 0; sent = 0; edge = window; wl1 = seq; wl2 = 0; interval = 1; rest = 0 }
 
--- whether the window is used: SND.UNA =< SEG.ACK =< SND.NXT, and the segment isn't older than the one that last moved the edge: either SND.WL1 < SEG.SEQ, or
--- SND.WL1 = SEG.SEQ and SND.WL2 =< SEG.ACK
+-- whether the window is used: SND.UNA =< SEG.ACK =< SND.NXT, and the segment isn't older than the segment that last moved the edge: either SND.WL1 < SEG.SEQ,
+-- or SND.WL1 = SEG.SEQ and SND.WL2 =< SEG.ACK
 abbrev pub moves_edge : Sending → ℕ → ℤ → Bool
 moves_edge s seq ack =
     int_le (pos s.una) ack && int_le ack (pos s.sent) && (precedes s.wl1 seq || (s.wl1 == seq && nat_le s.wl2 (nat_abs ack)))
 
--- an acknowledgement that isn't ahead of SND.NXT. Newly acknowledged bytes leave the send queue. The timer then stops if nothing else is in flight, and else
--- restarts (RFC 6298, 5.2 and 5.3). Where the window isn't used, the edge stays
+-- what an acknowledgement does that isn't ahead of SND.NXT. Newly acknowledged bytes are dropped from the send queue. The timer then stops if nothing else is
+-- in flight, and otherwise restarts (RFC 6298, 5.2 and 5.3). Where the window isn't used, the edge stays
 unfoldable pub acknowledged : Sending → ℕ → ℤ → ℕ → Sending
 acknowledged s seq ack window = record s {
   una = if is_new_ack s.una s.sent ack then nat_abs ack else s.una;
@@ -80,8 +80,8 @@ acknowledged s seq ack window = record s {
 abbrev pub in_flight : Sending → ℕ
 in_flight s = s.sent - s.una
 
--- A duplicate acknowledgement (RFC 5681, 2): `bare` says that its segment has neither text nor FIN. It acknowledges SND.UNA again while something is in flight,
--- and leaves the right edge as it is
+-- A duplicate acknowledgement (RFC 5681, 2): `bare` says that its segment has neither text nor FIN. It acknowledges SND.UNA again while something is in
+-- flight, with the same right edge
 unfoldable pub is_duplicate : Sending → (bare : Bool) → ℤ → ℕ → Bool
 is_duplicate s bare ack window = bare && int_eq ack (pos s.una) && nat_lt s.una s.sent && nat_abs ack + window == s.edge
 
@@ -114,11 +114,11 @@ target s = if s.fin_sent then s.sent else s.una + length s.held + one_if s.close
 abbrev pub is_unacknowledged : Sending → Bool
 is_unacknowledged s = not s.syn_acked || nat_lt s.una s.sent
 
--- the timer's last tick: it restarts the timer with twice the interval, at most 64 ticks
+-- the timer expires at this tick, and restarts with twice the interval, at most 64 ticks
 abbrev pub expires : Sending → Bool
 expires s = s.rest == 1
 
--- at such an expiry what is in flight counts as lost, where the peer's right edge leaves room for it
+-- at such an expiry what is in flight counts as lost, if the peer's right edge is past SND.UNA
 abbrev pub is_lost : Sending → Bool
 is_lost s = nat_lt s.una s.sent && precedes s.una s.edge
 
@@ -150,7 +150,7 @@ sendable s = if s.syn_acked && not s.fin_sent then min (s.una + length s.held) (
 abbrev pub sends_fin : Sending → Bool
 sends_fin s = s.syn_acked && s.closed && not s.fin_sent && s.sent == s.una + length s.held && nat_lt s.sent (send_edge s)
 
--- how many bytes are retransmitted: at most one segment of what is in flight, and no more than the peer has room for, where its room counts as at least one
+-- how many bytes are retransmitted: at most one segment of what is in flight, and no more than the peer's room, which counts as at least one byte
 abbrev pub resent_length : Sending → ℕ
 resent_length s = min s.mss (min (min (in_flight s) (length s.held)) (max 1 (s.edge - s.una)))
 
@@ -213,7 +213,7 @@ pub record NumbersFit (n : SendState) (segment acknowledgement : ℕ) : Type 0 w
   pub seq : segment < 2 ^ 32
   pub ack : acknowledgement < 2 ^ 32
 
--- whether what is acknowledged was sent
+-- whether an acknowledgement is only of what was sent
 abbrev pub was_sent : AckKind → Bool
 was_sent Beyond = false
 was_sent kind = true

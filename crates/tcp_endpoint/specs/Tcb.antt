@@ -16,13 +16,13 @@ pub record Tcb : Type 0 where
   pub sending : Sending  -- the own stream: ISS, SND.UNA, SND.NXT, SND.WND
   pub wait : ℕ  -- the ticks that TIME-WAIT still lasts
   pub last_ack_sent : ℕ  -- the acknowledgement last sent, ..
-  pub last_advertised_edge : ℕ  -- .. and the edge last advertised
+  pub last_advertised_edge : ℕ  -- .. and the right edge last advertised
   pub ack_pending : Bool  -- of this turn: an ACK is pending,
   pub retransmission_due : Bool  -- the first unacknowledged segment is due: the SYN or SYN-ACK, or a retransmission,
   pub probe : Bool  -- a zero-window probe is due,
-  pub reset_reply : Option Head  -- and the RST in reply
+  pub reset_reply : Option Head  -- and the RST that answers a segment
 
--- the largest right edge of an endpoint's receive window, as an offset: the limit that the caller gives, and at most 2^30
+-- the largest right edge of an endpoint's receive window, as an offset: the smaller of the caller's limit and 2^30
 abbrev pub kept_limit : ℕ → ℕ
 kept_limit limit = min limit (2 ^ 30)
 

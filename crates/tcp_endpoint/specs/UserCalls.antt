@@ -7,7 +7,7 @@ use Rattle.tcp_endpoint.specs.ReceiveHalf.{read_out}
 use Rattle.tcp_endpoint.specs.SendHalf.{expires, ticked, is_unacknowledged}
 use Rattle.tcp_endpoint.specs.Tcb.{Tcb}
 
--- the timer for retransmissions and probes
+-- a tick of the timer. Where it expires, a retransmission is due, or a probe if nothing is unacknowledged
 unfoldable pub timer_ticked : Tcb → Tcb
 timer_ticked e = record e {
   sending = ticked e.sending;
@@ -42,7 +42,7 @@ is_ended e = e.sending.closed || e.reset
 abbrev pub write_room : Tcb → ℕ
 write_room e = if is_ended e then 0 else 65535 - length e.sending.held
 
--- SND.NXT and SND.UNA
+-- SND.NXT, which is ISS in LISTEN, and SND.UNA, which is ISS until the SYN is acknowledged
 abbrev pub sent_number : Tcb → ℕ
 sent_number e = if is_listen e.name then e.sending.iss else number_at e.sending.iss e.sending.sent
 

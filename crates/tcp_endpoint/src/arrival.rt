@@ -81,11 +81,11 @@ fn shortened(p: PacketRef<'_>) -> PacketRef<'_>
 }
 
 impl Endpoint {
-    /// A packet of the peer arrives. Text past 65,535 bytes is more than IP carries, and is ignored. The contract says what the packet does to the endpoint
-    /// where our offsets are at most 2^30, so that numbers modulo 2^32 show their order.
+    /// Receives a packet of the peer. Text past 65,535 bytes is ignored: it is more than IP carries. The contract says what the packet does to the endpoint
+    /// as long as our offsets are at most 2^30, so that numbers modulo 2^32 show their order.
     pub fn on_packet(&mut self, p: PacketRef<'_>)
         ensures any { IsShort self.old.sending → self.new ≡ received self.old (within_ip (segment_of p.entry)) }
-        // So all of an IP packet counts.
+        // All of an IP packet counts.
         ensures whole { length p.entry.payload.now ≤ 65535 → IsShort self.old.sending → self.new ≡ received self.old (segment_of p.entry) }
     {
         self.receive(shortened(p));
@@ -157,7 +157,7 @@ impl Endpoint {
         }
     }
 
-    /// A SYN opens a connection.
+    /// Opens the connection that a SYN asks for. Its SYN-ACK becomes due.
     #[tactic(auto, unfolding(crate::specs::Arrival::begun))]
     fn begin(&mut self, p: PacketRef<'_>)
         ensures { self.new ≡ begun self.old (segment_of p.entry) }
@@ -187,7 +187,7 @@ impl Endpoint {
         }
     }
 
-    /// The peer's SYN acknowledges ours.
+    /// Establishes the connection: the peer's SYN acknowledges ours.
     #[tactic(auto, unfolding(crate::specs::Arrival::answered))]
     fn answered(&mut self, p: PacketRef<'_>)
         ensures { self.new ≡ answered self.old (segment_of p.entry) }
@@ -220,7 +220,7 @@ impl Endpoint {
         }
     }
 
-    /// The connection is reset.
+    /// Resets the connection.
     fn reset_connection(&mut self)
         ensures { self.new ≡ with_reset self.old }
     {
@@ -238,7 +238,7 @@ impl Endpoint {
         self.name = name;
     }
 
-    /// Makes an ACK pending, if it is due.
+    /// Makes an ACK pending, if `is_ack_pending` says so.
     fn make_ack_pending(&mut self, is_ack_pending: bool)
         ensures { self.new ≡ with_ack_pending_if is_ack_pending self.old }
     {
@@ -263,14 +263,14 @@ impl Endpoint {
     #[tactic(auto, unfolding(crate::specs::Arrival::is_allowed))]
     fn is_allowed(&self, p: PacketRef<'_>) -> bool
         ensures allowed { result ≡ is_allowed self.now (segment_of p.entry) }
-        // What is allowed is near.
+        // Such a segment begins where numbers show the order of offsets.
         ensures near { OnTrue result (IsNearFirst (first self.now (segment_of p.entry))) }
     {
         self.receiver.allows(p.head.seq)
             && (self.sender.is_syn_acked() || self.sender.acks_syn(p.head.ack))
     }
 
-    /// A repeated FIN of the peer restarts TIME-WAIT.
+    /// Restarts TIME-WAIT where the peer repeats its FIN.
     #[tactic(auto, unfolding(crate::specs::Arrival::with_time_wait_restarted))]
     fn restart_time_wait(&mut self, p: PacketRef<'_>)
         requires { length p.payload.now ≤ 65535 }

@@ -14,8 +14,8 @@ use std::alloc::Global;
 use std::marker::Model;
 use tcp_buffers::{RecvQueue, SendQueue};
 
-/// A TCP endpoint for one connection (RFC 9293). `on_packet` and `on_tick` begin a turn and `flush` ends it, so there is one flush between any two of them. In
-/// contracts an endpoint is a record in offsets of the two streams.
+/// A TCP endpoint for one connection (RFC 9293). `on_packet` and `on_tick` begin a turn and `flush` ends it, so call `flush` once between any two of them. In
+/// contracts an endpoint is a record of its variables, mostly as offsets in the two streams.
 #[derive(Drop)]
 pub struct Endpoint {
     /// Our address.
@@ -34,7 +34,7 @@ pub struct Endpoint {
     pub(crate) wait: u8,
     /// The acknowledgement last sent, as an offset in the peer's stream.
     pub(crate) last_ack_sent: u32,
-    /// The edge last advertised, as such an offset.
+    /// The right edge last advertised, as an offset in the peer's stream.
     pub(crate) last_advertised_edge: u32,
     /// Whether an ACK is pending in this turn.
     pub(crate) ack_pending: bool,
@@ -42,7 +42,7 @@ pub struct Endpoint {
     pub(crate) retransmission_due: bool,
     /// Whether a probe is due in this turn.
     pub(crate) probe: bool,
-    /// The RST in answer that is due in this turn.
+    /// The RST that is due in this turn, as the answer to a segment.
     pub(crate) reset_reply: Option<Head>,
 }
 
@@ -69,7 +69,8 @@ impl Model for Endpoint {
 }
 
 impl Endpoint {
-    /// A passive open at a local address, with the initial number `isn`. At most `limit` bytes of the peer's stream are ever taken, and at most 2^30.
+    /// Opens passively at a local address, with the initial sequence number `isn`. The endpoint never takes more than `limit` bytes of the peer's stream, nor
+    /// more than 2^30. Fails where an allocation fails.
     #[tactic(auto, unfolding(crate::specs::Tcb::listening))]
     pub fn listen(alloc: Global, local: Addr, isn: Seq, limit: u32) -> Result<Endpoint, NoMemory>
         ensures { IfOk result (λ e. e ≡ listening local isn.0 limit) }
@@ -93,7 +94,7 @@ impl Endpoint {
         })
     }
 
-    /// An active open to a remote address. The next flush sends the SYN.
+    /// Opens actively to a remote address, with `isn` and `limit` as in `listen`. The next flush sends the SYN. Fails where an allocation fails.
     #[tactic(auto, unfolding(crate::specs::Tcb::connecting, crate::specs::Tcb::listening))]
     pub fn connect(
         alloc: Global,
@@ -111,7 +112,7 @@ impl Endpoint {
         Ok(endpoint)
     }
 
-    /// The state, and whether the peer has reset the connection.
+    /// Returns the state, and whether the peer has reset the connection.
     pub fn state(&self) -> State
         ensures { result ≡ record { name = self.now.name; reset = self.now.reset } }
     {
@@ -121,7 +122,7 @@ impl Endpoint {
         }
     }
 
-    /// SND.NXT; in LISTEN it is ISS.
+    /// Returns SND.NXT; in LISTEN, ISS.
     pub fn sent(&self) -> Seq
         ensures { result.0 ≡ sent_number self.now }
     {
@@ -131,7 +132,7 @@ impl Endpoint {
         self.sender.nxt()
     }
 
-    /// SND.UNA; it is ISS until our SYN is acknowledged.
+    /// Returns SND.UNA; until our SYN is acknowledged, ISS.
     pub fn acked(&self) -> Seq
         ensures { result.0 ≡ acked_number self.now }
     {

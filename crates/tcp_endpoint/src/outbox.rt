@@ -20,7 +20,7 @@ const PACKET_ROOM: usize = 1_100;
 /// The most bytes that these packets have in all.
 const BYTE_ROOM: usize = 120_000;
 
-/// At most 1,100 packets of at most 120,000 bytes in all. In contracts an outbox is the list of its packets.
+/// The packets that a turn sends: at most 1,100, of at most 120,000 bytes in all. In contracts an outbox is the list of its packets.
 #[derive(Debug, Drop)]
 pub struct Outbox {
     /// The bytes of all packets, one packet after another.
@@ -41,7 +41,7 @@ impl Model for Outbox {
 }
 
 impl Outbox {
-    /// An outbox without packets. All its room is allocated here.
+    /// Creates an outbox without packets, and allocates all its room. Fails where an allocation fails.
     pub fn new(alloc: Global) -> Result<Outbox, NoMemory>
         ensures { IfOk result (λ out. out ≡ []) }
     {
@@ -50,7 +50,7 @@ impl Outbox {
         Ok(Outbox { bytes, ends })
     }
 
-    /// How many packets there are.
+    /// Returns the number of packets.
     #[tactic(auto, using(crate::proofs::Pieces::length_pieces))]
     pub fn len(&self) -> usize
         ensures { result ≡ length self.now }
@@ -58,7 +58,7 @@ impl Outbox {
         self.ends.len()
     }
 
-    /// Whether there is no packet.
+    /// Returns whether there is no packet.
     #[tactic(auto, using(crate::proofs::Pieces::length_pieces))]
     pub fn is_empty(&self) -> bool
         ensures { result ≡ (length self.now == 0) }
@@ -66,7 +66,7 @@ impl Outbox {
         self.ends.is_empty()
     }
 
-    /// The bytes of packet `i`, counted from 0.
+    /// Returns the bytes of packet `i`, counted from 0.
     #[tactic(auto, using(crate::proofs::Pieces::length_pieces, crate::proofs::Pieces::bounds_at, crate::proofs::Pieces::piece_at))]
     pub fn packet(&self, i: usize) -> &[u8]
         requires { i < length self.now }
@@ -76,7 +76,7 @@ impl Outbox {
         &self.bytes[start..end]
     }
 
-    /// The bytes of packet `i`, counted from 0, for writing.
+    /// Lends the bytes of packet `i`, counted from 0, for writing.
     #[tactic(auto, using(crate::proofs::Pieces::length_pieces, crate::proofs::Pieces::bounds_at, crate::proofs::Pieces::piece_at))]
     pub fn packet_mut(&mut self, i: usize) -> &mut [u8]
         requires { i < length self.old }
@@ -185,7 +185,7 @@ fn append_blank(mss: Option<u16>, bytes: &mut Vec<u8>)
     }
 }
 
-/// Appends a part, which is usually empty.
+/// Appends a part of a text. It is usually empty.
 fn append_some(part: &[u8], bytes: &mut Vec<u8>)
     requires { length bytes.old.items + length part.now ≤ vec_capacity bytes.old }
     ensures items { bytes.new.items ≡ bytes.old.items ++ part.now }

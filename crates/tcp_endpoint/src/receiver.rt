@@ -16,7 +16,7 @@ use seq_arith::Seq;
 use std::marker::Model;
 use tcp_buffers::RecvQueue;
 
-/// The largest right edge, as an offset. It is chosen so that every offset is near to every other.
+/// The largest right edge, as an offset. Offsets stay so small that numbers modulo 2^32 show the order of any two of them.
 const MOST: u32 = 1 << 30;
 
 /// What is known of the peer's stream.
@@ -54,7 +54,7 @@ impl Model for Receiver {
 }
 
 impl Receiver {
-    /// Nothing is received yet.
+    /// Creates a receiver that has received nothing.
     pub(crate) fn new(queue: RecvQueue, limit: u32) -> Receiver
         requires { queue ≡ empty_queue }
         ensures { result ≡ receiving_up_to (kept_limit limit) }
@@ -84,7 +84,7 @@ impl Receiver {
         self.read + self.queue.len() as u32
     }
 
-    /// Facts for proofs: the ranges of a number and of the fields, and that all offsets are near to one another.
+    /// Facts for proofs: a number's range, the order and the bounds of the offsets, and the invariant of the data that is held.
     fn ranges(&self, number: Seq)
         ensures number { number.0 < 2 ^ 32 }
         ensures next { next self.now ≤ 2 ^ 30 + 1 }
@@ -192,7 +192,7 @@ impl Receiver {
         self.irs.add(1).add(self.advertised_edge())
     }
 
-    /// Whether this is that number.
+    /// Whether this is the number of the advertised edge.
     #[tactic(auto, using(crate::proofs::Places::is_next))]
     fn is_edge(&self, seq: Seq) -> bool
         ensures { result ≡ int_eq (offset_of self.now.irs seq.0) (pos (advertised_edge self.now)) }
@@ -216,18 +216,18 @@ impl Receiver {
     pub(crate) fn accepts(&self, seq: Seq, len: u32) -> bool
         requires { len ≤ 2 ^ 16 }
         ensures acceptable { result ≡ is_acceptable_or_at_edge (next self.now) (window self.now) (offset_of self.now.irs seq.0) len }
-        // What is accepted is near.
+        // Such a segment begins where numbers show the order of offsets.
         ensures near { OnTrue result (IsNearFirst (offset_of self.now.irs seq.0)) }
     {
         self.is_acceptable(seq, len) || self.is_at_right_edge(seq, len)
     }
 
-    /// Whether this is RCV.NXT while the window is zero. Of a segment there the acknowledgement and the window are used, whatever its length (RFC 9293,
+    /// Whether this is RCV.NXT while the window is zero. The acknowledgement and the window of such a segment are used, whatever its length (RFC 9293,
     /// 3.10.7.4, first check, special allowance).
     #[tactic(auto, using(crate::proofs::Places::near_of_place), unfolding(seq_arith::specs::Arrival::is_allowed_at_zero))]
     pub(crate) fn allows(&self, seq: Seq) -> bool
         ensures allowed { result ≡ is_allowed_at_zero (next self.now) (window self.now) (offset_of self.now.irs seq.0) }
-        // What is allowed is near.
+        // Such a segment begins where numbers show the order of offsets.
         ensures near { OnTrue result (IsNearFirst (offset_of self.now.irs seq.0)) }
     {
         self.ranges(seq);
@@ -261,7 +261,7 @@ impl Receiver {
         self.taken_number().lt(seq)
     }
 
-    /// How far past the bytes taken a text begins.
+    /// How far past the end of the bytes taken a text begins; 0 if it doesn't begin past it.
     #[tactic(auto, using(crate::proofs::Places::not_past, crate::proofs::Places::past))]
     fn gap(&self, seq: Seq) -> u32
         requires { IsNearFirst (offset_of self.now.irs seq.0) }
@@ -302,7 +302,7 @@ impl Receiver {
         }
     }
 
-    /// The new part of a text that begins `gap` bytes past those taken, or before them.
+    /// Returns the new part of a text. The text begins `gap` bytes past the bytes taken, or not past them where `gap` is 0.
     #[tactic(auto, unfolding(seq_arith::specs::Coming::new_text))]
     fn new_part<'a>(&self, seq: Seq, gap: u32, text: &'a [u8]) -> &'a [u8]
         requires near { IsNearFirst (offset_of self.now.irs seq.0) }
@@ -326,8 +326,8 @@ impl Receiver {
         self.take_fin(seq, text.len() as u32, fin);
     }
 
-    /// Takes the new part of a text, with the held bytes that continue it, and the FIN where it is held at their end. A part that begins past
-    /// the bytes taken is held.
+    /// Takes the new part of a text, with the held bytes that continue it, and the FIN where it is held at their end. A new part that begins past the bytes
+    /// taken is held instead.
     fn take_text(&mut self, seq: Seq, text: &[u8])
         requires { IsNearFirst (offset_of self.old.irs seq.0) }
         ensures { self.new ≡ with_segment self.old (offset_of self.old.irs seq.0) text.now false }
@@ -354,7 +354,7 @@ impl Receiver {
         seq.add(len).minus(self.irs.add(1))
     }
 
-    /// Whether a FIN at this place is held, or taken at once: the place is below the receive edge and not below the bytes taken, no text at it or past it is
+    /// Whether a FIN at this place is held, or taken at once: the place is below the right edge and not below the bytes taken, no text at it or past it is
     /// held, and no FIN is held or taken.
     fn holds_fin(&self, place: u32) -> bool
         ensures { result ≡ holds_fin (taken self.now) (receive_edge self.now) (pos place) (nothing_came self.now.early self.now.fin) }

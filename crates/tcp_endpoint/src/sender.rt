@@ -55,7 +55,7 @@ impl Model for Sender {
 }
 
 impl Sender {
-    /// Nothing is sent yet.
+    /// Creates a sender that has sent nothing, with an empty send queue.
     pub(crate) fn new(iss: Seq, held: SendQueue) -> Sender
         requires { held ≡ [] }
         ensures { result ≡ sending_from iss.0 }
@@ -191,7 +191,8 @@ impl Sender {
         }
     }
 
-    /// Whether this is a duplicate: it acknowledges SND.UNA again while something is in flight, and leaves the right edge as it is.
+    /// Whether this is a duplicate acknowledgement (RFC 5681, 2): its segment has neither text nor FIN (`is_bare`), and it acknowledges SND.UNA again while
+    /// something is in flight, with the same right edge.
     fn is_duplicate(&self, ack: Seq, window: u16, is_bare: bool) -> bool
         ensures { IsShort self.now → result ≡ is_duplicate self.now is_bare (offset_of self.now.iss ack.0) window }
     {
@@ -199,7 +200,8 @@ impl Sender {
         is_bare && repeats(&self.numbers, ack, window)
     }
 
-    /// Uses an acknowledgement and a window, of a duplicate or not. Returns false, and changes nothing, where the acknowledgement is ahead of SND.NXT.
+    /// Uses an acknowledgement and a window, whether it is a duplicate or not. Returns false, and changes nothing, where the acknowledgement is ahead of
+    /// SND.NXT.
     fn acknowledge(&mut self, seq: Seq, ack: Seq, window: u16) -> bool
         ensures used { IsShort self.old → result ≡ not (is_ahead self.old.sent (offset_of self.old.iss ack.0)) }
         ensures state { IsShort self.old
@@ -213,7 +215,7 @@ impl Sender {
         was_sent(kind)
     }
 
-    /// Counts a duplicate acknowledgement.
+    /// Counts a duplicate acknowledgement, and returns `Third` at the third in a row.
     fn count_duplicate(&mut self) -> AckUse
         ensures third { result ≡ (if is_third self.old.congestion then Third else Used) }
         ensures state { self.new ≡ duplicated self.old }
@@ -323,7 +325,7 @@ impl Sender {
         self.held.room()
     }
 
-    /// `n` held bytes from `place` on, in two pieces.
+    /// Returns `n` held bytes, from `place` bytes after SND.UNA on, in two pieces.
     pub(crate) fn text(&self, place: u32, n: u32) -> (&[u8], &[u8])
         requires { place + n ≤ length self.now.held }
         ensures { result.0.now ++ result.1.now ≡ take n (drop place self.now.held) }
@@ -370,7 +372,7 @@ impl Sender {
         self.numbers.on_tick()
     }
 
-    /// Starts the timer where it must run and doesn't, and stops it where it needn't run.
+    /// Starts the timer with an interval of one tick if it must run (`runs`) and doesn't yet, and stops it if it needn't run.
     pub(crate) fn set_timer(&mut self, runs: bool)
         ensures { self.new ≡ timed runs self.old }
     {
@@ -383,7 +385,7 @@ impl Sender {
         }
     }
 
-    /// Takes the first bytes of `bytes`, as many as fit, and returns how many.
+    /// Appends the first bytes of `bytes` to those written, as many as fit, and returns how many.
     pub(crate) fn write(&mut self, bytes: &[u8]) -> usize
         ensures count { result ≡ min (65535 - length self.old.held) (length bytes.now) }
         ensures state { self.new ≡ record self.old { held = self.old.held ++ take result bytes.now } }
@@ -426,7 +428,7 @@ fn initial_window(mss: u32) -> u32
     if mss <= 1_095 { 4 * mss } else { 3 * mss }
 }
 
-/// Whether what is acknowledged was sent.
+/// Whether an acknowledgement is only of what was sent.
 fn was_sent(kind: AckKind) -> bool
     ensures { result ≡ was_sent kind }
 {

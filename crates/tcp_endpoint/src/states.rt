@@ -19,7 +19,7 @@ pub enum StateName {
     TimeWait,
 }
 
-/// What an endpoint reports of its state.
+/// An endpoint's state, as `Endpoint::state` reports it.
 #[derive(Clone, Copy, Debug, PartialEq, Eq)]
 pub struct State {
     /// The state's name (RFC 9293, 3.3.2).

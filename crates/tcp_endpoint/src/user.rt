@@ -8,7 +8,7 @@ use crate::states::StateName;
 use socket_layer::Socket;
 
 impl Endpoint {
-    /// A tick passes.
+    /// Counts a tick of the timer and of TIME-WAIT.
     #[tactic(auto, unfolding(crate::specs::UserCalls::after_tick))]
     pub fn on_tick(&mut self)
         ensures { self.new ≡ after_tick self.old }
@@ -17,7 +17,8 @@ impl Endpoint {
         self.tick_wait();
     }
 
-    /// At the timer's last tick the first unacknowledged segment is retransmitted, or else a probe is sent (RFC 9293, 3.8.1 and 3.8.6.1).
+    /// Counts a tick of the timer. Where it expires, the first unacknowledged segment becomes due for retransmission, or a probe does if nothing is
+    /// unacknowledged (RFC 9293, 3.8.1 and 3.8.6.1).
     #[tactic(auto, unfolding(crate::specs::UserCalls::timer_ticked))]
     fn tick_timer(&mut self)
         ensures { self.new ≡ timer_ticked self.old }
@@ -28,7 +29,7 @@ impl Endpoint {
         self.probe = self.probe || (expires && !is_outstanding);
     }
 
-    /// TIME-WAIT ends with its last tick.
+    /// Counts a tick of TIME-WAIT, if that is the state. The last tick leads to CLOSED.
     #[tactic(auto, unfolding(crate::specs::UserCalls::waited))]
     fn tick_wait(&mut self)
         ensures { self.new ≡ waited self.old }

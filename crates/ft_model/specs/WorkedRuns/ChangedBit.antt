@@ -1,5 +1,5 @@
--- A logger takes a Data with a changed bit for one of its own server: it keeps a byte that no client sent, and answers. By the message grammar a packet with a
--- changed bit is no message, so by the law nothing happens.
+-- A logger accepts a Data with a changed bit as one of its own server's: it keeps a byte that no client sent, and answers. By the message grammar a packet
+-- with a changed bit is no message, so by the law nothing happens.
 use Rattle.std.specs.Prelude.{codes, List, [], ◌∷◌}
 use Rattle.ft_model.specs.World.{Moment}
 use Rattle.ft_model.specs.declared.event.Event.TheVariants.{Flip}

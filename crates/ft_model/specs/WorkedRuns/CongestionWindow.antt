@@ -1,6 +1,6 @@
 -- A client asks for 4,094 bytes, more than the congestion window allows at once. Four segments are sent. An acknowledgement of the first one allows two more.
--- Two duplicates of it allow none. At the third the missing segment is retransmitted, and after all that was sent as much is sent as the window then has room
--- for. Twenty-five events, twenty-seven packets.
+-- Two duplicates of it allow none. At the third the missing segment is retransmitted, and as much new text is sent as the window then has room for.
+-- Twenty-five events, twenty-seven packets.
 use Rattle.std.specs.Prelude.{ℕ, codes, zero, suc, ◌+◌, ◌*◌, ◌%◌, ◌==◌, min, false, None, Some, List, [], ◌∷◌, ◌++◌, length, pos}
 use Rattle.seq_arith.specs.Message.Body.{DataMsg, StableMsg, ReadMsg, ReadsMsg}
 use Rattle.server_trait.specs.Service.{Served, Machine}
@@ -177,7 +177,7 @@ moment_14 = moment (Deliver 12) (to_client 16 5001 1009 65535 None [] ∷ []) (r
 abbrev pub moment_15 : Moment
 moment_15 = moment (Deliver 11) (reads ∷ []) (record moment_14.world { log = log_with (read_entry ∷ []) })
 
--- all output may be sent, and four segments are
+-- all output is released, and four segments are sent
 abbrev pub moment_16 : Moment
 moment_16 = moment (Deliver 14) (text 0 536 ∷ text 536 536 ∷ text 1072 536 ∷ text 1608 536 ∷ []) (record moment_15.world { node = Some (node_live full_point) })
 
@@ -188,7 +188,7 @@ moment_17 = moment (Deliver 15) [] (record moment_16.world { clients = served_cl
 abbrev pub moment_18 : Moment
 moment_18 = moment (Ack 1 65535) (acknowledgement ∷ []) (record moment_17.world { clients = acknowledging_client ∷ [] })
 
--- so one has left the network and the window is a segment longer: two are sent
+-- so it has left the network and the window is a segment longer: two more are sent
 abbrev pub moment_19 : Moment
 moment_19 = moment (Deliver 19) (text 2144 536 ∷ text 2680 536 ∷ to_log 1 (DataMsg (part_with 8 536 false [])) ∷ []) (record moment_18.world { node = Some (node_live grown_point) })
 
@@ -218,7 +218,7 @@ trace =
     moment_25 ∷ moment_24 ∷ moment_23 ∷ moment_22 ∷ moment_21 ∷ moment_20 ∷ moment_19 ∷ moment_18 ∷ moment_17 ∷ moment_16 ∷ moment_15 ∷ moment_14 ∷ moment_13
     ∷ moment_12 ∷ moment_11 ∷ moment_10 ∷ moment_9 ∷ moment_8 ∷ moment_7 ∷ moment_6 ∷ moment_5 ∷ moment_4 ∷ moment_3 ∷ moment_2 ∷ moment_1 ∷ []
 
--- Wrong turns. When all output may be sent: a fifth segment is sent, past the window
+-- Wrong turns. When all output is released: a fifth segment is sent, past the window
 abbrev pub past_the_window : List Packet
 past_the_window = text 0 536 ∷ text 536 536 ∷ text 1072 536 ∷ text 1608 536 ∷ text 2144 536 ∷ []
 

@@ -67,7 +67,7 @@ moment_11 = moment (Send 1 0 2) (first_sent ∷ []) (record moment_10.world { cl
 abbrev pub moment_12 : Moment
 moment_12 = moment (Send 1 2 3) (second_sent ∷ []) (record moment_11.world { clients = told_client ∷ [] })
 
--- the second one arrives first: it is answered, and held
+-- the second one arrives first: it is held, and answered
 abbrev pub moment_13 : Moment
 moment_13 = moment (Deliver 9) (bare_ack ∷ []) (record moment_12.world { node = Some (node_live held_point) })
 

@@ -1,5 +1,5 @@
--- A restart from a log with one entry: client 1 has sent "hello", one read has taken it, and the output isn't acknowledged. The runs with such a restart share
--- the entry, the turns until all of it has come, and the connection then.
+-- A restart from a log with one entry: client 1 has sent "hello", one read has taken it, and the output isn't acknowledged. The runs with such a restart
+-- share the entry, the turns until all of it is fetched, and the connection then.
 use Rattle.std.specs.Prelude.{pos, true, false, None, [], ◌∷◌}
 use Rattle.seq_arith.specs.Message.{EntryHead}
 use Rattle.seq_arith.specs.Message.Body.{SummaryMsg, ListMsg, EntryMsg, BytesMsg, PartMsg, CutsMsg, LensMsg}
@@ -8,7 +8,7 @@ use Rattle.ft_model.specs.Restart.{Fetched}
 use Rattle.ft_model.specs.Lawful.{Turn}
 use Rattle.ft_model.specs.WorkedRuns.Common.{key, hello_text, to_client, to_log, on_message, serving_at, fetching, head_with, fetched_with, congestion_with}
 
--- the log's entry, and as its parts come
+-- the log's entry, and as its parts arrive
 abbrev pub head : EntryHead
 head = head_with 5 false 1 0
 

@@ -1,5 +1,5 @@
--- A restart asks for lengths and bytes in turns, so that each read can be replayed as soon as it is complete: the bytes of the reads whose lengths have come,
--- then further lengths, and at last the bytes after all reads. The log's answers are short here.
+-- A restart asks for lengths and bytes alternately, so that each read can be replayed as soon as it is complete: the bytes of the reads whose lengths are
+-- fetched, then further lengths, and at last the bytes after all reads. The log's answers are short here.
 use Rattle.std.specs.Prelude.{false, None, List, [], ◌∷◌}
 use Rattle.seq_arith.specs.Message.{EntryHead}
 use Rattle.seq_arith.specs.Message.Body.{EntryMsg, BytesMsg, PartMsg, CutsMsg, LensMsg, ReadMsg}
@@ -13,7 +13,7 @@ use Rattle.ft_model.specs.WorkedRuns.RestartFromHello.{restarted as one_read, as
 abbrev pub head : EntryHead
 head = head_with 5 false 2 0
 
--- the connection when all has come: the bytes after the logged reads are read in the same turn
+-- the connection when everything is fetched: the bytes after the logged reads are read in the same turn
 abbrev pub restarted : Point
 restarted = record one_read { lengths = 2 ∷ 1 ∷ 2 ∷ []; reads_answered = 2 }
 
@@ -23,7 +23,7 @@ turn_1 = asks_entry
 abbrev pub turn_2 : Turn
 turn_2 = on_message 2 (EntryMsg 0 head) (to_log 2 (CutsMsg key 0) ∷ []) (fetching 2 900000 (fetched_with head [] [] ∷ []))
 
--- one length has come, so its read's bytes are asked for ..
+-- one length is fetched, so its read's bytes are asked for ..
 abbrev pub turn_3 : Turn
 turn_3 = on_message 2 (LensMsg key 0 (2 ∷ [])) (to_log 2 (BytesMsg key 0) ∷ []) (fetching 2 900000 (fetched_with head [] (2 ∷ []) ∷ []))
 

@@ -19,7 +19,7 @@ taken = record restarted { taken = 104 ∷ 101 ∷ 108 ∷ 108 ∷ 111 ∷ 33 �
 abbrev pub restart_2 : Turn
 restart_2 = asks_lengths
 
--- neither a RST nor silence: the client gets an acknowledgement of what is logged, and no room
+-- neither a RST nor silence: the client gets an acknowledgement of what is logged, with window 0
 abbrev pub restart_3 : Turn
 restart_3 = on_segment more (to_client 16 5001 1006 0 None [] ∷ []) (fetching 2 900000 (bare_entry ∷ []))
 

@@ -123,7 +123,7 @@ abbrev pub after_early : List Moment
 after_early = early_23 ∷ early_22 ∷ restart_trace early
 
 -- No fence. The first incarnation's Read reaches the log after the second one's Data. The log's law refuses it, since its boot is older. Where the log keeps
--- it, the second one takes its own read for logged, and what it sends is the output of another.
+-- it, the second one assumes that its own read is logged, and sends output that isn't that of the logged read.
 abbrev pub before_unfenced : List Moment
 before_unfenced = moment_21 bare ∷ moment_20 bare ∷ moment_19 bare ∷ moment_18 bare ∷ moment_17 bare ∷ moment_16 bare ∷ moment_15 bare ∷ moment_14 bare ∷ moment_13 bare ∷ moment_12 bare ∷ sent_trace
 

@@ -65,7 +65,7 @@ probe_5 = on_segment text (to_client 16 5001 1001 65535 None [] ∷ to_log 1 (Da
 abbrev pub probe_6 : Turn
 probe_6 = on_message 1 (StableMsg (kept_with 5 false 0)) (to_client 16 5001 1006 65535 None [] ∷ []) (serving_at 1 5000 logged)
 
--- the output may be sent, and has no room
+-- the output is released, but the client has no room for it
 abbrev pub probe_7 : Turn
 probe_7 = on_message 1 (ReadsMsg (kept_with 5 false 1)) [] (serving_at 1 5000 waiting)
 
@@ -130,7 +130,7 @@ fin_5 = on_segment fin (to_client 16 5001 1001 65535 None [] ∷ to_log 1 (DataM
 abbrev pub fin_6 : Turn
 fin_6 = on_message 1 (StableMsg (kept_with 0 true 0)) (to_client 16 5001 1002 65535 None [] ∷ []) (serving_at 1 5000 fin_logged)
 
--- the FIN may be sent, and has no room
+-- the FIN may be sent, but the client has no room for it
 abbrev pub fin_7 : Turn
 fin_7 = on_message 1 (ReadsMsg (kept_with 0 true 1)) [] (serving_at 1 5000 fin_waiting)
 
@@ -153,7 +153,7 @@ fin_11 = on_segment last_ack (to_log 1 (DataMsg (part_with 0 1 false [])) ∷ []
 abbrev pub fin_turns : List Turn
 fin_turns = fin_11 ∷ fin_10 ∷ fin_9 ∷ fin_8 ∷ fin_7 ∷ fin_6 ∷ fin_5 ∷ probe_4 ∷ probe_3 ∷ probe_2 ∷ probe_1 ∷ []
 
--- Wrong turns. When the output may be sent and has no room, it is sent ..
+-- Wrong turns. When the output is released but the client has no room for it, it is sent ..
 abbrev pub past_the_edge : List Packet
 past_the_edge = to_client 16 5001 1006 65535 None hello_text ∷ []
 
