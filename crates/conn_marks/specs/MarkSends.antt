@@ -1,4 +1,4 @@
--- What a node that marks sends, as bytes, and where among its packets its marks stand.
+-- What a node that marks sends, as bytes, and where its marks are among its packets.
 use Rattle.std.specs.Prelude.{◌≡◌, ℕ, ◌-◌, Bool, false, List, ◌++◌, map, filter, length, take, drop, Result, Ok, Err}
 use Rattle.std.specs.List.{AllByRecursion}
 use Rattle.ft_io.specs.declared.Key.{Key}
@@ -14,12 +14,12 @@ use Rattle.mark_laws.specs.Marking.{Outgoing}
 use Rattle.mark_laws.specs.Marking.Outgoing.{Plain, Mark_to_logger}
 use Rattle.mark_traces.specs.MarkedNode.{says_done}
 
--- its bytes, with the addressee
+-- an outgoing packet's bytes, with the addressee
 abbrev pub outgoing_wire : Outgoing → Wire
 outgoing_wire (Plain packet) = wire_of packet
 outgoing_wire (Mark_to_logger message) = record { from = The_server; to = The_logger; bytes = marks.spelling message }
 
--- it can be written, so its wire determines it
+-- an outgoing packet can be written, so its wire determines it
 abbrev pub HasOutgoingWire : Outgoing → Type 0
 HasOutgoingWire (Plain packet) = HasWire packet
 HasOutgoingWire (Mark_to_logger message) = marks.IsSpellable message
@@ -42,7 +42,7 @@ is_done_at (A_client key) bytes = false
 abbrev pub is_done_wire : Wire → Bool
 is_done_wire wire = is_done_at wire.to wire.bytes
 
--- more packets, before the last so many
+-- all packets, with `more` inserted before the last `behind`
 abbrev pub put_before : (behind : ℕ) → (more all : List Wire) → List Wire
 put_before behind more all = take (length all - behind) all ++ (more ++ drop (length all - behind) all)
 
@@ -52,7 +52,7 @@ mark_message boot key mark = record { boot = boot; body = MarkMsg key mark }
 abbrev pub mark_wires : (boot : ℕ) → Key → List Mark → List Wire
 mark_wires boot key sent = map (λ mark. outgoing_wire (Mark_to_logger (mark_message boot key mark))) sent
 
--- the marks of a key are sent, before as many of the last packets as say, from the `from`th on, that its connection is done
+-- a key's marks are inserted before the last n packets, where n is how many packets after the first `from` say that a connection is done
 pub record SendsMarks (boot : ℕ) (key : Key) (from : ℕ) (sent : List Mark) (old new : List Wire) : Type 0 where
   pub wires : new ≡ put_before (length (filter is_done_wire (drop from old))) (mark_wires boot key sent) old
   pub spelled : AllByRecursion (λ mark. marks.IsSpellable (mark_message boot key mark)) sent

@@ -1,5 +1,5 @@
 -- What is stored of a connection's marks, and which mark a connection gives.
-use Rattle.std.specs.Prelude.{ℕ, ◌≡◌, ◌≤◌, ◌+◌, ◌^◌, Bool, true, false, ◌&&◌, nat_lt, nat_le, is_none, Option, Some, None, List, length, if◌then◌else◌}
+use Rattle.std.specs.Prelude.{ℕ, ◌≤◌, ◌+◌, ◌^◌, Bool, false, ◌&&◌, nat_lt, nat_le, is_none, Option, Some, None, List, length, if◌then◌else◌}
 use Rattle.seq_arith.specs.Mark.{Mark}
 use Rattle.mark_laws.specs.Marking.{Marking}
 use Rattle.wrapped_conn.specs.declared.quiet.Quiet.{Quiet}
@@ -18,7 +18,7 @@ pub record IsTellableMark (m : Mark) : Type 0 where
   pub made : m.made ≤ 2 ^ 24
   pub state : length m.state ≤ 1100
 
--- the numbers of a quiet connection, where a mark is due after every so many reads
+-- the numbers of the mark that is due: none is outstanding, at least `every` reads were made after the last one, and the connection is quiet
 abbrev pub due_in : {S : Type 0} → (every : ℕ) → Marking → ConnState S → Option Quiet
 due_in every m c = if nat_lt 0 every && is_none m.outstanding && nat_le (m.last + every) c.north.count then quiet_in c else None
 

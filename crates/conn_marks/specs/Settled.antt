@@ -1,4 +1,4 @@
--- Where the connections of a node that marks stand between two turns, and what a turn of one does to its marks.
+-- In which state the connections of a node that marks are between two turns, and what a turn of one does to its marks.
 use Rattle.std.specs.Prelude.{◌≡◌, ℕ, ◌<◌, Option, Some, IfSome, List}
 use Rattle.std.specs.List.{AllByRecursion}
 use Rattle.ft_io.specs.declared.Key.{Key}
@@ -35,12 +35,12 @@ IsSettledPlace by marking _ = Unit {0}
 abbrev pub AllSettled : {S : Type 0} → Marker S → (Key → Marking) → List Place → Type 0
 AllSettled by marking places = AllByRecursion (IsSettledPlace by marking) places
 
--- after a turn that leads to a point the mark of its key is made and goes out if it is due
+-- after a turn that leads to a point, the mark of its key is made and sent, if one is due
 pub record MarksNew {S : Type 0} (by : Marker S) (boot : ℕ) (key : Key) (p : Point) (was now : KeyMarks) (from : ℕ) (old new : List Wire) : Type 0 where
   pub changes : Changes key (with_new by.service by.writing by.every p (marking_in was key)) was now
   pub sends : SendsMarks boot key from (new_marks by.service by.writing by.every (marking_in was key) p) old new
 
--- after a turn that leaves a place of its key: its mark goes out, if it is live and one is due
+-- after a turn: if the key is then live, its mark is made and sent, if one is due; otherwise nothing changes
 abbrev pub MarksPlace : {S : Type 0} → Marker S → (boot : ℕ) → Key → (from : ℕ) → Option Place → (was now : KeyMarks) → (old new : List Wire) → Type 0
 MarksPlace by boot key from (Some (Lives p)) was now old new = AreBytes p.taken → MarksNew by boot key p was now from old new
 MarksPlace by boot key from _ was now old new = (now ≡ was) × (new ≡ old)

@@ -1,4 +1,4 @@
-//! A connection whose marks go out as `Marking` says takes its turns by the law of marks.
+//! A connection whose marks are sent as `Marking` says takes its turns by the law of marks.
 
 ghost use Rattle.std.specs.Prelude.{◌≡◌, ℕ, false, List, length};
 ghost use Rattle.ft_io.specs.declared.Addr.{Addr};
@@ -16,7 +16,7 @@ ghost use Rattle.mark_laws.specs.Marking.{Marking, MarkingTurn, IsSettled, with_
 use mark_laws::marking::ticks_make_no_new_mark;
 use server_trait::Service;
 
-/// A turn other than a tick's: the mark that it makes goes out, and no other.
+/// In a turn other than a tick's, the mark that the turn makes is sent, and no other.
 pub fn new_marks_go_out<S: Service>()
     ensures { (fresh : S) (writing : Writing S) (every : ℕ) (server : Addr) (boot : ℕ) (news : News) (p q : Point) (m : Marking) (packets : List Packet)
         → is_tick news ≡ false → ConnectionTurn (machine fresh S.after) server boot news p q packets
@@ -24,7 +24,7 @@ pub fn new_marks_go_out<S: Service>()
         (with_marks (length (dones news p q)) (marks_out boot q (new_marks (machine fresh S.after) writing every m q)) packets) }
 {}
 
-/// A tick's turn: the outstanding mark goes out again. No new one is due, since none was before the tick.
+/// In a tick's turn the outstanding mark is sent again. No new one is due, since none was before the tick.
 pub fn outstanding_marks_go_out_again<S: Service>()
     ensures { (fresh : S) (writing : Writing S) (every : ℕ) (server : Addr) (boot : ℕ) (p q : Point) (m : Marking) (packets : List Packet)
         → IsSettled (machine fresh S.after) every m p → ConnectionTurn (machine fresh S.after) server boot Ticks p q packets

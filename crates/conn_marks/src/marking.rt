@@ -31,7 +31,7 @@ pub struct Marking {
     last: u32,
     /// The numbers of the mark that was sent and isn't answered yet.
     outstanding: Option<Quiet>,
-    /// The form of its state, in room that is kept from mark to mark.
+    /// The form of its state, in a buffer that is reused from mark to mark.
     state: Vec<u8>,
 }
 
@@ -48,7 +48,7 @@ impl Model for Marking {
 }
 
 impl Marking {
-    /// No mark is outstanding, and the last one is of so many reads.
+    /// Returns what is stored where no mark is outstanding, and the last one has `last` reads.
     pub fn new(alloc: Global, last: u32) -> Marking
         ensures { result ≡ record { last = last; outstanding = None } }
     {
@@ -59,7 +59,8 @@ impl Marking {
         }
     }
 
-    /// After a turn other than a tick: a mark of the connection is made, where one is due after `every` reads. Returns whether it is. With `every` 0 none is.
+    /// Makes a mark after a turn other than a tick, if one is due: none is outstanding, at least `every` reads were made after the last one, and the connection
+    /// is quiet. Returns whether it makes one: never with `every` 0, nor if the form of the service's state is longer than 1,100 bytes.
     pub fn advance<S: Saved>(&mut self, every: u32, conn: &Conn<S>) -> Result<bool, NoMemory>
         requires { IsSound conn.now }
         ensures state { IfOk result (λ made. self.new ≡ with_due (due_in every self.old conn.now) (S.form conn.now.north.run.service) self.old) }
@@ -104,7 +105,7 @@ impl Marking {
         conn.quiet()
     }
 
-    /// The Marked of this incarnation with so many reads: the outstanding mark is answered if it is of no more.
+    /// Takes a Marked of this incarnation with this many reads. It answers the outstanding mark, if that has no more reads.
     pub fn hear(&mut self, reads: u32)
         ensures { self.new ≡ marking_answered reads self.old }
     {
@@ -115,7 +116,7 @@ impl Marking {
         }
     }
 
-    /// The message with the outstanding mark, if there is one.
+    /// Returns the message with the outstanding mark, if there is one.
     pub fn message(&self, boot: u64, key: Key) -> Option<MarkMsg<'_>>
         requires { 1 ≤ boot }
         ensures value { option_map message_of result ≡ option_map (λ mark. record { boot = boot; body = Marks key mark }) self.now.outstanding }

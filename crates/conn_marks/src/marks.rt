@@ -24,7 +24,7 @@ use wrapped_conn::Conn;
 /// What is stored of the marks of all connections of a node.
 #[derive(Drop)]
 pub struct Marks {
-    /// After how many reads of a connection a mark is due; 0 where none is made.
+    /// After how many reads of a connection a mark is due; 0 if no marks are made.
     every: u32,
     of: IndexMap<Key, Marking>,
 }
@@ -38,7 +38,7 @@ impl Model for Marks {
 }
 
 impl Marks {
-    /// No connection has a mark yet. Of a service whose states can't be saved none is made.
+    /// Returns what is stored before any connection has a mark. If the service's states can't be saved, no marks are made.
     pub fn new<S: Saved>(alloc: Global, every: u32) -> Marks
         ensures { result ≡ record { every = every_for S.is_savable every; of = [] } }
     {
@@ -55,7 +55,7 @@ impl Marks {
         self.every > 0
     }
 
-    /// A connection's last mark is of so many reads, and none is outstanding.
+    /// Notes that a connection's last mark has this many reads, and that none is outstanding.
     pub fn begin(&mut self, alloc: Global, key: Key, last: u32) -> Result<(), NoMemory>
         ensures { OnOk result (Changes key (record { last = last; outstanding = None }) self.old self.new) }
     {
@@ -63,7 +63,7 @@ impl Marks {
         Ok(())
     }
 
-    /// After a connection's turn other than a tick: its mark is made, if one is due.
+    /// Makes a connection's mark after its turn, other than a tick, if one is due.
     pub fn advance<S: Saved>(
         &mut self,
         alloc: Global,
@@ -84,7 +84,7 @@ impl Marks {
         Ok(())
     }
 
-    /// The Marked of this incarnation with so many reads.
+    /// Takes a Marked of this incarnation, about this connection and with this many reads.
     pub fn hear(&mut self, key: Key, reads: u32)
         ensures { Changes key (marking_answered reads (marking_in self.old key)) self.old self.new }
     {
@@ -93,7 +93,7 @@ impl Marks {
         }
     }
 
-    /// The message with a connection's outstanding mark, if there is one.
+    /// Returns the message with a connection's outstanding mark, if there is one.
     pub fn message(&self, boot: u64, key: Key) -> Option<MarkMsg<'_>>
         requires { 1 ≤ boot }
         ensures value { option_map message_of result ≡ option_map (λ mark. record { boot = boot; body = Told key mark }) (marking_in self.now key).outstanding }

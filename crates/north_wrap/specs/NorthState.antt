@@ -6,8 +6,8 @@ use Rattle.north_wrap.specs.RunState.{RunState, run_on, gives, given_to}
 use Rattle.north_wrap.specs.Sockets.{Reader, Writer}
 
 pub record NorthState (S : Type 0) : Type 0 where
-  pub run : RunState S  -- the service, with the output that TCP wasn't given yet
-  pub rest : List ℕ  -- what a restart fetched beyond the fetched reads, and isn't read
+  pub run : RunState S  -- the service, with its output that isn't given to TCP yet
+  pub rest : List ℕ  -- the bytes that a restart fetched beyond the fetched reads, as far as they aren't read yet
   pub last : ReadRecord  -- the last read that is known to be logged
   pub reads : List ReadRecord  -- those that aren't known to be logged
   pub read : ℕ  -- the bytes of all reads
@@ -62,7 +62,7 @@ socket_on reader k n s = if nat_lt 0 (length n.rest) || k == 0 then s else reade
 abbrev pub next_at : {S K : Type 0} → Reader K → (una : ℕ) → NorthState S → K → Option ℕ
 next_at reader una n s = next_length una (length (reader.unread s)) (reader.has_end s && is_empty (reader.unread s)) n
 
--- exactly these reads are made, one after another, until there is none to make, and these are wrapper and socket then
+-- exactly these reads are made, one after another, until none is due; `m` and `t` are wrapper and socket then
 abbrev pub Reads : {S K : Type 0} → (S → List ℕ → Served S) → Reader K → (una : ℕ) → NorthState S → K → List ℕ → NorthState S → K → Type 0
 Reads after reader una n s [] m t = (next_at reader una n s ≡ None) × (m ≡ n) × (t ≡ s)
 Reads after reader una n s (k ∷ ks) m t = (next_at reader una n s ≡ Some k) × Reads after reader una (read_on after (reader.unread s) k n) (socket_on reader k n s) ks m t
@@ -80,7 +80,7 @@ pub record HasRead {S K : Type 0} (after : S → List ℕ → Served S) (r : Rea
 abbrev pub unreleased : {S : Type 0} → NorthState S → ℕ
 unreleased n = n.run.made - n.last.made
 
--- output is given, except for that, as much as there is room for
+-- output is given, except the unreleased, as much as there is room for
 abbrev pub given_north : {S K : Type 0} → Writer K → NorthState S → K → NorthState S
 given_north w n s = record n { run = given_to (w.room s) (unreleased n) n.run }
 

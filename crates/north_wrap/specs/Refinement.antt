@@ -60,7 +60,7 @@ pub record NorthStands {S : Type 0} (service : Machine S) (p : Point) (given : �
 abbrev pub with_reads : List ℕ → Point → Point
 with_reads lengths p = record p { lengths = p.lengths ++ lengths }
 
--- TCP's bytes for it: those after the fetched ones and after what is read
+-- what TCP has for the wrapper: the bytes taken, without those fetched and those read
 pub record QueueStands (p : Point) (unread : List ℕ) (has_end : Bool) : Type 0 where
   pub waits : unread ≡ drop (max p.fetched (sum p.lengths)) p.taken
   pub fin : has_end ≡ p.fin

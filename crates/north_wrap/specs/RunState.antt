@@ -4,7 +4,7 @@ use Rattle.server_trait.specs.Service.{Served}
 
 pub record RunState (S : Type 0) : Type 0 where
   pub service : S  -- the service's state
-  pub pending : List ℕ  -- the output that TCP wasn't given yet
+  pub pending : List ℕ  -- the output that isn't given to TCP yet
   pub made : ℕ  -- the bytes of all output
   pub closed : Bool  -- whether the service has closed
 

@@ -11,7 +11,7 @@ ghost use Rattle.north_wrap.specs.Refinement.{NorthStands, HasReplayed, IsNumber
 
 use server_trait::Service;
 
-/// It begins where its service was replayed: this holds of a new one, whose service has read nothing, and of one at the end of a restart.
+/// A wrapper whose service was replayed is at its connection's point: a new one, whose service has read nothing, and one at the end of a restart.
 pub fn it_begins_where_it_was_replayed<S: Service>()
     ensures { (fresh : S) (p : Point) (given : ℕ) (n : NorthState S) → HasReplayed (machine fresh S.after) p given n
         → NorthStands (machine fresh S.after) p given n }
@@ -22,7 +22,7 @@ pub fn records_tell_the_reads()
     ensures { (key : Key) (first : ℕ) (reads : List ReadRecord) → IsNumbered first reads → messages_of key reads ≡ read_messages key first (lengths_of reads) }
 {}
 
-/// Bytes that TCP takes leave the wrapper as it is.
+/// A wrapper stays at its connection's point when TCP takes more bytes.
 pub fn taking_leaves_it<S: Service>()
     ensures { (fresh : S) (p : Point) (given : ℕ) (n : NorthState S) (more : List ℕ) → NorthStands (machine fresh S.after) p given n
         → NorthStands (machine fresh S.after) (with_taken more p) given n }

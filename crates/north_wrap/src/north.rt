@@ -27,12 +27,12 @@ const READ_LIMIT: usize = 32;
 /// A read is made only while at most this many bytes of output are made: a stream has 2^24, and one read makes at most 2^20.
 const MADE_LIMIT: u32 = 15_728_640;
 
-/// Reads for a service, and writes for it.
+/// The north wrapper of one connection: it reads from TCP for the service, and writes to TCP for it.
 #[derive(Drop)]
 pub struct North<S: Service> {
     /// The service, with the output that isn't given to TCP yet.
     run: ServiceRun<S>,
-    /// What a restart fetched beyond the fetched reads, and isn't read.
+    /// The bytes that a restart fetched beyond the fetched reads, as far as they aren't read yet.
     rest: Rest,
     /// The last read that is known to be logged.
     last: ReadRecord,
@@ -62,7 +62,7 @@ impl<S: Service> Model for North<S> {
 }
 
 impl<S: Service> North<S> {
-    /// A wrapper before its first read.
+    /// Returns a wrapper before its first read, whose service is started as this kind.
     pub fn new(alloc: Global, kind: u8) -> North<S>
         ensures { result ≡ fresh_north (S.started kind) }
     {
@@ -83,9 +83,9 @@ impl<S: Service> North<S> {
         }
     }
 
-    /// A wrapper at the end of a restart. `rest` are the fetched bytes that aren't read, and `pending` the output that the client hasn't acknowledged. `reads`
-    /// reads were fetched, of `read` bytes together, and they made `made` bytes of output. `ended` says that one of them has length 0, and `closed` that the
-    /// service has closed. All of them are answered.
+    /// Returns a wrapper at the end of a restart. `rest` are the fetched bytes that aren't read, and `pending` the output that the client hasn't acknowledged.
+    /// `reads` reads were fetched, of `read` bytes together, and they made `made` bytes of output. `ended` says that one of them has length 0, and `closed`
+    /// that the service has closed. All of these reads are answered.
     pub fn resumed(
         _alloc: Global,
         service: S,
@@ -119,8 +119,8 @@ impl<S: Service> North<S> {
         }
     }
 
-    /// Whether a read may be made: all output so far may be sent and has room, it stays within the stream with that of one more read, and fewer than 32 reads
-    /// are unanswered.
+    /// Whether a read may be made: all output so far may be sent, and at most 65,535 bytes of it are unacknowledged; one more read's output fits into the
+    /// stream; and fewer than 32 reads are unanswered.
     fn is_free_to_read(&self, una: u32) -> bool
         requires { una ≤ 2 ^ 24 + 1 }
         ensures { result ≡ is_free_to_read una self.now }
@@ -324,7 +324,7 @@ impl<S: Service> North<S> {
         self.make_reads(sock, una, news)
     }
 
-    /// The logger has answered that it has this many reads of the connection.
+    /// Notes the logger's answer that it has this many reads of the connection.
     pub fn on_reads(&mut self, count: u32)
         ensures state { self.new ≡ answered_on count self.old }
         ensures read { self.new.read ≡ self.old.read }

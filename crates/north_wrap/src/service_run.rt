@@ -1,4 +1,4 @@
-//! The service, with what it has made and isn't given to TCP yet.
+//! The service, with its output that isn't given to TCP yet.
 
 ghost use Rattle.std.specs.Prelude.{◌≡◌, ℕ, ◌^◌, ◌-◌, ◌≤◌, List, [], length, take, drop, false, OnOk};
 ghost use Rattle.north_wrap.specs.RunState.{run_on, gives, given_to};
@@ -13,9 +13,9 @@ use std::marker::Model;
 pub(crate) struct ServiceRun<S: Service> {
     /// The service's state.
     service: S,
-    /// Output, of which the bytes below `at` are given.
+    /// Output. The bytes before `at` are given to TCP, the others aren't.
     output: Vec<u8>,
-    /// How many bytes of this output are given to TCP.
+    /// How many bytes of `output` are given to TCP.
     at: usize,
     /// The bytes of all output.
     made: u32,
@@ -72,7 +72,7 @@ impl<S: Service> ServiceRun<S> {
         self.output.len() - self.at
     }
 
-    /// The service takes a chunk, unless it has closed.
+    /// Gives the service a chunk, unless it has closed.
     pub(crate) fn feed(&mut self, chunk: &[u8]) -> Result<(), NoMemory>
         requires short { length chunk.now ≤ 2048 }
         requires room { self.old.made ≤ 2 ^ 24 - 2 ^ 20 }
@@ -84,7 +84,7 @@ impl<S: Service> ServiceRun<S> {
         self.take(chunk)
     }
 
-    /// The service takes `size` bytes from a socket.
+    /// Reads `size` bytes from a socket, and gives them to the service, unless it has closed.
     #[tactic(auto, using(std::proofs::lemmas::Grind::common_steps))]
     pub(crate) fn feed_from<K: Socket>(
         &mut self,

@@ -15,11 +15,11 @@ use Rattle.reincarnate.specs.Replay.{ReplayState, fed_on}
 pub record EntryState (S : Type 0) : Type 0 where
   pub head : EntryHead  -- the entry without its bytes and lengths
   pub bytes : ℕ  -- how many of its bytes are fetched
-  pub cuts : Cuts  -- of the reads whose lengths are fetched
+  pub cuts : Cuts  -- the counts of the reads whose lengths are fetched
   pub waiting : List ℕ  -- the lengths of those that aren't replayed
   pub replay : ReplayState S  -- the service, with what it still holds
 
--- an entry of which only the head has come
+-- an entry of which only the head is fetched
 abbrev pub begun_entry : {S : Type 0} → S → EntryHead → EntryState S
 begun_entry fresh head = record {
   head = head;
@@ -82,7 +82,7 @@ with_bytes after bytes e =
 abbrev pub lengths_fit : {S : Type 0} → Key → (first count : ℕ) → EntryState S → Bool
 lengths_fit key first count e = asks_lengths (lacks e) && key_eq key e.head.key && first == e.cuts.count && nat_le (e.cuts.count + count) e.head.reads
 
--- .. if each may follow, and these are the reads then
+-- .. if each of these reads may follow, and then the counts include them
 abbrev pub cuts_with : {S : Type 0} → Key → (first : ℕ) → List ℕ → EntryState S → Option Cuts
 cuts_with key first lens e = if lengths_fit key first (length lens) e then cuts_through e.head.length e.head.fin e.cuts lens else None
 
@@ -118,13 +118,13 @@ AreReady entries = AllByRecursion (λ e. lacks e ≡ lack.Nothing) entries
 -- a complete entry, with its service
 pub record ReplayedState (S : Type 0) : Type 0 where
   pub head : EntryHead  -- the entry without its bytes and lengths
-  pub cuts : Cuts  -- of all its reads
+  pub cuts : Cuts  -- the counts of all its reads
   pub replay : ReplayState S  -- the service, with the bytes that no read took
 
 abbrev pub replayed_state : {S : Type 0} → EntryState S → ReplayedState S
 replayed_state e = record { head = e.head; cuts = e.cuts; replay = e.replay }
 
--- those that are done are skipped
+-- the next entry that isn't done, and what is after it
 abbrev pub next_live : {S : Type 0} → List (EntryState S) → Option (ReplayedState S)
 next_live [] = None
 next_live (e ∷ entries) = if e.head.done then next_live entries else Some (replayed_state e)

@@ -67,7 +67,7 @@ pub record StandsSoFar {S : Type 0} (service : Machine S) (so_far : FetchedSoFar
   pub fetched : StandsFetching service so_far.entries s
   pub awaits : awaits s.marks ≡ so_far.awaits_mark
 
--- Where any message leads, as the law says. A mark says how many bytes and reads lie below it, and not which: so this holds for all that it can be the mark of
+-- Where any message leads, as the law says. A mark says how many bytes and reads are below it, but not which: so this holds for all those that it can be after
 abbrev pub AnyLeads : {S : Type 0} → Machine S → Writing S → FetchedSoFar → AnyMessage → (fits : Bool) → (before after : FetchingState S) → Type 0
 AnyLeads service writing so_far (Of_log message) fits before after =
     MatchOption (fetched_on (uses before.marks) before.boot before.count message so_far) ((fits ≡ false) × (after ≡ before))
@@ -94,7 +94,7 @@ pub record IsReplayed {S : Type 0} (service : Machine S) (e : Entry) (r : Replay
   pub rest : r.replay.held ≡ drop (sum e.lengths) e.bytes
   pub run : length (run_of service e).output ≤ 2 ^ 24 → RunsTo (run_of service e) e.acknowledged r.replay
 
--- the entries from the next one on that isn't done
+-- the entries, beginning with the first that isn't done
 abbrev pub live_from : List Fetched → List Fetched
 live_from [] = []
 live_from (f ∷ fetched) = if f.head.done then live_from fetched else f ∷ fetched

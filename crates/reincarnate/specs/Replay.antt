@@ -8,14 +8,14 @@ pub record ReplayState (S : Type 0) : Type 0 where
   pub closed : Bool  -- whether the service has closed
   pub made : ℕ  -- the bytes of all output
   pub acked : ℕ  -- the units of it that the client has acknowledged
-  pub pending : List ℕ  -- the output behind those
+  pub pending : List ℕ  -- the output after those
   pub held : List ℕ  -- the bytes that are fetched and not replayed
 
 -- a stream has 2^24 bytes. No server that keeps its limits has made more output
 abbrev pub passes_the_stream : {S : Type 0} → ReplayState S → Served S → Bool
 passes_the_stream r served = nat_lt (2 ^ 24) (r.made + length served.output)
 
--- the new output is stored from where the client's acknowledgement ends. A run that would pass the stream's end is cut there
+-- the new output is stored from where the client's acknowledgement ends. If it would pass the stream's end, none of it counts, and the service counts as closed
 abbrev pub served_on : {S : Type 0} → ReplayState S → Served S → ReplayState S
 served_on r served =
     if passes_the_stream r served then record r { service = served.next; closed = true }

@@ -43,7 +43,7 @@ south_from i r = record (resumed_south r.head.cisn r.head.sisn r.head.length (ha
 abbrev pub north_from : {S : Type 0} → ReplayedState S → NorthState S
 north_from r = resumed_north r.replay.service r.replay.held r.replay.pending r.cuts.count r.cuts.sum r.replay.made r.cuts.ended r.replay.closed
 
--- the inner TCP has the initial number i
+-- TCP has the initial sequence number i
 abbrev pub spliced_from : {S : Type 0} → (boot : ℕ) → Addr → (i : ℕ) → ReplayedState S → SplicedState S
 spliced_from boot local i r = record {
   boot = boot;
@@ -65,7 +65,7 @@ pub record IsSpliced {S : Type 0} (service : Machine S) (e : Entry) (i : ℕ) (s
   pub south : s.south ≡ south_at (delta_from service e i) (point_of service e)
   pub parts : PartsStand service (resumed_at service e) i (delta_from service e i) (resumed_at service e) (point_of service e) s.north s.endpoint
 
--- the numbers of an entry and an initial number are within their ranges
+-- the numbers of an entry and an initial sequence number are within their ranges
 pub record EntryNumbersFit {S : Type 0} (r : ReplayedState S) (i : ℕ) : Type 0 where
   pub stream : r.head.length ≤ 2 ^ 24
   pub segments : IsSegmentSize r.head.mss

@@ -54,8 +54,8 @@ impl Asked {
         }
     }
 
-    /// The next step, once it is known that the log has `count` entries. `kind` is the kind of the service. With `marks`, and where the service's states can be
-    /// saved, the restart asks for the marks of entries and begins there.
+    /// Begins the next step, once it is known that the log has `count` entries. `kind` is the service's kind. If `marks` is set and the service's states can be
+    /// saved, the restart asks for the marks of entries and begins at them.
     pub fn on_summary<S: Saved>(
         self,
         alloc: Global,

@@ -58,7 +58,7 @@ impl<S: Service> Entries<S> {
         Entries { newest, earlier }
     }
 
-    /// The next entry in the log's order.
+    /// Removes and returns the next entry in the log's order.
     #[tactic(auto, using(crate::proofs::Ready::last_is_ready, crate::proofs::Ready::others_are_ready, crate::proofs::Ready::newest_is_ready, crate::proofs::Ready::first_in_order))]
     fn pop(&mut self) -> Option<FetchedEntry<S>>
         ensures order { self.old ≡ option_to_list result ++ self.new }
@@ -71,7 +71,7 @@ impl<S: Service> Entries<S> {
         }
     }
 
-    /// The next entry in the log's order, or None at the end.
+    /// Removes and returns the next entry in the log's order, or returns None at the end.
     pub fn advance(&mut self) -> Option<Restored<S>>
         ensures value { result ≡ first_restored self.old }
         ensures rest { self.new ≡ drop 1 self.old }
@@ -96,7 +96,7 @@ impl<S: Service> Entries<S> {
         Some(Restored::Live(entry.into_replayed()))
     }
 
-    /// The next entry whose connection hasn't ended, in the log's order, or None at the end.
+    /// Removes and returns the next entry whose connection hasn't ended, in the log's order, or returns None at the end. Entries before it are removed too.
     pub fn next(&mut self) -> Option<Replayed<S>>
         ensures value { result ≡ next_live self.old }
         ensures rest { self.new ≡ behind_next self.old }

@@ -95,7 +95,7 @@ impl<S: Service> Fetching<S> {
         }
     }
 
-    /// How many entries have come.
+    /// How many entries are fetched, including the one that is being fetched.
     fn fetched(&self) -> usize
         ensures { result ≡ length (entries_of self.now) }
     {
@@ -125,7 +125,7 @@ impl<S: Service> Fetching<S> {
         }
     }
 
-    /// What is asked now, or None where nothing is missing.
+    /// Returns the next question to the logger, or None if nothing is missing.
     pub fn question(&self) -> Option<AnyMsg<'_>>
         ensures value { option_map any_of result ≡ any_asked self.now }
         ensures law { (so_far : FetchedSoFar) → StandsSoFar (machine (S.started self.now.kind) S.after) so_far self.now
@@ -179,7 +179,7 @@ impl<S: Service> Fetching<S> {
         }
     }
 
-    /// The head of the entry of a key, or None where none of it has come.
+    /// Returns the head of this key's entry, or None if no such entry is fetched yet.
     pub fn known(&self, key: Key) -> Option<EntryHead>
         ensures value { option_map head_value result ≡ option_map (λ e. e.head) (entry_known key self.now) }
         ensures law { (fetched : List Fetched) → StandsFetching (machine (S.started self.now.kind) S.after) fetched self.now
@@ -197,7 +197,7 @@ impl<S: Service> Fetching<S> {
         }
     }
 
-    /// How many bytes of the newest entry are fetched and not replayed: at most 3,071 while one of its reads isn't replayed or its length is
+    /// Returns how many bytes of the newest entry are fetched and not replayed: at most 3,071 while one of its reads isn't replayed or the length of one is
     /// missing.
     pub fn held(&self) -> usize
         ensures value { result ≡ held_of self.now.newest }
@@ -351,7 +351,7 @@ impl<S: Service> Fetching<S> {
         }
     }
 
-    /// All that was fetched.
+    /// Returns all entries, in the log's order, once nothing is missing.
     pub fn finish(self) -> Entries<S>
         requires { asked self ≡ None }
         ensures value { result ≡ reverse self.earlier ++ option_to_list self.newest }
@@ -371,7 +371,7 @@ impl<S: Service> Fetching<S> {
 }
 
 impl<S: Saved> Fetching<S> {
-    /// Takes an answer, if it fits the question, and returns whether it does. After `NoMemory` it may only be dropped.
+    /// Takes an answer, if it fits the question, and returns whether it does. After `NoMemory` this value may only be dropped.
     pub fn on_answer(&mut self, alloc: Global, m: &AnyMsg<'_>) -> Result<bool, NoMemory>
         requires { IsAnySendable m.now }
         ensures value { IfOk result (λ fits. MatchOption (any_heard S.started S.after S.state_of (any_of m.now) self.old)

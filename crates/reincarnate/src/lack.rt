@@ -1,6 +1,6 @@
 //! What is missing of an entry.
 
-/// What of an entry is asked for next.
+/// What is asked for next of an entry.
 #[derive(Clone, Copy, Debug, PartialEq, Eq)]
 pub(crate) enum Lack {
     /// Bytes of its stream.

@@ -19,7 +19,7 @@ pub(crate) enum Marks {
 }
 
 impl Marks {
-    /// At the beginning of a restart: it uses marks or doesn't.
+    /// The value at the beginning of a restart that uses marks or doesn't.
     pub(crate) fn used_if(used: bool) -> Marks
         ensures { result ≡ used_if used }
     {
@@ -36,7 +36,7 @@ impl Marks {
         }
     }
 
-    /// After an answer that isn't about marks. The mark of an entry is awaited if its connection continues and has reads.
+    /// The value after an answer that isn't about marks. The mark of an entry is awaited if its connection continues and has reads.
     pub(crate) fn after(self, body: &Body<'_>) -> Marks
         ensures { result ≡ marks_after self (body_of body.now) }
     {

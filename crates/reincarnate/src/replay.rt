@@ -62,7 +62,7 @@ impl<S: Service> Replay<S> {
         }
     }
 
-    /// A service at a mark, by which it had written `made` bytes of output, all of which the client has acknowledged.
+    /// A service at a mark. It has made `made` bytes of output, and the client has acknowledged them all.
     pub(crate) fn resumed(alloc: Global, service: S, made: u32, acked: u32) -> Replay<S>
         requires { made ≤ 2 ^ 24 }
         ensures { result ≡ record { service = service; closed = false; made = made; acked = acked; pending = []; held = [] } }
@@ -150,7 +150,7 @@ impl<S: Service> Replay<S> {
         Ok(())
     }
 
-    /// The service takes the next chunk.
+    /// Gives the service the next chunk. If its output would pass the end of the stream, none of it counts, and the service counts as closed.
     fn serve(&mut self, size: usize) -> Result<(), NoMemory>
         requires short { size ≤ 2048 }
         requires there { size ≤ length self.old.held }

@@ -59,21 +59,21 @@ impl<S: Service> Replayed<S> {
         Replayed { head, cuts, replay }
     }
 
-    /// What the log says of the connection.
+    /// Returns the entry without its bytes and lengths.
     pub fn head(&self) -> EntryHead
         ensures { head_value result ≡ self.now.head }
     {
         self.head
     }
 
-    /// The output that the client hasn't acknowledged.
+    /// Returns the output that the client hasn't acknowledged.
     pub fn pending(&self) -> &[u8]
         ensures { result.now ≡ self.now.replay.pending }
     {
         self.replay.pending()
     }
 
-    /// Puts a fresh TCP with the initial number `isn` between the wrappers, at the end of the entry.
+    /// Puts a fresh TCP with the initial sequence number `isn` between the wrappers. All three continue at the end of the entry.
     pub fn splice(
         self,
         alloc: Global,

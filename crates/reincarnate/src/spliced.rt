@@ -94,7 +94,7 @@ impl<S: Service> Spliced<S> {
         &self.north
     }
 
-    /// The connection. It isn't live yet: `Conn::start` makes it live.
+    /// Returns the connection. It isn't live yet: `Conn::start` makes it live.
     pub fn hand_on(self) -> Conn<S>
         ensures value { result ≡ conn_of self }
         ensures sound { IsSound result }

@@ -46,14 +46,14 @@ fn forged(key: Key, local: Addr, seq: Seq, ack: Seq, flags: u8, mss: Option<u16>
     }
 }
 
-/// The number of an offset in the stream of this initial number.
+/// The sequence number of an offset in the stream with this initial sequence number.
 fn number_of(isn: Seq, offset: u32) -> Seq
     ensures { result.0 ≡ number_at isn.0 offset }
 {
     isn.add(1).add(offset)
 }
 
-/// The endpoint takes a segment without text in a turn of its own.
+/// Gives the endpoint a segment without text, in a turn of its own, and discards what it answers.
 fn forge(endpoint: &mut Endpoint, head: Head, out: &mut Outbox)
     requires { out.old ≡ [] }
     ensures state { IsShort endpoint.old.sending → endpoint.new ≡ turned (Comes (record { head = said head; payload = [] })) [] endpoint.old }
@@ -64,7 +64,7 @@ fn forge(endpoint: &mut Endpoint, head: Head, out: &mut Outbox)
     out.clear();
 }
 
-/// An endpoint that is connected at the end of the entry's bytes: the client's SYN has the number that they lead to.
+/// An endpoint that is connected at the end of the entry's bytes: the forged SYN has the client's initial sequence number plus their count.
 #[tactic(auto, using(crate::proofs::Forging::listen_short, crate::proofs::Forging::syn_short), unfolding(connection_laws::specs::Splice::connected))]
 fn connected(
     alloc: Global,

@@ -20,12 +20,12 @@ ip_start len = (69 ∷ 0 ∷ two len) ++ (0 ∷ 0 ∷ 64 ∷ 0 ∷ []) ++ (64 �
 unfoldable pub places : packet.Head → List ℕ
 places head = four head.src ++ four head.dst ++ two head.sport ++ two head.dport
 
--- bytes 24 to 39
+-- bytes 24 to 39: the sequence and acknowledgement numbers, the header's length, the flags and the window, and zero for the rest
 unfoldable pub numbers : packet.Head → List ℕ
 numbers head =
     four head.seq ++ four head.ack ++ (16 * (5 + length (mss_option head.mss) / 4) ∷ head.flags ∷ two head.window) ++ (0 ∷ 0 ∷ 0 ∷ 0 ∷ [])
 
--- with both checksums computed
+-- a packet with both checksums computed
 unfoldable pub with_checksums : List ℕ → List ℕ
 with_checksums bytes = sealed (put 10 (two (checksum (take 20 bytes))) bytes)
 

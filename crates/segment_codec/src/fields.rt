@@ -73,7 +73,7 @@ pub(crate) fn tcp_checksum(bytes: &[u8]) -> u16
     sum.check()
 }
 
-/// Computes the TCP checksum again.
+/// Computes the TCP checksum again, and writes it into its place.
 #[tactic(auto, unfolding(crate::specs::Change::sealed))]
 pub(crate) fn seal(bytes: &mut [u8])
     requires long { 40 ≤ length bytes.old }

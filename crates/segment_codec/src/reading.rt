@@ -11,7 +11,7 @@ use crate::fields::{ip_checksum, read_long, read_word, tcp_checksum};
 use crate::{Head, PacketRef};
 use seq_arith::{BadPacket, Seq};
 
-/// Reads a packet, or says which test of the grammar it fails first. It reads the bytes once and copies none.
+/// Reads a packet, or returns the first test of the grammar that refuses it. It reads the payload once and copies none of it.
 #[tactic(auto, using(crate::proofs::Refusals::by_parts))]
 pub fn read_packet(bytes: &[u8]) -> Result<PacketRef<'_>, BadPacket>
     ensures { seen result ≡ reading bytes.now }
@@ -22,7 +22,7 @@ pub fn read_packet(bytes: &[u8]) -> Result<PacketRef<'_>, BadPacket>
     }
 }
 
-/// The first test of the IP header that holds.
+/// The first test of the IP header that refuses the packet, if one does.
 #[tactic(auto, unfolding(seq_arith::specs::PacketGrammar::ip_tests))]
 fn ip_refusal(bytes: &[u8]) -> Option<BadPacket>
     ensures first { result ≡ first_that_holds (ip_tests bytes.now) }

@@ -8,7 +8,7 @@ use crate::Head;
 use crate::fields::put_bytes;
 use crate::header::{payload_start, write_header};
 
-/// Writes a packet at the beginning of `out`, which has room for 1,500 bytes, and returns how many bytes it has: at most 1,500.
+/// Writes a packet at the beginning of `out`, which has room for 1,500 bytes, and returns the packet's length in bytes, at most 1,500.
 pub fn write_packet(head: &Head, payload: &[u8], out: &mut [u8]) -> usize
     requires room { 1500 ≤ length out.old }
     requires fits { packet_length (segment_with head.now payload.now) ≤ 1500 }

@@ -5,7 +5,7 @@ use Rattle.std.proofs.Common.{arith}
 use Rattle.std.proofs.lemmas.Option.{none-some}
 use Rattle.server_trait.specs.Service.{Machine, fold, AreBytes}
 
--- how states are written: the form of each, and the state whose form some bytes are, if they are one's
+-- how states are written: the form of each, and the state whose form some bytes are, if they are the form of one
 pub record Writing (State : Type 0) : Type 0 where
   pub form : State → List ℕ
   pub state_of : List ℕ → Option State

@@ -74,7 +74,7 @@ pub trait Saved: Service {
         ensures ok { OnOk result (out.new.items ≡ out.old.items ++ form self.now) }
         ensures err { OnErr result (out.new.items ≡ out.old.items) };
 
-    /// The service of this kind whose form these bytes are, or `None` if they are the form of none.
+    /// Returns the service of this kind whose form is these bytes, or `None` if they are the form of none.
     fn load(alloc: Global, kind: u8, bytes: &[u8]) -> Result<Option<Self>, NoMemory>
         ensures { IfOk result (λ loaded. loaded ≡ state_of kind bytes.now) };
 

@@ -1,4 +1,4 @@
-//! A socket in memory, for tests of what calls a socket: what the peer sent is given, and what is written to it is kept.
+//! A socket in memory, for tests of what calls a socket: what the peer sent is given, and what is written to it is stored.
 
 ghost use Rattle.std.specs.Prelude.{◌≡◌, ◌-◌, ◌==◌, ◌&&◌, ◌++◌, [], false, length, min, take, drop, IfOk};
 
@@ -6,7 +6,7 @@ use crate::Socket;
 use std::alloc::{AllocError, Global};
 use std::marker::Model;
 
-/// What the peer sent, read from place `at` on, and what was written to it: at most 8 bytes.
+/// A socket in memory: what the peer sent, with the bytes before `at` read, and what was written to the peer, at most 8 bytes.
 #[derive(Debug, Drop)]
 pub struct MemSocket {
     came: Vec<u8>,
@@ -33,7 +33,7 @@ impl Model for MemSocket {
 }
 
 impl MemSocket {
-    /// An open socket with these bytes unread, the peer's last ones if `has_end`. The error is that memory ran out.
+    /// Returns an open socket with these bytes unread, the peer's last ones if `has_end`. The error is that an allocation failed.
     pub fn new(alloc: Global, came: Vec<u8>, has_end: bool) -> Result<MemSocket, AllocError>
         ensures { IfOk result (λ s. s ≡ record { unread = came.items; has_end = has_end; written = []; closed = false }) }
     {

@@ -1,20 +1,20 @@
 -- What the south wrapper knows of a connection, and what it does to numbers (FT-TCP, INFOCOM 2001: the south side wrapper, with its delta and its stable
--- number). Initial numbers are the client's and the server's as the client knows them. Bytes and units are counted from the first on, over all incarnations.
+-- number). Initial sequence numbers are those that the client knows. Bytes and units are counted from the connection's start, over all incarnations.
 use Rattle.std.specs.Prelude.{ℕ, Bool, false, pos, ◌+◌, ◌-◌, ◌%◌, ◌^◌, max, min, int_lt, nat_abs, if◌then◌else◌}
 use Rattle.seq_arith.specs.Number.{number_at, distance, offset_of}
 use Rattle.seq_arith.specs.Offset.{one_if}
 
 pub record SouthState : Type 0 where
-  pub cisn : ℕ  -- the client's initial number
-  pub sisn : ℕ  -- the server's initial number, as the client knows it
-  pub delta : ℕ  -- the outer number less the inner one, modulo 2^32
+  pub cisn : ℕ  -- the client's initial sequence number
+  pub sisn : ℕ  -- the server's initial sequence number, as the client knows it
+  pub delta : ℕ  -- the client's sequence number for output less TCP's, modulo 2^32
   pub fetched : ℕ  -- the client's bytes that a restart fetched; else 0
   pub taken : ℕ  -- the client's bytes that are taken
-  pub fin : Bool  -- whether its FIN is
-  pub answered : ℕ  -- its units that are known to be logged
+  pub fin : Bool  -- whether the client's FIN is taken
+  pub answered : ℕ  -- the client's units that are known to be logged
   pub read : ℕ  -- the bytes that the service has read
   pub una : ℕ  -- the units of output that the client acknowledged
-  pub sent : ℕ  -- and those that this incarnation's TCP has sent
+  pub sent : ℕ  -- where this TCP's sent output ends, in units
 
 abbrev pub taken_units : SouthState → ℕ
 taken_units s = s.taken + one_if s.fin
@@ -32,7 +32,7 @@ receive_edge s = min (max s.fetched s.read + 65535) (2 ^ 24)
 abbrev pub window : SouthState → ℕ
 window s = min 65535 (receive_edge s + one_if s.fin - acknowledged s)
 
--- an outer number as an inner one, and an inner one as an outer one
+-- the client's sequence number for output as TCP's, and TCP's as the client's
 abbrev pub lowered : SouthState → ℕ → ℕ
 lowered s number = distance number s.delta
 
@@ -43,7 +43,7 @@ raised s number = (number + s.delta) % 2 ^ 32
 abbrev pub is_high : SouthState → (ack : ℕ) → Bool
 is_high s ack = int_lt (pos s.sent) (offset_of s.sisn ack)
 
--- .. so for TCP its acknowledgement is lowered to what is sent. Then each acknowledgement is lowered by delta
+-- .. so SEG.ACK is lowered to what is sent. Then every SEG.ACK is lowered by delta
 abbrev pub inner_ack : SouthState → (ack : ℕ) → ℕ
 inner_ack s ack = lowered s (if is_high s ack then number_at s.sisn s.sent else ack)
 
@@ -55,7 +55,7 @@ inner_window s ack window = if is_high s ack then min 65535 (window + (nat_abs (
 abbrev pub first_south : (cisn sisn : ℕ) → SouthState
 first_south cisn sisn = record { cisn = cisn; sisn = sisn; delta = 0; fetched = 0; taken = 0; fin = false; answered = 0; read = 0; una = 0; sent = 0 }
 
--- .. and the wrapper at the end of a restart, with this much answered. The inner TCP counts its output from the units that the client had acknowledged
+-- .. and the wrapper at the end of a restart, with this much logged. TCP's output begins after the units that the client had acknowledged
 abbrev pub resumed_south : (cisn sisn length : ℕ) → (fin : Bool) → (acked inner : ℕ) → SouthState
 resumed_south cisn sisn length fin acked inner = record {
   cisn = cisn;

@@ -15,7 +15,7 @@ use Rattle.south_wrap.specs.SouthState.{SouthState, taken_units, acknowledged, w
 abbrev pub outward : SouthState → Segment → Segment
 outward s segment = record segment { head = record segment.head { seq = raised s segment.head.seq; ack = number_at s.cisn (acknowledged s); window = window s } }
 
--- Inward: acknowledgement and window are those that TCP is to see. The client's own numbers stay
+-- Inward: SEG.ACK and SEG.WND are those that TCP is to see. SEG.SEQ stays
 abbrev pub inward : SouthState → Segment → Segment
 inward s segment = record segment { head = record segment.head { ack = inner_ack s segment.head.ack; window = inner_window s segment.head.ack segment.head.window } }
 
@@ -37,7 +37,7 @@ passed_out s segment = if has_rst segment then segment else outward s segment
 pub record Copied : Type 0 where
   pub offset : ℕ  -- where the text begins in the client's stream, in bytes
   pub text : List ℕ  -- the bytes
-  pub fin : Bool  -- whether the client's FIN goes with them
+  pub fin : Bool  -- whether the client's FIN is sent with them
 
 abbrev pub copied : SouthState → Segment → Copied
 copied s segment = let start : ℕ = max s.answered (from_start (first_of s.cisn segment)) in record {
@@ -50,7 +50,7 @@ copied s segment = let start : ℕ = max s.answered (from_start (first_of s.cisn
 abbrev pub is_some_copied : Copied → Bool
 is_some_copied c = nat_lt 0 (length c.text) || c.fin
 
--- a part of a packet's bytes is that
+-- these bytes of a packet are that part
 pub record IsPart (bytes : List ℕ) (part : CopyPart) (c : Copied) : Type 0 where
   pub offset : part.offset ≡ c.offset
   pub order : part.from ≤ part.to

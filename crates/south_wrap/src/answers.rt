@@ -25,11 +25,11 @@ pub struct CopyPart {
     pub fin: bool,
 }
 
-/// What to report to the client: a number of its stream, and a window in bytes.
+/// SEG.ACK and SEG.WND of a segment to the client.
 #[derive(Clone, Copy, Debug, PartialEq, Eq)]
 pub struct AckOut {
-    /// The acknowledgement, as a number of the client's stream.
+    /// SEG.ACK: a sequence number of the client's stream.
     pub ack: Seq,
-    /// In bytes, from that number on.
+    /// SEG.WND: in bytes, from that number on.
     pub window: u16,
 }

@@ -14,8 +14,8 @@ use segment_codec::{PacketRef, read_accepted};
 use seq_arith::{FIN, RST, SYN, below, has};
 
 impl South {
-    /// The part of a client's segment that is taken and not known to be logged, if there is any. Text and FIN of a segment with SYN or RST don't count. Whether
-    /// it was acceptable, or has ACK, doesn't matter.
+    /// Returns the part of a client's segment that is taken and not known to be logged, if there is any. Text and FIN of a segment with SYN or RST don't count.
+    /// Whether the segment was acceptable, or has ACK, doesn't matter.
     pub fn copy_of(&self, packet: &[u8]) -> Option<CopyPart>
         requires { IsOk (reading packet.now) }
         ensures which { IfOk (reading packet.now) (λ segment. is_some result ≡ is_some_copied (copied self.now segment)) }
@@ -65,7 +65,7 @@ impl South {
     }
 }
 
-/// Its text; none with SYN or RST.
+/// The segment's text; none with SYN or RST.
 fn text_of<'a>(segment: &PacketRef<'a>) -> &'a [u8]
     ensures value { result.now ≡ text_of (segment_of segment.now) }
     ensures most { length result.now ≤ length segment.now.payload.now }
@@ -76,7 +76,7 @@ fn text_of<'a>(segment: &PacketRef<'a>) -> &'a [u8]
     segment.payload
 }
 
-/// Whether its FIN counts; it doesn't with SYN or RST.
+/// Whether the segment has a FIN that counts; with SYN or RST none does.
 fn ends(segment: &PacketRef<'_>) -> bool
     ensures { result ≡ fin_of (segment_of segment.now) }
 {

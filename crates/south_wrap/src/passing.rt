@@ -13,8 +13,8 @@ use segment_codec::read_accepted;
 use seq_arith::{RST, has};
 
 impl South {
-    /// Changes a segment of the client into the one for TCP. Its acknowledgement is lowered by delta. One above what this incarnation has sent is first lowered
-    /// to that, and its window raised by as much, up to 65,535. All else stays.
+    /// Changes a segment of the client into the one for TCP. SEG.ACK is lowered by delta. If SEG.ACK exceeds what is sent, it is first lowered to that, and
+    /// SEG.WND raised equally, to at most 65,535. A repeated SYN stays unchanged, and gives `Repeat`.
     pub fn inward(&mut self, packet: &mut [u8]) -> Inward
         requires { IsOk (reading packet.old) }
         ensures answer { IfOk (reading packet.old) (λ segment. result ≡ answer_in self.old segment) }
@@ -32,8 +32,8 @@ impl South {
         Inward::Pass
     }
 
-    /// Changes a segment of TCP into the one for the client, and returns whether it is to be sent. A RST isn't. All others have their sequence number raised by
-    /// delta, and acknowledge what is both taken and known to be logged, with the window from there.
+    /// Changes a segment of TCP into the one for the client, and returns whether it is to be sent. A RST isn't, and stays unchanged. In every other segment
+    /// SEG.SEQ is raised by delta, SEG.ACK acknowledges what is both taken and known to be logged, and SEG.WND is the window from there.
     pub fn outward(&mut self, packet: &mut [u8]) -> bool
         requires { IsOk (reading packet.old) }
         ensures answer { IfOk (reading packet.old) (λ segment. result ≡ not (has_rst segment)) }

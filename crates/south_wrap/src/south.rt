@@ -22,17 +22,17 @@ const BUFFER: u32 = 65_535;
 /// The south wrapper of one connection. Lengths are in bytes; units are bytes and one more for a FIN.
 #[derive(Drop)]
 pub struct South {
-    /// The client's initial number.
+    /// The client's initial sequence number.
     cisn: Seq,
-    /// The server's initial number, as the client knows it.
+    /// The server's initial sequence number, as the client knows it.
     sisn: Seq,
-    /// The outer number of a unit of output less the inner one, modulo 2^32.
+    /// The client's sequence number for output less TCP's, modulo 2^32.
     delta: u32,
     /// The client's bytes that a restart fetched; else 0.
     fetched: u32,
     /// The client's bytes that are taken.
     taken: u32,
-    /// Whether its FIN is taken.
+    /// Whether the client's FIN is taken.
     fin: bool,
     /// The client's units that are known to be logged.
     answered: u32,
@@ -40,7 +40,7 @@ pub struct South {
     read: u32,
     /// The units of output that the client acknowledged.
     una: u32,
-    /// The units of output that this incarnation's TCP has sent.
+    /// Where this TCP's sent output ends, in units from the connection's start.
     sent: u32,
 }
 
@@ -69,7 +69,7 @@ impl Model for South {
 }
 
 impl South {
-    /// The wrapper of a connection that this incarnation opens, with the client's and the server's initial numbers.
+    /// The wrapper of a connection that this incarnation opens, with the client's and the server's initial sequence numbers.
     pub fn new(cisn: Seq, sisn: Seq) -> South
         ensures { result ≡ first_south cisn.0 sisn.0 }
     {
@@ -88,7 +88,7 @@ impl South {
     }
 
     /// The wrapper of a connection at the end of a restart. The log has `length` bytes of the client, and its FIN if `fin`. The client had acknowledged `acked`
-    /// units of output. The new TCP has the initial number `inner`, from which it counts the output after these.
+    /// units of output. The new TCP has the initial sequence number `inner`, from which it counts the output after these.
     pub fn resumed(cisn: Seq, sisn: Seq, length: u32, fin: bool, acked: u32, inner: Seq) -> South
         requires length { length ≤ 2 ^ 24 }
         requires acked { acked ≤ 2 ^ 24 }
@@ -126,7 +126,7 @@ impl South {
         self.una = units;
     }
 
-    /// Notes how many units of output this incarnation's TCP has sent.
+    /// Notes where this TCP's sent output ends, in units from the connection's start.
     pub fn sent(&mut self, units: u32)
         requires most { units ≤ 2 ^ 25 + 1 }
         requires rises { self.old.sent ≤ units }
@@ -144,8 +144,8 @@ impl South {
         self.read = bytes;
     }
 
-    /// The logger has answered that it has `length` bytes of the client, and its FIN if `fin`. Returns what to acknowledge to the client now, if that has
-    /// changed.
+    /// Notes the logger's answer that it has `length` bytes of the client, and its FIN if `fin`. Returns what to acknowledge to the client now, if more is
+    /// known to be logged.
     pub fn on_stable(&mut self, length: u32, fin: bool) -> Option<AckOut>
         requires { length ≤ 2 ^ 24 }
         ensures state { self.new ≡ with_stable (length + one_if fin) self.old }
@@ -162,7 +162,7 @@ impl South {
         Some(self.ack_now())
     }
 
-    /// What to acknowledge to the client now: what is both taken and known to be logged, and the window from there.
+    /// Returns what to acknowledge to the client now: what is both taken and known to be logged, and the window from there.
     pub fn ack_now(&self) -> AckOut
         ensures ack { result.ack.0 ≡ number_at self.now.cisn (acknowledged self.now) }
         ensures window { result.window ≡ window self.now }
@@ -181,7 +181,7 @@ impl South {
         (self.taken + u32::from(self.fin)).min(self.answered)
     }
 
-    /// The window from there.
+    /// The window from what may be acknowledged.
     fn window(&self) -> u16
         ensures { result ≡ window self.now }
     {
@@ -189,7 +189,7 @@ impl South {
         edge.saturating_sub(self.acknowledged()).min(BUFFER) as u16
     }
 
-    /// The outer number less the inner one.
+    /// The client's sequence number for output less TCP's, modulo 2^32.
     pub fn delta(&self) -> u32
         ensures { result ≡ self.now.delta }
     {
@@ -203,14 +203,14 @@ impl South {
         offset_number(self.cisn, self.answered)
     }
 
-    /// The client's initial number.
+    /// The client's initial sequence number.
     pub fn cisn(&self) -> Seq
         ensures { result.0 ≡ self.now.cisn }
     {
         self.cisn
     }
 
-    /// The server's initial number, as the client knows it.
+    /// The server's initial sequence number, as the client knows it.
     pub fn sisn(&self) -> Seq
         ensures { result.0 ≡ self.now.sisn }
     {
@@ -306,7 +306,7 @@ impl South {
     }
 }
 
-/// The number of an offset in the stream of this initial number.
+/// The sequence number of an offset in the stream with this initial sequence number.
 pub(crate) fn offset_number(isn: Seq, offset: u32) -> Seq
     ensures { result.0 ≡ number_at isn.0 offset }
 {

@@ -1,4 +1,4 @@
--- What news does to a connection, before its user's turn.
+-- What news does to a connection, before the north wrapper's turn.
 use Rattle.std.specs.Prelude.{Bool, ◌&&◌, not, if◌then◌else◌}
 use Rattle.seq_arith.specs.Packet.{Segment, has_rst}
 use Rattle.south_wrap.specs.Translation.{repeats_syn, inward}

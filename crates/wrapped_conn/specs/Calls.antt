@@ -1,4 +1,4 @@
--- The calls of TCP that a turn of the north wrapper makes.
+-- The calls to TCP that a turn of the north wrapper makes.
 use Rattle.std.specs.Prelude.{ℕ, List, [], ◌∷◌, length, if◌then◌else◌}
 use Rattle.north_wrap.specs.RunState.{gives}
 use Rattle.north_wrap.specs.NorthState.{NorthState, unreleased, closes, given_north}

@@ -49,7 +49,7 @@ unread_from c start = drop (start - fetched_or_read c) c.endpoint.receiving.unre
 abbrev pub takes_held_fin : {S : Type 0} → Before → (own : Bool) → ConnState S → Bool
 takes_held_fin before own c = has_fin c.endpoint.name && not before.fin && not own && nat_le (logged_units c) (bytes_taken c)
 
--- text from an offset on, in Data of 1,460 bytes each except the last, which has the FIN
+-- text from an offset on, in Data of 1,460 bytes each except the last, which has the FIN if there is one
 abbrev pub datas_of : {S : Type 0} → ConnState S → (offset : ℕ) → List ℕ → Bool → List Body
 datas_of c offset text fin = datas (length text + 1) c.key (una_units c) offset text fin
 
@@ -58,7 +58,7 @@ abbrev pub further_data : {S : Type 0} → Before → Segment → ConnState S �
 further_data before segment c =
     datas_of c (further_start before segment c) (unread_from c (further_start before segment c)) (takes_held_fin before (copied c.south segment).fin c)
 
--- where no Data is sent, one without bytes reports that the client has acknowledged more
+-- if no other Data is sent, one without bytes reports that the client has acknowledged more, if that is so
 abbrev pub or_una : {S : Type 0} → (una : ℕ) → ConnState S → List Body → List Body
 or_una una c [] = if nat_lt una (una_units c) then DataMsg (acked_part c) ∷ [] else []
 or_una una c (first ∷ others) = first ∷ others
@@ -75,7 +75,7 @@ pub record IsTellable (read : ReadRecord) : Type 0 where
 abbrev pub AreTellable : List ReadRecord → Type 0
 AreTellable reads = AllByRecursion IsTellable reads
 
--- Done is sent until its answer has come
+-- Done is sent until Ended arrives
 abbrev pub is_done : ConnStage → Bool
 is_done Done = true
 is_done stage = false
@@ -98,7 +98,7 @@ most_text = 1460 + 65535
 abbrev pub AreShort : List (List ℕ) → Type 0
 AreShort messages = byte_count messages ≤ 64 * length messages + most_text
 
--- a message about a mark may stand before Done: its state has at most so many bytes
+-- a message about a mark may be sent before Done: its state has at most this many bytes
 abbrev pub most_state : ℕ
 most_state = 1100
 

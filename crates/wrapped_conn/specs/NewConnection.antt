@@ -13,7 +13,7 @@ use Rattle.wrapped_conn.specs.declared.stage.ConnStage.TheVariants.{Live}
 use Rattle.wrapped_conn.specs.ConnState.{ConnState}
 use Rattle.wrapped_conn.specs.Numbers.{has_fin}
 
--- three parts that are at one point: of what is logged there a FIN is one unit, and the rest was fetched
+-- a connection joined from three parts at one point. The units known to be logged there were fetched: bytes, and one more for a FIN
 abbrev pub joined_conn : {S : Type 0} → (boot : ℕ) → Key → Addr → SouthState → Tcb → NorthState S → ConnState S
 joined_conn boot key local south endpoint north = record {
   boot = boot;

@@ -1,10 +1,10 @@
 -- The offsets of a connection in its two streams, as its parts show them (RFC 9293, 3.3.1, and FT-TCP, INFOCOM 2001: the inner TCP's numbers are delta below
 -- the client's).
-use Rattle.std.specs.Prelude.{ℕ, Bool, true, false, pos, ◌+◌, ◌-◌, ◌%◌, ◌^◌, ◌&&◌, ◌||◌, not, nat_lt, int_lt, min, max, length, if◌then◌else◌}
+use Rattle.std.specs.Prelude.{ℕ, Bool, true, false, pos, ◌+◌, ◌-◌, ◌%◌, ◌^◌, ◌&&◌, ◌||◌, not, nat_lt, min, max, length, if◌then◌else◌}
 use Rattle.seq_arith.specs.Arrival.{int_eq, is_acceptable_or_at_edge}
 use Rattle.seq_arith.specs.Number.{number_at, distance, offset_of}
 use Rattle.seq_arith.specs.Offset.{one_if, first_of, length_of}
-use Rattle.seq_arith.specs.Packet.{Segment, has_rst, has_syn, has_ack}
+use Rattle.seq_arith.specs.Packet.{Segment, has_rst, has_syn}
 use Rattle.ft_model.specs.Copy.{from_start}
 use Rattle.south_wrap.specs.SouthState.{raised}
 use Rattle.tcp_endpoint.specs.declared.states.StateName.{StateName}
@@ -27,7 +27,7 @@ is_over TimeWait = true
 is_over Closed = true
 is_over name = false
 
--- up to where the stream is read or fetched
+-- the offset up to which the client's bytes are read or fetched
 abbrev pub fetched_or_read : {S : Type 0} → ConnState S → ℕ
 fetched_or_read c = max c.fetched c.north.read
 

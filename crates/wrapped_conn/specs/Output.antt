@@ -22,7 +22,7 @@ with_endpoint_flushed c = record c { endpoint = flushed c.endpoint }
 abbrev pub turn_ended : {S : Type 0} → ConnState S → ConnState S
 turn_ended c = record (with_endpoint_flushed c) { south = record c.south { sent = sent_units (with_endpoint_flushed c) } }
 
--- a segment of the connection's own acknowledges what may be acknowledged, and its window begins there
+-- a segment that the connection adds acknowledges what may be acknowledged, and its window begins there
 abbrev pub own_segment : {S : Type 0} → ConnState S → (seq flags : ℕ) → (mss : Option ℕ) → Segment
 own_segment c seq flags mss = record {
   head = record {
@@ -46,7 +46,7 @@ syn_ack c = own_segment c c.south.sisn 18 (Some 1460)
 unfoldable pub bare : {S : Type 0} → ConnState S → Segment
 bare c = own_segment c (outer_sent c) 16 None
 
--- an ACK is pending that TCP doesn't send: TCP doesn't know that more is answered, or that the connection was over or has become live; and a TCP that is CLOSED
+-- an ACK is pending that TCP doesn't send: TCP can't know that more is logged, or that the connection was over or just became live; and a TCP that is CLOSED
 -- sends none
 abbrev pub is_ack_pending : {S : Type 0} → Before → ConnState S → Bool
 is_ack_pending before c = before.asks || (is_closed c.endpoint.name && (before.needs_ack || not (before.edge == advertised c)))

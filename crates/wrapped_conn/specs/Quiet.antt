@@ -18,7 +18,7 @@ quiet_in c = if is_quiet c then Some (record { reads = c.north.count; length = c
 abbrev pub quiet_at : {S : Type 0} → Machine S → Point → Quiet
 quiet_at service p = record { reads = length p.lengths; length = bytes_read p; made = made service p }
 
--- they are told where the point is quiet, and only there
+-- they are returned where the point is quiet, and only there
 pub record TellsQuiet {S : Type 0} (service : Machine S) (p : Point) (told : Option Quiet) : Type 0 where
   pub there : IsQuiet service p → told ≡ Some (quiet_at service p)
   pub only_there : (quiet : Quiet) → told ≡ Some quiet → IsQuiet service p

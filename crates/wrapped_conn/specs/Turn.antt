@@ -58,7 +58,7 @@ pub record TellsDone {S : Type 0} (old new : ConnState S) (segments messages : L
   pub goes_out : segments ≡ []
   pub told : messages ≡ spelled old.boot (dones old)
 
--- it becomes live
+-- a connection becomes live
 abbrev pub Starts : {S : Type 0} → (S → List ℕ → Served S) → (old new : ConnState S) → (segments messages : List (List ℕ)) → Type 0
 Starts after old new segments messages = CompletesTurn after (before_other true old) false [] old new segments messages
 
@@ -92,15 +92,15 @@ IsTold after other old new segments messages = Rests old new segments messages
 abbrev pub ticked : {S : Type 0} → ConnState S → ConnState S
 ticked c = turn_ended (record c { endpoint = after_tick c.endpoint })
 
--- .. and is an end tick where both FINs are through and all that is taken is known to be logged
+-- .. and is an end tick if both FINs are done and all that is taken is known to be logged
 abbrev pub is_end_tick : {S : Type 0} → ConnState S → Bool
 is_end_tick c = is_over c.endpoint.name && nat_le (units_taken c) (logged_units c)
 
 abbrev pub counted : {S : Type 0} → ConnState S → ConnState S
 counted c = record c { end_ticks = if is_end_tick c && nat_lt c.end_ticks 4 then c.end_ticks + 1 else c.end_ticks }
 
--- a connection that isn't reset retransmits all reads that aren't known to be logged, and at the fourth end tick, and from then on, it reports that it has
--- ended
+-- a connection that isn't reset sends again all reads that aren't known to be logged. At the fourth end tick, and at each tick from then on, it reports that
+-- it has ended
 pub record TicksLive {S : Type 0} (old new : ConnState S) (segments messages : List (List ℕ)) : Type 0 where
   pub state : new ≡ (if (counted (ticked old)).end_ticks == 4 then with_done (counted (ticked old)) else counted (ticked old))
   pub goes_out : segments ≡ packets (passed (ticked old).south (leaving (after_tick old.endpoint)))

@@ -70,7 +70,7 @@ impl<S: Service> Model for Conn<S> {
 
 impl<S: Service> Conn<S> {
     /// A connection that this incarnation opens: a fresh TCP has received its client's SYN, and `start` sends TCP's SYN-ACK. `mss` is the segment size, 64 to
-    /// 1,460 bytes, and `kind` that of the service.
+    /// 1,460 bytes, and `kind` the service's kind.
     pub fn first(
         alloc: Global,
         boot: u64,
@@ -200,7 +200,7 @@ pub(crate) fn has_fin(name: StateName) -> bool
     )
 }
 
-/// Whether both FINs are through, in a TCP that its client hasn't reset.
+/// Whether both FINs are done (the client's is taken, the server's acknowledged), in a TCP that its client hasn't reset.
 pub(crate) fn is_over(name: StateName) -> bool
     ensures { result ≡ is_over_lem name }
 {

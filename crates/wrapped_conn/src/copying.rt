@@ -21,7 +21,7 @@ use tcp_endpoint::Outbox;
 const DATA: u32 = 1_460;
 
 impl<S: Service> Conn<S> {
-    /// Sends the copied part of a segment, and after it the text and the FIN that were held and are taken now. Where there is nothing of these, it reports that
+    /// Sends the copied part of a segment, and after it the text and the FIN that were held and are taken now. If there is none, it reports to the logger that
     /// the client has acknowledged more, if that is so.
     pub(crate) fn tell_copy(&self, packet: &[u8], before: Before, out: &mut Outbox)
         requires sound { IsSound self.now }
@@ -77,7 +77,7 @@ impl<S: Service> Conn<S> {
         self.has_fin() && !before.fin && !own && self.logged() <= self.taken()
     }
 
-    /// Sends the unread text from this offset on, in Data of 1,460 bytes each except the last, which has the FIN.
+    /// Sends the unread text from this offset on, in Data of 1,460 bytes each except the last, which has the FIN if `fin`.
     fn tell_further(&self, start: u32, fin: bool, out: &mut Outbox)
         requires sound { IsSound self.now }
         requires start { fin ≡ true → start ≤ 2 ^ 24 }
@@ -95,7 +95,7 @@ impl<S: Service> Conn<S> {
         }
     }
 
-    /// Sends the `count` unread bytes from place `from` on, except the last 1,460 at most, in Data of 1,460 bytes. Returns how many bytes these have.
+    /// Sends the `count` unread bytes from place `from` on, leaving at most 1,460, in Data of 1,460 bytes. Returns how many bytes it has sent.
     fn tell_full(&self, start: u32, from: u32, count: u32, out: &mut Outbox) -> u32
         requires sound { IsSound self.now }
         requires start { start ≤ fetched_or_read self.now + from }
@@ -138,7 +138,7 @@ impl<S: Service> Conn<S> {
         self.tell_data(offset, self.una(), fin, &bytes[..count], out);
     }
 
-    /// Where no Data has been sent, reports that the client has acknowledged more, if that is so.
+    /// If no Data has been sent, reports to the logger that the client has acknowledged more, if that is so.
     fn tell_una(&self, una_before: u32, out: &mut Outbox)
         requires sound { IsSound self.now }
         requires few { length out.old ≤ 46 }

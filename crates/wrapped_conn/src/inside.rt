@@ -7,10 +7,10 @@ ghost use Rattle.wrapped_conn.specs.Sound.{IsSound};
 use crate::conn::Conn;
 use server_trait::Service;
 
-/// The outer number less the inner one, and the numbers of a connection's point. Units count bytes, and one more for a FIN.
+/// Delta, and the numbers of a connection's point. Units count bytes, and one more for a FIN.
 #[derive(Clone, Copy, Debug, PartialEq, Eq)]
 pub struct Inside {
-    /// The outer number of a unit of output less the inner one, modulo 2^32.
+    /// The client's sequence number for output less TCP's, modulo 2^32.
     pub delta: u32,
     /// The client's units that are taken.
     pub taken: u32,
@@ -22,12 +22,12 @@ pub struct Inside {
     pub reads: u32,
     /// The units of output that the client has acknowledged.
     pub una: u32,
-    /// The units of output that are sent.
+    /// Where the sent output ends, in units from the connection's start.
     pub sent: u32,
 }
 
 impl<S: Service> Conn<S> {
-    /// Its numbers, as its parts show them.
+    /// Returns the connection's numbers, as its parts show them.
     pub fn inside(&self) -> Inside
         requires { IsSound self.now }
         ensures delta { result.delta ≡ self.now.south.delta }

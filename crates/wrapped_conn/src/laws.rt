@@ -27,7 +27,7 @@ ghost use Rattle.wrapped_conn.specs.Turn.{Starts, Receives, IsTold, Ticks as Tic
 
 use server_trait::Service;
 
-/// Three parts with which a restart continues from an entry of the log are at the point of that entry.
+/// A connection that a restart joins from three parts, which continue from an entry of the log, is at the point of that entry.
 pub fn joined_connections_stand_at_the_entry<S: Service>()
     ensures { (fresh : S) (boot : ℕ) (local : Addr) (e : Entry) (i : ℕ) (n : NorthState S) → GoesOnFrom (machine fresh S.after) e i
         → HasReplayed (machine fresh S.after) (point_of (machine fresh S.after) e) (resumed_at (machine fresh S.after) e) n
@@ -36,8 +36,8 @@ pub fn joined_connections_stand_at_the_entry<S: Service>()
         (spliced e.key local e.cisn (length e.bytes) e.mss i e.fin) n) (point_of (machine fresh S.after) e) }
 {}
 
-/// The turn in which a connection becomes live: a new one from the point that its client's SYN opens, and one at the end of a restart from the point at which
-/// its parts are.
+/// The turn in which a connection becomes live is lawful: that of a new one from the point that its client's SYN opens, and that of one at the end of a restart
+/// from the point of its parts.
 pub fn connections_start_as_the_law_says<S: Service>()
     ensures new { (fresh : S) (boot : ℕ) (local : Addr) (numbers : Numbers) (new : ConnState S) (segments messages : List (List ℕ)) → MayOpen numbers
         → IsSound new
@@ -48,7 +48,7 @@ pub fn connections_start_as_the_law_says<S: Service>()
         → Starts S.after old new segments messages → Leads (machine fresh S.after) old.local old.boot Begins p new segments messages }
 {}
 
-/// A segment's turn, also that of one that resets the connection, and of one that arrives after that.
+/// A segment's turn is lawful, also if the segment resets the connection or arrives after a reset.
 pub fn connections_receive_as_the_law_says<S: Service>()
     ensures { (fresh : S) (p : Point) (segment : Segment) (old new : ConnState S) (segments messages : List (List ℕ)) → IsSound old → IsSound new
         → Stands (machine fresh S.after) old p
@@ -56,7 +56,7 @@ pub fn connections_receive_as_the_law_says<S: Service>()
         → Leads (machine fresh S.after) old.local old.boot (Comes segment) p new segments messages }
 {}
 
-/// The turn of a message that says how much of the connection is logged.
+/// The turn of a message that says how much of the connection is logged is lawful.
 pub fn connections_hear_as_the_law_says<S: Service>()
     ensures stable { (fresh : S) (p : Point) (key : Key) (length fin reads : ℕ) (old new : ConnState S) (segments messages : List (List ℕ)) → IsSound old
         → IsSound new
@@ -78,7 +78,7 @@ pub fn connections_hear_as_the_law_says<S: Service>()
         })) p new segments messages }
 {}
 
-/// A tick's turn.
+/// A tick's turn is lawful.
 pub fn connections_tick_as_the_law_says<S: Service>()
     ensures { (fresh : S) (p : Point) (old new : ConnState S) (segments messages : List (List ℕ)) → IsSound old → Stands (machine fresh S.after) old p
         → TicksOn old new segments messages → Leads (machine fresh S.after) old.local old.boot Ticks p new segments messages }

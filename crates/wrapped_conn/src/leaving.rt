@@ -44,7 +44,7 @@ impl<S: Service> Conn<S> {
         pass_outward(&mut self.south, out);
     }
 
-    /// The header of a segment of the connection's own.
+    /// The header of a segment that the connection adds to TCP's.
     fn head(&self, seq: Seq, flags: u8, mss: Option<u16>) -> Head
         ensures head { record { head = said result; payload = [] } ≡ own_segment self.now seq.0 flags mss }
         ensures size { result.mss ≡ mss }
@@ -92,8 +92,8 @@ impl<S: Service> Conn<S> {
         out.push(&packet);
     }
 
-    /// Whether an ACK is pending that its TCP doesn't send: TCP doesn't know that more is answered, or that the connection was over or has become live; and a
-    /// TCP that is CLOSED sends none.
+    /// Whether an ACK is pending that TCP doesn't send: TCP can't know that more is logged, or that the connection was over or just became live; and a TCP that
+    /// is CLOSED sends none.
     pub(crate) fn is_ack_pending(&self, before: Before) -> bool
         requires { IsSound self.now }
         ensures { result ≡ is_ack_pending before self.now }
@@ -102,7 +102,7 @@ impl<S: Service> Conn<S> {
     }
 }
 
-/// What TCP sends is passed to the client. A RST, which is sent alone, isn't.
+/// Passes TCP's segments to the client, changed by the south wrapper. If there is a RST, which TCP sends alone, it passes nothing.
 fn pass_outward(south: &mut South, out: &mut Outbox)
     requires { AllByRecursion (λ packet. IsOk (reading packet)) out.old }
     ensures south { south.new ≡ south.old }

@@ -40,14 +40,14 @@ impl<S: Service> Conn<S> {
         has_fin(self.endpoint.state().name)
     }
 
-    /// Whether both FINs are through.
+    /// Whether both FINs are done: the client's is taken, and the server's is acknowledged.
     pub(crate) fn is_over(&self) -> bool
         ensures { result ≡ is_over_lem self.now.endpoint.name }
     {
         is_over(self.endpoint.state().name)
     }
 
-    /// Up to where the client's bytes are read or fetched.
+    /// The offset up to which the client's bytes are read or fetched.
     pub(crate) fn fetched_or_read(&self) -> u32
         ensures { result ≡ fetched_or_read self.now }
     {
@@ -74,7 +74,7 @@ impl<S: Service> Conn<S> {
         self.fetched_or_read() + self.unread()
     }
 
-    /// Its units that are taken.
+    /// The client's units that are taken.
     pub(crate) fn taken_units(&self) -> u32
         requires { IsSound self.now }
         ensures value { result ≡ units_taken self.now }
@@ -93,7 +93,7 @@ impl<S: Service> Conn<S> {
         (self.fetched_or_read() + BUFFER).min(STREAM) + u32::from(self.has_fin())
     }
 
-    /// The units of output that the client has acknowledged; 0 before the SYN is.
+    /// The units of output that the client has acknowledged; 0 before the SYN is acknowledged.
     pub(crate) fn una(&self) -> u32
         ensures value { result ≡ una_units self.now }
         ensures most { result ≤ 2 ^ 24 + 1 }
@@ -102,14 +102,14 @@ impl<S: Service> Conn<S> {
         units(offset(self.south.sisn(), outer))
     }
 
-    /// The number after what TCP has sent, as the client knows it.
+    /// The sequence number after what TCP has sent, as the client knows it.
     pub(crate) fn sent_number(&self) -> Seq
         ensures { result.0 ≡ outer_sent self.now }
     {
         self.endpoint.sent().add(self.south.delta())
     }
 
-    /// The units of output that TCP has sent.
+    /// Where TCP's sent output ends, in units from the connection's start.
     pub(crate) fn sent(&self) -> u32
         ensures { result ≡ sent_units self.now }
     {
@@ -131,7 +131,7 @@ impl<S: Service> Conn<S> {
         offset(self.south.cisn(), head.seq)
     }
 
-    /// Where a segment's text ends in the client's stream; 0 where that is before its first byte.
+    /// The offset at which a segment's text ends in the client's stream, limited to the range from 0 to 2^24 + 1.
     pub(crate) fn text_end(&self, segment: &PacketRef<'_>) -> u32
         requires { length segment.now.payload.now ≤ 1460 }
         ensures { result ≡ min (from_start (end_of (segment_of segment.now) self.now)) (2 ^ 24 + 1) }
@@ -170,7 +170,7 @@ impl<S: Service> Conn<S> {
     }
 }
 
-/// The offset that a number names in the stream of this initial number.
+/// The offset of a sequence number in the stream with this initial sequence number.
 #[tactic(auto, unfolding(seq_arith::specs::Number::offset_of))]
 fn offset(isn: Seq, number: Seq) -> i64
     ensures value { result ≡ offset_of isn.0 number.0 }
@@ -179,7 +179,7 @@ fn offset(isn: Seq, number: Seq) -> i64
     number.signed_gap(isn.add(1))
 }
 
-/// An offset as units of a stream; 0 before its first byte.
+/// An offset as units of a stream, limited to the range from 0 to 2^24 + 1.
 fn units(offset: i64) -> u32
     requires { nat_abs offset ≤ 2 ^ 32 }
     ensures value { result ≡ min (from_start offset) (2 ^ 24 + 1) }
@@ -200,7 +200,7 @@ fn accepts(next: u32, room: u32, first: i64, len: u32) -> bool
     is_acceptable(next, room, first, len) || is_at_right_edge(next, room, first, len)
 }
 
-/// TCP's four cases.
+/// Whether a segment is acceptable, by TCP's four cases.
 fn is_acceptable(next: u32, room: u32, first: i64, len: u32) -> bool
     requires first { nat_abs first ≤ 2 ^ 31 }
     requires len { len ≤ 2 ^ 16 }
@@ -212,7 +212,7 @@ fn is_acceptable(next: u32, room: u32, first: i64, len: u32) -> bool
     lies_in(next, room, first) || (0 < len && lies_in(next, room, first + i64::from(len - 1)))
 }
 
-/// After a sender has filled the window and a segment was lost, its acknowledgements have this number.
+/// Whether a segment is empty and at an open window's right edge.
 #[tactic(auto, unfolding(seq_arith::specs::Arrival::is_at_right_edge))]
 fn is_at_right_edge(next: u32, room: u32, first: i64, len: u32) -> bool
     ensures { result ≡ is_at_right_edge next room first len }
@@ -227,7 +227,7 @@ fn lies_in(next: u32, room: u32, offset: i64) -> bool
     i64::from(next) <= offset && offset < i64::from(next) + i64::from(room)
 }
 
-/// SEG.LEN: the text and the FIN, or only the SYN; 0 of a RST.
+/// SEG.LEN: the text and the FIN, or only the SYN; 0 for a RST.
 fn length_of(segment: &PacketRef<'_>) -> u32
     requires { length segment.now.payload.now ≤ 1460 }
     ensures value { result ≡ length_of_lem (segment_of segment.now) }

@@ -22,7 +22,7 @@ pub struct Quiet {
 }
 
 impl<S: Service> Conn<S> {
-    /// Its numbers where it is quiet: every read is known to be logged, all output is acknowledged, and the service hasn't closed.
+    /// Returns the connection's numbers if it is quiet: every read is known to be logged, all output is acknowledged, and the service hasn't closed.
     pub fn quiet(&self) -> Option<Quiet>
         ensures state { result ≡ quiet_in self.now }
         ensures law { (fresh : S) (p : Point) → IsSound self.now → Stands (machine fresh S.after) self.now p → TellsQuiet (machine fresh S.after) p result }

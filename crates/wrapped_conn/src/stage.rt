@@ -11,7 +11,7 @@ pub enum ConnStage {
     Done,
 }
 
-/// What a turn has to know of the connection before it.
+/// What a turn remembers of the connection before it.
 #[derive(Clone, Copy, Debug)]
 pub(crate) struct Before {
     /// The client's bytes that were taken.
@@ -22,8 +22,8 @@ pub(crate) struct Before {
     pub una: u32,
     /// The right edge that TCP had advertised, as an offset.
     pub edge: u32,
-    /// Whether an ACK is pending of which its TCP doesn't know.
+    /// Whether an ACK is pending for a reason that TCP doesn't know.
     pub asks: bool,
-    /// Whether one is pending by TCP's rules.
+    /// Whether the segment makes an ACK pending by TCP's rules.
     pub needs_ack: bool,
 }

@@ -16,11 +16,11 @@ use north_wrap::ReadRecords;
 use server_trait::Service;
 use tcp_endpoint::Outbox;
 
-/// A Data with at most so much text is written into a short room, which takes less time to clear.
+/// A Data with at most this many bytes of text is written into a short buffer, which takes less time to clear.
 const SHORT_TEXT: usize = 97;
 
 impl<S: Service> Conn<S> {
-    /// Sends a part of the client's stream.
+    /// Sends a part of the client's stream to the logger, in one Data.
     pub(crate) fn tell_data(
         &self,
         offset: u32,
@@ -60,7 +60,7 @@ impl<S: Service> Conn<S> {
         }
     }
 
-    /// Reports the reads of this turn.
+    /// Reports these reads to the logger.
     pub(crate) fn tell_reads(&self, reads: &ReadRecords, out: &mut Outbox)
         requires boot { 1 ≤ self.now.boot }
         requires tellable { AreTellable reads.now }
@@ -73,7 +73,7 @@ impl<S: Service> Conn<S> {
         tell_reads(self.boot, self.key, reads, out);
     }
 
-    /// Reports that the connection has ended, until that is logged.
+    /// Reports that the connection has ended, until Ended arrives.
     pub(crate) fn tell_done(&mut self, out: &mut Outbox)
         requires boot { 1 ≤ self.old.boot }
         requires few { length out.old ≤ 79 }
@@ -95,7 +95,7 @@ impl<S: Service> Conn<S> {
     }
 }
 
-/// Sends one message, which is written into this room first.
+/// Writes one message into this buffer, and sends it.
 fn tell(boot: u64, body: Body<'_>, room: &mut [u8], out: &mut Outbox)
     requires sendable { IsSendable (record { boot = boot; body = body }) }
     requires room { message_length (body_of body) ≤ length room.old }

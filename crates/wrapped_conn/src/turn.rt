@@ -125,7 +125,7 @@ impl<S: Service> Conn<S> {
         }
     }
 
-    /// A segment arrives, and what is taken now and not answered is sent to the logger. Returns whether the segment repeats the client's SYN.
+    /// Passes a segment to TCP, and sends the logger what is newly received and not known to be logged. Returns whether the segment repeats the client's SYN.
     fn arrive(&mut self, packet: &mut [u8], before: Before, messages: &mut Outbox) -> bool
         requires sound { IsSound self.old }
         requires accepted { IsOk (reading packet.old) }
@@ -193,7 +193,7 @@ impl<S: Service> Conn<S> {
         Ok(())
     }
 
-    /// The rest of a turn, once its news has arrived.
+    /// Completes a turn, once its news is noted.
     fn go_on(
         &mut self,
         alloc: Global,
@@ -272,7 +272,7 @@ impl<S: Service> Conn<S> {
         self.go_on(alloc, before, false, out)
     }
 
-    /// Both wrappers learn what is logged. Returns whether that is news.
+    /// Both wrappers learn what is logged. Returns whether more of the client's units are known to be logged.
     fn note_logged(&mut self, length: u32, fin: bool, reads: u32) -> bool
         requires sound { IsSound self.old }
         requires most { length ≤ 2 ^ 24 }
@@ -330,7 +330,7 @@ impl<S: Service> Conn<S> {
         self.count_end_tick();
     }
 
-    /// Counts an end tick, where both FINs are through and all that is taken is known to be logged.
+    /// Counts an end tick, up to four, if both FINs are done and all that is taken is known to be logged.
     fn count_end_tick(&mut self)
         requires sound { IsSound self.old }
         ensures state { self.new ≡ counted self.old }

@@ -6,8 +6,8 @@ use ft_io::NoMemory;
 use std::alloc::Global;
 use tcp_endpoint::Outbox;
 
-/// The segments and the messages that a connection sends in one turn, each list in order, in room that is allocated once. A turn has at most 79 messages,
-/// and there is room for 80: one about a mark may stand before Done.
+/// The segments and the messages that a connection sends in one turn, each list in order, in buffers that are allocated once. A turn has at most 79 messages,
+/// and there is room for 80: one about a mark may be sent before Done.
 #[derive(Drop)]
 pub struct TurnOut {
     /// To the client, in order.
@@ -17,7 +17,7 @@ pub struct TurnOut {
 }
 
 impl TurnOut {
-    /// An empty turn, with its room allocated.
+    /// Allocates the buffers of a turn, which are empty.
     pub fn new(alloc: Global) -> Result<TurnOut, NoMemory>
         ensures segments { IfOk result (λ out. out.segments ≡ []) }
         ensures messages { IfOk result (λ out. out.messages ≡ []) }
