@@ -1,4 +1,4 @@
--- When two runs are of level lengths: the second of them larger by one, and the first not empty where the second isn't.
+-- Two runs whose lengths differ by one: the larger length is that of the second, and the first run isn't empty unless the second is.
 use Rattle.std.specs.Prelude.{◌≡◌, ◌<◌, ◌+◌, ◌^◌, ◌⊎◌}
 use Rattle.logger_store.specs.declared.runs.Run.{Run}
 

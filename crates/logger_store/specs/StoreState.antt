@@ -1,4 +1,4 @@
--- What the store keeps, in the plain records of messages and log, the ranges in which it keeps its numbers, and which messages want memory.
+-- The store's values as the plain records of messages and of the log, the ranges of its numbers, and which messages may need memory.
 use Rattle.std.specs.Prelude.{ℕ, Bool, true, false, not, List, [], length, sum, ◌≡◌, ◌==◌, ◌≤◌, ◌+◌, ◌-◌, ◌^◌, ◌&&◌, ◌||◌, nat_le, nat_lt, max, Option, Some, None, option_map, IsOk, ◌⊎◌}
 use Rattle.std.specs.List.{list_any, list_all}
 use Rattle.std.specs.Option.{option_map_or}
@@ -34,20 +34,21 @@ head_value h = record {
   acked = h.acked;
 }
 
--- the ranges of an entry's numbers, which are those that a message may say
+-- the ranges of an entry's numbers, which are those that a message may have
 pub record IsInRange (mss bytes output : ℕ) : Type 0 where
   pub least : 64 ≤ mss
   pub most : mss ≤ 1460
   pub len : bytes ≤ 2 ^ 24
   pub acked : output ≤ 2 ^ 24 + 1
 
--- the lengths of reads, of a stream of which so many bytes are logged: they lie within these bytes, and at most one of them, the closing one, is 0
+-- the lengths of reads from a stream with so many logged bytes: their sum is at most that; there are at most as many as their sum, and one more if one of
+-- them, the closing one, is 0; and each is at most 2,048
 pub record AreRead (bytes : ℕ) (lengths : List ℕ) : Type 0 where
   pub within : sum lengths ≤ bytes
   pub count : length lengths ≤ sum lengths + flag (list_any (λ k. k == 0) lengths)
   pub each : list_all (λ n. nat_le n 2048) lengths ≡ true
 
--- the bytes of an answer, or none
+-- the bytes of an answer; none without an answer
 abbrev pub answer_bytes : Option Message → List ℕ
 answer_bytes (Some message) = spelling message
 answer_bytes None = []
@@ -60,29 +61,29 @@ IsAnswer bytes = (bytes ≡ []) ⊎ IsOk (reading bytes)
 abbrev pub IsReply : List ℕ → Type 0
 IsReply bytes = IsAnswer bytes ⊎ IsOk (marks.reading bytes)
 
--- an entry of whose output at least so many units are acknowledged
+-- the entry with at least `units` units of its output acknowledged
 abbrev pub acknowledging : ℕ → Entry → Entry
 acknowledging units e = record e { acknowledged = max e.acknowledged units }
 
--- What wants memory of an entry: bytes that its last page doesn't take, and a length other than the last one
+-- What may need memory in an entry: bytes that don't fit its last page, and a length other than the last one
 abbrev pub adds_page : said.Part → Entry → Bool
 adds_page part e = nat_lt (room_after (length e.bytes)) (length (with_bytes part e).bytes - length e.bytes)
 
 abbrev pub begins_run : ℕ → Entry → Bool
 begins_run n e = not (ends_with n e.lengths)
 
--- .. and of a log: besides these an entry for another key
+-- .. and in a log: besides these, an entry for a new key
 abbrev pub adds : Body → Log → Bool
 adds (OpenMsg n) log = not (list_any (λ e. key_eq e.key n.key) log.entries || nat_le 64 (length log.entries))
 adds (DataMsg part) log = option_map_or (adds_page part) (entry_of part.key log) false
 adds (ReadMsg key index n) log = option_map_or (λ e. is_next_read e index n && begins_run n e) (entry_of key log) false
 adds _ log = false
 
--- whether keeping what a message says may want memory
+-- whether taking a message may need memory
 unfoldable pub wants_memory : Log → Message → Bool
 wants_memory log message = message.boot == log.boot && adds message.body log
 
--- what is told, in a message of this boot
+-- the body of an answer, in a message of this boot
 abbrev pub with_boot : ℕ → Option Body → Option Message
 with_boot boot told = option_map (λ body. record { boot = boot; body = body }) told
 

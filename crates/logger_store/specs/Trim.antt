@@ -1,4 +1,4 @@
--- What a log store is that has given up the fronts of some entries: which bytes and lengths it still tells, and of which logs it is what is left.
+-- A trimmed log store, which has dropped the beginnings of some entries: which bytes and lengths it still reports, and which logs it represents.
 use Rattle.std.specs.Prelude.{◌≡◌, ℕ, ◌≤◌, ◌<◌, ◌==◌, Bool, true, false, ◌&&◌, nat_lt, sum, Option, None, List, [], ◌∷◌, length, take, replicate, slice_get, slice_index_or, slice_set, if◌then◌else◌}
 use Rattle.std.specs.Option.{option_map_or}
 use Rattle.std.specs.List.{AllByRecursion}
@@ -13,7 +13,8 @@ use Rattle.logger_store.specs.declared.trimming.Trim.{Trim}
 abbrev pub no_trim : Trim
 no_trim = record { bytes = 0; reads = 0 }
 
--- a log, and up to where each entry is trimmed, the first first. In the log zeros stand for the bytes that are given up, and level lengths for those of reads
+-- a log, and how much of each entry is trimmed, in the order of the entries. The log has zeros in place of the dropped bytes, and level lengths in place of
+-- the dropped ones
 pub record TrimmedLog : Type 0 where
   pub log : Log
   pub trims : List Trim
@@ -24,11 +25,11 @@ untrimmed = record { log = empty_log; trims = replicate 64 no_trim }
 abbrev pub trim_at : List Trim → ℕ → Trim
 trim_at trims i = slice_index_or trims i no_trim
 
--- .. and of a key's entry
+-- how much of a key's entry is trimmed; nothing if the key has no entry
 abbrev pub trim_of : Key → TrimmedLog → Trim
 trim_of key t = option_map_or (trim_at t.trims) (place_of key t.log) no_trim
 
--- bytes and lengths below it aren't told
+-- whether a question asks for trimmed bytes or lengths
 abbrev pub is_trimmed : TrimmedLog → Body → Bool
 is_trimmed t (BytesMsg key offset) = nat_lt offset (trim_of key t).bytes
 is_trimmed t (CutsMsg key first) = nat_lt first (trim_of key t).reads
@@ -37,7 +38,8 @@ is_trimmed t _ = false
 unfoldable pub answer_left : TrimmedLog → Message → Option Message
 answer_left t message = if message.boot == t.log.boot && is_trimmed t message.body then None else answer_to t.log message
 
--- where an entry may be trimmed: its first reads took these bytes, no closing read is among them, and no more of it was trimmed before
+-- when an entry may be trimmed to these first reads: they are logged and took these bytes, no closing read is among them, and no more reads were trimmed
+-- before
 pub record MayTrim (i bytes reads : ℕ) (t : TrimmedLog) : Type 0 where
   pub in_log : i < length t.log.entries
   pub logged : reads ≤ length (lengths_of (slice_get t.log.entries i))
@@ -51,7 +53,7 @@ with_trim i bytes reads t = record {
   trims = slice_set t.trims i (record { bytes = bytes; reads = reads });
 }
 
--- what is left of an entry
+-- an entry `left` of a trimmed store represents an entry `e`: it is `e` without what is trimmed
 pub record IsLeft (t : Trim) (left e : Entry) : Type 0 where
   pub logged : t.reads ≤ length e.lengths
   pub took : t.bytes ≡ sum (take t.reads e.lengths)
@@ -59,7 +61,7 @@ pub record IsLeft (t : Trim) (left e : Entry) : Type 0 where
   pub within : t.bytes ≤ length e.bytes
   pub same : left ≡ without t.bytes t.reads e
 
--- .. and of each of some entries, by their trims. Where there is no entry yet, nothing is trimmed
+-- .. and each of some entries does, by its trim. Where there is no entry yet, nothing is trimmed
 abbrev pub AreLeft : List Trim → List Entry → List Entry → Type 0
 AreLeft [] left es = left ≡ es
 AreLeft (t ∷ trims) [] [] = AllByRecursion (λ u. u ≡ no_trim) (t ∷ trims)
@@ -67,7 +69,7 @@ AreLeft (t ∷ trims) (l ∷ left) (e ∷ es) = IsLeft t l e × AreLeft trims le
 AreLeft (t ∷ trims) [] (e ∷ es) = ⊥
 AreLeft (t ∷ trims) (l ∷ left) [] = ⊥
 
--- what a store is left of a log
+-- a trimmed store represents a log
 pub record IsLeftOf (t : TrimmedLog) (log : Log) : Type 0 where
   pub boot : t.log.boot ≡ log.boot
   pub entries : AreLeft t.trims t.log.entries log.entries

@@ -1,4 +1,4 @@
-//! What an answer says of an entry without its bytes and lengths.
+//! What an answer says about an entry, except its bytes and lengths.
 
 use ft_io::Key;
 
@@ -7,9 +7,9 @@ use ft_io::Key;
 pub struct EntryHead {
     /// The client's address and port.
     pub key: Key,
-    /// The client's initial number.
+    /// The client's initial sequence number.
     pub cisn: u32,
-    /// The server's initial number, as the client knows it.
+    /// The server's initial sequence number, as the client knows it.
     pub sisn: u32,
     /// The segment size, 64 to 1,460 bytes.
     pub mss: u16,

@@ -1,4 +1,4 @@
-//! The lengths of reads that one answer gives.
+//! The lengths of reads in one answer.
 
 ghost use Rattle.std.specs.Prelude.{[], ◌≡◌, ◌≤◌, ◌<◌, ◌*◌, ◌%◌, ◌++◌, ◌∷◌, length};
 ghost use Rattle.seq_arith.specs.MessageGrammar.{lens_in};
@@ -6,7 +6,7 @@ ghost use Rattle.seq_arith.specs.MessageGrammar.{lens_in};
 use arrayvec::ArrayVec;
 use std::marker::Model;
 
-/// The most lengths that one answer gives.
+/// The most lengths in one answer.
 pub const LENS: usize = 512;
 
 /// At most 512 lengths, two bytes each.
@@ -57,7 +57,7 @@ impl Lens {
             .unwrap();
     }
 
-    /// Two bytes for each length, the higher one first.
+    /// The lengths as bytes: two for each, in network byte order.
     #[tactic(auto, using(crate::proofs::Lengths::count_of_lens))]
     pub fn as_bytes(&self) -> &[u8]
         ensures value { lens_in result.now ≡ self.now }

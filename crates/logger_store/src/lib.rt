@@ -1,5 +1,5 @@
-//! The log of FT-TCP (INFOCOM 2001: the logger) as a store: what is logged of up to 64 connections, the bytes of each in pages and the lengths of its reads in
-//! runs, and what the log answers to a message, as bytes. A call that returns `NoMemory` changes nothing.
+//! The log of FT-TCP (INFOCOM 2001: the logger) as a store. It has an entry for each of up to 64 connections, with the client's bytes in pages and the
+//! lengths of the reads in runs, and answers a message with at most one message, as bytes. A call that returns `NoMemory` leaves the log unchanged.
 #![tactic(auto)]
 
 pub use entry_head::EntryHead;

@@ -44,7 +44,7 @@ impl MsgOut {
     pub fn bytes(&self) -> &[u8]
         ensures value { result.now ≡ self.now }
         ensures within { length result.now ≤ 2048 }
-        // What is not empty is read again.
+        // The bytes of a message can be read back.
         ensures readable { IsReply result.now }
     {
         &self.bytes[..self.len]
@@ -57,7 +57,7 @@ impl MsgOut {
         self.len = 0;
     }
 
-    /// Puts a message in place of what there was.
+    /// Replaces the content by a message.
     #[tactic(auto, using(crate::proofs::Answers::message_written))]
     pub fn put(&mut self, m: &Msg<'_>)
         requires { IsSendable m.now }
@@ -66,7 +66,7 @@ impl MsgOut {
         self.len = write_msg(m, &mut self.bytes);
     }
 
-    /// Puts the bytes of a message about marks in place of what there was.
+    /// Replaces the content by the bytes of a message about marks.
     pub fn put_mark(&mut self, bytes: &[u8])
         requires within { length bytes.now ≤ 2048 }
         requires readable { IsOk (mark_reading bytes.now) }

@@ -6,13 +6,13 @@ use ft_io::NoMemory;
 use std::alloc::Global;
 use std::marker::Model;
 
-/// The bytes of a page.
+/// The bytes of a full page.
 pub const PAGE: usize = 4_096;
 
-/// A page of at most 4,096 bytes, with all its room.
+/// A page of at most 4,096 bytes, with room for all of them.
 #[derive(Debug, Drop)]
 pub struct Page {
-    /// In room that is made once.
+    /// Its capacity, for a full page, is allocated once.
     bytes: Vec<u8>,
 }
 
@@ -51,7 +51,7 @@ impl Page {
         self.bytes.as_slice()
     }
 
-    /// Adds bytes for which there is room.
+    /// Appends bytes. There must be room for them.
     pub fn add(&mut self, bytes: &[u8])
         requires { length self.old + length bytes.now ≤ 4096 }
         ensures { self.new ≡ self.old ++ bytes.now }

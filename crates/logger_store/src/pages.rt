@@ -12,18 +12,18 @@ use std::collections::VecDeque;
 use std::marker::Model;
 use std::mem;
 
-/// The most bytes that one answer gives.
+/// The most bytes in one answer.
 pub const PART: usize = 1_024;
 
-/// In place of a page that was given up.
+/// What a dropped page reads as.
 static ZEROS: [u8; PAGE] = [0; PAGE];
 
 /// The bytes of an entry: full pages, and then the page of the last bytes, once there is one. The first pages may be dropped: their bytes then read as zeros.
 #[derive(Debug, Drop)]
 pub struct Pages {
-    /// How many pages are given up.
+    /// How many pages are dropped.
     given_up: usize,
-    /// Those of 4,096 bytes that are kept, the first first.
+    /// The full pages, of 4,096 bytes each, that are still stored, in order.
     full: VecDeque<Page>,
     /// The page after them: 1 to 4,096 bytes.
     last: Option<Page>,
@@ -40,7 +40,7 @@ impl Model for Pages {
     ghost invariant = { λ p. All IsFull p.full.items × IfSome p.last IsLast };
 }
 
-/// How many bytes more a page takes.
+/// How many more bytes fit into a page; 0 without a page.
 fn room_in(page: &Option<Page>) -> usize
     ensures some { IfSome page.now (λ p. length p + result ≡ 4096) }
     ensures none { IfNone page.now (result ≡ 0) }
@@ -51,7 +51,7 @@ fn room_in(page: &Option<Page>) -> usize
     }
 }
 
-/// Adds bytes for which the page has room.
+/// Appends bytes to the page, if there is one. It must have room for them.
 fn add_to(page: &mut Option<Page>, bytes: &[u8])
     requires { IfSome page.old (λ p. length p + length bytes.now ≤ 4096) }
     ensures { page.new ≡ option_map (λ p. p ++ bytes.now) page.old }
@@ -71,7 +71,7 @@ fn bytes_in(page: &Option<Page>) -> &[u8]
     }
 }
 
-/// A page that begins with these bytes.
+/// A new page with these bytes.
 fn page_with(alloc: Global, bytes: &[u8]) -> Result<Page, NoMemory>
     requires { length bytes.now ≤ 4096 }
     ensures { IfOk result (λ page. page ≡ bytes.now) }
@@ -96,7 +96,7 @@ fn drop_page(full: &mut VecDeque<Page>, last: &mut Option<Page>)
     }
 }
 
-/// Drops the first pages, which are full.
+/// Drops the first `count` pages, which are full.
 #[tactic(auto, using(crate::proofs::GivenUp::drops_on, crate::proofs::GivenUp::one_more_dropped))]
 fn drop_pages(full: &mut VecDeque<Page>, last: &mut Option<Page>, count: usize)
     requires full { All IsFull full.old.items }
@@ -177,7 +177,7 @@ impl Pages {
         &[]
     }
 
-    /// Drops the first pages, this many of them, counting those dropped before. Nothing is allocated.
+    /// Drops the first `pages` pages, counting those dropped before. Nothing is allocated.
     #[tactic(auto, using(crate::proofs::GivenUp::zeroed_is))]
     pub fn give_up(&mut self, pages: usize)
         requires { 4096 * pages ≤ length self.old }
@@ -197,7 +197,7 @@ impl Pages {
         self.page(at / PAGE)[at % PAGE]
     }
 
-    /// The rest of a byte's page, from it on.
+    /// The bytes from the place `from` to the end of its page.
     #[tactic(auto, using(crate::proofs::Paging::byte_there, std::proofs::lemmas::List::take_rest))]
     fn rest(&self, from: usize) -> &[u8]
         requires { from < length self.now }
@@ -208,7 +208,7 @@ impl Pages {
         &page[from % PAGE..]
     }
 
-    /// Fills an empty part with the bytes from a place on, as many as it has room for. They are in one page, or in two.
+    /// Copies the bytes from the place `from` on, at most 1,024, into the empty `part`. They are in one page or in two.
     #[tactic(auto, using(crate::proofs::Paging::part_copied))]
     pub fn copy(&self, from: usize, part: &mut ArrayVec<u8, PART>)
         requires empty { part.old.items ≡ [] }

@@ -1,4 +1,4 @@
-//! The lengths of an entry's reads, of which the first may be given up.
+//! The lengths of an entry's reads. The first of them may be dropped.
 
 ghost use Rattle.std.specs.Prelude.{[], ◌≡◌, ◌≤◌, ◌<◌, ◌+◌, ◌-◌, ◌*◌, ◌^◌, ◌++◌, ◌∷◌, true, IsOk, OnOk, OnErr, length, take, drop, slice_index, sum, nat_le};
 ghost use Rattle.std.specs.List.{list_all};
@@ -11,10 +11,10 @@ use ft_io::NoMemory;
 use std::alloc::Global;
 use std::marker::Model;
 
-/// The lengths of reads. Those of the first reads may be given up: to whoever reads them they are then level ones, as many and of the same sum.
+/// The lengths of reads. Those of the first reads may be dropped: they then read as level ones, which differ by at most one, as many and with the same sum.
 #[derive(Debug, Drop)]
 pub struct ReadLengths {
-    /// The smaller of the level lengths, ..
+    /// The smaller of the level lengths in place of the dropped ones, ..
     low: Run,
     /// .. and those that are larger by one.
     high: Run,
@@ -34,7 +34,7 @@ impl Model for ReadLengths {
     ghost invariant = { λ r. AreLevel r.low r.high };
 }
 
-/// Level lengths of so many reads that took so many bytes.
+/// Returns as many lengths as `reads`, with the sum `bytes`: a run of the smaller ones, and a run of those that are larger by one.
 fn level_runs(reads: u32, bytes: u32) -> (Run, Run)
     requires { (reads ≤ bytes) × (bytes ≤ 2048 * reads) }
     ensures value { lengths_in result.0 ++ lengths_in result.1 ≡ level reads bytes }
@@ -57,7 +57,7 @@ fn level_runs(reads: u32, bytes: u32) -> (Run, Run)
 }
 
 impl ReadLengths {
-    /// No lengths. It takes no memory.
+    /// No lengths. Nothing is allocated yet.
     pub fn new(alloc: Global) -> ReadLengths
         ensures { result ≡ [] }
     {
@@ -69,7 +69,7 @@ impl ReadLengths {
         }
     }
 
-    /// Adds the length of the next read. The last length again needs no memory.
+    /// Appends the length of the next read. A length equal to the last one needs no allocation.
     pub fn push(&mut self, len: u16) -> Result<(), NoMemory>
         requires { length self.old < 2 ^ 32 - 1 }
         ensures ok { OnOk result (self.new ≡ self.old ++ len ∷ []) }
@@ -79,7 +79,7 @@ impl ReadLengths {
         self.rest.push(len)
     }
 
-    /// The length at this place, from 0.
+    /// The length of the read with index `i`, counted from 0, in bytes.
     pub fn at(&self, i: usize) -> u16
         requires { i < length self.now }
         ensures { result ≡ slice_index self.now i }
@@ -94,7 +94,7 @@ impl ReadLengths {
         self.rest.at(i - low - high)
     }
 
-    /// Adds to no lengths those from a place on, at most 512.
+    /// Copies the lengths from index `first` on, at most 512, into the empty `lens`.
     pub fn copy(&self, first: usize, lens: &mut Lens)
         requires empty { lens.old ≡ [] }
         ensures { lens.new ≡ take 512 (drop first self.now) }
@@ -104,7 +104,7 @@ impl ReadLengths {
         self.rest.copy(skip, lens);
     }
 
-    /// How many bytes the first reads took; none where a closing read is among them.
+    /// How many bytes the first `reads` reads took; `None` if a closing read is among them.
     pub fn took(&self, reads: usize) -> Option<u32>
         requires { sum self.now ≤ 2 ^ 24 }
         ensures { result ≡ took reads self.now }
@@ -118,7 +118,7 @@ impl ReadLengths {
         Some(in_low + in_high + in_rest)
     }
 
-    /// Gives up the lengths of the first reads, and none anew where more were given up before. It takes no memory.
+    /// Drops the lengths of the first `reads` reads, counting those dropped before. Nothing is allocated.
     pub fn give_up(&mut self, reads: u32)
         requires there { reads ≤ length self.old }
         requires few { sum self.old ≤ 2 ^ 24 }

@@ -23,7 +23,7 @@ pub struct Run {
 pub struct Runs {
     /// The runs before the last, the first first.
     closed: Vec<Run>,
-    /// The run that a further read of the same length makes longer.
+    /// The last run: a further read of the same length only raises its count.
     last: Run,
 }
 
@@ -37,7 +37,7 @@ impl Model for Runs {
     ghost view = { λ r. flat_map lengths_in r.closed.items ++ lengths_in r.last };
 }
 
-/// Adds those lengths of a run that come after its first `skip`, as many as there is room for, and says how many are left to be skipped.
+/// Appends the lengths of a run past its first `skip`, as many as there is room for, and returns how many lengths after the run are still to be skipped.
 #[tactic(auto, using(crate::proofs::Lengths::run_behind, std::proofs::lemmas::List::replicate_more, std::proofs::Common::append_assoc))]
 pub fn spell_run(run: Run, skip: usize, lens: &mut Lens) -> usize
     ensures skip { result ≡ skip - run.count }
@@ -51,7 +51,7 @@ pub fn spell_run(run: Run, skip: usize, lens: &mut Lens) -> usize
     skip.saturating_sub(count)
 }
 
-/// How many bytes the first reads of a run took; none where they are closing ones.
+/// How many bytes the first `reads` reads of a run took; `None` if they are closing reads.
 #[tactic(auto, using(crate::proofs::Took::took_same, crate::proofs::Took::took_closing, crate::proofs::Took::took_nothing, crate::proofs::Took::few_fit))]
 pub fn took_of(run: Run, reads: usize) -> Option<u32>
     requires { sum (lengths_in run) ≤ 2 ^ 24 }
@@ -67,10 +67,10 @@ pub fn took_of(run: Run, reads: usize) -> Option<u32>
     Some(count as u32 * u32::from(run.length))
 }
 
-/// The first of some runs.
+/// A prefix of a list of runs.
 #[derive(Clone, Copy, Debug)]
 struct Front {
-    /// How many runs these are, ..
+    /// How many runs it has, ..
     runs: usize,
     /// .. how many reads they have, ..
     reads: u32,
@@ -78,7 +78,7 @@ struct Front {
     bytes: u32,
 }
 
-/// The longest front that has at most so many reads.
+/// Returns the longest prefix of `runs` that has at most `reads` reads.
 #[tactic(auto, using(crate::proofs::Cutting::more_reads, crate::proofs::Cutting::more_bytes, crate::proofs::Cutting::few_bytes, crate::proofs::Cutting::stops_there, crate::proofs::Cutting::stops_at_end))]
 fn front_of(runs: &[Run], reads: u32) -> Front
     requires { sum (flat_map lengths_in runs.now) ≤ 2 ^ 24 }
@@ -106,7 +106,7 @@ fn front_of(runs: &[Run], reads: u32) -> Front
     front
 }
 
-/// Drops the first reads of a run, and says how many bytes they took.
+/// Drops the first `reads` reads of a run, and returns how many bytes they took.
 #[tactic(auto, using(crate::proofs::Cutting::cut_rest, crate::proofs::Cutting::cut_took, crate::proofs::Cutting::cut_few))]
 fn cut(run: &mut Run, reads: u32) -> u32
     requires there { reads ≤ run.old.count }
@@ -118,7 +118,7 @@ fn cut(run: &mut Run, reads: u32) -> u32
     reads * u32::from(run.length)
 }
 
-/// Drops the first runs.
+/// Drops the first `count` runs.
 #[tactic(auto, using(crate::proofs::Cutting::turned))]
 fn drop_runs(runs: &mut Vec<Run>, count: usize)
     requires { count ≤ length runs.old.items }
@@ -129,7 +129,7 @@ fn drop_runs(runs: &mut Vec<Run>, count: usize)
     runs.truncate(kept);
 }
 
-/// Drops the first reads of the first of some runs, or of the last run where there are no others, and says how many bytes they took.
+/// Drops the first `reads` reads of the first run, which is `last` if `runs` is empty, and returns how many bytes they took.
 #[tactic(auto, using(crate::proofs::Cutting::first_rest, crate::proofs::Cutting::first_took))]
 fn cut_first(runs: &mut Vec<Run>, last: &mut Run, reads: u32) -> u32
     requires in_run { (run : Run) → (rest : List Run) → runs.old.items ≡ run ∷ rest → reads ≤ run.count }
@@ -197,7 +197,7 @@ impl Runs {
         self.last.length
     }
 
-    /// Adds those from a place on, as many as there is room for.
+    /// Appends the lengths from index `first` on, as many as there is room for.
     pub fn copy(&self, first: usize, lens: &mut Lens)
         requires { length lens.old ≤ 512 }
         ensures { lens.new ≡ take 512 (lens.old ++ drop first self.now) }
@@ -209,7 +209,7 @@ impl Runs {
         spell_run(self.last, skip, lens);
     }
 
-    /// How many bytes the first reads took; `None` if a closing read is among them.
+    /// How many bytes the first `reads` reads took; `None` if a closing read is among them.
     pub fn took(&self, reads: usize) -> Option<u32>
         requires { sum self.now ≤ 2 ^ 24 }
         ensures { result ≡ took reads self.now }
@@ -222,7 +222,7 @@ impl Runs {
         Some(total + took_of(self.last, left)?)
     }
 
-    /// Drops the first lengths, and says how many bytes these reads took. It takes no memory.
+    /// Drops the first `reads` lengths, and returns how many bytes these reads took. Nothing is allocated.
     #[tactic(auto, using(crate::proofs::Cutting::all_rest, crate::proofs::Cutting::all_took, crate::proofs::Cutting::behind_few, crate::proofs::Cutting::last_enough))]
     pub fn drop_first(&mut self, reads: u32) -> u32
         requires there { reads ≤ length self.old }

@@ -150,7 +150,7 @@ impl LogStore {
         self.entries.get(&key)
     }
 
-    /// The entry of a key. What leaves it as it is leaves the log as it is, since no other entry has the key.
+    /// The entry of a key. No other entry has the key, so a change that leaves this entry as it is leaves the log as it is.
     fn only(&self, key: Key) -> Option<&StoredEntry>
         ensures entry { option_copied result ≡ entry_of key self.now }
         ensures alone { (change : Entry → Entry) → option_map change (entry_of key self.now) ≡ entry_of key self.now → with_entry key change self.now ≡ self.now }
@@ -172,7 +172,7 @@ impl LogStore {
         self.knows(key) || self.count() >= ENTRY_LIMIT
     }
 
-    /// Adds an entry of an unknown key, while there is room.
+    /// Adds an entry for a key that has none, while there is room.
     fn open(&mut self, alloc: Global, numbers: &Numbers) -> Result<(), NoMemory>
         requires { (64 ≤ numbers.now.mss) × (numbers.now.mss ≤ 1460) }
         ensures ok { OnOk result (self.new ≡ opened (numbers_value numbers.now) self.old) }
@@ -215,7 +215,8 @@ impl LogStore {
         entry.take_read(index, len)
     }
 
-    /// Gives up the lengths of the first reads of the entry at this place, which took as many bytes, and the whole pages of these. It takes no memory.
+    /// Drops the lengths of the first `reads` reads of the entry at place `i`, and the complete pages of the `bytes` bytes that they took. Nothing is
+    /// allocated.
     pub(crate) fn give_up(&mut self, i: u16, bytes: u32, reads: u32)
         requires there { reads ≤ length (lengths_of (slice_get self.old.entries i)) }
         requires took { bytes ≡ sum (take reads (lengths_of (slice_get self.old.entries i))) }
@@ -228,7 +229,7 @@ impl LogStore {
         entry.give_up(bytes, reads);
     }
 
-    /// Notes that so many units of a connection's output are acknowledged.
+    /// Notes that at least `units` units of a connection's output are acknowledged.
     pub(crate) fn acknowledge(&mut self, key: Key, units: u32)
         requires { units ≤ 2 ^ 24 + 1 }
         ensures { self.new ≡ with_entry key (acknowledging units) self.old }
@@ -239,7 +240,7 @@ impl LogStore {
         entry.acknowledge(units);
     }
 
-    /// How many bytes the first reads of the entry at this place took; none where there is no entry, or a closing read is among them.
+    /// How many bytes the first `reads` reads of the entry at place `i` took; `None` if there is no such entry, or a closing read is among them.
     pub(crate) fn took(&self, i: u16, reads: u32) -> Option<u32>
         ensures value { IfSome result (λ n. n ≡ sum (take reads (lengths_of (slice_get self.now.entries i)))) }
         ensures within { IfSome result (λ n. n ≤ length (bytes_of (slice_get self.now.entries i))) }
@@ -249,7 +250,7 @@ impl LogStore {
         self.at(i)?.took(reads)
     }
 
-    /// The place of a key's entry, from 0.
+    /// The place of a key's entry, counted from 0; `None` if the key has no entry.
     pub(crate) fn place_of(&self, key: Key) -> Option<u16>
         ensures value { result ≡ place_of key self.now }
         ensures there { IfSome result (λ i. i < length self.now.entries) }
@@ -291,7 +292,7 @@ impl LogStore {
         }
     }
 
-    /// Whether it is news that a connection has ended.
+    /// Whether noting that a connection has ended changes anything.
     fn end_changes(&self, key: Key) -> bool
         ensures value { result ≡ body_changes (DoneMsg key) self.now }
         ensures stays { result ≡ false → with_entry key (λ e. record e { done = true }) self.now ≡ self.now }
@@ -330,7 +331,7 @@ impl LogStore {
         }
     }
 
-    /// Whether a message changes the log. A file that keeps exactly the messages that do has the log.
+    /// Whether a message changes the log. Those messages alone determine the log.
     #[tactic(auto, unfolding(ft_model::specs::Log::log_after, crate::specs::Changes::changes))]
     pub fn changes(&self, m: &Msg<'_>) -> bool
         requires { IsSendable m.now }
@@ -395,7 +396,7 @@ impl LogStore {
         }
     }
 
-    /// What the log tells after it took a message of its own boot.
+    /// Puts the log's answer to a message of its own boot into the empty `out`, after the log has taken the message.
     #[tactic(auto, using(crate::proofs::Sending::some_boot, crate::proofs::Sending::list_range), unfolding(seq_arith::specs::MessageGrammar::has_length, seq_arith::specs::MessageGrammar::is_sound))]
     fn tell(&self, m: &Msg<'_>, out: &mut MsgOut)
         requires sendable { IsSendable m.now }
@@ -420,8 +421,9 @@ impl LogStore {
         }
     }
 
-    /// Takes a message, and replaces what `out` held by the answer to it, or by nothing. It allocates only for an entry of a new key, for bytes that don't fit
-    /// the page of the entry's last byte, and for a read whose length differs from the last one. After `NoMemory` all is as it was, and `out` is empty.
+    /// Takes a message, and replaces the content of `out` by the answer to it, or by nothing. It allocates only for an entry of a new key, for bytes that
+    /// don't fit the page of the entry's last byte, and for a read whose length differs from the last one. After `NoMemory` the log is unchanged, `out`
+    /// empty.
     #[tactic(auto, using(crate::proofs::Sending::some_boot), unfolding(ft_model::specs::Log::log_after, ft_model::specs::Log::answer_to, crate::specs::StoreState::wants_memory))]
     pub fn answer(&mut self, alloc: Global, m: &Msg<'_>, out: &mut MsgOut) -> Result<(), NoMemory>
         requires { IsSendable m.now }

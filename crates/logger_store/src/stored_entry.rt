@@ -22,9 +22,9 @@ use std::marker::Model;
 pub struct Numbers {
     /// The client's address and port.
     pub key: Key,
-    /// The client's initial number.
+    /// The client's initial sequence number.
     pub cisn: u32,
-    /// The server's initial number, as the client knows it.
+    /// The server's initial sequence number, as the client knows it.
     pub sisn: u32,
     /// The segment size, in bytes.
     pub mss: u16,
@@ -37,9 +37,9 @@ pub struct Part<'a> {
     pub key: Key,
     /// Where the bytes begin in the stream, in bytes.
     pub offset: u32,
-    /// The units of output that the client has acknowledged.
+    /// How many units of output the client has acknowledged.
     pub acked: u32,
-    /// Whether the client's FIN comes after them.
+    /// Whether the client's FIN follows the bytes.
     pub fin: bool,
     /// The bytes of text.
     pub bytes: &'a [u8],
@@ -48,7 +48,7 @@ pub struct Part<'a> {
 /// What is logged of a connection. Its reads are counted and summed as they are logged.
 #[derive(Debug, Drop)]
 pub struct StoredEntry {
-    /// The key, the initial numbers and the segment size.
+    /// The key, the initial sequence numbers and the segment size.
     numbers: Numbers,
     /// The client's bytes, from the first on.
     bytes: Pages,
@@ -60,9 +60,9 @@ pub struct StoredEntry {
     reads: u32,
     /// How many bytes they took.
     read: u32,
-    /// Whether the read of length 0, which closes them, is logged.
+    /// Whether the closing read, of length 0, is logged.
     closed: bool,
-    /// The units of output that the client has acknowledged.
+    /// How many units of output the client has acknowledged.
     acknowledged: u32,
     /// Whether the connection has ended.
     done: bool,
@@ -119,7 +119,7 @@ impl StoredEntry {
         self.bytes.len() as u32
     }
 
-    /// What is known of the entry without its bytes and lengths.
+    /// The entry without its bytes and lengths.
     pub fn head(&self) -> EntryHead
         ensures value { head_value result ≡ head_of self.now }
         ensures flags { (result.fin ≤ 1) × (result.done ≤ 1) }
@@ -141,7 +141,7 @@ impl StoredEntry {
         }
     }
 
-    /// The byte at this place, from 0.
+    /// The logged byte at the place `at`, counted from 0.
     pub fn byte(&self, at: u32) -> u8
         requires { at < length self.now.bytes }
         ensures { result ≡ slice_index self.now.bytes at }
@@ -149,7 +149,7 @@ impl StoredEntry {
         self.bytes.at(at as usize)
     }
 
-    /// The length of the read with this index, from 0.
+    /// The length of the read with this index, counted from 0.
     pub fn read_length(&self, index: u32) -> u16
         requires { index < length self.now.lengths }
         ensures { result ≡ slice_index self.now.lengths index }
@@ -157,7 +157,7 @@ impl StoredEntry {
         self.lengths.at(index as usize)
     }
 
-    /// Adds to a part without bytes those from an offset on, at most 1,024.
+    /// Copies the logged bytes from `offset` on, at most 1,024, into the empty `part`.
     #[tactic(auto, using(crate::proofs::Fronts::front_length))]
     pub fn copy_bytes(&self, offset: u32, part: &mut ArrayVec<u8, PART>)
         requires empty { part.old.items ≡ [] }
@@ -168,7 +168,7 @@ impl StoredEntry {
         self.bytes.copy(offset as usize, part);
     }
 
-    /// Adds to no lengths those of the reads from one on, at most 512.
+    /// Copies the lengths of the reads from index `first` on, at most 512, into the empty `lens`.
     #[tactic(auto, using(crate::proofs::Fronts::front_length, crate::proofs::Fronts::front_holds))]
     pub fn copy_lengths(&self, first: u32, lens: &mut Lens)
         requires empty { lens.old ≡ [] }
@@ -179,7 +179,7 @@ impl StoredEntry {
         self.lengths.copy(first as usize, lens);
     }
 
-    /// Logs the bytes past those that are logged, unless they leave a gap or come after the FIN.
+    /// Logs the part's bytes past the logged ones, unless they leave a gap or the FIN is logged.
     fn take_bytes(&mut self, alloc: Global, part: &Part<'_>) -> Result<(), NoMemory>
         requires room { part.now.offset + length part.now.bytes.now ≤ 2 ^ 24 }
         requires few { length part.now.bytes.now ≤ 1460 }
@@ -234,7 +234,7 @@ impl StoredEntry {
             || (!self.fin && part.offset <= logged && (logged < end || (part.fin && end == logged)))
     }
 
-    /// Whether a read of this index and length is the one to be logged next.
+    /// Whether a read with this index and length can be logged next.
     pub fn is_next_read(&self, index: u32, len: u16) -> bool
         ensures { result ≡ is_next_read self.now index len }
     {
@@ -262,7 +262,7 @@ impl StoredEntry {
         Ok(())
     }
 
-    /// How many bytes the first reads took; none where a closing read is among them.
+    /// How many bytes the first `reads` reads took; `None` if a closing read is among them.
     #[tactic(auto, using(crate::proofs::Took::sum_took, crate::proofs::Took::few_took, crate::proofs::Took::on_took))]
     pub fn took(&self, reads: u32) -> Option<u32>
         ensures value { result ≡ took reads self.now.lengths }
@@ -273,7 +273,7 @@ impl StoredEntry {
         self.lengths.took(reads as usize)
     }
 
-    /// Gives up the lengths of its first reads, which took as many bytes, and the whole pages of these. It takes no memory.
+    /// Drops the lengths of the first `reads` reads, and the complete pages of the `bytes` bytes that they took. Nothing is allocated.
     #[tactic(auto, using(crate::proofs::Without::kept_without, crate::proofs::Without::below_there))]
     pub fn give_up(&mut self, bytes: u32, reads: u32)
         requires there { reads ≤ length self.old.lengths }
@@ -285,7 +285,7 @@ impl StoredEntry {
         self.lengths.give_up(reads);
     }
 
-    /// Notes that so many units of output are acknowledged.
+    /// Notes that at least `units` units of output are acknowledged.
     pub fn acknowledge(&mut self, units: u32)
         requires { units ≤ 2 ^ 24 + 1 }
         ensures { self.new ≡ acknowledging units self.old }

@@ -18,9 +18,9 @@ use std::marker::Model;
 /// How much of an entry's beginning is trimmed: no answer reports it any more.
 #[derive(Clone, Copy, Debug)]
 pub struct Trim {
-    /// The bytes below this place, at most 2^24, ..
+    /// How many of the first bytes are trimmed, at most 2^24: all that the trimmed reads took.
     pub bytes: u32,
-    /// .. which these first reads took, at most 2^24 + 1.
+    /// How many first reads are trimmed, at most 2^24 + 1.
     pub reads: u32,
 }
 
@@ -31,9 +31,9 @@ const UNTRIMMED: Trim = Trim { bytes: 0, reads: 0 };
 /// dropped.
 #[derive(Drop)]
 pub struct TrimStore {
-    /// Zeros stand in it for the bytes that are given up.
+    /// It has zeros in place of the dropped bytes.
     log: LogStore,
-    /// Of the entry at each place.
+    /// How much of the entry at each place is trimmed.
     trims: [Trim; 64],
 }
 
@@ -81,7 +81,7 @@ impl TrimStore {
         self.log.entry(i)
     }
 
-    /// The logged byte at the place `at`, counted from 0, of the entry at place `i`. It isn't trimmed.
+    /// The logged byte at the place `at`, counted from 0, of the entry at place `i`. It mustn't be trimmed.
     pub fn byte(&self, i: u16, at: u32) -> u8
         requires there { at < length (bytes_of (slice_get self.now.log.entries i)) }
         requires told { (trim_at self.now.trims i).bytes ≤ at }
@@ -90,7 +90,7 @@ impl TrimStore {
         self.log.byte(i, at)
     }
 
-    /// The logged length, in bytes, of the read with the index `at`, counted from 0, of the entry at place `i`. It isn't trimmed.
+    /// The logged length, in bytes, of the read with the index `at`, counted from 0, of the entry at place `i`. It mustn't be trimmed.
     pub fn length(&self, i: u16, at: u32) -> u16
         requires there { at < length (lengths_of (slice_get self.now.log.entries i)) }
         requires told { (trim_at self.now.trims i).reads ≤ at }
@@ -109,7 +109,7 @@ impl TrimStore {
         }
     }
 
-    /// Up to where a key's entry is trimmed.
+    /// How much of a key's entry is trimmed; nothing if the key has no entry.
     pub fn trim_of(&self, key: Key) -> Trim
         ensures { result ≡ trim_of key self.now }
     {
@@ -119,7 +119,7 @@ impl TrimStore {
         }
     }
 
-    /// Whether a body asks for what is trimmed.
+    /// Whether a body asks for trimmed bytes or lengths.
     fn is_trimmed(&self, body: &Body<'_>) -> bool
         ensures { result ≡ is_trimmed self.now (body_of body.now) }
     {
@@ -130,7 +130,7 @@ impl TrimStore {
         }
     }
 
-    /// Whether a message of the log's own boot asks for what is trimmed. Such a message changes nothing.
+    /// Whether a message has the log's own boot and asks for trimmed bytes or lengths. Such a message changes nothing.
     #[tactic(auto, using(crate::proofs::Asking::question_stays))]
     fn hides(&self, m: &Msg<'_>) -> bool
         ensures value { result ≡ (m.now.boot == self.now.log.boot && is_trimmed self.now (body_of m.now.body)) }
@@ -139,8 +139,8 @@ impl TrimStore {
         m.boot == self.boot() && self.is_trimmed(&m.body)
     }
 
-    /// Takes a message, and replaces what `out` held by the answer to it, or by nothing, as `LogStore::answer` does; but it doesn't answer questions about what
-    /// is trimmed.
+    /// Takes a message, and replaces the content of `out` by the answer to it, or by nothing, as `LogStore::answer` does; but it doesn't answer questions of
+    /// the log's own boot about what is trimmed. After `NoMemory` the log is unchanged, `out` empty.
     #[tactic(auto, unfolding(crate::specs::Trim::answer_left))]
     pub fn answer(&mut self, alloc: Global, m: &Msg<'_>, out: &mut MsgOut) -> Result<(), NoMemory>
         requires { IsSendable m.now }
@@ -158,7 +158,7 @@ impl TrimStore {
         self.log.answer(alloc, m, out)
     }
 
-    /// The place of a key's entry, from 0.
+    /// The place of a key's entry, counted from 0; `None` if the key has no entry.
     pub fn place_of(&self, key: Key) -> Option<u16>
         ensures value { result ≡ place_of key self.now.log }
         ensures there { IfSome result (λ i. i < length self.now.log.entries) }
@@ -167,7 +167,7 @@ impl TrimStore {
         self.log.place_of(key)
     }
 
-    /// Notes that so many units of a connection's output are acknowledged, unless they are already. It takes no memory.
+    /// Notes that `units` units of a connection's output are acknowledged, if these are more than before. Nothing is allocated.
     pub fn acknowledge(&mut self, key: Key, units: u32)
         requires { units ≤ 2 ^ 24 + 1 }
         ensures log { self.new.log ≡ with_entry key (acknowledging units) self.old.log }
@@ -186,7 +186,7 @@ impl TrimStore {
         self.log.took(i, reads)
     }
 
-    /// Trims the entry at place `i`: no answer reports its first `reads` reads any more, which took its first `bytes` bytes. Nothing is allocated.
+    /// Trims the entry at place `i`: no answer reports its first `reads` reads, and the `bytes` bytes that they took, any more. Nothing is allocated.
     pub fn trim(&mut self, i: u16, bytes: u32, reads: u32)
         requires { MayTrim i bytes reads self.old }
         ensures { self.new ≡ with_trim i bytes reads self.old }

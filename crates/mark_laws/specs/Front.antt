@@ -6,7 +6,8 @@ use Rattle.server_trait.specs.Saved.{Writing}
 use Rattle.ft_model.specs.Log.{Entry}
 use Rattle.mark_laws.specs.MarkedLog.{has_closing}
 
--- bytes and lengths after which the uncrashed server's run is where the mark says, with a state that is read back from the mark
+-- bytes and lengths of a mark's reads: the uncrashed server's run over them has the state that is read back from the mark, and the output that the mark
+-- counts
 pub record IsBelow {State : Type 0} (service : Machine State) (writing : Writing State) (m : Mark) (bytes lengths : List ℕ) : Type 0 where
   pub reads : length lengths ≡ m.reads
   pub size : length bytes ≡ m.length
@@ -16,7 +17,7 @@ pub record IsBelow {State : Type 0} (service : Machine State) (writing : Writing
   pub made : m.made ≡ length (reference service bytes lengths).output
   pub running : (reference service bytes lengths).closed ≡ false
 
--- those of an entry
+-- the bytes and lengths of an entry below a mark
 abbrev pub bytes_below : Mark → Entry → List ℕ
 bytes_below m e = take m.length e.bytes
 

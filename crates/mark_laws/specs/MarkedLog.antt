@@ -11,13 +11,13 @@ use Rattle.seq_arith.specs.Message.{Message, Body}
 use Rattle.seq_arith.specs.Message.Body.{BytesMsg, CutsMsg, StaleMsg}
 use Rattle.ft_model.specs.Log.{Log, Entry, empty_log, entry_of, with_entry, log_after, answer_to}
 
--- that an entry has no mark
+-- the value for an entry that has no mark
 abbrev pub no_mark : Mark
 no_mark = record { reads = 0; length = 0; made = 0; state = [] }
 
 pub record MarkedLog : Type 0 where
   pub log : Log
-  pub marks : Key → Mark  -- no_mark of a key without one
+  pub marks : Key → Mark  -- `no_mark` for a key without one
 
 abbrev pub nothing_logged : MarkedLog
 nothing_logged = record { log = empty_log; marks = λ key. no_mark }
@@ -26,7 +26,8 @@ nothing_logged = record { log = empty_log; marks = λ key. no_mark }
 abbrev pub has_closing : List ℕ → Bool
 has_closing lengths = list_any (λ n. n == 0) lengths
 
--- An entry's next mark is of more reads than the one before it. Its reads are logged, its length is what they took, and no closing read is among them
+-- An entry's next mark lies after more reads than the one before it. These reads are logged, its length is how many bytes they took, and no closing read is
+-- among them
 abbrev pub may_follow : Mark → Mark → Entry → Bool
 may_follow before next e =
     nat_lt before.reads next.reads && nat_le next.reads (length e.lengths) && next.length == sum (take next.reads e.lengths)
@@ -45,20 +46,20 @@ with_mark key mark l = record {
   marks = λ k. if key_eq k key then mark else l.marks k;
 }
 
--- what a message about marks changes, in the log's own boot
+-- the marked log after a message about marks of the log's own boot
 abbrev pub with_mark_body : MarkBody → MarkedLog → MarkedLog
 with_mark_body (MarkMsg key mark) l = if keeps key mark l then with_mark key mark l else l
 with_mark_body _ l = l
 
--- The marked log after a message about marks. One of another boot than the log's changes nothing.
+-- The marked log after a message about marks. A message of another boot than the log's changes nothing.
 unfoldable pub after_mark : MarkedLog → MarkMessage → MarkedLog
 after_mark l message = if message.boot == l.log.boot then with_mark_body message.body l else l
 
--- .. and after any other message: its log is the log's, and the marks stay.
+-- .. and after any other message, which changes the log as without marks. The marks stay.
 abbrev pub after_message : MarkedLog → Message → MarkedLog
 after_message l message = record l { log = log_after l.log message }
 
--- no answer reports bytes and lengths below the mark
+-- whether a question asks for bytes or lengths below the mark. No answer reports these
 abbrev pub is_below : MarkedLog → Body → Bool
 is_below l (BytesMsg key offset) = nat_lt offset (l.marks key).length
 is_below l (CutsMsg key first) = nat_lt first (l.marks key).reads
@@ -79,7 +80,7 @@ is_mark_answer (MarkedMsg key reads) = true
 is_mark_answer (HeldMsg key mark) = true
 is_mark_answer _ = false
 
--- for a known key: how many reads its mark has, or the mark itself
+-- the body of the answer, if the key has an entry: how many reads its mark has, or the mark itself
 abbrev pub told_of_mark : MarkBody → MarkedLog → Option MarkBody
 told_of_mark (MarkMsg key mark) l = option_map (λ e. MarkedMsg key (l.marks key).reads) (entry_of key l.log)
 told_of_mark (AskMsg key) l = option_map (λ e. HeldMsg key (l.marks key)) (entry_of key l.log)

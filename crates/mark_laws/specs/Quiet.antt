@@ -13,7 +13,7 @@ pub record IsQuiet {State : Type 0} (service : Machine State) (p : Point) : Type
   pub reads_on : has_closing p.lengths ≡ false
   pub running : (whole_run service p).closed ≡ false
 
--- whether it is
+-- whether a point is quiet
 abbrev pub is_quiet : {State : Type 0} → Machine State → Point → Bool
 is_quiet service p = p.reads_answered == length p.lengths && p.una == made service p && not (has_closing p.lengths) && not (whole_run service p).closed
 

@@ -6,7 +6,8 @@ use Rattle.server_trait.specs.Saved.{Writing}
 use Rattle.ft_model.specs.Log.{Entry}
 use Rattle.mark_laws.specs.MarkedLog.{has_closing}
 
--- its reads are logged and no closing read is among them, and it has the form of the state after them and the count of the output written by then
+-- its reads are logged, no closing read is among them, and the service hasn't closed after them; it has the form of the service's state after them, and
+-- counts the output made by then
 pub record IsRunOf {State : Type 0} (service : Machine State) (writing : Writing State) (e : Entry) (m : Mark) : Type 0 where
   pub count : m.reads ≤ length e.lengths
   pub bytes : m.length ≡ sum (take m.reads e.lengths)

@@ -18,7 +18,7 @@ only_state _ = None
 abbrev pub plain : Writing ℕ
 plain = record { form = λ state. []; state_of = only_state }
 
--- 192.0.2.1, port 40000, whose client sent 5 bytes in one read and acknowledged as many
+-- the entry of 192.0.2.1, port 40000: 5 bytes were read at once, and 5 bytes of output are acknowledged
 abbrev pub head : EntryHead
 head = record { key = client; cisn = 1000; sisn = 5000; mss = 536; length = 5; fin = false; done = false; reads = 1; acked = 5 }
 

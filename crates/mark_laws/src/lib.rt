@@ -26,7 +26,7 @@ use server_trait::Service;
 
 pub mod marking;
 
-/// While the service hasn't closed, no closing read was made: the end of input closes it, and it stays closed.
+/// If the service hasn't closed after some reads, no closing read is among them: a closing read closes it, and it stays closed.
 pub fn running_services_read_on<S: Service>()
     ensures { (fresh : S) (bytes lengths : List ℕ) → (reference (machine fresh S.after) bytes lengths).closed ≡ false → has_closing lengths ≡ false }
 {}
@@ -37,8 +37,8 @@ pub fn marks_stay_true<S: Service>()
         → IsRunOf (machine (S.started kind) S.after) writing before mark → IsRunOf (machine (S.started kind) S.after) writing after mark }
 {}
 
-/// The mark of a quiet point is true of the log. Point and entry are of one client's bytes, the log's reads are the first of the point's, and those that are known
-/// to be logged are logged: so at a quiet point the log has all its reads, and no others.
+/// The mark of a quiet point is true of the log's entry. The premises: point and entry have bytes of one client, the entry's reads are a prefix of the
+/// point's, and the reads that are known to be logged are in the entry. So at a quiet point the entry has exactly the point's reads.
 pub fn quiet_points_mark_the_log<S: Service>()
     ensures { (kind : ℕ) (writing : Writing S) (script : List ℕ) (p : Point) (e : Entry) → IsPrefix p.taken script → sum p.lengths ≤ length p.taken
         → IsPrefix e.bytes script → sum e.lengths ≤ length e.bytes → IsPrefix e.lengths p.lengths → p.reads_answered ≤ length e.lengths
@@ -46,14 +46,15 @@ pub fn quiet_points_mark_the_log<S: Service>()
         → IsRunOf (machine (S.started kind) S.after) writing e (mark_of (machine (S.started kind) S.after) writing p) }
 {}
 
-/// From a true mark the service's state is read back, as it was after the reads below the mark.
+/// The state that is read back from a true mark is the service's state after the reads below the mark.
 pub fn true_marks_are_read_back<S: Service>()
     ensures { (kind : ℕ) (writing : Writing S) (e : Entry) (mark : Mark) → ReadsBack (machine (S.started kind) S.after) writing → AreBytes e.bytes
         → IsRunOf (machine (S.started kind) S.after) writing e mark
         → IsBelow (machine (S.started kind) S.after) writing mark (bytes_below mark e) (lengths_below mark e) }
 {}
 
-/// A log whose marks are true leads a restart, with each of its answers, from prefixes of its entries to prefixes of them: what is below a mark is the entry's own.
+/// If a restart has fetched prefixes of the entries of a log whose marks are true, each answer of that log to a question leads it to prefixes of them again.
+/// What is below a mark is then the beginning of its entry.
 pub fn answers_fetch_the_log<S: Service>()
     ensures { (kind : ℕ) (writing : Writing S) (l : MarkedLog) (marks : Bool) (boot count : ℕ) (asked answer : AnyMessage) (before : FetchedSoFar)
         → ReadsBack (machine (S.started kind) S.after) writing → HasTrueMarks (machine (S.started kind) S.after) writing l
@@ -69,8 +70,8 @@ pub fn restarts_end_at_the_points<S: Service>()
         → slice_get (all_restored (machine (S.started kind) S.after) fetched) i ≡ Some (Lives (point_of (machine (S.started kind) S.after) e)) }
 {}
 
-/// A mark of two reads is kept. A mark of fewer reads, one whose length isn't the sum of its reads, and one beyond the reads get the same answer and change
-/// nothing.
+/// A mark of two reads is kept. A mark of fewer reads and one whose length isn't the sum of its reads get the same answer, and change nothing. Nor does a
+/// mark of more reads than are logged.
 pub fn worked_marks_are_kept()
     ensures kept { after_mark before (marking 2 4096 10) ≡ kept }
     ensures answer { answer_to_mark before (marking 2 4096 10) ≡ Some two_are_marked }
@@ -90,7 +91,8 @@ pub fn worked_questions_are_answered_above()
     ensures lengths { answer_above kept (lengths_from 2) ≡ Some last_length }
 {}
 
-/// The mark of an entry is asked for directly after it, and nothing else is then missing of an entry that is all below its mark.
+/// A restart with marks asks for an entry's mark directly after the entry. If all of the entry is below the mark, nothing more is asked once the mark has
+/// come.
 pub fn worked_restarts_ask_for_the_mark()
     ensures entry { fetched_on true 2 1 entry_message nothing_fetched ≡ Some entry_fetched }
     ensures question { next_question 2 1 entry_fetched ≡ Some question_for_mark }
@@ -100,8 +102,8 @@ pub fn worked_restarts_ask_for_the_mark()
     ensures without { fetched_on false 2 1 entry_message nothing_fetched ≡ Some (record entry_fetched { awaits_mark = false }) }
 {}
 
-/// A mark of another key or another boot, one of more reads, bytes or output than its entry has, one of more reads than bytes, and one whose state isn't read back
-/// are no answers.
+/// These marks aren't answers: one of another key or another boot, one of more reads, bytes or output than its entry has, one of more reads than bytes, and
+/// one whose state can't be read back.
 pub fn worked_marks_that_do_not_fit()
     ensures key { mark_reported plain 2 (holding (record client { port = 40001 }) mark) entry_fetched ≡ None }
     ensures boot { mark_reported plain 3 (holding client mark) entry_fetched ≡ None }

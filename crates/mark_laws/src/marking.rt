@@ -1,4 +1,4 @@
-//! Laws of the marks that a node sends: when one goes out, where it stands in a turn, and that each is true.
+//! Laws of the marks that a node sends: when a mark is sent, at which place of a turn, and that each is true.
 
 ghost use Rattle.std.specs.Prelude.{◌≡◌, ℕ, ◌≤◌, ◌++◌, ◌↔◌, true, None, List, length, map, sum};
 ghost use Rattle.ft_io.specs.declared.Addr.{Addr};
@@ -22,25 +22,25 @@ ghost use Rattle.mark_laws.specs.Marking.Outgoing.{Plain};
 
 use server_trait::Service;
 
-/// The test of a point finds whether it is quiet.
+/// `is_quiet` is true of exactly the quiet points.
 pub fn quiet_points_are_found<S: Service>()
     ensures { (fresh : S) (p : Point) → (is_quiet (machine fresh S.after) p ≡ true) ↔ IsQuiet (machine fresh S.after) p }
 {}
 
-/// A turn with marks is, without them, one that the laws of a connection without marks allow.
+/// A turn with marks, without its marks, is a turn that the laws of a connection without marks allow.
 pub fn turns_without_their_marks_are_lawful<S: Service>()
     ensures { (fresh : S) (writing : Writing S) (every : ℕ) (server : Addr) (boot : ℕ) (news : News) (p q : Point) (m n : Marking) (sent : List Outgoing)
         → MarkingTurn (machine fresh S.after) writing every server boot news p q m n sent
         → ConnectionTurn (machine fresh S.after) server boot news p q (without_marks sent) }
 {}
 
-/// A node that marks nothing sends what it sent.
+/// A node with 0 for `every` and without an outstanding mark sends what it sends without marks.
 pub fn nodes_may_mark_nothing<S: Service>()
     ensures { (fresh : S) (writing : Writing S) (server : Addr) (boot : ℕ) (news : News) (p q : Point) (m n : Marking) (sent : List Outgoing)
         → m.outstanding ≡ None → (turn : MarkingTurn (machine fresh S.after) writing 0 server boot news p q m n sent) → MarksNothing turn.packets m n sent }
 {}
 
-/// Marks go out behind the Reads of their turn, and before its Done.
+/// Marks are sent after the Reads of their turn, and before its Done.
 pub fn marks_stand_before_done<S: Service>()
     ensures { (fresh : S) (server : Addr) (boot : ℕ) (news : News) (p q : Point) (marks : List Outgoing)
         → with_marks (length (dones news p q)) marks (sent_by (machine fresh S.after) server boot news p q)
@@ -48,7 +48,7 @@ pub fn marks_stand_before_done<S: Service>()
         ++ (marks ++ map Plain (map (told_by boot) (dones news p q))) }
 {}
 
-/// After a turn no mark is due: it has gone out.
+/// After a turn no mark is due, since one that was due has been sent, and a connection that its client hasn't reset has no read to make.
 pub fn turns_leave_no_mark_due<S: Service>()
     ensures turn { (fresh : S) (writing : Writing S) (every : ℕ) (server : Addr) (boot : ℕ) (news : News) (p q : Point) (m n : Marking) (sent : List Outgoing)
         → MarkingTurn (machine fresh S.after) writing every server boot news p q m n sent → IsSettled (machine fresh S.after) every n q }
@@ -57,7 +57,7 @@ pub fn turns_leave_no_mark_due<S: Service>()
         → MarkedTurn (machine fresh S.after) writing every boot reads p m n sent → IsSettled (machine fresh S.after) every n p }
 {}
 
-/// A tick makes no new mark: only the one that isn't answered goes out again.
+/// At a tick no new mark is made: only the mark that isn't answered is sent again.
 pub fn ticks_make_no_new_mark<S: Service>()
     ensures { (fresh : S) (writing : Writing S) (every : ℕ) (server : Addr) (boot : ℕ) (p q : Point) (m n : Marking) (sent : List Outgoing)
         → IsSettled (machine fresh S.after) every m p
@@ -65,7 +65,8 @@ pub fn ticks_make_no_new_mark<S: Service>()
         → OnlyRepeats (length (dones Ticks p q)) boot q turn.packets m n sent }
 {}
 
-/// The marks that go out are true of the log, where those before were. The premises are those of `quiet_points_mark_the_log`, of the point after the turn.
+/// The marks sent in a turn, and the one outstanding after it, are true of the log's entry, if the one outstanding before it was. The other premises are
+/// those of `quiet_points_mark_the_log`, for the point after the turn.
 pub fn marks_that_go_out_are_true<S: Service>()
     ensures { (fresh : S) (writing : Writing S) (every : ℕ) (news : News) (script : List ℕ) (m : Marking) (q : Point) (e : Entry) → IsPrefix q.taken script
         → sum q.lengths ≤ length q.taken → IsPrefix e.bytes script → sum e.lengths ≤ length e.bytes → IsPrefix e.lengths q.lengths

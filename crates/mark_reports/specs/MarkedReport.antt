@@ -1,4 +1,4 @@
--- The report of a run with marks: as without them, and what is sent about marks has lines among those of the packets.
+-- The report of a run with marks: as without them, but the messages about marks have lines too, among those of the packets.
 use Rattle.std.specs.Prelude.{ℕ, ◌+◌, codes, List, [], ◌∷◌, ◌++◌, length}
 use Rattle.std.specs.Fmt.{decimal}
 use Rattle.ft_io.specs.declared.Key.{Key}
@@ -27,7 +27,7 @@ words_of_mark key m =
     key_words key
     ++ (codes "reads" ∷ decimal m.reads ∷ codes "length" ∷ decimal m.length ∷ codes "made" ∷ decimal m.made ∷ codes "state" ∷ hex_text m.state ∷ [])
 
--- the fields of a body by name, in the order in which a message holds them
+-- the fields of a body by name, in the order of the message
 abbrev pub fields_of_mark : MarkBody → List (List ℕ)
 fields_of_mark (MarkMsg key m) = words_of_mark key m
 fields_of_mark (MarkedMsg key reads) = key_words key ++ (codes "reads" ∷ decimal reads ∷ [])

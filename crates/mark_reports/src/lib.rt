@@ -1,4 +1,4 @@
-//! The report of a run with marks, and that all that is sent in such a run can be written. Nothing here runs; each function is a theorem.
+//! The report of a run with marks, and the law that all that is sent in such a run can be written as bytes. Nothing here runs; each function is a theorem.
 #![tactic(auto)]
 
 ghost use Rattle.std.specs.Prelude.{◌≡◌, ℕ, ◌<◌, true, codes, List};
@@ -13,7 +13,8 @@ use mark_laws::marking::marks_that_go_out_are_true;
 use mark_laws::marks_stay_true;
 use server_trait::Saved;
 
-/// All that was sent in a trace with marks can be written and is read as what was sent, also what is about marks. A server that marks can save its service's states.
+/// All that was sent in a trace with marks can be written as bytes, and the messages about marks are read back as they were sent. The premise: a server that
+/// marks has a savable service.
 pub fn marked_parcels_are_written<S: Saved>()
     ensures { (kind every : ℕ) (start : MarkedWorld) (trace : List MarkedMoment) → (0 < every → S.is_savable ≡ true)
         → MarkedJoint (markers (machines S.started S.after) S.form S.state_of every kind) start trace

@@ -1,4 +1,4 @@
--- What bytes change in the log with marks, and what is answered to them as bytes.
+-- How bytes change the log with marks, and the bytes of the answer to them.
 use Rattle.std.specs.Prelude.{ℕ, ◌-◌, Option, Some, None, option_map, Result, Ok, Err, List, [], length, slice_get}
 use Rattle.std.specs.Option.{option_map_or}
 use Rattle.seq_arith.specs.Mark.{MarkMessage}
@@ -11,7 +11,7 @@ use Rattle.logger_store.specs.Pages.{pages}
 use Rattle.mark_laws.specs.MarkedLog.{MarkedLog, AnyMessage, after_mark, after_message, answer_above, answer_to_mark}
 use Rattle.mark_laws.specs.MarkedLog.AnyMessage.{About_mark, Of_log}
 
--- bytes are a message, one about marks, or neither
+-- the log after bytes that are a message of the log, one about marks, or neither
 abbrev pub after_reading : Result Message BadMsg → Result MarkMessage BadMark → MarkedLog → MarkedLog
 after_reading (Ok message) _ l = after_message l message
 after_reading (Err _) (Ok message) l = after_mark l message
@@ -34,6 +34,6 @@ reply_bytes None = []
 abbrev pub reply_to : List ℕ → MarkedLog → List ℕ
 reply_to bytes l = reply_bytes (reply_to_reading (messages.reading bytes) (marks.reading bytes) l)
 
--- how many bytes of the entry at a place are kept: those past the whole pages below its mark
+-- how many bytes of the entry at a place are stored: those past the complete pages below its mark
 abbrev pub kept_at : ℕ → MarkedLog → ℕ
 kept_at i l = option_map_or (λ e. length e.bytes - pages (l.marks e.key).length) (slice_get l.log.entries i) 0

@@ -1,4 +1,4 @@
--- A mark as a message brings it.
+-- A mark as a message carries it.
 use Rattle.seq_arith.specs.Mark.{Mark}
 use Rattle.mark_store.specs.declared.kept_mark.NewMark.{NewMark}
 

@@ -1,4 +1,4 @@
-//! The mark that is kept of an entry.
+//! An entry's mark, as the store has it.
 
 ghost use Rattle.std.specs.Prelude.{◌≡◌, ◌≤◌, ◌+◌, ◌^◌, IfOk, length};
 ghost use Rattle.mark_laws.specs.MarkedLog.{no_mark};
@@ -8,7 +8,7 @@ use ft_io::NoMemory;
 use std::alloc::Global;
 use std::marker::Model;
 
-/// The numbers of a mark and the bytes of its state, as a message brings them.
+/// A mark, as a message carries it: its numbers, and the bytes of its state.
 #[derive(Clone, Copy, Debug)]
 pub(crate) struct NewMark<'a> {
     /// After how many reads it lies, at most 2^24 + 1.
@@ -21,7 +21,7 @@ pub(crate) struct NewMark<'a> {
     pub state: &'a [u8],
 }
 
-/// A mark that is kept, or that there is none: then its numbers are 0, and it has no state.
+/// A stored mark, or none: then its numbers are 0, and it has no state.
 #[derive(Debug, Drop)]
 pub(crate) struct KeptMark {
     reads: u32,
@@ -43,7 +43,7 @@ impl Model for KeptMark {
 }
 
 impl KeptMark {
-    /// That there is no mark. It takes no memory.
+    /// No mark. Nothing is allocated yet.
     pub fn none(alloc: Global) -> KeptMark
         ensures { result ≡ no_mark }
     {
@@ -73,7 +73,7 @@ impl KeptMark {
         })
     }
 
-    /// The mark as it was brought.
+    /// The mark, as a message carries it.
     pub fn mark(&self) -> NewMark<'_>
         ensures value { mark_value result ≡ self.now }
         ensures reads { result.reads ≤ 2 ^ 24 + 1 }

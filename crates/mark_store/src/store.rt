@@ -25,16 +25,16 @@ use logger_wire::read_msg;
 use std::alloc::Global;
 use std::marker::Model;
 
-/// The bytes of a page: only whole pages are given up.
+/// The bytes of a page: only complete pages are dropped.
 const PAGE: u32 = 4_096;
 
-/// The log with marks: what a log keeps, and for each of its entries at most one mark. It answers as if it gave up nothing, since what lies below a mark is never
-/// told; but it keeps of an entry only the lengths of the reads after its mark, and the pages from the one that the mark lies in.
+/// The log with marks: a log, and for each of its entries at most one mark. It answers as if it dropped nothing, since no answer reports what is below a
+/// mark. But of an entry it stores only the lengths of the reads after its mark, and the pages from the one that the mark lies in on.
 #[derive(Drop)]
 pub struct MarkStore {
     /// The log, trimmed at the marks.
     log: TrimStore,
-    /// The mark of the entry at each place, the first first. The entries behind these have none.
+    /// The marks of the first entries, in their order. The entries after these have none.
     marks: Vec<KeptMark>,
 }
 
@@ -56,7 +56,7 @@ fn is_answer(body: &MarkBody<'_>) -> bool
     }
 }
 
-/// To a message of another boot, that a newer server has started, where it is older and not of a kind that only the logger sends.
+/// Puts Stale, the answer to a message of an older boot, unless only the logger sends its kind. Puts nothing otherwise.
 fn tell_newer(newer: u64, m: &MarkMsg<'_>, out: &mut MsgOut)
     requires boot { 1 ≤ m.now.boot }
     requires empty { out.old ≡ [] }
@@ -67,7 +67,7 @@ fn tell_newer(newer: u64, m: &MarkMsg<'_>, out: &mut MsgOut)
     }
 }
 
-/// Puts a mark at a place, and no marks at the places between where there were fewer.
+/// Puts a mark at a place, which may be past the last one. The places between then get none.
 #[tactic(auto, using(crate::proofs::Marks::mark_put))]
 fn put_at(
     alloc: Global,
@@ -90,7 +90,7 @@ fn put_at(
 }
 
 impl MarkStore {
-    /// A log of boot 0 without entries and marks. It takes no memory.
+    /// A log of boot 0 without entries and marks. Nothing is allocated yet.
     pub fn new(alloc: Global) -> MarkStore
         ensures { IsLeftOfMarked result nothing_logged }
     {
@@ -100,7 +100,7 @@ impl MarkStore {
         }
     }
 
-    /// The boot number of the newest server that has said Hello, and 0 before.
+    /// The boot number of the newest server that has sent Hello; 0 before the first.
     pub fn boot(&self) -> u64
         ensures { result ≡ self.now.trimmed.log.boot }
     {
@@ -115,14 +115,15 @@ impl MarkStore {
         self.log.count()
     }
 
-    /// The entry at this place, from 0, without its bytes and lengths. None exactly where there is none.
+    /// The entry at place `i`, counted from 0, without its bytes and lengths; `None` exactly if there is no such entry.
     pub fn entry(&self, i: u16) -> Option<EntryHead>
         ensures value { (l : MarkedLog) → IsLeftOfMarked self.now l → option_map head_value result ≡ option_map head_of (slice_get l.log.entries i) }
     {
         self.log.entry(i)
     }
 
-    /// Whether a mark may follow that of the entry at this place: it is of more reads, which are logged and took its length, and no closing read is among them.
+    /// Whether a mark may replace that of the entry at this place: it lies after more reads, these are logged and took its `length` bytes, and no closing
+    /// read is among them.
     fn follows(&self, place: u16, mark: &NewMark<'_>) -> bool
         ensures value { result ≡ option_map_or (may_follow (record no_mark { reads = (trim_at self.now.trimmed.trims place).reads }) (mark_value mark.now)) (slice_get self.now.trimmed.log.entries place) false }
         ensures trims { result ≡ true → MayTrim place mark.now.length mark.now.reads self.now.trimmed }
@@ -140,7 +141,7 @@ impl MarkStore {
         }
     }
 
-    /// Keeps a mark, if it may follow the one before it, and gives up what lies below it.
+    /// Keeps a mark, if it may replace the one before it, and drops what is below it. The output that it counts is then acknowledged.
     fn take_mark(&mut self, alloc: Global, key: Key, mark: &NewMark<'_>) -> Result<(), NoMemory>
         requires reads { mark.now.reads ≤ 2 ^ 24 + 1 }
         requires length { mark.now.length ≤ 2 ^ 24 }
@@ -162,7 +163,7 @@ impl MarkStore {
         Ok(())
     }
 
-    /// Keeps what a message about marks says.
+    /// Keeps what a message about marks of the log's own boot says.
     fn take(&mut self, alloc: Global, m: &MarkMsg<'_>) -> Result<(), NoMemory>
         requires { IsSpellable (message_of m.now) }
         ensures ok { OnOk result ((l : MarkedLog) → IsLeftOfMarked self.old l → IsLeftOfMarked self.new (with_mark_body (body_of m.now.body) l)) }
@@ -208,7 +209,7 @@ impl MarkStore {
         }
     }
 
-    /// Of a known key how many reads its mark has.
+    /// Puts after how many reads a key's mark lies. Puts nothing if the key has no entry.
     fn tell_marked(&self, boot: u64, key: Key, out: &mut MsgOut)
         requires boot { 1 ≤ boot }
         requires empty { out.old ≡ [] }
@@ -219,7 +220,7 @@ impl MarkStore {
         }
     }
 
-    /// Of a known key its mark.
+    /// Puts a key's mark. Puts nothing if the key has no entry.
     fn tell_held(&self, boot: u64, key: Key, out: &mut MsgOut)
         requires boot { 1 ≤ boot }
         requires empty { out.old ≡ [] }
@@ -230,7 +231,7 @@ impl MarkStore {
         }
     }
 
-    /// What is told after a message about marks of the log's own boot was taken.
+    /// Puts the answer to a message about marks of the log's own boot into the empty `out`, after the log has taken the message.
     fn tell(&self, m: &MarkMsg<'_>, out: &mut MsgOut)
         requires spellable { IsSpellable (message_of m.now) }
         requires empty { out.old ≡ [] }
@@ -243,7 +244,7 @@ impl MarkStore {
         }
     }
 
-    /// Takes a message about marks, and puts the answer to it, or nothing, into the empty room.
+    /// Takes a message about marks, and puts the answer to it, or nothing, into the empty `out`.
     fn answer_mark(
         &mut self,
         alloc: Global,
@@ -267,8 +268,8 @@ impl MarkStore {
         Ok(())
     }
 
-    /// Takes bytes, which may be a message of a log, one about marks, or neither, and puts the answer, or nothing, in the place of what `out` held. Without memory
-    /// all is as it was, and `out` is empty.
+    /// Takes bytes, which may be a message of the log, one about marks, or neither, and replaces the content of `out` by the answer, or by nothing. After
+    /// `NoMemory` the log with its marks is unchanged, `out` empty.
     pub fn answer(&mut self, alloc: Global, bytes: &[u8], out: &mut MsgOut) -> Result<(), NoMemory>
         ensures next { OnOk result ((l : MarkedLog) → IsLeftOfMarked self.old l → IsLeftOfMarked self.new (after_bytes bytes.now l)) }
         ensures answer { OnOk result ((l : MarkedLog) → IsLeftOfMarked self.old l → out.new ≡ reply_to bytes.now l) }
@@ -285,7 +286,7 @@ impl MarkStore {
         }
     }
 
-    /// How many bytes of the entry at place i are kept: those past the whole pages below its mark. Where there is no entry, none are.
+    /// How many bytes of the entry at place `i` are stored: those past the complete pages below its mark; 0 if there is no such entry.
     pub fn kept(&self, i: u16) -> u32
         ensures { (l : MarkedLog) → IsLeftOfMarked self.now l → result ≡ kept_at i l }
     {

@@ -1,4 +1,4 @@
-//! What is told of a mark, each as a message in the room for an answer.
+//! The answers about a mark, each put as a message into the room for one answer.
 
 ghost use Rattle.std.specs.Prelude.{◌≡◌, ◌≤◌, ◌<◌, ◌+◌, ◌^◌, length, Some};
 ghost use Rattle.seq_arith.specs.Mark.MarkBody.{MarkedMsg, HeldMsg};
@@ -16,7 +16,7 @@ use ft_io::Key;
 use logger_store::MsgOut;
 use logger_wire::{Body, Msg};
 
-/// Puts a message about marks in place of what there was.
+/// Replaces the content by a message about marks.
 fn put_mark(m: &MarkMsg<'_>, out: &mut MsgOut)
     requires { IsSpellable (message_of m.now) }
     ensures { out.new ≡ spelling (message_of m.now) }
@@ -26,7 +26,7 @@ fn put_mark(m: &MarkMsg<'_>, out: &mut MsgOut)
     out.put_mark(&bytes[..len]);
 }
 
-/// That the kept mark lies after so many reads.
+/// Puts Marked: the key's mark lies after `reads` reads.
 #[tactic(auto, unfolding(seq_arith::specs::MarkGrammar::has_length, seq_arith::specs::MarkGrammar::is_sound))]
 pub(crate) fn tell_marked(boot: u64, key: Key, reads: u32, out: &mut MsgOut)
     requires boot { 1 ≤ boot }
@@ -37,7 +37,7 @@ pub(crate) fn tell_marked(boot: u64, key: Key, reads: u32, out: &mut MsgOut)
     put_mark(&MarkMsg { boot, body }, out);
 }
 
-/// The kept mark itself.
+/// Puts Held: the key's mark itself.
 #[tactic(auto, unfolding(seq_arith::specs::MarkGrammar::has_length, seq_arith::specs::MarkGrammar::is_sound))]
 pub(crate) fn tell_held(boot: u64, key: Key, mark: &NewMark<'_>, out: &mut MsgOut)
     requires boot { 1 ≤ boot }
@@ -63,7 +63,7 @@ pub(crate) fn tell_held(boot: u64, key: Key, mark: &NewMark<'_>, out: &mut MsgOu
     put_mark(&MarkMsg { boot, body }, out);
 }
 
-/// That a newer server than a message's has started.
+/// Puts Stale, the answer to a message of boot `boot`: a server with the larger boot number `newer` has started.
 #[tactic(auto, unfolding(seq_arith::specs::MessageGrammar::has_length, seq_arith::specs::MessageGrammar::is_sound))]
 pub(crate) fn tell_stale(boot: u64, newer: u64, out: &mut MsgOut)
     requires boot { 1 ≤ boot }

@@ -1,4 +1,4 @@
--- A legal trace of a schedule with marks. It is as one without, but that what is sent about marks counts among the packets.
+-- A legal trace of a schedule with marks. It is like one without, except that the messages about marks count among the packets.
 use Rattle.std.specs.Prelude.{◌≡◌, ℕ, ◌*◌, length, nat_le, Option, Some, None, is_some, List, [], ◌∷◌, ◌++◌, if◌then◌else◌}
 use Rattle.server_trait.specs.Service.{Machine}
 use Rattle.server_trait.specs.Saved.{writing}
@@ -28,7 +28,7 @@ abbrev pub refusal_of_marked_flip : Option Parcel → ℕ → Option EventWhy
 refusal_of_marked_flip None bit = Some why.Packet
 refusal_of_marked_flip (Some parcel) bit = if nat_le (8 * length (bytes_of parcel)) bit then Some why.Bit else None
 
--- Why an event may not happen: the first test that holds. What names no packet is tested as without marks
+-- Why an event may not happen: the first test that holds. An event that names no packet is tested as without marks
 abbrev pub marked_refusal : MarkedWorld → Event → Option EventWhy
 marked_refusal w (Deliver number) = if is_some (parcel_at w.parcels number) then None else Some why.Packet
 marked_refusal w (Flip number bit) = refusal_of_marked_flip (parcel_at w.parcels number) bit
@@ -57,6 +57,6 @@ pub record IsMarkedLegalFor {State : Type 0} (by : ℕ → Marker State) (schedu
 abbrev pub MarkedLegal : {State : Type 0} → (ℕ → Marker State) → Schedule → List MarkedMoment → Type 0
 MarkedLegal by schedule trace = IsMarkedLegalFor by schedule schedule.events trace
 
--- how many packets were sent up to the end of a trace, those about marks too
+-- how many packets were sent up to the end of a trace, including those about marks
 abbrev pub marked_packets_sent : Schedule → List MarkedMoment → ℕ
 marked_packets_sent schedule trace = length (marked_after (marked_start schedule) trace).parcels

@@ -1,4 +1,4 @@
--- One turn of a server that marks: its turn without marks, and the marks that go out in it.
+-- One turn of a server that marks: its turn without marks, and the marks that are sent in it.
 use Rattle.std.specs.Prelude.{◌≡◌, ℕ, ◌+◌, Bool, true, false, ◌==◌, nat_lt, filter, map, Option, Some, None, MatchOption, List, [], ◌∷◌, ◌++◌, length, if◌then◌else◌}
 use Rattle.std.specs.Bool.{MatchBool}
 use Rattle.std.specs.List.{flat_map}
@@ -28,7 +28,7 @@ use Rattle.mark_laws.specs.Marking.{Marking, Outgoing, outstanding_in, new_marks
 use Rattle.mark_laws.specs.Marking.Outgoing.{Plain, Mark_to_logger}
 use Rattle.mark_laws.specs.Restart.{FetchedSoFar, next_question, fetched_on, mark_reported, begun_on}
 
--- how a server marks: its service, how the states of that are written, and after how many reads a mark is due
+-- how a server marks: its service, how the service's states are written, and after how many reads a mark is due
 pub record Marker (State : Type 0) : Type 0 where
   pub service : Machine State
   pub writing : Writing State
@@ -61,7 +61,7 @@ RestsMarked before sent after = (sent ≡ []) × (after ≡ before)
 
 -- Places
 
--- the marks of a connection in a turn that leads to this point. At a tick the outstanding one goes out again
+-- the marks of a connection in a turn that ends at this point. At a tick the outstanding mark is sent again
 abbrev pub marks_in : {State : Type 0} → Marker State → (tick : Bool) → Marking → Point → List Mark
 marks_in by tick m p = (if tick then outstanding_in m else []) ++ new_marks by.service by.writing by.every m p
 
@@ -69,7 +69,7 @@ abbrev pub marks_at : {State : Type 0} → Marker State → (boot : ℕ) → (ti
 marks_at by boot tick marking (Lives p) = marks_out boot p (marks_in by tick (marking p.key) p)
 marks_at by boot tick marking _ = []
 
--- what has come of the marking of a connection after its turn
+-- the marking of a connection after its turn
 abbrev pub marking_then : {State : Type 0} → Marker State → Option Place → Marking → Marking
 marking_then by (Some (Lives p)) m = with_new by.service by.writing by.every p m
 marking_then by _ m = m
@@ -82,7 +82,7 @@ abbrev pub is_done : Packet → Bool
 is_done (To_logger message) = says_done message.body
 is_done _ = false
 
--- one place in a turn: as without marks, and the marks of what it becomes stand before its Done
+-- one place in a turn: as without marks, with the marks of what it becomes before its Done
 pub record GoesMarked (Goes : Place → List Place → List Packet → Type 0) (marks : Place → List Outgoing) (place : Place) (now : List Place) (sent : List Outgoing) : Type 0 where
   pub packets : List Packet
   pub goes : Goes place now packets
@@ -104,7 +104,7 @@ outgoing (About_mark message) = Mark_to_logger message
 abbrev pub so_far : MarkedNode → List Fetched → FetchedSoFar
 so_far node fetched = record { entries = fetched; awaits_mark = node.awaits_mark }
 
--- the last mark of an entry is the one that is fetched
+-- the last mark of an entry is then the fetched one
 abbrev pub marking_fetched : MarkBody → (Key → Marking) → Key → Marking
 marking_fetched (HeldMsg key m) marking = with_marking key (record { last = m.reads; outstanding = None }) marking
 marking_fetched _ marking = marking
@@ -144,7 +144,7 @@ pub record ServesMarked {State : Type 0} (by : Marker State) (node : MarkedNode)
       ≡ (λ key. if concerns node.plain input key then marking_then by (place_at key went) (node.marking key) else node.marking key)
   pub packets : sent ≡ by_places ++ map Plain (refusals node.plain input before ++ flat_map (opens_at node.plain input) after)
 
--- a turn on anything but a message about marks, by the stage before it. It differs from that without marks where the server fetches and where it serves
+-- a turn on anything but a message about marks, by the stage before it. It differs from the turn without marks while the server fetches and while it serves
 abbrev pub PlainTurn : {State : Type 0} → Marker State → MarkedNode → Stage → Input → List Outgoing → MarkedNode → Type 0
 PlainTurn by before (Fetching count fetched) Tick_comes sent after =
     (sent ≡ map outgoing (option_to_list (next_question before.plain.boot count (so_far before fetched)))) × (after ≡ before)
@@ -174,7 +174,7 @@ HearsOfMark by before places (MarkedMsg key reads) sent after =
     × (after ≡ record before { marking = with_marking p.key m before.marking }))
 HearsOfMark by before places _ sent after = RestsMarked before sent after
 
--- A turn on a message about marks, by the stage before it. While the server fetches, what is below the mark that is told, `bytes` and `lengths`, counts as
+-- A turn on a message about marks, by the stage before it. While the server fetches, what is below the reported mark, `bytes` and `lengths`, counts as
 -- fetched
 abbrev pub MarkTurn : {State : Type 0} → Marker State → (bytes lengths : List ℕ) → MarkedNode → Stage → MarkMessage → List Outgoing → MarkedNode → Type 0
 MarkTurn by bytes lengths before (Fetching count fetched) message sent after =
@@ -188,7 +188,7 @@ abbrev pub InputTurn : {State : Type 0} → Marker State → (bytes lengths : Li
 InputTurn by bytes lengths before (Plain_comes input) sent after = UnlessFenced by before input (fence before.plain input) sent after
 InputTurn by bytes lengths before (Mark_comes message) sent after = MarkTurn by bytes lengths before before.plain.stage message sent after
 
--- One turn of an incarnation that marks. A fenced one has no further turn
+-- One turn of an incarnation that marks. A fenced incarnation has no further turn
 pub record LawfulMarkedTurn {State : Type 0} (by : Marker State) (bytes lengths : List ℕ) (before : MarkedNode) (input : MarkedInput) (sent : List Outgoing) (after : MarkedNode) : Type 0 where
   pub live : is_fenced before.plain.stage ≡ false
   pub turn : InputTurn by bytes lengths before input sent after

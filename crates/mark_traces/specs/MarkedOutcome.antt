@@ -1,4 +1,4 @@
--- What becomes of a schedule with marks when its events are played in order: all are done, one is refused, or the packets exceed their limit.
+-- The outcomes of a schedule with marks when its events are played in order: all happen, one is refused, or the packets exceed their limit.
 use Rattle.std.specs.Prelude.{◌≡◌, ℕ, ◌<◌, ◌≤◌, Some, List, [], ◌∷◌, ◌++◌}
 use Rattle.ft_model.specs.declared.event.Event.{Event}
 use Rattle.ft_model.specs.declared.event.EventWhy.{EventWhy}

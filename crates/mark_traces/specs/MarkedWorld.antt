@@ -69,13 +69,13 @@ abbrev pub answered_as : AnyMessage → Parcel
 answered_as (Of_log message) = Usual (From_logger message)
 answered_as (About_mark message) = Mark_answered message
 
--- what only clients do happens as without marks
+-- what happens to clients only happens as without marks
 abbrev pub Elsewhere : (World → List Packet → World → Type 0) → MarkedWorld → List Parcel → MarkedWorld → Type 0
 Elsewhere Goes before sent after =
     (packets : List Packet) × (sent ≡ map Usual packets) × Goes (seen before) packets (seen after)
     × (after ≡ record before { clients = after.clients; parcels = before.parcels ++ sent })
 
--- what is below a mark that the log holds: the beginning of its entry
+-- what is below a mark that the log reports in a Held: the beginning of its entry
 abbrev pub bytes_held : Log → MarkBody → List ℕ
 bytes_held log (HeldMsg key m) = option_map_or (bytes_below m) (entry_of key log) []
 bytes_held log _ = []
@@ -92,7 +92,7 @@ abbrev pub lengths_told : Log → MarkedInput → List ℕ
 lengths_told log (Mark_comes message) = lengths_held log message.body
 lengths_told log (Plain_comes input) = []
 
--- the server takes its turn on what arrives. One that is down does nothing
+-- the server takes its turn on what arrives. A server that is down does nothing
 abbrev pub ServerTurn : {State : Type 0} → Marker State → MarkedInput → Option MarkedNode → MarkedWorld → List Parcel → MarkedWorld → Type 0
 ServerTurn by input None before sent after = (sent ≡ []) × (after ≡ record before { parcels = before.parcels ++ sent })
 ServerTurn by input (Some node) before sent after =
@@ -127,7 +127,7 @@ bytes_of (Usual packet) = (wire_of packet).bytes
 bytes_of (Mark_sent message) = marks.spelling message
 bytes_of (Mark_answered message) = marks.spelling message
 
--- what was sent is read as what was sent
+-- a parcel can be written as bytes, and a message about marks is read back as it was sent
 abbrev pub CanBeRead : Parcel → Type 0
 CanBeRead (Usual packet) = HasWire packet
 CanBeRead (Mark_sent message) = marks.reading (marks.spelling message) ≡ Ok message
@@ -160,13 +160,13 @@ ComesAs by (Usual (From_logger message)) bytes before sent after = ServerMoves b
 ComesAs by (Mark_sent message) bytes before sent after = LogReads (said_by bytes) before sent after
 ComesAs by (Mark_answered message) bytes before sent after = ServerMoves by (input_of (said_by bytes)) before sent after
 
--- one bit of a parcel is changed on its way. It is one of its bits
+-- a parcel arrives with one of its bits changed
 pub record FlippedTo {State : Type 0} (by : Marker State) (parcel : Parcel) (bit : ℕ) (before : MarkedWorld) (sent : List Parcel) (after : MarkedWorld) : Type 0 where
   pub read : CanBeRead parcel
   pub within : bit < 8 * length (bytes_of parcel)
   pub comes : ComesAs by parcel (flipped bit (bytes_of parcel)) before sent after
 
--- What may happen: what may happen without marks, by a server and a log that have them
+-- What may happen: what may happen without marks, but by a server and a log with marks
 abbrev pub MarkedHappens : {State : Type 0} → Marker State → MarkedWorld → Event → List Parcel → MarkedWorld → Type 0
 MarkedHappens by before (Boot boot isn) sent after =
     (before.node ≡ None) × IsNextBoot (seen before) boot × (sent ≡ map Usual (hello (booted before.server boot isn)))

@@ -1,4 +1,5 @@
--- What a trace with marks guarantees of the mark that comes to a server that fetches: something is below it, and what the server then has is sound.
+-- What a trace with marks guarantees about the mark that comes to a fetching server: there are bytes and lengths below it, and what the server then has is
+-- sound.
 use Rattle.std.specs.Prelude.{IfSome}
 use Rattle.std.specs.List.{AllByRecursion}
 use Rattle.seq_arith.specs.Mark.{Mark, MarkBody, MarkMessage}
@@ -12,7 +13,7 @@ use Rattle.trace_laws.specs.Premises.{IsSoundFront}
 use Rattle.mark_traces.specs.MarkedNode.{Marker, MarkedNode, so_far}
 use Rattle.mark_traces.specs.MarkedWorld.{bytes_held, lengths_held}
 
--- once a mark has come, what is below it is bytes, the entries that are whole are sound, and all are prefixes of sound ones
+-- once a mark has come: these bytes and lengths are below it, the entries that are whole are sound, and all are prefixes of sound ones
 pub record LeadsToSound {State : Type 0} (by : Marker State) (log : Log) (body : MarkBody) (before : FetchedSoFar) (m : Mark) : Type 0 where
   pub front : IsFront by.service by.writing m (bytes_held log body) (lengths_held log body)
   pub bytes : AreBytes (bytes_held log body)

@@ -1,4 +1,4 @@
--- In a world with marks each mark is true: those under way to the log, those that the log has, those that it holds out, and those that a server has outstanding.
+-- In a world with marks each mark is true: those sent to the log, those that the log has, those in its answers, and those that a server has outstanding.
 use Rattle.std.specs.Prelude.{◌≡◌, ◌⊎◌, Some}
 use Rattle.std.specs.List.{AllByRecursion}
 use Rattle.ft_io.specs.declared.Key.{Key}

@@ -1,5 +1,5 @@
--- A worked run: the first path of an echo service with marks after every read. The client acknowledges the echo, so the connection is quiet and its mark goes out.
--- The server crashes, and the next incarnation begins at the mark: it fetches neither the bytes nor the read.
+-- A worked run: the first path of an echo service with marks after every read. The client acknowledges the echo, so the connection is quiet and its mark is
+-- sent. The server crashes, and the next incarnation begins at the mark: it fetches neither the bytes nor the read.
 use Rattle.std.specs.Prelude.{ℕ, Bool, true, false, pos, Option, Some, None, option_map, List, [], ◌∷◌, ◌++◌, map, if◌then◌else◌}
 use Rattle.ft_io.specs.Key.{key_eq}
 use Rattle.seq_arith.specs.Mark.{Mark, MarkBody, MarkMessage}
@@ -74,7 +74,7 @@ acked_client = record path.served_client { edge = 65540 }
 abbrev pub moment_18 : MarkedMoment
 moment_18 = moment (Ack 1 65535) (Usual (from_client 16 1006 5006 65535 []) ∷ []) (record (without path.moment_17.world) { clients = acked_client ∷ [] })
 
--- the connection is then quiet, and its mark goes out behind the Data that reports the acknowledgement
+-- the connection is then quiet, and its mark is sent after the Data that reports the acknowledgement
 abbrev pub acked_point : Point
 acked_point = record path.released_point { una = 5; edge = 65540; wl1 = pos 5; wl2 = 5; congestion = congestion_with 2149 65535 0; rest = 0 }
 

@@ -1,5 +1,5 @@
-//! Traces with marks: a server that marks and a log with marks in the world of clients and network. In every such trace the marks are true, and what clients
-//! accept is masked. Nothing here runs; each function is a theorem.
+//! Traces with marks: a server that marks and a log with marks in the world of clients and network. In every such trace the marks are true, and the trace
+//! without its marks is masked. Nothing here runs; each function is a theorem.
 #![tactic(auto)]
 
 ghost use Rattle.std.specs.Prelude.{◌≡◌, ℕ, true, Some, None, List, [], ◌∷◌};
@@ -35,14 +35,14 @@ use mark_laws::marking::marks_that_go_out_are_true;
 use mark_laws::{marks_stay_true, true_marks_are_read_back};
 use server_trait::Saved;
 
-/// A turn of a server that serves and marks is, without its marks, one of a server that serves.
+/// A turn of a server that serves and marks, without its marks, is a turn of a server that serves.
 pub fn serving_turns_without_marks_are_lawful<S: Saved>()
     ensures { (kind every opened : ℕ) (node : MarkedNode) (input : Input) (before after : List Place) (marking : Key → Marking) (sent : List Outgoing)
         → ServesMarked (markers (machines S.started S.after) S.form S.state_of every kind) node input opened before after marking sent
         → ServingTurn (machine (S.started kind) S.after) node.plain input opened before after (without_marks sent) }
 {}
 
-/// A live connection takes its turn by the law of marks: its marks are those of the law, and only its Done stands behind them.
+/// A live connection takes its turn by the law of marks: its marks are those of the law, and only its Done is sent after them.
 pub fn live_connections_follow_the_law_of_marks<S: Saved>()
     ensures { (kind every : ℕ) (node : MarkedNode) (news : News) (p : Point) (now : List Place) (sent : List Outgoing)
         → GoesMarked (λ place. LivesOn (machine (S.started kind) S.after) node.plain news p)
@@ -52,8 +52,8 @@ pub fn live_connections_follow_the_law_of_marks<S: Saved>()
         (node.marking q.key) (with_new (machine (S.started kind) S.after) (writing S.form (S.state_of kind)) every q (node.marking q.key)) sent }
 {}
 
-/// In every trace with marks each mark is true of its entry in the log: those under way, those that the log has, those that it holds out, and those that a server
-/// has outstanding.
+/// In every trace with marks each mark is true of its entry in the log: the marks that were sent to the log, those that the log has, those in its answers,
+/// and those that a server has outstanding.
 pub fn marks_are_true<S: Saved>()
     ensures { (kind every : ℕ) (start : MarkedWorld) (trace : List MarkedMoment)
         → MarkedJoint (markers (machines S.started S.after) S.form S.state_of every kind) start trace
@@ -74,7 +74,7 @@ pub fn marked_traces_are_masked<S: Saved>()
     marks_that_go_out_are_true::<S>();
 }
 
-/// So is a legal trace of a schedule with marks.
+/// A legal trace of a schedule with marks is masked.
 pub fn marked_schedules_are_masked<S: Saved>()
     ensures { (every : ℕ) (schedule : Schedule) (events : List Event) (trace : List MarkedMoment)
         → IsMarkedLegalFor (markers (machines S.started S.after) S.form S.state_of every) schedule events trace
@@ -83,8 +83,9 @@ pub fn marked_schedules_are_masked<S: Saved>()
     marked_traces_are_masked::<S>();
 }
 
-/// The premises of a server's turn hold in every legal trace of a schedule with marks, of whatever may come next: as without marks a packet is near, what is fetched
-/// is sound, and nothing fences. Where states can be saved, something is below the mark that comes, and what is then fetched is sound.
+/// The premises of a server's turn hold in every legal trace of a schedule with marks, for whatever may come next. As without marks, a packet is near, what
+/// is fetched is sound, and nothing fences the server. If the service is savable, there are bytes and lengths below a mark that comes, and what is then
+/// fetched is sound.
 pub fn marked_premises_hold<S: Saved>()
     ensures near { (every : ℕ) (schedule : Schedule) (events : List Event) (trace : List MarkedMoment) (node : MarkedNode) (input : Input)
         → IsMarkedLegalFor (markers (machines S.started S.after) S.form S.state_of every) schedule events trace
@@ -114,7 +115,7 @@ pub fn marked_premises_hold<S: Saved>()
     true_marks_are_read_back::<S>();
 }
 
-/// A schedule with marks has one outcome: never two of the three.
+/// A schedule with marks has at most one of the three outcomes.
 pub fn marked_schedules_have_one_outcome<S: Saved>()
     ensures whole_or_refused { (every : ℕ) (schedule : Schedule) → IsMarkedWhole (markers (machines S.started S.after) S.form S.state_of every) schedule
         → IsMarkedRefused (markers (machines S.started S.after) S.form S.state_of every) schedule → ⊥ }

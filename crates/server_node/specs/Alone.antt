@@ -28,7 +28,7 @@ use Rattle.server_node.specs.Ownership.{IsFor, of_key}
 abbrev pub slot_of : {S : Type 0} → Key → Serving S → Option (Slot S)
 slot_of key s = lookup (key_eq key) s.slots.entries
 
--- one that doesn't serve has nothing
+-- a node that doesn't serve has nothing
 abbrev pub slot_in : {S : Type 0} → Key → Stage S → Option (Slot S)
 slot_in key (stage.Serving s) = slot_of key s
 slot_in key _ = None
@@ -54,7 +54,7 @@ abbrev pub IsNearFor : Addr → Input → Option Place → Type 0
 IsNearFor server (Packet_comes segment) (Some place) = IsNearTo server segment place
 IsNearFor server _ _ = Unit {0}
 
--- what comes to a key: an input that isn't about it is no more than noise
+-- an input as one key gets it: an input that isn't about the key is no more than noise
 abbrev pub coming_to : Node → Key → Input → Input
 coming_to node key input = if concerns node input key then input else Noise_comes
 
@@ -65,13 +65,13 @@ pub record IsPassedOver (pending : ℕ) (place after : Option Place) (sent : Lis
   pub still : after ≡ None
   pub silent : sent ≡ []
 
--- a key's turn, by the law: that of a server that has this key alone, where so many initial numbers are used up. The one exception is a SYN that
--- is ignored because of the openings of others
+-- a key's turn, by the law: that of a server that has this key alone, where `opened` initial sequence numbers are used up. The one exception is a SYN that is
+-- ignored because of the openings of others
 abbrev pub KeyTurn : {S : Type 0} → Machine S → Node → Input → Key → (opened pending : ℕ) → Option Place → Option Place → List Packet → Type 0
 KeyTurn service node input key opened pending place after sent =
     ServingTurn service node (coming_to node key input) opened (option_to_list place) (option_to_list after) sent ⊎ IsPassedOver pending place after sent
 
--- its place in that turn, before the Opens: its slot stands where the place goes by the law, and of what is sent the key's packets are the place's
+-- a key's turn before the Opens: its slot corresponds to what the law makes of its place, and the key's packets among those sent are that place's
 abbrev pub MeetsFor : {S : Type 0} → Machine S → Node → Input → Option Place → Option Place → List Packet → Type 0
 MeetsFor service node input (Some place) after sent = PlaceTurn service node input place (option_to_list after) sent
 MeetsFor service node input None after sent = (after ≡ None) × (sent ≡ [])
@@ -93,7 +93,7 @@ pub record SlotsAlone {S : Type 0} (service : Machine S) (node : Node) (input : 
   pub turn : (key : Key) (place : Option Place) → StandsFor service node key (lookup (key_eq key) was) place → IsNearFor node.server input place
       → KeyMeets service node input key place (lookup (key_eq key) now) told
 
--- a key's turn: its slot stands at the place after it, and of what is sent the key's packets are those of the law
+-- a key's turn: its slot corresponds to the place after it, and the key's packets among those sent are those of the law
 pub record KeyGoes {S : Type 0} (service : Machine S) (node : Node) (input : Input) (key : Key) (place : Option Place) (was now : Serving S) (sent : List Wire) : Type 0 where
   pub opened : ℕ
   pub after : Option Place
@@ -104,7 +104,7 @@ pub record KeyGoes {S : Type 0} (service : Machine S) (node : Node) (input : Inp
   pub wires : of_key key sent ≡ map wire_of packets
   pub spelled : AllByRecursion HasWire packets
 
--- each key that stands and whose own packet, if this is one, is near, has its turn
+-- each key whose slot corresponds to its place has its turn, if its own packet, where the input is one, is near
 abbrev pub GoAlone : {S : Type 0} → Machine S → Node → Input → (was now : Serving S) → List Wire → Type 0
 GoAlone service node input was now sent =
     (key : Key) (place : Option Place) → StandsFor service node key (slot_of key was) place → IsNearFor node.server input place
@@ -141,7 +141,7 @@ is_for_nobody node (Message_comes message) = not (message.boot == node.boot)
 is_for_nobody node Noise_comes = true
 is_for_nobody node Tick_comes = false
 
--- that changes nothing, and nothing is sent
+-- it changes nothing, and nothing is sent. Of a node that marks nothing is said
 abbrev pub IsUntouched : {S : Type 0} → Node → Input → (was now : Stage S) → List Wire → Type 0
 IsUntouched node input (stage.Marked m) now sent = Unit {0}
 IsUntouched node input was now sent = is_for_nobody node input ≡ true → (now ≡ was) × (sent ≡ [])

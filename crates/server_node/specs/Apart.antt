@@ -10,7 +10,7 @@ use Rattle.server_node.specs.Alone.{Others, IsUntouched, Alone}
 use Rattle.server_node.specs.Identity.{node_of}
 use Rattle.server_node.specs.Restarts.{Restarts}
 
--- it leaves others alone, what is for nobody here does nothing, each key has its turn, and each entry is restarted by itself
+-- a turn leaves other keys alone, an input that is for nobody here changes nothing, each key has its turn, and each entry is restarted by itself
 pub record TurnsApart {S : Type 0} (service : Machine S) (who : Identity) (input : Input) (was now : Stage S) (sent : List Wire) : Type 0 where
   pub others : (standing : law_stage) → Others (node_of who standing) input was now sent
   pub untouched : (standing : law_stage) → IsUntouched (node_of who standing) input was now sent

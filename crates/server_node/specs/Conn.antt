@@ -1,4 +1,4 @@
--- A connection, as far as the node needs it. `Begins`, `IsOursAt` and `IsSound` are opaque to the node.
+-- A connection as the node sees it. `Begins`, `IsOursAt` and `IsSound` are opaque to the node.
 use Rattle.std.specs.Prelude.{◌≡◌, ◌≤◌, ℕ, List, ◌++◌, map}
 use Rattle.std.specs.List.{AllByRecursion, AllByRecursion-prop}
 use Rattle.std.proofs.Math.Nat.{ℕ_set}
@@ -29,15 +29,15 @@ pub record IsOurs {S : Type 0} (server : Addr) (boot : ℕ) (c : ConnState S) (p
 unfoldable pub Begins : {S : Type 0} → Machine S → Addr → (boot : ℕ) → ConnState S → Point → Type 0
 Begins service server boot c p = StandsBefore service c p × IsOurs server boot c p
 
--- .. and after each turn it stands at one
+-- .. and after each turn it corresponds to one
 unfoldable pub IsOursAt : {S : Type 0} → Machine S → Addr → (boot : ℕ) → ConnState S → Point → Type 0
 IsOursAt service server boot c p = StandsConn service c p × IsOurs server boot c p
 
--- what its calls ask of it, whatever came
+-- what its calls require of it, whatever has arrived
 unfoldable pub IsSound : {S : Type 0} → ConnState S → Type 0
 IsSound c = IsSoundConn c
 
--- it is that of this client, in this incarnation
+-- a sound connection of this client, in this incarnation
 pub record Belongs {S : Type 0} (who : Identity) (key : Key) (c : ConnState S) : Type 0 where
   pub sound : IsSound c
   pub client : c.key ≡ key
@@ -60,7 +60,7 @@ Belongs-prop who key c = λ a b i. record {
   incarnation = ℕ_set c.boot who.boot a.incarnation b.incarnation i;
 }
 
--- a turn of a connection: it stands at a next point, and what it gave out is that of a lawful turn
+-- a turn of a connection: it then corresponds to a next point, and what it sends is what a lawful turn sends
 pub record Acts {S : Type 0} (service : Machine S) (server : Addr) (boot : ℕ) (news : News) (p : Point) (c : ConnState S) (segments messages : List (List ℕ)) : Type 0 where
   pub after : Point
   pub packets : List Packet
@@ -70,7 +70,7 @@ pub record Acts {S : Type 0} (service : Machine S) (server : Addr) (boot : ℕ) 
   pub wires : wires_of p.key segments messages ≡ map wire_of packets
   pub spelled : AllByRecursion HasWire packets
 
--- the same with its packets after those of the others
+-- the same, with its packets after those sent before
 pub record ConnGoes {S : Type 0} (service : Machine S) (server : Addr) (boot : ℕ) (news : News) (p : Point) (c : ConnState S) (old new : List Wire) : Type 0 where
   pub after : Point
   pub packets : List Packet

@@ -18,7 +18,7 @@ abbrev pub AreDistinct : List Fetched → Type 0
 AreDistinct [] = Unit {0}
 AreDistinct (f ∷ earlier) = (is_fetched f.head.key earlier ≡ false) × AreDistinct earlier
 
--- of so many entries these have come, the newest first
+-- of `count` entries these are fetched, the newest first
 pub record FetchingStands {S : Type 0} (service : Machine S) (count : ℕ) (fetched : List Fetched) (f : FetchingState S) : Type 0 where
   pub so_many : f.count ≡ count
   pub distinct : AreDistinct fetched
@@ -39,7 +39,7 @@ UsesNone-prop marks.Unused = Unit-prop
 UsesNone-prop marks.Used = λ a b. absurd a
 UsesNone-prop marks.Awaited = λ a b. absurd a
 
--- the restart asks in the name of this incarnation, and runs its service, whatever came
+-- the restart asks with this incarnation's boot number, and runs its service, whatever has arrived
 pub record IsOf {S : Type 0} (who : Identity) (f : FetchingState S) : Type 0 where
   pub boot : f.boot ≡ who.boot
   pub kind : f.kind ≡ who.kind
@@ -47,7 +47,7 @@ pub record IsOf {S : Type 0} (who : Identity) (f : FetchingState S) : Type 0 whe
 pub IsOf-prop : {S : Type 0} (who : Identity) (f : FetchingState S) → IsProp (IsOf who f)
 IsOf-prop who f = λ a b i. record { boot = ℕ_set f.boot who.boot a.boot b.boot i; kind = ℕ_set f.kind who.kind a.kind b.kind i }
 
--- the restart asks in the name of this incarnation, without marks, and runs its service, whatever came
+-- the restart asks with this incarnation's boot number, without marks, and runs its service, whatever has arrived
 pub record IsOwn {S : Type 0} (who : Identity) (f : FetchingState S) : Type 0 where
   pub boot : f.boot ≡ who.boot
   pub kind : f.kind ≡ who.kind

@@ -7,6 +7,6 @@ use Rattle.server_node.specs.declared.identity.Identity.{Identity}
 abbrev pub node_of : Identity → Stage → Node
 node_of who stage = record { server = who.local; boot = who.boot; isn = who.isn; stage = stage }
 
--- its service, which starts as its kind says
+-- an incarnation's service, started as its kind says
 abbrev pub service_of : {S : Type 0} → Ghosts S → Identity → Machine S
 service_of s who = machine (s.started who.kind) s.after

@@ -10,15 +10,15 @@ use Rattle.tcp_endpoint.specs.UserCalls.{sent_number, acked_number}
 use Rattle.wrapped_conn.specs.ConnState.{ConnState}
 use Rattle.wrapped_conn.specs.Refinement.{Tells}
 
--- the TCP inside began its output after the units that the client had acknowledged then, under a number of its own, which is delta below
--- the client's number of the same unit
+-- the inner TCP began its output after the units that the client had acknowledged then, with a number of its own, which is delta below the client's number of
+-- the same unit
 pub record BeginsBehind (p : Point) (delta : ℕ) (e : Tcb) : Type 0 where
   pub behind : ℕ
   pub low : behind ≤ p.una
   pub una : e.sending.una ≡ p.una - behind
   pub shift : (e.sending.iss + delta) % 2 ^ 32 ≡ (p.sisn + behind) % 2 ^ 32
 
--- its numbers are the point's, each less delta
+-- its numbers are the point's, each minus delta
 pub record TcpTells (p : Point) (delta : ℕ) (e : Tcb) : Type 0 where
   pub unclosed : is_closed e.name ≡ false
   pub unreset : e.reset ≡ false

@@ -14,12 +14,12 @@ abbrev pub conn_in : {S : Type 0} → Option (Slot S) → Option (ConnState S)
 conn_in (Some (slot.Live c)) = Some c
 conn_in _ = None
 
--- what a node has for a key. While it doesn't serve, there is no connection to return
+-- the place of a key. While a node doesn't serve, there is none, and no connection to return
 abbrev pub place_in : Key → Stage → Option Place
 place_in key (Serving opened places) = place_at key places
 place_in key _ = None
 
--- a connection at its point, exactly where the key's place is live
+-- there is a connection exactly if the key's place is live, and it corresponds to the place's point
 abbrev pub IsConnAt : {S : Type 0} → Machine S → Node → Option (ConnState S) → Option Place → Type 0
 IsConnAt service node (Some c) (Some (Lives p)) = IsOursAt service node.server node.boot c p
 IsConnAt service node None (Some (Lives p)) = ⊥

@@ -1,10 +1,10 @@
--- What holds of a node that marks, whatever came.
+-- What holds of a node that marks, whatever has arrived.
 use Rattle.std.specs.Coded.{×_prop, Unit-prop, le_prop}
-use Rattle.std.specs.Prelude.{◌≡◌, ℕ, ◌%◌, []}
+use Rattle.std.specs.Prelude.{◌≡◌, ◌%◌, []}
 use Rattle.seq_arith.specs.MessageGrammar.{behind_of}
 use Rattle.mark_laws.specs.MarkedLog.{AnyMessage}
 use Rattle.mark_laws.specs.MarkedLog.AnyMessage.{About_mark, Of_log}
-use Rattle.std.specs.List.{AllByRecursion, AllByRecursion-prop, IsDistinct}
+use Rattle.std.specs.List.{AllByRecursion-prop, IsDistinct}
 use Rattle.std.specs.Map.{keys_of}
 use Rattle.ft_io.specs.Key.{key_eq}
 use Rattle.std.proofs.Math.Nat.{ℕ_set}
@@ -26,7 +26,7 @@ abbrev pub AreApart : {S : Type 0} → MarkedStage S → Type 0
 AreApart (marked.Serving s) = IsDistinct key_eq (keys_of s.slots.entries)
 AreApart _ = Unit {0}
 
--- its calls may be made
+-- what the calls at a stage require of it
 abbrev pub IsSoundAt : {S : Type 0} → Identity → MarkedStage S → Type 0
 IsSoundAt who marked.Asking = Unit {0}
 IsSoundAt who (marked.Fetching f) = IsOf who f

@@ -32,7 +32,7 @@ use Rattle.server_node.specs.Markers.{Saving, marker_of}
 use Rattle.server_node.specs.ServingStage.{ServingStands}
 use Rattle.server_node.specs.Slots.{SlotStands}
 
--- what is fetched is bytes
+-- the fetched bytes fit their type
 abbrev pub AllBytes : List Fetched → Type 0
 AllBytes fetched = AllByRecursion (λ f. AreBytes f.bytes) fetched
 
@@ -61,11 +61,11 @@ pub record AreRestoredMarked {S : Type 0} (by : Marker S) (node : Node) (marking
   pub settled : AllSettled by (markings_then by places marking) places
   pub out : AreOut sent old new
 
--- the same of the slots and the marks together
+-- the same, with the slots and the marks as a pair
 abbrev pub RestoredSoFar : {S : Type 0} → Marker S → Node → (Key → Marking) → List Fetched → Serving S × KeyMarks → (old new : List Wire) → Type 0
 RestoredSoFar by node marking fetched now old new = AreRestoredMarked by node marking fetched now.0 now.1 old new
 
--- of a service, by its ghost members, and an incarnation
+-- for a service, given by its ghost members, and an incarnation
 module _ {S : Type 0} (s : Ghosts S) (v : Saving S) (who : Identity) where
   abbrev pub LogRevivesMarked : List (EntryState S) → (now : Serving S) → (marks later : KeyMarks) → (old new : Turn) → Type 0
   LogRevivesMarked entries now marks later old new =

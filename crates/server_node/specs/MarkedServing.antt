@@ -1,11 +1,10 @@
 -- The turns of a node that marks, while it serves, layer by layer.
-use Rattle.std.specs.Prelude.{◌≡◌, ℕ, ◌+◌, Bool, true, false, Option, Some, None, List, [], ◌∷◌, ◌++◌, length}
-use Rattle.std.specs.List.{AllByRecursion}
+use Rattle.std.specs.Prelude.{◌≡◌, ℕ, ◌+◌, Bool, true, List, [], ◌∷◌, ◌++◌, length}
 use Rattle.ft_io.specs.declared.Key.{Key}
 use Rattle.seq_arith.specs.Mark.{MarkMessage}
 use Rattle.server_trait.specs.declared.Service.{Ghosts}
 use Rattle.ft_model.specs.Node.{Node, Place, Stage as law_stage, Input, place_at}
-use Rattle.ft_model.specs.Node.Input.{Packet_comes, Tick_comes}
+use Rattle.ft_model.specs.Node.Input.{Tick_comes}
 use Rattle.ft_model.specs.ServingTurn.{PlaceTurn, newcomers}
 use Rattle.ft_model.specs.Wire.{Wire}
 use Rattle.mark_laws.specs.Marking.{Marking, Outgoing}
@@ -41,7 +40,7 @@ pub record AllTick {S : Type 0} (by : Marker S) (node : Node) (marking : Key →
   pub settled : AllSettled by marking after
   pub out : AreOut sent old new
 
--- the first slots have had their tick, and the others stand as before
+-- the first slots have had their tick, and the others are as before
 pub record FirstTick {S : Type 0} (by : Marker S) (node : Node) (marking : Key → Marking) (places : List Place) (i : ℕ) (now : List (Key × Slot S)) (old new : List Wire) : Type 0 where
   pub done : List Place
   pub left : List Place
@@ -75,7 +74,7 @@ pub record HeardOfMark {S : Type 0} (by : Marker S) (node : MarkedNode) (places 
   pub settled : AllSettled by marking places
   pub out : AreOut sent old new
 
--- of a service, by its ghost members, and an incarnation
+-- for a service, given by its ghost members, and an incarnation
 module _ {S : Type 0} (s : Ghosts S) (v : Saving S) (who : Identity) where
   abbrev pub SlotTicksMarked : KeyMarks → Key → (was now : Slot S) → (old new : Turn) → Type 0
   SlotTicksMarked marks key was now old new =

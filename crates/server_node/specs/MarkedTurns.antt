@@ -51,7 +51,7 @@ marked_input_of (input.Packet bytes) = Plain_comes (segment_or_noise (packets.re
 marked_input_of (input.Message bytes) = input_of (said_by bytes.now)
 marked_input_of input.Tick = Plain_comes Tick_comes
 
--- bytes that are no message of the log
+-- the input for bytes that are no message of the log
 abbrev pub heard_of : Result MarkMessage BadMark → MarkedInput
 heard_of (Ok message) = Mark_comes message
 heard_of (Err bad) = Plain_comes Noise_comes
@@ -60,7 +60,7 @@ abbrev pub input_of_any : AnyMessage → MarkedInput
 input_of_any (Of_log message) = Plain_comes (Message_comes message)
 input_of_any (About_mark message) = Mark_comes message
 
--- where it stands while it fetches
+-- how a node that fetches corresponds to the law's
 pub record FetchingStandsMarked {S : Type 0} (by : Marker S) (count : ℕ) (now : FetchedSoFar) (f : FetchingState S) : Type 0 where
   pub so_many : f.count ≡ count
   pub distinct : AreDistinct now.entries
@@ -87,7 +87,7 @@ abbrev pub IsSoundMarkedInput : {S : Type 0} → Marker S → MarkedNode → Mar
 IsSoundMarkedInput by node (Plain_comes i) = IsSoundInput by.service node.plain i node.plain.stage
 IsSoundMarkedInput by node (Mark_comes message) = Unit {0}
 
--- .. and where marks are made, these bytes and lengths are below the mark that comes, and what is then fetched is sound
+-- .. and if marks are made, these bytes and lengths are below the mark that comes, and what is then fetched is sound
 pub record IsSoundStart {S : Type 0} (by : Marker S) (bytes lengths : List ℕ) (before : FetchedSoFar) (m : Mark) : Type 0 where
   pub front : IsFront by.service by.writing m bytes lengths
   pub bytes_are : AreBytes bytes
@@ -107,7 +107,7 @@ abbrev pub IsUnfencedMarked : MarkedNode → MarkedInput → Type 0
 IsUnfencedMarked node (Plain_comes i) = fence node.plain i ≡ None
 IsUnfencedMarked node (Mark_comes message) = Unit {0}
 
--- by this law it goes where it then stands, and what it sends is what the law says
+-- the node corresponds to a state to which this law leads, and sends what the law says
 pub record GoesOn {S : Type 0} (by : Marker S) (who : Identity) (Goes : List Outgoing → MarkedNode → Type 0) (now : Marked S) (lent : List Wire) : Type 0 where
   pub standing : law_stage
   pub awaits : Bool
@@ -126,7 +126,7 @@ abbrev pub Notes : AnyMessage → KeyMarks → KeyMarks → Type 0
 Notes (About_mark message) was now = marking_noted message.body was now
 Notes (Of_log message) was now = now ≡ was
 
--- bytes of an entry that come are bytes
+-- the bytes that a Part has fit their type
 abbrev pub BodyBytes : Body → Type 0
 BodyBytes (PartMsg key offset bytes) = AreBytes bytes
 BodyBytes _ = Unit {0}
@@ -140,7 +140,7 @@ abbrev pub SendsQuestion : Option AnyMessage → Bool → (old new : List Wire) 
 SendsQuestion (Some question) asks old new = (asks ≡ true) × AreOut (outgoing question ∷ []) old new
 SendsQuestion None asks old new = (asks ≡ false) × (new ≡ old)
 
--- of a service, by its ghost members, and an incarnation
+-- for a service, given by its ghost members, and an incarnation
 module _ {S : Type 0} (s : Ghosts S) (v : Saving S) (who : Identity) where
   abbrev pub MarkedTurns : MarkedInput → (was now : Marked S) → (sent : List Wire) → Type 0
   MarkedTurns i was now sent =
@@ -159,7 +159,7 @@ module _ {S : Type 0} (s : Ghosts S) (v : Saving S) (who : Identity) where
       → FetchingStandsMarked (marker_of s v who every) count fetched was → AreSound (marker_of s v who every).service fetched.entries
       → GoesOn (marker_of s v who every) who (FetchesMarked (marker_of s v who every) (node_at who standing awaits before) count fetched marking) now sent
 
-  -- the turn of a stage: that of a node that marks is by its law
+  -- the turn of a stage. A node that marks follows its own law
   abbrev pub IsTurnMarked : MarkedInput → (was now : Stage S) → (sent : List Wire) → Type 0
   IsTurnMarked i (stage.Marked was) (stage.Marked now) sent = MarkedTurns i was now sent
   IsTurnMarked i (stage.Marked was) _ sent = ⊥
@@ -180,7 +180,8 @@ pub record MarkedNodeStands {S : Type 0} {s : Ghosts S} (by : Marker S) (node : 
   pub who : node.plain ≡ node_of n.who node.plain.stage
   pub stage : NodeStandsAt by node n.stage
 
--- its turn: it stands elsewhere by the law's turn, and what it lends is what the law says that it sends, in its one spelling
+-- its turn: it corresponds to a state to which the law's turn leads, and the packets that it returns are those that the law says it sends, each in its one
+-- spelling
 pub record MarkedNodeGoes {S : Type 0} {s : Ghosts S} (by : Marker S) (bytes lengths : List ℕ) (node : MarkedNode) (i : MarkedInput) (now : Node S s) (lent : List Wire) : Type 0 where
   pub after : MarkedNode
   pub sent : List Outgoing
@@ -189,7 +190,7 @@ pub record MarkedNodeGoes {S : Type 0} {s : Ghosts S} (by : Marker S) (bytes len
   pub wires : lent ≡ map outgoing_wire sent
   pub spelled : AllByRecursion HasOutgoingWire sent
 
--- .. from wherever it stands, under the premises, whatever is below the mark that comes
+-- .. from any state of the law to which it corresponds, under the premises, whatever is below the mark that comes
 abbrev pub MarkedNodeTurns : {S : Type 0} {s : Ghosts S} → Saving S → MarkedInput → (was now : Node S s) → (lent : List Wire) → Type 0
 MarkedNodeTurns {S} {s} v i was now lent =
     (every : ℕ) (node : MarkedNode) (bytes lengths : List ℕ) → IsFairTo (marker_of s v was.who every) bytes lengths node i

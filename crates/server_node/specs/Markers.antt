@@ -1,4 +1,4 @@
--- How a node of a service marks.
+-- How a node marks, given its service.
 use Rattle.std.specs.Prelude.{ℕ, Bool, Option, List}
 use Rattle.ft_io.specs.declared.Key.{Key}
 use Rattle.server_trait.specs.declared.Service.{Ghosts}
@@ -19,7 +19,7 @@ pub record Saving (S : Type 0) : Type 0 where
 abbrev pub saving : {S : Type 0} → (S → List ℕ) → ((kind : ℕ) → List ℕ → Option S) → Bool → Saving S
 saving form state_of savable = record { form = form; state_of = state_of; savable = savable }
 
--- a node that was told to mark after every so many reads marks so, if the states of its service can be saved; else it makes no marks
+-- how a node with this `every` marks. If its service isn't savable, it makes no marks
 abbrev pub marker_of : {S : Type 0} → Ghosts S → Saving S → Identity → (every : ℕ) → Marker S
 marker_of s v who every = record { service = service_of s who; writing = writing v.form (v.state_of who.kind); every = every_for v.savable every }
 

@@ -19,6 +19,6 @@ pub record NodeTurns {S : Type 0} {s : Ghosts S} (input : Input) (was now : Node
   pub apart : TurnsApart (service_of s was.who) was.who input was.stage now.stage lent
 
 module _ (S : RattleType) (s : Ghosts S.Denot) where
-  -- A turn returns a borrow of the packets that it sent. So the node after the turn is described as it is when that borrow ends: then this holds of it
+  -- A turn returns a borrow of the packets that it sent. So this says what holds of the node after the turn once that borrow has ended
   abbrev pub Leaves : MutBor (Node S.Denot s) → (Node S.Denot s → Type 0) → Fml
   Leaves node Holds = follows_so (the_row S s) (the_row S s) node.ghost_name none (λ _ _. ⊤) Holds

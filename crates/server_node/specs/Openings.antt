@@ -20,11 +20,11 @@ use Rattle.server_node.specs.declared.slot.Opening.{Opening}
 pub use Rattle.server_node.specs.SentBytes.{ArePut}
 use Rattle.server_node.specs.Slots.{numbers_of, AllStand}
 
--- a number is one of the initial numbers of an incarnation, each 65,536 after the one before it
+-- a number is one of the initial sequence numbers of an incarnation, each 65,536 after the one before it
 abbrev pub IsCounted : (isn next : ℕ) → Type 0
 IsCounted isn next = (next % 65536 ≡ isn % 65536) × (next < 2 ^ 32)
 
--- the Open of a slot, if it is asked for
+-- the Open that is sent for a slot, if one is
 abbrev pub slot_opens : {S : Type 0} → Node → Input → Key → Slot S → List Packet
 slot_opens node input key (slot.Pending o) = opens_at node input (Opens (numbers_of key o))
 slot_opens node input key _ = []
@@ -39,7 +39,7 @@ is_pending_slot _ = false
 abbrev pub pending_slots : {S : Type 0} → List (Key × Slot S) → ℕ
 pending_slots es = length (filter (λ e. is_pending_slot e.1) es)
 
--- a segment of a client that isn't known makes an opening with the next initial number, and asks for it at once, ..
+-- a segment of an unknown client makes an opening with the next initial sequence number, and asks for it at once, ..
 pub record Opened {S : Type 0} (node : Node) (segment : Segment) (key : Key) (number next : ℕ) (was now : List (Key × Slot S)) (old new : List Wire) : Type 0 where
   pub opening : Opening
   pub numbers : numbers_of key opening ≡ record { key = source_of segment; cisn = segment.head.seq; sisn = number; mss = segment_size segment.head.mss }
@@ -57,7 +57,7 @@ abbrev pub Knocks : {S : Type 0} → Node → Segment → Key → (number next :
 Knocks node segment key number next was now old new =
     MatchBool (is_syn segment && nat_lt (pending_slots was) 64) (Opened node segment key number next was now old new) (Waits number next was now old new)
 
--- a segment of a client that isn't known has made an opening where the law says so, and the Opens of the turn are sent
+-- a segment of an unknown client has made an opening if the law says so, and the Opens of the turn are sent
 pub record Admits {S : Type 0} (service : Machine S) (node : Node) (segment : Segment) (opened : ℕ) (places : List Place) (next : ℕ) (now : List (Key × Slot S)) (old new : List Wire) : Type 0 where
   pub number : next ≡ initial_number node.isn (opened + length (newcomers node (Packet_comes segment) opened places))
   pub stands : AllStand service node now (places ++ newcomers node (Packet_comes segment) opened places)

@@ -1,4 +1,4 @@
--- The key to which a packet of the node belongs: it goes to that client, or it is a message to the logger about that client's connection.
+-- The key to which a packet of the node belongs: it is sent to that client, or it is a message to the logger about that client's connection.
 use Rattle.std.specs.Prelude.{◌≡◌, ◌++◌, ℕ, Bool, true, false, IfOk, List, filter, Result, Ok, Err}
 use Rattle.std.specs.List.{AllByRecursion}
 use Rattle.ft_io.specs.declared.Key.{Key}
@@ -10,7 +10,7 @@ use Rattle.seq_arith.specs.MessageGrammar as messages
 use Rattle.ft_model.specs.Wire.{Wire, Party}
 use Rattle.ft_model.specs.Wire.Party.{A_client, The_server, The_logger}
 
--- a message of the server tells something of this key's connection
+-- whether a message of the server is about this key's connection
 abbrev pub tells_of : Body → Key → Bool
 tells_of (OpenMsg numbers) key = key_eq numbers.key key
 tells_of (DataMsg part) key = key_eq part.key key
@@ -18,7 +18,7 @@ tells_of (ReadMsg named index length) key = key_eq named key
 tells_of (DoneMsg named) key = key_eq named key
 tells_of _ key = false
 
--- so does what the logger reads of a datagram
+-- whether the message that the logger reads in a datagram is
 abbrev pub is_told_of : Key → Result Message BadMsg → Bool
 is_told_of key (Ok message) = tells_of message.body key
 is_told_of key (Err bad) = false
@@ -28,7 +28,7 @@ goes_to key (A_client client) bytes = key_eq client key
 goes_to key The_logger bytes = is_told_of key (messages.reading bytes)
 goes_to key The_server bytes = false
 
--- a packet is this key's: it goes to this client, or it is a message to the logger about it
+-- whether a packet is this key's: it is sent to this client, or it is a message to the logger about it
 abbrev pub is_of : Key → Wire → Bool
 is_of key wire = goes_to key wire.to wire.bytes
 
@@ -45,7 +45,7 @@ IsBetween key The_server bytes = ⊥
 abbrev pub IsFor : Key → Wire → Type 0
 IsFor key wire = IsBetween key wire.to wire.bytes
 
--- after what was sent before come only packets of this key alone
+-- only packets of this key alone are sent, after what was sent before
 pub record IsOnlyFor (key : Key) (old new : List Wire) : Type 0 where
   pub told : List Wire
   pub put : new ≡ old ++ told

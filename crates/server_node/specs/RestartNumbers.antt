@@ -1,4 +1,4 @@
--- The numbers of the connections that a restart restores: each inner TCP has an initial number of its own, of this incarnation.
+-- The numbers of the connections that a restart restores: each inner TCP has an initial sequence number of its own, of this incarnation.
 use Rattle.std.specs.Prelude.{◌≡◌, ℕ, false, Option, Some, None, unwrap_or, List, [], ◌∷◌}
 use Rattle.std.specs.Map.{lookup}
 use Rattle.ft_io.specs.declared.Key.{Key}
@@ -18,18 +18,18 @@ use Rattle.server_node.specs.declared.stage.Stage.{Stage}
 use Rattle.server_node.specs.declared.stage.Stage.TheVariants as stage
 use Rattle.server_node.specs.Loan.{conn_in}
 
--- the inner TCP has this initial number i, and delta is the difference from it to the number that the client knows for the unit of output at which
+-- the inner TCP has this initial sequence number i, and delta is the difference from it to the number that the client knows for the unit of output at which
 -- the entry continues: sisn + u - i, modulo 2^32
 pub record GoesOnUnder {S : Type 0} (service : Machine S) (e : Entry) (i : ℕ) (c : ConnState S) : Type 0 where
   pub number : c.endpoint.sending.iss ≡ i
   pub delta : c.south.delta ≡ delta_from service e i
 
--- there is a connection, and it goes on so
+-- there is a connection, and it continues so
 abbrev pub IsNumbered : {S : Type 0} → Machine S → Entry → (i : ℕ) → Option (ConnState S) → Type 0
 IsNumbered service e i (Some c) = GoesOnUnder service e i c
 IsNumbered service e i None = ⊥
 
--- of these entries, the newest first, each that isn't done goes on under the next initial number after those of the earlier ones
+-- of these entries, the newest first, each that isn't done continues with the next initial sequence number after those of the earlier ones
 abbrev pub AreNumbered : {S : Type 0} → Machine S → (isn : ℕ) → List Fetched → List (Key × Slot S) → Type 0
 AreNumbered service isn [] es = Unit {0}
 AreNumbered service isn (f ∷ earlier) es =

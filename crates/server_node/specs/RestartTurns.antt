@@ -1,5 +1,5 @@
--- A whole turn of a restart, layer by layer, as in `Turns`. By the law: the entries that have come are sound. Alone: each entry by itself, whatever
--- the others are.
+-- A whole turn of a restart, layer by layer, as in `Turns`. By the law: if the fetched entries are sound. Alone: each entry by itself, whatever the others
+-- are.
 use Rattle.std.specs.Prelude.{◌≡◌, ◌∷◌, [], ℕ, List, Some, false, reverse, IfSome}
 use Rattle.seq_arith.specs.Message.{Message}
 use Rattle.seq_arith.specs.Packet.{Segment}
@@ -31,9 +31,9 @@ use Rattle.server_node.specs.Restarts.{RestartGoes, RestoredAlone, AnswerGoes, M
 use Rattle.server_node.specs.RestartEnd.{SlotRevives, AreRestored, StageGoes}
 use Rattle.server_node.specs.Turns.{Sends}
 
--- of a service, by its ghost members, and an incarnation
+-- for a service, given by its ghost members, and an incarnation
 module _ {S : Type 0} (s : Ghosts S) (who : Identity) where
-  -- the log has so many entries: what is missing of them is asked for
+  -- the log has `count` entries: what is missing of them is asked for
   abbrev pub FetchingBegins : (count : ℕ) → (now : Stage S) → (old new : Turn) → Type 0
   FetchingBegins count now old new =
       (standing : law_stage)
@@ -120,7 +120,7 @@ module _ {S : Type 0} (s : Ghosts S) (who : Identity) where
       → SlotRevives (service_of s who) (node_of who standing) e.key (Lives (point_of (service_of s who) e)) now
       old.sent.items new.sent.items
 
-  -- .. and its inner TCP has this initial number
+  -- .. and its inner TCP has this initial sequence number
   abbrev pub IsNumberedFrom : ReplayedState S → (number : ℕ) → (now : Slot S) → Type 0
   IsNumberedFrom replayed number now =
       (fresh : S) (e : Entry) → IsReplayed (machine fresh s.after) e replayed → IsSoundEntry (machine fresh s.after) e

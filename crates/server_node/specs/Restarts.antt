@@ -1,4 +1,4 @@
--- What each entry's key has of a restart, whatever the other entries are: one that can't be restored touches its own key alone.
+-- What a restart does for each entry's key, whatever the other entries are: an entry that can't be restored affects its own key alone.
 use Rattle.std.specs.Prelude.{◌≡◌, MatchOption, ℕ, true, false, Option, Some, None, List, [], ◌∷◌, ◌++◌, map}
 use Rattle.std.specs.List.{AllByRecursion}
 use Rattle.ft_io.specs.declared.Key.{Key}
@@ -24,7 +24,8 @@ use Rattle.server_node.specs.Ownership.{of_key, IsFor}
 abbrev pub IsRestorable : {S : Type 0} → Machine S → Fetched → Type 0
 IsRestorable service f = f.head.done ≡ false → IsSoundEntry service (entry_in f)
 
--- its key's first turn, from the place of the entry: its slot stands at the place after it, and of what is sent the key's packets are those of the law
+-- the first turn of an entry's key, from the place of the entry: the key's slot corresponds to the place after it, and the key's packets among those sent are
+-- those of the law
 pub record KeyRevives {S : Type 0} (service : Machine S) (node : Node) (f : Fetched) (now : Option (Slot S)) (sent : List Wire) : Type 0 where
   pub after : Place
   pub packets : List Packet
@@ -45,14 +46,14 @@ pub record RestoredAlone {S : Type 0} (service : Machine S) (node : Node) (fetch
   pub others : (key : Key) → is_fetched key fetched ≡ false → slot_of key now ≡ None
   pub whose : AllByRecursion (IsForFetched fetched) told
 
--- it asks for what is missing next
+-- the restart asks for what is missing next
 pub record StillAsks {S : Type 0} (service : Machine S) (node : Node) (count : ℕ) (fetched : List Fetched) (now : FetchingState S) (old new : List Wire) : Type 0 where
   pub next : Wanted
   pub missing : wanted count fetched ≡ Some next
   pub stands : FetchingStands service count fetched now
   pub asks : ArePut (asked node (Some next)) old new
 
--- where a restart is with these entries: it asks for what is missing, or nothing is and it serves
+-- what a restart does with these entries: it asks for what is missing, or, if nothing is, the node serves
 abbrev pub RestartGoes : {S : Type 0} → Machine S → Node → (count : ℕ) → List Fetched → Stage S → (old new : List Wire) → Type 0
 RestartGoes service node count fetched (stage.Fetching f) old new = StillAsks service node count fetched f old new
 RestartGoes service node count fetched (stage.Serving s) old new = (wanted count fetched ≡ None) × RestoredAlone service node fetched s old new
@@ -73,7 +74,7 @@ MessageRestarts service node message (stage.Serving s) now sent = Unit {0}
 MessageRestarts service node message (stage.Marked m) now sent = Unit {0}
 MessageRestarts service node message stage.Lost now sent = Unit {0}
 
--- a node's turn restarts each key by itself. Only messages lead a restart on
+-- a node's turn restarts each key by itself. Only messages advance a restart
 abbrev pub Restarts : {S : Type 0} → Machine S → Node → Input → (was now : Stage S) → List Wire → Type 0
 Restarts service node (Message_comes message) was now sent = MessageRestarts service node message was now sent
 Restarts service node (Packet_comes segment) was now sent = Unit {0}

@@ -8,13 +8,13 @@ use Rattle.server_node.specs.declared.serving.Serving.{Serving}
 use Rattle.server_node.specs.declared.stage.Stage.TheVariants as stage
 use Rattle.server_node.specs.Alone.{slot_of, StandsFor, IsNearFor, Alone, KeyGoes}
 
--- a turn of a node that serves: what came, what it has after it, and what it sent
+-- a turn of a node that serves: the input, the node's state after it, and what it sent
 pub record Turned (S : Type 0) : Type 0 where
   pub input : Input
   pub now : Serving S
   pub sent : List Wire
 
--- what it has after these turns, newest first
+-- the node's state after these turns, newest first
 abbrev pub served_by : {S : Type 0} → Serving S → List (Turned S) → Serving S
 served_by first [] = first
 served_by first (turn ∷ earlier) = turn.now
@@ -26,21 +26,21 @@ AreTurns service node first (turn ∷ earlier) =
     AreTurns service node first earlier
     × Alone service node turn.input (stage.Serving (served_by first earlier)) (stage.Serving turn.now) turn.sent
 
--- each packet of the key's own client was near to the place at which the key stood then. Nothing is asked of other packets
+-- each packet of the key's own client was near to the key's place at that time. Nothing is required of other packets
 abbrev pub AreNearFor : {S : Type 0} → Machine S → Node → Key → Serving S → List (Turned S) → Type 0
 AreNearFor service node key first [] = Unit {0}
 AreNearFor service node key first (turn ∷ earlier) =
     AreNearFor service node key first earlier
     × ((place : Option Place) → StandsFor service node key (slot_of key (served_by first earlier)) place → IsNearFor node.server turn.input place)
 
--- all turns of the key, from this place to that one, are lawful, and its slot stands at its place after each
+-- all turns of the key, from this place to that one, are lawful, and its slot corresponds to its place after each
 abbrev pub KeyRuns : {S : Type 0} → Machine S → Node → Key → Serving S → List (Turned S) → (start last : Option Place) → Type 0
 KeyRuns service node key first [] start last = last ≡ start
 KeyRuns service node key first (turn ∷ earlier) start last =
     (before : Option Place) × KeyRuns service node key first earlier start before
     × (goes : KeyGoes service node turn.input key before (served_by first earlier) turn.now turn.sent) × (last ≡ goes.after)
 
--- the key's run, with its slot at its place at the end
+-- the key's run, at whose end its slot corresponds to its place
 pub record RunsAlone {S : Type 0} (service : Machine S) (node : Node) (key : Key) (first : Serving S) (turns : List (Turned S)) (start : Option Place) : Type 0 where
   pub last : Option Place
   pub runs : KeyRuns service node key first turns start last

@@ -21,7 +21,7 @@ segment_to key bytes = sent_to (Client key) bytes
 abbrev pub message_to_logger : List ℕ → Wire
 message_to_logger bytes = sent_to Logger bytes
 
--- what one connection gives out in a turn: its segments, then its messages
+-- what one connection sends in a turn: its segments, then its messages
 abbrev pub wires_of : Key → (segments messages : List (List ℕ)) → List Wire
 wires_of key segments messages = map (segment_to key) segments ++ map message_to_logger messages
 

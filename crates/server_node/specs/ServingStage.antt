@@ -10,7 +10,7 @@ use Rattle.ft_model.specs.Wire.{Wire, wire_of, HasWire}
 use Rattle.server_node.specs.declared.serving.Serving.{Serving}
 use Rattle.server_node.specs.Slots.{AllStand}
 
--- so many initial numbers are used up, and the slots correspond to these places
+-- `opened` initial sequence numbers are used up, and the slots correspond to these places
 pub record ServingStands {S : Type 0} (service : Machine S) (node : Node) (opened : ℕ) (places : List Place) (now : Serving S) : Type 0 where
   pub number : now.next.0 ≡ initial_number node.isn opened
   pub slots : AllStand service node now.slots.entries places

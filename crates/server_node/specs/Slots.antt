@@ -31,7 +31,7 @@ AllStand service node [] [] = Unit {0}
 AllStand service node (e ∷ es) (q ∷ qs) = SlotStands service node e.0 e.1 q × AllStand service node es qs
 AllStand service node _ _ = ⊥
 
--- a live connection is that of its key and its calls may be made, and an opening can be asked for, whatever came
+-- a live connection is that of its key and its calls may be made, and an opening can be asked for, whatever has arrived
 abbrev pub IsSoundSlot : {S : Type 0} → Identity → Key → Slot S → Type 0
 IsSoundSlot who key (slot.Live c) = Belongs who key c
 IsSoundSlot who key (slot.Pending o) = (64 ≤ o.mss) × (o.mss ≤ 1460)
@@ -54,7 +54,7 @@ pub record SlotGoes {S : Type 0} (service : Machine S) (node : Node) (input : In
   pub wires : new ≡ old ++ map wire_of packets
   pub spelled : AllByRecursion HasWire packets
 
--- one slot's turn in which it goes away
+-- one slot's turn in which it is removed
 pub record SlotLeaves {S : Type 0} (service : Machine S) (node : Node) (input : Input) (place : Place) (old new : List Wire) : Type 0 where
   pub packets : List Packet
   pub turn : PlaceTurn service node input place [] packets
@@ -70,7 +70,7 @@ pub record AllSlotsGo {S : Type 0} (service : Machine S) (node : Node) (input : 
   pub wires : new ≡ old ++ map wire_of packets
   pub spelled : AllByRecursion HasWire packets
 
--- the first slots have had their turn, and the others stand as before
+-- the first slots have had their turn, and the others are as before
 pub record FirstGo {S : Type 0} (service : Machine S) (node : Node) (input : Input) (places : List Place) (i : ℕ) (now : List (Key × Slot S)) (old new : List Wire) : Type 0 where
   pub done : List Place
   pub left : List Place

@@ -30,12 +30,12 @@ StageStands service node (stage.Serving s) = (opened : ℕ) × (places : List la
 StageStands service node (stage.Marked m) = ⊥
 StageStands service node stage.Lost = ⊥
 
--- whether a node marks. One that does has another law
+-- whether a node marks. A node that does has another law
 abbrev pub is_marked : {S : Type 0} → Stage S → Bool
 is_marked (stage.Marked m) = true
 is_marked _ = false
 
--- the stage's calls may be made, whatever came
+-- what the calls at a stage require of it, whatever has arrived
 abbrev pub IsSoundStage : {S : Type 0} → Identity → Stage S → Type 0
 IsSoundStage who (stage.Fetching f) = IsOwn who f
 IsSoundStage who (stage.Serving s) = AllSound who s.slots.entries × IsCounted who.isn s.next.0
@@ -50,8 +50,8 @@ IsSoundStage-prop who (stage.Serving s) =
 IsSoundStage-prop who (stage.Marked m) = IsSoundMarked-prop who m
 IsSoundStage-prop who stage.Lost = Unit-prop
 
--- a turn by the law: the node corresponds to a next one of the model's, and the packets of the turn are what it sent, each in its one spelling.
--- Where the turn ends a restart, the inner TCP of the nth restored connection has the nth initial number of this incarnation
+-- a turn by the law: the node corresponds to a next one of the model's, and the packets of the turn are what it sent, each in its one spelling. If the turn
+-- ends a restart, the inner TCP of the nth restored connection has the nth initial sequence number of this incarnation
 pub record NodeGoes {S : Type 0} (service : Machine S) (node : law.Node) (input : law.Input) (who : Identity) (now : Stage S) (sent : List Wire) : Type 0 where
   pub after : law.Stage
   pub packets : List Packet

@@ -1,6 +1,6 @@
--- A whole turn, layer by layer: what a function of the node promises of the connection, the slot, the slots or the stage that it is given, and of
--- what it sends. By the law: from any place in the model at which it stands, it goes to a place by the model's turn. Alone: each key by itself,
--- whatever the other clients send and wherever their connections stand.
+-- A whole turn, layer by layer: what a function of the node promises of the connection, the slot, the slots or the stage that it is given, and of what it
+-- sends. By the law: if it corresponds to a place in the model, it corresponds after the turn to a place that the model's turn leads to. Alone: each key by
+-- itself, whatever the other clients send and in whatever state their connections are.
 use Rattle.std.specs.Prelude.{◌≡◌, ℕ, List, Some, None}
 use Rattle.std.specs.List.{AllByRecursion}
 use Rattle.ft_io.specs.declared.Addr.{Addr}
@@ -48,12 +48,12 @@ SendsSegments segments old new = AreSent segments old.sent.items new.sent.items
 abbrev pub SendsFor : Key → (old new : Turn) → Type 0
 SendsFor key old new = IsOnlyFor key old.sent.items new.sent.items
 
--- a segment is near to a connection's point. Of other news nothing is asked
+-- a segment is near to a connection's point. Of other news nothing is required
 abbrev pub IsNearNews : News → Point → Type 0
 IsNearNews (Comes segment) p = IsNear p.cisn p.sisn segment
 IsNearNews _ p = Unit {0}
 
--- a packet is near to each place that is its own client's
+-- a packet is near to the place of its own client
 abbrev pub IsNearForAll : Addr → Input → List Place → Type 0
 IsNearForAll server (Packet_comes segment) places = AllByRecursion (IsNearTo server segment) places
 IsNearForAll server _ places = Unit {0}
@@ -62,12 +62,12 @@ IsNearForAll server _ places = Unit {0}
 abbrev pub SendsOpens : {S : Type 0} → Identity → Input → List (Key × Slot S) → (old new : Turn) → Type 0
 SendsOpens who input slots old new = (standing : law_stage) → Sends (all_opens (node_of who standing) input slots) old new
 
--- what a segment of a client that isn't known does to the slots and to the next initial number
+-- what a segment of an unknown client does to the slots and to the next initial sequence number
 abbrev pub TurnAdmitsAlone : {S : Type 0} → Identity → Segment → (number next : ℕ) → (was now : List (Key × Slot S)) → (old new : Turn) → Type 0
 TurnAdmitsAlone who segment number next was now old new =
     (standing : law_stage) → Knocks (node_of who standing) segment (source_of segment) number next was now old.sent.items new.sent.items
 
--- of a service, by its ghost members, and an incarnation
+-- for a service, given by its ghost members, and an incarnation
 module _ {S : Type 0} (s : Ghosts S) (who : Identity) where
   -- a connection's turn
   abbrev pub ConnTurns : News → Key → (was now : ConnState S) → (old new : Turn) → Type 0
@@ -100,7 +100,7 @@ module _ {S : Type 0} (s : Ghosts S) (who : Identity) where
   abbrev pub SlotsTurnAlone : Input → (was now : List (Key × Slot S)) → (old new : Turn) → Type 0
   SlotsTurnAlone input was now old new = (standing : law_stage) → SlotsAlone (service_of s who) (node_of who standing) input was now old.sent.items new.sent.items
 
-  -- a segment of a client that isn't known, where so many initial numbers are used up
+  -- a segment of an unknown client, where `opened` initial sequence numbers are used up
   abbrev pub TurnAdmits : Segment → (number next : ℕ) → (was now : List (Key × Slot S)) → (old new : Turn) → Type 0
   TurnAdmits segment number next was now old new =
       (standing : law_stage) (opened : ℕ) (places : List Place) → number ≡ initial_number who.isn opened
@@ -117,14 +117,14 @@ module _ {S : Type 0} (s : Ghosts S) (who : Identity) where
   abbrev pub ServingTurnsAlone : Input → (was now : Serving S) → (old new : Turn) → Type 0
   ServingTurnsAlone input was now old new = (standing : law_stage) → ServesAlone (service_of s who) (node_of who standing) input was now old.sent.items new.sent.items
 
-  -- the turn of a stage, where a packet is near and a fetched entry is sound, and all that it sends
+  -- the turn of a stage, and all that it sends, if a packet is near and a fetched entry is sound
   abbrev pub StageTurns : Input → (was now : Stage S) → (sent : List Wire) → Type 0
   StageTurns input was now sent =
       (standing : law_stage) → IsNearInput who.local input standing → IsSoundInput (service_of s who) (node_of who standing) input standing
       → StageStands (service_of s who) (node_of who standing) was
       → NodeGoes (service_of s who) (node_of who standing) input who now sent
 
--- an input doesn't end the incarnation
+-- an input doesn't fence the incarnation
 abbrev pub IsUnfenced : Identity → Input → Type 0
 IsUnfenced who input = (standing : law_stage) → fence (node_of who standing) input ≡ None
 

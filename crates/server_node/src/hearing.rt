@@ -128,8 +128,8 @@ fn drop_slot<S: Service>(key: Key, slots: &mut IndexMap<Key, Slot<S>>)
     let _ = slots.shift_remove(&key);
 }
 
-/// The log has an entry for a key, with these numbers: a pending opening with the same initial number of the client becomes a connection, one with another
-/// is dropped.
+/// Handles the message that the log has an entry for a key, with these numbers: a pending opening with the same initial sequence number of the client becomes
+/// a connection, and one with another is dropped.
 pub(crate) fn open_known<S: Service>(
     who: Identity,
     key: Key,
@@ -159,7 +159,7 @@ pub(crate) fn open_known<S: Service>(
     Ok(())
 }
 
-/// The log is full: a pending opening is dropped and its SYN refused.
+/// Handles the message that the log is full: drops a pending opening, and refuses its SYN.
 pub(crate) fn refuse_known<S: Service>(
     who: Identity,
     key: Key,

@@ -5,7 +5,7 @@ use ft_io::Addr;
 /// What never changes in an incarnation of the server.
 #[derive(Clone, Copy, Debug)]
 pub(crate) struct Identity {
-    /// At least 1.
+    /// The boot number, at least 1.
     pub boot: u64,
     /// The number from which its initial sequence numbers are counted.
     pub isn: u32,

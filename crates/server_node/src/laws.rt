@@ -1,4 +1,4 @@
-//! Laws of a node at its place in the model, each the contract of a function with an empty body.
+//! Laws of a node that corresponds to the model's, each the contract of a function with an empty body.
 
 ghost use Rattle.std.specs.Prelude.{ℕ, List, Option};
 ghost use Rattle.ft_io.specs.declared.Addr.{Addr};
@@ -19,22 +19,23 @@ ghost use Rattle.server_node.specs.Stages.{StageStands};
 
 use server_trait::Service;
 
-/// The connection that `Node::conn` returns shows its point: `inside` returns the point's numbers, the south wrapper's delta and stable number and the north wrapper's
-/// counts agree with it, and until the connection is over or reset its TCP is neither CLOSED nor reset, and its numbers are the point's, each minus delta.
+/// The connection that `Node::conn` returns shows its point. `inside` returns the point's numbers, and the south wrapper's delta and stable number and the
+/// north wrapper's counts agree with it. Until the connection is over or reset, its TCP is neither CLOSED nor reset, and has the point's numbers, each minus
+/// delta.
 pub fn lent_connections_tell_their_point<S: Service>()
     ensures { (fresh : S) (server : Addr) (boot : ℕ) (p : Point) (c : ConnState S) → IsSound c → IsOursAt (machine fresh S.after) server boot c p
         → TellsItsPoint (machine fresh S.after) p c }
 {}
 
-/// Where a node corresponds to the model's, so does each key: its slot corresponds to its place there, or it has neither slot nor place.
+/// If a node corresponds to the model's, so does each key: its slot corresponds to its place there, or it has neither slot nor place.
 pub fn standing_nodes_stand_for_each_key<S: Service>()
     ensures { (service : Machine S) (node : Node) (at : Stage S) (key : Key) → StageStands service node at
         → StandsFor service node key (slot_in key at) (place_in key node.stage) }
 {}
 
-/// No client can affect another's connection, over any run of turns of a node that serves: a key whose slot is at its place, or that isn't known yet, and whose
-/// own client's packets were all near, has had a lawful turn in each of them, as in a server that serves only this key, and its slot is at the place after it.
-/// Nothing is assumed of what other clients sent, nor of any other connection.
+/// No client can affect another's connection, over any run of turns of a node that serves. Take a key whose slot corresponds to its place, or that isn't
+/// known yet, and whose own client's packets were all near: it has had a lawful turn in each of them, as in a server that serves only this key, and its slot
+/// corresponds to its place after the last. Nothing is assumed of what other clients sent, nor of any other connection.
 pub fn keys_run_alone<S: Service>()
     ensures { (service : Machine S) (node : Node) (key : Key) (first : Serving S) (turns : List (Turned S)) (start : Option Place)
         → AreTurns service node first turns → StandsFor service node key (slot_of key first) start → AreNearFor service node key first turns

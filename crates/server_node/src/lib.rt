@@ -1,7 +1,7 @@
 //! The server of one incarnation: it boots, fetches the log, restarts every connection, and serves.
 //!
-//! Contracts and `specs/` relate it to the model. A key's *slot* here is its *place* in the model's node. A value of the code *stands* at one of the model where
-//! it corresponds to it. *By the law* means as the model's lawful turn says, and *alone* means for one key, whatever happens to the others.
+//! Contracts and `specs/` relate it to the model. A key's *slot* here is its *place* in the model's node. In names, *stands* means that a value of the
+//! code corresponds to one of the model. *By the law* means as the model's lawful turn says, and *alone* means for one key, whatever happens to the others.
 #![tactic(auto)]
 
 pub use input::{Input, TurnEnd};

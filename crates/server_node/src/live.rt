@@ -20,7 +20,7 @@ use logger_wire::Msg;
 use server_trait::Service;
 use wrapped_conn::Conn;
 
-/// A new connection, with the numbers that the log keeps, and its first turn.
+/// Makes a new connection, with the numbers that the log keeps, and takes its first turn.
 #[tactic(auto, unfolding(crate::specs::Conn::IsSound))]
 pub(crate) fn begin_live<S: Service>(
     who: Identity,
@@ -51,7 +51,7 @@ pub(crate) fn begin_live<S: Service>(
     Ok(conn)
 }
 
-/// The first turn of a connection that a restart has put together: `key` is its client's.
+/// Takes the first turn of a connection that a restart has put together. `key` is its client's.
 #[tactic(auto, unfolding(crate::specs::Conn::IsSound))]
 pub(crate) fn start_live<S: Service>(
     who: Identity,
@@ -71,7 +71,7 @@ pub(crate) fn start_live<S: Service>(
     send_all(key, turn)
 }
 
-/// A tick at a live connection.
+/// Takes a live connection's turn at a tick.
 #[tactic(auto, unfolding(crate::specs::Conn::IsSound))]
 pub(crate) fn tick_live<S: Service>(
     who: Identity,
@@ -89,7 +89,7 @@ pub(crate) fn tick_live<S: Service>(
     send_all(key, turn)
 }
 
-/// A segment at a live connection.
+/// Takes a live connection's turn on a segment. `packet` has its bytes.
 #[tactic(auto, unfolding(crate::specs::Conn::IsSound))]
 pub(crate) fn give_live<S: Service>(
     who: Identity,
@@ -111,7 +111,7 @@ pub(crate) fn give_live<S: Service>(
     send_all(key, turn)
 }
 
-/// A message about how much of a live connection is logged.
+/// Takes a live connection's turn on a message about how much of it is logged.
 #[tactic(auto, unfolding(crate::specs::Conn::IsSound))]
 pub(crate) fn tell_live<S: Service>(
     who: Identity,

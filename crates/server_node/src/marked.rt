@@ -1,5 +1,5 @@
-//! A node that marks: how far it is, and what an input does to it. Its turns are those of a node that makes no marks, with its messages about marks between the
-//! packets. In a restart it asks for the mark of each entry too, and begins the entry there.
+//! A node that marks: its stage, and what an input does to it. Its turns are those of a node without marks, with its messages about marks between the
+//! packets. In a restart it asks for the marks of the entries too, and begins each entry at its mark.
 
 ghost use Rattle.std.specs.Prelude.{◌≡◌, ◌≤◌, ◌∷◌, ℕ, [], false, Ok, None, IfOk, IfSome, OnOk, option_copied};
 ghost use Rattle.seq_arith.specs.PacketGrammar.{reading};
@@ -46,7 +46,7 @@ use server_trait::{Saved, Service};
 use std::alloc::Global;
 use wrapped_conn::Conn;
 
-/// How far a node is that marks.
+/// The stage of a node that marks.
 #[derive(Drop)]
 pub(crate) enum MarkedStage<S: Service> {
     /// The logger was asked how many entries it has.
@@ -59,13 +59,13 @@ pub(crate) enum MarkedStage<S: Service> {
 /// A node that marks.
 #[derive(Drop)]
 pub(crate) struct Marked<S: Service> {
-    /// How far it is.
+    /// Its stage.
     pub stage: MarkedStage<S>,
     /// What is stored of its connections' marks.
     pub marks: Marks,
 }
 
-/// A tick.
+/// Takes the turn at a tick.
 pub(crate) fn tick<S: Saved>(
     who: Identity,
     node: Marked<S>,
@@ -121,7 +121,7 @@ fn serving_on<S: Service>(serving: Serving<S>, marks: Marks) -> Marked<S>
     }
 }
 
-/// A segment, with its bytes. While nothing is fetched, clients get no answer.
+/// Takes the turn on a segment; `packet` has its bytes. Until the logger has said how many entries it has, clients get no answer.
 pub(crate) fn give<S: Saved>(
     who: Identity,
     node: Marked<S>,
@@ -150,7 +150,7 @@ pub(crate) fn give<S: Saved>(
     }
 }
 
-/// A message of this boot that isn't about marks, and is no fence.
+/// Takes the turn on a message of this boot that isn't about marks and doesn't fence the node.
 pub(crate) fn hear<S: Saved>(
     who: Identity,
     node: Marked<S>,
@@ -178,7 +178,7 @@ pub(crate) fn hear<S: Saved>(
     }
 }
 
-/// Bytes that may be a message about marks. One of another boot changes nothing.
+/// Takes the turn on bytes that may be a message about marks. A message of another boot changes nothing.
 pub(crate) fn hear_bytes<S: Saved>(
     who: Identity,
     node: Marked<S>,
@@ -211,7 +211,7 @@ pub(crate) fn apart_in<S: Saved>(stage: &MarkedStage<S>)
     }
 }
 
-/// A message about marks of this boot.
+/// Takes the turn on a message about marks of this boot.
 fn hear_mark<S: Saved>(
     who: Identity,
     node: Marked<S>,
@@ -251,7 +251,7 @@ pub(crate) fn lend<S: Service>(node: &Marked<S>, key: Key) -> Option<&Conn<S>>
     }
 }
 
-/// A message while the logger is asked how many entries it has. If it tells that, the first entry is asked for.
+/// Takes the turn on a message while the logger is asked how many entries it has. If the message says it, the first entry is asked for.
 fn begin<S: Saved>(
     who: Identity,
     m: &Msg<'_>,
@@ -276,7 +276,7 @@ fn begin<S: Saved>(
     go_on(who, fetching, marks, turn)
 }
 
-/// A message that may be an answer: one that fits the question is taken, and what is missing then is asked for.
+/// Handles a message that may be an answer. If it fits the question, takes it and asks for what is missing then.
 fn take_answer<S: Saved>(
     who: Identity,
     mut fetching: Fetching<S>,
@@ -300,7 +300,7 @@ fn take_answer<S: Saved>(
     go_on(who, fetching, marks, turn)
 }
 
-/// A fact for proofs: an entry's bytes that come are bytes.
+/// A fact for proofs: the bytes that a Part has fit their type.
 fn fit_part(m: &AnyMsg<'_>)
     ensures { IsPartBytes (any_of m.now) }
 {
@@ -315,7 +315,7 @@ fn fit_part(m: &AnyMsg<'_>)
     }
 }
 
-/// The last mark of an entry is the one that is fetched.
+/// Notes the fetched mark as the last mark of its entry.
 fn note_last(alloc: Global, m: &AnyMsg<'_>, marks: &mut Marks) -> Result<(), NoMemory>
     ensures { OnOk result (Notes (any_of m.now) marks.old marks.new) }
 {
@@ -330,7 +330,7 @@ fn note_last(alloc: Global, m: &AnyMsg<'_>, marks: &mut Marks) -> Result<(), NoM
     }
 }
 
-/// What is missing is asked for. Once nothing is, the log is restored.
+/// Asks for what is missing. Once nothing is, restores the whole log.
 fn go_on<S: Saved>(
     who: Identity,
     fetching: Fetching<S>,
@@ -350,7 +350,7 @@ fn go_on<S: Saved>(
     Ok(serving_on(serving, marks))
 }
 
-/// Asks for what is missing, if anything is.
+/// Asks for what is missing, and returns whether anything is.
 fn ask<S: Saved>(fetching: &Fetching<S>, turn: &mut Turn) -> Result<bool, NoMemory>
     ensures sent { IfOk result (λ asks. SendsQuestion (any_asked fetching.now) asks turn.old.sent.items turn.new.sent.items) }
     ensures missing { IfOk result (λ asks. asks ≡ false → asked fetching.now ≡ None) }

@@ -1,4 +1,5 @@
-//! The turn that ends the restart of a node that marks: as one that makes no marks it restores the log, and the mark of each connection goes out if one is due.
+//! The turn that ends the restart of a node that marks: it restores the log as a node without marks does, and sends the mark of each connection if one is
+//! due.
 
 ghost use Rattle.std.specs.Prelude.{◌≤◌, length, IfOk, OnOk};
 ghost use Rattle.server_node.specs.Markers.{saving};
@@ -43,7 +44,7 @@ pub(crate) fn restore_all_marked<S: Saved>(
     Ok(serving)
 }
 
-/// Gives an entry its slot. An entry whose connection hasn't ended uses up an initial number.
+/// Gives an entry its slot. An entry whose connection hasn't ended uses up an initial sequence number.
 fn restore_marked<S: Saved>(
     who: Identity,
     entry: Restored<S>,
@@ -68,7 +69,7 @@ fn restore_marked<S: Saved>(
     }
 }
 
-/// The slot of an entry whose reads are replayed, whose mark goes out if one is due.
+/// Makes the slot of an entry whose reads are replayed, and sends its mark if one is due.
 fn revive_marked<S: Saved>(
     who: Identity,
     isn: Seq,
@@ -87,7 +88,7 @@ fn revive_marked<S: Saved>(
     Ok(slot)
 }
 
-/// The mark of a slot whose connection has become live goes out, if one is due.
+/// Sends the mark of a slot whose connection has become live, if one is due.
 fn mark_slot<S: Saved>(
     who: Identity,
     key: Key,

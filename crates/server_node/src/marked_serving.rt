@@ -1,4 +1,5 @@
-//! A node that marks, while it serves: its turns are those of a node that makes no marks, and the marks of the connections that the input concerns go out in them.
+//! A node that marks, while it serves: its turns are those of a node without marks, and the marks of the connections that the input concerns are sent in
+//! them.
 
 ghost use Rattle.std.specs.Prelude.{◌≡◌, ◌≤◌, ℕ, [], Ok, Some, OnOk, MatchOption, true, false};
 ghost use Rattle.std.specs.List.{IsDistinct};
@@ -35,7 +36,7 @@ use logger_wire::{Body, Msg};
 use segment_codec::PacketRef;
 use server_trait::Saved;
 
-/// A tick at one slot: the outstanding mark of its connection goes out again.
+/// Passes a tick to one slot, and sends the outstanding mark of its connection again.
 fn tick_marked<S: Saved>(
     who: Identity,
     key: Key,
@@ -57,7 +58,7 @@ fn tick_marked<S: Saved>(
     }
 }
 
-/// A tick at each slot, in order.
+/// Passes a tick to each slot, in order.
 fn tick_all_marked<S: Saved>(
     who: Identity,
     slots: &mut IndexMap<Key, Slot<S>>,
@@ -76,7 +77,7 @@ fn tick_all_marked<S: Saved>(
     Ok(())
 }
 
-/// A tick passes for all connections, and each pending opening is asked for again.
+/// Passes a tick to all connections, and asks again for each pending opening.
 pub(crate) fn serve_tick_marked<S: Saved>(
     who: Identity,
     serving: &mut Serving<S>,
@@ -94,7 +95,7 @@ pub(crate) fn serve_tick_marked<S: Saved>(
     ask_all(who, &serving.slots, turn)
 }
 
-/// After a turn other than a tick that concerned this key: the mark of its connection, if it is live, goes out if one is due.
+/// Sends the mark of a key's connection, if it is live and a mark is due, after a turn other than a tick that concerned the key.
 fn mark_key<S: Saved>(
     who: Identity,
     key: Key,
@@ -119,7 +120,7 @@ pub(crate) fn apart<S: Saved>(slots: &IndexMap<Key, Slot<S>>)
     let _count = slots.len();
 }
 
-/// Handles a packet that the codec has read, and of which `packet` has the bytes.
+/// Handles a packet that the codec has read. `packet` has its bytes.
 pub(crate) fn serve_packet_marked<S: Saved>(
     who: Identity,
     segment: &PacketRef<'_>,
@@ -183,7 +184,7 @@ pub(crate) fn serve_message_marked<S: Saved>(
     }
 }
 
-/// Handles a message about marks of this boot. One that is no answer to a mark changes nothing.
+/// Handles a message about marks of this boot. A message that is no answer to a mark changes nothing.
 pub(crate) fn serve_mark<S: Saved>(
     who: Identity,
     m: &MarkMsg<'_>,
@@ -205,7 +206,7 @@ pub(crate) fn serve_mark<S: Saved>(
     }
 }
 
-/// The answer to a mark of so many reads, if its connection is live. The next mark may then be due.
+/// Handles the answer to a mark of `reads` reads, if its connection is live. The next mark is then sent if it is due.
 fn hear_marked<S: Saved>(
     who: Identity,
     key: Key,

@@ -1,4 +1,4 @@
-//! The marks of one key that go out in its turn.
+//! The marks of one key that are sent in its turn.
 
 ghost use Rattle.std.specs.Prelude.{◌≡◌, ◌≤◌, ℕ, length, OnOk};
 ghost use Rattle.ft_model.specs.Point.{Point};
@@ -20,7 +20,8 @@ use ft_io::{Key, NoMemory};
 use server_trait::Saved;
 use wrapped_conn::Conn;
 
-/// The outstanding mark of a key goes out, if there is one: before the packets from the `from`th on that say that its connection is done.
+/// Sends the outstanding mark of a key, if there is one: before the last packets of the turn, as many as say, from the `from`th packet on, that a connection
+/// is done.
 pub(crate) fn send_outstanding(
     who: Identity,
     key: Key,
@@ -41,7 +42,7 @@ pub(crate) fn send_outstanding(
     turn.sent.put(turn.alloc, behind, To::Logger, &text[..len])
 }
 
-/// After a turn of a key's connection other than a tick: its mark is made and goes out in the same place, if one is due.
+/// Makes a key's next mark after a turn of its connection other than a tick, if one is due, and sends it at the same place as `send_outstanding`.
 pub(crate) fn send_new<S: Saved>(
     who: Identity,
     key: Key,

@@ -42,7 +42,8 @@ impl<S: Saved> Node<S> {
     ghost use Rattle.server_node.specs.Turns.{IsUnfenced, IsFenceOf};
     ghost use Rattle.server_trait.specs.Service.{machine};
 
-    /// Boots. The boot number is at least 1; initial sequence numbers are counted from `isn`; `kind` chooses the service. `sent` then has the Hello.
+    /// Boots a server without marks. The boot number is at least 1; initial sequence numbers are counted from `isn`; `kind` chooses the service. `sent` then
+    /// has the Hello.
     pub fn boot(
         alloc: Global,
         boot: u64,
@@ -58,8 +59,9 @@ impl<S: Saved> Node<S> {
         Node::boot_marked(alloc, boot, isn, kind, local, 0)
     }
 
-    /// The same with marks: after every so many reads of a connection, once it is quiet, its service's state is sent to the logger, and a restart begins each
-    /// connection where its state was saved. With 0, or where states can't be saved, no marks are made.
+    /// Boots a server with marks. Whenever a connection is quiet, has no unanswered mark, and has made at least `every` reads since its last mark, its
+    /// service's state is sent to the logger; a restart begins each connection at its mark, if it has one. If `every` is 0, or the service isn't savable, no
+    /// marks are made.
     pub fn boot_marked(
         alloc: Global,
         boot: u64,
@@ -105,7 +107,8 @@ impl<S: Saved> Node<S> {
         self.turn.sent.as_slice()
     }
 
-    /// One turn. It is lawful under two premises: a packet to a live connection is near, and a fetched entry is sound.
+    /// Takes one turn. It is lawful if a packet to a live connection is near and a fetched entry is sound. With marks, `IsFairTo` has a further premise,
+    /// about a fetched mark.
     fn advance(&mut self, alloc: Global, input: Input<'_>) -> Result<(), TurnEnd>
         ensures turn { OnOk result (NodeTurns (input_of input.entry) self.old self.new self.new.turn.sent.items) }
         ensures marked { OnOk result (MarkedNodeTurns (saving S.form S.state_of S.is_savable) (marked_input_of input.entry) self.old self.new self.new.turn.sent.items) }
@@ -121,9 +124,10 @@ impl<S: Saved> Node<S> {
         Ok(())
     }
 
-    /// One turn. Returns what it sends. Whatever the input is, keys that it isn't about stay unchanged. The turn of each key whose own packets are near is lawful,
-    /// and at the end of a restart so is that of each key whose own entry is sound. After an error the node may only be dropped. A Stale of its boot that names a
-    /// larger one ends it by `Fenced`, even if no memory is left, and nothing else ends it so.
+    /// Takes one turn, and returns the packets that it sends. Without marks: whatever the input is, keys that it isn't about stay unchanged; the turn of each
+    /// key whose own packets are near is lawful, and at the end of a restart so is that of each key whose own entry is sound. With marks the turn is lawful
+    /// under the premises `IsFairTo`. After an error the node may only be dropped. A Stale of its boot that names a larger one ends it by `Fenced`, even if
+    /// no memory is left, and nothing else ends it so.
     pub fn turn(&mut self, alloc: Global, input: Input<'_>) -> Result<&[OutPacket], TurnEnd>
         ensures* after { sem 𝓛 (Leaves S.row S.Service self.entry
             (λ node. IfOk result (λ sent. NodeTurns (input_of input.entry) self.old node sent.now

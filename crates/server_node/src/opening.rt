@@ -1,4 +1,4 @@
-//! Openings: at a SYN of a client that isn't known the node asks the log for an entry, and asks again until the log answers.
+//! Openings: at a SYN of an unknown client the node asks the log for an entry, and asks again until the log answers.
 
 ghost use Rattle.std.specs.Prelude.{◌==◌, ◌&&◌, ◌≡◌, ◌≤◌, ◌∷◌, [], None, OnOk, true, nat_lt};
 ghost use Rattle.std.specs.Map.{lookup, keys_of};
@@ -34,7 +34,7 @@ use server_trait::Service;
 /// How many openings may be pending.
 const PENDING: usize = 64;
 
-/// How far apart the initial numbers of two connections are.
+/// The distance from one connection's initial sequence number to the next one's.
 pub(crate) const STRIDE: u32 = 65_536;
 
 /// Asks the log to keep the numbers of an opening.
@@ -72,7 +72,7 @@ fn ask_slot<S: Service>(
     }
 }
 
-/// At a tick each pending opening is asked for again, in order.
+/// Asks again for each pending opening, in order, at a tick.
 pub(crate) fn ask_all<S: Service>(
     who: Identity,
     slots: &IndexMap<Key, Slot<S>>,
@@ -89,7 +89,7 @@ pub(crate) fn ask_all<S: Service>(
     Ok(())
 }
 
-/// Whether a segment opens: a SYN without ACK and RST.
+/// Whether a segment is a SYN without ACK and RST.
 fn is_syn(head: &Head) -> bool
     ensures { (segment : Segment) → segment.head ≡ said head.now → result ≡ is_syn_lem segment }
 {
@@ -103,7 +103,7 @@ fn repeats(opening: Opening, head: &Head) -> bool
     is_syn(head) && head.seq.0 == opening.cisn.0
 }
 
-/// At a repetition of its SYN a pending opening is asked for again.
+/// Asks again for the client's pending opening, if the segment repeats its SYN.
 pub(crate) fn ask_again<S: Service>(
     who: Identity,
     segment: &PacketRef<'_>,
@@ -143,14 +143,14 @@ fn pending_count<S: Service>(slots: &IndexMap<Key, Slot<S>>) -> usize
     count
 }
 
-/// Whether a segment of a client that isn't known opens: a SYN does, while fewer than 64 openings are pending.
+/// Whether a segment of an unknown client begins an opening: a SYN does, while fewer than 64 openings are pending.
 fn may_open<S: Service>(head: &Head, slots: &IndexMap<Key, Slot<S>>) -> bool
     ensures { (segment : Segment) → segment.head ≡ said head.now → result ≡ (is_syn_lem segment && nat_lt (pending_slots slots.now.entries) 64) }
 {
     is_syn(head) && pending_count(slots) < PENDING
 }
 
-/// A SYN of a client that isn't known makes a pending opening with the next initial number, while fewer than 64 are pending.
+/// Handles a segment of an unknown client: a SYN makes a pending opening with the next initial sequence number, while fewer than 64 are pending.
 pub(crate) fn admit<S: Service>(
     who: Identity,
     segment: &PacketRef<'_>,

@@ -52,7 +52,7 @@ impl OutPacket {
         Ok(())
     }
 
-    /// Whether it tells the logger that a connection is done.
+    /// Whether it is a message to the logger that says that a connection is done.
     pub(crate) fn is_done(&self) -> bool
         ensures { result ≡ is_done_wire self.now }
     {

@@ -1,4 +1,4 @@
-//! What the node sends in a turn, in buffers that are kept from turn to turn.
+//! What the node sends in a turn, in buffers that are reused from turn to turn.
 
 ghost use Rattle.std.specs.Prelude.{◌≡◌, ◌+◌, ◌≤◌, ◌++◌, ◌∷◌, [], length, take, drop, filter, OnOk};
 ghost use Rattle.server_node.specs.SentBytes.{sent_to};
@@ -9,7 +9,7 @@ use ft_io::NoMemory;
 use std::alloc::Global;
 use std::marker::Model;
 
-/// The packets of a turn, in order. After them in the list are packets of earlier turns, whose buffers are used again. Contracts see only the turn's.
+/// The packets of a turn, in order. After them in the list are packets of earlier turns, whose buffers are reused. Contracts see only this turn's packets.
 #[derive(Drop)]
 pub(crate) struct Outgoing {
     packets: Vec<OutPacket>,
@@ -55,7 +55,7 @@ impl Outgoing {
         Ok(())
     }
 
-    /// How many there are.
+    /// How many packets there are.
     pub(crate) fn len(&self) -> usize
         ensures { result ≡ length self.now.items }
     {
@@ -71,7 +71,7 @@ impl Outgoing {
         count_dones(&self.as_slice()[from..])
     }
 
-    /// Puts a packet before the last `behind`.
+    /// Inserts a packet before the last `behind` packets.
     pub(crate) fn put(
         &mut self,
         alloc: Global,

@@ -44,7 +44,7 @@ fn length_of(segment: &PacketRef<'_>) -> u32
     segment.payload.len() as u32 + u32::from(has(flags, FIN))
 }
 
-/// The answer of CLOSED to a segment of a client whose connection has ended: a RST to all but a RST.
+/// Answers a segment of a client whose connection has ended, as CLOSED does: by a RST, unless the segment has RST itself.
 pub(crate) fn refuse_closed(
     who: Identity,
     segment: &PacketRef<'_>,
@@ -63,7 +63,7 @@ pub(crate) fn refuse_closed(
     send_bare(segment.head.reset_behind(who.local, len), turn)
 }
 
-/// The answer of LISTEN to a segment of a client that isn't known: a RST if it has ACK and no RST, and otherwise nothing.
+/// Answers a segment of an unknown client, as LISTEN does: by a RST if it has ACK and no RST, and otherwise not at all.
 pub(crate) fn refuse_unknown(
     who: Identity,
     segment: &PacketRef<'_>,
@@ -77,7 +77,7 @@ pub(crate) fn refuse_unknown(
     send_bare(segment.head.reset_at_ack(who.local), turn)
 }
 
-/// The answer to a client whose opening finds the log full: its SYN is refused.
+/// Refuses the SYN of a client whose opening finds the log full.
 pub(crate) fn refuse_full(
     who: Identity,
     key: Key,

@@ -34,7 +34,7 @@ use seq_arith::{ACK, RST, Seq, has};
 use server_trait::{Saved, Service};
 use std::alloc::Global;
 
-/// The log has `count` entries: asks for the first, if there is one.
+/// Begins to fetch a log of `count` entries: asks for the first. If there is none, the node serves at once.
 pub(crate) fn begin_fetching<S: Saved>(
     who: Identity,
     count: u16,
@@ -52,7 +52,7 @@ pub(crate) fn begin_fetching<S: Saved>(
     go_on(who, fetching, turn)
 }
 
-/// A message that may be an answer: one that fits the question is taken, and what is missing then is asked for.
+/// Handles a message that may be an answer. If it fits the question, takes it and asks for what is missing then.
 pub(crate) fn take_answer<S: Saved>(
     who: Identity,
     mut fetching: Fetching<S>,
@@ -72,7 +72,7 @@ pub(crate) fn take_answer<S: Saved>(
     go_on(who, fetching, turn)
 }
 
-/// Takes a message in a restart without marks, and returns whether it answers the question. One that doesn't changes nothing.
+/// Takes a message in a restart without marks, and returns whether it answers the question. A message that doesn't changes nothing.
 fn hear_answer<S: Saved>(
     alloc: Global,
     fetching: &mut Fetching<S>,
@@ -134,7 +134,7 @@ fn go_on<S: Service>(
     Ok(Stage::Serving(serving))
 }
 
-/// Asks for what is missing, if anything is.
+/// Asks for what is missing, and returns whether anything is.
 pub(crate) fn ask<S: Service>(
     who: Identity,
     fetching: &Fetching<S>,

@@ -41,7 +41,7 @@ pub(crate) fn restore_all<S: Service>(
     Ok(serving)
 }
 
-/// Gives an entry its slot. An entry whose connection hasn't ended uses up an initial number.
+/// Gives an entry its slot. An entry whose connection hasn't ended uses up an initial sequence number.
 fn restore<S: Service>(
     who: Identity,
     entry: Restored<S>,
@@ -66,7 +66,7 @@ fn restore<S: Service>(
     }
 }
 
-/// The slot of an entry whose reads are replayed: its connection, whose inner TCP has this initial number, becomes live.
+/// Makes the slot of an entry whose reads are replayed: its connection becomes live, and its inner TCP has the initial sequence number `isn`.
 pub(crate) fn revive<S: Service>(
     who: Identity,
     isn: Seq,

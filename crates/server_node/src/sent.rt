@@ -43,7 +43,7 @@ pub(crate) fn ask_mark(question: &MarkMsg<'_>, turn: &mut Turn) -> Result<(), No
     turn.sent.send(turn.alloc, To::Logger, &text[..len])
 }
 
-/// What a proof may know of bytes: each fits its type.
+/// A fact for proofs: each byte fits its type.
 pub(crate) fn fit(bytes: &[u8])
     ensures { AreBytes bytes.now }
 {
@@ -80,7 +80,7 @@ fn send_messages(alloc: Global, out: &TurnOut, sent: &mut Outgoing) -> Result<()
     Ok(())
 }
 
-/// Sends what a connection gives out: its segments, then its messages.
+/// Sends what a connection's turn has put into `out`: its segments, then its messages.
 #[tactic(auto, using(std::proofs::Common::append_assoc))]
 pub(crate) fn send_all(key: Key, turn: &mut Turn) -> Result<(), NoMemory>
     ensures sent { OnOk result (turn.new.sent.items ≡ turn.old.sent.items ++ wires_of key turn.old.out.segments turn.old.out.messages) }

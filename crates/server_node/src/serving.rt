@@ -30,12 +30,12 @@ use server_trait::Service;
 /// A node that serves: what it has for each key that it knows, in the order of the log and then of the SYNs.
 #[derive(Drop)]
 pub(crate) struct Serving<S: Service> {
-    /// The initial number of the next connection.
+    /// The initial sequence number of the next connection.
     pub next: Seq,
     pub slots: IndexMap<Key, Slot<S>>,
 }
 
-/// A tick passes for all connections, and each pending opening is asked for again.
+/// Passes a tick to all connections, and asks again for each pending opening.
 pub(crate) fn serve_tick<S: Service>(
     who: Identity,
     serving: &mut Serving<S>,
@@ -82,7 +82,7 @@ fn is_for(local: Addr, segment: &PacketRef<'_>) -> bool
     head.dst == local.ip && head.dport == local.port
 }
 
-/// Handles a packet that the codec has read: `packet` has its bytes, which the connection changes in place.
+/// Handles a packet that the codec has read. `packet` has its bytes, which the connection changes in place.
 pub(crate) fn serve_packet<S: Service>(
     who: Identity,
     segment: &PacketRef<'_>,
@@ -111,7 +111,7 @@ pub(crate) fn serve_packet<S: Service>(
     }
 }
 
-/// A packet of a client that is known.
+/// Handles a packet of a known client.
 fn serve_known<S: Service>(
     who: Identity,
     segment: &PacketRef<'_>,
@@ -135,7 +135,7 @@ fn serve_known<S: Service>(
     ask_again(who, segment, &serving.slots, turn)
 }
 
-/// A packet of a client that isn't known: it may get a RST, and a SYN may open a connection.
+/// Handles a packet of an unknown client: it may get a RST, and a SYN may open a connection.
 fn serve_strange<S: Service>(
     who: Identity,
     segment: &PacketRef<'_>,

@@ -23,9 +23,9 @@ use wrapped_conn::Conn;
 /// A pending opening: the numbers that the log is asked to keep.
 #[derive(Clone, Copy, Debug, PartialEq, Eq)]
 pub struct Opening {
-    /// The client's initial number.
+    /// The client's initial sequence number.
     pub cisn: Seq,
-    /// The server's.
+    /// The server's initial sequence number.
     pub sisn: Seq,
     /// The segment size, 64 to 1,460 bytes.
     pub mss: u16,
@@ -40,7 +40,7 @@ pub enum Slot<S: Service> {
     Done,
 }
 
-/// A tick at one slot.
+/// Passes a tick to one slot.
 pub(crate) fn tick_slot<S: Service>(
     who: Identity,
     key: Key,
@@ -58,7 +58,7 @@ pub(crate) fn tick_slot<S: Service>(
     }
 }
 
-/// A segment at the slot of its client: `packet` has its bytes.
+/// Gives a segment to the slot of its client. `packet` has the segment's bytes.
 pub(crate) fn give_slot<S: Service>(
     who: Identity,
     segment: &PacketRef<'_>,

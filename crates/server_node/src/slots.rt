@@ -32,7 +32,7 @@ pub(crate) fn key_at<S: Service>(slots: &IndexMap<Key, Slot<S>>, i: usize) -> Ke
     *key
 }
 
-/// A tick at each slot, in order.
+/// Passes a tick to each slot, in order.
 pub(crate) fn tick_all<S: Service>(
     who: Identity,
     slots: &mut IndexMap<Key, Slot<S>>,
@@ -50,7 +50,7 @@ pub(crate) fn tick_all<S: Service>(
     Ok(())
 }
 
-/// A segment at the slot of its client, if there is one: `packet` has its bytes.
+/// Gives a segment to the slot of its client, if there is one. `packet` has the segment's bytes.
 pub(crate) fn give_known<S: Service>(
     who: Identity,
     segment: &PacketRef<'_>,

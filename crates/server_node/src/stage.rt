@@ -45,7 +45,7 @@ use server_trait::{Saved, Service};
 use std::alloc::Global;
 use wrapped_conn::Conn;
 
-/// A packet of at most so many bytes is short.
+/// The most bytes of a short packet.
 const SHORT_PACKET: usize = 128;
 
 /// The stage of a node.
@@ -56,14 +56,14 @@ pub(crate) enum Stage<S: Service> {
     /// The log's entries are asked for.
     Fetching(Fetching<S>),
     Serving(Serving<S>),
-    /// The same of a node that marks.
+    /// A node that marks, with its own stages.
     Marked(Marked<S>),
     /// A turn has failed.
     Lost,
 }
 
 impl<S: Saved> Stage<S> {
-    /// At the boot, of a node that marks after every so many reads, or makes no marks where that is 0.
+    /// The stage at the boot. The node marks after every `every` reads, and makes no marks if that is 0.
     pub(crate) fn begun(alloc: Global, every: u32) -> Stage<S>
         ensures plain { every ≡ 0 → result ≡ Stage.Asking }
         ensures marked { 1 ≤ every → result ≡ Stage.Marked (record { stage = MarkedStage.Asking; marks = record { every = every_for S.is_savable every; of = [] } }) }
@@ -149,7 +149,7 @@ fn on_message<S: Saved>(
     }
 }
 
-/// How many entries the log has, if a message is a Summary, which says it.
+/// How many entries the log has, if a message is a Summary.
 pub(crate) fn count_in(body: &Body<'_>) -> Option<u16>
     ensures { result ≡ summary_count (body_of body.now) }
 {
@@ -175,7 +175,7 @@ fn on_summary<S: Saved>(who: Identity, m: &Msg<'_>, turn: &mut Turn) -> Result<S
     begin_fetching(who, count, turn)
 }
 
-/// The boot number that a Stale names, if it is larger than this one.
+/// The boot number that a Stale names, if it is larger than `boot`.
 fn newer_than(boot: u64, body: &Body<'_>) -> Option<u64>
     ensures { result ≡ newer_than boot (body_of body.now) }
 {
@@ -234,7 +234,7 @@ fn fit_slots<S: Saved>(stage: &Stage<S>)
     }
 }
 
-/// Bytes that may be a message about marks. Only a node that marks reads them.
+/// Handles bytes that may be a message about marks. Only a node that marks reads them.
 fn hear_of_mark<S: Saved>(
     who: Identity,
     stage: Stage<S>,
@@ -254,7 +254,7 @@ fn hear_of_mark<S: Saved>(
     }
 }
 
-/// Handles a segment, of which `packet` has the bytes. Before the log is fetched clients get no answer.
+/// Handles a segment; `packet` has its bytes. Until the logger has said how many entries it has, clients get no answer.
 fn on_packet<S: Saved>(
     who: Identity,
     stage: Stage<S>,
@@ -313,7 +313,7 @@ pub(crate) fn serve_bytes<S: Service>(
     serve_packet(who, segment, copied(packet, &mut [0; 1_500]), serving, turn)
 }
 
-/// Copies a packet to the front of this buffer.
+/// Copies a packet to the beginning of this buffer, and returns the copy.
 fn copied<'a>(packet: &[u8], room: &'a mut [u8]) -> &'a mut [u8]
     requires { length packet.now ≤ length room.old }
     ensures { result.now ≡ packet.now }
@@ -338,7 +338,7 @@ pub(crate) fn conn_in<S: Service>(stage: &Stage<S>, key: Key) -> Option<&Conn<S>
     }
 }
 
-/// What an input does to a node. After an error the node may only be dropped.
+/// Takes a node's turn on an input, and returns its next stage. After an error the node may only be dropped.
 pub(crate) fn go<S: Saved>(
     who: Identity,
     stage: Stage<S>,

@@ -7,19 +7,19 @@ use ft_io::NoMemory;
 use std::alloc::Global;
 use wrapped_conn::TurnOut;
 
-/// What each function of a turn is given. The memory of `out` and `sent` is kept from turn to turn.
+/// What each function of a turn is given. The memory of `out` and `sent` is reused from turn to turn.
 #[derive(Drop)]
 pub(crate) struct Turn {
     /// The allocator.
     pub alloc: Global,
-    /// What the connection sends whose turn it is.
+    /// What the current connection sends.
     pub out: TurnOut,
     /// What the turn sends, in order.
     pub sent: Outgoing,
 }
 
 impl Turn {
-    /// Nothing is sent yet.
+    /// A turn in which nothing is sent yet.
     pub(crate) fn new(alloc: Global) -> Result<Turn, NoMemory>
         ensures { IfOk result (λ turn. turn.sent.items ≡ []) }
     {

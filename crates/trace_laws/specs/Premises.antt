@@ -1,4 +1,4 @@
--- What a trace guarantees of the premises that a server's contract has: how much of the log a fetching server has, and which move is a refusal.
+-- Terms for the premises of a server's contract: what a fetching server has of the log, and which move is a refusal.
 use Rattle.std.specs.Prelude.{◌≡◌, Bool, true, false, IfSome}
 use Rattle.std.specs.List.{AllByRecursion}
 use Rattle.server_trait.specs.Service.{Machine}
@@ -12,8 +12,8 @@ use Rattle.ft_model.specs.Node.Stage.{Asking, Fetching, Serving, Fenced}
 use Rattle.ft_model.specs.Node.Input.{Packet_comes, Message_comes, Noise_comes, Tick_comes}
 use Rattle.ft_model.specs.Lawful.{fetched_then}
 
--- As far as it is fetched it is the prefix of an entry that is sound (FT-TCP, INFOCOM 2001: the restarted server is fed the reads that the log keeps). So there
--- is a bound also for a server that replays reads before it has all of them
+-- what is fetched of an entry is a prefix of a sound entry (FT-TCP, INFOCOM 2001: the restarted server is fed the reads that the log keeps). So the output is
+-- bounded also for a server that replays reads before it has all of them
 pub record IsSoundFront {State : Type 0} (service : Machine State) (f : Fetched) : Type 0 where
   pub entry : Entry
   pub head : f.head ≡ head_of entry
@@ -21,7 +21,7 @@ pub record IsSoundFront {State : Type 0} (service : Machine State) (f : Fetched)
   pub lengths : IsPrefix f.lengths entry.lengths
   pub sound : IsSoundEntry service entry
 
--- so is all that a fetching server has after this input
+-- each entry that a fetching server has after this input is such a prefix
 abbrev pub HasSoundFronts : {State : Type 0} → Machine State → Node → Input → Stage → Type 0
 HasSoundFronts service node (Message_comes message) (Fetching count fetched) =
     IfSome (fetched_then node message count fetched) (AllByRecursion (IsSoundFront service))

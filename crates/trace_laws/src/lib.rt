@@ -1,5 +1,5 @@
-//! Laws of every joint trace on which a server's contract depends: what comes to it is near, what it has fetched is sound, and nothing fences it. Nothing here
-//! runs; each function is a theorem.
+//! Laws of every joint trace on which a server's contract depends: what arrives at it is near, what it has fetched is sound, and nothing fences it. Nothing
+//! here runs; each function is a theorem.
 #![tactic(auto)]
 
 ghost use Rattle.std.specs.Prelude.{◌≡◌, ℕ, ◌≤◌, ◌^◌, false, min, Some, None, List, [], ◌∷◌, ◌++◌, length, sum};
@@ -36,8 +36,8 @@ pub fn logged_entries_are_sound<S: Service>()
         → AllByRecursion (IsSoundEntry (machine (S.started kind) S.after)) (world_after start trace).log.entries }
 {}
 
-/// Whatever arrives at a server that fetches, each entry that it then has completely, and will restore, is sound. What it has of any other entry is the prefix
-/// of a sound one.
+/// Whatever arrives at a fetching server, each entry that it then has completely, and will restore, is sound. What it has of any entry is a prefix of a sound
+/// one.
 pub fn fetched_entries_are_sound<S: Service>()
     ensures whole { (kind : ℕ) (start : World) (trace : List Moment) (node : Node) (input : Input) → Joint (machine (S.started kind) S.after) start trace
         → (world_after start trace).node ≡ Some node → MayCome (world_after start trace) input
@@ -55,14 +55,14 @@ pub fn fronts_run_short<S: Service>()
         → length (reference (machine (S.started kind) S.after) f.bytes lengths).output ≤ 2 ^ 24 }
 {}
 
-/// Every packet without RST that a client ever sent to the server is near to its connection, wherever that is live when the packet comes.
+/// Every packet without RST that a client ever sent to the server is near to the client's connection, if that is live.
 pub fn packets_are_near<S: Service>()
     ensures { (kind : ℕ) (start : World) (trace : List Moment) (node : Node) (segment : Segment)
         → Joint (machine (S.started kind) S.after) start trace → (world_after start trace).node ≡ Some node
         → WasSent (world_after start trace) (To_server segment) → has_rst segment ≡ false → AreNear node.server segment node.stage }
 {}
 
-/// So is the packet of every move, RST or not, at each moment from then on, except a live client's refusal of a wrong acknowledgement, which has the number
+/// The packet of every move, RST or not, is near at each moment from then on, except a live client's refusal of a wrong acknowledgement, which has the number
 /// that it refuses.
 pub fn moves_are_near<S: Service>()
     ensures { (kind number : ℕ) (start : World) (later earlier : List Moment) (moment : Moment) (node : Node)
@@ -76,8 +76,8 @@ pub fn packets_for_others_are_near()
     ensures { (server : Addr) (segment : Segment) (stage : Stage) → is_for server segment ≡ false → AreNear server segment stage }
 {}
 
-/// The premises of a server's contract hold in every legal trace, of whatever may come next: a packet is near, what is fetched is sound, and
-/// nothing fences.
+/// The premises of a server's contract hold in every legal trace, for whatever may come next: a packet is near, what is fetched is sound, and nothing fences
+/// the server.
 pub fn premises_hold<S: Service>()
     ensures near { (schedule : Schedule) (trace : List Moment) (node : Node) (input : Input) → Legal (machines S.started S.after) schedule trace
         → (world_after (start_of schedule) trace).node ≡ Some node → MayCome (world_after (start_of schedule) trace) input → IsNearInput node.server input node.stage }

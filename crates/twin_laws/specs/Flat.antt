@@ -19,7 +19,7 @@ use Rattle.twin_laws.specs.TwinWorld.TwinEvent.{Usual, Stop}
 pub record Flat : Type 0 where
   pub trace : List Moment  -- newest first
   pub packets : List Packet  -- all that were sent in it, in order
-  pub numbers : List ℕ  -- the new number of each parcel of the trace with two loggers; 0 of one that is left out
+  pub numbers : List ℕ  -- the new number of each parcel of the trace with two loggers; 0 if it is left out
   pub origins : List ℕ  -- the new numbers of the packets whose delivery made the head take its requests, in order
 
 abbrev pub flat_start : Flat
@@ -36,7 +36,7 @@ numbers_of n [] = []
 numbers_of n (Outside packet ∷ sent) = (n + 1) ∷ numbers_of (n + 1) sent
 numbers_of n (Inside between ∷ sent) = 0 ∷ numbers_of n sent
 
--- a number of a list at a place, or 0
+-- the number at a place of a list; 0 if there is none
 abbrev pub number_at : List ℕ → ℕ → ℕ
 number_at numbers place = option_map_or (λ n. n) (slice_get numbers place) 0
 
@@ -94,14 +94,14 @@ delivered_flat w n (Some (Outside packet)) moment f = kept_as (Deliver (new_numb
 delivered_flat w n (Some (Inside (Forward number request))) moment f = forwarded_flat w number moment f
 delivered_flat w n (Some (Inside (Got number))) moment f = left_out moment f
 
--- a flip of a packet is kept, except of one to a logger that doesn't serve alone. One of a datagram between the loggers is left out
+-- a flip of a packet is kept, unless the packet is for a paired logger. A flip of a datagram between the loggers is left out
 abbrev pub flipped_flat : TwinWorld → ℕ → ℕ → Option Parcel → TwinMoment → Flat → Flat
 flipped_flat w n bit None moment f = f
 flipped_flat w n bit (Some (Outside (To_logger message))) moment f = kept_alone w (Flip (new_number f n) bit) moment (left_out moment f) f
 flipped_flat w n bit (Some (Outside packet)) moment f = kept_as (Flip (new_number f n) bit) moment f
 flipped_flat w n bit (Some (Inside between)) moment f = left_out moment f
 
--- the stop of the head is left out. That of the tail becomes the deliveries of what it hadn't applied; their answers are never delivered
+-- the stop of the head is left out. The stop of the tail becomes the deliveries of the requests that it hadn't applied; their answers are never delivered
 abbrev pub stopped_flat : TwinWorld → Part → TwinMoment → Flat → Flat
 stopped_flat w parts.Head moment f = left_out moment f
 stopped_flat w parts.Tail moment f =

@@ -1,4 +1,4 @@
--- A head and a tail under every list of deliveries, with losses, repeats and reorderings, and at most one stop; and that they act as one log.
+-- A head and a tail under every list of deliveries, with losses, repeats and reorderings, and at most one stop; and what it means that they act as one log.
 use Rattle.std.specs.Prelude.{◌≡◌, ℕ, ◌≤◌, Bool, true, false, ◌&&◌, Option, Some, None, List, [], ◌∷◌, ◌++◌, length, take, slice_get, if◌then◌else◌}
 use Rattle.std.specs.Option.{option_to_list}
 use Rattle.seq_arith.specs.Message.{Message}
@@ -102,7 +102,7 @@ pub record ActsAsOne (p : Pair) : Type 0 where
   pub one : (p.head_stopped && p.tail_stopped) ≡ false
   pub none : p.head_stopped ≡ false → p.tail_stopped ≡ false → p.given ≡ []
 
--- each serves alone exactly where the other has stopped, and the tail confirms nothing that the head didn't take
+-- each serves alone exactly if the other has stopped, and the head counts no more requests as confirmed than it took
 pub record IsPaired (p : Pair) : Type 0 where
   pub head_alone : p.head.alone ≡ p.tail_stopped
   pub tail_alone : p.tail.alone ≡ p.head_stopped

@@ -1,4 +1,4 @@
--- What was sent, as bytes: a packet has its one spelling, and what goes between the loggers is read as what was sent.
+-- What was sent, as bytes: a packet has its one spelling, and a datagram between the loggers is read as it was sent.
 use Rattle.std.specs.Prelude.{◌≡◌}
 use Rattle.seq_arith.specs.TwinGrammar as twins
 use Rattle.ft_model.specs.Wire.{HasWire}

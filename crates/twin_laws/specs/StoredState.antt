@@ -1,5 +1,5 @@
--- What one of two loggers stores of its history, and what it does with bytes: the same as its definition, in terms of what a program stores. A head stores a
--- count of what it took and the bytes of what is unconfirmed. A tail stores a count of what it applied.
+-- The state that a program stores of one of two loggers, and what it does with bytes: the same as its definition. A head stores how many requests it took,
+-- and the bytes of the unconfirmed ones. A tail stores how many it applied.
 use Rattle.std.specs.Prelude.{ℕ, Bool, true, false, ◌+◌, ◌-◌, ◌==◌, ◌&&◌, nat_lt, nat_le, map, Option, List, [], ◌∷◌, ◌++◌, length, drop, if◌then◌else◌}
 use Rattle.std.specs.Option.{option_to_list}
 use Rattle.seq_arith.specs.Message.{Message, is_answer}
@@ -42,7 +42,7 @@ abbrev pub comes_from : Side → List ℕ → Comes
 comes_from sides.Server bytes = asked bytes (messages.reading bytes)
 comes_from sides.Other bytes = from_other_logger (twins.reading bytes)
 
--- the next state, and the datagrams that are sent, in order, each with its side
+-- the next state, and the datagrams that are sent, in order, each with its addressee
 pub record KeptDoes : Type 0 where
   pub next : Kept
   pub sent : List (Side × List ℕ)
@@ -60,7 +60,7 @@ sent_to_other betweens = map (λ b. (sides.Other, bytes_of b)) betweens
 abbrev pub serves_alone : Message → Kept → KeptDoes
 serves_alone message kept = record { next = record kept { log = log_after kept.log message }; sent = answers_sent (answer_to kept.log message) }
 
--- Forwards of these bytes, the first with the number after this
+-- Forwards of these messages, the first with the number after `n`
 abbrev pub forwards_sent : ℕ → List (List ℕ) → List (Side × List ℕ)
 forwards_sent n [] = []
 forwards_sent n (bytes ∷ rest) = (sides.Other, twins.spelling (datagrams.Forward (n + 1) bytes)) ∷ forwards_sent (n + 1) rest
@@ -101,7 +101,7 @@ kept_tail_told number message kept =
     if number == kept.number + 1 then applies_kept message kept
     else (if nat_le number kept.number then record { next = kept; sent = sent_to_other (Got kept.number ∷ []) } else sends_nothing kept)
 
--- what a logger does that serves alone, what a head of a pair does, and what a tail of one does
+-- what each of these does: a logger that serves alone, a head of a pair, a tail of a pair
 abbrev pub kept_alone_does : Comes → Kept → KeptDoes
 kept_alone_does (Asks request) kept = serves_alone request.message kept
 kept_alone_does _ kept = sends_nothing kept

@@ -60,7 +60,7 @@ may_take unconfirmed taken = nat_lt unconfirmed 64 && nat_lt taken (2 ^ 64 - 1)
 abbrev pub has_room : Head → Bool
 has_room head = may_take (length head.taken - head.confirmed) (length head.taken)
 
--- it applies what it takes to its own log, and its answer is dropped
+-- the head applies what it takes to its own log, and drops that log's answer
 abbrev pub with_taken : Request → Head → Head
 with_taken request head = record head { log = log_after head.log request.message; taken = head.taken ++ request ∷ [] }
 
@@ -76,7 +76,7 @@ numbered n (request ∷ requests) = Forward (n + 1) request ∷ numbered (n + 1)
 abbrev pub waiting : Head → List Between
 waiting head = numbered head.confirmed (drop head.confirmed head.taken)
 
--- With each request the head of a pair sends all that is unconfirmed, whether or not it took this one
+-- On each request the head of a pair sends all that is unconfirmed, whether or not it took this one
 abbrev pub sends_waiting : Head → Does Head
 sends_waiting head = record { next = head; to_server = []; to_other = waiting head }
 
@@ -101,7 +101,8 @@ head_does (Asks request) head = if head.alone then head_alone request head else 
 head_does (Tells (Got number)) head = if head.alone then nothing head else nothing (confirmed_to number head)
 head_does _ head = nothing head
 
--- The tail applies the next request: it answers the server, and then confirms to the head. A request that it has applied before it only confirms
+-- The tail applies the next request: it answers the server, and then confirms to the head. For a request that it has applied before, it only confirms all
+-- that it has applied
 abbrev pub applies_next : Request → Tail → Does Tail
 applies_next request tail = record {
   next = record tail { log = log_after tail.log request.message; applied = tail.applied + 1 };
@@ -126,7 +127,7 @@ abbrev pub asked : List ℕ → Result Message BadMsg → Comes
 asked bytes (Ok message) = Asks (record { bytes = bytes; message = message })
 asked bytes (Err why) = Is_noise
 
--- what bytes of the other logger say. A forwarded message is read as the server's messages are. An Alone means nothing to a logger here
+-- what bytes of the other logger say. A forwarded message is read as the server's messages are. An Alone is noise here
 abbrev pub forwarded_as : ℕ → Comes → Comes
 forwarded_as number (Asks request) = Tells (Forward number request)
 forwarded_as number _ = Is_noise

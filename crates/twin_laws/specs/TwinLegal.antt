@@ -1,5 +1,5 @@
--- A legal trace of a schedule with two loggers. It is as one with a single log, but that one of the two may stop, once, and that what goes between them counts
--- among the packets.
+-- A legal trace of a schedule with two loggers. It is like one with a single log, except that one of the two may stop, once, and that the datagrams between
+-- them count among the packets.
 use Rattle.std.specs.Prelude.{◌≡◌, ℕ, ◌*◌, ◌==◌, ◌&&◌, ◌||◌, not, Bool, length, nat_le, Option, Some, None, is_some, List, [], ◌∷◌, ◌++◌, if◌then◌else◌}
 use Rattle.server_trait.specs.Service.{Machine}
 use Rattle.ft_model.specs.Legal.{refusal, IsScripted}
@@ -52,7 +52,7 @@ refusal_of_twin_flip (Some parcel) bit = if nat_le (8 * length (bytes_of_parcel 
 abbrev pub may_stop : Pair → ℕ → Bool
 may_stop pair part = (part == 1 || part == 2) && not (pair.head_stopped || pair.tail_stopped)
 
--- Why an event may not happen: the first test that holds. What names no packet and stops no logger is tested as with a single log
+-- Why an event may not happen: the first test that holds. An event that names no packet and stops no logger is tested as with a single log
 abbrev pub twin_refusal : TwinWorld → Event → Option EventWhy
 twin_refusal w (events.Deliver number) = if is_some (parcel_at w.parcels number) then None else Some why.Packet
 twin_refusal w (events.Flip number bit) = refusal_of_twin_flip (parcel_at w.parcels number) bit
@@ -85,6 +85,6 @@ pub record IsTwinLegalFor {State : Type 0} (service : ℕ → Machine State) (sc
 abbrev pub TwinLegal : {State : Type 0} → (ℕ → Machine State) → Schedule → List TwinMoment → Type 0
 TwinLegal service schedule trace = IsTwinLegalFor service schedule schedule.events trace
 
--- how many packets were sent up to the end of a trace, those between the loggers too
+-- how many packets were sent up to the end of a trace, including those between the loggers
 abbrev pub twin_packets_sent : Schedule → List TwinMoment → ℕ
 twin_packets_sent schedule trace = length (twin_after (twin_start schedule) trace).parcels

@@ -1,4 +1,4 @@
--- The report of a run with two loggers: as with one, and what goes between them has lines among those of the packets.
+-- The report of a run with two loggers: as with one, but the datagrams between the loggers have lines too, among those of the packets.
 use Rattle.std.specs.Prelude.{ℕ, ◌+◌, List, [], ◌∷◌, ◌++◌, length}
 use Rattle.ft_model.specs.Client.{Client}
 use Rattle.ft_model.specs.Report.{header, event_line, packet_line, line_of_packet, forward_words, got_words, way_of, closing_lines}

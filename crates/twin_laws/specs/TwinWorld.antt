@@ -1,5 +1,5 @@
--- The world with two loggers: clients, network and server as in the world with one, and a head and a tail in place of its log. What isn't a logger's turn
--- happens as it does there.
+-- The world with two loggers: clients, network and server as in the world with one, and a head and a tail in place of its log. Each event that isn't a
+-- logger's turn happens as in that world.
 use Rattle.std.specs.Prelude.{◌≡◌, ℕ, zero, suc, ◌<◌, ◌*◌, Bool, true, false, length, map, Ok, Option, Some, None, List, [], ◌∷◌, ◌++◌, slice_get, if◌then◌else◌}
 use Rattle.ft_io.specs.declared.Addr.{Addr}
 use Rattle.seq_arith.specs.Damage.{flipped}
@@ -39,7 +39,7 @@ pub record TwinWorld : Type 0 where
 abbrev pub serving : Pair → Log
 serving p = if p.tail_stopped then p.head.log else p.tail.log
 
--- the world with one log that all others see, with these packets sent
+-- the world with one log that the server and the clients see, with these packets sent
 abbrev pub seen : TwinWorld → List Packet → World
 seen w packets = record { server = w.server; clients = w.clients; log = serving w.pair; packets = packets; boot = w.boot; node = w.node }
 
@@ -62,7 +62,7 @@ Elsewhere Goes before sent after =
 abbrev pub sent_by : {State : Type 0} → Does State → List Parcel
 sent_by d = map (λ m. Outside (From_logger m)) d.to_server ++ map Inside d.to_other
 
--- something arrives at the head, or at the tail. One that has stopped sends nothing
+-- something arrives at the head, or at the tail. A logger that has stopped sends nothing
 abbrev pub HeadHas : Comes → TwinWorld → List Parcel → TwinWorld → Type 0
 HeadHas comes before sent after =
     (sent ≡ (if before.pair.head_stopped then [] else sent_by (head_does comes before.pair.head)))
@@ -89,11 +89,11 @@ ParcelComes service (Outside packet) before sent after = Elsewhere (λ w. Delive
 ParcelComes service (Inside (Forward number request)) before sent after = TailHas (Tells (Forward number request)) before sent after
 ParcelComes service (Inside (Got number)) before sent after = HeadHas (Tells (Got number)) before sent after
 
--- what is sent between the loggers is read as what was sent
+-- a datagram between the loggers can be read back as it was sent
 abbrev pub CanBeSent : Between → Type 0
 CanBeSent between = twins.reading (bytes_of between) ≡ Ok (datagram_of between)
 
--- a datagram between the loggers arrives with one bit changed. It is one of its bits
+-- a datagram between the loggers arrives with one of its bits changed
 abbrev pub ChangedFor : Between → ℕ → (Comes → TwinWorld → List Parcel → TwinWorld → Type 0) → TwinWorld → List Parcel → TwinWorld → Type 0
 ChangedFor between bit Has before sent after =
     CanBeSent between × (bit < 8 * length (bytes_of between)) × Has (from_other_logger (twins.reading (flipped bit (bytes_of between)))) before sent after

@@ -50,8 +50,8 @@ pub fn flat_traces_are_masked<S: Service>()
         → Masked (machine (S.started kind) S.after) (seen start []) (flat start trace).trace }
 {}
 
-/// A legal trace of a schedule with two loggers, made flat, is a legal one with a single log, for its own events. So its clients see one server that never
-/// crashed.
+/// A legal trace of a schedule with two loggers, made flat, is a legal trace with one log, for the events of the flat trace. So its clients see one server
+/// that never crashed.
 pub fn legal_traces_are_masked<S: Service>()
     ensures legal { (schedule : Schedule) (events : List Event) (trace : List TwinMoment) → IsTwinLegalFor (machines S.started S.after) schedule events trace
         → IsLegalFor (machines S.started S.after) schedule (events_of (flat (twin_start schedule) trace).trace) (flat (twin_start schedule) trace).trace }
@@ -59,7 +59,7 @@ pub fn legal_traces_are_masked<S: Service>()
         → Masked (machines S.started S.after (kind_of schedule.service)) (start_of schedule) (flat (twin_start schedule) trace).trace }
 {}
 
-/// All that was sent in a joint trace can be written and is read as what was sent.
+/// All that was sent in a joint trace can be written as bytes, and the datagrams between the loggers are read back as they were sent.
 pub fn parcels_are_written<S: Service>()
     ensures { (kind : ℕ) (start : TwinWorld) (trace : List TwinMoment) → TwinJoint (machine (S.started kind) S.after) start trace
         → AllByRecursion IsWritten (twin_after start trace).parcels }
@@ -67,8 +67,8 @@ pub fn parcels_are_written<S: Service>()
     packets_have_wires::<S>();
 }
 
-/// The flat trace ends in the world that all others see, and in it was sent whatever was sent to the server and to the clients. A logger of the pair serves alone
-/// exactly where the other has stopped, and the tail confirms nothing that the head didn't take.
+/// The flat trace ends in the world that the server and the clients see, and everything that was sent to them was sent in it too. A logger serves alone
+/// exactly if the other has stopped, and the head counts no more requests as confirmed than it took.
 pub fn flat_traces_show_all<S: Service>()
     ensures world { (kind : ℕ) (start : TwinWorld) (trace : List TwinMoment) → TwinJoint (machine (S.started kind) S.after) start trace
         → world_after (seen start []) (flat start trace).trace ≡ seen (twin_after start trace) (flat start trace).packets }
@@ -85,7 +85,7 @@ pub fn flipped_datagrams_are_noise()
         → from_other_logger (reading (flipped bit bytes)) ≡ Is_noise }
 {}
 
-/// What a program stores of a head or a tail does, given any bytes from either side, what the definition does.
+/// The stored state of a head or a tail does, given any bytes from either side, what the definition does.
 pub fn kept_loggers_do_as_defined()
     ensures head { (side : Side) (bytes : List ℕ) (head : Head) → head.confirmed ≤ length head.taken
         → kept_does side bytes (kept_head head) ≡ in_bytes kept_head (head_does (comes_from side bytes) head) }
@@ -93,20 +93,20 @@ pub fn kept_loggers_do_as_defined()
         → kept_does side bytes (kept_tail tail) ≡ in_bytes kept_tail (tail_does (comes_from side bytes) tail) }
 {}
 
-/// What one logger sends to the other is read as what was sent.
+/// What one logger sends to the other is read as it was sent.
 pub fn what_is_sent_is_read()
     ensures forward { (number : ℕ) (request : Request) → message_reading request.bytes ≡ Ok request.message → is_answer request.message.body ≡ false
         → 1 ≤ number → number < 2 ^ 64 → from_other_logger (reading (bytes_of (Forward number request))) ≡ Tells (Forward number request) }
     ensures got { (number : ℕ) → 1 ≤ number → number < 2 ^ 64 → from_other_logger (reading (bytes_of (Got number))) ≡ Tells (Got number) }
 {}
 
-/// A worked run: the head forwards the server's Hello and the tail answers it. Flat, it is the boot and one delivery.
+/// A worked run: the head forwards the server's Hello and the tail answers it. Made flat, it is the boot and one delivery.
 pub fn worked_pair_is_joint<S: Service>()
     ensures joint { (kind : ℕ) → TwinJoint (machine (S.started kind) S.after) at_first worked }
     ensures flat { events_in (flat at_first worked).trace ≡ flat_events }
 {}
 
-/// A schedule with two loggers has one outcome: never two of the three.
+/// A schedule with two loggers has at most one of the three outcomes.
 pub fn twin_schedules_have_one_outcome<S: Service>()
     ensures whole_or_refused { (schedule : Schedule)
         → IsTwinWhole (machines S.started S.after) schedule → IsTwinRefused (machines S.started S.after) schedule → ⊥ }

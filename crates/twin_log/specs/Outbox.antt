@@ -1,4 +1,4 @@
--- What a logger sends, as the code holds it.
+-- What a logger sends, as the code stores it.
 use Rattle.std.specs.Prelude.{ℕ, Bool, true, not, List, [], ◌∷◌, ◌≡◌, map, Vec}
 use Rattle.std.specs.declared.alloc.Global.{Global}
 use Rattle.std.specs.List.{AllByRecursion}
@@ -17,7 +17,7 @@ answer_out (byte ∷ bytes) = (sides.Server, byte ∷ bytes) ∷ []
 abbrev pub AreAsking : List (List ℕ) → Type 0
 AreAsking messages = AllByRecursion (λ message. is_asking message ≡ true) messages
 
--- the bytes of messages that are held one by one
+-- the bytes of messages, each in a vector of its own
 abbrev pub texts_of : List (Vec ℕ Global) → List (List ℕ)
 texts_of messages = map (λ message. message.items) messages
 

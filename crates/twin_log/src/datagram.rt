@@ -9,7 +9,7 @@ use std::marker::Model;
 use twin_laws::Side;
 use twin_wire::{TwinMsg, write_twin};
 
-/// Bytes and their addressee, in room for 2,048 bytes.
+/// A datagram's bytes and their addressee, in room for 2,048 bytes.
 #[derive(Drop)]
 pub(crate) struct Datagram {
     to: Side,
@@ -31,7 +31,7 @@ impl Model for Datagram {
 }
 
 impl Datagram {
-    /// No bytes, for the server.
+    /// No bytes, to the server.
     pub(crate) fn blank() -> Datagram
         ensures { result ≡ (sides.Server, []) }
     {
@@ -55,7 +55,7 @@ impl Datagram {
         &self.bytes[..self.len]
     }
 
-    /// Puts bytes for the server in place of the content.
+    /// Replaces the content by bytes for the server.
     #[tactic(auto, using(crate::proofs::Fronts::seams))]
     pub(crate) fn answer(&mut self, bytes: &[u8])
         requires { length bytes.now ≤ 2048 }
@@ -66,7 +66,7 @@ impl Datagram {
         self.len = bytes.len();
     }
 
-    /// Puts a datagram for the other logger in place of the content.
+    /// Replaces the content by a datagram for the other logger.
     #[tactic(auto, using(twin_wire::proofs::OneSpelling::datagram_whole, twin_wire::proofs::OneSpelling::datagram_fits))]
     pub(crate) fn tell(&mut self, m: &TwinMsg<'_>)
         requires { IsSpellable (said_by m.now) }

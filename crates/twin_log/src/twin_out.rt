@@ -15,7 +15,7 @@ use twin_wire::TwinMsg;
 /// The most datagrams that one turn sends.
 const ROOM: usize = 64;
 
-/// The datagrams that a logger sends in one turn, at most 64, in order. In contracts they are a list, each with its side.
+/// The datagrams that a logger sends in one turn, at most 64, in order. In contracts they are a list, each with its addressee.
 #[derive(Drop)]
 pub struct TwinOut {
     /// Room for 64.
@@ -46,7 +46,7 @@ fn make_room(alloc: Global, count: usize) -> Result<Vec<Datagram>, NoMemory>
     Ok(datagrams)
 }
 
-/// Puts an answer at a place.
+/// Puts an answer to the server at the place `i`.
 fn answer_at(datagrams: &mut [Datagram], i: usize, bytes: &[u8])
     requires within { i < length datagrams.old }
     requires size { length bytes.now ≤ 2048 }
@@ -55,7 +55,7 @@ fn answer_at(datagrams: &mut [Datagram], i: usize, bytes: &[u8])
     datagrams[i].answer(bytes);
 }
 
-/// Puts a datagram for the other logger at a place.
+/// Puts a datagram for the other logger at the place `i`.
 fn tell_at(datagrams: &mut [Datagram], i: usize, m: &TwinMsg<'_>)
     requires within { i < length datagrams.old }
     requires spellable { IsSpellable (said_by m.now) }
@@ -114,7 +114,7 @@ impl TwinOut {
         self.count = 0;
     }
 
-    /// Sends an answer to the server.
+    /// Appends an answer to the server.
     #[tactic(auto, using(std::proofs::lemmas::List::take_more_set))]
     pub(crate) fn answer(&mut self, bytes: &[u8])
         requires room { length self.old < 64 }
@@ -125,7 +125,7 @@ impl TwinOut {
         self.count += 1;
     }
 
-    /// Sends a datagram to the other logger.
+    /// Appends a datagram for the other logger.
     #[tactic(auto, using(std::proofs::lemmas::List::take_more_set))]
     pub(crate) fn tell(&mut self, m: &TwinMsg<'_>)
         requires room { length self.old < 64 }

@@ -1,4 +1,4 @@
-//! One logger of two.
+//! One of two loggers.
 
 ghost use Rattle.std.specs.Prelude.{[], ◌∷◌, ◌++◌, ◌≡◌, ◌≤◌, ◌<◌, ◌+◌, ◌^◌, true, false, Ok, OnOk, OnErr, IfOk, length};
 ghost use Rattle.seq_arith.specs.MessageGrammar.{reading};
@@ -21,7 +21,7 @@ use std::marker::Model;
 use twin_laws::{Part, Side};
 use twin_wire::{TwinMsg, read_twin};
 
-/// A head or a tail: its log, and how far it is with the other. A head also stores the messages that the tail hasn't confirmed, at most 64.
+/// A head or a tail: its log, and how many messages it has taken or applied. A head also stores the messages that the tail hasn't confirmed, at most 64.
 #[derive(Drop)]
 pub struct TwinLog {
     part: Part,
@@ -30,9 +30,9 @@ pub struct TwinLog {
     log: LogStore,
     /// A head: how many messages it took. A tail: how many it applied.
     number: u64,
-    /// The last of these that aren't confirmed; none of a tail.
+    /// Of a head: the last of these, which the tail hasn't confirmed. Of a tail: none.
     waiting: Waiting,
-    /// What its log answers in a turn.
+    /// Room for the log's answer in a turn.
     answer: MsgOut,
 }
 
@@ -83,7 +83,7 @@ impl TwinLog {
         self.alone
     }
 
-    /// The other logger has stopped: this one serves alone from now on.
+    /// Notes that the other logger has stopped: this one serves alone from now on.
     pub fn alone(&mut self)
         requires { self.old.alone ≡ false }
         ensures { self.new ≡ left_alone self.old }
@@ -91,7 +91,8 @@ impl TwinLog {
         self.alone = true;
     }
 
-    /// Takes a datagram that came from a side, and replaces the content of `out` by what is sent. After `NoMemory` everything is as it was, and `out` is empty.
+    /// Takes a datagram from the server or from the other logger, and replaces the content of `out` by what is sent. After `NoMemory` the logger is
+    /// unchanged, `out` empty.
     pub fn deliver(
         &mut self,
         alloc: Global,
@@ -132,7 +133,7 @@ impl TwinLog {
         }
     }
 
-    /// Takes a datagram of the other logger. One that serves alone ignores it.
+    /// Takes a datagram of the other logger. A logger that serves alone ignores it.
     #[tactic(auto, using(crate::proofs::Cases::told_alone), unfolding(twin_laws::specs::StoredState::kept_does))]
     fn on_other(&mut self, alloc: Global, bytes: &[u8], out: &mut TwinOut) -> Result<(), NoMemory>
         requires empty { out.old ≡ [] }
@@ -204,7 +205,7 @@ impl TwinLog {
         }
     }
 
-    /// Gives a message to the log, whose answer is sent to the server: that is all that a logger does that serves alone.
+    /// Gives a message to the log, and sends the log's answer to the server. A logger that serves alone does nothing else.
     #[tactic(auto, using(crate::proofs::Outgoing::answer_is))]
     fn serve(&mut self, alloc: Global, msg: &Msg<'_>, out: &mut TwinOut) -> Result<(), NoMemory>
         requires sendable { IsSendable msg.now }
@@ -219,7 +220,7 @@ impl TwinLog {
         Ok(())
     }
 
-    /// Takes a message as the head of a pair, and forwards all that is unconfirmed.
+    /// Takes a message as the head of a pair, and forwards all that is unconfirmed. A message that only a logger sends is ignored.
     fn take(
         &mut self,
         alloc: Global,
@@ -257,14 +258,14 @@ impl TwinLog {
         self.add(alloc, msg, bytes)
     }
 
-    /// Whether a head takes a further message.
+    /// Whether a head can take a further message.
     fn has_room(&self) -> bool
         ensures { result ≡ has_kept_room self.now }
     {
         self.waiting.len() < WAITING && self.number < u64::MAX
     }
 
-    /// Adds a message to those that a head took. Its log's answer is dropped.
+    /// Adds a message to those that a head took. The answer of the head's log is dropped.
     #[tactic(auto, unfolding(seq_arith::specs::TwinGrammar::is_asking))]
     fn add(&mut self, alloc: Global, msg: &Msg<'_>, bytes: &[u8]) -> Result<(), NoMemory>
         requires sendable { IsSendable msg.now }
@@ -290,7 +291,7 @@ impl TwinLog {
         self.waiting.forward(confirmed, out);
     }
 
-    /// All messages up to this number are confirmed, if they were forwarded.
+    /// Removes the messages up to this number from the unconfirmed ones. A number that the head hasn't given yet is ignored.
     fn confirm(&mut self, number: u64)
         ensures { self.new ≡ kept_confirmed number self.old }
     {
@@ -300,7 +301,8 @@ impl TwinLog {
         }
     }
 
-    /// Takes a forwarded message as the tail of a pair: the next one is applied, an earlier one confirmed once more, and one after a gap ignored.
+    /// Takes a forwarded message as the tail of a pair. The next one is applied. For an earlier one all that is applied is confirmed again, and one after a
+    /// gap is ignored.
     fn apply(
         &mut self,
         alloc: Global,

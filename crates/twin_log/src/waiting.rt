@@ -13,10 +13,10 @@ use std::collections::VecDeque;
 use std::marker::Model;
 use twin_wire::TwinMsg;
 
-/// The most messages that wait.
+/// The most unconfirmed messages.
 pub(crate) const WAITING: usize = 64;
 
-/// At most 64 messages in their order, as the bytes in which they arrived, in a queue whose room is allocated once.
+/// At most 64 messages in order, as the bytes in which they arrived. The queue's capacity is allocated once.
 #[derive(Drop)]
 pub(crate) struct Waiting {
     messages: VecDeque<Vec<u8>>,
@@ -34,7 +34,7 @@ impl Model for Waiting {
     ghost invariant = { λ w. (length w.messages.items ≤ 64) × (64 ≤ deque_capacity w.messages) × AreAsking (texts_of w.messages.items) };
 }
 
-/// Removes the first messages.
+/// Removes the first `count` messages, or all if there are fewer.
 fn drop_messages(messages: &mut VecDeque<Vec<u8>>, count: usize)
     ensures items { messages.new.items ≡ drop count messages.old.items }
     ensures capacity { deque_capacity messages.new ≡ deque_capacity messages.old }
@@ -44,7 +44,7 @@ fn drop_messages(messages: &mut VecDeque<Vec<u8>>, count: usize)
     }
 }
 
-/// A message, by its place.
+/// The bytes of message `i`, counted from 0.
 fn text_at(messages: &VecDeque<Vec<u8>>, i: usize) -> &[u8]
     requires { i < length messages.now.items }
     ensures { slice_get (texts_of messages.now.items) i ≡ Some result.now }
@@ -76,7 +76,7 @@ impl Waiting {
         })
     }
 
-    /// How many messages wait.
+    /// How many messages there are, at most 64.
     #[tactic(auto, using(crate::proofs::Fronts::mapped))]
     pub(crate) fn len(&self) -> usize
         ensures value { result ≡ length self.now }
@@ -95,7 +95,7 @@ impl Waiting {
         self.messages.push_back(message).unwrap();
     }
 
-    /// Removes the first messages.
+    /// Removes the first `count` messages, or all if there are fewer.
     #[tactic(auto, using(crate::proofs::Fronts::mapped))]
     pub(crate) fn drop_front(&mut self, count: usize)
         ensures { self.new ≡ drop count self.old }

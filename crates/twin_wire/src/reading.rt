@@ -62,7 +62,7 @@ fn number_in(bytes: &[u8]) -> u64
     BigEndian::read_u64(&bytes[8..])
 }
 
-/// What a datagram of a kind says, with this number and these bytes after its header.
+/// The datagram of a kind with this number and these bytes after its header.
 #[tactic(auto, unfolding(seq_arith::specs::TwinGrammar::is_sound))]
 fn says(kind: TwinKind, number: u64, behind: &[u8]) -> TwinMsg<'_>
     requires { is_sound_lem kind number behind.now ≡ true }

@@ -8,10 +8,10 @@ ghost use Rattle.logger_wire.specs.Value.{body_of};
 use logger_wire::{Body, read_msg};
 use seq_arith::TwinKind;
 
-/// The bytes of every header.
+/// The length of every header, in bytes.
 pub(crate) const HEADER: usize = 16;
 
-/// What every datagram begins with: "FU". The version follows.
+/// The first two bytes of every datagram, "FU". The version follows.
 pub(crate) const MAGIC: u16 = 0x4655;
 
 pub(crate) const VERSION: u8 = 1;
@@ -75,7 +75,7 @@ fn is_asking(bytes: &[u8]) -> bool
     }
 }
 
-/// Whether what a datagram of a kind says is in its range, with this number and these bytes after its header.
+/// Whether a datagram of a kind may have this number, and these bytes after its header.
 #[tactic(auto, unfolding(seq_arith::specs::TwinGrammar::is_sound))]
 pub(crate) fn is_sound(kind: TwinKind, number: u64, behind: &[u8]) -> bool
     ensures { result ≡ is_sound_lem kind number behind.now }

@@ -1,6 +1,6 @@
 //! What a datagram between two loggers says.
 
-/// A datagram between two loggers. The message of a Forward stays where it was read from.
+/// A datagram between two loggers. A Forward borrows its message from the bytes of the datagram.
 #[derive(Clone, Copy, Debug)]
 pub enum TwinMsg<'a> {
     /// A server's message, 16 to 1,491 bytes as they arrived, with its number, at least 1.

@@ -17,7 +17,7 @@ pub fn write_twin(m: &TwinMsg<'_>, out: &mut [u8]) -> usize
     requires room { 2048 ≤ length out.old }
     ensures length { result ≡ 16 + length (behind_lem (said_by m.now)) }
     ensures bytes { out.new ≡ spelling (said_by m.now) ++ drop result out.old }
-    // What was written is read back.
+    // What is written can be read back.
     ensures read { reading (take result out.new) ≡ Ok (said_by m.now) }
 {
     let (front, rest) = out.split_at_mut(HEADER);
@@ -40,7 +40,7 @@ fn put(bytes: &[u8], out: &mut [u8])
     out[..bytes.len()].copy_from_slice(bytes);
 }
 
-/// The kind that says such a datagram.
+/// The kind of a datagram.
 fn kind_of(m: &TwinMsg<'_>) -> TwinKind
     ensures { result ≡ kind_lem (said_by m.now) }
 {
@@ -51,7 +51,7 @@ fn kind_of(m: &TwinMsg<'_>) -> TwinKind
     }
 }
 
-/// Its number, which is 0 for `Alone`.
+/// The number of a datagram, which is 0 for `Alone`.
 fn number_in(m: &TwinMsg<'_>) -> u64
     ensures { result ≡ number_lem (said_by m.now) }
 {
@@ -61,7 +61,7 @@ fn number_in(m: &TwinMsg<'_>) -> u64
     }
 }
 
-/// What follows its header.
+/// The bytes after a datagram's header.
 fn behind_of<'a>(m: &TwinMsg<'a>) -> &'a [u8]
     ensures { result.now ≡ behind_lem (said_by m.now) }
 {
