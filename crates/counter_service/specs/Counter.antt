@@ -8,11 +8,11 @@ use Rattle.counter_service.specs.declared.counter.Counter.{Counter}
 abbrev pub counter_started : Counter
 counter_started = record { count = 0 }
 
--- one byte more. At 2^64 - 1 the count stays
+-- the count after one more byte. It stays at 2^64 - 1
 abbrev pub counted : ℕ → ℕ
 counted count = min (count + 1) (2 ^ 64 - 1)
 
--- the count that a line feed makes is its answer. Any other byte has none
+-- a line feed is answered by the count that includes it. Any other byte has no answer
 abbrev pub answer : ℕ → ℕ → List ℕ
 answer count byte = if byte == 10 then decimal count ++ codes "\n" else []
 
@@ -21,7 +21,7 @@ abbrev pub count_after : ℕ → List ℕ → ℕ
 count_after count [] = count
 count_after count (byte ∷ bytes) = count_after (counted count) bytes
 
--- what is answered to these bytes
+-- the answers to these bytes
 abbrev pub answers : ℕ → List ℕ → List ℕ
 answers count [] = []
 answers count (byte ∷ bytes) = answer (counted count) byte ++ answers (counted count) bytes
@@ -35,7 +35,7 @@ counter_after counter chunk =
 abbrev pub counter_machine : Machine Counter
 counter_machine = machine counter_started counter_after
 
--- what is kept of it: the count, in 8 bytes
+-- its saved form: the count, in 8 bytes
 abbrev pub counter_form : Counter → List ℕ
 counter_form counter = to_be_bytes w64 counter.count
 

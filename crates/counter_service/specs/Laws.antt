@@ -1,4 +1,4 @@
--- What the traits ask of each service, of Counter: what is written at a chunk is short, and is bytes; and what is kept of it is read back.
+-- What the traits require of Counter: the output of a chunk is short and consists of bytes, and the saved form is read back.
 use Rattle.std.proofs.Common.{ℕ, ◌*◌, ◌^◌, ◌<◌, ◌≤◌, ◌==◌, Bool, true, false, List, [], ◌∷◌, ◌++◌, length, refl, sym, ap, ◌∙◌, arith, length-append}
 use Rattle.std.specs.Prelude.{decimal, codes, IsAscii, if◌then◌else◌}
 use Rattle.std.proofs.lemmas.Fmt.{length-decimal-le, IsAscii-decimal}
@@ -49,7 +49,7 @@ bytes-ascii : (text : List ℕ) → IsAscii text → AreBytes text
 bytes-ascii text ascii =
     recursion_from_All (λ n. n < 256) text (All-from_get_or (λ n. n < 256) text 0 (λ i within. let below = ascii i in omega arith))
 
--- the count is one of 64 bits
+-- the count fits in 64 bits
 abbrev pub IsCounter : Counter → Type 0
 IsCounter s = s.count < 2 ^ 64
 

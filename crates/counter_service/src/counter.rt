@@ -1,4 +1,4 @@
-//! Counter, a service of one's own. Its state is a number, which a crash loses and the log brings back.
+//! Counter, an example of a service of your own. Its state is a number, which a crash loses and the log restores.
 
 ghost use Rattle.std.specs.Prelude.{◌≡◌, ℕ, ◌^◌, ◌≤◌, List, [], ◌++◌, length, true, OnOk};
 ghost use Rattle.counter_service.specs.Counter.{counted, answer};
@@ -8,8 +8,8 @@ use itoa::Buffer;
 use server_trait::{Next, Saved, Service};
 use std::alloc::Global;
 
-/// The service that counts the bytes of its input. It answers each line feed with the count up to and with it, in decimal, and a line feed. At 2^64 - 1 the
-/// count stays. The end of input closes.
+/// The service that counts the bytes of its input. It answers each line feed with the count up to and including it, in decimal, and a line feed. The count
+/// stays at 2^64 - 1. The end of input closes.
 #[derive(Clone, Copy, Debug, PartialEq, Eq)]
 pub struct Counter {
     count: u64,

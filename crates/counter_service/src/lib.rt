@@ -1,4 +1,4 @@
-//! Counter: a service of one's own, to begin one with. What it does is its definition in `specs/`, and `take` does just that.
+//! Counter: an example of a service of your own. A definition in `specs/` says what it does, and `take` does exactly that.
 #![tactic(auto)]
 
 pub use counter::Counter;

@@ -38,7 +38,7 @@ fresh_desk link disk name open_fails is_in_use =
 abbrev pub told_of : DeskState → Option (List DeskCall)
 told_of desk = disks.told_of desk.disk
 
--- the file of its name has what isn't read yet, and a file of another name is new
+-- the content of the file of this name: of the desk's own file what isn't read yet, and of any other nothing, since it is new
 abbrev pub file_of : DeskState → List ℕ → Option (List ℕ)
 file_of desk name = Some (if bytes_eq desk.name name then desk.disk.left else [])
 

@@ -76,7 +76,7 @@ pub trait Desk: Disk {
         ensures no_refusal { (Self.beside self.new).refusals ≡ (Self.beside self.old).refusals }
         ensures left { Self.left self.new ≡ Self.left self.old };
 
-    /// The same, but it doesn't wait: it gives `Heard::Nothing` unless a datagram has arrived already.
+    /// Receives like `recv`, but doesn't wait: returns `Heard::Nothing` unless a datagram has arrived already.
     fn recv_waiting(&mut self, buf: &mut [u8]) -> Result<Heard, Failed>
         requires { 2048 ≤ length buf.old }
         ensures within { IfOk result (λ heard. HasAtMost heard (length buf.new)) }

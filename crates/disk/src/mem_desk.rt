@@ -294,7 +294,7 @@ impl Desk for MemDesk {
         Err(self.fail_on_link())
     }
 
-    /// It is numbered among the receives that wait.
+    /// Its calls share the numbering of `recv`.
     fn recv_waiting(&mut self, buf: &mut [u8]) -> Result<Heard, Failed>
         requires { 2048 ≤ length buf.old }
 

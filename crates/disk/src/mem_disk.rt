@@ -1,4 +1,4 @@
-//! A file in memory, for tests. It records its calls. It fails where it was made to fail, and where an allocation fails; from then on it records nothing. It
+//! A file in memory, for tests. It records its calls. It fails where it was made to fail, and where an allocation fails; from then on `told` returns `None`. It
 //! can be asked what a death at any moment leaves of it.
 
 ghost use Rattle.std.specs.Prelude.{◌≡◌, ◌≤◌, ◌<◌, ◌↔◌, ◌⊎◌, length, min, take, false, true, None, Some, [], ◌∷◌, is_err, IfSome, IfOk, OnOk, OnErr, IsErr};
@@ -118,7 +118,7 @@ impl MemDisk {
         &self.first[self.at..]
     }
 
-    /// Records nothing from now on.
+    /// Gives no record from now on: `told` returns `None`.
     pub(crate) fn starve(&mut self)
         ensures { self.new ≡ starved self.old }
     {

@@ -1,4 +1,4 @@
--- Which calls on a link are recorded, by their answers.
+-- Which calls on a link are recorded, by their results.
 use Rattle.std.specs.Prelude.{ℕ, ◌≤◌, List, [], ◌∷◌, take, true, false, Ok, Err}
 use Rattle.std.specs.declared.result.Result.{Result}
 use Rattle.ft_io.specs.declared.Addr.{Addr}

@@ -17,7 +17,7 @@ pub record SpawnerState : Type 0 where
   pub calls : List SpawnCall
   -- how many calls failed
   pub faults : ℕ
-  -- how many of them failed because an allocation failed
+  -- how many of them failed because an allocation failed, or the numbers for children ran out
   pub starved : ℕ
 
 -- a spawner before its first call
@@ -25,7 +25,7 @@ abbrev pub fresh_spawner : List ℤ → List ℕ → SpawnerState
 fresh_spawner listed fails =
     record { statuses = listed; attempts = no_call fails; started = 0; calls = []; faults = 0; starved = 0 }
 
--- the record of its calls; there is none once an allocation has failed in a call
+-- the record of its calls; there is none once `starved` has risen
 abbrev pub told_of : SpawnerState → Option (List SpawnCall)
 told_of spawner = cond (spawner.starved == 0) (Some spawner.calls) None
 
@@ -34,7 +34,7 @@ abbrev pub or_zero : Option ℤ → ℤ
 or_zero None = pos 0
 or_zero (Some status) = status
 
--- the exit status of a child, children being numbered from 1: 0 past the list
+-- the exit status of a child, with children numbered from 1: 0 past the end of the list
 abbrev pub status_of : List ℤ → ℕ → ℤ
 status_of statuses child = or_zero (slice_get statuses (child - 1))
 
@@ -54,6 +54,6 @@ with_child spawner = record spawner { started = spawner.started + 1 }
 abbrev pub failed : SpawnerState → SpawnerState
 failed spawner = record spawner { faults = raised spawner.faults }
 
--- a call failed because an allocation failed
+-- a call failed because an allocation failed, or the numbers for children ran out
 abbrev pub starved : SpawnerState → SpawnerState
 starved spawner = record spawner { faults = raised spawner.faults; starved = raised spawner.starved }

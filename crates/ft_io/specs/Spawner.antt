@@ -1,4 +1,4 @@
--- Which calls on a spawner are recorded, by their answers.
+-- Which calls on a spawner are recorded, by their results.
 use Rattle.std.specs.Prelude.{◌≡◌, ℕ, ℤ, ◌+◌, List, [], ◌∷◌, Ok, Err}
 use Rattle.std.specs.declared.result.Result.{Result}
 use Rattle.ft_io.specs.declared.Failed.{Failed}
@@ -10,7 +10,7 @@ abbrev pub start_told : List (List ℕ) → Result ℕ Failed → List SpawnCall
 start_told words (Ok _) = Started words ∷ []
 start_told words (Err _) = []
 
--- a wait that answered is recorded with the child and its exit status, and one that failed isn't recorded
+-- a wait that succeeded is recorded with the child and its exit status, and one that failed isn't recorded
 abbrev pub wait_told : ℕ → Result ℤ Failed → List SpawnCall
 wait_told child (Ok status) = Ended child status ∷ []
 wait_told child (Err _) = []

@@ -1,5 +1,5 @@
 //! A link in memory, for tests. It gives the datagrams that it was made with and records its calls. It fails where it was made to fail, and where an allocation
-//! fails; from then on it records nothing.
+//! fails; from then on `told` returns `None`.
 
 ghost use Rattle.std.specs.Prelude.{◌≡◌, ◌≤◌, ◌<◌, ◌⊎◌, length, false, true, Some, None, IfSome, IfOk, OnOk, OnErr};
 ghost use Rattle.ft_io.specs.declared.link_call.LinkCall.TheVariants.{Bound, Missed, Handed};
@@ -89,7 +89,7 @@ impl MemLink {
         }
     }
 
-    /// The same, but the binds fail whose numbers, counted from 1, are in `bind_fails`. So a test can see that a bind is retried.
+    /// The same, but those binds fail whose numbers, counted from 1, are in `bind_fails`, for a test of retried binds.
     pub fn with_bind_fails(
         alloc: Global,
         arrivals: Vec<Arrival>,

@@ -1,5 +1,5 @@
 //! A spawner in memory, for tests. Its children end at once with the statuses that it was made with. It records its calls. It fails where it was made to fail,
-//! and where an allocation fails; from then on it records nothing.
+//! and where an allocation fails or the numbers for children run out; from then on `told` returns `None`.
 
 ghost use Rattle.std.specs.Prelude.{◌≡◌, ◌≤◌, ◌⊎◌, map, string_bytes, slice_get, Some, None, IfSome, IfOk, OnOk, OnErr};
 ghost use Rattle.ft_io.specs.declared.spawn_call.SpawnCall.TheVariants.{Started, Ended};
@@ -70,7 +70,7 @@ impl MemSpawner {
         self.starved
     }
 
-    /// The calls so far, the oldest first, or `None` once an allocation has failed in a call.
+    /// The calls so far, the oldest first, or `None` once `starved` has risen.
     pub fn told(&self) -> Option<&[SpawnCall]>
         ensures some { IfSome result (λ calls. told_of self.now ≡ Some calls.now) }
         ensures none { result ≡ None → told_of self.now ≡ None }
@@ -121,7 +121,7 @@ impl Spawner for MemSpawner {
     }
 
     fn start(&mut self, words: &[String]) -> Result<u32, Failed>
-        // It fails exactly where its call is listed so, or where an allocation fails.
+        // It fails exactly where its call is listed so, or where an allocation fails or the numbers run out.
         ensures ok { OnOk result ((IsNextListed self.old.attempts → ⊥)
             × (self.new ≡ with_child (noted (attempted self.old) (Started (map string_bytes words.now))))) }
         ensures err { OnErr result ((IsNextListed self.old.attempts × (self.new ≡ failed (attempted self.old)))

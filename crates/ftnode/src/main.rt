@@ -1,5 +1,5 @@
-//! `ftnode`: a server, a logger or a client of FT-TCP as a process over UDP, or a pair of servers with a logger and a client, each a process of its own. A logger
-//! may keep its log in a journal file, or two may act as one. All is done by `run_ftnode`; here are the system, the standard input, the standard output and the standard error.
+//! `ftnode` runs a server, a logger or a client of FT-TCP as a process over UDP, or a pair of servers with a logger and a client, each a process. A logger may
+//! keep its log in a journal file, or two loggers may act as one. `main` passes the system and the standard streams to `run_ftnode`, which does the rest.
 #![tactic(auto)]
 
 use std::io;

@@ -28,7 +28,7 @@ IsFront calls [] = Unit {0}
 IsFront [] (call ∷ done) = ⊥
 IsFront (next ∷ calls) (call ∷ done) = ((call ≡ next) × IsFront calls done) ⊎ ((call ≡ failed_call next) × (done ≡ []))
 
--- the messages that calls received
+-- the messages that were received by calls
 abbrev pub said_in : Result Message BadMsg → List Message
 said_in (Ok message) = message ∷ []
 said_in (Err bad) = []
@@ -45,7 +45,7 @@ messages_in [] = []
 messages_in (OnLink call ∷ calls) = message_on call ++ messages_in calls
 messages_in (OnDisk call ∷ calls) = messages_in calls
 
--- what they sent
+-- the bytes that calls handed to send
 abbrev pub bytes_on : LinkCall → List (List ℕ)
 bytes_on (Handed to bytes is_lost) = bytes ∷ []
 bytes_on (Came from bytes) = []

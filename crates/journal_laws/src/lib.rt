@@ -55,7 +55,7 @@ pub fn an_opening_takes_nothing()
         → IsFrontOf opening done → LeftBy file (λ c. c ≡ file) done left → Outlives log (on_disk done) left }
 {}
 
-/// In every world whose log is the one at a message's place, receiving the message and sending its answer is the delivery of a packet.
+/// In every world, receiving a message that was sent to the logger, and sending the log's answer to it, is the delivery of a packet.
 pub fn an_answer_is_a_delivery<S: Service>()
     ensures { (kind number : ℕ) (world : World) (message : Message) → packet_at world.packets number ≡ Some (To_logger message)
         → MayHappen (machine (S.started kind) S.after) world (Calm (Deliver number)) (option_to_list (option_map From_logger (answer_to world.log message)))

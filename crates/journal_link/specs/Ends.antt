@@ -21,12 +21,12 @@ code_of JournalFault = 11
 code_of (BadJournal at) = 12
 code_of InUse = 13
 
--- the ends that a failed bind or write brings, as they may be of any role
+-- the faults of `node`; a failed call on the journal is none of them
 abbrev pub is_fault : JournalEnd → Bool
 is_fault (Node end) = node.is_fault end
 is_fault _ = false
 
--- P, where no such end came
+-- P, unless such a fault ended the process
 abbrev pub UnlessFault : {T : Type 0} → Result T JournalEnd → Type 0 → Type 0
 UnlessFault result P = MatchResult result (λ _. P) (λ end. is_fault end ≡ false → P)
 

@@ -19,8 +19,8 @@ use Rattle.journal_link.specs.declared.role.JournalRole.{JournalRole}
 use Rattle.journal_link.specs.declared.status.JournalEnd.{JournalEnd}
 use Rattle.journal_link.specs.declared.status.JournalEnd.TheVariants.{Node, JournalFault, BadJournal, InUse}
 
--- Where a process starts: at the log of the blocks that its file has. By these calls it cuts off what a death has left after them, or creates a journal in a
--- file that was empty
+-- Where a process starts: at the log of the blocks that its file has. By these calls it cuts off what a death has left after them, or completes a new journal
+-- in a file that has only a prefix of the magic, or nothing
 pub record Starts (file : Option (List ℕ)) (opening : List DiskCall) (start : Place) : Type 0 where
   pub bodies : List (List ℕ)
   pub has_log : HasLog bodies start.end start.log

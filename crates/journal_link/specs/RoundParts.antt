@@ -25,7 +25,7 @@ use Rattle.journal_link.specs.Rounds.{Place, Round, IsDatagram, IsRound, receive
 abbrev pub place_of : KeptState → Place
 place_of kept = record { end = kept.end; log = kept.log }
 
--- a receive is taken: the log is the one after it, and what changed it waits for the commit
+-- after a receive: its message is applied to the log, and waits for the commit if it has changed the log
 abbrev pub with_received : KeptState → Received → KeptState
 with_received kept r = record kept { log = log_then kept.log r; round = kept.round ++ change_by kept.log r }
 
@@ -33,7 +33,7 @@ with_received kept r = record kept { log = log_then kept.log r; round = kept.rou
 abbrev pub with_bytes : KeptState → List ℕ → KeptState
 with_bytes kept bytes = record kept { log = log_with kept.log (reading bytes); round = kept.round ++ change_in kept.log bytes (reading bytes) }
 
--- .. and so are these, the newest first
+-- .. after these receives, the newest first
 abbrev pub with_all_received : KeptState → List Received → KeptState
 with_all_received kept received = record kept { log = log_behind kept.log received; round = kept.round ++ changes_in kept.log received }
 
@@ -63,7 +63,7 @@ pub record HasAnswered (answers : List Answer) (old new : Option (List DeskCall)
   pub tells : Tells old new (on_link calls)
   pub counts_are : counts ≡ with_calls counted calls
 
--- one receive, and whether it gave a datagram
+-- one receive, which gave a datagram if `is_more`
 pub record HasTaken (is_more : Bool) (before after : KeptState) (old new : Option (List DeskCall)) (counted counts : Counts) (waiting answers : List Answer) : Type 0 where
   pub received : Received
   pub is_datagram : is_more ≡ true → IsDatagram received
@@ -92,7 +92,7 @@ pub record HasGathered (count : ℕ) (before after : KeptState) (old new : Optio
   pub after_is : after ≡ with_all_received before received
   pub answers_are : answers ≡ replies_to before.log received
 
--- receives of which the last one ended because memory ran out
+-- receives of a round that ended because an allocation failed
 pub record IsCutGathering (most : ℕ) (old new : Option (List DeskCall)) : Type 0 where
   pub received : List Received
   pub within : length received ≤ most
@@ -136,7 +136,7 @@ pub record IsCutServing (most : ℕ) (start : Place) (old new : Option (List Des
   pub within : turns_in rounds + length received ≤ most
   pub tells : Tells old new (calls_of start rounds ++ cut)
 
--- the same, and their counts are written
+-- rounds of this many turns in all, whose counts are written
 pub record HasLived (count : ℕ) (start : Place) (old new : Option (List DeskCall)) (Writes : List ℕ → Type 0) : Type 0 where
   pub rounds : List Round
   pub are_rounds : AllByRecursion (λ round. IsRound (received_in round)) rounds

@@ -30,7 +30,7 @@ fn open_log<K: Desk>(alloc: Global, desk: &mut K, name: &str) -> Result<KeptLog,
     Ok(KeptLog::open(alloc, desk)?)
 }
 
-/// A logger after its bind: its rounds, and then the line of its counts.
+/// Runs a logger after its bind: takes its rounds, and writes the line of the counts.
 fn serve_and_tell<K: Desk, O: Sink>(
     alloc: Global,
     turns: u32,
@@ -51,7 +51,7 @@ fn serve_and_tell<K: Desk, O: Sink>(
     Ok(tell_counts(alloc, &counts, out)?)
 }
 
-/// A logger with a journal: it opens its file, binds, does its turns, and writes the counts of their calls.
+/// Runs a logger with a journal: opens its file, binds, takes its turns, and writes the counts of their calls.
 pub(crate) fn run_keeper<K: Desk, O: Sink>(
     alloc: Global,
     role: &JournalRole,

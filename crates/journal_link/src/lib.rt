@@ -1,5 +1,5 @@
-//! `node_with`: `ftnode` except for one of two loggers and `alone` (`twin_link`). With the option `--journal FILE` it is a logger that keeps its log in a file and survives its
-//! own death; all other words are those of `node`.
+//! `node_with` is `ftnode` without the roles that `twin_link` adds. With the option `--journal FILE` it is a logger that keeps its log in a file, so that the
+//! log survives the death of its process. All other words are those of `node`.
 #![tactic(auto)]
 
 pub use role::{FileName, JournalRole};

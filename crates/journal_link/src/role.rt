@@ -31,7 +31,7 @@ impl Model for FileName {
 }
 
 impl FileName {
-    /// The file name that this word is, or `None` if it is empty or begins with `-`.
+    /// Returns this word as a file name, or `None` if it is empty or begins with `-`.
     fn read(alloc: Global, word: &str) -> Result<Option<FileName>, NoMemory>
         ensures { IfOk result (λ name. name ≡ file_of word.now) }
     {
@@ -42,7 +42,7 @@ impl FileName {
         Ok(Some(FileName { word }))
     }
 
-    /// The word.
+    /// Returns the name.
     pub(crate) fn as_str(&self) -> &str
         ensures { result.now ≡ self.now }
     {

@@ -28,7 +28,7 @@ const DATAGRAM_ROOM: usize = 2_048;
 /// The most turns of a round.
 const MOST: u32 = 256;
 
-/// Receives once: how many bytes arrived, at the beginning of the buffer, and from where. `None` is a tick. It waits a while for a datagram, or not.
+/// Receives once. Returns the length of the datagram, which is at the beginning of the buffer, and its sender. `None`: no datagram. It waits only if `waits`.
 fn receive<K: Desk>(
     desk: &mut K,
     waits: bool,
@@ -55,7 +55,7 @@ fn receive<K: Desk>(
     }
 }
 
-/// Takes what the bytes say, if they are a message, and returns the answer to it, or no bytes.
+/// Applies the message that the bytes spell to the log and returns the answer, or no bytes if there is none or the bytes are no message.
 fn answer(alloc: Global, kept: &mut KeptLog, bytes: &[u8]) -> Result<MsgOut, NoMemory>
     requires { is_full kept.old ≡ false }
     ensures next { OnOk result (kept.new ≡ with_bytes kept.old bytes.now) }
@@ -68,7 +68,7 @@ fn answer(alloc: Global, kept: &mut KeptLog, bytes: &[u8]) -> Result<MsgOut, NoM
     Ok(out)
 }
 
-/// One receive. What arrived is taken, and its answer waits for the commit. Returns whether a datagram arrived.
+/// Receives once, and applies what arrived to the log. The answer waits for the commit. Returns whether a datagram arrived.
 fn take_next<K: Desk>(
     alloc: Global,
     desk: &mut K,
@@ -93,8 +93,8 @@ fn take_next<K: Desk>(
     Ok(true)
 }
 
-/// The receives of a round: one that waits, then others until no datagram is there, one fails, there are `most`, or a block is full. Returns how many there
-/// were.
+/// Makes the receives of a round: one that waits, then others until no datagram is there, a receive fails, there were `most`, or the block is full. Returns
+/// how many there were.
 fn gather<K: Desk>(
     alloc: Global,
     desk: &mut K,
@@ -125,7 +125,7 @@ fn gather<K: Desk>(
     Ok(most)
 }
 
-/// A round of at most this many turns: its receives, the commit, and then its answers. Returns how many turns it had.
+/// Takes a round of at most `most` turns: receives, commits, and then answers. Returns how many turns it had.
 fn take_round<K: Desk>(
     alloc: Global,
     desk: &mut K,
@@ -152,7 +152,7 @@ fn take_round<K: Desk>(
     Ok(count)
 }
 
-/// This many turns, in rounds. Returns the counts of their calls.
+/// Takes this many turns, in rounds, and returns the counts of their calls.
 pub(crate) fn serve<K: Desk>(
     alloc: Global,
     desk: &mut K,

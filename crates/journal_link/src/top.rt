@@ -1,4 +1,4 @@
-//! The top call.
+//! The entry point.
 
 ghost use Rattle.std.specs.Prelude.{◌≡◌, ◌≤◌, ◌^◌, ◌⊎◌, ℕ, List, length, map, string_bytes, None, Some, false};
 ghost use Rattle.ft_io.specs.Faults.{Rose};
@@ -23,7 +23,7 @@ use ft_io::{Link, NoMemory, Sink, Source, Spawner};
 use node_link::{NodeEnd, Status, node};
 use std::alloc::Global;
 
-/// A logger with a journal, and how it ended.
+/// Runs a logger with a journal, and reports how it ended.
 fn keep<K: Desk, O: Sink, E: Sink>(
     alloc: Global,
     role: &JournalRole,
@@ -50,8 +50,8 @@ fn keep<K: Desk, O: Sink, E: Sink>(
     }
 }
 
-/// `ftnode` with these arguments: as [`node`], except that a logger with the option `--journal FILE` keeps its log in this file, and so restarts with all that
-/// it has answered. `desk` is that logger's network and file; `link` is for all other roles. Its status is 0 if all turns were done, 3 if memory ran out, 4 if
+/// Runs `ftnode` with these arguments, as [`node`] does, but a logger with the option `--journal FILE` keeps its log in this file, so that a restart has all
+/// that was answered. `desk` is its network and file; `link` is for all other roles. Its status is 0 if all turns were taken, 3 if an allocation failed, 4 if
 /// the bind failed, 5 if a write failed, 11 if a call on the file failed, 12 if the file is no journal or is damaged, and 13 if another process has it open.
 pub fn node_with<L: Link, I: Source, O: Sink, E: Sink, P: Spawner, K: Desk>(
     alloc: Global,
@@ -110,7 +110,7 @@ pub fn node_with<L: Link, I: Source, O: Sink, E: Sink, P: Spawner, K: Desk>(
         → result.code ≡ 4 → Rose (K.beside desk.old).bind_faults (K.beside desk.new).bind_faults }
     ensures journal_fault { result.code ≡ 11 → Rose (K.fault_count desk.old) (K.fault_count desk.new) }
     ensures in_use { result.code ≡ 13 → Rose (K.beside desk.old).refusals (K.beside desk.new).refusals }
-    // Where no call on the desk and no sink failed, only damage of the file or a lack of memory ends it early.
+    // Where no call on the desk and no sink failed, only a damaged file or a failed allocation ends it early.
     ensures keeper { (role : JournalRole) → journal_of (map string_bytes words.now) ≡ Some role
         → IsStill (K.fault_count desk.old) (K.fault_count desk.new) → IsStill (K.beside desk.old).refusals (K.beside desk.new).refusals
         → IsStill (K.beside desk.old).bind_faults (K.beside desk.new).bind_faults → IsStill (O.fault_count out.old) (O.fault_count out.new)

@@ -1,4 +1,4 @@
--- What bytes say that are messages, one after the other: each has its own length in its header.
+-- The messages that bytes spell, one after the other. Each has its length in its header.
 use Rattle.std.specs.Prelude.{◌≡◌, ◌≤◌, ℕ, List, [], ◌∷◌, ◌++◌, length, Ok}
 use Rattle.std.specs.List.{AllByRecursion}
 use Rattle.seq_arith.specs.Message.{Message}
@@ -8,7 +8,7 @@ abbrev pub Says : List ℕ → List Message → Type 0
 Says bytes [] = bytes ≡ []
 Says bytes (message ∷ messages) = (first : List ℕ) × (rest : List ℕ) × (bytes ≡ first ++ rest) × (reading first ≡ Ok message) × Says rest messages
 
--- .. and what the bodies of blocks say
+-- .. and those that the bodies of blocks spell
 abbrev pub AllSay : List (List ℕ) → List Message → Type 0
 AllSay [] messages = messages ≡ []
 AllSay (body ∷ bodies) messages = (first : List Message) × (rest : List Message) × (messages ≡ first ++ rest) × Says body first × AllSay bodies rest
@@ -17,7 +17,7 @@ AllSay (body ∷ bodies) messages = (first : List Message) × (rest : List Messa
 abbrev pub IsRound : List ℕ → Type 0
 IsRound body = length body ≤ 381696
 
--- these bodies of blocks say these messages
+-- these bodies of blocks spell these messages
 pub record AreKept (bodies : List (List ℕ)) (messages : List Message) : Type 0 where
   pub small : AllByRecursion IsRound bodies
   pub say : AllSay bodies messages

@@ -40,14 +40,14 @@ Takes bytes rest before after takes.Closed = (tail : List ℕ) × (bytes ≡ 46 
 Takes bytes rest before after takes.Short = HasNoBlock bytes × (rest ≡ bytes) × (after ≡ before)
 Takes bytes rest before after takes.Wrong = (more : List ℕ) → HasNoBlock (bytes ++ more)
 
--- .. and where more was read in place of `Short`, of a file of which this was left before and after it. `Wrong` where that is no block, whatever follows
+-- .. by a step, which reads more in place of `Short`. `old` and `new`: what is left of the file before and after. `Wrong`: no block, even with the rest
 abbrev pub Steps : (old new : Option (List ℕ)) (bytes rest : List ℕ) (before after : Log) → Taken → Type 0
 Steps old new bytes rest before after (takes.Block len) = Takes bytes rest before after (takes.Block len) × (new ≡ old)
 Steps old new bytes rest before after takes.Closed = Takes bytes rest before after takes.Closed × (new ≡ old)
 Steps old new bytes rest before after takes.Short = (more : List ℕ) × Consumes old new more × (rest ≡ bytes ++ more) × (after ≡ before)
 Steps old new bytes rest before after takes.Wrong = (left : List ℕ) → old ≡ Some left → HasNoBlock (bytes ++ left)
 
--- where a reading is after blocks: this is left of what followed the magic, in the window and in the file
+-- the place of a reading after blocks. The rest of what follows the magic is in the window and in the file
 pub record IsAt (first : List ℕ) (old new : Option (List ℕ)) (window : List ℕ) (place : ℕ) (log : Log) : Type 0 where
   pub bodies : List (List ℕ)
   pub has_log : HasLog bodies place log

@@ -20,7 +20,7 @@ pub enum Start {
     Wrong,
 }
 
-/// What these bytes begin with.
+/// Returns what these bytes begin with.
 pub fn start_of(bytes: &[u8]) -> Start
     ensures { StartsWith bytes.now result }
 {

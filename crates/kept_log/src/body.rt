@@ -12,7 +12,7 @@ use logger_store::{LogStore, MsgOut};
 use logger_wire::{read_msg, word_at};
 use std::alloc::Global;
 
-/// The length that the message at the beginning of these bytes has by its header, unless there are fewer bytes.
+/// Returns the length of the first message in these bytes, by its header. `None` if there are fewer bytes.
 fn first_length(bytes: &[u8]) -> Option<usize>
     ensures some { IfSome result (λ n. (6 ≤ length bytes.now) × (n ≤ length bytes.now) × (n ≡ word_at_lem bytes.now 4)) }
     ensures none { IfNone result ((messages : List Message) → Says bytes.now messages → bytes.now ≡ []) }
@@ -24,7 +24,7 @@ fn first_length(bytes: &[u8]) -> Option<usize>
     if n <= bytes.len() { Some(n) } else { None }
 }
 
-/// Applies the messages of a block's body to the log. False if the body isn't messages, one after the other: then some of them may be in the log.
+/// Applies the messages of a block's body to the log. Returns false if the body isn't a sequence of messages; then some of them may be in the log.
 pub fn take_body(alloc: Global, body: &[u8], store: &mut LogStore) -> Result<bool, NoMemory>
     ensures said { IfOk result (λ all. all ≡ true → Waits store.old body.now store.new) }
     ensures wrong { IfOk result (λ all. all ≡ false → (messages : List Message) → Says body.now messages → ⊥) }

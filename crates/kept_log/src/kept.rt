@@ -70,7 +70,7 @@ impl KeptLog {
         })
     }
 
-    /// The log, with the uncommitted round.
+    /// The log, with the uncommitted round applied.
     pub fn log(&self) -> &LogStore
         ensures { result.now ≡ self.now.log }
     {
@@ -91,8 +91,8 @@ impl KeptLog {
         self.round.len() > MOST_BODY - LONGEST
     }
 
-    /// Takes a message with its bytes, and replaces what `out` held by the answer to it, or by nothing. If it changes the log, it joins the uncommitted round.
-    /// The answer may be sent once the round is committed, and not before. It fails for lack of memory where `LogStore::answer` does.
+    /// Applies a message to the log, and replaces the content of `out` by the answer, or by nothing if there is none. If the message changes the log, its bytes
+    /// join the uncommitted round. The answer may be sent only once the round is committed. An allocation fails only where one of `LogStore::answer` does.
     pub fn take(
         &mut self,
         alloc: Global,

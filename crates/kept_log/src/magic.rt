@@ -5,7 +5,7 @@ ghost use Rattle.kept_log.specs.ReadSteps.{HasMagic};
 /// The first eight bytes of a journal's file.
 pub const MAGIC: &[u8] = b"ftlog 1\n";
 
-/// What a file begins with. The bytes are all of the file, or more than the magic has.
+/// What a file begins with, judged by all its bytes, or by more bytes than the magic has.
 #[derive(Clone, Copy, Debug, PartialEq, Eq)]
 pub enum Magic {
     /// A prefix of the magic, or the magic and nothing more.
@@ -16,7 +16,7 @@ pub enum Magic {
     Missing,
 }
 
-/// Whether these bytes, the beginning of a file, begin with the magic.
+/// Compares the beginning of a file with the magic.
 pub fn magic_of(bytes: &[u8]) -> Magic
     ensures { HasMagic bytes.now result }
 {

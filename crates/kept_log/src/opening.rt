@@ -21,7 +21,7 @@ use std::alloc::Global;
 /// Why a journal wasn't opened.
 #[derive(Clone, Copy, Debug, PartialEq, Eq)]
 pub enum OpenEnd {
-    /// Memory ran out, or the file has 2^62 bytes.
+    /// An allocation failed, or the blocks of the file reach beyond 2^62 bytes.
     NoMemory,
     /// A call on the disk failed; it may be full.
     Failed,

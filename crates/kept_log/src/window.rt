@@ -10,7 +10,7 @@ use journal::KeepEnd;
 use std::alloc::{AllocError, Global};
 use std::marker::Model;
 
-/// Bytes that lie after those that are used up.
+/// The bytes that were read from a file and aren't used up.
 #[derive(Drop)]
 pub struct Window {
     bytes: Vec<u8>,
@@ -65,7 +65,7 @@ impl Window {
     }
 }
 
-/// Reads once, by way of the chunk. False at the file's end.
+/// Reads once, through `chunk`, and appends what was read to the window. Returns false at the file's end.
 pub fn fill<D: Disk>(disk: &mut D, window: &mut Window, chunk: &mut [u8]) -> Result<bool, KeepEnd>
     requires { 0 < length chunk.old }
     ensures read { IfOk result (λ more. (bytes : List ℕ) × Consumes (D.left disk.old) (D.left disk.new) bytes × (window.new ≡ window.old ++ bytes)) }

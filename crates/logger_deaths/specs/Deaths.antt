@@ -61,7 +61,7 @@ pub record IsShown {State : Type 0} (service : Machine State) (start world : Wor
   pub same : world_after start trace ≡ record world { packets = packets }
   pub within : IsWithin world.packets packets
 
--- the four facts of the headline, after a moment
+-- the four facts of the headline (`ft_model`), after a moment
 pub record IsUnseen {State : Type 0} (service : Machine State) (before : World) (sent : List Packet) (after : World) : Type 0 where
   pub clients : AllByRecursion (SeesFront service after.log) after.clients
   pub acknowledged : AllByRecursion (AcknowledgesLogged after.log after.clients) sent

@@ -1,5 +1,5 @@
 //! A logger that may die at any moment and restarts with what its file has. To clients and server every trace of such a world looks like a joint trace, whose
-//! logger keeps running: a message that the file has and that was not answered is there one that was delivered, and whose answer was lost. Nothing here runs;
+//! logger keeps running. In the joint trace, a message that the file has but that wasn't answered was delivered, and its answer was lost. Nothing here runs;
 //! each function is a theorem.
 #![tactic(auto)]
 
@@ -20,7 +20,7 @@ pub fn mortal_traces_refine_joint_traces<S: Service>()
         → IsShown (machine (S.started kind) S.after) start (mortal_after start trace) }
 {}
 
-/// The headline without the premise that the logger keeps running: the four facts hold after every moment.
+/// The headline of `ft_model` without the premise that the logger keeps running: the four facts of `IsUnseen` hold after every moment.
 pub fn every_mortal_trace_is_masked<S: Service>()
     ensures { (kind : ℕ) (start : World) (trace : List MortalMoment) → MortalJoint (machine (S.started kind) S.after) start trace
         → Unseen (machine (S.started kind) S.after) start trace }

@@ -1,4 +1,4 @@
--- The whole life of a client process: what it called, what it wrote and how it came to its end.
+-- The whole life of a client process: what it called, what it wrote and how it ended.
 use Rattle.std.specs.Prelude.{◌≡◌, ◌⊎◌, ℕ, ◌^◌, ◌≤◌, ◌<◌, Bool, Option, None, Some, IfSome, List, [], ◌∷◌, ◌++◌, length}
 use Rattle.std.specs.Io.KnownBytes.{Appends, IsAtEnd}
 use Rattle.ft_io.specs.declared.link_call.LinkCall.{LinkCall}
@@ -18,7 +18,7 @@ use Rattle.node_link.specs.declared.status.NodeEnd.TheVariants.{Usage, NoMemory,
 use Rattle.node_link.specs.ClientTurns.{ClientTurn, due_at, accepted_in, client_calls, WasOpen}
 use Rattle.node_link.specs.ClientMachine.{AreNear, HasMachine}
 
--- How a run came to its end, by the client's outcome and the count of turns: by an outcome, by the last turn without one, or by neither.
+-- How a run ended, by the client's outcome and the count of turns: with an outcome, after the last turn without one, or cut short.
 abbrev pub IsEndedBy : ClientEnd → Option ClientEnd → ℕ → Type 0
 IsEndedBy end outcome count = outcome ≡ Some end
 
@@ -28,8 +28,8 @@ IsSpent most outcome count = (outcome ≡ None) × (count ≡ most)
 abbrev pub IsCutShort : Option ClientEnd → ℕ → Type 0
 IsCutShort outcome count = Unit {0}
 
--- A client's first flush and its turns, after these calls. It takes no turn more once its connection has an outcome. What is written are the bytes
--- accepted. Where what arrives is near, the model's client machine follows it.
+-- A client's first flush and its turns, after these calls. It takes no further turn once its connection has an outcome. It writes the bytes that it
+-- accepts. Where what arrives is near, the model's client machine follows it.
 pub record Runs (start : LiveState) (machine : Client) (most : ℕ) (calls : List LinkCall) (old new : Option (List LinkCall))
     (Writes : List ℕ → Type 0) (Ends : Option ClientEnd → ℕ → Type 0) : Type 0 where
   pub first : List Bool  -- which sends of the first flush fail
@@ -41,7 +41,7 @@ pub record Runs (start : LiveState) (machine : Client) (most : ℕ) (calls : Lis
   pub ends : Ends (due_at start turns).outcome (length turns)
   pub modelled : AreNear machine turns → HasMachine start machine turns
 
--- the run of the words: after the one bind, to the words' address, with their server, initial number and turns
+-- the run that the words ask for: after one bind to their address, with their server, initial sequence number and turns
 abbrev pub IsClient : ClientRole → (script : List ℕ) → (old new : Option (List LinkCall)) → (List ℕ → Type 0) → (Option ClientEnd → ℕ → Type 0) → Type 0
 IsClient role script old new Writes Ends =
     Runs (new_live role.local role.server role.isn script) (new_client Live role.server (record { ip = role.local.ip; port = role.local.port }) role.isn script)
@@ -56,7 +56,7 @@ abbrev pub RunsScript : ClientRole → (left_old left_new : Option (List ℕ)) �
     → (Option ClientEnd → ℕ → Type 0) → Type 0
 RunsScript role left_old left_new old new Writes Ends = (script : List ℕ) × IsScript role.script left_old left_new script × IsClient role script old new Writes Ends
 
--- why there is no script: the words give none, and a read failed or the source has more bytes than a script may have; or memory ran out
+-- why there is no script: the words give none, and a read failed or the source has more bytes than a script may have; or an allocation failed
 abbrev pub ScriptStops : Option Script → (left_old : Option (List ℕ)) → NodeEnd → Type 0
 ScriptStops script left_old Usage = (script ≡ None) × IfSome left_old (λ left. 2 ^ 24 < length left)
 ScriptStops script left_old ReadFault = script ≡ None

@@ -1,5 +1,5 @@
--- The turns of a client over its link. One flush comes before the first receive. In each turn the client receives once, hands out all that its TCP
--- then has for it, and hands all segments that leave to send, to its server, before it receives again.
+-- The turns of a client over its link. One flush comes before the first receive. In each turn the client receives once, accepts all bytes that its
+-- TCP then has for it, and hands all segments of a flush to send, addressed to its server, before it receives again.
 use Rattle.std.specs.Prelude.{◌≡◌, ℕ, Bool, false, None, List, [], ◌∷◌, ◌++◌, length}
 use Rattle.ft_io.specs.declared.Addr.{Addr}
 use Rattle.ft_io.specs.declared.link_call.LinkCall.{LinkCall}
@@ -8,12 +8,12 @@ use Rattle.tcp_endpoint.specs.Output.{packets}
 use Rattle.peer_client.specs.Live.{LiveState, after_packet, ticked, unread, handed, sent_by, turned}
 use Rattle.node_link.specs.Receipt.{Received, datagram, silence, failure, received_as}
 
--- what was received, and whether the sends of the flush after it fail, one by one; those past the list don't
+-- what was received, and whether each send of the flush after it fails; sends past the end of the list don't
 pub record ClientTurn : Type 0 where
   pub received : Received
   pub losses : List Bool
 
--- bytes come, or a tick passes
+-- a datagram or a tick comes
 abbrev pub after_receive : LiveState → Received → LiveState
 after_receive l (datagram from bytes) = after_packet l bytes
 after_receive l silence = ticked l
@@ -23,7 +23,7 @@ after_receive l failure = ticked l
 abbrev pub emptied : LiveState → LiveState
 emptied l = handed l (length (unread l))
 
--- the client as its last flush is due: the one of the start, or that of the last of these turns, the newest first
+-- the client when its last flush is due: the first flush, or that of the last of these turns (the newest first)
 unfoldable pub due_at : LiveState → List ClientTurn → LiveState
 due_at start [] = start
 due_at start (turn ∷ earlier) = emptied (after_receive (turned (due_at start earlier)) turn.received)

@@ -1,4 +1,4 @@
--- The calls on a link, counted by what they answered, and the line of the counts.
+-- The calls on a link, counted by their results, and the line of the counts.
 use Rattle.std.specs.Prelude.{ℕ, Bool, true, false, ◌+◌, ◌^◌, ◌<◌, List, [], ◌++◌, codes, count_by}
 use Rattle.std.specs.Fmt.{decimal}
 use Rattle.ft_io.specs.declared.link_call.LinkCall.{LinkCall}

@@ -18,7 +18,7 @@ code_of Spent = 8
 code_of ReadFault = 9
 code_of ChildFault = 10
 
--- the ends that a failed call brings: a bind, a write, a read, or a start of a child or a wait for one
+-- the ends that a failed call causes: a bind, a write, a read, or a start of a child or a wait for one
 abbrev pub is_fault : NodeEnd → Bool
 is_fault LinkFault = true
 is_fault WriteFault = true
@@ -30,14 +30,14 @@ is_fault _ = false
 abbrev pub is_fault_status : (code : ℕ) → Bool
 is_fault_status code = code == 4 || (code == 5 || (code == 9 || code == 10))
 
--- P, where no failed call ended it
+-- P, unless a failed call ended the process
 abbrev pub UnlessFault : {T : Type 0} → Result T NodeEnd → Type 0 → Type 0
 UnlessFault result P = MatchResult result (λ _. P) (λ end. is_fault end ≡ false → P)
 
 abbrev pub fence_text : ℕ → List ℕ
 fence_text newer = codes "ftnode: fenced by boot " ++ (decimal newer ++ codes "\n")
 
--- nothing is reported of a fault of a sink
+-- a failed write is not reported
 abbrev pub text_of : NodeEnd → List ℕ
 text_of Usage = codes "ftnode: usage\n"
 text_of NoMemory = codes "ftnode: no memory\n"
@@ -49,7 +49,7 @@ text_of Spent = codes "ftnode: spent\n"
 text_of ReadFault = codes "ftnode: read fault\n"
 text_of ChildFault = codes "ftnode: child fault\n"
 
--- the line is written whole and the status is the end's; or that write failed, and the status is that of a fault of a sink
+-- the line is written whole and the status is the end's; or that write failed, and the status is 5
 abbrev pub TellsEnd : NodeEnd → (err_old err_new : Option (List ℕ)) → (faults_old faults_new : ℕ) → (code : ℕ) → Type 0
 TellsEnd end err_old err_new faults_old faults_new code =
     ((code ≡ code_of end) × Appends err_old err_new (text_of end))

@@ -36,7 +36,7 @@ AreTurns role [] [] = Unit {0}
 AreTurns role (turn ∷ earlier) (law ∷ laws) = AreTurns role earlier laws × IsTurn role turn law
 AreTurns role _ _ = ⊥
 
--- the larger boot number with which what was received ends the server: a Stale of its own boot names it
+-- the larger boot number that fences the server: the one that a received Stale for its own boot number names
 abbrev pub fence_in : ServerRole → Received → Option ℕ
 fence_in role received = fence (first_of role) (input_in role received)
 
@@ -65,8 +65,8 @@ module _ {State : Type 0} (services : ℕ → Machine State) where
   AreLawful role [] = Unit {0}
   AreLawful role (turn ∷ earlier) = AreLawful role earlier × (AreFair role (turn ∷ earlier) → (law : List Turn) × IsIncarnation role (turn ∷ earlier) law)
 
-  -- A server from its boot on: it says Hello, its turns are lawful, those of each key are as long as the premises hold of that key alone, and nothing that
-  -- it received fences it
+  -- A server from its boot on: it says Hello, its turns are lawful, the turns of each key are lawful as long as the premises hold of that key alone, and
+  -- nothing that it received fences it
   pub record Serves (role : ServerRole) (at_boot : List Sent) (turns : List ServerTurn) : Type 0 where
     pub boots : wires_in at_boot ≡ map wire_of (hello (first_of role))
     pub lawful : AreLawful role turns

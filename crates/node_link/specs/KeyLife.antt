@@ -1,4 +1,4 @@
--- What one client has of a server's life, from the boot on, whatever other clients send, whatever their connections' states, and whatever the log has of them.
+-- A server's life as one client sees it, from the boot on, whatever other clients send, whatever their connections' states, and whatever the log has of them.
 use Rattle.std.specs.Prelude.{◌≡◌, MatchOption, ℕ, find, option_map, Option, None, Some, map, List, [], ◌∷◌}
 use Rattle.std.specs.List.{AllByRecursion}
 use Rattle.std.specs.Option.{option_to_list}
@@ -19,13 +19,13 @@ use Rattle.server_node.specs.Ownership.{of_key}
 use Rattle.node_link.specs.declared.role.Loggers.{Loggers}
 use Rattle.node_link.specs.ServerTurns.{ServerTurn, wires_in, input_from}
 
--- how far a server is, as one key has it
+-- the stage of a server, for one key
 pub data KeyStage : Type 0 where
   Asks : KeyStage  -- Hello is unanswered
   Fetches : (count : ℕ) → List Fetched → KeyStage  -- of so many entries these have come, the newest first
   Has : Option Place → KeyStage  -- the server serves, and has this for the key
 
--- how many entries the log has, and which have come, once an input that leads a restart on has
+-- how many entries the log has and which have come, after an input that continues a restart
 abbrev pub told_then : Node → Message → Stage → Option (ℕ × List Fetched)
 told_then node message Asking = option_map (λ count. (count, [])) (count_told node message)
 told_then node message (Fetching count fetched) = option_map (λ more. (count, more)) (fetched_then node message count fetched)
@@ -54,7 +54,7 @@ module _ {State : Type 0} (service : Machine State) (node : Node) (key : Key) wh
     pub wires : sent ≡ map wire_of packets
     pub spelled : AllByRecursion HasWire packets
 
-  -- at the end of the restart a key has the place of its entry, after the first turn of that, or nothing
+  -- at the end of the restart a key has the place of its entry, after that place's first turn, or none
   abbrev pub Revived : Option Fetched → Option Place → List Packet → Type 0
   Revived (Some f) after packets = Revives service node (restored service f) (option_to_list after) packets
   Revived None after packets = (after ≡ None) × (packets ≡ [])
@@ -96,7 +96,7 @@ module _ {State : Type 0} (service : Machine State) (node : Node) (key : Key) wh
   IsSoundFor (Some (count, fetched)) = wanted count fetched ≡ None → MatchOption (entry_of key fetched) (Unit {0}) (IsRestorable service)
   IsSoundFor None = Unit {0}
 
-  -- the premises, of this key alone: that, and that a packet of its own client is near to its place
+  -- the premises, of this key alone: during the restart the one above, and later that a packet of its own client is near to its place
   abbrev pub IsFairFor : Input → KeyStage → Type 0
   IsFairFor input Asks = IsSoundFor (restarts_by node input Asking)
   IsFairFor input (Fetches count fetched) = IsSoundFor (restarts_by node input (Fetching count fetched))

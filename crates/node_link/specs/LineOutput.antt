@@ -1,4 +1,4 @@
--- The telling of a line to a sink, and what stops it.
+-- The writing of a line to a sink, and what stops it.
 use Rattle.std.specs.Prelude.{◌≡◌, ℕ, Option, List}
 use Rattle.ft_io.specs.Sink.{AppendsFront}
 use Rattle.node_link.specs.declared.status.NodeEnd.{NodeEnd}

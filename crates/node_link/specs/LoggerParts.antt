@@ -23,7 +23,7 @@ pub record Replies (to : Addr) (bytes : List ℕ) (old new : Option (List LinkCa
   pub tells : Tells old new (handing_bytes to is_lost bytes)
   pub counts : after ≡ with_calls before (handing_bytes to is_lost bytes)
 
--- a turn that was cut off because memory ran out: its datagram came, and no answer was sent
+-- a turn that was cut off because an allocation failed: its datagram came, and no answer was sent
 abbrev pub IsCutOff : List LinkCall → Type 0
 IsCutOff calls = (from : Addr) × (bytes : List ℕ) × (calls ≡ Came from bytes ∷ [])
 
@@ -64,7 +64,7 @@ pub record IsLogger (role : LoggerRole) (old new : Option (List LinkCall)) (Writ
   pub tells : Tells old new (Bound role.local ∷ calls_of turns)
   pub written : Writes (count_line (counts_of (calls_of turns)))
 
--- a life that ended because memory ran out
+-- a life that ended because an allocation failed
 pub record IsCutLogger (role : LoggerRole) (old new : Option (List LinkCall)) : Type 0 where
   pub turns : List LoggerTurn
   pub cut : List LinkCall

@@ -1,5 +1,5 @@
--- The turns of a logger over its link. In each it receives once, and hands the log's answer, if there is one, to send, to where the message came from,
--- before it receives again.
+-- The turns of a logger over its link. In each turn it receives once, and hands the log's answer, if there is one, to send, addressed to the message's
+-- sender, before it receives again.
 use Rattle.std.specs.Prelude.{Bool, Option, None, Some, Result, Ok, Err, List, [], ◌∷◌, ◌++◌}
 use Rattle.ft_io.specs.declared.Addr.{Addr}
 use Rattle.ft_io.specs.declared.link_call.LinkCall.{LinkCall}
@@ -15,7 +15,7 @@ pub record LoggerTurn : Type 0 where
   pub received : Received
   pub is_lost : Bool
 
--- the log with what bytes say, and its answer. Bytes that are no message change nothing, and get none
+-- the log after a message, and its answer. Bytes that are no message change nothing and get no answer
 abbrev pub log_with : Log → Result Message BadMsg → Log
 log_with log (Ok message) = log_after log message
 log_with log (Err bad) = log

@@ -41,11 +41,11 @@ is_required Script = false
 is_required SecondLogger = false
 is_required _ = true
 
--- `--`, and what begins with one hyphen but for `-` alone
+-- `--`, or a word other than `-` that begins with exactly one hyphen
 abbrev pub is_stray : Text → Bool
 is_stray word = bytes_eq word (45 ∷ 45 ∷ []) || is_some (short_of word)
 
--- a value in a word of its own is `-`, or begins with another byte
+-- a value in a word of its own is `-`, or doesn't begin with a hyphen
 abbrev pub is_value : Text → Bool
 is_value word = not (is_stray word) && not (is_some (long_of word))
 
@@ -93,7 +93,7 @@ value_of uses o = option_map (λ u. u.value) (find (λ u. bytes_eq u.name (name_
 abbrev pub HasValues : List Use → ArgMatches → Type 0
 HasValues uses m = (o : OptionName) → first_value (found_of m) (name_of o) ≡ value_of uses o
 
--- the matches are there where the uses are, and have their values
+-- there are matches exactly where there are uses, and they have the same values
 abbrev pub Gives : Option (List Use) → Option ArgMatches → Type 0
 Gives allowed None = allowed ≡ None
 Gives allowed (Some m) = (uses : List Use) × (allowed ≡ Some uses) × HasValues uses m

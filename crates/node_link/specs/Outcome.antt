@@ -20,7 +20,7 @@ use Rattle.node_link.specs.LoggerParts.{IsLogger, LoggerStops}
 use Rattle.node_link.specs.Pair.{steps_of, IsPair, PairStops}
 use Rattle.node_link.specs.ServerLife.{IsServer, ServerStops}
 
--- what a process is given, as far as it tells: what its source has left, the calls on its link, how many children its spawner has started and the calls
+-- what a process is given, as far as it is known: what its source has left, the calls on its link, how many children its spawner has started and the calls
 -- on it, and what out has taken
 pub record Given : Type 0 where
   pub left : Option (List ℕ)
@@ -33,7 +33,7 @@ pub record Given : Type 0 where
 abbrev pub HasDoneNothing : (before after : Given) → Type 0
 HasDoneNothing before after = (after.left ≡ before.left) × (after.calls ≡ before.calls) × (after.spawned ≡ before.spawned) × (after.out ≡ before.out)
 
--- the status of an end, and what is written of it to err: the whole line, or a prefix of it at 5
+-- the status of an end, and what is written to err: the whole line, or a prefix of it at status 5
 abbrev pub IsTold : Result (Unit {0}) NodeEnd → (err_old err_new : Option (List ℕ)) → (code : ℕ) → Type 0
 IsTold (Ok _) err_old err_new code = (code ≡ 0) × (err_new ≡ err_old)
 IsTold (Err end) err_old err_new code =
@@ -49,7 +49,7 @@ HasScript (Some script) left faults_old faults_new = Unit {0}
 HasScript None left faults_old faults_new = (bytes : List ℕ) × (left ≡ Some bytes) × (length bytes ≤ 2 ^ 24) × IsStill faults_old faults_new
 
 module _ {State : Type 0} (services : ℕ → Machine State) where
-  -- what a role did. The client alone reads the input, and a pair alone starts children, and calls nothing on the link
+  -- what a role did. Only a client reads the input. A pair makes no call on the link
   abbrev pub LivesAs : Role → Result (Unit {0}) NodeEnd → (before after : Given) → Type 0
   LivesAs (Server role) (Ok _) before after = (after.left ≡ before.left) × IsServer services role before.calls after.calls (Appends before.out after.out)
   LivesAs (Server role) (Err end) before after = (after.left ≡ before.left) × ServerStops services role before.calls after.calls before.out after.out end
@@ -62,7 +62,7 @@ module _ {State : Type 0} (services : ℕ → Machine State) where
   LivesAs (Pair role) (Err end) before after =
       (after.left ≡ before.left) × (after.calls ≡ before.calls) × PairStops role before.started before.spawned after.spawned before.out after.out end
 
-  -- by the role that the words ask for. Words that aren't allowed are reported as such, and reading them may run out of memory
+  -- what was done, by the role that the words ask for. Words that aren't allowed are reported as such, and reading them may run out of memory
   abbrev pub Lives : Option Role → Result (Unit {0}) NodeEnd → (before after : Given) → Type 0
   Lives None end before after = ((end ≡ Err Usage) ⊎ (end ≡ Err NoMemory)) × HasDoneNothing before after
   Lives (Some role) end before after = LivesAs role end before after ⊎ ((end ≡ Err NoMemory) × HasDoneNothing before after)
@@ -73,7 +73,7 @@ module _ {State : Type 0} (services : ℕ → Machine State) where
     pub lives : Lives role end before after
     pub told : IsTold end err_old err_new code
 
--- the same of a program with the four services
+-- the same for a program with the four services
 abbrev pub HasEnded : Option Role → (before after : Given) → (err_old err_new : Option (List ℕ)) → (code : ℕ) → Type 0
 HasEnded = HasEndedWith (machines any_started any_after)
 

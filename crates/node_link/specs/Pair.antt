@@ -51,7 +51,7 @@ status_text name = name_of name ++ codes " status "
 abbrev pub status_line : ChildName → ℤ → List ℕ
 status_line name status = status_text name ++ (signed_decimal status ++ codes "\n")
 
--- what a step tells and writes, where so many children were started before all steps
+-- the calls of a step and the line that it writes, where so many children were started before all steps
 abbrev pub StepTells : ℕ → PairStep → List SpawnCall → List ℕ → Type 0
 StepTells before (Start words) calls line = (calls ≡ Started words ∷ []) × (line ≡ [])
 StepTells before (Wait child name) calls line = (status : ℤ) × (calls ≡ Ended (before + child) status ∷ []) × (line ≡ status_line name status)
@@ -71,7 +71,7 @@ pub record IsPair (steps : List PairStep) (before : ℕ) (old new : Option (List
   pub tells : Tells old new calls
   pub written : Writes lines
 
--- how steps stop early: some first ones were done, and the next call failed; or the last of them gave a status of which only a prefix was written
+-- how steps stop early: the first ones were done, and the next call failed; or only a prefix of their lines was written
 abbrev pub StepsStop : List PairStep → ℕ → (old new : Option (List SpawnCall)) → (out_old out_new : Option (List ℕ)) → PairFault → Type 0
 StepsStop steps before old new out_old out_new Child =
     (count : ℕ) × (count < length steps) × IsPair (take count steps) before old new (Appends out_old out_new)

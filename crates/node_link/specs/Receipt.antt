@@ -4,7 +4,7 @@ use Rattle.ft_io.specs.declared.Addr.{Addr}
 use Rattle.ft_io.specs.declared.link_call.LinkCall.{LinkCall}
 use Rattle.ft_io.specs.declared.link_call.LinkCall.TheVariants.{Came, Silent, Missed}
 
--- what a receive gave: a failed one is a tick, as silence is
+-- the result of a receive. A failed one is a tick, like silence
 pub data Received : Type 0 where
   datagram : Addr → List ℕ → Received
   silence : Received

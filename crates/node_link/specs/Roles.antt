@@ -1,4 +1,4 @@
--- A role as words: its name, and after it its options. Each value has the spelling that it has in a schedule's text.
+-- A role as words: its name, then its options. Each value is spelled as in a schedule's text.
 use Rattle.std.specs.Prelude.{ℕ, ◌^◌, ◌-◌, Bool, true, false, not, Option, Some, None, is_none, option_map, List, [], ◌∷◌, codes, if◌then◌else◌, ◌==◌}
 use Rattle.std.specs.Option.{option_and_then}
 use Rattle.std.specs.Str.{bytes_eq}
@@ -47,7 +47,7 @@ loggers_from _ _ = None
 abbrev pub loggers_in : List Use → Option Loggers
 loggers_in uses = loggers_from (addr_at uses option.Logger) (second_in (value_of uses option.SecondLogger))
 
--- a program, and a file, is named by a word that isn't empty and doesn't begin with `-`
+-- a word names a program or a file if it isn't empty and doesn't begin with `-`
 abbrev pub is_name : Text → Bool
 is_name [] = false
 is_name (first ∷ rest) = not (first == 45)
@@ -148,7 +148,7 @@ role_of (name ∷ words) =
     else (if bytes_eq name (codes "pair") then pair_of words
     else None)))
 
--- the role that words ask for of a program with a service of its own: a server or a logger
+-- the role that words ask for in a program with a service of its own: a server or a logger
 unfoldable pub own_role_of : List Text → Option Role
 own_role_of [] = None
 own_role_of (name ∷ words) =

@@ -24,7 +24,7 @@ module _ {State : Type 0} (services : ℕ → Machine State) where
     pub serves : Serves services role at_boot turns
     pub written : Writes (count_line (counts_of (server_calls role.loggers at_boot turns)))
 
-  -- one that ended because memory ran out: it sent nothing at what it received last, and that doesn't fence it
+  -- a server that ended because an allocation failed: it sent nothing after its last receive, and that receive doesn't fence it
   pub record IsCutServer (role : ServerRole) (old new : Option (List LinkCall)) : Type 0 where
     pub at_boot : List Sent
     pub turns : List ServerTurn
@@ -34,11 +34,11 @@ module _ {State : Type 0} (services : ℕ → Machine State) where
     pub serves : Serves services role at_boot turns
     pub unfenced : IfSome last (λ received. fence_in role received ≡ None)
 
-  -- a lack of memory may come before it says anything
+  -- an allocation may fail before it sends anything
   abbrev pub IsLostServer : ServerRole → (old new : Option (List LinkCall)) → Type 0
   IsLostServer role old new = Tells old new (Bound role.local ∷ []) ⊎ IsCutServer role old new
 
-  -- one that a newer server fenced: what it received last names that server's boot number
+  -- a server that a newer one fenced: what it received last names the newer one's boot number
   pub record IsFencedServer (role : ServerRole) (newer : ℕ) (old new : Option (List LinkCall)) : Type 0 where
     pub at_boot : List Sent
     pub turns : List ServerTurn

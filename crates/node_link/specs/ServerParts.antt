@@ -31,7 +31,7 @@ use Rattle.node_link.specs.Receipt.{Received, received_as}
 use Rattle.node_link.specs.ServerTurns.{Sent, wires_in, sending, ServerTurn, turn_calls, server_calls, input_from}
 use Rattle.node_link.specs.Incarnation.{kind_in, service_of, first_of, IsIncarnation, AreFair, Serves, fence_in}
 
--- a node: what it is, and how far
+-- a node: its identity and its stage
 pub record Standing (State : Type 0) : Type 0 where
   pub who : Identity
   pub stage : Stage State
@@ -55,7 +55,7 @@ pub record HasSent (loggers : Loggers) (wires : List Wire) (old new : Option (Li
 abbrev pub identity_of : ServerRole → Identity
 identity_of role = record { boot = role.boot; isn = role.isn; kind = kind_in role.service; local = role.local }
 
--- a turn that ended the node: it had received, and nothing was sent
+-- a turn that ended the node: it received, and sent nothing
 pub record EndsTurn (loggers : Loggers) (old new : Option (List LinkCall)) (Ends : law.Input → Type 0) : Type 0 where
   pub received : Received
   pub tells : Tells old new (received_as received ∷ [])

@@ -1,4 +1,4 @@
--- The turns of a server over its link. In each it receives once, and hands to send all that its node sends at what came, before it receives again.
+-- The turns of a server over its link. In each turn it receives once, and hands to send all packets with which its node reacts, before it receives again.
 use Rattle.std.specs.Prelude.{Bool, false, ◌==◌, ◌&&◌, ◌||◌, map, flat_map, Option, None, Some, List, [], ◌∷◌, ◌++◌, if◌then◌else◌}
 use Rattle.ft_io.specs.declared.Addr.{Addr}
 use Rattle.ft_io.specs.declared.link_call.LinkCall.{LinkCall}
@@ -39,7 +39,7 @@ pub record Sent : Type 0 where
 abbrev pub wires_in : List Sent → List Wire
 wires_in sent = map (λ s. s.wire) sent
 
--- a packet is sent to its client's own address, and a message to the logger's, the first of two
+-- a packet is sent to its client's own address, and a message to the logger's, or the first one's of two
 abbrev pub address_of : Addr → Party → Addr
 address_of logger (A_client key) = record { ip = key.ip; port = key.port }
 address_of logger The_server = logger

@@ -1,4 +1,4 @@
-//! The client: a live client over a link. It sends a script, and what the server sends is written out as it is accepted.
+//! The client: a live client over a link. It sends a script, and writes the server's bytes as it accepts them.
 
 ghost use Rattle.std.specs.Prelude.{◌≡◌, ℕ, ◌+◌, ◌%◌, ◌^◌, ◌≤◌, List, [], ◌∷◌, ◌++◌, length, vec_len, None, is_none, false, IfSome, IfOk, IfErr, OnOk, OnErr, IsErrOf};
 ghost use Rattle.std.specs.Io.KnownBytes.{Appends};
@@ -27,7 +27,7 @@ use tcp_endpoint::Outbox;
 /// The most bytes of a script.
 const SCRIPT_LIMIT: usize = 1 << 24;
 
-/// As many bytes as a client's TCP holds for its user.
+/// A client's receive buffer, in bytes.
 const ACCEPT_ROOM: usize = 65_535;
 
 /// Reads the whole input as a script. It takes at most one byte more than a script may have.
@@ -48,7 +48,7 @@ fn read_script<I: Source>(alloc: Global, input: &mut I) -> Result<Vec<u8>, NodeE
     }
 }
 
-/// The script of the words, or else of the input.
+/// Returns the script that the words give, or else the input.
 fn script_of<I: Source>(
     alloc: Global,
     script: &Option<Script>,
@@ -69,7 +69,7 @@ fn script_of<I: Source>(
     }
 }
 
-/// A buffer for all that a client's TCP holds for its user.
+/// Allocates a buffer for all bytes of a client's receive buffer.
 fn accept_room(alloc: Global) -> Result<Vec<u8>, NoMemory>
     ensures { IfOk result (λ room. vec_len room ≡ ACCEPT_ROOM) }
 {
@@ -97,7 +97,7 @@ fn flush<L: Link>(link: &mut L, to: Addr, client: &mut LiveClient, outbox: &mut 
     send_all(link, to, outbox);
 }
 
-/// Receives once: the client gets what arrives, or else a tick.
+/// Receives once, and passes the datagram, or else a tick, to the client.
 fn receive<L: Link>(link: &mut L, client: &mut LiveClient)
     requires { IsShort client.old.tcb.sending }
     ensures received { HasReceived client.old client.new (L.told link.old) (L.told link.new) }
@@ -110,7 +110,7 @@ fn receive<L: Link>(link: &mut L, client: &mut LiveClient)
     }
 }
 
-/// One turn: what is received, what leaves then, and what was accepted.
+/// One turn: receives, sends, writes what was accepted.
 fn take_turn<L: Link, O: Sink>(
     link: &mut L,
     role: &ClientRole,
@@ -136,7 +136,7 @@ fn take_turn<L: Link, O: Sink>(
     write_all(out, &room[..count])
 }
 
-/// The client's first flush and its turns, until its connection has an outcome.
+/// Flushes once, and then takes turns until the connection has an outcome or no turn is left.
 fn take_turns<L: Link, O: Sink>(
     link: &mut L,
     role: &ClientRole,
@@ -172,7 +172,7 @@ fn take_turns<L: Link, O: Sink>(
     Err(NodeEnd::Spent)
 }
 
-/// A client with this script. All memory that it needs is taken before the bind.
+/// Runs a client with this script. It allocates all its memory before the bind.
 fn run_script<L: Link, O: Sink>(
     alloc: Global,
     role: &ClientRole,
@@ -206,7 +206,7 @@ fn run_script<L: Link, O: Sink>(
     }
 }
 
-/// A client: it reads its script, binds, and takes its turns until both ends are closed.
+/// Runs a client: reads its script, binds, and takes turns until both ends are closed.
 pub(crate) fn run_client<L: Link, I: Source, O: Sink>(
     alloc: Global,
     role: &ClientRole,

@@ -1,4 +1,4 @@
-//! The calls of a role's turns, counted, and the line that reports the counts.
+//! Counts of the calls in a role's turns, and the line that reports them.
 
 ghost use Rattle.std.specs.Prelude.{ℕ, List, ◌≡◌, ◌++◌, ◌<◌, ◌^◌, [], IfOk, IfErr, OnOk, IsErrOf, decimal};
 ghost use Rattle.std.specs.Io.KnownBytes.{Appends};
@@ -30,7 +30,7 @@ pub struct Counts {
 }
 
 impl Counts {
-    /// No calls.
+    /// Returns the counts of no calls.
     pub fn new() -> Counts
         ensures { result ≡ no_calls }
     {

@@ -1,9 +1,9 @@
-//! `node`: `ftnode` except for a logger with a journal (`journal_link`), one of two loggers and `alone` (`twin_link`). Its arguments make it a server, a logger or a client of
-//! FT-TCP (INFOCOM 2001), over a network of datagrams, or it starts a pair of servers with a logger and a client, each a process of its own. `node_of` is the same
-//! for a service of your own, as a server or its logger.
+//! `node` is `ftnode` without the roles that `journal_link` and `twin_link` add. By its arguments it is a server, a logger or a client of FT-TCP (INFOCOM 2001)
+//! over a network of datagrams, or it starts a pair of servers with a logger and a client, each as a process. `node_of` is the same for a service of your own,
+//! as a server or its logger.
 //!
-//! *Words* are the arguments of the command line, without the program's name. Bytes are *handed to send* where they are passed to the link's `send`, which may fail:
-//! then they are lost. An *end* is how a process stops early.
+//! *Words* are the arguments of the command line, without the program's name. Bytes are *handed to send* when they are passed to the link's `send`. If it
+//! fails, they are lost. An *end* is how a process stops early.
 #![tactic(auto)]
 
 pub use counts::{Counts, tell_counts};

@@ -23,7 +23,7 @@ use logger_store::{LogStore, MsgOut};
 use logger_wire::read_msg;
 use std::alloc::Global;
 
-/// Takes what the bytes say, if they are a message, and gives the answer to it, or no bytes.
+/// Applies the message that the bytes spell to the log and returns the answer, or no bytes if there is none or the bytes are no message.
 fn answer(alloc: Global, store: &mut LogStore, bytes: &[u8]) -> Result<MsgOut, NoMemory>
     ensures next { OnOk result (store.new ≡ log_with store.old (reading bytes.now)) }
     ensures answer { IfOk result (λ out. out ≡ answer_bytes (answer_for store.old (reading bytes.now))) }
@@ -49,7 +49,7 @@ fn reply<L: Link>(link: &mut L, to: Addr, answer: &MsgOut, counts: &mut Counts)
     counts.note_sent(&sent);
 }
 
-/// One turn: a receive, and the answer to what came.
+/// Takes one turn: receives once, and sends the answer to what came.
 fn take_turn<L: Link>(
     alloc: Global,
     link: &mut L,
@@ -70,7 +70,7 @@ fn take_turn<L: Link>(
     Ok(())
 }
 
-/// So many turns, from the empty log on, and their calls counted.
+/// Takes so many turns, from the empty log on, and returns the counts of their calls.
 fn serve<L: Link>(alloc: Global, link: &mut L, turns: u32) -> Result<Counts, NoMemory>
     requires { turns ≤ 1000000 }
     ensures served { IfOk result (λ counts. HasCounted turns (L.told link.old) (L.told link.new) counts) }
@@ -85,7 +85,7 @@ fn serve<L: Link>(alloc: Global, link: &mut L, turns: u32) -> Result<Counts, NoM
     Ok(counts)
 }
 
-/// A logger after its bind: its turns, and the line that it ends with.
+/// Runs a logger after its bind: takes its turns, and writes the line of the counts.
 fn serve_and_tell<L: Link, O: Sink>(
     alloc: Global,
     role: &LoggerRole,
@@ -108,7 +108,7 @@ fn serve_and_tell<L: Link, O: Sink>(
     }
 }
 
-/// A logger: it binds, does its turns, and writes the counts of their calls.
+/// Runs a logger: binds, takes its turns, and writes the counts of their calls.
 pub(crate) fn run_logger<L: Link, O: Sink>(
     alloc: Global,
     role: &LoggerRole,

@@ -1,5 +1,5 @@
-//! The options of a role. `clap` reads them from the words; which words are allowed is said by a definition of its own, and the proof says
-//! that `clap` takes exactly these.
+//! The options of a role. `clap` reads them from the words. A definition of this crate says which words are allowed, and `clap` is proved to
+//! accept exactly these.
 
 ghost use Rattle.std.specs.Prelude.{◌≡◌, Some, None, false, string_bytes, map, IfOk};
 ghost use Rattle.std.specs.List.{list_any};
@@ -19,7 +19,7 @@ use std::alloc::{AllocError, Global};
 pub enum OptionName {
     Local,
     Logger,
-    /// The second of two loggers that act as one. Its word is that of [`OptionName::Second`].
+    /// The second of two loggers that act as one. Also spelled `--second`.
     SecondLogger,
     Server,
     Service,
@@ -34,7 +34,7 @@ pub enum OptionName {
     Second,
     /// The file in which a logger keeps its log. No role of `node` has this option.
     Journal,
-    /// Which of two loggers it is. No role of `node` has this option.
+    /// Which of the two loggers this one is. No role of `node` has this option.
     Part,
     /// The other logger. No role of `node` has this option.
     Other,
@@ -43,7 +43,7 @@ pub enum OptionName {
 }
 
 impl OptionName {
-    /// The option's name, without the hyphens.
+    /// Returns the option's name, without the hyphens.
     pub fn word<'a>(self) -> &'a str
         ensures { result.now ≡ name_of self }
     {
@@ -101,7 +101,7 @@ fn command<'a>(alloc: Global, options: &[OptionName]) -> Result<Command<'a>, All
     Ok(command)
 }
 
-/// Whether `clap` might read a word as something else than an option or a value: `--`, or a bundle of short flags.
+/// Whether `clap` might read a word as something other than an option or a value: `--`, or a bundle of short flags.
 fn is_stray(word: &[u8]) -> bool
     ensures { result ≡ is_stray_lem word.now }
 {
@@ -118,7 +118,7 @@ fn has_stray(words: &[String]) -> bool
     words.iter().any(|word| is_stray(word.as_bytes()))
 }
 
-/// The values of these options in the words, or `None` if the words aren't allowed.
+/// Reads these options from the words, or returns `None` if the words aren't allowed.
 pub fn read_options<'a>(
     alloc: Global,
     options: &[OptionName],

@@ -18,7 +18,7 @@ use ft_io::{Failed, NoMemory, Sink, Spawner, Words, write_all};
 use itoa::Buffer;
 use std::alloc::Global;
 
-/// What a child is.
+/// The role of a child.
 #[derive(Clone, Copy, Debug, PartialEq, Eq)]
 pub(crate) enum ChildName {
     Server,
@@ -27,7 +27,7 @@ pub(crate) enum ChildName {
 }
 
 impl ChildName {
-    /// The word of its role.
+    /// Returns the word of its role.
     fn word<'a>(self) -> &'a str
         ensures { result.now ≡ name_of self }
     {
@@ -38,7 +38,7 @@ impl ChildName {
         }
     }
 
-    /// What is written before its status.
+    /// Returns the text that is written before its status.
     fn status_text<'a>(self) -> &'a [u8]
         ensures { result.now ≡ text_lem self }
     {
@@ -53,9 +53,9 @@ impl ChildName {
 /// A step of a pair.
 #[derive(Debug, Drop)]
 pub(crate) enum PairStep {
-    /// A program is started by these words.
+    /// Starts a program by these words.
     Start(Words),
-    /// The child of this number, from 1 in the order of the starts, is waited for, and its status is reported under this name.
+    /// Waits for the Nth child started, from 1, and reports its status under this name.
     Wait(u32, ChildName),
 }
 
@@ -200,7 +200,7 @@ fn write_number<O: Sink>(out: &mut O, n: i32) -> Result<(), Failed>
     write_all(out, number.format(n).as_bytes())
 }
 
-/// Tells the status of a child.
+/// Writes the line of a child's status.
 fn tell_status<O: Sink>(out: &mut O, name: ChildName, status: i32) -> Result<(), Failed>
     ensures whole { OnOk result (Appends (O.taken out.old) (O.taken out.new) (status_line name status)) }
     ensures front { OnErr result (AppendsFront (O.taken out.old) (O.taken out.new) (status_line name status)) }
@@ -321,7 +321,7 @@ fn take_steps<P: Spawner, O: Sink>(
     Ok(())
 }
 
-/// A pair: its children are started and waited for in order, and the status of each is reported. After a fault no further child is waited for.
+/// Runs a pair: starts its children and waits for them, in the order of its steps, and reports the status of each. After a fault it waits for no further child.
 pub(crate) fn run_pair<P: Spawner, O: Sink>(
     alloc: Global,
     role: &PairRole,

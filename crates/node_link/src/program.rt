@@ -21,7 +21,7 @@ impl Model for Program {
     ghost view = { λ p. string_bytes p.word };
 }
 
-/// Whether a word can name a program or a file: it isn't empty and doesn't begin with `-`.
+/// Returns whether a word can name a program or a file: it isn't empty and doesn't begin with `-`.
 pub fn is_name(word: &[u8]) -> bool
     ensures { result ≡ is_name_lem word.now }
 {
@@ -32,7 +32,7 @@ pub fn is_name(word: &[u8]) -> bool
 }
 
 impl Program {
-    /// The program of this name, or `None` if the word is empty or begins with `-`.
+    /// Returns the program of this name, or `None` if the word is empty or begins with `-`.
     pub(crate) fn read(alloc: Global, word: &str) -> Result<Option<Program>, NoMemory>
         ensures { IfOk result (λ program. program ≡ program_of word.now) }
     {
@@ -43,7 +43,7 @@ impl Program {
         Ok(Some(Program { word }))
     }
 
-    /// The word.
+    /// Returns the name.
     pub fn as_str(&self) -> &str
         ensures { result.now ≡ self.now }
     {

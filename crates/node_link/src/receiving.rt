@@ -11,7 +11,7 @@ use ft_io::{Addr, Heard, Link};
 /// The length of the buffer for a datagram, in bytes: no packet and no message is longer.
 pub const DATAGRAM_ROOM: usize = 2_048;
 
-/// Receives once: how many bytes were written at the beginning of the buffer, and who sent them. None is a tick.
+/// Receives once. Returns the datagram's length and sender; `None` is a tick.
 pub fn receive<L: Link>(
     link: &mut L,
     buffer: &mut [u8],

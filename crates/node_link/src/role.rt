@@ -86,7 +86,7 @@ pub struct ServerRole {
     pub turns: u32,
 }
 
-/// The logger, from an empty log.
+/// A logger that starts with an empty log.
 #[derive(Clone, Copy, Debug)]
 pub struct LoggerRole {
     /// Its own address and port.
@@ -102,15 +102,15 @@ pub struct ClientRole {
     pub local: Addr,
     /// The server's address and port.
     pub server: Addr,
-    /// Its initial number.
+    /// Its initial sequence number.
     pub isn: u32,
     /// The most turns that it takes, 1 to 1,000,000.
     pub turns: u32,
-    /// None where the script is the input.
+    /// The bytes that it sends. `None`: it reads them from the input.
     pub script: Option<Script>,
 }
 
-/// Two servers, one after the other, with a logger and a client, each a program of its own.
+/// Two servers, one after the other, with a logger and a client, each a process.
 #[derive(Debug, Drop)]
 pub struct PairRole {
     /// The program of every child.
@@ -126,7 +126,7 @@ pub struct PairRole {
 }
 
 impl ServerRole {
-    /// The number of the service's kind: that of the four, or 0.
+    /// Returns the number of the service's kind, or 0 where the program has a service of its own.
     pub(crate) fn kind(&self) -> u8
         ensures { result ≡ kind_in self.now.service }
     {
@@ -137,7 +137,7 @@ impl ServerRole {
     }
 }
 
-/// What one process is to be.
+/// The role of a process.
 #[derive(Debug, Drop)]
 pub enum Role {
     Server(ServerRole),
@@ -146,14 +146,14 @@ pub enum Role {
     Pair(PairRole),
 }
 
-/// What one process of a program with a service of its own is to be.
+/// The role of a process whose program has a service of its own.
 #[derive(Clone, Copy, Debug)]
 pub(crate) enum OwnRole {
     Server(ServerRole),
     Logger(LoggerRole),
 }
 
-/// The address that an option gives.
+/// Returns the address that an option gives, or `None` where the option is missing or its value spells no address.
 pub fn addr_at(matches: &ArgMatches<'_>, option: OptionName) -> Option<Addr>
     ensures { (uses : List Use) → HasValues uses matches.now → result ≡ addr_lem uses option }
 {
@@ -173,7 +173,7 @@ fn service_at(matches: &ArgMatches<'_>, option: OptionName) -> Option<ServiceKin
     read_service(matches.get_str(option.word())?.as_bytes())
 }
 
-/// The script, if one is given. The outer None means a word that spells no script.
+/// Returns the script, if one is given. The outer `None`: the word spells no script.
 fn script_at(
     alloc: Global,
     matches: &ArgMatches<'_>,
@@ -191,7 +191,7 @@ fn script_at(
     }
 }
 
-/// The program. None means a word that names none.
+/// Returns the program, or `None` where no word names one.
 fn program_at(
     alloc: Global,
     matches: &ArgMatches<'_>,
@@ -205,7 +205,7 @@ fn program_at(
     }
 }
 
-/// The loggers. None means a word that spells no address.
+/// Returns the loggers, or `None` where the first is missing or a word spells no address.
 fn loggers_at(matches: &ArgMatches<'_>) -> Option<Loggers>
     ensures { (uses : List Use) → HasValues uses matches.now → result ≡ loggers_in uses }
 {
@@ -244,7 +244,7 @@ fn server_role(matches: &ArgMatches<'_>) -> Option<ServerRole>
     server_with(matches, Some(service))
 }
 
-/// The role of a logger, by the values of its options.
+/// Returns the role of a logger with these values of its options, or `None` where a value is missing or isn't allowed.
 pub fn logger_role(matches: &ArgMatches<'_>) -> Option<LoggerRole>
     ensures range { IfSome result (λ role. role.turns ≤ 1000000) }
     ensures value { (uses : List Use) → HasValues uses matches.now → result ≡ logger_in uses }
@@ -359,7 +359,7 @@ fn read_pair(alloc: Global, words: &[String]) -> Result<Option<Role>, NoMemory>
     }
 }
 
-/// Reads a role from the words: its name, and after it its options in any order, each as `--NAME VALUE` or `--NAME=VALUE`. None where the words
+/// Reads a role from the words: its name, then its options in any order, each as `--NAME VALUE` or `--NAME=VALUE`. Returns `None` where the words
 /// aren't allowed.
 #[tactic(auto, unfolding(crate::specs::Roles::role_of))]
 pub fn read_role(alloc: Global, words: &[String]) -> Result<Option<Role>, NoMemory>
@@ -378,7 +378,7 @@ pub fn read_role(alloc: Global, words: &[String]) -> Result<Option<Role>, NoMemo
     }
 }
 
-/// Reads the role of a program with a service of its own: the words of a server but for `--service`, or those of a logger.
+/// Reads the role of a program with a service of its own. The words are those of a server, without `--service` and `--second`, or those of a logger.
 #[tactic(auto, unfolding(crate::specs::Roles::own_role_of))]
 pub(crate) fn read_own_role(alloc: Global, words: &[String]) -> Result<Option<OwnRole>, NoMemory>
     ensures role { IfOk result (λ role. option_map as_role role ≡ own_role_of (map string_bytes words.now)) }

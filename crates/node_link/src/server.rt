@@ -1,4 +1,4 @@
-//! The server: a node over a link. Each turn is one receive and the node's turn of what came, whose packets are all handed to send before the next
+//! The server: a node over a link. In each turn it receives once, and hands to send all packets with which the node reacts, before the next
 //! receive.
 
 ghost use Rattle.std.specs.Prelude.{List, ◌≡◌, ◌<◌, ◌≤◌, ◌*◌, ◌^◌, [], ◌∷◌, take, length, IfSome, IfOk, IfErr, OnOk, OnErr, IsErrOf, MatchOption};
@@ -105,7 +105,7 @@ fn is_from_logger(loggers: Loggers, from: Addr) -> bool
     }
 }
 
-/// What came, as the node takes it: a datagram from a logger's address is a message, any other a packet.
+/// Returns what came as the node's input: a datagram from a logger's address is a message, any other a packet, and `None` a tick.
 fn input_of<'a>(loggers: Loggers, came: Option<(usize, Addr)>, buffer: &'a [u8]) -> Input<'a>
     requires { IfSome came (λ g. g.0 ≤ length buffer.now) }
     ensures { (r : Received) → MatchOption came (IsQuiet r) (λ g. r ≡ datagram g.1 (take g.0 buffer.now)) → input_lem result ≡ input_from loggers r }
@@ -123,7 +123,7 @@ fn input_of<'a>(loggers: Loggers, came: Option<(usize, Addr)>, buffer: &'a [u8])
     }
 }
 
-/// One turn: a receive, and all that the node sends in answer to what arrived.
+/// Takes one turn: receives once, and sends all packets with which the node reacts.
 fn take_turn<S: Saved, L: Link>(
     alloc: Global,
     loggers: Loggers,
@@ -161,7 +161,7 @@ fn boot<S: Saved, L: Link>(
     Ok(node)
 }
 
-/// So many turns, and their calls counted.
+/// Boots, takes all turns, and returns the counts of their calls.
 fn serve<S: Saved, L: Link>(
     alloc: Global,
     role: &ServerRole,
@@ -180,7 +180,7 @@ fn serve<S: Saved, L: Link>(
     Ok(counts)
 }
 
-/// A server after its bind: its turns, and the line that it ends with.
+/// Runs a server after its bind: boots, takes its turns, and writes the line of the counts.
 fn serve_and_tell<S: Saved, L: Link, O: Sink>(
     alloc: Global,
     role: &ServerRole,
@@ -204,7 +204,7 @@ fn serve_and_tell<S: Saved, L: Link, O: Sink>(
     }
 }
 
-/// A server: it binds, boots, does its turns, and writes the counts of their calls.
+/// Runs a server: binds, boots, takes its turns, and writes the counts of their calls.
 pub(crate) fn run_server<S: Saved, L: Link, O: Sink>(
     alloc: Global,
     role: &ServerRole,

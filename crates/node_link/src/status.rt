@@ -22,7 +22,7 @@ pub enum NodeEnd {
     LinkFault,
     /// A write failed.
     WriteFault,
-    /// A server with this larger boot number has spoken to the logger.
+    /// A Stale of the logger named this larger boot number: a newer server fenced this one.
     Fenced { newer: u64 },
     /// The client's connection was reset.
     Reset,

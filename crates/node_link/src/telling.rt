@@ -10,7 +10,7 @@ use crate::status::{NodeEnd, Status};
 use ft_io::{Failed, Sink, write_all};
 use itoa::Buffer;
 
-/// The line of a server that a newer one fenced.
+/// Writes the line of a server that a newer one fenced.
 fn write_fence<E: Sink>(err: &mut E, newer: u64) -> Result<(), Failed>
     ensures whole { OnOk result (Appends (E.taken err.old) (E.taken err.new) (fence_text newer)) }
     ensures front { OnErr result (AppendsFront (E.taken err.old) (E.taken err.new) (fence_text newer)) }
@@ -23,7 +23,7 @@ fn write_fence<E: Sink>(err: &mut E, newer: u64) -> Result<(), Failed>
     write_all(err, b"\n")
 }
 
-/// The line of an end. None is written where a sink failed.
+/// Writes the line of an end, or nothing where a write has failed.
 fn write_end<E: Sink>(err: &mut E, end: NodeEnd) -> Result<(), Failed>
     ensures whole { OnOk result (Appends (E.taken err.old) (E.taken err.new) (text_of end)) }
     ensures front { OnErr result (AppendsFront (E.taken err.old) (E.taken err.new) (text_of end)) }
@@ -61,7 +61,7 @@ fn code(end: NodeEnd) -> u8
     }
 }
 
-/// Writes the line of an end, and gives its status: 5 where that write failed.
+/// Writes the line of an end and returns its status, or 5 where that write failed.
 pub fn tell<E: Sink>(err: &mut E, end: NodeEnd) -> Status
     ensures told { TellsEnd end (E.taken err.old) (E.taken err.new) (E.fault_count err.old) (E.fault_count err.new) result.code }
     ensures early { result.code ≡ 0 → ⊥ }

@@ -1,4 +1,4 @@
-//! The top call.
+//! The entry points: `node`, and `node_of` for a service of your own.
 
 ghost use Rattle.std.specs.Prelude.{◌≡◌, ◌≤◌, ◌^◌, ◌⊎◌, ℕ, List, length, map, string_bytes, None, Some, Ok, Err, OnOk, IfErr, IsErrOf, false};
 ghost use Rattle.ft_io.specs.Faults.{Rose};
@@ -26,7 +26,7 @@ use sample_servers::AnyService;
 use server_trait::Saved;
 use std::alloc::Global;
 
-/// Does what the words ask for.
+/// Runs the role that the words ask for.
 fn run<L: Link, I: Source, O: Sink, P: Spawner>(
     alloc: Global,
     words: &[String],
@@ -59,11 +59,11 @@ fn run<L: Link, I: Source, O: Sink, P: Spawner>(
     }
 }
 
-/// `ftnode` with these words: a server, a logger or a client of FT-TCP over the link, or a pair, which starts these as programs of their own. What ended it
-/// early is written to `err`. The status is 0 where all was done: the turns of a server or a logger, both ends of a client's connection, the waits of a pair; 2
-/// where the words aren't allowed or the client's input is longer than a stream, 3 because memory ran out, 4 where the bind failed, 5 for a fault of a sink, 6
-/// where a newer server fenced this one, 7 where the client was reset, 8 where its turns ended first, 9 for a fault of the source, and 10 where a start or a
-/// wait of a pair failed.
+/// Runs `ftnode` with these words: as a server, a logger or a client of FT-TCP over the link, or as a pair, which starts these as processes. If it stops early,
+/// it writes the reason to `err`, unless a write failed. The status is 0 if a server or a logger took all its turns, both ends of a client's connection are
+/// closed, or a pair's children have ended; 2 if the words aren't allowed or the client's input is longer than 2^24 bytes, 3 if an allocation failed, 4 if the
+/// bind failed, 5 if a write failed, 6 if a newer server fenced this one, 7 if the client's connection was reset, 8 if the client's turns ended before its
+/// connection, 9 if a read failed, and 10 if a start or a wait of a pair failed.
 pub fn node<L: Link, I: Source, O: Sink, E: Sink, P: Spawner>(
     alloc: Global,
     words: &[String],
@@ -73,7 +73,7 @@ pub fn node<L: Link, I: Source, O: Sink, E: Sink, P: Spawner>(
     err: &mut E,
     kids: &mut P,
 ) -> Status
-    // By the role of the words: what was read, which calls were made on the link and on kids, and what was written to out. By the end: what was written to err.
+    // The role decides what is read, which calls are made on the link and on kids, and what is written to out; the end decides what is written to err.
     ensures ended { HasEnded (role_of (map string_bytes words.now))
         (record { left = I.left input.old; calls = L.told link.old; started = P.started kids.old; spawned = P.told kids.old; out = O.taken out.old })
         (record { left = I.left input.new; calls = L.told link.new; started = P.started kids.new; spawned = P.told kids.new; out = O.taken out.new })
@@ -95,7 +95,7 @@ pub fn node<L: Link, I: Source, O: Sink, E: Sink, P: Spawner>(
     ensures no_err_fault { is_fault_status result.code ≡ false → E.fault_count err.new ≡ E.fault_count err.old }
     ensures no_child_fault { is_fault_status result.code ≡ false → P.fault_count kids.new ≡ P.fault_count kids.old }
 
-    // Where the words are allowed, the bind succeeded and no sink failed, only a fence or a lack of memory ends a role early.
+    // Where the words are allowed, the bind succeeded and no sink failed, only a fence or a failed allocation ends a role early.
     ensures server { (role : ServerRole) → role_of (map string_bytes words.now) ≡ Some (roles.Server role)
         → IsStill (L.bind_fault_count link.old) (L.bind_fault_count link.new) → IsStill (O.fault_count out.old) (O.fault_count out.new)
         → IsStill (E.fault_count err.old) (E.fault_count err.new) → (result.code ≡ 0) ⊎ ((result.code ≡ 6) ⊎ (result.code ≡ 3)) }
@@ -108,7 +108,7 @@ pub fn node<L: Link, I: Source, O: Sink, E: Sink, P: Spawner>(
         → IsStill (O.fault_count out.old) (O.fault_count out.new)
         → IsStill (E.fault_count err.old) (E.fault_count err.new) → (result.code ≡ 0) ⊎ ((result.code ≡ 7) ⊎ ((result.code ≡ 8) ⊎ (result.code ≡ 3))) }
 
-    // Where the words are allowed, and neither a start, nor a wait, nor a sink failed, only a lack of memory ends a pair early.
+    // Where the words are allowed and no start, wait or write failed, only a failed allocation ends a pair early.
     ensures pair { (role : PairRole) → role_of (map string_bytes words.now) ≡ Some (roles.Pair role)
         → IsStill (P.fault_count kids.old) (P.fault_count kids.new) → IsStill (O.fault_count out.old) (O.fault_count out.new)
         → IsStill (E.fault_count err.old) (E.fault_count err.new) → (result.code ≡ 0) ⊎ (result.code ≡ 3) }
@@ -119,7 +119,7 @@ pub fn node<L: Link, I: Source, O: Sink, E: Sink, P: Spawner>(
     }
 }
 
-/// Does what the words ask for of a program with this service.
+/// Runs the role that the words ask for, in a program with this service.
 fn run_own<S: Saved, L: Link, O: Sink>(
     alloc: Global,
     words: &[String],
@@ -140,9 +140,9 @@ fn run_own<S: Saved, L: Link, O: Sink>(
     }
 }
 
-/// A server with a service of one's own, or its logger, over the link. The words are those of a server or a logger of [`node`], without `--service`: the
-/// service is `S`, whose kind is 0. What ended it early is written to `err`. The status is 0 where all turns were done, 2 where the words aren't allowed, 3 for
-/// a lack of memory, 4 where the bind failed, 5 for a fault of a sink, and 6 where a newer server fenced this one.
+/// Runs a server with a service of your own, or its logger, over the link. The words are those of a server or a logger of [`node`], without `--service` and
+/// `--second`. The service is `S`, whose kind is 0. If it stops early, it writes the reason to `err`, unless a write failed. The status is 0 if all turns were
+/// taken, 2 if the words aren't allowed, 3 if an allocation failed, 4 if the bind failed, 5 if a write failed, and 6 if a newer server fenced this one.
 pub fn node_of<S: Saved, L: Link, O: Sink, E: Sink>(
     alloc: Global,
     words: &[String],
@@ -150,7 +150,7 @@ pub fn node_of<S: Saved, L: Link, O: Sink, E: Sink>(
     out: &mut O,
     err: &mut E,
 ) -> Status
-    // By the role of the words: which calls were made on the link, and what was written to out. By the end: what was written to err.
+    // The role decides which calls are made on the link, and what is written to out; the end decides what is written to err.
     ensures ended { HasEndedWith (machines S.started S.after) (own_role_of (map string_bytes words.now))
         (with_link (L.told link.old) (O.taken out.old)) (with_link (L.told link.new) (O.taken out.new)) (E.taken err.old) (E.taken err.new) result.code }
 
@@ -162,7 +162,7 @@ pub fn node_of<S: Saved, L: Link, O: Sink, E: Sink>(
     ensures no_write_fault { is_fault_status result.code ≡ false → O.fault_count out.new ≡ O.fault_count out.old }
     ensures no_err_fault { is_fault_status result.code ≡ false → E.fault_count err.new ≡ E.fault_count err.old }
 
-    // Where the words are allowed, the bind succeeded and no sink failed, only a fence or a lack of memory ends a role early.
+    // Where the words are allowed, the bind succeeded and no sink failed, only a fence or a failed allocation ends a role early.
     ensures server { (role : ServerRole) → own_role_of (map string_bytes words.now) ≡ Some (roles.Server role)
         → IsStill (L.bind_fault_count link.old) (L.bind_fault_count link.new) → IsStill (O.fault_count out.old) (O.fault_count out.new)
         → IsStill (E.fault_count err.old) (E.fault_count err.new) → (result.code ≡ 0) ⊎ ((result.code ≡ 6) ⊎ (result.code ≡ 3)) }

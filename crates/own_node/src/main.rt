@@ -1,5 +1,5 @@
-//! `own_node`: a service of your own as a process over UDP: a server, or its logger. All is done by `node_of`; here are the arguments, the socket, the standard
-//! output and the standard error.
+//! `own_node` runs a service of your own as a process over UDP: a server, or its logger. `main` passes the arguments, the socket, standard output and standard
+//! error to `node_of`, which does the rest.
 #![tactic(auto)]
 
 use counter_service::Counter;

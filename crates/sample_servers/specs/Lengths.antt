@@ -76,7 +76,7 @@ length-line_finished-le finished line =
     let digits : length (decimal (number_after finished)) ≤ 20 = length-decimal-le 20 (number_after finished) (omega arith) (omega arith) (omega arith) in
     grind (arith, length-append {A = ℕ}, length-take {A = ℕ})
 
--- what a finished line leaves holds nothing
+-- the state after a finished line holds nothing
 pub held-line_finished : (finished : ℕ) (line : List ℕ) → (line_finished finished line).next.held ≡ []
 unfolding line_finished
 held-line_finished finished line = grind arith

@@ -60,7 +60,7 @@ served_fed service P step state output false (chunk ∷ chunks) here bytes given
     let one = step state chunk here given.0 in
     served_fed service P step served.next (output ++ served.output) served.closed chunks one.1 (bytes_append output served.output bytes one.0) given.1
 
--- a run writes bytes where each step does, from states that occur, and it comes to such states alone
+-- a run writes bytes, and its state satisfies the invariant, where each step does so from a state that satisfies it
 pub run_kept : {S : Type 0} (service : Machine S) (P : S → Type 0) → P service.fresh
     → ((s : S) (chunk : List ℕ) → P s → AreBytes chunk → IsServed P (service.after s chunk))
     → (chunks : List (List ℕ)) → AllByRecursion AreBytes chunks → IsRunning P (fold service chunks)
@@ -70,7 +70,7 @@ pub bytes_fold : {S : Type 0} (service : Machine S) (P : S → Type 0) → P ser
     → ((s : S) (chunk : List ℕ) → P s → AreBytes chunk → IsServed P (service.after s chunk)) → WritesBytes service
 bytes_fold service P start step chunks given = (run_kept service P start step chunks given).0
 
--- what comes up of a service that has no state, or writes the same bytes whatever it holds
+-- the invariant of a service that has only one state: it says nothing
 abbrev pub Anything : {S : Type 0} → S → Type 0
 Anything s = Unit {0}
 
@@ -131,7 +131,7 @@ served_transfer s chunk kept given = served_if IsTransfer (length chunk == 0) (r
 pub fresh_transfer : IsTransfer transfer_started
 fresh_transfer = record { place = omega arith; bytes = tt }
 
--- the number of lines is one of 64 bits, and what is held is the bytes of an unfinished line
+-- the number of lines fits in 64 bits, and what is held is the bytes of an unfinished line
 pub record IsLine (s : LineState) : Type 0 where
   pub number : s.finished < 2 ^ 64
   pub bytes : AreBytes s.held

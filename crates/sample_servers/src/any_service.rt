@@ -7,7 +7,7 @@ use ft_io::NoMemory;
 use server_trait::{Next, Saved, Service};
 use std::alloc::Global;
 
-/// One of the four services. `fresh` takes its kind as 1 for Echo, 2 for Line, 3 for Transfer and 4 for Meter, and every other kind as 1.
+/// One of the four services. `fresh` takes kind 1 as Echo, 2 as Line, 3 as Transfer, 4 as Meter, and any other kind as Echo.
 #[derive(Debug, Drop)]
 pub enum AnyService {
     Echo(Echo),

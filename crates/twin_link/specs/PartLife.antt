@@ -19,7 +19,7 @@ pub record IsPart (role : PartRole) (old new : Option (List LinkCall)) (Writes :
   pub tells : Tells old new (Bound role.logger.local ∷ calls_of turns)
   pub written : Writes (count_line (counts_of (calls_of turns)))
 
--- a life that ended because memory ran out: it sent nothing after its last receive
+-- a life that ended because an allocation failed: it sent nothing after its last receive
 pub record IsCutPart (role : PartRole) (old new : Option (List LinkCall)) : Type 0 where
   pub turns : List PartTurn
   pub cut : List LinkCall

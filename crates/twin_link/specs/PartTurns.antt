@@ -1,5 +1,5 @@
--- The turns of one of two loggers over its link. In each it receives once, and hands to send all that it sends at what came, before it receives again. What comes
--- from the other logger's address is the other's, all else is the server's. An Alone counts from any address.
+-- The turns of one of two loggers over its link. In each turn it receives once, and hands to send all datagrams with which it reacts, before it receives
+-- again. A datagram from the other logger's address is the other's; any other is the server's. An Alone counts from any address.
 use Rattle.std.specs.Prelude.{ℕ, Bool, true, false, ◌≡◌, map, flat_map, Option, None, Some, Result, Ok, List, [], ◌∷◌, ◌++◌, if◌then◌else◌}
 use Rattle.ft_io.specs.declared.Addr.{Addr}
 use Rattle.ft_io.specs.declared.link_call.LinkCall.{LinkCall}
@@ -16,7 +16,7 @@ use Rattle.node_link.specs.ServerTurns.{is_from}
 use Rattle.node_link.specs.Receipt.{Received, datagram, silence, failure, received_as}
 use Rattle.twin_link.specs.declared.role.PartRole.{PartRole}
 
--- a logger of a pair, and where the server is, once it has spoken
+-- a logger of a pair, and the server's address, once it is known
 pub record Standing : Type 0 where
   pub kept : Kept
   pub server : Option Addr
@@ -28,7 +28,7 @@ abbrev pub is_alone : Result TwinDatagram BadTwin → Bool
 is_alone (Ok datagrams.Alone) = true
 is_alone _ = false
 
--- bytes tell a logger that the other has stopped
+-- the bytes are an Alone, by which a logger learns that the other has stopped
 abbrev pub says_alone : List ℕ → Bool
 says_alone bytes = is_alone (twins.reading bytes)
 
@@ -40,7 +40,7 @@ abbrev pub server_after : Side → (from : Addr) → Option Addr → Option Addr
 server_after sides.Server from server = Some from
 server_after sides.Other from server = server
 
--- what the logger is next, and what it sends, each datagram with the side to which it goes
+-- the logger's next state, and what it sends: each datagram with the side to which it is sent
 pub record Hears : Type 0 where
   pub next : Standing
   pub sent : List (Side × List ℕ)
@@ -49,7 +49,7 @@ abbrev pub delivered : Side → (from : Addr) → List ℕ → Standing → Hear
 delivered side from bytes s =
     record { next = record { kept = (kept_does side bytes s.kept).next; server = server_after side from s.server }; sent = (kept_does side bytes s.kept).sent }
 
--- A datagram comes. Told that the other has stopped, a logger serves alone from then on, however often it is told
+-- A datagram comes. After an Alone a logger serves alone from then on, however many of them come
 abbrev pub heard : (other from : Addr) → List ℕ → Standing → Hears
 heard other from bytes s =
     if says_alone bytes then record { next = record s { kept = left_alone s.kept }; sent = [] } else delivered (side_of other from) from bytes s
@@ -67,7 +67,7 @@ abbrev pub addressed_to : Option Addr → List ℕ → List (Addr × List ℕ)
 addressed_to None bytes = []
 addressed_to (Some to) bytes = (to, bytes) ∷ []
 
--- what goes to which address. What goes to a server that isn't known yet isn't sent
+-- the datagrams with their addresses. Those for a server whose address isn't known yet aren't sent
 abbrev pub addressed : (server : Option Addr) → (other : Addr) → List (Side × List ℕ) → List (Addr × List ℕ)
 addressed server other sent = flat_map (λ s. addressed_to (address_for server other s.0) s.1) sent
 
@@ -100,7 +100,7 @@ abbrev pub calls_of : List PartTurn → List LinkCall
 calls_of [] = []
 calls_of (turn ∷ earlier) = calls_of earlier ++ turn_calls turn
 
--- where a logger of these words is after turns, the newest first, from an empty log on
+-- the state of a logger of these words after turns, the newest first, from an empty log on
 abbrev pub standing_at : PartRole → List PartTurn → Standing
 standing_at role [] = at_start role.part
 standing_at role (turn ∷ earlier) = (heard_in role.other turn.received (standing_at role earlier)).next

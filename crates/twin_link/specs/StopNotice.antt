@@ -1,4 +1,4 @@
--- What tells a logger that the other has stopped: one datagram, and a line of how its send ended.
+-- The process that informs a logger that the other has stopped: it sends one datagram, and writes a line on whether the send failed.
 use Rattle.std.specs.Prelude.{◌≡◌, ℕ, Bool, true, false, Option, Result, Ok, Err, List, [], ◌∷◌, codes}
 use Rattle.ft_io.specs.declared.Failed.{Failed}
 use Rattle.ft_io.specs.declared.link_call.LinkCall.{LinkCall}
@@ -15,7 +15,7 @@ abbrev pub sent_line : (is_lost : Bool) → List ℕ
 sent_line false = codes "sent 1 lost 0\n"
 sent_line true = codes "sent 0 lost 1\n"
 
--- by how the send ended
+-- by the result of the send
 abbrev pub line_of : Result (Unit {0}) Failed → List ℕ
 line_of (Ok _) = sent_line false
 line_of (Err _) = sent_line true

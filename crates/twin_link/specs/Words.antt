@@ -1,5 +1,5 @@
--- The words of a logger of a pair: those of a logger, `--part head` or `--part tail`, and `--other ADDRESS`. And those that tell a logger that it serves alone:
--- `alone`, `--local ADDRESS` and `--to ADDRESS`.
+-- The words of a logger of a pair: those of a logger, `--part head` or `--part tail`, and `--other ADDRESS`. And those of the process that informs a logger
+-- that it serves alone: `alone`, `--local ADDRESS` and `--to ADDRESS`.
 use Rattle.std.specs.Prelude.{Option, Some, None, option_map, List, [], ◌∷◌, codes, if◌then◌else◌}
 use Rattle.std.specs.Option.{option_and_then}
 use Rattle.std.specs.Str.{bytes_eq}

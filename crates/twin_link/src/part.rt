@@ -1,4 +1,4 @@
-//! One of two loggers over a link. Each turn is one receive, after which all that the logger then sends is handed to send, before the next receive.
+//! One of two loggers over a link. In each turn it receives once, and hands to send all datagrams with which it reacts, before the next receive.
 
 ghost use Rattle.std.specs.Prelude.{◌≡◌, ◌≤◌, ◌^◌, [], ◌∷◌, List, OnOk, OnErr, IfOk, IfErr, IsErrOf};
 ghost use Rattle.std.specs.Io.KnownBytes.{Appends};
@@ -32,14 +32,14 @@ struct Twin {
     out: TwinOut,
 }
 
-/// Whether bytes tell a logger that the other has stopped.
+/// Whether the bytes are an Alone, by which a logger learns that the other has stopped.
 fn says_alone(bytes: &[u8]) -> bool
     ensures { result ≡ says_alone_lem bytes.now }
 {
     matches!(read_twin(bytes), Ok(TwinMsg::Alone))
 }
 
-/// The other has stopped: this one serves alone. If it does already, nothing changes.
+/// Serves alone from now on, since the other logger has stopped. If it does already, nothing changes.
 fn serve_alone(log: &mut TwinLog)
     ensures { log.new ≡ left_alone log.old }
 {
@@ -89,7 +89,7 @@ fn take(
     twin.log.deliver(alloc, side, bytes, &mut twin.out)
 }
 
-/// One turn: a receive, and what the logger sends in answer to what arrived.
+/// Takes one turn: receives once, and sends all datagrams with which the logger reacts.
 fn take_turn<L: Link>(
     alloc: Global,
     other: Addr,
@@ -122,7 +122,7 @@ fn new_twin(alloc: Global, part: Part) -> Result<Twin, NoMemory>
     })
 }
 
-/// So many turns of a new logger, and their calls counted.
+/// Takes all turns of a new logger, and returns the counts of their calls.
 fn serve<L: Link>(alloc: Global, role: &PartRole, link: &mut L) -> Result<Counts, NoMemory>
     requires { role.now.logger.turns ≤ 1000000 }
     ensures served { IfOk result (λ counts. HasServed role.now (L.told link.old) (L.told link.new) counts) }
@@ -137,7 +137,7 @@ fn serve<L: Link>(alloc: Global, role: &PartRole, link: &mut L) -> Result<Counts
     Ok(counts)
 }
 
-/// A logger of a pair after its bind: its turns, and the line that it ends with.
+/// Runs a logger of a pair after its bind: takes its turns, and writes the line of the counts.
 fn serve_and_tell<L: Link, O: Sink>(
     alloc: Global,
     role: &PartRole,
@@ -160,7 +160,7 @@ fn serve_and_tell<L: Link, O: Sink>(
     }
 }
 
-/// A logger of a pair: it binds, does its turns, and writes the counts of their calls.
+/// Runs a logger of a pair: binds, takes its turns, and writes the counts of their calls.
 pub(crate) fn run_part<L: Link, O: Sink>(
     alloc: Global,
     role: &PartRole,

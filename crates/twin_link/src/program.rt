@@ -1,4 +1,4 @@
-//! All of `ftnode`, on a system that is given to it.
+//! The whole program `ftnode`, over a given system.
 
 use crate::top::node_in_pair;
 use disk::HostDesk;
@@ -11,8 +11,8 @@ use std::rt::Env;
 use std::time::Clock;
 use std::{env, io};
 
-/// `ftnode` with this system's arguments, sockets, files and processes, and with these three streams. Returns its exit status, that of [`node_in_pair`], or std's
-/// error if the arguments can't be read: one of them isn't UTF-8, or an allocation failed.
+/// Runs `ftnode` with this system's arguments, sockets, files and processes, and with these streams. Returns its exit status, that of [`node_in_pair`], or
+/// std's error if the arguments can't be read: one of them isn't UTF-8, or an allocation failed.
 pub fn run_ftnode<
     R: Env + AllocGlobal + Net + Clock + Files<File = File> + Processes,
     I: Read + Drop,

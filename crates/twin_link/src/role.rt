@@ -1,4 +1,4 @@
-//! The words of a logger of a pair, and of what tells it that it serves alone.
+//! The words of a logger of a pair, and those of `alone`.
 
 ghost use Rattle.std.specs.Prelude.{◌≡◌, ◌≤◌, List, map, string_bytes, IfOk, IfSome};
 ghost use Rattle.node_link.specs.Options.{Use, HasValues};
@@ -20,7 +20,7 @@ const PART_OPTIONS: [OptionName; 4] = [
 
 const ALONE_OPTIONS: [OptionName; 2] = [OptionName::Local, OptionName::To];
 
-/// One of two loggers, from an empty log.
+/// One of two loggers, which starts with an empty log.
 #[derive(Clone, Copy, Debug)]
 pub struct PartRole {
     pub logger: LoggerRole,
@@ -29,7 +29,7 @@ pub struct PartRole {
     pub other: Addr,
 }
 
-/// A process that tells a logger that the other has stopped.
+/// A process that informs a logger that the other has stopped.
 #[derive(Clone, Copy, Debug)]
 pub struct AloneRole {
     pub local: Addr,
@@ -37,7 +37,7 @@ pub struct AloneRole {
     pub to: Addr,
 }
 
-/// The roles that this crate adds: one of two loggers, and what tells one of them that it serves alone.
+/// The roles that this crate adds: one of two loggers, and the process that informs one of them that it serves alone.
 #[derive(Clone, Copy, Debug)]
 pub enum TwinRole {
     Logger(PartRole),
@@ -103,7 +103,7 @@ fn read_alone(alloc: Global, words: &[String]) -> Result<Option<TwinRole>, NoMem
     }
 }
 
-/// Reads such a role from the words. None where they ask for another role.
+/// Reads such a role from the words. Returns `None` where they ask for no such role.
 #[tactic(auto, unfolding(crate::specs::Words::twin_of))]
 pub fn read_twin_role(alloc: Global, words: &[String]) -> Result<Option<TwinRole>, NoMemory>
     ensures role { IfOk result (λ role. role ≡ twin_of (map string_bytes words.now)) }

@@ -9,7 +9,7 @@ use ft_io::{Addr, Link};
 use node_link::Counts;
 use twin_log::{Side, TwinOut};
 
-/// The address of a side. None while the server hasn't spoken yet.
+/// The address of a side. `None` for the server while its address isn't known.
 fn address_for(server: Option<Addr>, other: Addr, side: Side) -> Option<Addr>
     ensures { result ≡ address_for_lem server other side }
 {
@@ -31,7 +31,7 @@ fn hand<L: Link>(link: &mut L, to: Option<Addr>, bytes: &[u8], counts: &mut Coun
     }
 }
 
-/// Hands to send what goes out, in order. What goes to a server that isn't known yet isn't sent.
+/// Hands the datagrams to send, in order. Those for a server whose address isn't known yet aren't sent.
 pub(crate) fn send_all<L: Link>(
     link: &mut L,
     server: Option<Addr>,

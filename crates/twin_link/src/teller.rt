@@ -1,4 +1,4 @@
-//! `alone`: tells a logger that the other has stopped.
+//! `alone`: informs a logger that the other has stopped.
 
 ghost use Rattle.std.specs.Prelude.{◌≡◌, OnOk, IfErr, IsErrOf};
 ghost use Rattle.std.specs.Io.KnownBytes.{Appends};
@@ -28,7 +28,7 @@ fn send_alone<L: Link>(link: &mut L, to: Addr) -> Result<(), Failed>
     link.send(to, &buffer[..len])
 }
 
-/// The line that says how a send ended.
+/// The line that reports whether the send failed.
 fn line_of<'a>(sent: &Result<(), Failed>) -> &'a [u8]
     ensures { result.now ≡ line_of_lem sent.now }
 {
@@ -38,7 +38,7 @@ fn line_of<'a>(sent: &Result<(), Failed>) -> &'a [u8]
     }
 }
 
-/// Binds, hands one Alone to send, and writes how that send ended.
+/// Binds, hands one Alone to send, and writes whether that send failed.
 pub(crate) fn run_teller<L: Link, O: Sink>(
     role: &AloneRole,
     link: &mut L,

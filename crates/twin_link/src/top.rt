@@ -1,4 +1,4 @@
-//! The top call.
+//! The entry point.
 
 ghost use Rattle.std.specs.Prelude.{◌≡◌, ◌≤◌, ◌^◌, ◌⊎◌, ℕ, List, length, map, string_bytes, None, Some, false, IfErr, OnOk, IsErrOf};
 ghost use Rattle.ft_io.specs.Faults.{Rose};
@@ -28,7 +28,7 @@ use journal_link::node_with;
 use node_link::{NodeEnd, Status, tell};
 use std::alloc::Global;
 
-/// Does what a role asks for.
+/// Runs a role.
 fn run<L: Link, O: Sink>(
     alloc: Global,
     role: &TwinRole,
@@ -48,7 +48,7 @@ fn run<L: Link, O: Sink>(
     }
 }
 
-/// One of two loggers, or what tells one that it serves alone, and how it ended.
+/// Runs one of two loggers, or `alone`, and reports how it ended.
 fn live<L: Link, O: Sink, E: Sink>(
     alloc: Global,
     role: &TwinRole,
@@ -72,9 +72,9 @@ fn live<L: Link, O: Sink, E: Sink>(
     }
 }
 
-/// `ftnode` with these words: as [`node_with`], and by the words of a logger with `--part` and `--other` it is one of two loggers that act as one, and by those of
-/// `alone` it tells one of them that the other has stopped. The statuses of these two are 0 where all was done, 3 because memory ran out, 4 where the bind failed,
-/// and 5 for a fault of a sink.
+/// Runs `ftnode` with these words, as [`node_with`] does. In addition, by the words of a logger with `--part` and `--other` it is one of two loggers that act
+/// as one, and by those of `alone` it informs one of them that the other has stopped. The status of these two is 0 if all was done, 3 if an allocation failed,
+/// 4 if the bind failed, and 5 if a write failed.
 pub fn node_in_pair<L: Link, I: Source, O: Sink, E: Sink, P: Spawner, K: Desk>(
     alloc: Global,
     words: &[String],
@@ -85,7 +85,7 @@ pub fn node_in_pair<L: Link, I: Source, O: Sink, E: Sink, P: Spawner, K: Desk>(
     kids: &mut P,
     desk: &mut K,
 ) -> Status
-    // All other words are `node_with`'s, and so is what is said of them.
+    // All other words are `node_with`'s, and its clauses hold for them.
     ensures ended { twin_of (map string_bytes words.now) ≡ None → journal_of (map string_bytes words.now) ≡ None → HasEnded (role_of (map string_bytes words.now))
         (record { left = I.left input.old; calls = L.told link.old; started = P.started kids.old; spawned = P.told kids.old; out = O.taken out.old })
         (record { left = I.left input.new; calls = L.told link.new; started = P.started kids.new; spawned = P.told kids.new; out = O.taken out.new })
@@ -132,20 +132,20 @@ pub fn node_in_pair<L: Link, I: Source, O: Sink, E: Sink, P: Spawner, K: Desk>(
         → result.code ≡ 4 → Rose (K.beside desk.old).bind_faults (K.beside desk.new).bind_faults }
     ensures journal_fault { result.code ≡ 11 → Rose (K.fault_count desk.old) (K.fault_count desk.new) }
     ensures in_use { result.code ≡ 13 → Rose (K.beside desk.old).refusals (K.beside desk.new).refusals }
-    // Where no call on the desk and no sink failed, only damage of the file or a lack of memory ends it early.
+    // Where no call on the desk and no sink failed, only a damaged file or a failed allocation ends it early.
     ensures keeper { (role : JournalRole) → twin_of (map string_bytes words.now) ≡ None → journal_of (map string_bytes words.now) ≡ Some role
         → IsStill (K.fault_count desk.old) (K.fault_count desk.new) → IsStill (K.beside desk.old).refusals (K.beside desk.new).refusals
         → IsStill (K.beside desk.old).bind_faults (K.beside desk.new).bind_faults → IsStill (O.fault_count out.old) (O.fault_count out.new)
         → IsStill (E.fault_count err.old) (E.fault_count err.new) → (result.code ≡ 0) ⊎ ((result.code ≡ 12) ⊎ (result.code ≡ 3)) }
 
-    // One of two loggers, and what tells one that the other has stopped: what it called on the link, what it wrote, and nothing else.
+    // One of two loggers, or `alone`: what it called on the link, what it wrote, and nothing else.
     ensures lived { (role : TwinRole) → twin_of (map string_bytes words.now) ≡ Some role
         → HasLived role (L.told link.old) (L.told link.new) (O.taken out.old) (O.taken out.new) (E.taken err.old) (E.taken err.new) result.code }
     ensures apart { (role : TwinRole) → twin_of (map string_bytes words.now) ≡ Some role
         → (input.new ≡ input.old) × (kids.new ≡ kids.old) × (desk.new ≡ desk.old) }
     ensures twin_bind_fault { (role : TwinRole) → twin_of (map string_bytes words.now) ≡ Some role
         → result.code ≡ 4 → Rose (L.bind_fault_count link.old) (L.bind_fault_count link.new) }
-    // Where the bind succeeded and no sink failed, only a lack of memory ends it early.
+    // Where the bind succeeded and no sink failed, only a failed allocation ends it early.
     ensures twin { (role : TwinRole) → twin_of (map string_bytes words.now) ≡ Some role
         → IsStill (L.bind_fault_count link.old) (L.bind_fault_count link.new) → IsStill (O.fault_count out.old) (O.fault_count out.new)
         → IsStill (E.fault_count err.old) (E.fault_count err.new) → (result.code ≡ 0) ⊎ (result.code ≡ 3) }

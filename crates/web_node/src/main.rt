@@ -1,5 +1,5 @@
-//! `web_node`: the web server as a process over UDP: a server, or its logger. All is done by `node_of`; here are the arguments, the socket, the standard output
-//! and the standard error.
+//! `web_node` runs the web server as a process over UDP: a server, or its logger. `main` passes the arguments, the socket, standard output and standard error
+//! to `node_of`, which does the rest.
 #![tactic(auto)]
 
 use ft_io::{UdpLink, WriteSink};

@@ -32,7 +32,7 @@ method_of word = if bytes_eq word (codes "GET") then Get else if bytes_eq word (
 abbrev pub from_slash : List ℕ → List ℕ
 from_slash bytes = drop (position_or_len (λ byte. byte == 47) bytes) bytes
 
--- the path and the query of a target. In one with a scheme an authority precedes them
+-- the path and the query of a target. In a target with a scheme, an authority precedes them
 unfoldable pub path_of : List ℕ → List ℕ
 path_of target = if same_word (take 7 target) (codes "http://") then from_slash (drop 7 target) else target
 

@@ -31,7 +31,7 @@ is_plain_byte byte = byte == 9 || not (is_ascii_control byte)
 unfoldable pub is_plain : List ℕ → Bool
 is_plain line = list_all is_plain_byte line
 
--- without the white space at both ends. In a line that is spaces and tabs
+-- without the white space at both ends. In a line, white space is spaces and tabs
 unfoldable pub trimmed : List ℕ → List ℕ
 trimmed bytes =
     let rest = drop (prefix_len is_ascii_whitespace bytes) bytes in

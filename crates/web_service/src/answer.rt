@@ -176,7 +176,7 @@ impl Request {
         }
     }
 
-    /// Appends the body whose length the answer says, even where it isn't sent.
+    /// Appends the body whose length the answer gives, even where the body isn't sent.
     pub(crate) fn write_body(self, out: &mut Vec<u8>) -> Result<(), NoMemory>
         ensures { OnOk result (out.new.items ≡ out.old.items ++ body_of self.method self.page) }
     {
@@ -208,7 +208,7 @@ impl Request {
     }
 }
 
-// Whether a connection closes where it wasn't asked to.
+// Whether the connection closes without a field that asks for it.
 fn closes_by_itself(version: Version, keep: bool) -> bool
     ensures { result ≡ closes_by_itself version keep }
 {

@@ -20,7 +20,7 @@ pub fn replies_are_given_however_the_input_is_cut()
         → (fold web_machine chunks).closed ≡ one_closes (replies_in at_start (joined chunks)) }
 {}
 
-/// In a message one reply is due: to the request that its lines spell. Then the next message is read.
+/// After a message exactly one reply is due: to the request that its lines spell. Then the next message is read.
 pub fn a_message_is_one_request()
     ensures { (first : List ℕ) (fields : List (List ℕ)) (body : List ℕ) (request : Request) (rest : List ℕ) → IsMessage first fields body request
         → replies_in at_start (message first fields body ++ rest) ≡ reply_to request ∷ replies_in at_start rest }

@@ -1,5 +1,5 @@
 //! A web server as a service: HTTP/1.0 and 1.1 over one connection. It makes each answer from the request alone, so that a server that is restarted after
-//! a crash makes the same answer. What it does is its definition in `specs/`, and `take` does just that.
+//! a crash makes the same answer. A definition in `specs/` says what it does, and `take` does exactly that.
 #![tactic(auto)]
 
 pub use answer::{Reply, Status};

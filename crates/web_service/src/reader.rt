@@ -62,7 +62,7 @@ impl Reader {
         }
     }
 
-    /// Reads one byte, and says which reply is due after it.
+    /// Reads one byte, and returns the reply that is due after it, if any.
     #[tactic(auto, unfolding(crate::specs::Reader::line_byte))]
     pub(crate) fn read(&mut self, byte: u8) -> Result<Option<Reply>, NoMemory>
         ensures next { IfOk result (λ _. self.new ≡ (read_byte self.old byte).next) }

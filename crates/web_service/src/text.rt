@@ -28,7 +28,7 @@ fn are_token_bytes(bytes: &[u8]) -> bool
     bytes.iter().all(|byte| is_token_byte(*byte))
 }
 
-/// Whether these bytes are a token, as a name is.
+/// Whether these bytes are a token (RFC 9110, section 5.6.2), as the name of a field is.
 #[tactic(auto, unfolding(crate::specs::Text::is_token))]
 pub(crate) fn is_token(word: &[u8]) -> bool
     ensures { result ≡ is_token word.now }
@@ -56,7 +56,7 @@ fn is_plain_byte(byte: u8) -> bool
     byte == b'\t' || !byte.is_ascii_control()
 }
 
-/// Whether a line has no control character but tabs.
+/// Whether a line has no control character except tabs.
 #[tactic(auto, unfolding(crate::specs::Text::is_plain))]
 pub(crate) fn is_plain(line: &[u8]) -> bool
     ensures { result ≡ is_plain line.now }
@@ -64,7 +64,7 @@ pub(crate) fn is_plain(line: &[u8]) -> bool
     line.iter().all(|byte| is_plain_byte(*byte))
 }
 
-/// The bytes before the first such byte, and the bytes after it. Where there is no such byte, all of them and none.
+/// The bytes before the first `byte`, and the bytes after it. Where there is no such byte, all bytes, and none.
 #[tactic(auto, using(crate::proofs::Texts::place_found, crate::proofs::Texts::place_none))]
 pub(crate) fn split_at_byte(byte: u8, bytes: &[u8]) -> (&[u8], &[u8])
     ensures front { result.0.now ≡ before_first (λ b. b == byte) bytes.now }
@@ -119,7 +119,7 @@ pub(crate) fn is_number(word: &[u8]) -> bool
     are_digits(word) && !word.is_empty()
 }
 
-// A number and one digit more.
+// A number with one more digit.
 fn digit_more(number: u64, byte: u8) -> u64
     requires { number ≤ 10 ^ 18 }
     ensures { result ≡ digit_more number byte }

@@ -124,7 +124,7 @@ impl Service for Web {
     ghost writes_bytes = { λ _. bytes-web };
 }
 
-/// Its states aren't saved: a request that is read in part is kept with its place in the text, and has no form.
+/// Its states aren't saved: no form is defined for a request that is read in part.
 impl Saved for Web {
     ghost use Rattle.std.specs.Prelude.{false};
     ghost use Rattle.server_trait.specs.Saved.{no_form, no_state, unsaved_reads_back, unsaved_one_form};
