@@ -7,7 +7,7 @@ use Rattle.seq_arith.specs.Header.{headed}
 use Rattle.seq_arith.specs.MessageGrammar.{number_bytes}
 use Rattle.seq_arith.specs.MarkGrammar.{kind_number}
 
--- a header without what follows it
+-- a header alone
 unfoldable pub header_of : MarkKind → (len check boot : ℕ) → List ℕ
 header_of kind len check boot = (70 ∷ 86 ∷ 1 ∷ kind_number kind ∷ two len) ++ (two check ++ number_bytes 8 boot)
 

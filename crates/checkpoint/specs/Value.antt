@@ -1,4 +1,4 @@
--- What the code's messages about marks say, as plain values of their grammar.
+-- The code's messages about marks as plain values of their grammar.
 use Rattle.std.specs.Prelude.{Result, Ok, Err}
 use Rattle.seq_arith.specs.declared.mark.BadMark.{BadMark}
 use Rattle.seq_arith.specs.Mark as said
@@ -17,7 +17,7 @@ body_of (body.Held key reads length made state) = bodies.HeldMsg key (record { r
 abbrev pub message_of : MarkMsg → MarkMessage
 message_of msg = record { boot = msg.boot; body = body_of msg.body }
 
--- what a reading says
+-- a result of reading, as a plain value
 abbrev pub seen : Result MarkMsg BadMark → Result MarkMessage BadMark
 seen (Ok msg) = Ok (message_of msg)
 seen (Err bad) = Err bad

@@ -1,5 +1,5 @@
-//! Marks (checkpoints): a service's state at a point of a connection, logged in place of the input that led to it. Here are the messages about them as bytes:
-//! what a string of bytes says, and which refusal it gets, is defined by their grammar in `seq_arith`. Nothing here allocates.
+//! Marks (checkpoints): the state of a service at a point of a connection, logged in place of the input that led to it. This crate reads and writes the
+//! messages about marks. Their grammar in `seq_arith` defines what a string of bytes says, or with which error it is refused. Nothing here allocates.
 #![tactic(auto)]
 
 pub use mark_msg::{MarkBody, MarkMsg};
@@ -11,10 +11,10 @@ mod mark_msg;
 mod reading;
 mod writing;
 
-/// The bytes of every header.
+/// The length of a header, in bytes.
 const HEADER: usize = 16;
 
-/// What every message about marks begins with: "FV". The version follows.
+/// The first two bytes of every message about marks: "FV". The version follows.
 const MAGIC: u16 = 0x4656;
 
 const VERSION: u8 = 1;

@@ -1,4 +1,4 @@
-//! What a message about marks says.
+//! The content of a message about marks.
 
 use ft_io::Key;
 
@@ -11,9 +11,9 @@ pub struct MarkMsg<'a> {
     pub body: MarkBody<'a>,
 }
 
-/// What a message about marks says. A mark is at the point after `reads` reads of a connection, at most 2^24 + 1, which took `length` bytes of its input, and
-/// by which its service had written `made` bytes of output, both at most 2^24. Its state is the form of the service's state there, at most 1,100 bytes, which
-/// stay where they were read from.
+/// The content of a message about marks. A mark is made after `reads` reads of a connection, at most 2^24 + 1. By then they took `length` bytes of its
+/// input, and the service wrote `made` bytes of output; both are at most 2^24. The state is the form of the service's state at that point, at most 1,100
+/// bytes, borrowed from the buffer that was read.
 #[derive(Clone, Copy, Debug)]
 pub enum MarkBody<'a> {
     /// A mark to be logged, of at least one read.
@@ -24,12 +24,12 @@ pub enum MarkBody<'a> {
         made: u32,
         state: &'a [u8],
     },
-    /// After how many reads the logged mark is, as an answer to a mark.
+    /// After how many reads the logged mark was made. It answers a mark.
     Marked {
         key: Key,
         reads: u32,
     },
-    /// Asks for the logged mark.
+    /// A request for the logged mark.
     Ask {
         key: Key,
     },

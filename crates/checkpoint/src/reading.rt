@@ -1,4 +1,4 @@
-//! Reading a message about marks in place: the tests in the grammar's order, and each field at its constant place.
+//! Reading a message about marks in place: the tests in the order of the grammar, and each field at a constant position.
 
 ghost use Rattle.std.specs.Prelude.{◌≡◌, ◌≤◌, ◌+◌, true, length, drop, IfOk};
 ghost use Rattle.seq_arith.specs.MessageGrammar.{number_in};
@@ -16,11 +16,11 @@ use seq_arith::{BadMark, MarkKind};
 /// The longest stream, in bytes.
 const STREAM: u32 = 1 << 24;
 
-/// Reads a message about marks, or says which test of its grammar it fails first. It copies none of its bytes.
+/// Reads a message about marks. The error is the first test of its grammar that it fails. It copies none of the message's bytes.
 #[tactic(auto, unfolding(seq_arith::specs::MarkGrammar::reading))]
 pub fn read_mark(bytes: &[u8]) -> Result<MarkMsg<'_>, BadMark>
     ensures value { seen result ≡ reading bytes.now }
-    // What is read may be sent.
+    // A message that was read may be sent.
     ensures sendable { IfOk result (λ msg. IsSpellable (message_of msg)) }
 {
     if bytes.len() < HEADER {
@@ -38,7 +38,7 @@ pub fn read_mark(bytes: &[u8]) -> Result<MarkMsg<'_>, BadMark>
     }
 }
 
-/// The kind with a number on the wire, if there is one.
+/// Returns the kind with this number on the wire, if there is one.
 #[tactic(auto, unfolding(seq_arith::specs::MarkGrammar::kind_numbered))]
 fn kind_of_number(number: u8) -> Option<MarkKind>
     ensures { result ≡ kind_numbered number }
@@ -52,7 +52,7 @@ fn kind_of_number(number: u8) -> Option<MarkKind>
     }
 }
 
-/// Whether a message of a kind may have `len` bytes.
+/// Returns whether a message of a kind may have `len` bytes.
 #[tactic(auto, unfolding(seq_arith::specs::MarkGrammar::has_length))]
 fn has_length(kind: MarkKind, len: usize) -> bool
     ensures { result ≡ has_length_lem kind len }
@@ -87,7 +87,7 @@ fn read_kind(kind: MarkKind, bytes: &[u8]) -> Result<MarkMsg<'_>, BadMark>
     Ok(msg)
 }
 
-/// What a message of a kind says after its header.
+/// Reads the body of a message of a kind, which follows its header.
 #[tactic(auto, unfolding(seq_arith::specs::MarkGrammar::has_length))]
 fn read_body(kind: MarkKind, bytes: &[u8]) -> MarkBody<'_>
     requires { has_length_lem kind (length bytes.now) ≡ true }
@@ -116,7 +116,7 @@ fn read_body(kind: MarkKind, bytes: &[u8]) -> MarkBody<'_>
     }
 }
 
-/// Whether all that a message says is in its range.
+/// Returns whether all numbers of a message are in their ranges.
 #[tactic(auto, unfolding(seq_arith::specs::MarkGrammar::is_sound))]
 fn is_sound(msg: &MarkMsg<'_>) -> bool
     ensures { result ≡ is_sound_lem (kind_of (body_of msg.now.body)) msg.now.boot (length (behind_of (body_of msg.now.body))) (numbers_of (body_of msg.now.body)) }
@@ -140,7 +140,7 @@ fn is_sound(msg: &MarkMsg<'_>) -> bool
     msg.boot >= 1 && is_body_sound
 }
 
-/// The key, which every kind has first: its address, and then its port.
+/// Reads the key, which every kind has first: its address, and then its port.
 fn key(bytes: &[u8]) -> Key
     requires { 22 ≤ length bytes.now }
     ensures ip { result.ip ≡ number_in 4 (drop 16 bytes.now) }
@@ -176,7 +176,7 @@ fn huge(bytes: &[u8], at: usize) -> u64
     BigEndian::read_u64(&bytes[at..])
 }
 
-/// The bytes from a place on.
+/// Returns the bytes from a position on.
 #[tactic(auto, using(std::proofs::lemmas::List::take_rest))]
 fn behind(bytes: &[u8], at: usize) -> &[u8]
     requires { at ≤ length bytes.now }

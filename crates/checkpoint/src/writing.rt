@@ -1,4 +1,4 @@
-//! Writing a message about marks in its one spelling. The checksum is computed over what will be there, with zero in its own place.
+//! Writing a message about marks in its one spelling. The checksum is computed over the bytes to be written, with zero in its own field.
 
 ghost use Rattle.std.specs.Prelude.{◌≡◌, ◌≤◌, ◌+◌, ◌<◌, ◌^◌, [], ◌∷◌, ◌++◌, length, take, drop, Ok};
 ghost use Rattle.seq_arith.specs.Checksum.{checksum};
@@ -12,10 +12,10 @@ use byteorder::{BigEndian, ByteOrder};
 use ft_io::Key;
 use seq_arith::{MarkKind, Sum16};
 
-/// The bytes of a mark's numbers: its key, its reads, its length and the output made by then. Other kinds have the first of them.
+/// The length in bytes of a mark's numbers: its key, its reads, its length and the output made. Other kinds have a prefix of these.
 const NUMBERS: usize = 18;
 
-/// Writes a message about marks at the beginning of `out`, which has room for 2,048 bytes, and returns how many bytes it has: at most 1,134.
+/// Writes a message about marks at the beginning of `out`, which has room for 2,048 bytes. Returns the length of the message: at most 1,134 bytes.
 pub fn write_mark(m: &MarkMsg<'_>, out: &mut [u8]) -> usize
     requires sendable { IsSpellable (message_of m.now) }
     requires room { 2048 ≤ length out.old }
@@ -28,7 +28,7 @@ pub fn write_mark(m: &MarkMsg<'_>, out: &mut [u8]) -> usize
     put_body(m.boot, &m.body, out)
 }
 
-/// Writes a message with this boot number and body, and returns how many bytes it has.
+/// Writes a message with this boot number and body. Returns the length of the message.
 fn put_body(boot: u64, body: &MarkBody<'_>, out: &mut [u8]) -> usize
     requires short { message_length (body_of body.now) ≤ 1134 }
     requires room { message_length (body_of body.now) ≤ length out.old }
@@ -73,7 +73,7 @@ fn put_body(boot: u64, body: &MarkBody<'_>, out: &mut [u8]) -> usize
     }
 }
 
-/// A mark's numbers.
+/// Returns a mark's numbers as bytes.
 #[tactic(auto, unfolding(seq_arith::specs::MessageGrammar::number_bytes))]
 fn numbers(key: Key, reads: u32, length: u32, made: u32) -> [u8; NUMBERS]
     ensures { result ≡ numbers_bytes marking (key_and key (reads ∷ length ∷ made ∷ [])) }
@@ -87,7 +87,7 @@ fn numbers(key: Key, reads: u32, length: u32, made: u32) -> [u8; NUMBERS]
     numbers
 }
 
-/// Writes a message of a kind with these numbers and this state, and returns how many bytes it has.
+/// Writes a message of a kind with these numbers and this state. Returns the length of the message.
 fn put(kind: MarkKind, boot: u64, numbers: &[u8], state: &[u8], out: &mut [u8]) -> usize
     requires short { 16 + length numbers.now + length state.now < 2 ^ 16 }
     requires room { 16 + length numbers.now + length state.now ≤ length out.old }
@@ -113,7 +113,7 @@ fn put_both(front: &[u8], behind: &[u8], out: &mut [u8])
     rest[..behind.len()].copy_from_slice(behind);
 }
 
-/// The checksum of three strings of bytes, one after the other.
+/// Returns the checksum of three strings of bytes, one after the other.
 fn checksum_of_parts(header: &[u8], numbers: &[u8], state: &[u8]) -> u16
     requires { length header.now + length numbers.now + length state.now < 2 ^ 16 }
     ensures { result ≡ checksum (header.now ++ numbers.now ++ state.now) }
@@ -125,7 +125,7 @@ fn checksum_of_parts(header: &[u8], numbers: &[u8], state: &[u8]) -> u16
     sum.check()
 }
 
-/// The header of a message of a kind with this length, checksum and boot number.
+/// Returns the header of a message of a kind with this length, checksum and boot number.
 #[tactic(auto, unfolding(crate::specs::Spelling::header_of, seq_arith::specs::MessageGrammar::number_bytes, seq_arith::specs::Bytes::two))]
 fn header(kind: MarkKind, len: u16, check: u16, boot: u64) -> [u8; HEADER]
     ensures { result ≡ header_of kind len check boot }
@@ -140,7 +140,7 @@ fn header(kind: MarkKind, len: u16, check: u16, boot: u64) -> [u8; HEADER]
     header
 }
 
-/// A kind's number on the wire.
+/// Returns a kind's number on the wire.
 fn number_of(kind: MarkKind) -> u8
     ensures { result ≡ kind_number kind }
 {

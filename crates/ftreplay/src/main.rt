@@ -1,5 +1,5 @@
-//! `ftreplay`: plays a written schedule and prints every event and packet, or generates a schedule from a seed, plays it and prints a summary. All is done by
-//! `run_ftreplay`; here are the system, the standard input, the standard output and the standard error.
+//! `ftreplay`: plays a written schedule and prints every event and packet; generates a schedule from a seed, plays it and prints a summary; or checks a
+//! report. `run_ftreplay` does everything. Here it gets the system, the standard input, the standard output and the standard error.
 #![tactic(auto)]
 
 use replay_tool::run_ftreplay;

@@ -17,7 +17,7 @@ from_least least (Some n) = if nat_le least n then Some n else None
 unfoldable pub ranged : ℕ → ℕ → List ℕ → Option ℕ
 ranged least most word = from_least least (number_word most word)
 
--- so many words and no more
+-- exactly one word
 abbrev pub one_of : List (List ℕ) → Option (List ℕ)
 one_of (a ∷ []) = Some a
 one_of _ = None
@@ -30,7 +30,7 @@ abbrev pub three_of : List (List ℕ) → Option (List ℕ × List ℕ × List �
 three_of (a ∷ b ∷ c ∷ []) = Some (a, b, c)
 three_of _ = None
 
--- a value of numbers, where each is one
+-- a value made of numbers, if each is one
 abbrev pub with_two : {A : Type 0} → (ℕ → ℕ → A) → Option ℕ → Option ℕ → Option A
 with_two make (Some a) (Some b) = Some (make a b)
 with_two make _ _ = None
@@ -39,7 +39,7 @@ abbrev pub with_three : {A : Type 0} → (ℕ → ℕ → ℕ → A) → Option 
 with_three make (Some a) (Some b) (Some c) = Some (make a b c)
 with_three make _ _ _ = None
 
--- the numbers of events
+-- the numbers of an event
 abbrev pub client_in : List ℕ → Option ℕ
 client_in word = ranged 1 16 word
 
@@ -88,7 +88,7 @@ abbrev pub stop_words : Option (List ℕ) → Option Event
 stop_words (Some part) = option_map events.Stop (ranged 1 2 part)
 stop_words None = None
 
--- an event's first word
+-- the first word of an event
 abbrev pub verb_name : Verb → List ℕ
 verb_name verbs.Boot = codes "boot"
 verb_name verbs.Crash = codes "crash"

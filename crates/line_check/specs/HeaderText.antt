@@ -1,4 +1,4 @@
--- A report's header up to one of its lines. Its text is that of a schedule where the grammar reads that schedule, and the schedule is written so.
+-- A report's header up to one of its lines. A text is that of a schedule if the grammar reads it as that schedule and the schedule is written so.
 use Rattle.std.specs.Prelude.{◌≡◌, ℕ, Bool, ◌-◌, ◌&&◌, not, is_none, Option, Some, None, Result, Ok, Err, codes, List, [], ◌∷◌, ◌++◌, length, take, drop, if◌then◌else◌}
 use Rattle.std.specs.Str.{bytes_eq}
 use Rattle.ft_model.specs.Grammar.{Refusal, read_text}
@@ -10,13 +10,13 @@ use Rattle.ft_model.specs.declared.schedule.ServiceKind.{ServiceKind}
 use Rattle.ft_model.specs.declared.schedule.ServiceKind.TheVariants.{Echo, Line, Transfer, Meter}
 use Rattle.report_laws.specs.Canonical.{HeaderAccepted, schedule_bytes}
 
--- lines of a header, each accepted after those before it, the service's at least
+-- lines of a header, at least the service's, each accepted after those before it
 abbrev pub IsHeaderSoFar : Draft → Type 0
 IsHeaderSoFar Empty = ⊥
 IsHeaderSoFar (Named kind) = Unit {0}
 IsHeaderSoFar (Begun schedule) = HeaderAccepted schedule × (schedule.events ≡ [])
 
--- with the report's first line
+-- .. including the report's first line
 abbrev pub header_so_far : Draft → List ℕ
 header_so_far draft = codes "ftreplay 1\n" ++ schedule_bytes draft
 

@@ -1,4 +1,4 @@
--- The words that are left of a line.
+-- The remaining words of a line.
 use Rattle.std.specs.Prelude.{ℕ, Option, Some, None, List, []}
 use Rattle.std.specs.Borrow.{Bor}
 use Rattle.std.specs.List.{slice_split}

@@ -1,5 +1,5 @@
--- Tests of a packet line's words. Each word is accepted in its one spelling only, and each value in its range only. What the tests mean is said by the report's
--- own spellings: a line passes exactly where it is the line of a packet.
+-- Tests of a packet line's words. Each word is accepted only in its one spelling, and each value only in its range. The report's own spellings define what
+-- the tests mean: a line passes if and only if it is the line of a packet.
 use Rattle.std.specs.Prelude.{ℕ, Bool, true, false, ◌+◌, ◌-◌, ◌*◌, ◌/◌, ◌%◌, ◌^◌, ◌==◌, ◌&&◌, ◌||◌, nat_lt, nat_le, codes, decimal, Option, Some, None, is_some, option_map, List, [], ◌∷◌, length, take, drop, if◌then◌else◌}
 use Rattle.std.specs.List.{list_all, slice_split, starts_with}
 use Rattle.std.specs.Prelude.{nat_eq}
@@ -25,7 +25,7 @@ number_word most word = as_printed (number_of 0 most word) word
 abbrev pub is_number : ℕ → List ℕ → Bool
 is_number most word = is_some (number_word most word)
 
--- Bytes in lower-case hexadecimal, or a dash for none: how many bytes
+-- The number of bytes in lower-case hexadecimal; a dash stands for none
 abbrev pub is_lower_digit : ℕ → Bool
 is_lower_digit c = (nat_le 48 c && nat_le c 57) || (nat_le 97 c && nat_le c 102)
 
@@ -35,7 +35,7 @@ is_hex_word word = nat_lt 0 (length word) && (length word % 2 == 0) && list_all 
 unfoldable pub byte_count : List ℕ → Option ℕ
 byte_count word = if bytes_eq word (codes "-") then Some 0 else (if is_hex_word word then Some (length word / 2) else None)
 
--- Lengths of reads, joined by commas, at most 512 of them: how many
+-- The number of lengths of reads, joined by commas: at most 512
 unfoldable pub lens_count : List ℕ → Option ℕ
 lens_count word =
     if list_all (is_number 2048) (slice_split (is 44) word) && nat_le (length (slice_split (is 44) word)) 512 then Some (length (slice_split (is 44) word)) else None
@@ -52,7 +52,7 @@ are_address _ = false
 unfoldable pub is_address : List ℕ → Bool
 is_address word = are_address (slice_split (is 58) word)
 
--- The letters of flags in their order, or a dash for none
+-- The letters of flags in their order; a dash stands for none
 abbrev pub without : ℕ → List ℕ → List ℕ
 without letter [] = []
 without letter (c ∷ more) = if c == letter then more else c ∷ more
@@ -67,7 +67,7 @@ are_letters word = length (without_all (codes "CEUAPRSF") word) == 0
 unfoldable pub are_flags : List ℕ → Bool
 are_flags word = bytes_eq word (codes "-") || (nat_lt 0 (length word) && are_letters word)
 
--- The maximum segment size, or a dash for none: how many bytes the option takes
+-- The size in bytes of the MSS option: a maximum segment size, or a dash for no option
 unfoldable pub option_size : List ℕ → Option ℕ
 option_size word = if bytes_eq word (codes "-") then Some 0 else (if is_number 65535 word then Some 4 else None)
 
@@ -199,7 +199,7 @@ columns_of kinds.Ended = KeyColumn ∷ []
 columns_of kinds.Stale = NumberColumn (codes "newer") fields.Newer ∷ []
 columns_of kinds.Full = KeyColumn ∷ []
 
--- how many bytes follow a message's fields, told by the words after them
+-- how many bytes follow a message's fields, according to the words after them
 abbrev pub counted : (List ℕ → Option ℕ) → Option (List ℕ) → Option ℕ
 counted count (Some word) = count word
 counted count None = None
@@ -237,7 +237,7 @@ direction_of word =
     else (if ends_with (codes ">S") word then option_map FromClient (number_word (2 ^ 64 - 1) (take (length word - 2) word))
     else None))
 
--- the content of a packet in this direction, where there are so many clients
+-- the content of a packet in this direction, if there are so many clients
 abbrev pub is_client : (clients n : ℕ) → Bool
 is_client clients n = nat_le 1 n && nat_le n clients
 

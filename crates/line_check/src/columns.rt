@@ -11,7 +11,7 @@ use crate::values::{is_address, number_word};
 use crate::words::{Words, named};
 use seq_arith::Field;
 
-/// The most bytes of a stream.
+/// The largest size of a stream, in bytes.
 const STREAM_LIMIT: u64 = 1 << 24;
 
 /// What the range of a field depends on: the boot number of its message, and how many bytes follow the message's fields.
@@ -21,7 +21,7 @@ pub(crate) struct Limits {
     pub(crate) behind: u64,
 }
 
-/// The largest number that fits a field's bytes.
+/// Returns the largest number that fits a field's bytes.
 fn most_of(field: Field) -> u64
     ensures { result ≡ spelled.most_of field }
 {
@@ -33,7 +33,7 @@ fn most_of(field: Field) -> u64
     }
 }
 
-/// Whether an offset and the bytes after it are within a stream.
+/// Returns whether an offset and the bytes after it are within a stream.
 fn is_offset(limits: Limits, n: u64) -> bool
     ensures { result ≡ is_in_range limits.boot limits.behind fields.Offset n }
 {
@@ -43,7 +43,7 @@ fn is_offset(limits: Limits, n: u64) -> bool
     limits.behind <= STREAM_LIMIT - n
 }
 
-/// Whether a number is in the range of its field.
+/// Returns whether a number is in the range of its field.
 fn in_range(limits: Limits, field: Field, n: u64) -> bool
     ensures { result ≡ is_in_range limits.boot limits.behind field n }
 {
@@ -61,7 +61,7 @@ fn in_range(limits: Limits, field: Field, n: u64) -> bool
     }
 }
 
-/// Takes a number by its name, and says whether it fits its field.
+/// Takes a number by its name. Returns whether it fits its field.
 pub(crate) fn number_fits(limits: Limits, field: Field, name: &[u8], words: &mut Words<'_>) -> bool
     ensures value { result ≡ spelled.column_fits limits.boot limits.behind (NumberColumn name.now field) (words_left words.old.rest) }
     ensures rest { words_left words.new.rest ≡ drop 2 (words_left words.old.rest) }
@@ -75,7 +75,7 @@ pub(crate) fn number_fits(limits: Limits, field: Field, name: &[u8], words: &mut
     }
 }
 
-/// Takes a key by its name, and says whether it is spelled as one.
+/// Takes a key by its name. Returns whether it is spelled as a key.
 pub(crate) fn key_fits(words: &mut Words<'_>) -> bool
     ensures value { result ≡ spelled.key_fits (spelled.named (codes "key") (words_left words.old.rest)) }
     ensures rest { words_left words.new.rest ≡ drop 2 (words_left words.old.rest) }

@@ -1,6 +1,6 @@
 //! The direction of a packet, as its line names it.
 
-/// Between which parties a packet goes. Clients are numbered from 1.
+/// The sender and the receiver of a packet. Clients are numbered from 1.
 #[derive(Clone, Copy)]
 pub(crate) enum Direction {
     FromClient(u64),

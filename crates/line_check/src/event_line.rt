@@ -17,13 +17,13 @@ use crate::words::{Words, before_feed, next_word, words_of};
 use ft_model::Event;
 use itoa::Buffer;
 
-/// The most bytes of a schedule's own text, with its last line feed.
+/// The largest size in bytes of a schedule's own text, with its last line feed.
 const TEXT_LIMIT: usize = 8_388_609;
 
-/// The bytes of `event` and of the spaces around the number after it.
+/// The number of bytes of `event` and of the spaces around the number after it.
 const EVENT_BYTES: usize = 7;
 
-/// The event of a line of these words.
+/// Returns the event of a line with these words, if its number is `n`.
 #[tactic(auto, unfolding(crate::specs::EventWords::event_in_words))]
 fn event_in_words(n: u32, words: Words<'_>) -> Option<Event>
     ensures { result ≡ spelled.event_in_words n (words_left words.entry.rest) }
@@ -38,7 +38,7 @@ fn event_in_words(n: u32, words: Words<'_>) -> Option<Event>
     }
 }
 
-/// The event whose line, with number `n`, a text is.
+/// Returns the event if a text is the line of an event with number `n`.
 #[tactic(auto, unfolding(crate::specs::EventWords::event_in_text))]
 fn event_in_text(n: u32, line: &[u8]) -> Option<Event>
     ensures { result ≡ spelled.event_in_text n line.now }
@@ -46,7 +46,7 @@ fn event_in_text(n: u32, line: &[u8]) -> Option<Event>
     event_in_words(n, words_of(before_feed(line)?))
 }
 
-/// How many digits a number has.
+/// Returns how many decimal digits a number has.
 fn digit_count(n: u32) -> usize
     ensures value { result ≡ length (decimal n) }
     ensures most { result ≤ 20 }
@@ -55,7 +55,7 @@ fn digit_count(n: u32) -> usize
     buffer.format(n).len()
 }
 
-/// The size of a schedule's own text with the event of a line.
+/// Returns the size of a schedule's own text with the event of a line added.
 fn size_with(size: usize, n: u32, line: &[u8]) -> usize
     requires { size ≤ 8388609 }
     ensures { result ≡ (size + length line.now) - (7 + length (decimal n)) }
@@ -63,8 +63,8 @@ fn size_with(size: usize, n: u32, line: &[u8]) -> usize
     (size + line.len()).saturating_sub(EVENT_BYTES + digit_count(n))
 }
 
-/// The event whose line, with number `n`, a text is, after the lines of a schedule whose own text has `size` bytes; and the size of the schedule's text with it.
-/// Nothing where the text is the line of no event, or where the schedule's text would pass its limit.
+/// Returns the event if a text is the line of an event with number `n`, and the size of the schedule's own text with it; `size` is that before it. Returns
+/// `None` if the text is the line of no event, or if the schedule's text would exceed its limit.
 #[tactic(auto, using(crate::proofs::EventLines::event_line_too_long))]
 pub fn read_event_line(size: usize, n: u32, line: &[u8]) -> Option<(Event, usize)>
     requires { size ≤ 8388609 }

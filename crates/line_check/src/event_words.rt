@@ -12,7 +12,7 @@ use ft_model::{Event, Verb};
 /// The largest number of 32 bits.
 const LONG_MOST: u64 = 0xFFFF_FFFF;
 
-/// The number that a word spells, from a least one to a largest one.
+/// Returns the number that a word spells, if it is from `least` to `most`.
 #[tactic(auto, unfolding(crate::specs::EventWords::ranged))]
 fn ranged(least: u64, most: u64, word: &[u8]) -> Option<u64>
     ensures value { result ≡ spelled.ranged least most word.now }
@@ -46,7 +46,7 @@ fn packet_in(word: &[u8]) -> Option<u32>
     Some(ranged(1, LONG_MOST, word)? as u32)
 }
 
-/// The only word.
+/// Returns the word, if there is only one.
 fn one_of<'a>(words: Words<'a>) -> Option<&'a [u8]>
     ensures { MatchOption result (spelled.one_of (words_left words.entry.rest) ≡ None) (λ word. spelled.one_of (words_left words.entry.rest) ≡ Some word.now) }
 {
@@ -58,7 +58,7 @@ fn one_of<'a>(words: Words<'a>) -> Option<&'a [u8]>
     Some(word)
 }
 
-/// The only two words.
+/// Returns the words, if there are only two.
 fn two_of<'a>(words: Words<'a>) -> Option<(&'a [u8], &'a [u8])>
     ensures { MatchOption result (spelled.two_of (words_left words.entry.rest) ≡ None) (λ pair. spelled.two_of (words_left words.entry.rest) ≡ Some (pair.0.now, pair.1.now)) }
 {
@@ -71,7 +71,7 @@ fn two_of<'a>(words: Words<'a>) -> Option<(&'a [u8], &'a [u8])>
     Some((first, second))
 }
 
-/// The only three words.
+/// Returns the words, if there are only three.
 fn three_of<'a>(words: Words<'a>) -> Option<(&'a [u8], &'a [u8], &'a [u8])>
     ensures { MatchOption result (spelled.three_of (words_left words.entry.rest) ≡ None)
         (λ three. spelled.three_of (words_left words.entry.rest) ≡ Some (three.0.now, three.1.now, three.2.now)) }
@@ -82,7 +82,7 @@ fn three_of<'a>(words: Words<'a>) -> Option<(&'a [u8], &'a [u8], &'a [u8])>
     Some((first, second, third))
 }
 
-/// An event without numbers.
+/// Returns an event without numbers, if there are no more words.
 fn bare(event: Event, words: Words<'_>) -> Option<Event>
     ensures { result ≡ spelled.bare event (words_left words.entry.rest) }
 {
@@ -167,7 +167,7 @@ fn stop_of(words: Words<'_>) -> Option<Event>
     Some(Event::Stop { part })
 }
 
-/// The verb that a word is.
+/// Returns the verb that a word names.
 #[tactic(auto, unfolding(crate::specs::EventWords::verb_named))]
 fn verb_named(word: &[u8]) -> Option<Verb>
     ensures { result ≡ spelled.verb_named word.now }
@@ -199,7 +199,7 @@ fn verb_named(word: &[u8]) -> Option<Verb>
     }
 }
 
-/// The event of a verb and the words after it.
+/// Returns the event of a verb and the words after it.
 fn event_for(verb: Option<Verb>, words: Words<'_>) -> Option<Event>
     ensures { result ≡ spelled.event_for verb (words_left words.entry.rest) }
 {
@@ -219,7 +219,7 @@ fn event_for(verb: Option<Verb>, words: Words<'_>) -> Option<Event>
     }
 }
 
-/// The event of these words, if each is in its one spelling.
+/// Returns the event of these words, if each is in its one spelling.
 pub(crate) fn event_of_words(words: Words<'_>) -> Option<Event>
     ensures { result ≡ spelled.event_of_words (words_left words.entry.rest) }
 {

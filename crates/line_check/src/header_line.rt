@@ -15,13 +15,13 @@ use ft_model::ServiceKind;
 use schedule_text::{Schedule, ScheduleEnd, read_schedule, write_header};
 use std::alloc::Global;
 
-/// The bytes of a report's first line.
+/// The length of a report's first line, in bytes.
 const NAME_BYTES: usize = 11;
 
-/// The fewest bytes of a report's header up to the service's line.
+/// The smallest length in bytes of a report's header up to the service's line.
 const START_BYTES: usize = 12;
 
-/// The service whose line a text is.
+/// Returns the service, if a text is the line of one.
 #[tactic(auto, using(crate::proofs::HeaderLines::service_given))]
 pub fn read_service_line(line: &[u8]) -> Option<ServiceKind>
     ensures { MatchOption result (HeaderLine Empty line.now (Rejects law.Text)) (λ kind. HeaderLine Empty line.now (Continues (InHeader (Named kind)))) }
@@ -45,7 +45,7 @@ fn service_in(line: &[u8]) -> Option<ServiceKind>
     }
 }
 
-/// Whether a text is the header of a schedule with one logger and without marks.
+/// Returns whether a text is the header of a schedule with one logger and without marks.
 fn is_header_of(alloc: Global, schedule: &Schedule, text: &[u8]) -> Result<bool, NoMemory>
     ensures { IfOk result (λ same. same ≡ spelled.is_header_of schedule.now text.now) }
 {
@@ -57,7 +57,7 @@ fn is_header_of(alloc: Global, schedule: &Schedule, text: &[u8]) -> Result<bool,
     Ok(header.as_slice() == text)
 }
 
-/// The schedule whose header a text is.
+/// Returns the schedule, if a text is the header of one.
 fn header_in(alloc: Global, text: &[u8]) -> Result<Option<Schedule>, NoMemory>
     requires { 12 ≤ length text.now }
     ensures { IfOk result (λ schedule. schedule ≡ spelled.header_in text.now) }
@@ -88,8 +88,8 @@ fn is_plain_text(text: &[u8]) -> bool
     text.iter().all(|byte| is_plain(*byte))
 }
 
-/// Reads the line of the server or of a client, which follows the first `start` bytes of a report's text and is the last of this text. Returns the schedule of
-/// the header with it. Returns nothing where no such line may follow.
+/// Reads the line of the server or of a client. It follows the first `start` bytes of a report's text, and is the last line of this text. Returns the
+/// schedule of the header with this line, or `None` if no such line may follow.
 #[tactic(auto, using(crate::proofs::HeaderLines::short_line_stops, crate::proofs::HeaderLines::unprintable_line_stops, crate::proofs::HeaderLines::header_given))]
 pub fn read_header_line(
     alloc: Global,

@@ -15,13 +15,13 @@ use crate::values::{is_numbered, number_word};
 use crate::words::{Words, before_feed, next_word, words_of};
 use schedule_text::Schedule;
 
-/// The most packets of a report.
+/// The largest number of packets in a report.
 pub const PACKET_LIMIT: u32 = 200_000;
 
-/// The bytes of `>S`.
+/// The length of `>S`, in bytes.
 const TO_SERVER_BYTES: usize = 2;
 
-/// The direction that a word names.
+/// Returns the direction that a word names.
 #[tactic(auto, unfolding(crate::specs::Words::direction_of))]
 fn direction_of(word: &[u8]) -> Option<Direction>
     ensures { result ≡ spelled.direction_of word.now }
@@ -39,14 +39,14 @@ fn direction_of(word: &[u8]) -> Option<Direction>
     Some(Direction::FromClient(number_word(u64::MAX, front)?))
 }
 
-/// Whether there is a client of this number.
+/// Returns whether there is a client with this number.
 fn is_client(clients: usize, n: u64) -> bool
     ensures { result ≡ spelled.is_client clients n }
 {
     1 <= n && n <= clients as u64
 }
 
-/// Whether these are the words of a packet in this direction.
+/// Returns whether these are the words of a packet in this direction.
 fn content_fits(clients: usize, direction: Option<Direction>, words: Words<'_>) -> bool
     ensures { result ≡ spelled.content_fits clients direction (words_left words.entry.rest) }
 {
@@ -58,7 +58,7 @@ fn content_fits(clients: usize, direction: Option<Direction>, words: Words<'_>) 
     }
 }
 
-/// Whether these are the words of a packet's line.
+/// Returns whether these are the words of a packet's line.
 #[tactic(auto, unfolding(crate::specs::Words::packet_words_fit))]
 fn packet_words_fit(clients: usize, n: u32, words: Words<'_>) -> bool
     ensures { result ≡ spelled.packet_words_fit clients n (words_left words.entry.rest) }
@@ -79,7 +79,7 @@ fn packet_words_fit(clients: usize, n: u32, words: Words<'_>) -> bool
     is_numbered(n, number) && content_fits(clients, direction_of(direction), words)
 }
 
-/// Whether a text passes the tests of a packet's line.
+/// Returns whether a text passes the tests of a packet's line.
 #[tactic(auto, unfolding(crate::specs::Words::is_packet_text))]
 fn is_packet_text(clients: usize, n: u32, line: &[u8]) -> bool
     ensures { result ≡ spelled.is_packet_text clients n line.now }
@@ -90,15 +90,15 @@ fn is_packet_text(clients: usize, n: u32, line: &[u8]) -> bool
     }
 }
 
-/// .. and the packet's number is within the limit.
+/// Returns whether a text passes these tests, and the packet's number is within the limit.
 fn passes(clients: usize, n: u32, line: &[u8]) -> bool
     ensures { result ≡ (nat_le n 200000 && spelled.is_packet_text clients n line.now) }
 {
     n <= PACKET_LIMIT && is_packet_text(clients, n, line)
 }
 
-/// Whether a line, with its line feed, is that of packet `n`: a segment between the server and a client of the schedule, or a message between the server and
-/// the logger, in a report's one spelling.
+/// Returns whether a line, with its line feed, is that of packet `n`, in the one spelling of a report. The packet is a segment between the server and a
+/// client of the schedule, or a message between the server and the logger.
 #[tactic(auto, using(crate::proofs::PacketLines::line_iff))]
 pub fn is_packet_line(schedule: &Schedule, n: u32, line: &[u8]) -> bool
     requires fits { FitsSchedule schedule.now }

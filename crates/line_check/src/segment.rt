@@ -1,4 +1,4 @@
-//! The words of a segment: its flags, its numbers, its option and its payload.
+//! The words of a segment: its flags, its numbers, its MSS option and its payload.
 
 ghost use Rattle.std.specs.Prelude.{◌≡◌, [], ◌∷◌, codes, length};
 ghost use Rattle.line_check.specs.Left.{words_left};
@@ -9,13 +9,13 @@ use crate::values::{are_flags, byte_count, option_size};
 use crate::words::{Words, last_named, named, next_word};
 use seq_arith::Field;
 
-/// The most bytes of a packet.
+/// The largest size of a packet, in bytes.
 const PACKET_LIMIT: usize = 1_500;
 
-/// The bytes of a packet's two headers.
+/// The size of a packet's two headers, in bytes.
 const HEADER_BYTES: usize = 40;
 
-/// Whether an option and a payload of these sizes fit a packet.
+/// Returns whether a packet has room for an option and a payload of these sizes.
 fn sizes_fit(option: Option<usize>, payload: Option<usize>) -> bool
     ensures { result ≡ spelled.sizes_fit option payload }
 {
@@ -31,7 +31,7 @@ fn sizes_fit(option: Option<usize>, payload: Option<usize>) -> bool
     payload <= PACKET_LIMIT - HEADER_BYTES - option
 }
 
-/// Whether these are the last words of a segment: its option and its payload.
+/// Returns whether these are the last words of a segment: its option and its payload, with sizes that fit a packet.
 fn text_fits(words: Words<'_>) -> bool
     ensures { result ≡ spelled.text_fits (words_left words.entry.rest) }
 {
@@ -45,7 +45,7 @@ fn text_fits(words: Words<'_>) -> bool
     sizes_fit(option_size(size), byte_count(bytes))
 }
 
-/// Whether these are the words of a segment.
+/// Returns whether these are the words of a segment.
 #[tactic(auto, using(crate::proofs::Taken::dropped_six), unfolding(crate::specs::Words::is_segment))]
 pub(crate) fn is_segment(words: Words<'_>) -> bool
     ensures { result ≡ spelled.is_segment (words_left words.entry.rest) }

@@ -9,16 +9,16 @@ use crate::words::{last_piece, next_piece};
 use itoa::Buffer;
 use schedule_text::read_number;
 
-/// The most bytes of a read.
+/// The largest length of a read, in bytes.
 const READ_LIMIT: u64 = 2_048;
 
-/// The most lengths of a message.
+/// The largest number of lengths in a message.
 const LENS_LIMIT: usize = 512;
 
-/// The bytes of the MSS option.
+/// The length of the MSS option, in bytes.
 const OPTION_BYTES: usize = 4;
 
-/// The number that a word spells, up to a largest one.
+/// Returns the number that a word spells, if it is at most `most`.
 #[tactic(auto, unfolding(crate::specs::Words::number_word))]
 pub(crate) fn number_word(most: u64, word: &[u8]) -> Option<u64>
     ensures value { result ≡ spelled.number_word most word.now }
@@ -33,14 +33,14 @@ pub(crate) fn number_word(most: u64, word: &[u8]) -> Option<u64>
     }
 }
 
-/// Whether a word spells a number up to a largest one.
+/// Returns whether a word spells a number that is at most `most`.
 pub(crate) fn is_number(most: u64, word: &[u8]) -> bool
     ensures { result ≡ spelled.is_number most word.now }
 {
     number_word(most, word).is_some()
 }
 
-/// Whether a word spells this number.
+/// Returns whether a word spells this number.
 pub(crate) fn is_numbered(n: u32, word: &[u8]) -> bool
     ensures { result ≡ spelled.is_numbered n (spelled.number_word (2 ^ 32 - 1) word.now) }
 {
@@ -62,7 +62,7 @@ fn all_lower_digits(word: &[u8]) -> bool
     word.iter().all(|byte| is_lower_digit(*byte))
 }
 
-/// Whether a word is pairs of hexadecimal digits.
+/// Returns whether a word consists of pairs of hexadecimal digits.
 #[tactic(auto, unfolding(crate::specs::Words::is_hex_word))]
 fn is_hex_word(word: &[u8]) -> bool
     ensures { result ≡ spelled.is_hex_word word.now }
@@ -76,7 +76,7 @@ fn is_hex_word(word: &[u8]) -> bool
     all_lower_digits(word)
 }
 
-/// How many bytes a word spells in hexadecimal.
+/// Returns how many bytes a word spells in hexadecimal.
 #[tactic(auto, unfolding(crate::specs::Words::byte_count))]
 pub(crate) fn byte_count(word: &[u8]) -> Option<usize>
     ensures value { result ≡ spelled.byte_count word.now }
@@ -92,7 +92,7 @@ pub(crate) fn byte_count(word: &[u8]) -> Option<usize>
     }
 }
 
-/// Whether a word spells lengths of reads, joined by commas.
+/// Returns whether a word spells lengths of reads, joined by commas.
 fn are_lengths(word: &[u8]) -> bool
     ensures { result ≡ list_all (spelled.is_number 2048) (slice_split (is 44) word.now) }
 {
@@ -106,7 +106,7 @@ fn are_lengths(word: &[u8]) -> bool
     is_number(READ_LIMIT, rest)
 }
 
-/// How many pieces commas cut a word into.
+/// Returns into how many pieces commas cut a word.
 fn count_pieces(word: &[u8]) -> usize
     ensures value { result ≡ length (slice_split (is 44) word.now) }
     ensures most { result ≤ length word.now + 1 }
@@ -120,7 +120,7 @@ fn count_pieces(word: &[u8]) -> usize
     count
 }
 
-/// How many lengths of reads a word spells, if a message has room for them.
+/// Returns how many lengths of reads a word spells, if a message has room for them.
 #[tactic(auto, unfolding(crate::specs::Words::lens_count))]
 pub(crate) fn lens_count(word: &[u8]) -> Option<usize>
     ensures value { result ≡ spelled.lens_count word.now }
@@ -137,7 +137,7 @@ pub(crate) fn lens_count(word: &[u8]) -> Option<usize>
     }
 }
 
-/// Whether a text is four octets between dots.
+/// Returns whether a text consists of four octets separated by dots.
 fn are_octets(host: &[u8]) -> bool
     ensures { result ≡ spelled.are_octets (slice_split (is 46) host.now) }
 {
@@ -159,7 +159,7 @@ fn are_octets(host: &[u8]) -> bool
         && is_number(255, fourth)
 }
 
-/// Whether a word spells an address with a port.
+/// Returns whether a word spells an address with a port.
 #[tactic(auto, unfolding(crate::specs::Words::is_address))]
 pub(crate) fn is_address(word: &[u8]) -> bool
     ensures { result ≡ spelled.is_address word.now }
@@ -173,7 +173,7 @@ pub(crate) fn is_address(word: &[u8]) -> bool
     are_octets(host) && is_number(65_535, port)
 }
 
-/// A text without its first letter, if it is this one.
+/// Returns a text without its first letter, if that is this one, and otherwise the whole text.
 fn without(letter: u8, word: &[u8]) -> &[u8]
     ensures { result.now ≡ spelled.without letter word.now }
 {
@@ -183,7 +183,7 @@ fn without(letter: u8, word: &[u8]) -> &[u8]
     if *first == letter { rest } else { word }
 }
 
-/// Whether a text is letters of flags in their order.
+/// Returns whether a text consists of letters of flags in their order.
 #[tactic(auto, unfolding(crate::specs::Words::are_letters))]
 fn are_letters(word: &[u8]) -> bool
     ensures { result ≡ spelled.are_letters word.now }
@@ -193,7 +193,7 @@ fn are_letters(word: &[u8]) -> bool
     rest.is_empty()
 }
 
-/// Whether a word spells flags.
+/// Returns whether a word spells flags.
 #[tactic(auto, unfolding(crate::specs::Words::are_flags))]
 pub(crate) fn are_flags(word: &[u8]) -> bool
     ensures { result ≡ spelled.are_flags word.now }
@@ -207,7 +207,7 @@ pub(crate) fn are_flags(word: &[u8]) -> bool
     are_letters(word)
 }
 
-/// How many bytes the MSS option takes that a word spells.
+/// Returns the size in bytes of the MSS option that a word spells: 0 for none.
 #[tactic(auto, unfolding(crate::specs::Words::option_size))]
 pub(crate) fn option_size(word: &[u8]) -> Option<usize>
     ensures value { result ≡ spelled.option_size word.now }

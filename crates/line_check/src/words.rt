@@ -1,4 +1,4 @@
-//! The words of a line, one after another. Each is followed by one space, and the last by nothing.
+//! The words of a line, one after another, separated by single spaces.
 
 ghost use Rattle.std.specs.Prelude.{◌≡◌, ℕ, ◌<◌, ◌≤◌, ◌-◌, true, false, None, Some, List, [], ◌∷◌, drop, take, length, IfSome, MatchOption};
 ghost use Rattle.std.specs.List.{position, position_or_len, slice_split};
@@ -6,20 +6,20 @@ ghost use Rattle.ft_model.specs.Words.{is};
 ghost use Rattle.line_check.specs.Words.{ends_with_feed, last_named as last_named_in, named as named_in};
 ghost use Rattle.line_check.specs.Left.{words_left};
 
-/// The words that aren't read yet: those of this text, or none.
+/// The words not read yet: those of this text, or none.
 #[derive(Clone, Copy)]
 pub(crate) struct Words<'a> {
     rest: Option<&'a [u8]>,
 }
 
-/// The first place of a byte.
+/// Returns the index of the first occurrence of a byte.
 fn find(bytes: &[u8], mark: u8) -> Option<usize>
     ensures { result ≡ position (is mark) bytes.now }
 {
     bytes.iter().position(|byte| *byte == mark)
 }
 
-/// The first place of a byte, or the length where there is none.
+/// Returns the index of the first occurrence of a byte, or the length if there is none.
 #[tactic(auto, using(schedule_text::proofs::Pieces::position_or_length))]
 fn position_of(bytes: &[u8], mark: u8) -> usize
     ensures value { result ≡ position_or_len (is mark) bytes.now }
@@ -28,7 +28,7 @@ fn position_of(bytes: &[u8], mark: u8) -> usize
     find(bytes, mark).unwrap_or(bytes.len())
 }
 
-/// The piece before a mark and what follows the mark, or nothing where there is no mark.
+/// Returns the piece before the first `mark` and what follows the mark, or `None` if there is no mark.
 #[tactic(auto, using(schedule_text::proofs::Pieces::slice_split_whole, schedule_text::proofs::Pieces::slice_split_at_mark, std::proofs::lemmas::List::take_rest))]
 pub(crate) fn next_piece(bytes: &[u8], mark: u8) -> Option<(&[u8], &[u8])>
     ensures pieces { MatchOption result (slice_split (is mark) bytes.now ≡ bytes.now ∷ [])
@@ -42,7 +42,7 @@ pub(crate) fn next_piece(bytes: &[u8], mark: u8) -> Option<(&[u8], &[u8])>
     Some((&bytes[..end], &bytes[end + 1..]))
 }
 
-/// All bytes, if there is no mark among them.
+/// Returns all bytes, if there is no mark among them.
 #[tactic(auto, using(schedule_text::proofs::Pieces::two_pieces))]
 pub(crate) fn last_piece(bytes: &[u8], mark: u8) -> Option<&[u8]>
     ensures { MatchOption result
@@ -55,7 +55,7 @@ pub(crate) fn last_piece(bytes: &[u8], mark: u8) -> Option<&[u8]>
     }
 }
 
-/// What follows so many words of a text, or nothing where it has no more.
+/// Returns what follows the first `count` words of a text, or `None` if it has no more words.
 #[tactic(auto, using(crate::proofs::Taken::one_less, crate::proofs::Taken::none_after_one))]
 fn skip_words(count: usize, text: &[u8]) -> Option<&[u8]>
     ensures { MatchOption result (drop count (slice_split (is 32) text.now) ≡ []) (λ rest. drop count (slice_split (is 32) text.now) ≡ slice_split (is 32) rest.now) }
@@ -70,7 +70,7 @@ fn skip_words(count: usize, text: &[u8]) -> Option<&[u8]>
     Some(rest)
 }
 
-/// The words after so many.
+/// Returns the words after the first `count`.
 pub(crate) fn skip<'a>(count: usize, words: Words<'a>) -> Words<'a>
     ensures { words_left result.rest ≡ drop count (words_left words.entry.rest) }
 {
@@ -82,7 +82,7 @@ pub(crate) fn skip<'a>(count: usize, words: Words<'a>) -> Words<'a>
     }
 }
 
-/// A line without its line feed, or nothing where it doesn't end with one.
+/// Returns a line without its line feed, or `None` if it doesn't end with one.
 pub(crate) fn before_feed(line: &[u8]) -> Option<&[u8]>
     ensures { MatchOption result (ends_with_feed line.now ≡ false) (λ front. (ends_with_feed line.now ≡ true) × (front.now ≡ take (length line.now - 1) line.now)) }
 {
@@ -97,7 +97,7 @@ pub(crate) fn before_feed(line: &[u8]) -> Option<&[u8]>
     }
 }
 
-/// The words of a line without its line feed.
+/// Returns the words of a line that has no line feed.
 pub(crate) fn words_of(line: &[u8]) -> Words<'_>
     ensures { words_left result.rest ≡ slice_split (is 32) line.now }
 {
@@ -122,7 +122,7 @@ pub(crate) fn next_word<'a>(words: &mut Words<'a>) -> Option<&'a [u8]>
     }
 }
 
-/// Takes a name and the word after it, which is returned if the name is this one.
+/// Takes a name and the word after it. Returns the word if the name is this one.
 #[tactic(auto, using(crate::proofs::Taken::dropped))]
 pub(crate) fn named<'a>(name: &[u8], words: &mut Words<'a>) -> Option<&'a [u8]>
     ensures word { MatchOption result (named_in name.now (words_left words.old.rest) ≡ None) (λ word. named_in name.now (words_left words.old.rest) ≡ Some word.now) }
@@ -133,7 +133,7 @@ pub(crate) fn named<'a>(name: &[u8], words: &mut Words<'a>) -> Option<&'a [u8]>
     if label == name { Some(word) } else { None }
 }
 
-/// The last of two words, if the first one is this name.
+/// Returns the last of two words, if the first one is this name.
 pub(crate) fn last_named<'a>(name: &[u8], words: Words<'a>) -> Option<&'a [u8]>
     ensures { MatchOption result (last_named_in name.now (words_left words.entry.rest) ≡ None) (λ word. last_named_in name.now (words_left words.entry.rest) ≡ Some word.now) }
 {

@@ -1,4 +1,4 @@
--- How the code reads a message, each field at its constant place. The grammar walks over the fields. It is proved that both say the same.
+-- How the code reads a message: each field at a constant position. The grammar walks over the fields instead. Both are proved to say the same.
 use Rattle.std.specs.Prelude.{ℕ, Bool, not, List, [], ◌∷◌, length, drop, ◌+◌, ◌%◌, ◌==◌, ◌&&◌, ◌||◌, ◌≡◌, true, nat_le, Result, Ok, Err, if◌then◌else◌}
 use Rattle.std.specs.List.{list_all}
 use Rattle.seq_arith.specs.declared.kinds.BadMsg.{BadMsg}
@@ -12,26 +12,26 @@ use Rattle.logger_wire.specs.declared.Body.{Body as Said}
 use Rattle.logger_wire.specs.Value.{flags_of, left_over}
 use Rattle.seq_arith.specs.MessageGrammar.{number_in, width, fields_of, fewest_behind, most_behind, behind_at, is_lens, all_in_range, lens_of, body_in}
 
--- the number in `width` bytes at a place
+-- the number in the `width` bytes at a position
 unfoldable pub number_at : (width at : ℕ) → List ℕ → ℕ
 number_at width at bytes = number_in width (drop at bytes)
 
--- the numbers of fields that follow one another from a place on
+-- the numbers of consecutive fields from a position on
 abbrev pub numbers_at : List Field → (at : ℕ) → List ℕ → List ℕ
 numbers_at [] at bytes = []
 numbers_at (field ∷ rest) at bytes = number_at (width field) at bytes ∷ numbers_at rest (at + width field) bytes
 
--- what is read, where it is in its range
+-- the value that was read, if it is in its range
 abbrev pub checked : {X : Type 0} → Bool → X → Result X BadMsg
 checked is_good read = if is_good then Ok read else Err bad.Field
 
--- the boot number of a message that has its length, within these bounds, and its checksum
+-- the boot number of a message, if its length is within these bounds and as it says, and its checksum is right
 unfoldable pub opened : (least most : ℕ) → List ℕ → Result ℕ BadMsg
 opened least most bytes =
     if not (word_at bytes 4 == length bytes) || not (nat_le least (length bytes) && nat_le (length bytes) most) then Err bad.Length
     else (if not (checksum bytes == 0) then Err bad.Sum else checked (nat_le 1 (number_at 8 8 bytes)) (number_at 8 8 bytes))
 
--- the body of a kind
+-- the body of a message of this kind
 abbrev pub body_at : Kind → (boot : ℕ) → List ℕ → Result Body BadMsg
 body_at kind boot bytes =
     let numbers = numbers_at (fields_of kind) 16 bytes
@@ -47,12 +47,12 @@ abbrev pub with_boot : Result ℕ BadMsg → (ℕ → Result Body BadMsg) → Re
 with_boot (Ok boot) body = with_body boot (body boot)
 with_boot (Err bad) body = Err bad
 
--- a message of a kind
+-- a message of this kind
 abbrev pub placed : Kind → List ℕ → Result Message BadMsg
 placed kind bytes =
     if is_lens kind && not (length bytes % 2 == 0) then Err bad.Length
     else with_boot (opened (behind_at kind + fewest_behind kind) (behind_at kind + most_behind kind) bytes) (λ boot. body_at kind boot bytes)
 
--- what the code's messages say beyond those of the grammar: flags are 0 or 1, and no byte is left over where lengths have two each
+-- what the code's messages have beyond those of the grammar: flags are 0 or 1, and lengths have two bytes each, without a byte left over
 abbrev pub IsPlain : Said → Type 0
 IsPlain body = (list_all (λ flag. nat_le flag 1) (flags_of body) ≡ true) × (left_over body ≡ 0)

@@ -1,4 +1,4 @@
--- What the code's records say, as plain records of messages.
+-- The code's records as plain records of messages.
 use Rattle.std.specs.Prelude.{ℕ, List, ◌∷◌, length, drop, ◌+◌, Result, Ok, Err}
 use Rattle.seq_arith.specs.declared.kinds.BadMsg.{BadMsg}
 use Rattle.seq_arith.specs.declared.kinds.Kind.TheVariants as kinds
@@ -34,14 +34,14 @@ entry_said entry = record {
 abbrev pub part_said : Part → said.Part
 part_said part = record { key = part.key; offset = part.offset; acked = part.acked; fin = part.fin; bytes = part.bytes.now }
 
--- what is read of them
+-- the records read from bytes
 abbrev pub opening_at : List ℕ → Result said.Numbers BadMsg
 opening_at bytes = let numbers = numbers_at opening 16 bytes in checked (all_in_range 0 0 opening numbers) (opening_in numbers)
 
 abbrev pub kept_at : List ℕ → Result said.Kept BadMsg
 kept_at bytes = let numbers = numbers_at kept 16 bytes in checked (all_in_range 0 0 kept numbers) (kept_in numbers)
 
--- the fields of an entry after its place
+-- the fields of an entry after its index
 abbrev pub entry_fields : List Field
 entry_fields = drop 1 (fields_of kinds.Entry)
 
@@ -55,7 +55,7 @@ part_at bytes =
     in let behind = drop (behind_at kinds.Data) bytes
     in checked (all_in_range 0 (length behind) (fields_of kinds.Data) numbers) (part_in numbers behind)
 
--- what a reading says
+-- a result of reading, as a plain record
 abbrev pub read_as : {A B : Type 0} → (A → B) → Result A BadMsg → Result B BadMsg
 read_as said (Ok read) = Ok (said read)
 read_as said (Err bad) = Err bad

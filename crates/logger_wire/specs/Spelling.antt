@@ -6,7 +6,7 @@ use Rattle.seq_arith.specs.Message.{Body}
 use Rattle.seq_arith.specs.Message.{Body as bodies}
 use Rattle.seq_arith.specs.MessageGrammar.{fields_of, kind_of, numbers_bytes, numbers_of, behind_of, header}
 
--- these bytes at a place, and all others as they were
+-- bytes with these in place from a position on, and all others unchanged
 unfoldable pub put : ℕ → List ℕ → List ℕ → List ℕ
 put at new bytes = take at bytes ++ new ++ drop (at + length new) bytes
 
@@ -21,11 +21,11 @@ text kind boot behind check = header kind (16 + length behind) check boot ++ beh
 unfoldable pub sealed : Kind → (boot : ℕ) → (behind : List ℕ) → List ℕ
 sealed kind boot behind = text kind boot behind (checksum (text kind boot behind 0))
 
--- what becomes of bytes when a message's header is written before what is already in its place
+-- bytes after a message's header is written before the body that is already in place
 unfoldable pub framed : Kind → (boot len : ℕ) → List ℕ → List ℕ
 framed kind boot len bytes = put 0 (sealed kind boot (drop 16 (take len bytes))) bytes
 
--- the bodies that are made of one of the records
+-- the bodies that consist of one of the records
 abbrev pub has_numbers : Body → Bool
 has_numbers (bodies.OpenMsg numbers) = true
 has_numbers (bodies.OpenedMsg numbers) = true

@@ -1,4 +1,4 @@
--- What the code's messages say, as plain records of the message grammar, and which of them may be sent.
+-- The code's messages as plain records of the message grammar, and which of them may be sent.
 use Rattle.std.specs.Prelude.{ℕ, Bool, true, List, [], ◌∷◌, ◌≡◌, ◌==◌, ◌%◌, length, nat_le, Result, Ok, Err}
 use Rattle.std.specs.List.{list_all}
 use Rattle.seq_arith.specs.declared.kinds.BadMsg.{BadMsg}
@@ -10,7 +10,7 @@ use Rattle.logger_wire.specs.declared.Msg.{Msg}
 use Rattle.logger_wire.specs.declared.Body.{Body}
 use Rattle.logger_wire.specs.declared.Body.TheVariants as body
 
--- a flag's byte
+-- whether a flag's byte is 1
 abbrev pub is_set : ℕ → Bool
 is_set flag = flag == 1
 
@@ -47,12 +47,12 @@ body_of (body.FullMsg key) = bodies.FullMsg key
 abbrev pub message_of : Msg → Message
 message_of msg = record { boot = msg.boot; body = body_of msg.body }
 
--- what a reading says
+-- a result of reading, as a plain record
 abbrev pub seen : Result Msg BadMsg → Result Message BadMsg
 seen (Ok msg) = Ok (message_of msg)
 seen (Err bad) = Err bad
 
--- the flags of a body as their bytes, and how many bytes are left over where its lengths have two each
+-- the flags of a body as bytes, and how many bytes are left over from its lengths of two bytes each
 abbrev pub flags_of : Body → List ℕ
 flags_of (body.EntryMsg index key cisn sisn mss length fin done reads acked) = fin ∷ done ∷ []
 flags_of (body.DataMsg key offset acked fin bytes) = fin ∷ []
@@ -64,7 +64,7 @@ abbrev pub left_over : Body → ℕ
 left_over (body.LensMsg key first lens) = length lens.now % 2
 left_over _ = 0
 
--- what may be sent: its flags are 0 or 1, its lengths have two bytes each, each field is in its range, and the message has one of its kind's lengths
+-- a message may be sent: its flags are 0 or 1, its lengths have two bytes each, each field is in its range, and its kind allows its length
 pub record IsSendable (msg : Msg) : Type 0 where
   pub flags : list_all (λ flag. nat_le flag 1) (flags_of msg.body) ≡ true
   pub lens : left_over msg.body ≡ 0

@@ -1,4 +1,4 @@
-//! Fields at their places in a message, and their ranges.
+//! The fields of a message, read at their positions and checked for their ranges.
 
 ghost use Rattle.std.specs.Prelude.{◌≡◌, ◌≤◌, ◌<◌, ◌+◌, ◌==◌, length, drop};
 ghost use Rattle.seq_arith.specs.MessageGrammar.{is_in_range};
@@ -9,7 +9,7 @@ use byteorder::{BigEndian, ByteOrder};
 use ft_io::Key;
 use seq_arith::{BadMsg, Field};
 
-/// How many entries a log may have.
+/// The largest number of entries in a log.
 const ENTRIES: u16 = 64;
 /// The longest stream, in bytes.
 const STREAM: u32 = 1 << 24;
@@ -52,7 +52,7 @@ pub(crate) fn huge(bytes: &[u8], at: usize) -> u64
     BigEndian::read_u64(&bytes[at..])
 }
 
-/// The bytes from a place on.
+/// Returns the bytes from a position on.
 #[tactic(auto, using(std::proofs::lemmas::List::take_rest))]
 pub(crate) fn behind(bytes: &[u8], at: usize) -> &[u8]
     requires { at ≤ length bytes.now }
@@ -62,7 +62,7 @@ pub(crate) fn behind(bytes: &[u8], at: usize) -> &[u8]
     &bytes[at..]
 }
 
-/// A key: its address, and then its port.
+/// Reads a key: its address, and then its port.
 pub(crate) fn key(bytes: &[u8], at: usize) -> Key
     requires { at + KEY ≤ length bytes.now }
     ensures ip { result.ip ≡ number_at 4 at bytes.now }
@@ -74,7 +74,7 @@ pub(crate) fn key(bytes: &[u8], at: usize) -> Key
     }
 }
 
-/// A count of log entries.
+/// Reads a number of log entries.
 pub(crate) fn count(bytes: &[u8], at: usize) -> Result<u16, BadMsg>
     requires { at + 2 ≤ length bytes.now }
     ensures { result ≡ checked (is_in_range 0 0 Field.Count (number_at 2 at bytes.now)) (number_at 2 at bytes.now) }
@@ -87,7 +87,7 @@ pub(crate) fn count(bytes: &[u8], at: usize) -> Result<u16, BadMsg>
     }
 }
 
-/// The place of a log entry.
+/// Reads the index of a log entry.
 pub(crate) fn place(bytes: &[u8], at: usize) -> Result<u16, BadMsg>
     requires { at + 2 ≤ length bytes.now }
     ensures { result ≡ checked (is_in_range 0 0 Field.Place (number_at 2 at bytes.now)) (number_at 2 at bytes.now) }
@@ -124,7 +124,7 @@ pub(crate) fn read_length(bytes: &[u8], at: usize) -> Result<u16, BadMsg>
     }
 }
 
-/// A count of logged bytes.
+/// Reads a number of logged bytes.
 pub(crate) fn stream_length(bytes: &[u8], at: usize) -> Result<u32, BadMsg>
     requires { at + 4 ≤ length bytes.now }
     ensures { result ≡ checked (is_in_range 0 0 Field.Length (number_at 4 at bytes.now)) (number_at 4 at bytes.now) }
@@ -137,7 +137,7 @@ pub(crate) fn stream_length(bytes: &[u8], at: usize) -> Result<u32, BadMsg>
     }
 }
 
-/// A count of reads, or of bytes with the FIN after them.
+/// Reads a number of reads, or of bytes and the FIN after them.
 pub(crate) fn units(bytes: &[u8], at: usize) -> Result<u32, BadMsg>
     requires { at + 4 ≤ length bytes.now }
     ensures { result ≡ checked (is_in_range 0 0 Field.Units (number_at 4 at bytes.now)) (number_at 4 at bytes.now) }
@@ -150,7 +150,7 @@ pub(crate) fn units(bytes: &[u8], at: usize) -> Result<u32, BadMsg>
     }
 }
 
-/// Where the bytes from `start` on begin in a stream. They stay within it.
+/// Reads the offset in a stream of the bytes that follow from `start` on. They are within the stream.
 pub(crate) fn offset(bytes: &[u8], at: usize, start: usize) -> Result<u32, BadMsg>
     requires room { at + 4 ≤ length bytes.now }
     requires start { start ≤ length bytes.now }
@@ -165,7 +165,7 @@ pub(crate) fn offset(bytes: &[u8], at: usize, start: usize) -> Result<u32, BadMs
     }
 }
 
-/// A boot number above this one.
+/// Reads a boot number above this one.
 pub(crate) fn newer(bytes: &[u8], at: usize, boot: u64) -> Result<u64, BadMsg>
     requires { at + 8 ≤ length bytes.now }
     ensures { result ≡ checked (is_in_range boot 0 Field.Newer (number_at 8 at bytes.now)) (number_at 8 at bytes.now) }

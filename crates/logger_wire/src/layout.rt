@@ -1,7 +1,7 @@
-//! Where the parts of a message are, in bytes from its beginning. A part begins where the one before it ends. What the messages with one of the records say is
-//! placed with the record.
+//! Where the parts of a message are, in bytes from its beginning. A part begins where the one before it ends. The fields that belong to a record are listed
+//! with the record.
 
-/// What a message begins with: "FT".
+/// The first two bytes of a message: "FT".
 pub(crate) const MAGIC: u16 = 0x4654;
 /// The version of every message.
 pub(crate) const VERSION: u8 = 1;
@@ -17,12 +17,12 @@ pub(crate) const LENGTH_AT: usize = KIND_AT + 1;
 pub(crate) const CHECKSUM_AT: usize = LENGTH_AT + 2;
 
 pub(crate) const BOOT_AT: usize = CHECKSUM_AT + 2;
-/// How long the header is. The first field follows it.
+/// The length of the header. The first field follows it.
 pub(crate) const HEADER: usize = BOOT_AT + 8;
 
-/// Where a key's port is, from the beginning of the key.
+/// The position of the port in a key.
 pub(crate) const PORT: usize = 4;
-/// How long a key is.
+/// The length of a key.
 pub(crate) const KEY: usize = PORT + 2;
 
 /// Where the number of a Summary and of a List ends.
@@ -31,7 +31,7 @@ pub(crate) const AFTER_COUNT: usize = HEADER + 2;
 pub(crate) const AFTER_NEWER: usize = HEADER + 8;
 /// Where a key that follows the header ends.
 pub(crate) const AFTER_KEY: usize = HEADER + KEY;
-/// Where a number after such a key ends: an offset, or the number of a read.
+/// Where the number after such a key ends: an offset, or the index of a read.
 pub(crate) const AFTER_START: usize = AFTER_KEY + 4;
-/// Where the length of a Read ends, which follows its number.
+/// Where the length of a Read ends. It follows the read's index.
 pub(crate) const AFTER_LENGTH: usize = AFTER_START + 2;

@@ -1,5 +1,5 @@
-//! Messages between server and logger as bytes: reading and writing. What a string of bytes says, and which refusal it gets, is defined by the message grammar
-//! of `seq_arith`. Nothing here allocates.
+//! Reading and writing messages between server and logger as bytes. The message grammar of `seq_arith` defines what a string of bytes says, or with which
+//! error it is refused. Nothing here allocates.
 #![tactic(auto)]
 
 ghost use Rattle.std.specs.Prelude.{◌≡◌, ◌+◌, ◌*◌, ◌<◌, length, slice_index};
@@ -27,9 +27,9 @@ pub struct Msg<'a> {
     pub body: Body<'a>,
 }
 
-/// What a message says. The bytes of `PartMsg` and `DataMsg` and the lengths of `LensMsg` stay where they were read from. An index of a log entry is at most 63
-/// and a count of entries at most 64. A segment size is 64 to 1,460 bytes. A length and an offset with its bytes are at most 2^24 bytes. Counts of reads and of
-/// acknowledged units are at most 2^24 + 1. The length of a read is at most 2,048 bytes. Flags are 0 or 1.
+/// The content of a message. It borrows the bytes of `PartMsg` and `DataMsg` and the lengths of `LensMsg` from the buffer that was read. An index of a log
+/// entry is at most 63, and a count of entries at most 64. A segment size is 64 to 1,460 bytes. A length, and an offset with its bytes, is at most 2^24
+/// bytes. Counts of reads and of acknowledged units are at most 2^24 + 1. The length of a read is at most 2,048 bytes. Flags are 0 or 1.
 #[derive(Clone, Copy, Debug)]
 pub enum Body<'a> {
     /// A server has started.
@@ -137,7 +137,7 @@ pub enum Body<'a> {
     },
 }
 
-/// Length `i`, counted from 0, of the lengths that a `LensMsg` borrows, in bytes.
+/// Returns length `i`, counted from 0, of the lengths that a `LensMsg` borrows.
 #[tactic(auto, using(std::proofs::lemmas::List::take_rest, crate::proofs::Lens::len_found))]
 pub fn len_at(lens: &[u8], i: usize) -> u16
     requires { 2 * i + 1 < length lens.now }

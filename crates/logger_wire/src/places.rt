@@ -1,4 +1,4 @@
-//! Writing numbers and bytes at a place.
+//! Writing numbers and bytes at a position.
 
 ghost use Rattle.std.specs.Prelude.{◌≡◌, ◌≤◌, ◌<◌, ◌+◌, ◌++◌, length};
 ghost use Rattle.seq_arith.specs.MessageGrammar.{number_bytes, flag};
@@ -43,7 +43,7 @@ pub(crate) fn put_huge(out: &mut [u8], at: usize, n: u64)
     BigEndian::write_u64(&mut out[at..], n);
 }
 
-/// A key: its address, and then its port.
+/// Writes a key: its address, and then its port.
 pub(crate) fn put_key(out: &mut [u8], at: usize, key: Key)
     requires { at + KEY ≤ length out.old }
     ensures { out.new ≡ put (at + PORT) (number_bytes 2 key.port) (put at (number_bytes 4 key.ip) out.old) }

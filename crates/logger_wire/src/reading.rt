@@ -1,5 +1,5 @@
-//! Reading a message in place: one match on the kind, and each field at its constant place. The message borrows the bytes or lengths after the fields from the
-//! buffer.
+//! Reading a message in place: one match on the kind, and each field at a constant position. The message borrows the bytes or lengths after the fields from
+//! the buffer.
 
 ghost use Rattle.std.specs.Prelude.{◌≡◌, ◌≤◌, ◌<◌, ◌+◌, ◌^◌, true, length, IfOk, nat_le};
 ghost use Rattle.std.specs.List.{list_all};
@@ -22,14 +22,14 @@ use crate::{Body, Msg};
 use byteorder::{BigEndian, ByteOrder};
 use seq_arith::{BadMsg, Kind, Sum16};
 
-/// The most bytes that a Part brings, and that the lengths of a Lens take.
+/// The most bytes in a Part, and in the lengths of a Lens.
 const MOST_LOGGED: usize = 1024;
 
-/// Reads a message, or says which test of the grammar it fails first. It copies none of its bytes.
+/// Reads a message. The error is the first test of the grammar that it fails. It copies none of the message's bytes.
 #[tactic(auto, unfolding(seq_arith::specs::MessageGrammar::reading))]
 pub fn read_msg(bytes: &[u8]) -> Result<Msg<'_>, BadMsg>
     ensures value { seen result ≡ reading bytes.now }
-    // What is read may be sent.
+    // A message that was read may be sent.
     ensures sendable { IfOk result (λ msg. IsSendable msg) }
 {
     if bytes.len() < HEADER {
@@ -47,7 +47,7 @@ pub fn read_msg(bytes: &[u8]) -> Result<Msg<'_>, BadMsg>
     }
 }
 
-/// The number in the two bytes at a place.
+/// Returns the number in the two bytes at a position.
 #[tactic(auto, using(std::proofs::lemmas::List::take_rest), unfolding(seq_arith::specs::Bytes::word_at))]
 pub fn word_at(bytes: &[u8], at: usize) -> u16
     requires { at + 2 ≤ length bytes.now }
@@ -56,7 +56,7 @@ pub fn word_at(bytes: &[u8], at: usize) -> u16
     BigEndian::read_u16(&bytes[at..])
 }
 
-/// The checksum of a complete message, computed over whatever is in the checksum's place.
+/// Returns the checksum over all bytes of a complete message, including its checksum field.
 pub fn checksum_of(bytes: &[u8]) -> u16
     requires { length bytes.now < 2 ^ 16 }
     ensures { result ≡ checksum bytes.now }
@@ -66,7 +66,7 @@ pub fn checksum_of(bytes: &[u8]) -> u16
     sum.check()
 }
 
-/// The kind with a number on the wire, if there is one.
+/// Returns the kind with this number on the wire, if there is one.
 #[tactic(auto, unfolding(seq_arith::specs::MessageGrammar::kind_numbered))]
 fn kind_of_number(number: u8) -> Option<Kind>
     ensures { result ≡ kind_numbered number }
@@ -122,7 +122,7 @@ fn read_kind(kind: Kind, bytes: &[u8]) -> Result<Msg<'_>, BadMsg>
     }
 }
 
-/// The boot number of a message of this length.
+/// Returns the boot number of a message of this length, after testing its length and checksum.
 fn open(bytes: &[u8], len: usize) -> Result<u64, BadMsg>
     requires { HEADER ≤ length bytes.now }
     ensures value { result ≡ opened len len bytes.now }
@@ -132,7 +132,7 @@ fn open(bytes: &[u8], len: usize) -> Result<u64, BadMsg>
     open_within(bytes, len, len)
 }
 
-/// The boot number of a message, whose length is within these bounds and as it says, and which sums to its checksum.
+/// Returns the boot number of a message, after testing its checksum and that its length is within these bounds and as it says.
 #[tactic(auto, unfolding(crate::specs::Places::opened))]
 fn open_within(bytes: &[u8], least: usize, most: usize) -> Result<u64, BadMsg>
     requires { HEADER ≤ length bytes.now }
@@ -415,7 +415,7 @@ fn read_full(bytes: &[u8]) -> Result<Msg<'_>, BadMsg>
     Ok(Msg { boot, body })
 }
 
-/// Whether each length is in its range.
+/// Returns whether each length is in its range.
 #[tactic(auto, using(std::proofs::lemmas::List::take_rest, crate::proofs::Lens::lens_step, crate::proofs::Lens::lens_end))]
 fn lens_in_range(lens: &[u8]) -> bool
     ensures { result ≡ list_all (λ len. nat_le len 2048) (lens_in lens.now) }

@@ -1,4 +1,4 @@
-//! The records of which messages are made, as their specification has them. Flags are Booleans.
+//! The records that make up messages, as in the message grammar. Flags are Booleans.
 
 ghost use Rattle.std.specs.Prelude.{◌≡◌, ◌≤◌, true, length};
 ghost use Rattle.seq_arith.specs.Message.Body.{EntryMsg, OpenMsg, DataMsg, StableMsg};
@@ -14,7 +14,7 @@ use crate::places::{put_flag, put_key, put_long, put_word};
 use ft_io::Key;
 use seq_arith::{BadMsg, Kind};
 
-/// The numbers of a connection.
+/// The numbers of a connection: its key, both initial sequence numbers, and the segment size.
 #[derive(Clone, Copy)]
 pub(crate) struct Numbers {
     pub key: Key,
@@ -63,10 +63,10 @@ impl Numbers {
 
     const MSS: usize = Self::SISN + 4;
 
-    /// How long an Open and an Opened are.
+    /// The length of an Open and of an Opened.
     pub(crate) const END: usize = Self::MSS + 2;
 
-    /// What an Open or an Opened says.
+    /// Reads the record of an Open or an Opened.
     pub(crate) fn read(bytes: &[u8]) -> Result<Numbers, BadMsg>
         requires { behind_at Kind.Open ≤ length bytes.now }
         ensures { read_as numbers_said result ≡ opening_at bytes.now }
@@ -79,7 +79,7 @@ impl Numbers {
         })
     }
 
-    /// What such a body says.
+    /// Returns the record of such a body.
     #[tactic(auto, unfolding(crate::specs::Spelling::body_bytes))]
     pub(crate) fn of(body: &Body<'_>) -> Numbers
         requires { has_numbers (said_body body.now) ≡ true }
@@ -107,7 +107,7 @@ impl Numbers {
         }
     }
 
-    /// Writes it after a header.
+    /// Writes the record after a header.
     pub(crate) fn put(&self, out: &mut [u8])
         requires { behind_at Kind.Open ≤ length out.old }
         ensures { out.new ≡ put 16 (body_bytes (OpenMsg (numbers_said self.now))) out.old }
@@ -126,10 +126,10 @@ impl Kept {
 
     const READS: usize = Self::FIN + 1;
 
-    /// How long a Stable and a Reads are.
+    /// The length of a Stable and of a Reads.
     pub(crate) const END: usize = Self::READS + 4;
 
-    /// What a Stable or a Reads says.
+    /// Reads the record of a Stable or a Reads.
     pub(crate) fn read(bytes: &[u8]) -> Result<Kept, BadMsg>
         requires { behind_at Kind.Stable ≤ length bytes.now }
         ensures { read_as kept_said result ≡ kept_at bytes.now }
@@ -142,7 +142,7 @@ impl Kept {
         })
     }
 
-    /// What such a body says.
+    /// Returns the record of such a body.
     #[tactic(auto, unfolding(crate::specs::Spelling::body_bytes))]
     pub(crate) fn of(body: &Body<'_>) -> Kept
         requires { has_kept (said_body body.now) ≡ true }
@@ -170,7 +170,7 @@ impl Kept {
         }
     }
 
-    /// Writes it after a header.
+    /// Writes the record after a header.
     pub(crate) fn put(&self, out: &mut [u8])
         requires { behind_at Kind.Stable ≤ length out.old }
         ensures { out.new ≡ put 16 (body_bytes (StableMsg (kept_said self.now))) out.old }
@@ -201,10 +201,10 @@ impl EntryHead {
 
     const ACKED: usize = Self::READS + 4;
 
-    /// How long an Entry is.
+    /// The length of an Entry.
     pub(crate) const END: usize = Self::ACKED + 4;
 
-    /// What an Entry says after its place.
+    /// Reads the record of an Entry, which follows its index.
     pub(crate) fn read(bytes: &[u8]) -> Result<EntryHead, BadMsg>
         requires { behind_at Kind.Entry ≤ length bytes.now }
         ensures { read_as entry_said result ≡ entry_at bytes.now }
@@ -222,7 +222,7 @@ impl EntryHead {
         })
     }
 
-    /// What such a body says, after its place.
+    /// Returns the index and the record of such a body.
     pub(crate) fn of(body: &Body<'_>) -> (u16, EntryHead)
         requires { has_entry (said_body body.now) ≡ true }
         ensures { said_body body.now ≡ EntryMsg result.0 (entry_said result.1) }
@@ -257,7 +257,7 @@ impl EntryHead {
         }
     }
 
-    /// Writes it after a header, with its place before it.
+    /// Writes the index and the record after a header.
     pub(crate) fn put(&self, index: u16, out: &mut [u8])
         requires { behind_at Kind.Entry ≤ length out.old }
         ensures { out.new ≡ put 16 (body_bytes (EntryMsg index (entry_said self.now))) out.old }
@@ -285,7 +285,7 @@ impl<'a> Part<'a> {
     /// Where the bytes of a Data begin.
     pub(crate) const END: usize = Self::FIN + 1;
 
-    /// What a Data says.
+    /// Reads the record of a Data.
     pub(crate) fn read(bytes: &'a [u8]) -> Result<Part<'a>, BadMsg>
         requires long { behind_at Kind.Data ≤ length bytes.now }
         requires short { length bytes.now ≤ 65535 }
@@ -300,7 +300,7 @@ impl<'a> Part<'a> {
         })
     }
 
-    /// What such a body says.
+    /// Returns the record of such a body.
     pub(crate) fn of(body: &Body<'a>) -> Part<'a>
         requires { has_part (said_body body.now) ≡ true }
         ensures { said_body body.now ≡ DataMsg (part_said result) }
@@ -323,7 +323,7 @@ impl<'a> Part<'a> {
         }
     }
 
-    /// Writes its fields after a header.
+    /// Writes the fields of the record after a header.
     pub(crate) fn put(&self, out: &mut [u8])
         requires { behind_at Kind.Data ≤ length out.old }
         ensures { out.new ≡ put 16 (numbers_bytes (fields_of Kind.Data) (numbers_of (DataMsg (part_said self.now)))) out.old }

@@ -1,5 +1,5 @@
-//! Writing a message in its one spelling, each field at its constant place. The header comes last: the checksum is computed over the rest, with zero in its own
-//! place.
+//! Writing a message in its one spelling, each field at a constant position. The header is written last: the checksum is computed over the rest, with zero
+//! in its own field.
 
 ghost use Rattle.std.specs.Prelude.{◌≡◌, ◌≤◌, ◌<◌, ◌+◌, ◌%◌, ◌^◌, ◌++◌, length, take, drop, Ok, true};
 ghost use Rattle.seq_arith.specs.Checksum.{checksum};
@@ -20,7 +20,7 @@ use crate::{Body, Msg};
 use ft_io::Key;
 use seq_arith::{Kind, Sum16};
 
-/// Writes a message at the beginning of `out`, which has room for 2,048 bytes, and returns how many bytes it has: at most 1,491.
+/// Writes a message at the beginning of `out`, which has room for 2,048 bytes. Returns the length of the message: at most 1,491 bytes.
 pub fn write_msg(m: &Msg<'_>, out: &mut [u8]) -> usize
     requires sendable { IsSendable m.now }
     requires room { 2048 ≤ length out.old }
@@ -32,7 +32,7 @@ pub fn write_msg(m: &Msg<'_>, out: &mut [u8]) -> usize
     put_msg(m, out)
 }
 
-/// Writes a message at the beginning of `out`, which has room for it, and returns how many bytes it has.
+/// Writes a message at the beginning of `out`, which has room for it. Returns the length of the message in bytes.
 pub fn put_msg(m: &Msg<'_>, out: &mut [u8]) -> usize
     requires sendable { IsSendable m.now }
     requires room { message_length (said_body m.now.body) ≤ length out.old }
@@ -44,7 +44,7 @@ pub fn put_msg(m: &Msg<'_>, out: &mut [u8]) -> usize
     put_kind(m, out)
 }
 
-/// Writes a message of each kind.
+/// Writes a message, of whichever kind.
 #[tactic(auto, unfolding(crate::specs::Spelling::body_bytes))]
 fn put_kind(m: &Msg<'_>, out: &mut [u8]) -> usize
     requires lens { left_over m.now.body ≡ 0 }
@@ -78,7 +78,7 @@ fn put_kind(m: &Msg<'_>, out: &mut [u8]) -> usize
     }
 }
 
-/// The bytes that spell lengths are those that the lengths were read from.
+/// Returns the bytes that spell lengths, which are those from which the lengths were read.
 fn two_bytes_each(lens: &[u8]) -> &[u8]
     requires { length lens.now % 2 ≡ 0 }
     ensures { result.now ≡ lens_bytes (lens_in lens.now) }
@@ -115,7 +115,7 @@ fn put_entry(m: &Msg<'_>, out: &mut [u8]) -> usize
     finish(Kind::Entry, m.boot, EntryHead::END, out)
 }
 
-/// Writes a kind that begins with a key and where its bytes or lengths start.
+/// Writes a message of a kind that has a key, the start of its bytes or lengths, and these.
 fn put_from(kind: Kind, boot: u64, key: Key, start: u32, behind: &[u8], out: &mut [u8]) -> usize
     requires short { message_length (PartMsg key start behind.now) < 2 ^ 16 }
     requires room { message_length (PartMsg key start behind.now) ≤ length out.old }
@@ -172,7 +172,7 @@ fn put_read(boot: u64, key: Key, index: u32, len: u16, out: &mut [u8]) -> usize
     finish(Kind::Read, boot, AFTER_LENGTH, out)
 }
 
-/// Writes a kind that has only a key.
+/// Writes a message of a kind that has only a key.
 fn put_only_key(kind: Kind, boot: u64, key: Key, out: &mut [u8]) -> usize
     requires { behind_at Kind.Done ≤ length out.old }
     ensures length { result ≡ behind_at Kind.Done }
@@ -191,7 +191,7 @@ fn put_stale(boot: u64, newer: u64, out: &mut [u8]) -> usize
     finish(Kind::Stale, boot, AFTER_NEWER, out)
 }
 
-/// Writes the header before a body that is already in its place, and returns how long the message is.
+/// Writes the header before a body that is already in place. Returns the length of the message.
 fn finish(kind: Kind, boot: u64, len: usize, out: &mut [u8]) -> usize
     requires long { HEADER ≤ len }
     requires short { len < 2 ^ 16 }
@@ -205,7 +205,7 @@ fn finish(kind: Kind, boot: u64, len: usize, out: &mut [u8]) -> usize
     len
 }
 
-/// Writes the header, and the bytes after the fields too. The checksum is computed over these where they come from: reading back what was just written is
+/// Writes the header, and the bytes after the fields. It computes the checksum over these bytes where they come from: reading back what was just written is
 /// slower.
 fn finish_with(kind: Kind, boot: u64, at: usize, behind: &[u8], out: &mut [u8]) -> usize
     requires long { HEADER ≤ at }
@@ -222,7 +222,7 @@ fn finish_with(kind: Kind, boot: u64, at: usize, behind: &[u8], out: &mut [u8]) 
     len
 }
 
-/// Writes a header, with zero in its checksum's place.
+/// Writes a header with zero in its checksum field.
 fn put_header(kind: Kind, boot: u64, len: u16, out: &mut [u8])
     requires { HEADER ≤ length out.old }
     ensures { out.new ≡ put 0 (header kind len 0 boot) out.old }
@@ -234,14 +234,14 @@ fn put_header(kind: Kind, boot: u64, len: u16, out: &mut [u8])
     put_huge(out, BOOT_AT, boot);
 }
 
-/// A kind's number on the wire.
+/// Returns a kind's number on the wire.
 fn number_of(kind: Kind) -> u8
     ensures { result ≡ kind_number kind }
 {
     kind as u8
 }
 
-/// The checksum of two strings of bytes, one after the other.
+/// Returns the checksum of two strings of bytes, one after the other.
 pub fn checksum_of_both(front: &[u8], rest: &[u8]) -> u16
     requires { length front.now + length rest.now < 2 ^ 16 }
     ensures { result ≡ checksum (front.now ++ rest.now) }

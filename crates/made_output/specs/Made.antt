@@ -21,6 +21,6 @@ abbrev pub after_reads : {State : Type 0} → Machine State → Made State → L
 after_reads service m [] = m
 after_reads service m (chunk ∷ chunks) = after_reads service (after_read service m chunk) chunks
 
--- of these bytes, read in chunks of these lengths
+-- what a service has made of these bytes, read in chunks of these lengths
 unfoldable pub made_of : {State : Type 0} → Machine State → List ℕ → List ℕ → Made State
 made_of service bytes lengths = after_reads service (nothing_made service) (cut bytes lengths)

@@ -1,5 +1,5 @@
-//! A service with all that it has made: its whole output, and after each read how far the output extends. The reads that are known to be logged
-//! are the first ones, so the output that may leave is a prefix of the whole, and the table of ends gives its length without a second run.
+//! A service with all that it has made: its whole output, and how far the output extends after each read. The answered reads are the first ones. So the
+//! output that may be sent is a prefix of the whole, and the table of ends gives its length without a second run.
 #![tactic(auto)]
 
 ghost use Rattle.std.specs.Prelude.{◌≡◌, ◌≤◌, ℕ, List, [], ◌∷◌, ◌++◌, length, sum, slice_get, take, drop, Some, IfOk, OnOk};
@@ -11,14 +11,14 @@ use server_trait::{Next, Service};
 use std::alloc::Global;
 use std::marker::Model;
 
-/// How many bytes of output there are after some reads, and whether the service has closed by then.
+/// How many bytes of output there are after a number of reads, and whether the service has closed by then.
 #[derive(Clone, Copy, Debug, PartialEq, Eq)]
 pub struct End {
     pub output: u64,
     pub closed: bool,
 }
 
-/// A service, with its output and the end after each number of reads, from none on.
+/// A service with its output, and with the end after each number of reads, beginning with none.
 #[derive(Drop)]
 pub struct Made<S: Service> {
     service: S,
@@ -36,7 +36,7 @@ impl<S: Service> Model for Made<S> {
 }
 
 impl<S: Service> Made<S> {
-    /// A service of this kind that has read nothing.
+    /// Creates a service of this kind that has read nothing.
     pub fn new(alloc: Global, kind: u8) -> Result<Made<S>, NoMemory>
         ensures { IfOk result (λ m. m ≡ nothing_made (machine (S.started kind) S.after)) }
     {
@@ -53,7 +53,7 @@ impl<S: Service> Made<S> {
         })
     }
 
-    /// One more read. A service that has closed makes nothing of it.
+    /// Makes one more read. A service that has closed adds nothing to its output.
     pub fn read(&mut self, chunk: &[u8]) -> Result<(), NoMemory>
         requires { length chunk.now ≤ 2048 }
         ensures { (kind : ℕ) → OnOk result (self.new ≡ after_read (machine (S.started kind) S.after) self.old chunk.now) }
@@ -69,14 +69,14 @@ impl<S: Service> Made<S> {
         Ok(())
     }
 
-    /// The whole output.
+    /// Returns the whole output.
     pub fn output(&self) -> &[u8]
         ensures { result.now ≡ self.now.run.output }
     {
         self.output.as_slice()
     }
 
-    /// The end after so many reads, if there were as many.
+    /// Returns the end after so many reads, if there were as many.
     pub fn end(&self, reads: usize) -> Option<End>
         ensures { result ≡ slice_get self.now.ends reads }
     {

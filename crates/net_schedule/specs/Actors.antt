@@ -1,4 +1,5 @@
--- Server and clients, and what an event does to them where the server makes no marks: they don't look at the log, so it is the same with one logger and with two.
+-- The server and the clients, and what an event does to them if the server makes no marks. They don't see the log, so it is the same with one logger and
+-- two.
 use Rattle.std.specs.Prelude.{◌≡◌, None, List, ◌++◌, map}
 use Rattle.server_trait.specs.Service.{Machine}
 use Rattle.ft_model.specs.Legal.{refusal, IsScripted}
@@ -9,7 +10,7 @@ use Rattle.ft_model.specs.declared.event.Event.{Event}
 use Rattle.net_schedule.specs.StoredPackets.{with_wires}
 use Rattle.net_schedule.specs.Refinement.{Kept, NodeStands}
 
--- server and clients of the code's world are at those of a world of the definitions
+-- server and clients of the code's world correspond to those of a world of the definitions
 pub record ActorsStand {State : Type 0} (service : Machine State) (w : Kept State) (v : Seen) : Type 0 where
   pub server : w.server ≡ v.server
   pub keys : w.keys ≡ map (λ c. c.key) v.clients
@@ -18,7 +19,7 @@ pub record ActorsStand {State : Type 0} (service : Machine State) (w : Kept Stat
   pub unmarked : w.every ≡ 0
   pub node : NodeStands service w.kind w.node v.node
 
--- The world becomes a next one, with these packets sent and stored, and the loggers are as before.
+-- The world moves to a next one: these packets are sent and stored, and the loggers don't change.
 pub record ActorsGoOn {State : Type 0} (service : Machine State) (Goes : List Packet → Seen → Type 0) (v : Seen) (before after : Kept State) : Type 0 where
   pub sent : List Packet
   pub world : Seen
@@ -31,7 +32,7 @@ pub record ActorsGoOn {State : Type 0} (service : Machine State) (Goes : List Pa
   pub same_log : after.log ≡ before.log
   pub same_keepers : after.keepers ≡ before.keepers
 
--- An event of theirs is allowed and happens, and the clients follow the script.
+-- An event of the server or a client is allowed and happens, and the clients follow the script.
 pub record ActorsAdvance {State : Type 0} (service : Machine State) (v : Seen) (event : Event) (before after : Kept State) : Type 0 where
   pub happens : ActorsGoOn service (Happens service v event) v before after
   pub allowed : refusal v event ≡ None

@@ -1,4 +1,4 @@
--- A step of the code's world along every legal trace at whose end it is.
+-- A step of the code's world, for every legal trace whose end the world is at.
 use Rattle.std.specs.Prelude.{◌≡◌, ℕ, true, List}
 use Rattle.server_trait.specs.declared.Service.{Ghosts}
 use Rattle.ft_model.specs.World.{Moment}
@@ -22,7 +22,7 @@ StepsAlong event answer before after =
     (schedule : Schedule) (events : List Event) (trace : List Moment) → StandsAfter (services_of before) schedule events trace (kept before)
     → Steps (services_of before) schedule events trace event answer (kept after)
 
--- .. or it ends for the definitions' reason
+-- .. or it fails for the reason that the definitions give
 abbrev pub EndsAlong : {State : Type 0} {ghosts : Ghosts State} → Event → StepEnd → (before after : World State ghosts) → Type 0
 EndsAlong event end before after =
     (schedule : Schedule) (events : List Event) (trace : List Moment) → StandsAfter (services_of before) schedule events trace (kept before)
@@ -34,13 +34,13 @@ TwinStepsAlong event answer before after =
     (schedule : Schedule) (events : List Event) (trace : List TwinMoment) → TwinStandsAfter (services_of before) schedule events trace (kept before)
     → TwinSteps (services_of before) schedule events trace event answer (kept after)
 
--- .. or it ends for the definitions' reason
+-- .. or it fails for the reason that the definitions give
 abbrev pub TwinEndsAlong : {State : Type 0} {ghosts : Ghosts State} → Event → StepEnd → (before after : World State ghosts) → Type 0
 TwinEndsAlong event end before after =
     (schedule : Schedule) (events : List Event) (trace : List TwinMoment) → TwinStandsAfter (services_of before) schedule events trace (kept before)
     → TwinEndsStep (services_of before) schedule events trace event (kept after) end
 
--- With marks after every so many reads, by a service that can be saved: the step extends the trace by the event, ..
+-- With marks, one after so many reads, by a service that can be saved: the step extends the trace by the event, ..
 abbrev pub StepsMarked : {State : Type 0} {ghosts : Ghosts State} → Saving State → (every : ℕ) → Event → StepOut → (before after : World State ghosts) → Type 0
 StepsMarked saved every event answer before after =
     (schedule : Schedule) (events : List Event) (trace : List MarkedMoment) → MarkedStandsAfter (marker_for saved (services_of before) every) schedule events trace (kept before)
@@ -49,7 +49,7 @@ StepsMarked saved every event answer before after =
 abbrev pub MarkedStepsAlong : {State : Type 0} {ghosts : Ghosts State} → Saving State → Event → StepOut → (before after : World State ghosts) → Type 0
 MarkedStepsAlong saved event answer before after = saved.savable ≡ true → (every : ℕ) → StepsMarked saved every event answer before after
 
--- .. or it ends for the definitions' reason
+-- .. or it fails for the reason that the definitions give
 abbrev pub EndsMarked : {State : Type 0} {ghosts : Ghosts State} → Saving State → (every : ℕ) → Event → StepEnd → (before after : World State ghosts) → Type 0
 EndsMarked saved every event end before after =
     (schedule : Schedule) (events : List Event) (trace : List MarkedMoment) → MarkedStandsAfter (marker_for saved (services_of before) every) schedule events trace (kept before)

@@ -10,7 +10,7 @@ use Rattle.twin_laws.specs.declared.part.Side.TheVariants as sides
 use Rattle.twin_laws.specs.StoredState.{Kept, new_kept, left_alone, kept_does}
 use Rattle.net_schedule.specs.StoredPackets.{Carried}
 
--- one of them has stopped exactly where the other serves alone
+-- one of them serves alone exactly if the other has stopped
 pub record Loggers : Type 0 where
   pub head : Kept
   pub tail : Kept
@@ -22,18 +22,18 @@ new_loggers = record { head = new_kept parts.Head; tail = new_kept parts.Tail }
 abbrev pub serving_log : Loggers → Log
 serving_log l = if l.head.alone then l.head.log else l.tail.log
 
--- one of them stops, and the other learns of it
+-- one of them stops, and the other serves alone from then on
 abbrev pub stopped : Part → Loggers → Loggers
 stopped parts.Head l = record l { tail = left_alone l.tail }
 stopped parts.Tail l = record l { head = left_alone l.head }
 
--- the direction of what a logger sends: its answers go to the server, all else to the other logger
+-- the direction of what a logger sends: its answers are sent to the server, all else to the other logger
 abbrev pub way_out : Part → Side → Way
 way_out part sides.Server = LoggerToServer
 way_out parts.Head sides.Other = HeadToTail
 way_out parts.Tail sides.Other = TailToHead
 
--- what a logger sends, after the packets that were stored before
+-- the packets that were stored before, and then what a logger sends
 abbrev pub with_datagrams : Part → Carried → List (Side × List ℕ) → Carried
 with_datagrams part kept sent =
     record { ways = kept.ways ++ map (λ d. way_out part d.0) sent; bytes = kept.bytes ++ map (λ d. d.1) sent }

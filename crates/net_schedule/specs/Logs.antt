@@ -1,4 +1,4 @@
--- What keeps the log of a world, one logger or two or one that keeps marks, and what becomes of it when bytes arrive.
+-- What keeps the log of a world: one logger, two, or one that keeps marks; and what becomes of it when bytes arrive.
 use Rattle.std.specs.Prelude.{◌≡◌, ℕ, List, Result, Ok, Err}
 use Rattle.seq_arith.specs.Message.{Message}
 use Rattle.seq_arith.specs.MessageGrammar.{reading}
@@ -25,7 +25,7 @@ log_in (One log) = log
 log_in (Two loggers) = serving_log loggers
 log_in (Marked kept) = kept.journal
 
--- what keeps it: only one logger, a head and a tail, or a store with marks
+-- what keeps the log: one logger, a head and a tail, or a store with marks
 pub data Keepers : Type 0 where
   Single : Keepers
   Paired : Loggers → Keepers
@@ -41,7 +41,7 @@ abbrev pub log_reads : Result Message BadMsg → Log × Carried → Log × Carri
 log_reads (Err bad) h = h
 log_reads (Ok message) h = (log_after h.0 message, with_answer h.1 (answer_bytes (answer_to h.0 message)))
 
--- bytes of this direction arrive at it, if it leads there
+-- bytes of this direction arrive at the only logger, if it leads there
 abbrev pub log_hears : Way → List ℕ → Log × Carried → Log × Carried
 log_hears ServerToLogger bytes h = log_reads (reading bytes) h
 log_hears (ClientToServer number) bytes h = h
@@ -54,7 +54,7 @@ log_hears TailToHead bytes h = h
 abbrev pub both : Logs → Carried → Logs × Carried
 both logs packets = (logs, packets)
 
--- bytes of this direction arrive at what keeps the log, which becomes this one, and what it sends is stored
+-- bytes of this direction arrive at what keeps the log: `now` is its state after that, and `sent` are the stored packets with what it sends
 abbrev pub HearsIn : Logs → Way → List ℕ → Carried → Logs → Carried → Type 0
 HearsIn (One log) way bytes packets now sent = let h = log_hears way bytes (log, packets) in both now sent ≡ both (One h.0) h.1
 HearsIn (Two loggers) way bytes packets now sent = let h = pair_hears way bytes (loggers, packets) in both now sent ≡ both (Two h.0) h.1

@@ -1,5 +1,5 @@
--- The code's world with marks, the world of the definitions at which it is, and what an event does to both. A parcel is what that world sends: a packet, or a
--- message about marks.
+-- The code's world with marks, the world of the definitions to which it corresponds, and what an event does to both. A parcel is what is sent in that world:
+-- a packet, or a message about marks.
 use Rattle.std.specs.Prelude.{◌≡◌, ℕ, ◌<◌, Option, None, Some, List, ◌++◌, map}
 use Rattle.std.specs.List.{AllByRecursion}
 use Rattle.seq_arith.specs.Mark.{MarkMessage}
@@ -29,11 +29,11 @@ use Rattle.net_schedule.specs.Journal.{StoreAndJournal, AreAt, HasDistinctKeys}
 use Rattle.net_schedule.specs.Logs.Keepers.{With_marks}
 use Rattle.net_schedule.specs.Refinement.{Kept, Server}
 
--- how the server of a world marks, by how the states of its services are saved
+-- how the server of a world makes marks, given how the states of its services are saved
 abbrev pub marker_for : {State : Type 0} → Saving State → (ℕ → Machine State) → (every kind : ℕ) → Marker State
 marker_for saved services every kind = markers services saved.form saved.state_of every kind
 
--- the direction of a parcel: what is said about marks goes between server and logger
+-- the direction of a parcel: messages about marks are sent between server and logger
 abbrev pub way_of_parcel : List Key → Parcel → Way
 way_of_parcel keys (Usual packet) = way_along keys (wire_of packet)
 way_of_parcel keys (Mark_sent message) = ServerToLogger
@@ -43,13 +43,13 @@ way_of_parcel keys (Mark_answered message) = LoggerToServer
 abbrev pub stored_parcels : List Key → List Parcel → Carried
 stored_parcels keys parcels = record { ways = map (way_of_parcel keys) parcels; bytes = map bytes_of parcels }
 
--- the server runs the service of this kind, and is at an incarnation that marks
+-- the server runs the service of this kind, and corresponds to an incarnation that makes marks
 pub record IsMarkedAt {State : Type 0} (by : Marker State) (kind : ℕ) (now : Server State) (node : MarkedNode) : Type 0 where
   pub kind_is : now.who.kind ≡ kind
   pub is : node.plain ≡ node_of now.who node.plain.stage
   pub stands : NodeStandsAt by node now.stage
 
--- the server is down in both, or it is at the incarnation that is up
+-- the server is down in both, or it corresponds to the incarnation that is up
 abbrev pub MarkedNodeStands : {State : Type 0} → Marker State → ℕ → Option (Server State) → Option MarkedNode → Type 0
 MarkedNodeStands by kind None None = Unit {0}
 MarkedNodeStands by kind (Some now) (Some node) = IsMarkedAt by kind now node
@@ -62,7 +62,7 @@ pub record PeersStand {State : Type 0} (w : Kept State) (v : Seen) : Type 0 wher
   pub clients : w.clients ≡ v.clients
   pub boot : w.boot ≡ v.boot
 
--- The code's world is at a world of the definitions with marks: each parcel is stored as bytes, with its direction, and the log is a store's journal.
+-- The code's world corresponds to a world of the definitions with marks: each parcel is stored as bytes, with its direction; the log is a store's journal.
 pub record MarkedWorldStands {State : Type 0} (by : Marker State) (w : Kept State) (v : MarkedWorld) : Type 0 where
   pub actors : PeersStand w (seen v)
   pub node : MarkedNodeStands by w.kind w.node v.node
@@ -75,7 +75,7 @@ pub record MarkedWorldStands {State : Type 0} (by : Marker State) (w : Kept Stat
   pub every : w.every ≡ by.every
   pub marks : 0 < by.every
 
--- The world becomes a next one, with these parcels sent, and the code's world is at that.
+-- The world moves to a next one, with these parcels sent, and the code's world corresponds to that.
 pub record MarkedGoesOn {State : Type 0} (by : Marker State) (Goes : List Parcel → MarkedWorld → Type 0) (v : MarkedWorld) (w : Kept State) : Type 0 where
   pub sent : List Parcel
   pub world : MarkedWorld
@@ -89,13 +89,13 @@ pub record MarkedAdvances {State : Type 0} (by : Marker State) (v : MarkedWorld)
   pub allowed : marked_refusal v event ≡ None
   pub scripted : IsScripted (seen v) event (usual happens.sent) (seen happens.world)
 
--- what may come to the server next: as without marks, or what the log answered about marks
+-- what may arrive at the server next: the same as without marks, or the log's answer about marks
 abbrev pub MayComeMarked : MarkedWorld → MarkedInput → Type 0
 MayComeMarked v (Plain_comes input) = MayCome (seen v) input
 MayComeMarked v (Mark_comes message) = (number : ℕ) × (parcel_at v.parcels number ≡ Some (Mark_answered message))
 
--- What every legal trace with marks guarantees of the world at its end: each parcel can be read, the clients have the keys with which they started, and whatever
--- may come to the server is near, lets it fetch what is sound, and doesn't fence it.
+-- What every legal trace with marks guarantees of the world at its end: each parcel can be read, the clients have the keys with which they started, and
+-- whatever may arrive at the server is near, lets it fetch what is sound, and doesn't fence it.
 pub record MarkedPremises {State : Type 0} (by : Marker State) (v : MarkedWorld) : Type 0 where
   pub readable : AllByRecursion CanBeRead v.parcels
   pub keys : (start : Seen) × IsStart start × (map (λ c. c.key) v.clients ≡ map (λ c. c.key) start.clients)
@@ -106,7 +106,7 @@ pub record MarkedPremises {State : Type 0} (by : Marker State) (v : MarkedWorld)
   pub marks : (number : ℕ) (node : MarkedNode) → v.node ≡ Some node → (message : MarkMessage) → parcel_at v.parcels number ≡ Some (Mark_answered message)
       → IsSoundMark by v.log.log node message node.plain.stage
 
--- what these bytes say to the addressee of a parcel may come to it
+-- what these bytes say may arrive at the addressee of a parcel
 abbrev pub MarkedComesAs : MarkedWorld → Parcel → List ℕ → Type 0
 MarkedComesAs v (Usual (To_server segment)) bytes = MayCome (seen v) (segment_or_noise (segments.reading bytes))
 MarkedComesAs v (Usual (From_logger message)) bytes = MayComeMarked v (input_of (said_by bytes))

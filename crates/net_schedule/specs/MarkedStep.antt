@@ -19,14 +19,14 @@ pub record MarkedStandsAfter {State : Type 0} (by : ℕ → Marker State) (sched
   pub legal : IsMarkedLegalFor by schedule events trace
   pub stands : MarkedWorldStands (by w.kind) w (marked_after (marked_start schedule) trace)
 
--- The same with one more event: the trace is extended by a moment.
+-- The same after one more event: the trace is extended by a moment.
 pub record MarkedExtends {State : Type 0} (by : ℕ → Marker State) (schedule : Schedule) (events : List Event) (trace : List MarkedMoment)
     (event : Event) (w : Kept State) : Type 0 where
   pub moment : MarkedMoment
   pub stands : MarkedStandsAfter by schedule (events ++ event ∷ []) (moment ∷ trace) w
   pub grew : moment.world.parcels ≡ (marked_after (marked_start schedule) trace).parcels ++ moment.sent
 
--- A step, within the limit of packets. The answer names the packets that were sent in it.
+-- A step within the limit of packets. The answer gives the packets that were sent in it.
 pub record MarkedSteps {State : Type 0} (by : ℕ → Marker State) (schedule : Schedule) (events : List Event) (trace : List MarkedMoment)
     (event : Event) (answer : StepOut) (w : Kept State) : Type 0 where
   pub extends : MarkedExtends by schedule events trace event w
@@ -34,7 +34,7 @@ pub record MarkedSteps {State : Type 0} (by : ℕ → Marker State) (schedule : 
   pub count : answer.count ≡ length extends.moment.sent
   pub within : marked_packets_sent schedule (extends.moment ∷ trace) ≤ 200000
 
--- The end of a step that isn't done: what is refused is refused by the events' tests, or the packets would exceed their limit.
+-- Why a step isn't done: the definitions refuse the event, the packets would exceed their limit, or an allocation failed.
 abbrev pub MarkedEndsStep : {State : Type 0} → (ℕ → Marker State) → Schedule → List Event → List MarkedMoment → Event → Kept State → StepEnd → Type 0
 MarkedEndsStep by schedule events trace event w NoMemory = Unit {0}
 MarkedEndsStep by schedule events trace event w (BadEvent why) = marked_refusal (marked_after (marked_start schedule) trace) event ≡ Some why

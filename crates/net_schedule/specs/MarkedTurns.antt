@@ -1,5 +1,5 @@
--- What the methods of the code's world do where it is a world with marks, whose service can be saved: for each such world of the definitions to which it may
--- correspond.
+-- What the methods of the code's world do if it is a world with marks whose service can be saved. Each relation is for every such world of the definitions
+-- to which the code's world may correspond.
 use Rattle.std.specs.Prelude.{◌≡◌, ℕ, true, Some, List}
 use Rattle.server_trait.specs.declared.Service.{Ghosts}
 use Rattle.ft_model.specs.declared.event.Event.{Event}
@@ -13,11 +13,11 @@ use Rattle.server_node.specs.Markers.{Saving}
 use Rattle.net_schedule.specs.MarkedRefinement.{MarkedWorldStands, MarkedGoesOn, MarkedAdvances, MarkedPremises, MayComeMarked, MarkedComesAs, marker_for, way_of_parcel}
 use Rattle.net_schedule.specs.declared.world.World.{World}
 
--- how its server marks, if after every so many reads
+-- how its server makes marks, if one is due after so many reads
 abbrev pub marker_in : {State : Type 0} {ghosts : Ghosts State} → Saving State → (every : ℕ) → World State ghosts → Marker State
 marker_in saved every w = marker_for saved (services_of w) every w.kind
 
--- the server takes its turn on what may come
+-- the server takes its turn on what may arrive
 abbrev pub MarkedServes : {State : Type 0} {ghosts : Ghosts State} → Saving State → MarkedInput → (before after : World State ghosts) → Type 0
 MarkedServes saved input before after =
     saved.savable ≡ true → (every : ℕ) (v : MarkedWorld) → MarkedWorldStands (marker_in saved every before) (kept before) v
@@ -36,7 +36,7 @@ MarkedDoes saved event before after =
     saved.savable ≡ true → (every : ℕ) (v : MarkedWorld) → MarkedWorldStands (marker_in saved every before) (kept before) v
     → MarkedPremises (marker_in saved every before) v → MarkedAdvances (marker_in saved every before) v event (kept after)
 
--- the tests of an event refuse it
+-- an event is refused
 abbrev pub MarkedRefuses : {State : Type 0} {ghosts : Ghosts State} → Saving State → Event → (before : World State ghosts) → EventWhy → Type 0
 MarkedRefuses saved event before why =
     saved.savable ≡ true → (every : ℕ) (v : MarkedWorld) → MarkedWorldStands (marker_in saved every before) (kept before) v

@@ -11,8 +11,8 @@ use Rattle.ft_model.specs.Node.{Node, Input}
 use Rattle.ft_model.specs.Wire.{HasWire}
 use Rattle.ft_model.specs.World.{World as Seen, MayCome, IsStart, segment_or_noise, message_or_noise}
 
--- each packet has its bytes, the clients have the keys with which they started, and whatever may come to the server is near, lets it fetch
--- what is sound, and doesn't fence it
+-- each packet has its bytes, the clients have the keys with which they started, and whatever may arrive at the server is near, lets it fetch what is sound,
+-- and doesn't fence it
 pub record Premises {State : Type 0} (service : Machine State) (v : Seen) : Type 0 where
   pub wires : AllByRecursion HasWire v.packets
   pub keys : (start : Seen) × IsStart start × (map (λ c. c.key) v.clients ≡ map (λ c. c.key) start.clients)
@@ -20,7 +20,7 @@ pub record Premises {State : Type 0} (service : Machine State) (v : Seen) : Type
   pub sound : (node : Node) (input : Input) → v.node ≡ Some node → MayCome v input → IsSoundInput service node input node.stage
   pub unfenced : (node : Node) (input : Input) → v.node ≡ Some node → MayCome v input → fence node input ≡ None
 
--- what these bytes say to the addressee of a packet may come to it
+-- what these bytes say may arrive at the addressee of a packet
 abbrev pub ComesAs : Seen → Packet → List ℕ → Type 0
 ComesAs v (To_server segment) bytes = MayCome v (segment_or_noise (segments.reading bytes))
 ComesAs v (From_logger message) bytes = MayCome v (message_or_noise (messages.reading bytes))

@@ -1,4 +1,4 @@
--- The world of the code, the world of the definitions at which it is, and what an event does to both.
+-- The world of the code, the world of the definitions to which it corresponds, and what an event does to both.
 use Rattle.std.specs.Prelude.{◌≡◌, ℕ, Option, None, Some, List, ◌++◌, map}
 use Rattle.ft_io.specs.declared.Addr.{Addr}
 use Rattle.ft_io.specs.declared.Key.{Key}
@@ -21,7 +21,7 @@ use Rattle.net_schedule.specs.Logs.Keepers.{Single}
 use Rattle.net_schedule.specs.declared.end.StepEnd.{StepEnd}
 use Rattle.net_schedule.specs.declared.end.StepEnd.TheVariants.{BadEvent}
 
--- a server that is up: what never changes of it, and what it holds
+-- a server that is up: its identity, which never changes, and what it holds
 pub record Server (State : Type 0) : Type 0 where
   pub who : Identity
   pub stage : Holds State
@@ -34,25 +34,25 @@ pub record Kept (State : Type 0) : Type 0 where
   pub clients : List Client
   pub log : Log  -- the one that serves; with marks, the journal
   pub keepers : Keepers
-  pub every : ℕ  -- after how many reads the server marks; 0 where it doesn't
+  pub every : ℕ  -- after how many reads the server makes a mark; 0 if it makes none
   pub packets : Carried
   pub boot : ℕ
   pub node : Option (Server State)
 
--- the server runs the service of this kind, and is at an incarnation
+-- the server runs the service of this kind, and corresponds to an incarnation
 pub record IsAt {State : Type 0} (service : Machine State) (kind : ℕ) (now : Server State) (node : Node) : Type 0 where
   pub kind_is : now.who.kind ≡ kind
   pub standing : Stage
   pub is : node ≡ node_of now.who standing
   pub stands : StageStands service (node_of now.who standing) now.stage
 
--- the server is down in both, or it is at the incarnation that is up
+-- the server is down in both, or it corresponds to the incarnation that is up
 abbrev pub NodeStands : {State : Type 0} → Machine State → ℕ → Option (Server State) → Option Node → Type 0
 NodeStands service kind None None = Unit {0}
 NodeStands service kind (Some now) (Some node) = IsAt service kind now node
 NodeStands service kind _ _ = ⊥
 
--- The code's world is at a world of the definitions: each packet is stored in its one spelling, with its direction.
+-- The code's world corresponds to a world of the definitions: each packet is stored in its one spelling, with its direction.
 pub record WorldStands {State : Type 0} (service : Machine State) (w : Kept State) (v : Seen) : Type 0 where
   pub server : w.server ≡ v.server
   pub keys : w.keys ≡ map (λ c. c.key) v.clients
@@ -64,7 +64,7 @@ pub record WorldStands {State : Type 0} (service : Machine State) (w : Kept Stat
   pub boot : w.boot ≡ v.boot
   pub node : NodeStands service w.kind w.node v.node
 
--- The world becomes a next one, with these packets sent, and the code's world is at that.
+-- The world moves to a next one, with these packets sent, and the code's world corresponds to that.
 pub record ReachesNext {State : Type 0} (service : Machine State) (Goes : List Packet → Seen → Type 0) (v : Seen) (w : Kept State) : Type 0 where
   pub sent : List Packet
   pub world : Seen
@@ -78,7 +78,7 @@ pub record Advances {State : Type 0} (service : Machine State) (v : Seen) (event
   pub allowed : refusal v event ≡ None
   pub scripted : IsScripted v event happens.sent happens.world
 
--- the world may only be dropped, or is as it was before
+-- a refused event leaves the world unchanged; after another error the world may only be dropped
 abbrev pub KeepsAtRefusal : {State : Type 0} → Kept State → Kept State → StepEnd → Type 0
 KeepsAtRefusal before after (BadEvent why) = after ≡ before
 KeepsAtRefusal before after _ = Unit {0}

@@ -29,13 +29,13 @@ packets_of schedule trace = (world_after (start_of schedule) trace).packets
 abbrev pub reported_way : Schedule → Packet → Way
 reported_way schedule packet = way_of (clients_of schedule.server schedule.clients) packet
 
--- what is stored is the packets of a trace, each in its one spelling and with the direction that its report names
+-- the packets of a trace are stored, each in its one spelling and with the direction that its report names
 pub record KeepsAllSent (schedule : Schedule) (trace : List Moment) (kept : Carried) : Type 0 where
   pub ways : kept.ways ≡ map (reported_way schedule) (packets_of schedule trace)
   pub bytes : kept.bytes ≡ map (λ packet. (wire_of packet).bytes) (packets_of schedule trace)
   pub wires : AllByRecursion HasWire (packets_of schedule trace)
 
--- this direction and these bytes are those of the trace's packet with a number
+-- the packet of the trace with this number has this direction and these bytes
 pub record WasSentAs (schedule : Schedule) (trace : List Moment) (number : ℕ) (way : Way) (bytes : List ℕ) : Type 0 where
   pub packet : Packet
   pub is : packet_at (packets_of schedule trace) number ≡ Some packet
@@ -43,17 +43,17 @@ pub record WasSentAs (schedule : Schedule) (trace : List Moment) (number : ℕ) 
   pub goes : way ≡ reported_way schedule packet
   pub spells : bytes ≡ (wire_of packet).bytes
 
--- With two loggers: all that was sent up to the end of a trace
+-- With two loggers: all parcels that were sent up to the end of a trace
 abbrev pub parcels_of : Schedule → List TwinMoment → List Parcel
 parcels_of schedule trace = (twin_after (twin_start schedule) trace).parcels
 
--- what is stored is the parcels of a trace, each in its one spelling and with the direction that its report names
+-- the parcels of a trace are stored, each in its one spelling and with the direction that its report names
 pub record KeepsAllParcels (schedule : Schedule) (trace : List TwinMoment) (kept : Carried) : Type 0 where
   pub ways : kept.ways ≡ map (way_of_parcel (clients_of schedule.server schedule.clients)) (parcels_of schedule trace)
   pub bytes : kept.bytes ≡ map bytes_of_parcel (parcels_of schedule trace)
   pub written : AllByRecursion IsWritten (parcels_of schedule trace)
 
--- this direction and these bytes are those of the trace's parcel with a number
+-- the parcel of the trace with this number has this direction and these bytes
 pub record ParcelSentAs (schedule : Schedule) (trace : List TwinMoment) (number : ℕ) (way : Way) (bytes : List ℕ) : Type 0 where
   pub parcel : Parcel
   pub is : parcel_at (parcels_of schedule trace) number ≡ Some parcel
@@ -61,7 +61,7 @@ pub record ParcelSentAs (schedule : Schedule) (trace : List TwinMoment) (number 
   pub goes : way ≡ way_of_parcel (clients_of schedule.server schedule.clients) parcel
   pub spells : bytes ≡ bytes_of_parcel parcel
 
--- With marks: all that was sent up to the end of a trace
+-- With marks: all parcels that were sent up to the end of a trace
 abbrev pub marked_parcels_of : Schedule → List MarkedMoment → List marked.Parcel
 marked_parcels_of schedule trace = (marked_after (marked_start schedule) trace).parcels
 
@@ -71,13 +71,13 @@ marked_way clients (Usual packet) = way_of clients packet
 marked_way clients (Mark_sent message) = ServerToLogger
 marked_way clients (Mark_answered message) = LoggerToServer
 
--- what is stored is the parcels of a trace, each in its one spelling and with its direction
+-- the parcels of a trace are stored, each in its one spelling and with its direction
 pub record KeepsAllMarked (schedule : Schedule) (trace : List MarkedMoment) (kept : Carried) : Type 0 where
   pub ways : kept.ways ≡ map (marked_way (clients_of schedule.server schedule.clients)) (marked_parcels_of schedule trace)
   pub bytes : kept.bytes ≡ map bytes_of (marked_parcels_of schedule trace)
   pub written : AllByRecursion CanBeRead (marked_parcels_of schedule trace)
 
--- this direction and these bytes are those of the trace's parcel with a number
+-- the parcel of the trace with this number has this direction and these bytes
 pub record MarkedSentAs (schedule : Schedule) (trace : List MarkedMoment) (number : ℕ) (way : Way) (bytes : List ℕ) : Type 0 where
   pub parcel : marked.Parcel
   pub is : marked.parcel_at (marked_parcels_of schedule trace) number ≡ Some parcel

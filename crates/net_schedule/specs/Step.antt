@@ -19,14 +19,14 @@ pub record StandsAfter {State : Type 0} (services : ℕ → Machine State) (sche
   pub legal : IsLegalFor services schedule events trace
   pub stands : WorldStands (services w.kind) w (world_after (start_of schedule) trace)
 
--- The same with one more event: the trace is extended by a moment.
+-- The same after one more event: the trace is extended by a moment.
 pub record Extends {State : Type 0} (services : ℕ → Machine State) (schedule : Schedule) (events : List Event) (trace : List Moment)
     (event : Event) (w : Kept State) : Type 0 where
   pub moment : Moment
   pub stands : StandsAfter services schedule (events ++ event ∷ []) (moment ∷ trace) w
   pub grew : moment.world.packets ≡ (world_after (start_of schedule) trace).packets ++ moment.sent
 
--- A step, within the limit of packets. The answer names the packets that were sent in it.
+-- A step within the limit of packets. The answer gives the packets that were sent in it.
 pub record Steps {State : Type 0} (services : ℕ → Machine State) (schedule : Schedule) (events : List Event) (trace : List Moment)
     (event : Event) (answer : StepOut) (w : Kept State) : Type 0 where
   pub extends : Extends services schedule events trace event w
@@ -34,7 +34,7 @@ pub record Steps {State : Type 0} (services : ℕ → Machine State) (schedule :
   pub count : answer.count ≡ length extends.moment.sent
   pub within : packets_sent schedule (extends.moment ∷ trace) ≤ 200000
 
--- The end of a step that isn't done: what is refused is refused by the events' tests, or the packets would exceed their limit.
+-- Why a step isn't done: the definitions refuse the event, the packets would exceed their limit, or an allocation failed.
 abbrev pub EndsStep : {State : Type 0} → (ℕ → Machine State) → Schedule → List Event → List Moment → Event → Kept State → StepEnd → Type 0
 EndsStep services schedule events trace event w NoMemory = Unit {0}
 EndsStep services schedule events trace event w (BadEvent why) = refusal (world_after (start_of schedule) trace) event ≡ Some why

@@ -15,7 +15,7 @@ pub record Carried : Type 0 where
 abbrev pub no_packets : Carried
 no_packets = record { ways = []; bytes = [] }
 
--- one packet more
+-- the stored packets, and one more
 abbrev pub with_packet : Carried → Way → List ℕ → Carried
 with_packet kept way bytes = record { ways = kept.ways ++ way ∷ []; bytes = kept.bytes ++ bytes ∷ [] }
 
@@ -48,11 +48,11 @@ way_along keys wire = way_between keys wire.from wire.to
 abbrev pub carried : List Key → List Wire → Carried
 carried keys wires = record { ways = map (way_along keys) wires; bytes = map (λ w. w.bytes) wires }
 
--- .. and after those that it stored before
+-- .. after the packets that were stored before
 abbrev pub with_wires : List Key → Carried → List Wire → Carried
 with_wires keys kept wires = record { ways = kept.ways ++ map (way_along keys) wires; bytes = kept.bytes ++ map (λ w. w.bytes) wires }
 
--- the logger's answer after them, if there are bytes of one
+-- the stored packets, and then the logger's answer, if it has bytes
 abbrev pub with_answer : Carried → List ℕ → Carried
 with_answer kept [] = kept
 with_answer kept (b ∷ bytes) = with_packet kept LoggerToServer (b ∷ bytes)

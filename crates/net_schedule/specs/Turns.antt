@@ -1,5 +1,5 @@
--- What the methods of the code's world do, a relation for each layer. It holds for each world of the definitions to which the code's world may correspond: one
--- with one logger, with two, or with marks, which a legal trace can reach.
+-- What the methods of the code's world do: a relation for each layer. It holds for each world of the definitions that a legal trace can reach and to which
+-- the code's world may correspond: one with one logger, with two, or with marks.
 use Rattle.std.specs.Prelude.{◌≡◌, ℕ, ◌≤◌, Some, List, length}
 use Rattle.server_trait.specs.declared.Service.{Ghosts}
 use Rattle.ft_model.specs.Legal.{refusal}
@@ -32,26 +32,26 @@ pub record Continues {State : Type 0} {ghosts : Ghosts State} (before after : Wo
   pub same_kind : after.kind ≡ before.kind
   pub grew : length before.packets.bytes ≤ length after.packets.bytes
 
--- the server takes its turn on what may come
+-- the server takes its turn on what may arrive
 pub record Serves {State : Type 0} {ghosts : Ghosts State} (saved : Saving State) (input : Input) (heard : MarkedInput) (before after : World State ghosts) : Type 0 where
   pub continues : Continues before after
   pub moves : (v : Seen) → ActorsStand (service_of before) (kept before) v → Premises (service_of before) v → MayCome v input
       → ActorsGoOn (service_of before) (ServerMoves (service_of before) input v) v (kept before) (kept after)
   pub marked : MarkedServes saved heard before after
 
--- an event of server or clients is allowed and happens
+-- an event of the server or a client is allowed and happens
 pub record ActorsDo {State : Type 0} {ghosts : Ghosts State} (saved : Saving State) (event : Event) (before after : World State ghosts) : Type 0 where
   pub continues : Continues before after
   pub advances : (v : Seen) → ActorsStand (service_of before) (kept before) v → Premises (service_of before) v
       → ActorsAdvance (service_of before) v event (kept before) (kept after)
   pub marked : MarkedDoes saved event before after
 
--- its tests refuse it
+-- such an event is refused
 pub record IsRefusedToActors {State : Type 0} {ghosts : Ghosts State} (saved : Saving State) (event : Event) (before : World State ghosts) (why : EventWhy) : Type 0 where
   pub usual : (v : Seen) → ActorsStand (service_of before) (kept before) v → Premises (service_of before) v → refusal v event ≡ Some why
   pub marked : MarkedRefuses saved event before why
 
--- it isn't done: it is refused, and nothing changes; or an allocation failed, and the world may only be dropped
+-- such an event isn't done: it is refused, and nothing changes; or an allocation failed, and the world may only be dropped
 abbrev pub ActorsDecline : {State : Type 0} {ghosts : Ghosts State} → Saving State → Event → (before after : World State ghosts) → StepEnd → Type 0
 ActorsDecline saved event before after NoMemory = Unit {0}
 ActorsDecline saved event before after (BadEvent why) = IsRefusedToActors saved event before why × (kept after ≡ kept before)
@@ -82,14 +82,14 @@ pub record Does {State : Type 0} {ghosts : Ghosts State} (saved : Saving State) 
       → TwinAdvances (service_of before) v event (kept after)
   pub marked : MarkedDoes saved event before after
 
--- the tests of an event refuse it
+-- an event is refused
 pub record IsRefused {State : Type 0} {ghosts : Ghosts State} (saved : Saving State) (event : Event) (before : World State ghosts) (why : EventWhy) : Type 0 where
   pub one : (v : Seen) → WorldStands (service_of before) (kept before) v → Premises (service_of before) v → refusal v event ≡ Some why
   pub two : (v : TwinWorld) → TwinWorldStands (service_of before) (kept before) v → TwinPremises (service_of before) v
       → twin_refusal v event ≡ Some why
   pub marked : MarkedRefuses saved event before why
 
--- it isn't done: it is refused, and nothing changes; or an allocation failed, and the world may only be dropped
+-- an event isn't done: it is refused, and nothing changes; or an allocation failed, and the world may only be dropped
 abbrev pub Declines : {State : Type 0} {ghosts : Ghosts State} → Saving State → Event → (before after : World State ghosts) → StepEnd → Type 0
 Declines saved event before after NoMemory = Unit {0}
 Declines saved event before after (BadEvent why) = IsRefused saved event before why × (kept after ≡ kept before)

@@ -1,5 +1,5 @@
--- The code's world with two loggers, the world of the definitions at which it is, and what an event does to both. A parcel is what that world sends: a packet, or
--- a datagram between the two loggers.
+-- The code's world with two loggers, the world of the definitions to which it corresponds, and what an event does to both. A parcel is what is sent in that
+-- world: a packet, or a datagram between the two loggers.
 use Rattle.std.specs.Prelude.{◌≡◌, ℕ, None, Some, List, [], ◌++◌, map}
 use Rattle.std.specs.List.{AllByRecursion}
 use Rattle.ft_io.specs.declared.Key.{Key}
@@ -42,7 +42,7 @@ pub record LoggersStand (l : Loggers) (p : Pair) : Type 0 where
   pub head : l.head ≡ kept_head p.head
   pub tail : l.tail ≡ kept_tail p.tail
 
--- The code's world is at a world of the definitions with two loggers: each parcel is stored as bytes, with its direction.
+-- The code's world corresponds to a world of the definitions with two loggers: each parcel is stored as bytes, with its direction.
 pub record TwinWorldStands {State : Type 0} (service : Machine State) (w : Kept State) (v : TwinWorld) : Type 0 where
   pub actors : ActorsStand service w (seen v [])
   pub loggers : Loggers
@@ -51,7 +51,7 @@ pub record TwinWorldStands {State : Type 0} (service : Machine State) (w : Kept 
   pub pair : LoggersStand loggers v.pair
   pub packets : w.packets ≡ carried_parcels w.keys v.parcels
 
--- The world becomes a next one, with these parcels sent, and the code's world is at that.
+-- The world moves to a next one, with these parcels sent, and the code's world corresponds to that.
 pub record TwinGoesOn {State : Type 0} (service : Machine State) (Goes : List Parcel → TwinWorld → Type 0) (v : TwinWorld) (w : Kept State) : Type 0 where
   pub sent : List Parcel
   pub world : TwinWorld
@@ -67,8 +67,8 @@ pub record TwinAdvances {State : Type 0} (service : Machine State) (v : TwinWorl
   pub allowed : twin_refusal v event ≡ None
   pub scripted : IsScripted (seen v []) event (outside happens.sent) (seen happens.world [])
 
--- What every legal trace guarantees of the world at its end: in the flat trace were sent the packets, and for them the premises of a step hold; whatever was
--- sent is written; and each logger knows whether it serves alone.
+-- What every legal trace guarantees of the world at its end: the premises of a step hold for the packets sent in its reduction to one log; whatever was sent
+-- is written; and each logger knows whether it serves alone.
 pub record TwinPremises {State : Type 0} (service : Machine State) (v : TwinWorld) : Type 0 where
   pub packets : List Packet
   pub premises : Premises service (seen v packets)
@@ -84,7 +84,7 @@ ParcelComesAs service (Outside packet) bytes before sent after = Elsewhere (λ w
 ParcelComesAs service (Inside (Forward number request)) bytes before sent after = TailHas (comes_from sides.Other bytes) before sent after
 ParcelComesAs service (Inside (Got number)) bytes before sent after = HeadHas (comes_from sides.Other bytes) before sent after
 
--- what they say to the server may come to it
+-- what these bytes say to the server may arrive there
 abbrev pub MayComeAs : Seen → Parcel → List ℕ → Type 0
 MayComeAs v (Outside packet) bytes = ComesAs v packet bytes
 MayComeAs v (Inside between) bytes = Unit {0}

@@ -19,14 +19,14 @@ pub record TwinStandsAfter {State : Type 0} (services : ℕ → Machine State) (
   pub legal : IsTwinLegalFor services schedule events trace
   pub stands : TwinWorldStands (services w.kind) w (twin_after (twin_start schedule) trace)
 
--- The same with one more event: the trace is extended by a moment.
+-- The same after one more event: the trace is extended by a moment.
 pub record TwinExtends {State : Type 0} (services : ℕ → Machine State) (schedule : Schedule) (events : List Event) (trace : List TwinMoment)
     (event : Event) (w : Kept State) : Type 0 where
   pub moment : TwinMoment
   pub stands : TwinStandsAfter services schedule (events ++ event ∷ []) (moment ∷ trace) w
   pub grew : moment.world.parcels ≡ (twin_after (twin_start schedule) trace).parcels ++ moment.sent
 
--- A step, within the limit of packets. The answer names the packets that were sent in it.
+-- A step within the limit of packets. The answer gives the packets that were sent in it.
 pub record TwinSteps {State : Type 0} (services : ℕ → Machine State) (schedule : Schedule) (events : List Event) (trace : List TwinMoment)
     (event : Event) (answer : StepOut) (w : Kept State) : Type 0 where
   pub extends : TwinExtends services schedule events trace event w
@@ -34,7 +34,7 @@ pub record TwinSteps {State : Type 0} (services : ℕ → Machine State) (schedu
   pub count : answer.count ≡ length extends.moment.sent
   pub within : twin_packets_sent schedule (extends.moment ∷ trace) ≤ 200000
 
--- The end of a step that isn't done: what is refused is refused by the events' tests, or the packets would exceed their limit.
+-- Why a step isn't done: the definitions refuse the event, the packets would exceed their limit, or an allocation failed.
 abbrev pub TwinEndsStep : {State : Type 0} → (ℕ → Machine State) → Schedule → List Event → List TwinMoment → Event → Kept State → StepEnd → Type 0
 TwinEndsStep services schedule events trace event w NoMemory = Unit {0}
 TwinEndsStep services schedule events trace event w (BadEvent why) = twin_refusal (twin_after (twin_start schedule) trace) event ≡ Some why

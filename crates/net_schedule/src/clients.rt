@@ -1,4 +1,4 @@
-//! The clients of a schedule, before anything was sent, and how they are found.
+//! The clients of a schedule before anything is sent, and how to find them by key.
 
 ghost use Rattle.std.specs.Prelude.{◌≡◌, ◌≤◌, ◌+◌, ◌%◌, ◌^◌, map, length, All, IfOk, IfSome, position};
 ghost use Rattle.ft_io.specs.Key.{key_eq};
@@ -10,7 +10,7 @@ use ft_model::ClientLine;
 use peer_client::Client;
 use std::alloc::Global;
 
-/// A client of a schedule, before anything was sent.
+/// Creates a client of a schedule, before anything is sent.
 fn new_client(alloc: Global, server: Addr, line: &ClientLine) -> Result<Client, NoMemory>
     requires { length (bytes_lem line.now.script) ≤ 2 ^ 24 }
     ensures { IfOk result (λ client. client ≡ client_lem server line.now) }
@@ -19,7 +19,7 @@ fn new_client(alloc: Global, server: Addr, line: &ClientLine) -> Result<Client, 
     Ok(Client::new(alloc, line.key, server, line.isn, script))
 }
 
-/// The clients of a schedule, before anything was sent.
+/// Creates the clients of a schedule, before anything is sent.
 pub fn new_clients(
     alloc: Global,
     server: Addr,
@@ -35,7 +35,7 @@ pub fn new_clients(
     Ok(clients)
 }
 
-/// The keys of a schedule's clients.
+/// Returns the keys of a schedule's clients.
 pub fn keys_of(alloc: Global, lines: &[ClientLine]) -> Result<Vec<Key>, NoMemory>
     ensures { IfOk result (λ keys. keys.items ≡ map (λ line. line.key) lines.now) }
 {
@@ -46,7 +46,7 @@ pub fn keys_of(alloc: Global, lines: &[ClientLine]) -> Result<Vec<Key>, NoMemory
     Ok(keys)
 }
 
-/// The place of a key among these.
+/// Returns the index of a key among these.
 fn place_of(keys: &[Key], key: Key) -> Option<usize>
     ensures place { result ≡ position (λ k. key_eq k key) keys.now }
     ensures within { IfSome result (λ place. place + 1 ≤ length keys.now) }
@@ -54,7 +54,7 @@ fn place_of(keys: &[Key], key: Key) -> Option<usize>
     keys.iter().position(|other| *other == key)
 }
 
-/// The number of the client with this key, counted from 1; 0 where there is none.
+/// Returns the number of the client with this key, counted from 1, or 0 if there is none.
 pub fn number_of(keys: &[Key], key: Key) -> u8
     requires { length keys.now ≤ 16 }
     ensures { result ≡ number_lem keys.now key }

@@ -1,4 +1,4 @@
-//! How a step of the world ends without being done.
+//! Why a step of the world isn't done.
 
 ghost use Rattle.std.specs.Prelude.{◌≡◌};
 ghost use Rattle.net_schedule.specs.declared.end.StepEnd.TheVariants.{NoMemory, BadEvent};
@@ -15,7 +15,7 @@ pub enum StepEnd {
     /// An allocation failed. The world may only be dropped.
     #[error("no memory")]
     NoMemory,
-    /// Its actor may not do it. The world is as before.
+    /// The event isn't allowed. The world is unchanged.
     #[error("the event is not allowed")]
     BadEvent(EventWhy),
     /// The packets would exceed their limit. The world may only be dropped.

@@ -1,4 +1,4 @@
-//! Laws of the world, each the clause of a function that does nothing.
+//! Laws of the world. Each is the contract of a function that does nothing.
 
 ghost use Rattle.std.specs.Prelude.{◌≡◌, ℕ, true, Some, List, map};
 ghost use Rattle.ft_model.specs.Client.{Client};
@@ -65,7 +65,7 @@ pub fn worlds_keep_what_was_sent<S: Service>()
     parcels_are_written::<S>();
 }
 
-/// In no trace with marks have two entries of the log one key.
+/// In a trace with marks, no two entries of the log have the same key.
 pub fn marked_logs_have_distinct_keys<S: Saved>()
     ensures { (kind every : ℕ) (start : MarkedWorld) (trace : List MarkedMoment)
         → MarkedJoint (markers (machines S.started S.after) S.form S.state_of every kind) start trace → HasDistinctKeys (marked_after start trace).log }
@@ -74,8 +74,8 @@ pub fn marked_logs_have_distinct_keys<S: Saved>()
     marks_that_go_out_are_true::<S>();
 }
 
-/// With marks the world's keys are those of the schedule's clients, too, and it stores the parcels of its trace, each in its one spelling and with its direction.
-/// The service is one that can be saved: of another no schedule is played with marks.
+/// With marks, too, the world's keys are those of the schedule's clients, and it stores the parcels of its trace, each in its one spelling and with its
+/// direction. The service is one that can be saved: with any other, no schedule is played with marks.
 pub fn marked_worlds_keep_what_was_sent<S: Saved>()
     ensures keys { (every : ℕ) (schedule : Schedule) (events : List Event) (trace : List MarkedMoment) (w : Kept S)
         → MarkedStandsAfter (markers (machines S.started S.after) S.form S.state_of every) schedule events trace w

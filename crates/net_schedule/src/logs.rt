@@ -1,4 +1,4 @@
-//! What keeps the log of a world.
+//! The logger or the two loggers that keep the log of a world.
 
 ghost use Rattle.std.specs.Prelude.{◌≡◌, true, false, OnOk, IfOk};
 ghost use Rattle.ft_model.specs.Log.{empty_log};
@@ -15,7 +15,7 @@ use ft_model::Way;
 use logger_store::LogStore;
 use std::alloc::Global;
 
-/// What keeps the log of a world.
+/// The logger or the two loggers that keep the log of a world.
 #[derive(Drop)]
 pub enum Logs {
     /// One logger.
@@ -27,7 +27,7 @@ pub enum Logs {
 }
 
 impl Logs {
-    /// At the start: two loggers, or one that keeps marks or none, with empty logs.
+    /// Creates two loggers, or one that keeps marks or doesn't, with empty logs.
     pub fn new(alloc: Global, twin: bool, marks: bool) -> Result<Logs, NoMemory>
         ensures one { twin ≡ false → marks ≡ false → IfOk result (λ logs. logs ≡ OneLog empty_log) }
         ensures two { twin ≡ true → IfOk result (λ logs. logs ≡ TwoLogs new_loggers) }
@@ -42,7 +42,7 @@ impl Logs {
         Ok(Logs::One(OnlyLogger::new(alloc)))
     }
 
-    /// The log that serves.
+    /// Returns the log that serves; with marks, the journal.
     pub fn log(&self) -> &LogStore
         ensures { result.now ≡ log_in self.now }
     {
@@ -53,7 +53,7 @@ impl Logs {
         }
     }
 
-    /// Bytes of this direction arrive at a logger, and what it sends is stored.
+    /// Passes bytes of this direction to a logger, and stores what it sends.
     pub fn hear(
         &mut self,
         alloc: Global,

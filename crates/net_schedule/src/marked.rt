@@ -24,7 +24,7 @@ use mark_store::MarkStore;
 use std::alloc::Global;
 use std::marker::Model;
 
-/// How many units of a key's output a store has as acknowledged; none where it doesn't know the key.
+/// Returns how many units of a key's output are acknowledged according to a store, or `None` if it doesn't know the key.
 fn acknowledged(store: &MarkStore, key: Key) -> Option<u32>
     ensures { (l : LogWithMarks) → IsLeftOfMarked store.now l → result ≡ option_map (λ e. e.acknowledged) (entry_of key l.log) }
 {
@@ -39,13 +39,14 @@ fn acknowledged(store: &MarkStore, key: Key) -> Option<u32>
     None
 }
 
-/// A logger that keeps marks. Its store drops what lies below a mark, so it also has a journal: the log with all bytes and lengths. In contracts it is the two.
+/// A logger that keeps marks. Its store drops what lies below a mark, so it also has a journal: the log with all bytes and lengths. In contracts it is both.
 #[derive(Drop)]
 pub struct MarkedLog {
     store: MarkStore,
-    /// It gets each message of the log that the store gets, and each mark that the store keeps, as Data without bytes that acknowledges what the mark says is made.
+    /// The journal. It gets each log message that the store gets; and for each mark that the store keeps, a Data without bytes that acknowledges the output
+    /// made.
     journal: LogStore,
-    /// What it answers in a turn.
+    /// Its answer in a turn.
     answer: MsgOut,
 }
 
@@ -58,7 +59,7 @@ impl Model for MarkedLog {
 }
 
 impl MarkedLog {
-    /// Nothing is logged. Nothing is allocated.
+    /// Creates a logger with nothing logged. Allocates nothing.
     pub fn new(alloc: Global) -> MarkedLog
         ensures { AreAt result nothing_logged }
     {
@@ -69,14 +70,14 @@ impl MarkedLog {
         }
     }
 
-    /// The journal.
+    /// Returns the journal.
     pub fn log(&self) -> &LogStore
         ensures { result.now ≡ self.now.journal }
     {
         &self.journal
     }
 
-    /// The journal learns that this much output of a key is acknowledged.
+    /// Enters in the journal that this much output of a key is acknowledged.
     #[tactic(auto, unfolding(seq_arith::specs::MessageGrammar::has_length, seq_arith::specs::MessageGrammar::is_sound))]
     fn acknowledge(
         &mut self,
@@ -102,7 +103,7 @@ impl MarkedLog {
             .answer(alloc, &Msg { boot, body }, &mut self.answer)
     }
 
-    /// The store has taken a message about marks. If it keeps a mark, as its acknowledged output then shows, the journal gets it too.
+    /// Enters in the journal a message about marks that the store has taken: its mark, if the store keeps it, as the store's acknowledged output then shows.
     fn enter(&mut self, alloc: Global, message: &MarkMsg<'_>) -> Result<(), NoMemory>
         requires { IsSpellable (mark_message_of message.now) }
         ensures { OnOk result (Notes (λ l. after_mark l (mark_message_of message.now)) self.old self.new) }
@@ -124,7 +125,7 @@ impl MarkedLog {
         }
     }
 
-    /// The journal gets what bytes say that the store has taken.
+    /// Enters in the journal the message in these bytes, which the store has taken.
     fn note(&mut self, alloc: Global, bytes: &[u8]) -> Result<(), NoMemory>
         ensures { OnOk result (Notes (after_bytes bytes.now) self.old self.new) }
     {
@@ -137,7 +138,7 @@ impl MarkedLog {
         }
     }
 
-    /// Bytes arrive, and the answer is stored. Bytes that are no message change nothing.
+    /// Reads bytes that arrive, and stores the answer. Bytes that are no message change nothing.
     fn read(&mut self, alloc: Global, bytes: &[u8], packets: &mut Packets) -> Result<(), NoMemory>
         ensures { OnOk result (MarksHear ServerToLogger bytes.now (self.old, packets.old) (self.new, packets.new)) }
     {
@@ -146,7 +147,7 @@ impl MarkedLog {
         self.note(alloc, bytes)
     }
 
-    /// Bytes of this direction arrive, if it leads to the logger.
+    /// Reads bytes of this direction, if it leads to the logger.
     pub fn hear(
         &mut self,
         alloc: Global,

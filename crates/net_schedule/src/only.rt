@@ -19,7 +19,7 @@ use std::marker::Model;
 #[derive(Drop)]
 pub struct OnlyLogger {
     log: LogStore,
-    /// What it answers in a turn.
+    /// Its answer in a turn.
     answer: MsgOut,
 }
 
@@ -32,7 +32,7 @@ impl Model for OnlyLogger {
 }
 
 impl OnlyLogger {
-    /// Its log is empty. Nothing is allocated.
+    /// Creates a logger with an empty log. Allocates nothing.
     pub fn new(alloc: Global) -> OnlyLogger
         ensures { result ≡ empty_log }
     {
@@ -42,14 +42,14 @@ impl OnlyLogger {
         }
     }
 
-    /// Its log.
+    /// Returns its log.
     pub fn log(&self) -> &LogStore
         ensures { result.now ≡ self.now }
     {
         &self.log
     }
 
-    /// A message arrives, and the answer is stored.
+    /// Takes a message that arrives, and stores the answer.
     fn take(
         &mut self,
         alloc: Global,
@@ -63,7 +63,7 @@ impl OnlyLogger {
         keep_answer(&self.answer, packets)
     }
 
-    /// Bytes arrive. Bytes that are no message change nothing.
+    /// Reads bytes that arrive. Bytes that are no message change nothing.
     fn read(&mut self, alloc: Global, bytes: &[u8], packets: &mut Packets) -> Result<(), NoMemory>
         ensures { OnOk result ((self.new, packets.new) ≡ log_reads (reading bytes.now) (self.old, packets.old)) }
     {
@@ -73,7 +73,7 @@ impl OnlyLogger {
         }
     }
 
-    /// Bytes of this direction arrive, if it leads to the logger.
+    /// Reads bytes of this direction, if it leads to the logger.
     pub fn hear(
         &mut self,
         alloc: Global,

@@ -30,7 +30,7 @@ impl Model for Packets {
 }
 
 impl Packets {
-    /// No packets. Nothing is allocated.
+    /// Creates a store without packets. Allocates nothing.
     pub fn new(alloc: Global) -> Packets
         ensures { result ≡ no_packets }
     {
@@ -41,7 +41,7 @@ impl Packets {
         }
     }
 
-    /// How many packets there are.
+    /// Returns how many packets there are.
     #[tactic(auto, using(tcp_endpoint::proofs::Pieces::length_pieces))]
     pub fn len(&self) -> usize
         ensures { result ≡ length self.now.bytes }
@@ -49,7 +49,7 @@ impl Packets {
         self.ends.len()
     }
 
-    /// The bytes of packet `n`, counted from 1; none where no such packet was sent.
+    /// Returns the bytes of packet `n`, counted from 1, or `None` if no such packet was sent.
     #[tactic(auto, using(tcp_endpoint::proofs::Pieces::length_pieces, tcp_endpoint::proofs::Pieces::bounds_at, tcp_endpoint::proofs::Pieces::piece_at))]
     pub fn bytes(&self, n: u32) -> Option<&[u8]>
         ensures { option_copied result ≡ at_number self.now.bytes n }
@@ -65,7 +65,7 @@ impl Packets {
         Some(&self.bytes[start..end])
     }
 
-    /// The direction of packet `n`, counted from 1; none where no such packet was sent.
+    /// Returns the direction of packet `n`, counted from 1, or `None` if no such packet was sent.
     pub fn way(&self, n: u32) -> Option<Way>
         ensures { result ≡ at_number self.now.ways n }
     {
@@ -89,7 +89,7 @@ impl Packets {
     }
 }
 
-/// Where packet `i`, counted from 0, begins and ends.
+/// Returns where packet `i`, counted from 0, begins and ends.
 fn bounds(ends: &[usize], i: usize) -> (usize, usize)
     requires { i < length ends.now }
     ensures start { result.0 ≡ slice_index (0 ∷ ends.now) i }

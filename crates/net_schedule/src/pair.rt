@@ -12,7 +12,7 @@ use std::alloc::Global;
 use std::marker::Model;
 use twin_log::{Part, Side, TwinLog, TwinOut};
 
-/// A head and a tail. One of them has stopped exactly where the other serves alone.
+/// A head and a tail. One of them serves alone exactly if the other has stopped.
 #[derive(Drop)]
 pub struct LogPair {
     head: TwinLog,
@@ -30,7 +30,7 @@ impl Model for LogPair {
 }
 
 impl LogPair {
-    /// Both run, and their logs are empty.
+    /// Creates two running loggers with empty logs.
     pub fn new(alloc: Global) -> Result<LogPair, NoMemory>
         ensures { IfOk result (λ pair. pair ≡ new_loggers) }
     {
@@ -41,7 +41,7 @@ impl LogPair {
         })
     }
 
-    /// The log that serves: the tail's, until the tail stops.
+    /// Returns the log that serves: the tail's, until the tail stops.
     pub fn log(&self) -> &LogStore
         ensures { result.now ≡ serving_log self.now }
     {
@@ -51,28 +51,28 @@ impl LogPair {
         self.head.log()
     }
 
-    /// Whether the head hasn't stopped.
+    /// Returns whether the head still runs.
     fn head_runs(&self) -> bool
         ensures { result ≡ not self.now.tail.alone }
     {
         !self.tail.is_alone()
     }
 
-    /// Whether the tail hasn't stopped.
+    /// Returns whether the tail still runs.
     fn tail_runs(&self) -> bool
         ensures { result ≡ not self.now.head.alone }
     {
         !self.head.is_alone()
     }
 
-    /// Whether one of them has stopped.
+    /// Returns whether one of them has stopped.
     pub fn has_stopped(&self) -> bool
         ensures { result ≡ (self.now.tail.alone || self.now.head.alone) }
     {
         self.tail.is_alone() || self.head.is_alone()
     }
 
-    /// One of them stops, and the other serves alone from now on.
+    /// Stops one of them. The other serves alone from now on.
     pub fn stop(&mut self, part: Part)
         requires head { self.old.head.alone ≡ false }
         requires tail { self.old.tail.alone ≡ false }
@@ -84,7 +84,7 @@ impl LogPair {
         }
     }
 
-    /// Bytes arrive at the head.
+    /// Passes bytes to the head, and stores what it sends.
     fn head_hears(
         &mut self,
         alloc: Global,
@@ -101,7 +101,7 @@ impl LogPair {
         keep_datagrams(Part::Head, &self.out, packets)
     }
 
-    /// Bytes arrive at the tail.
+    /// Passes bytes to the tail, and stores what it sends.
     fn tail_hears(
         &mut self,
         alloc: Global,
@@ -118,7 +118,7 @@ impl LogPair {
         keep_datagrams(Part::Tail, &self.out, packets)
     }
 
-    /// Bytes of the server arrive at the head, or at the tail once the head has stopped.
+    /// Passes bytes of the server to the head, or to the tail once the head has stopped.
     fn front_hears(
         &mut self,
         alloc: Global,
@@ -133,7 +133,7 @@ impl LogPair {
         self.tail_hears(alloc, Side::Server, bytes, packets)
     }
 
-    /// Bytes of this direction arrive at the logger to which it leads, and what that sends is stored.
+    /// Passes bytes of this direction to the logger to which it leads, and stores what that logger sends.
     pub fn hear(
         &mut self,
         alloc: Global,

@@ -13,7 +13,7 @@ use logger_store::MsgOut;
 use server_node::{OutPacket, To};
 use twin_log::{Part, Side, TwinOut};
 
-/// The direction of a packet from the server.
+/// Returns the direction of a packet from the server.
 fn way_to(keys: &[Key], to: To) -> Way
     requires { length keys.now ≤ 16 }
     ensures { result ≡ way_lem keys.now (party_of to) }
@@ -46,7 +46,7 @@ pub fn keep_answer(answer: &MsgOut, packets: &mut Packets) -> Result<(), NoMemor
     packets.push(Way::LoggerToServer, bytes)
 }
 
-/// The direction of what one of two loggers sends.
+/// Returns the direction of what one of two loggers sends.
 fn way_out(part: Part, to: Side) -> Way
     ensures { result ≡ way_out_lem part to }
 {

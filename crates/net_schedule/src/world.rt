@@ -1,5 +1,5 @@
-//! The world of a schedule: its clients, the network, one logger, two, or one that keeps marks, and the server. A step is one event of the schedule, and the world stores each packet that was
-//! ever sent, as bytes.
+//! The world of a schedule: its clients, the network, the logger or loggers, and the server. A step is one event of the schedule. The world stores every
+//! packet ever sent, as bytes.
 
 ghost use Rattle.std.specs.Prelude.{◌≡◌, ◌≤◌, ◌<◌, ◌*◌, length, OnOk};
 ghost use Rattle.seq_arith.specs.Damage.{flipped};
@@ -30,13 +30,13 @@ use trace_laws::premises_hold;
 use twin_laws::{flat_traces_show_all, legal_traces_are_masked, parcels_are_written};
 use twin_log::Part;
 
-/// The most packets of a run.
+/// The largest number of packets in a run.
 const PACKET_LIMIT: usize = 200_000;
 
-/// The most bytes of a packet of a client.
+/// The largest size of a client's packet, in bytes.
 const PACKET_ROOM: usize = 1_500;
 
-/// Puts these bytes in place of those that a buffer holds.
+/// Replaces the contents of a buffer by these bytes.
 fn refill(buffer: &mut Vec<u8>, bytes: &[u8]) -> Result<(), NoMemory>
     ensures { OnOk result (buffer.new.items ≡ bytes.now) }
 {
@@ -45,7 +45,7 @@ fn refill(buffer: &mut Vec<u8>, bytes: &[u8]) -> Result<(), NoMemory>
     Ok(())
 }
 
-/// Puts these bytes, with one bit changed, in place of those that a buffer holds.
+/// Replaces the contents of a buffer by these bytes with one bit changed.
 fn refill_flipped(buffer: &mut Vec<u8>, bytes: &[u8], bit: u32) -> Result<(), NoMemory>
     requires { bit < 8 * length bytes.now }
     ensures { OnOk result (buffer.new.items ≡ flipped bit bytes.now) }
@@ -55,7 +55,7 @@ fn refill_flipped(buffer: &mut Vec<u8>, bytes: &[u8], bit: u32) -> Result<(), No
     Ok(())
 }
 
-/// The logger that a schedule means by a number; none where it means none.
+/// Returns the logger that a schedule means by a number, or `None` if it means none.
 fn part_of(number: u8) -> Option<Part>
     ensures { result ≡ part_numbered number }
 {
@@ -66,7 +66,7 @@ fn part_of(number: u8) -> Option<Part>
     }
 }
 
-/// After how many reads the server of a schedule marks; 0 where it doesn't, or where its service can't be saved.
+/// Returns after how many reads the server of a schedule makes a mark; 0 if it makes none, or if its service can't be saved.
 fn every_of<S: Saved>(schedule: &Schedule) -> u32
     ensures { result ≡ every_in S.is_savable schedule.now }
 {
@@ -85,7 +85,7 @@ pub struct World<S: Service> {
     clients: Vec<Client>,
     logs: Logs,
     packets: Packets,
-    /// After how many reads the server marks; 0 where it doesn't.
+    /// After how many reads the server makes a mark; 0 if it makes none.
     every: u32,
     boot: u64,
     node: Option<Node<S>>,
@@ -116,7 +116,7 @@ impl<S: Saved> World<S> {
     ghost use Rattle.net_schedule.specs.MarkedStep.{MarkedStandsAfter};
     ghost use Rattle.server_node.specs.MarkedTurns.{marked_input_of};
 
-    /// The world in which a schedule starts: nothing was sent, nothing is logged, and the server is down.
+    /// Creates the world in which a schedule starts: nothing was sent, nothing is logged, and the server is down.
     pub fn new(alloc: Global, schedule: &Schedule) -> Result<World<S>, NoMemory>
         requires playable { IsPlayable schedule.now }
         requires few { length schedule.now.clients ≤ 16 }
@@ -144,21 +144,21 @@ impl<S: Saved> World<S> {
         })
     }
 
-    /// The bytes of packet `n`, counted from 1; none where no such packet was sent.
+    /// Returns the bytes of packet `n`, counted from 1, or `None` if no such packet was sent.
     pub fn packet(&self, n: u32) -> Option<&[u8]>
         ensures { option_copied result ≡ at_number self.now.packets.bytes n }
     {
         self.packets.bytes(n)
     }
 
-    /// The direction of packet `n`, counted from 1; none where no such packet was sent.
+    /// Returns the direction of packet `n`, counted from 1, or `None` if no such packet was sent.
     pub fn way(&self, n: u32) -> Option<Way>
         ensures { result ≡ at_number self.now.packets.ways n }
     {
         self.packets.way(n)
     }
 
-    /// Client `n`, counted from 1; none where the schedule has no such client.
+    /// Returns client `n`, counted from 1, or `None` if the schedule has no such client.
     pub fn client(&self, n: u8) -> Option<&Client>
         ensures { option_copied result ≡ client_at self.now.clients.items n }
     {
@@ -168,21 +168,21 @@ impl<S: Saved> World<S> {
         self.clients.get(usize::from(n) - 1)
     }
 
-    /// The log that serves.
+    /// Returns the log that serves.
     pub fn log(&self) -> &LogStore
         ensures { result.now ≡ (kept self.now).log }
     {
         self.logs.log()
     }
 
-    /// The server that is up; none while it is down.
+    /// Returns the server, or `None` while it is down.
     pub fn node(&self) -> Option<&Node<S>>
         ensures { option_copied result ≡ self.now.node }
     {
         self.node.as_ref()
     }
 
-    /// The server starts.
+    /// Starts the server.
     fn boot(&mut self, alloc: Global, boot: u64, isn: u32) -> Result<(), StepEnd>
         ensures done { OnOk result (ActorsDo (saving S.form S.state_of S.is_savable) (Boot boot isn) self.old self.new) }
         ensures ends { IfErr result (ActorsDecline (saving S.form S.state_of S.is_savable) (Boot boot isn) self.old self.new) }
@@ -200,7 +200,7 @@ impl<S: Saved> World<S> {
         Ok(())
     }
 
-    /// The server goes down, and all that it held is lost.
+    /// Crashes the server. All that it held is lost.
     fn crash(&mut self) -> Result<(), StepEnd>
         ensures done { OnOk result (ActorsDo (saving S.form S.state_of S.is_savable) Crash self.old self.new) }
         ensures ends { IfErr result (ActorsDecline (saving S.form S.state_of S.is_savable) Crash self.old self.new) }
@@ -212,7 +212,7 @@ impl<S: Saved> World<S> {
         Ok(())
     }
 
-    /// The server takes its turn on what arrives, if it is up. A fenced server stops; no server of a legal trace is fenced.
+    /// Gives the server its turn on an input, if it is up. A fenced server stops; no server of a legal trace is fenced.
     fn serve(&mut self, alloc: Global, input: Input<'_>) -> Result<(), NoMemory>
         ensures { OnOk result (Serves (saving S.form S.state_of S.is_savable) (input_of input.entry) (marked_input_of input.entry) self.old self.new) }
     {
@@ -229,7 +229,7 @@ impl<S: Saved> World<S> {
         }
     }
 
-    /// A tick of the server's clock.
+    /// Makes the server's clock tick.
     fn tick(&mut self, alloc: Global) -> Result<(), StepEnd>
         ensures done { OnOk result (ActorsDo (saving S.form S.state_of S.is_savable) Tick self.old self.new) }
         ensures ends { IfErr result (ActorsDecline (saving S.form S.state_of S.is_savable) Tick self.old self.new) }
@@ -241,7 +241,7 @@ impl<S: Saved> World<S> {
         Ok(())
     }
 
-    /// Bytes arrive at a client, if there is one with this number.
+    /// Delivers bytes to the client with this number, if there is one.
     fn tell_client(&mut self, alloc: Global, number: u8, bytes: &[u8]) -> Result<(), NoMemory>
         ensures { OnOk result (kept self.new ≡ record (kept self.old) { clients = delivered_to number bytes.now self.old.clients.items }) }
     {
@@ -256,14 +256,14 @@ impl<S: Saved> World<S> {
         self.clients[place - 1].deliver(alloc, bytes)
     }
 
-    /// Bytes of this direction arrive at a logger, and what it sends is stored.
+    /// Passes bytes of this direction to a logger, and stores what it sends.
     fn tell_logger(&mut self, alloc: Global, way: Way, bytes: &[u8]) -> Result<(), NoMemory>
         ensures { OnOk result (TellsLogger way bytes.now self.old self.new) }
     {
         self.logs.hear(alloc, way, bytes, &mut self.packets)
     }
 
-    /// Bytes reach the addressee of a packet that has this direction.
+    /// Passes bytes to the addressee of a packet with this direction.
     fn bring(&mut self, alloc: Global, way: Way, bytes: &[u8]) -> Result<(), NoMemory>
         ensures { OnOk result (Brings (saving S.form S.state_of S.is_savable) way bytes.now self.old self.new) }
     {
@@ -277,7 +277,7 @@ impl<S: Saved> World<S> {
         }
     }
 
-    /// A packet reaches its addressee. A server that is down gets nothing.
+    /// Delivers a packet to its addressee. A server that is down receives nothing.
     fn deliver(&mut self, alloc: Global, number: u32) -> Result<(), StepEnd>
         ensures done { OnOk result (Does (saving S.form S.state_of S.is_savable) (Deliver number) self.old self.new) }
         ensures ends { IfErr result (Declines (saving S.form S.state_of S.is_savable) (Deliver number) self.old self.new) }
@@ -295,7 +295,7 @@ impl<S: Saved> World<S> {
         Ok(())
     }
 
-    /// A packet reaches its addressee with one bit changed.
+    /// Delivers a packet to its addressee, with one bit changed.
     fn flip(&mut self, alloc: Global, number: u32, bit: u32) -> Result<(), StepEnd>
         ensures done { OnOk result (Does (saving S.form S.state_of S.is_savable) (Flip number bit) self.old self.new) }
         ensures ends { IfErr result (Declines (saving S.form S.state_of S.is_savable) (Flip number bit) self.old self.new) }
@@ -316,7 +316,7 @@ impl<S: Saved> World<S> {
         Ok(())
     }
 
-    /// A client makes the move that an event asks for.
+    /// Makes the client's move that an event asks for.
     fn make(&mut self, number: u8, event: &Event) -> Result<(), StepEnd>
         requires { mover_of event.now ≡ Some number }
         ensures done { OnOk result (ActorsDo (saving S.form S.state_of S.is_savable) event.now self.old self.new) }
@@ -338,7 +338,7 @@ impl<S: Saved> World<S> {
         Ok(())
     }
 
-    /// One of two loggers stops, and the other serves alone from now on.
+    /// Stops one of two loggers. The other serves alone from now on.
     fn stop(&mut self, part: u8) -> Result<(), StepEnd>
         ensures done { OnOk result (Does (saving S.form S.state_of S.is_savable) (Stop part) self.old self.new) }
         ensures ends { IfErr result (Declines (saving S.form S.state_of S.is_savable) (Stop part) self.old self.new) }
@@ -357,7 +357,7 @@ impl<S: Saved> World<S> {
         Ok(())
     }
 
-    /// Does one event, however many packets were sent. After `BadEvent` the world is as before. After another end it may only be dropped.
+    /// Does one event, however many packets were sent. After `BadEvent` the world is unchanged. After another error it may only be dropped.
     fn act(&mut self, alloc: Global, event: &Event) -> Result<(), StepEnd>
         ensures done { OnOk result (Does (saving S.form S.state_of S.is_savable) event.now self.old self.new) }
         ensures ends { IfErr result (Declines (saving S.form S.state_of S.is_savable) event.now self.old self.new) }
@@ -377,7 +377,7 @@ impl<S: Saved> World<S> {
         }
     }
 
-    /// The answer of a step that began with `before` packets.
+    /// Returns the result of a step that began with `before` packets.
     fn counted(&self, before: usize) -> Result<StepOut, StepEnd>
         requires { before ≤ length self.now.packets.bytes }
         ensures first { IfOk result (λ out. out.first ≡ before + 1) }
@@ -395,7 +395,7 @@ impl<S: Saved> World<S> {
         })
     }
 
-    /// Does one event, which extends a legal trace by it. After `BadEvent` the world is as before. After another end it may only be dropped.
+    /// Does one event, which extends a legal trace. After `BadEvent` the world is unchanged. After another error it may only be dropped.
     pub fn step(&mut self, alloc: Global, event: &Event) -> Result<StepOut, StepEnd>
         ensures numbered { IfOk result (λ answer. answer.first + answer.count ≤ 200001) }
         ensures done { IfOk result (λ answer. StepsAlong event.now answer self.old self.new) }

@@ -20,7 +20,7 @@ use server_trait::{CHUNK_LIMIT, Service};
 use std::alloc::Global;
 use std::{io, str};
 
-/// The most bytes of a schedule that is read.
+/// The largest size of a schedule that is read, in bytes.
 const TEXT_LIMIT: usize = 1 << 20;
 
 fn main(rt: HostRuntime) -> io::Result<()> {
@@ -40,7 +40,7 @@ fn main(rt: HostRuntime) -> io::Result<()> {
     }
 }
 
-/// The schedule that a text spells.
+/// Reads the schedule that a text spells.
 fn read(alloc: Global, text: &[u8]) -> Option<Schedule>
     ensures playable { IfSome result IsPlayable }
     ensures few { IfSome result (λ schedule. length schedule.clients ≤ 16) }
@@ -53,8 +53,8 @@ fn read(alloc: Global, text: &[u8]) -> Option<Schedule>
     }
 }
 
-/// The world at the end of a schedule with one logger: all its events are played. Whatever they lose or repeat, and whenever the server crashes, what a client has
-/// accepted is a prefix of the answers to its script.
+/// Plays all events of a schedule with one logger, and returns the world at its end. Whatever the events lose or repeat, and whenever the server crashes,
+/// what a client has accepted is a prefix of the answers to its script.
 fn play(alloc: Global, schedule: &Schedule) -> Option<World<Counter>>
     requires playable { IsPlayable schedule.now }
     requires few { length schedule.now.clients ≤ 16 }
@@ -76,7 +76,7 @@ fn play(alloc: Global, schedule: &Schedule) -> Option<World<Counter>>
     Some(world)
 }
 
-/// What a server that never failed answers to a script, read in pieces of 2,048 bytes.
+/// Returns what a server that never failed answers to a script, read in pieces of 2,048 bytes.
 fn unfailing(alloc: Global, script: &[u8]) -> Result<Vec<u8>, NoMemory>
     ensures { IfOk result (λ out. out.items ≡ answers 0 script.now) }
 {
@@ -91,7 +91,7 @@ fn unfailing(alloc: Global, script: &[u8]) -> Result<Vec<u8>, NoMemory>
     Ok(out)
 }
 
-/// Two lines for each client whose script is written out: what it has accepted, and what it is answered without a crash.
+/// Prints two lines for each client whose script is written out: what it has accepted, and what it is answered without a crash.
 fn tell(alloc: Global, schedule: &Schedule, world: &World<Counter>) -> Result<String, NoMemory> {
     let mut lines = String::new(alloc);
     for (n, line) in (1..=16).zip(schedule.clients.as_slice()) {

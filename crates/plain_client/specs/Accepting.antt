@@ -1,4 +1,4 @@
--- What a client that holds no out-of-order data accepts of a segment, in plain words.
+-- What a client that holds no out-of-order data accepts of a segment, defined without reassembly.
 use Rattle.std.specs.Prelude.{ℕ, ℤ, Bool, pos, ◌-◌, ◌&&◌, ◌||◌, nat_lt, int_lt, List, [], length, take, drop, if◌then◌else◌}
 use Rattle.seq_arith.specs.Arrival.{int_eq, below}
 use Rattle.seq_arith.specs.Coming.{Came, nothing_early, comes}

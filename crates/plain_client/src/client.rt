@@ -1,4 +1,4 @@
-//! The client's state, and the moves that it may make.
+//! The state of the client, and the moves that it may make.
 
 ghost use Rattle.std.specs.Prelude.{◌≡◌, ℕ, ◌+◌, ◌-◌, ◌^◌, ◌<◌, ◌≤◌, None, length};
 ghost use Rattle.segment_codec.specs.Value.{segment_of as value_of};
@@ -21,21 +21,21 @@ pub struct PlainClient {
     pub(crate) key: Key,
     /// The server's address and port.
     pub(crate) server: Addr,
-    /// Its initial number.
+    /// Its initial sequence number.
     pub(crate) isn: u32,
-    /// What it has to send.
+    /// The bytes that it has to send.
     pub(crate) script: Vec<u8>,
     /// The state of its connection.
     pub(crate) phase: Phase,
-    /// The server's initial number; 0 until it is known.
+    /// The server's initial sequence number; 0 until it is known.
     pub(crate) sisn: u32,
-    /// The units sent, from the first on.
+    /// The number of units sent.
     pub(crate) sent: u32,
-    /// The units of these that the server has acknowledged.
+    /// The number of these units that the server has acknowledged.
     pub(crate) acknowledged: u32,
     /// The server's bytes that it has accepted.
     pub(crate) accepted: Vec<u8>,
-    /// The right edge: no byte from here on is accepted.
+    /// The right edge of the window: no byte from here on is accepted.
     pub(crate) edge: u64,
 }
 
@@ -70,7 +70,7 @@ impl PlainClient {
     ghost use Rattle.ft_model.specs.Client.{new_client, accepted_units as units_lem, suits_phase, suits_range, seq_of, ack_number_of, payload_of, segment_of};
     ghost use Rattle.ft_model.specs.Client.{moved, window_of, refusal_of_move};
 
-    /// A client that has sent nothing. Its script has at most 2^24 bytes. Nothing is allocated.
+    /// Creates a client that has sent nothing. Its script has at most 2^24 bytes. Allocates nothing.
     pub fn new(alloc: Global, key: Key, server: Addr, isn: u32, script: Vec<u8>) -> PlainClient
         requires { length script.items ≤ 2 ^ 24 }
         ensures { result ≡ new_client Scripted server key isn script.items }
@@ -89,28 +89,28 @@ impl PlainClient {
         }
     }
 
-    /// Its address and port.
+    /// Returns its address and port.
     pub fn key(&self) -> Key
         ensures { result ≡ self.now.key }
     {
         self.key
     }
 
-    /// The state of its connection.
+    /// Returns the state of its connection.
     pub fn phase(&self) -> Phase
         ensures { result ≡ self.now.phase }
     {
         self.phase
     }
 
-    /// The server's bytes that it has accepted.
+    /// Returns the server's bytes that it has accepted.
     pub fn accepted(&self) -> &[u8]
         ensures { result.now ≡ self.now.accepted }
     {
         self.accepted.as_slice()
     }
 
-    /// How many units it has accepted.
+    /// Returns how many units it has accepted.
     pub(crate) fn accepted_units(&self) -> u64
         ensures value { result ≡ units_lem self.now }
         ensures within { result ≤ 2 ^ 63 }
@@ -147,7 +147,7 @@ impl PlainClient {
         }
     }
 
-    /// Why the client's state does not allow the move; `None` where it does.
+    /// Returns why the client's state doesn't allow the move, or `None` if it does.
     pub fn refusal(&self, made: Move) -> Option<EventWhy>
         ensures { result ≡ refusal_of_move self.now (move_value made) }
     {
@@ -160,7 +160,7 @@ impl PlainClient {
         }
     }
 
-    /// The window that is sent with the move of an event.
+    /// Returns the window that an event's move advertises.
     pub fn window(&self, event: &Event) -> u16
         ensures { result ≡ window_of self.now event.now }
     {
@@ -219,7 +219,7 @@ impl PlainClient {
         }
     }
 
-    /// The segment of a move, with the window that it advertises.
+    /// Returns the segment of a move, with the window that it advertises.
     pub fn segment(&self, made: Move, window: u16) -> PacketRef<'_>
         ensures { value_of result ≡ segment_of self.now (move_value made) window }
     {
@@ -229,7 +229,7 @@ impl PlainClient {
         }
     }
 
-    /// The client makes a move that its state allows.
+    /// Makes a move that the client's state allows.
     pub fn make(&mut self, made: Move, window: u16)
         requires { refusal_of_move self.old (move_value made) ≡ None }
         ensures { self.new ≡ moved self.old (move_value made) window }

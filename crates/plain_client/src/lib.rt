@@ -1,5 +1,5 @@
-//! The scripted client as plain values: which moves its state allows, the segment of each, and what it does with a segment that arrives. It makes the same moves
-//! as the client that a schedule drives, and shares no code with it, so that it can judge what a client sent.
+//! The scripted client as plain values: which moves its state allows, the segment of each, and what an arriving segment changes. It makes the same moves as
+//! the client that a schedule drives and shares no code with it, so that it can judge what a client sent.
 #![tactic(auto)]
 
 pub use client::PlainClient;

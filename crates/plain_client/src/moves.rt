@@ -1,4 +1,4 @@
-//! What a scripted client may send.
+//! The moves of a scripted client.
 
 ghost use Rattle.std.specs.Prelude.{◌≡◌, option_map};
 ghost use Rattle.plain_client.specs.Moves.{move_value};
@@ -22,7 +22,7 @@ pub enum Move {
     Rst,
 }
 
-/// The move that an event asks for; `None` where it asks for none.
+/// Returns the move that an event asks for, or `None` if it asks for none.
 pub fn move_of(event: &Event) -> Option<Move>
     ensures { option_map move_value result ≡ move_of event.now }
 {
@@ -41,7 +41,7 @@ pub fn move_of(event: &Event) -> Option<Move>
     }
 }
 
-/// The flags of a move.
+/// Returns the flags of a move.
 pub(crate) fn flags(made: Move) -> u8
     ensures { result ≡ flags_of (move_value made) }
 {

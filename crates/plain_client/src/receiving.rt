@@ -1,4 +1,4 @@
-//! What a client does with a segment that arrives (RFC 9293, 3.10.7.3 and 3.10.7.4, for a client that never answers).
+//! What a client does with an arriving segment (RFC 9293, 3.10.7.3 and 3.10.7.4, for a client that never answers).
 
 ghost use Rattle.std.specs.Prelude.{◌≡◌, ◌+◌, ◌<◌, ◌^◌, pos, ◌+ℤ◌, ◌≤ℤ◌, OnOk, length};
 ghost use Rattle.segment_codec.specs.Value.{segment_of as value_of};
@@ -16,7 +16,7 @@ use plain_segment::{
 use segment_codec::PacketRef;
 use seq_arith::below;
 
-/// Whether a FIN that is `len` past `first` is accepted: at the next offset, below the right edge.
+/// Returns whether a FIN that is `len` past `first` is accepted: at the next offset, below the right edge.
 #[tactic(auto, unfolding(crate::specs::Accepting::is_fin_at))]
 fn is_fin_at(next: u64, edge: u64, first: i64, len: u64) -> bool
     requires { len < 2 ^ 63 }
@@ -26,7 +26,7 @@ fn is_fin_at(next: u64, edge: u64, first: i64, len: u64) -> bool
 }
 
 impl PlainClient {
-    /// The client receives a segment. After `NoMemory` it may only be dropped.
+    /// Receives a segment. After `NoMemory` the client may only be dropped.
     pub fn receive(&mut self, segment: &PacketRef<'_>) -> Result<(), NoMemory>
         ensures { OnOk result (self.new ≡ machine.received self.old (value_of segment.now)) }
     {
@@ -40,7 +40,7 @@ impl PlainClient {
         }
     }
 
-    /// A segment that arrives while the SYN is unacknowledged.
+    /// Receives a segment while the SYN is unacknowledged.
     fn open_by(&mut self, segment: &PacketRef<'_>)
         ensures { self.new ≡ machine.opened_by self.old (value_of segment.now) }
     {
@@ -55,7 +55,7 @@ impl PlainClient {
         }
     }
 
-    /// A segment that arrives while the connection is open.
+    /// Receives a segment while the connection is open.
     fn arrive(&mut self, segment: &PacketRef<'_>) -> Result<(), NoMemory>
         ensures { OnOk result (self.new ≡ machine.arrived self.old (value_of segment.now)) }
     {
@@ -77,7 +77,7 @@ impl PlainClient {
         self.use_segment(segment)
     }
 
-    /// An acceptable segment with ACK. One that acknowledges what was not sent is dropped.
+    /// Uses an acceptable segment with ACK. If it acknowledges something that was not sent, it is dropped.
     fn use_segment(&mut self, segment: &PacketRef<'_>) -> Result<(), NoMemory>
         ensures { OnOk result (self.new ≡ machine.used self.old (value_of segment.now)) }
     {
@@ -91,7 +91,7 @@ impl PlainClient {
         Ok(())
     }
 
-    /// Accepts what a text that begins at `first`, and the FIN after it, add to the server's stream. What comes after a gap is dropped.
+    /// Accepts what a text that begins at `first`, and the FIN after it, add to the server's stream. Anything after a gap is dropped.
     #[tactic(auto, using(crate::proofs::Alone::accepted_is))]
     fn accept(&mut self, first: i64, text: &[u8], fin: bool) -> Result<(), NoMemory>
         ensures { OnOk result (self.new ≡ machine.with_added self.old (added self.old first text.now fin)) }
@@ -106,7 +106,7 @@ impl PlainClient {
         Ok(())
     }
 
-    /// The part of a text that continues what is accepted, up to the right edge.
+    /// Returns the part of a text that continues the accepted bytes, up to the right edge.
     #[tactic(auto, unfolding(crate::specs::Accepting::next_text))]
     fn next_text<'a>(&self, first: i64, text: &'a [u8]) -> &'a [u8]
         ensures { result.now ≡ next_text (length self.now.accepted) self.now.edge (is_ended self.now.phase) first text.now }

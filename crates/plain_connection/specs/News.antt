@@ -1,4 +1,4 @@
--- The news of a turn in the model's words.
+-- The news of a turn, as the model's news.
 use Rattle.segment_codec.specs.Value.{segment_of}
 use Rattle.ft_model.specs.News as model
 use Rattle.plain_point.specs.Values.{kept_in}

@@ -1,4 +1,5 @@
--- What a turn sends to the client, from the connection after it and what it compares: the model's own words, over the few fields of the point before that they read.
+-- What a turn sends to the client, given the connection after it and what it compares: the model's definitions, over the few fields of the point before that
+-- they read.
 use Rattle.std.specs.Prelude.{◌≡◌, ℕ, Bool, true, false, ◌==◌, ◌||◌, not, nat_lt, List, [], ◌∷◌, ◌++◌, map, if◌then◌else◌}
 use Rattle.ft_io.specs.declared.Addr.{Addr}
 use Rattle.seq_arith.specs.Packet.{Segment}
@@ -10,15 +11,15 @@ use Rattle.ft_model.specs.Segments.{syn_ack, is_unacknowledged, first_unacknowle
 use Rattle.plain_packets.specs.Sent.{Appends}
 use Rattle.plain_connection.specs.declared.before.Before.{Before}
 
--- the point, had it sent only so much
+-- the point, as if it had sent only so much
 abbrev pub having_sent : ℕ → Point → Point
 having_sent n p = record p { sent = n }
 
--- the SYN-ACK, where it answers the news
+-- the SYN-ACK, if it answers the news
 abbrev pub syn_acks_since : Addr → Before → Point → List Segment
 syn_acks_since server before p = if before.opens then syn_ack server p ∷ [] else []
 
--- one more segment where the timer expires, and at the third duplicate: a retransmission, or a probe
+-- one more segment if the timer expires, and at the third duplicate: a retransmission or a probe
 abbrev pub resent_since : {State : Type 0} → Machine State → Addr → Before → Point → List Segment
 resent_since service server before p =
     if before.resends
@@ -26,7 +27,7 @@ resent_since service server before p =
     else probe service server (having_sent before.sent p) p)
     else []
 
--- all segments except the bare one, in order
+-- all segments except the one without data, in order
 unfoldable pub full_segments_since : {State : Type 0} → Machine State → Addr → Before → Point → List Segment
 full_segments_since service server before p =
     syn_acks_since server before p
@@ -37,11 +38,11 @@ abbrev pub is_ack_pending_since : Before → Point → Bool
 is_ack_pending_since before p =
     before.asks || nat_lt before.answered p.answered || not (before.units == taken_units p) || not (before.edge == advertised_edge p)
 
--- all segments: a bare one exactly where an ACK is pending and there is no other
+-- all segments: one without data exactly if an ACK is pending and there is no other
 unfoldable pub segments_since : {State : Type 0} → Machine State → Addr → Before → Point → List Segment
 segments_since service server before p = or_bare (is_ack_pending_since before p) (bare_segment server p) (full_segments_since service server before p)
 
--- a list that has an element
+-- whether a list has an element
 abbrev pub has_some : {A : Type 0} → List A → Bool
 has_some [] = false
 has_some (x ∷ xs) = true

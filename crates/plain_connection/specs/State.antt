@@ -10,7 +10,7 @@ pub record ConnectionState (S : Type 0) : Type 0 where
   pub point : Point
   pub made : Made S
 
--- what is made is what the service makes of the reads, no more of these are answered than were made, what they took is taken, and so is what was fetched
+-- the output is what the service makes of the reads; no more reads are answered than were made; the bytes that they took, and the fetched ones, are taken
 pub record IsServed {S : Type 0} (service : Machine S) (c : ConnectionState S) : Type 0 where
   pub made : c.made ≡ made_of service c.point.taken c.point.lengths
   pub answered : c.point.reads_answered ≤ length c.point.lengths
@@ -21,7 +21,7 @@ pub record IsServed {S : Type 0} (service : Machine S) (c : ConnectionState S) :
 abbrev pub IsThere : Point → ℕ → Type 0
 IsThere p n = (sum p.lengths + n ≤ length p.taken) × (n ≤ 2048)
 
--- some reads were made since
+-- further reads were made
 pub record HasRead {S : Type 0} (service : Machine S) (before now : ConnectionState S) : Type 0 where
   pub news : List ℕ
   pub kind : now.kind ≡ before.kind

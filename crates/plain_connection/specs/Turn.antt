@@ -1,4 +1,4 @@
--- A turn: what it sends, and how its point follows.
+-- A turn: what it sends, and the point after it.
 use Rattle.std.specs.Prelude.{ℕ, true, List}
 use Rattle.ft_io.specs.declared.Addr.{Addr}
 use Rattle.server_trait.specs.Service.{Machine}
@@ -13,13 +13,13 @@ use Rattle.ft_model.specs.Timer.{interval_after, rest_after}
 use Rattle.ft_model.specs.Wire.{Wire}
 use Rattle.plain_packets.specs.Sent.{Appends}
 
--- it is a lawful turn, and what it sends follows the packets of before
+-- the turn is lawful, and what it sends is appended to the packets from before
 pub record TakesTurn {State : Type 0} (service : Machine State) (server : Addr) (boot : ℕ) (news : News) (before after : Point) (old new : List Wire) : Type 0 where
   pub sent : List Packet
   pub lawful : ConnectionTurn service server boot news before after sent
   pub packets : Appends old new sent
 
--- what is settled at the end of a turn, once the news are noted and the reads are made: how much is sent, the timer, and the end ticks
+-- what is settled at the end of a turn, after the news are noted and the reads are made: how much is sent, the timer, and the end ticks
 abbrev pub settled_since : {State : Type 0} → Machine State → News → (before noted : Point) → Point
 settled_since service news before noted = record noted {
   sent = sent_after service news before noted;

@@ -30,14 +30,14 @@ impl<S: Service> Model for PlainConnection<S> {
 impl<S: Service> PlainConnection<S> {
     ghost use Rattle.ft_model.specs.Point.{answered_run, made as made_lem, released as released_lem, target as target_lem};
 
-    /// Its point.
+    /// Returns its point.
     pub fn point(&self) -> &PlainPoint
         ensures { result.now ≡ self.now.point }
     {
         &self.point
     }
 
-    /// How far the output of the answered reads extends, and whether the service has closed by then.
+    /// Returns how far the output of the answered reads extends, and whether the service has closed by then.
     #[tactic(auto, using(crate::proofs::Served::answered))]
     pub fn answered_end(&self) -> End
         requires { IsServed (machine (S.started self.now.kind) S.after) self.now }
@@ -49,7 +49,7 @@ impl<S: Service> PlainConnection<S> {
         end
     }
 
-    /// How many bytes of output may be sent: those of answered reads.
+    /// Returns how many bytes of output may be sent: those of the answered reads.
     pub fn released(&self) -> u64
         requires { IsServed (machine (S.started self.now.kind) S.after) self.now }
         ensures { result ≡ released_lem (machine (S.started self.now.kind) S.after) self.now.point }
@@ -57,7 +57,7 @@ impl<S: Service> PlainConnection<S> {
         self.answered_end().output
     }
 
-    /// The output that may be sent.
+    /// Returns the output that may be sent.
     #[tactic(auto, using(crate::proofs::Served::released_output))]
     pub fn output(&self) -> &[u8]
         requires { IsServed (machine (S.started self.now.kind) S.after) self.now }
@@ -66,7 +66,7 @@ impl<S: Service> PlainConnection<S> {
         part(self.made.output(), 0, self.released())
     }
 
-    /// How many bytes of output all reads make.
+    /// Returns how many bytes of output all reads make.
     #[tactic(auto, using(crate::proofs::Served::whole_output))]
     pub fn made(&self) -> u64
         requires { IsServed (machine (S.started self.now.kind) S.after) self.now }

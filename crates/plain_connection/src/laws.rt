@@ -1,4 +1,4 @@
-//! What the plain point's own definitions say in the model's words.
+//! The plain point's own definitions in terms of the model's.
 
 ghost use Rattle.std.specs.Prelude.{◌≡◌, ℕ};
 ghost use Rattle.server_trait.specs.Service.{machine};

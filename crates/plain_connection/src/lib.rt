@@ -1,4 +1,4 @@
-//! A live connection as plain values: its point, and what its service has made of its reads. One turn of it notes the news, reads on, settles what is sent and the
+//! A live connection as plain values: its point, and what its service has made of its reads. A turn notes the news, reads on, settles what is sent and the
 //! timer, and sends segments to the client and messages to the logger, each by its law. It shares no code with the server that it judges.
 #![tactic(auto)]
 

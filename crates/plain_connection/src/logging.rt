@@ -1,5 +1,5 @@
-//! What a turn sends to the logger: copies of the client's text, the lengths of reads, and that the connection is done. What has no spelling isn't sent: an
-//! offset past the longest stream, and the index of a read past the most reads.
+//! What a turn sends to the logger: copies of the client's text, the lengths of reads, and that the connection is done. A message that has no spelling isn't
+//! sent: one with an offset past the longest stream, or with the index of a read past the most reads.
 
 ghost use Rattle.std.specs.Prelude.{◌≡◌, ◌≤◌, ◌+◌, ◌^◌, ◌||◌, nat_lt, [], ◌∷◌, length, map, drop, OnOk};
 ghost use Rattle.server_trait.specs.Service.{machine};
@@ -28,7 +28,7 @@ use std::alloc::Global;
 /// The longest stream, in bytes.
 const LONGEST_STREAM: u64 = 1 << 24;
 
-/// The most text of one message, in bytes.
+/// The most text in one message, in bytes.
 const MOST_TEXT: usize = 1_460;
 
 /// Sends a part of the client's stream. After `NoMemory` the packets may only be dropped.
@@ -54,14 +54,14 @@ fn send_data(
     sent.send_to_logger(alloc, &Msg { boot, body })
 }
 
-/// Whether a part has text or the FIN.
+/// Returns whether a part has text or the FIN.
 fn has_any(part: &Data<'_>) -> bool
     ensures { result ≡ (nat_lt 0 (length part.now.bytes.now) || part.now.fin) }
 {
     !part.bytes.is_empty() || part.fin
 }
 
-/// Sends the last part of some text, of at most 1,460 bytes, if it has text or the FIN. After `NoMemory` the packets may only be dropped.
+/// Sends the last part of a text, at most 1,460 bytes, if it has text or the FIN. After `NoMemory` the packets may only be dropped.
 #[tactic(auto, using(crate::proofs::Copies::last_sent, crate::proofs::Copies::none_sent))]
 fn send_last(
     alloc: Global,
@@ -131,7 +131,7 @@ fn send_read(
     sent.send_to_logger(alloc, &Msg { boot, body })
 }
 
-/// Sends the lengths of reads, from this one on. After `NoMemory` the packets may only be dropped.
+/// Sends the lengths of the reads from this one on. After `NoMemory` the packets may only be dropped.
 #[tactic(auto, using(crate::proofs::Telling::telling_begins))]
 fn send_reads(
     alloc: Global,
@@ -155,8 +155,8 @@ impl<S: Service> PlainConnection<S> {
     ghost use Rattle.ft_model.specs.Reads.{first_told, reads_told};
     ghost use Rattle.ft_model.specs.ResetAndEnd.{dones, tells_done};
 
-    /// Sends what a segment has copied, over the connection after the turn: its own part, then what was held. SND.UNA is told with each, or alone where it rose.
-    /// After `NoMemory` the packets may only be dropped.
+    /// Sends what is copied because of a segment, given the connection after the turn: the segment's own part, then what was held. Each message reports
+    /// SND.UNA. If there is no part, and SND.UNA rose, one message reports it alone. After `NoMemory` the packets may only be dropped.
     fn send_copied(
         &self,
         alloc: Global,
@@ -187,7 +187,7 @@ impl<S: Service> PlainConnection<S> {
         }
     }
 
-    /// Sends copies of the client's text, over the connection after the turn. After `NoMemory` the packets may only be dropped.
+    /// Sends copies of the client's text, given the connection after the turn. After `NoMemory` the packets may only be dropped.
     #[tactic(auto, unfolding(ft_model::specs::Copy::copies), using(plain_packets::proofs::Sent::appends_none))]
     pub(crate) fn send_copies(
         &self,
@@ -207,7 +207,7 @@ impl<S: Service> PlainConnection<S> {
         }
     }
 
-    /// The first read whose length is sent: a new one, or at a tick the first unanswered one.
+    /// Returns the first read whose length is sent: a new one, or at a tick the first unanswered one.
     fn first_told(&self, news: &News<'_>, before: &Before) -> usize
         ensures { (p : Point) → IsBefore (machine (S.started self.now.kind) S.after) (news_in news.now) p before.now
             → result ≡ first_told (news_in news.now) p self.now.point }
@@ -218,8 +218,8 @@ impl<S: Service> PlainConnection<S> {
         }
     }
 
-    /// Sends the lengths of the reads of this turn, and at a tick those of all unanswered reads, over the connection after the turn. After `NoMemory` the packets
-    /// may only be dropped.
+    /// Sends the lengths of the reads of this turn, and at a tick those of all unanswered reads, given the connection after the turn. After `NoMemory` the
+    /// packets may only be dropped.
     pub(crate) fn send_reads_told(
         &self,
         alloc: Global,
@@ -236,8 +236,8 @@ impl<S: Service> PlainConnection<S> {
         send_reads(alloc, boot, key, first, lengths, sent)
     }
 
-    /// Whether the turn reports that the connection is done, where it was reset before the turn or not: in the turn of the reset, at the fourth end tick, and at
-    /// each tick from then on.
+    /// Returns whether the turn reports that the connection is done: in the turn of the reset, at the fourth end tick, and at each tick from then on.
+    /// `was_reset` says whether it was reset before the turn.
     fn tells_done(&self, news: &News<'_>, was_reset: bool) -> bool
         ensures { (p : Point) → was_reset ≡ p.reset → result ≡ tells_done (news_in news.now) p self.now.point }
     {
@@ -245,7 +245,7 @@ impl<S: Service> PlainConnection<S> {
         (is_reset && !was_reset) || (news.is_tick() && (is_reset || self.point.end_ticks() == 4))
     }
 
-    /// Sends that the connection is done, where the turn reports it. After `NoMemory` the packets may only be dropped.
+    /// Sends that the connection is done, if the turn reports it. After `NoMemory` the packets may only be dropped.
     #[tactic(auto, unfolding(ft_model::specs::ResetAndEnd::dones), using(plain_packets::proofs::Sent::appends_none))]
     pub(crate) fn send_dones(
         &self,

@@ -1,4 +1,4 @@
-//! What a turn of the server brings for one live connection.
+//! What happens to one live connection in a turn of the server.
 
 ghost use Rattle.std.specs.Prelude.{◌≡◌};
 ghost use Rattle.ft_model.specs.Timer.{is_tick};
@@ -7,7 +7,7 @@ ghost use Rattle.plain_connection.specs.News.{news_in};
 use plain_point::Kept;
 use segment_codec::PacketRef;
 
-/// What a turn brings for one connection.
+/// What happens to one connection in a turn.
 #[derive(Clone, Copy, Debug)]
 pub enum News<'a> {
     /// A segment of its client.
@@ -21,7 +21,7 @@ pub enum News<'a> {
 }
 
 impl News<'_> {
-    /// Whether it is a tick.
+    /// Returns whether it is a tick.
     pub(crate) fn is_tick(&self) -> bool
         ensures { result ≡ is_tick (news_in self.now) }
     {

@@ -1,4 +1,4 @@
-//! How a connection becomes live: with a client's SYN, or at the end of a restart.
+//! How a connection becomes live: by a client's SYN, or at the end of a restart.
 
 ghost use Rattle.std.specs.Prelude.{◌≡◌, ◌≤◌, [], true, false, IfOk, OnOk, nat_le, sum, length};
 ghost use Rattle.std.specs.List.{list_all};
@@ -17,7 +17,7 @@ use server_trait::Service;
 use std::alloc::Global;
 
 impl<S: Service> PlainConnection<S> {
-    /// A new connection with these numbers, of a service of this kind.
+    /// Creates a connection with these numbers, for a service of this kind.
     pub fn opened(
         alloc: Global,
         kind: u8,
@@ -34,7 +34,7 @@ impl<S: Service> PlainConnection<S> {
         })
     }
 
-    /// The service makes the fetched reads again. After `NoMemory` the connection may only be dropped.
+    /// Makes the service repeat the fetched reads. After `NoMemory` the connection may only be dropped.
     fn read_again(&mut self, lengths: &[u16]) -> Result<(), NoMemory>
         requires served { IsServed (machine (S.started self.old.kind) S.after) self.old }
         requires unread { self.old.point.lengths ≡ [] }
@@ -50,7 +50,8 @@ impl<S: Service> PlainConnection<S> {
         Ok(())
     }
 
-    /// A connection of a whole entry of the log that isn't done. The service makes its reads again, and the output continues after what the client has acknowledged.
+    /// Restores a connection from a whole entry of the log that isn't done. The service makes its reads again. The output continues after what the client
+    /// acknowledged.
     pub fn resumed(
         alloc: Global,
         kind: u8,

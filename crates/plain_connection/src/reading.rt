@@ -11,7 +11,7 @@ use server_trait::Service;
 impl<S: Service> PlainConnection<S> {
     ghost use Rattle.ft_model.specs.Reads.{next_read as next_lem, with_read};
 
-    /// The length of the next read, if one is made.
+    /// Returns the length of the next read, if one is made.
     #[tactic(auto, unfolding(ft_model::specs::Reads::may_read))]
     pub fn next_read(&self) -> Option<u16>
         requires { IsServed (machine (S.started self.now.kind) S.after) self.now }
@@ -25,7 +25,7 @@ impl<S: Service> PlainConnection<S> {
         }
     }
 
-    /// The service reads so much, which is there to be read. After `NoMemory` the connection may only be dropped.
+    /// Makes the service read `len` bytes, which are there to be read. After `NoMemory` the connection may only be dropped.
     pub(crate) fn read(&mut self, len: u16) -> Result<(), NoMemory>
         requires served { IsServed (machine (S.started self.old.kind) S.after) self.old }
         requires there { IsThere self.old.point len }
@@ -37,7 +37,7 @@ impl<S: Service> PlainConnection<S> {
         self.point.add_read(len)
     }
 
-    /// The service reads on while it may: at most 32 times. After `NoMemory` the connection may only be dropped.
+    /// Makes the service read on while it may: at most 32 times. After `NoMemory` the connection may only be dropped.
     pub fn read_on(&mut self) -> Result<(), NoMemory>
         requires { IsServed (machine (S.started self.old.kind) S.after) self.old }
         ensures kind { self.new.kind ≡ self.old.kind }

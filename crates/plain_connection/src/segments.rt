@@ -1,5 +1,5 @@
-//! What a turn sends to the client (RFC 9293, 3.8.1, 3.8.3, 3.8.6.1 and 3.10.7.4; RFC 5681, 3.2): all is computed from the connection after the turn, and from what
-//! the turn compares with the connection before it.
+//! What a turn sends to the client (RFC 9293, 3.8.1, 3.8.3, 3.8.6.1 and 3.10.7.4; RFC 5681, 3.2). All of it is computed from the connection after the turn,
+//! and from what the turn compares with the connection before it.
 
 ghost use Rattle.std.specs.Prelude.{◌≡◌, ◌<◌, ◌+◌, ◌^◌, ◌&&◌, not, [], ◌∷◌, map, OnOk, IfOk};
 ghost use Rattle.segment_codec.specs.Value.{segment_of};
@@ -22,7 +22,7 @@ use seq_arith::{ACK, FIN};
 use server_trait::Service;
 use std::alloc::Global;
 
-/// Sends a segment, so that some are sent.
+/// Sends a segment. The result is true: some segment is sent.
 fn send(alloc: Global, segment: &PacketRef<'_>, sent: &mut PlainPackets) -> Result<bool, NoMemory>
     ensures { IfOk result (λ any. Sends any sent.old sent.new (segment_of segment.now ∷ [])) }
 {
@@ -35,7 +35,7 @@ impl<S: Service> PlainConnection<S> {
     ghost use Rattle.ft_model.specs.Sending.{sent_at_once as at_once_lem};
     ghost use Rattle.ft_model.specs.Segments.{segments_of, text_at as text_lem, texts as texts_lem, fin_segment as fin_lem, fin_if_closed, resent_length as resent_lem, first_unacknowledged, probe, is_unacknowledged as unacknowledged_lem, new_texts, new_fin};
 
-    /// How many units may be sent: the output of answered reads, and the FIN after it where they have closed the service.
+    /// Returns how many units may be sent: the output of the answered reads, and the FIN after it if they have closed the service.
     pub fn target(&self) -> u64
         requires { IsServed (machine (S.started self.now.kind) S.after) self.now }
         ensures { result ≡ target_lem (machine (S.started self.now.kind) S.after) self.now.point }
@@ -43,7 +43,7 @@ impl<S: Service> PlainConnection<S> {
         self.output().len() as u64 + u64::from(self.answered_end().closed)
     }
 
-    /// How many units are sent after the turn, but for a probe.
+    /// Returns how many units are sent after the turn, not counting a probe.
     #[tactic(auto, using(crate::proofs::Sends::at_once_since), unfolding(ft_model::specs::Sending::sent_at_once))]
     pub(crate) fn sent_at_once(&self, before: &Before) -> u64
         requires { IsServed (machine (S.started self.now.kind) S.after) self.now }
@@ -54,7 +54,7 @@ impl<S: Service> PlainConnection<S> {
         before.sent.max(self.target().min(self.point.send_edge()))
     }
 
-    /// Output in a segment: n bytes of it, from an offset on.
+    /// Returns a segment with `n` bytes of output, from an offset on.
     fn text_at(&self, server: Addr, offset: u64, n: u64) -> PacketRef<'_>
         requires { IsServed (machine (S.started self.now.kind) S.after) self.now }
         ensures { segment_of result ≡ text_lem (machine (S.started self.now.kind) S.after) server self.now.point offset n }
@@ -63,7 +63,7 @@ impl<S: Service> PlainConnection<S> {
         self.point.segment_at(server, offset, ACK, text)
     }
 
-    /// Sends the SYN-ACK, where it answers the news. Says whether it does.
+    /// Sends the SYN-ACK if it answers the news. Returns whether it does.
     fn send_syn_ack(
         &self,
         alloc: Global,
@@ -79,7 +79,7 @@ impl<S: Service> PlainConnection<S> {
         send(alloc, &self.point.syn_ack(server), sent)
     }
 
-    /// Sends the FIN, in a segment of its own, where an answered read has closed the service. Says whether one has.
+    /// Sends the FIN, in a segment of its own, if an answered read has closed the service. Returns whether one has.
     fn send_fin_if_closed(
         &self,
         alloc: Global,
@@ -98,7 +98,7 @@ impl<S: Service> PlainConnection<S> {
         send(alloc, &segment, sent)
     }
 
-    /// How many bytes are retransmitted: at most a segment of what was sent, and no more than the client has room for, where its room counts as at least one byte.
+    /// Returns how many bytes are retransmitted: at most a segment of what was sent, and at most the client's room, which counts as at least one byte.
     fn resent_length(&self, before: &Before) -> u64
         requires { IsServed (machine (S.started self.now.kind) S.after) self.now }
         ensures { result ≡ resent_lem (machine (S.started self.now.kind) S.after) (having_sent before.now.sent self.now.point) self.now.point }
@@ -109,7 +109,8 @@ impl<S: Service> PlainConnection<S> {
         u64::from(self.point.mss()).min(unacknowledged.min(room))
     }
 
-    /// Retransmits the first unacknowledged segment: the SYN-ACK, else the FIN where all output is acknowledged, else text from SND.UNA on. Says whether it sends one.
+    /// Retransmits the first unacknowledged segment: the SYN-ACK, else the FIN if all output is acknowledged, else text from SND.UNA on. Returns whether it
+    /// sends one.
     fn send_first_unacknowledged(
         &self,
         alloc: Global,
@@ -132,7 +133,7 @@ impl<S: Service> PlainConnection<S> {
         send(alloc, &segment, sent)
     }
 
-    /// Sends the probe, at SND.NXT: one byte, or the FIN where no byte is waiting. Says whether it sends one.
+    /// Sends the probe, at SND.NXT: one byte, or the FIN if no byte is waiting. Returns whether it sends one.
     fn send_probe(
         &self,
         alloc: Global,
@@ -151,14 +152,15 @@ impl<S: Service> PlainConnection<S> {
         send(alloc, &segment, sent)
     }
 
-    /// Whether something that was sent is unacknowledged: the SYN, or a unit of output.
+    /// Returns whether something that was sent is unacknowledged: the SYN, or a unit of output.
     fn is_unacknowledged(&self, before: &Before) -> bool
         ensures { result ≡ unacknowledged_lem (having_sent before.now.sent self.now.point) self.now.point }
     {
         !self.point.syn_acked() || self.point.una() < before.sent
     }
 
-    /// Sends one more segment where the timer expires, and at the third duplicate acknowledgement: a retransmission, or else a probe. Says whether it sends one.
+    /// Sends one more segment if the timer expires, and at the third duplicate acknowledgement: a retransmission, or else a probe. Returns whether it sends
+    /// one.
     fn resend(
         &self,
         alloc: Global,
@@ -179,7 +181,7 @@ impl<S: Service> PlainConnection<S> {
         }
     }
 
-    /// Sends `len` bytes of output from `from` on, in segments of the segment size, the last one excepted.
+    /// Sends `len` bytes of output from `from` on, in segments of the segment size; the last one may be shorter.
     fn send_texts(
         &self,
         alloc: Global,
@@ -206,7 +208,7 @@ impl<S: Service> PlainConnection<S> {
         Ok(())
     }
 
-    /// Sends the output that is sent for the first time. Says whether there is some.
+    /// Sends the output that is sent for the first time. Returns whether there is some.
     fn send_new_texts(
         &self,
         alloc: Global,
@@ -224,7 +226,7 @@ impl<S: Service> PlainConnection<S> {
         Ok(len > 0)
     }
 
-    /// Sends the FIN where it is sent for the first time. Says whether it is.
+    /// Sends the FIN if it is sent for the first time. Returns whether it is.
     #[tactic(auto, unfolding(ft_model::specs::Segments::new_fin))]
     fn send_new_fin(
         &self,
@@ -244,7 +246,7 @@ impl<S: Service> PlainConnection<S> {
         self.send_fin_if_closed(alloc, server, sent)
     }
 
-    /// Whether an ACK is pending: the news require a segment, more is known to be logged, or what TCP advertises has changed.
+    /// Returns whether an ACK is pending: the news require a segment, more is known to be logged, or what TCP advertises has changed.
     fn is_ack_pending(&self, before: &Before) -> bool
         ensures { result ≡ is_ack_pending_since before.now self.now.point }
     {
@@ -254,14 +256,14 @@ impl<S: Service> PlainConnection<S> {
             || before.edge != self.point.advertised_edge()
     }
 
-    /// Whether a segment without data is due: an ACK is pending, and there is no other segment.
+    /// Returns whether a segment without data is due: an ACK is pending, and no other segment is sent.
     fn is_bare_due(&self, any: bool, before: &Before) -> bool
         ensures { result ≡ (not any && is_ack_pending_since before.now self.now.point) }
     {
         !any && self.is_ack_pending(before)
     }
 
-    /// Sends all segments except the bare one, in order. Says whether there are any.
+    /// Sends all segments except the one without data, in order. Returns whether there are any.
     fn send_full_segments(
         &self,
         alloc: Global,
@@ -279,7 +281,7 @@ impl<S: Service> PlainConnection<S> {
         Ok(opens | resends | goes_on | ends)
     }
 
-    /// Sends the segments of a turn, over the connection after it: a bare one exactly where an ACK is pending and there is no other.
+    /// Sends the segments of a turn, given the connection after it: one without data exactly if an ACK is pending and no other segment is sent.
     pub(crate) fn send_segments(
         &self,
         alloc: Global,

@@ -1,5 +1,5 @@
-//! One turn of a connection: its news are noted, the service reads on, what is sent and the timer are settled, and packets are sent. A connection that its client
-//! resets, or has reset, only notes what is logged and reports that it is done.
+//! One turn of a connection: it notes the news, the service reads on, what is sent and the timer are settled, and packets are sent. A connection that its
+//! client resets, or has reset, only notes what is logged and reports that it is done.
 
 ghost use Rattle.std.specs.Prelude.{◌≡◌, ◌≤◌, ◌^◌, ℕ, false, IfOk, OnOk};
 ghost use Rattle.server_trait.specs.Service.{machine};
@@ -45,7 +45,7 @@ impl<S: Service> PlainConnection<S> {
         }
     }
 
-    /// Whether the turn is an end tick: the connection is over, and all that is taken is known to be logged.
+    /// Returns whether the turn is an end tick: the connection is over, and all that is taken is known to be logged.
     fn is_end_tick(&self, news: &News<'_>) -> bool
         requires { IsServed (machine (S.started self.now.kind) S.after) self.now }
         ensures { result ≡ end_lem (machine (S.started self.now.kind) S.after) (news_in news.now) self.now.point }
@@ -56,7 +56,7 @@ impl<S: Service> PlainConnection<S> {
         }
     }
 
-    /// How many units are sent after the turn. What no memory could hold isn't counted: that is `NoMemory`.
+    /// Returns how many units are sent after the turn. A count that doesn't fit its type is `NoMemory`: no memory could hold so many.
     fn sent_after(&self, before: &Before) -> Result<u64, NoMemory>
         requires { IsServed (machine (S.started self.now.kind) S.after) self.now }
         ensures { (news : model) (p : Point) → IsBefore (machine (S.started self.now.kind) S.after) news p before.now
@@ -85,7 +85,7 @@ impl<S: Service> PlainConnection<S> {
         Ok(())
     }
 
-    /// Takes the news of a connection that its client hasn't reset, without packets. After `NoMemory` it may only be dropped.
+    /// Takes the news of a connection that its client hasn't reset. It sends no packets. After `NoMemory` the connection may only be dropped.
     fn advance(&mut self, alloc: Global, news: &News<'_>, before: &Before) -> Result<(), NoMemory>
         requires served { IsServed (machine (S.started self.old.kind) S.after) self.old }
         requires before { IsBefore (machine (S.started self.old.kind) S.after) (news_in news.now) self.old.point before.now }
@@ -100,8 +100,8 @@ impl<S: Service> PlainConnection<S> {
         self.settle(news, before)
     }
 
-    /// Sends the packets of a turn, in their order, where the client hasn't reset the connection, which is that after the turn. After `NoMemory` the packets may only
-    /// be dropped.
+    /// Sends the packets of a turn, in their order, for a connection that its client hasn't reset. The connection is the one after the turn. After
+    /// `NoMemory` the packets may only be dropped.
     fn send_turn(
         &self,
         alloc: Global,
@@ -136,7 +136,7 @@ impl<S: Service> PlainConnection<S> {
         }
     }
 
-    /// One turn of the connection. After `NoMemory` the connection may only be dropped.
+    /// Takes one turn. After `NoMemory` the connection may only be dropped.
     pub fn turn(
         &mut self,
         alloc: Global,

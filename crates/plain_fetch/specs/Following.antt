@@ -1,4 +1,4 @@
--- The log's rule for reads, by the sum of the reads before and whether one of them closes.
+-- The log's rule for reads, given the sum of the reads before and whether one of them closes.
 use Rattle.std.specs.Prelude.{ℕ, Bool, true, ◌+◌, ◌==◌, ◌&&◌, ◌||◌, not, nat_lt, nat_le, List, [], ◌∷◌}
 
 abbrev pub follows : (len : ℕ) → (fin : Bool) → (read : ℕ) → (closed : Bool) → ℕ → Bool

@@ -1,4 +1,4 @@
-//! What a restart takes from the entries that it has fetched.
+//! What a restart takes from the fetched entries.
 
 ghost use Rattle.std.specs.Prelude.{◌≡◌, ◌++◌, ◌∷◌, ◌&&◌, [], not, find, MatchOption, option_copied};
 ghost use Rattle.ft_io.specs.Key.{key_eq};
@@ -7,7 +7,7 @@ use crate::fetched::PlainFetched;
 use crate::fetching::PlainFetching;
 use ft_io::Key;
 
-/// The entry of a key, if it isn't done.
+/// Returns the entry of a key, if it isn't done.
 fn find_live(entries: &[PlainFetched], key: Key) -> Option<&PlainFetched>
     ensures { option_copied result ≡ find (λ f. key_eq f.head.key key && not f.head.done) entries.now }
 {
@@ -19,14 +19,14 @@ fn find_live(entries: &[PlainFetched], key: Key) -> Option<&PlainFetched>
 impl PlainFetching {
     ghost use Rattle.ft_model.specs.Restart.{live_entry};
 
-    /// The fetched entry of a client, if it isn't done.
+    /// Returns the fetched entry of a client, if it isn't done.
     pub fn live_entry(&self, key: Key) -> Option<&PlainFetched>
         ensures { option_copied result ≡ live_entry key self.now }
     {
         find_live(self.entries.as_slice(), key)
     }
 
-    /// Takes out the oldest of the entries.
+    /// Removes the oldest entry and returns it.
     pub fn pop(&mut self) -> Option<PlainFetched>
         ensures { MatchOption result ((self.old ≡ []) × (self.new ≡ [])) (λ f. self.old ≡ self.new ++ f ∷ []) }
     {

@@ -1,4 +1,4 @@
-//! The entries that are fetched, the newest first.
+//! The fetched entries, newest first.
 
 ghost use Rattle.std.specs.Prelude.{◌≡◌, true, [], IfOk, nat_le, option_map};
 ghost use Rattle.std.specs.List.{list_all};
@@ -14,7 +14,7 @@ use logger_wire::Body;
 use std::alloc::Global;
 use std::marker::Model;
 
-/// The entries that are fetched so far, the newest first.
+/// The entries fetched so far, newest first.
 #[derive(Debug, Drop)]
 pub struct PlainFetching {
     pub(crate) entries: Vec<PlainFetched>,
@@ -29,7 +29,7 @@ impl Model for PlainFetching {
     ghost view = { λ f. f.entries.items };
 }
 
-/// Whether an entry of this key is fetched.
+/// Returns whether an entry of this key is fetched.
 fn is_among(entries: &[PlainFetched], key: Key) -> bool
     ensures { result ≡ is_fetched key entries.now }
 {
@@ -40,7 +40,7 @@ impl PlainFetching {
     ghost use Rattle.ft_model.specs.Restart.{wanted as wanted_lem, fetched_by, fetched_after};
     ghost use Rattle.ft_model.specs.Restart.Wanted.{An_entry, Its_bytes, Its_lengths};
 
-    /// Nothing is fetched. Nothing is allocated.
+    /// Creates an empty list: nothing is fetched. Allocates nothing.
     pub fn new(alloc: Global) -> PlainFetching
         ensures { result ≡ [] }
     {
@@ -49,7 +49,7 @@ impl PlainFetching {
         }
     }
 
-    /// What is asked for next, of so many entries.
+    /// Returns what is requested next from a log with `count` entries.
     pub fn wanted(&self, count: u16) -> Option<Wanted>
         ensures { option_map wanted_in result ≡ wanted_lem count self.now }
     {
@@ -67,7 +67,7 @@ impl PlainFetching {
         None
     }
 
-    /// Takes the entry at this index, if the answer is one and its key is new. After `NoMemory` it may only be dropped.
+    /// Takes the entry at this index, if the answer is one and its key is new. Returns whether it fits. After `NoMemory` the list may only be dropped.
     fn take_entry(&mut self, alloc: Global, index: u16, body: &Body<'_>) -> Result<bool, NoMemory>
         ensures { IfOk result (λ fits. IsTakenAs (fetched_by (An_entry index) (body_of body.now) self.old) self.old self.new fits) }
     {
@@ -104,7 +104,7 @@ impl PlainFetching {
         Ok(true)
     }
 
-    /// Takes bytes of the newest entry, if the answer brings those asked for. After `NoMemory` it may only be dropped.
+    /// Takes bytes of the newest entry, if the answer has those requested. Returns whether it fits. After `NoMemory` the list may only be dropped.
     fn take_bytes(&mut self, key: Key, offset: u32, body: &Body<'_>) -> Result<bool, NoMemory>
         ensures { IfOk result (λ fits. IsTakenAs (fetched_by (Its_bytes key offset) (body_of body.now) self.old) self.old self.new fits) }
     {
@@ -126,7 +126,8 @@ impl PlainFetching {
         Ok(true)
     }
 
-    /// Takes an answer of this boot, of so many entries, if it fits what is asked for. After `NoMemory` it may only be dropped.
+    /// Takes an answer of this boot, from a log with `count` entries, if it fits the request. Returns whether it fits. After `NoMemory` the list may only be
+    /// dropped.
     pub fn take(&mut self, alloc: Global, count: u16, body: &Body<'_>) -> Result<bool, NoMemory>
         requires { list_all (λ len. nat_le len 2048) (lens_of (body_of body.now)) ≡ true }
         ensures { IfOk result (λ fits. IsTakenAs (fetched_after (wanted_lem count self.old) (body_of body.now) self.old) self.old self.new fits) }
@@ -139,7 +140,7 @@ impl PlainFetching {
         }
     }
 
-    /// Takes lengths of the newest entry, if the answer brings those asked for. After `NoMemory` it may only be dropped.
+    /// Takes lengths of the newest entry, if the answer has those requested. Returns whether it fits. After `NoMemory` the list may only be dropped.
     fn take_lengths(&mut self, key: Key, first: u32, body: &Body<'_>) -> Result<bool, NoMemory>
         requires { list_all (λ len. nat_le len 2048) (lens_of (body_of body.now)) ≡ true }
         ensures { IfOk result (λ fits. IsTakenAs (fetched_by (Its_lengths key first) (body_of body.now) self.old) self.old self.new fits) }

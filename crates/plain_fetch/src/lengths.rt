@@ -1,11 +1,11 @@
-//! Lengths of reads, spelled with two bytes each.
+//! Lengths of reads, in two bytes each.
 
 ghost use Rattle.std.specs.Prelude.{◌≡◌, ◌<◌, ◌∷◌, [], MatchOption, IfSome, length};
 ghost use Rattle.seq_arith.specs.MessageGrammar.{lens_in};
 
 use logger_wire::len_at;
 
-/// The first length, and the bytes after it; `None` where there is none.
+/// Returns the first length and the bytes after it, or `None` if there is none.
 #[tactic(auto, using(std::proofs::lemmas::List::take_rest, logger_wire::proofs::Lens::lens_step, logger_wire::proofs::Lens::lens_end))]
 pub(crate) fn split_first(lens: &[u8]) -> Option<(u16, &[u8])>
     ensures value { MatchOption result (lens_in lens.now ≡ []) (λ found. lens_in lens.now ≡ found.0 ∷ lens_in found.1.now) }

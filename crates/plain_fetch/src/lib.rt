@@ -1,4 +1,4 @@
-//! What a server fetches of the log when it boots, as plain values: what it asks for next, and which answers fit. It shares no code with the restart that it
+//! What a booting server fetches from the log, as plain values: what it requests next, and which answers fit. It shares no code with the restart that it
 //! judges.
 #![tactic(auto)]
 

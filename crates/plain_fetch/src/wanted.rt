@@ -1,4 +1,4 @@
-//! What is asked for next.
+//! What is requested next.
 
 ghost use Rattle.std.specs.Prelude.{◌≡◌};
 ghost use Rattle.ft_model.specs.Restart.{question};
@@ -8,7 +8,7 @@ ghost use Rattle.plain_fetch.specs.Values.{wanted_in};
 use ft_io::Key;
 use logger_wire::Body;
 
-/// An entry of the log, bytes of one, or lengths of one.
+/// What is requested: an entry of the log, bytes of one, or lengths of one.
 #[derive(Clone, Copy, Debug, PartialEq, Eq)]
 pub enum Wanted {
     /// The entry at this index.
@@ -19,7 +19,7 @@ pub enum Wanted {
     Lengths { key: Key, first: u32 },
 }
 
-/// The question that asks for it.
+/// Returns the message that requests it.
 pub fn question<'a>(wanted: Wanted) -> Body<'a>
     ensures { body_of result ≡ question (wanted_in wanted) }
 {

@@ -1,4 +1,4 @@
-//! What the text and the FIN of a segment do to a stream. The rules apply in the order of the functions here.
+//! The effect of a segment's text and FIN on a stream. The rules apply in the order of the functions here.
 
 ghost use Rattle.std.specs.Prelude.{◌≡◌, ◌<◌, ◌+◌, ◌^◌, pos, ◌+ℤ◌, IfOk, OnOk, length};
 ghost use Rattle.seq_arith.specs.Coming.{Early, nothing_came, ahead as ahead_lem, new_text as new_lem, comes};
@@ -11,7 +11,7 @@ use seq_arith::below;
 use std::alloc::Global;
 use std::marker::Model;
 
-/// The bytes that a segment adds to those taken, what is held then, and whether the FIN is taken.
+/// The bytes that a segment adds to those taken, what is held afterwards, and whether the FIN is taken.
 #[derive(Debug, Drop)]
 pub struct Coming {
     pub added: Vec<u8>,
@@ -27,7 +27,7 @@ impl Model for Coming {
     ghost view = { λ c. record { added = c.added.items; early = c.held; fin = c.fin } };
 }
 
-/// How far past the end of the bytes taken a text begins.
+/// Returns how far past the end of the bytes taken a text begins.
 fn ahead(n: u64, first: i64) -> u64
     ensures value { result ≡ ahead_lem n first }
     ensures within { result < 2 ^ 63 }
@@ -42,7 +42,7 @@ fn ahead(n: u64, first: i64) -> u64
 impl Coming {
     ghost use Rattle.seq_arith.specs.Coming.{with_text, holds_fin as holds_lem, with_fin, continued, with_fin_taken};
 
-    /// So far nothing is added, and what was held is held.
+    /// Returns the state before the first rule: nothing is added, and what was held is held.
     fn nothing(alloc: Global, held: Held, fin: bool) -> Coming
         ensures { result ≡ nothing_came held fin }
     {
@@ -53,7 +53,7 @@ impl Coming {
         }
     }
 
-    /// The new text of a segment: from the bytes taken up to the edge below which text counts.
+    /// Returns the new text of a segment: from the end of the bytes taken up to the edge below which text counts.
     #[tactic(auto, unfolding(seq_arith::specs::Coming::new_text))]
     fn new_text<'a>(&self, n: u64, edge: u64, first: i64, text: &'a [u8]) -> &'a [u8]
         requires { n < 2 ^ 63 }
@@ -64,7 +64,7 @@ impl Coming {
         part(text, below(n, first), room)
     }
 
-    /// New text that begins at the end of the bytes taken is added to them, and is no longer held. Other new text is held.
+    /// Adds new text that begins at the end of the bytes taken to them; it is no longer held. Holds other new text.
     #[tactic(auto, unfolding(seq_arith::specs::Coming::with_text))]
     fn take_text(
         &mut self,
@@ -88,7 +88,8 @@ impl Coming {
         Ok(())
     }
 
-    /// Whether a FIN at this place is held: it is below the receive edge and not below the bytes taken, no text at or past it is held, and no FIN is held or taken.
+    /// Returns whether a FIN at this place is held: it is from the end of the bytes taken to below the receive edge, no text at or past it is held, and no
+    /// FIN is held or taken.
     #[tactic(auto, unfolding(seq_arith::specs::Coming::holds_fin))]
     fn holds_fin(&self, n: u64, edge: u64, place: u64) -> bool
         requires { n < 2 ^ 63 }
@@ -102,7 +103,7 @@ impl Coming {
             && !self.fin
     }
 
-    /// Holds the segment's FIN, which is `len` past `first`.
+    /// Holds the segment's FIN, which is `len` past `first`, if the rules allow it.
     #[tactic(auto, using(crate::proofs::Fins::none_before), unfolding(seq_arith::specs::Coming::with_fin))]
     fn hold_fin(&mut self, n: u64, edge: u64, first: i64, len: u64, has_fin: bool)
         requires n { n < 2 ^ 63 }
@@ -120,7 +121,7 @@ impl Coming {
         }
     }
 
-    /// The held bytes that continue those taken are added to them.
+    /// Adds the held bytes that continue those taken to them.
     #[tactic(auto, unfolding(seq_arith::specs::Coming::continued))]
     fn take_held(&mut self, alloc: Global) -> Result<(), NoMemory>
         ensures { OnOk result (self.new ≡ continued self.old) }
@@ -131,7 +132,7 @@ impl Coming {
         Ok(())
     }
 
-    /// A FIN that is held at the end of the bytes taken is taken.
+    /// Takes a FIN that is held at the end of the bytes taken.
     #[tactic(auto, unfolding(seq_arith::specs::Coming::with_fin_taken))]
     fn take_fin(&mut self, n: u64)
         requires { n < 2 ^ 63 }
@@ -146,8 +147,8 @@ impl Coming {
         }
     }
 
-    /// What a segment does to a stream of which `n` bytes are taken, with the receive edge `edge`, where `fin` says whether its FIN is taken. The segment's text
-    /// begins at `first`.
+    /// Returns the effect of a segment on a stream, given the out-of-order data held. The segment's text begins at `first`, and `has_fin` says whether its
+    /// FIN follows the text.
     #[tactic(auto, unfolding(seq_arith::specs::Coming::comes))]
     pub fn of(
         alloc: Global,

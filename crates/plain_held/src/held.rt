@@ -8,7 +8,7 @@ use ft_io::NoMemory;
 use std::alloc::Global;
 use std::marker::Model;
 
-/// The most runs of places that are held.
+/// The largest number of runs that are held.
 const MOST_RUNS: usize = 16;
 
 /// Out-of-order data: text after the bytes taken, place by place, and at most one FIN, by its offset in the stream.
@@ -30,7 +30,7 @@ impl Held {
     ghost use Rattle.std.specs.Prelude.{ℕ};
     ghost use Rattle.seq_arith.specs.Early.{held_with};
 
-    /// Nothing is held. Nothing is allocated.
+    /// Creates an empty value: nothing is held. Allocates nothing.
     pub fn new(alloc: Global) -> Held
         ensures { result ≡ nothing_early }
     {
@@ -40,7 +40,7 @@ impl Held {
         }
     }
 
-    /// Text counts below this offset: below the receive edge, and below a FIN that is held or taken.
+    /// Returns the offset below which text counts: the receive edge, or an earlier FIN that is held or taken.
     pub(crate) fn text_edge(&self, n: u64, edge: u64, fin: bool) -> u64
         ensures { result ≡ edge_lem n edge fin self.now }
     {
@@ -53,7 +53,7 @@ impl Held {
         }
     }
 
-    /// Holds bytes from a place on, unless more than sixteen runs would be held. After `NoMemory` it may only be dropped.
+    /// Holds bytes from a place on, unless that would make more than sixteen runs. After `NoMemory` it may only be dropped.
     #[tactic(auto, unfolding(seq_arith::specs::Early::held_with))]
     pub(crate) fn hold(&mut self, alloc: Global, at: usize, bytes: &[u8]) -> Result<(), NoMemory>
         ensures { OnOk result (self.new ≡ record self.old { text = held_with at bytes.now self.old.text }) }

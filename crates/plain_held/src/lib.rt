@@ -1,5 +1,5 @@
-//! Reassembly as plain values: what the text and the FIN of a segment do to a stream, where text after a gap is held place by place until the gap is filled
-//! (RFC 9293, 3.10.7.4, seventh and eighth check). Each rule is one function. For the plain world, which shares no code with the endpoints that it judges.
+//! Reassembly as plain values: the effect of a segment's text and FIN on a stream. Text after a gap is held place by place until the gap is filled (RFC
+//! 9293, 3.10.7.4, seventh and eighth check). Each rule is one function. For the plain world, which shares no code with the endpoints that it judges.
 #![tactic(auto)]
 
 pub use coming::{Coming, Stream};

@@ -1,11 +1,11 @@
-//! Places after the bytes taken, each of which holds a byte or none.
+//! Places after the bytes taken. Each holds a byte or none.
 
 ghost use Rattle.std.specs.Prelude.{ℕ, List, ◌≡◌, ◌≤◌, ◌<◌, ◌+◌, ◌^◌, [], ◌∷◌, ◌++◌, Option, None, IfOk, OnOk, length, drop};
 ghost use Rattle.seq_arith.specs.Early.{laid, run_count as count_lem, front_run, behind_front_run, holds_some as holds_lem};
 
 use ft_io::NoMemory;
 
-/// The places from one on.
+/// Returns the places from this one on.
 #[tactic(auto, using(std::proofs::lemmas::List::take_rest))]
 pub(crate) fn behind(text: &[Option<u8>], first: u64) -> &[Option<u8>]
     ensures { result.now ≡ drop first text.now }
@@ -14,7 +14,7 @@ pub(crate) fn behind(text: &[Option<u8>], first: u64) -> &[Option<u8>]
     &text[from..]
 }
 
-/// Whether some place holds a byte.
+/// Returns whether some place holds a byte.
 #[tactic(auto, using(crate::proofs::FirstPlace::holds_first), unfolding(seq_arith::specs::Early::holds_some))]
 pub(crate) fn holds_some(text: &[Option<u8>]) -> bool
     ensures { result ≡ holds_lem text.now }
@@ -29,7 +29,7 @@ pub(crate) fn holds_some(text: &[Option<u8>]) -> bool
     false
 }
 
-/// How many runs of places hold bytes.
+/// Returns how many runs of held bytes there are.
 #[tactic(auto, using(crate::proofs::FirstPlace::runs_first), unfolding(seq_arith::specs::Early::runs_behind))]
 pub(crate) fn run_count(text: &[Option<u8>]) -> usize
     ensures { result ≡ count_lem text.now }
@@ -64,7 +64,7 @@ pub(crate) fn take_front<'a>(
     Ok(rest)
 }
 
-/// Adds empty places up to this one. Bytes are then laid as before. After `NoMemory` `text` may only be dropped.
+/// Adds empty places up to this one. Laying bytes from there on gives the same as before. After `NoMemory` `text` may only be dropped.
 #[tactic(auto, using(crate::proofs::Laying::padded))]
 fn pad(text: &mut Vec<Option<u8>>, at: usize) -> Result<(), NoMemory>
     ensures long { OnOk result (at ≤ length text.new.items) }
@@ -76,7 +76,7 @@ fn pad(text: &mut Vec<Option<u8>>, at: usize) -> Result<(), NoMemory>
     Ok(())
 }
 
-/// Lays a byte at a place within the others, or directly after them. After `NoMemory` `text` may only be dropped.
+/// Lays a byte at a place within the others or directly after them. After `NoMemory` `text` may only be dropped.
 #[tactic(auto, using(crate::proofs::Laying::laid_within, crate::proofs::Laying::laid_after))]
 fn put(text: &mut Vec<Option<u8>>, at: usize, byte: u8) -> Result<(), NoMemory>
     requires { at ≤ length text.old.items }
@@ -91,7 +91,7 @@ fn put(text: &mut Vec<Option<u8>>, at: usize, byte: u8) -> Result<(), NoMemory>
     Ok(())
 }
 
-/// Lays bytes over the places, from one on. After `NoMemory` `text` may only be dropped.
+/// Lays bytes over the places from this one on. After `NoMemory` `text` may only be dropped.
 #[tactic(auto, using(crate::proofs::Laying::laid_one_first, crate::proofs::Laying::nothing_laid))]
 pub(crate) fn lay(text: &mut Vec<Option<u8>>, at: usize, bytes: &[u8]) -> Result<(), NoMemory>
     ensures { OnOk result (text.new.items ≡ laid at bytes.now text.old.items) }
@@ -103,7 +103,7 @@ pub(crate) fn lay(text: &mut Vec<Option<u8>>, at: usize, bytes: &[u8]) -> Result
     lay_within(text, at, bytes)
 }
 
-/// Lays bytes over the places, from one on that is within them or directly after them. After `NoMemory` `text` may only be dropped.
+/// Lays bytes over the places from this one on, which is within them or directly after them. After `NoMemory` `text` may only be dropped.
 #[tactic(auto, using(crate::proofs::Laying::laid_one_first, crate::proofs::Laying::nothing_laid))]
 fn lay_within(text: &mut Vec<Option<u8>>, at: usize, bytes: &[u8]) -> Result<(), NoMemory>
     requires { at ≤ length text.old.items }

@@ -1,5 +1,5 @@
--- What the code's records say, as plain records of messages, and what a message changes in one entry.
-use Rattle.std.specs.Prelude.{ℕ, true, ◌≤◌, ◌+◌, ◌^◌, length, if◌then◌else◌}
+-- The code's records as plain records of messages, and what a message changes in one entry.
+use Rattle.std.specs.Prelude.{true, ◌≤◌, ◌+◌, ◌^◌, length, if◌then◌else◌}
 use Rattle.ft_io.specs.Key.{key_eq}
 use Rattle.seq_arith.specs.Message as said
 use Rattle.seq_arith.specs.Message.{Body}
@@ -14,12 +14,12 @@ numbers_in n = record { key = n.key; cisn = n.cisn; sisn = n.sisn; mss = n.mss }
 abbrev pub part_in : Part → said.Part
 part_in p = record { key = p.key; offset = p.offset; acked = p.acked; fin = p.fin; bytes = p.bytes.now }
 
--- bytes that a message brings lie within the longest stream
+-- the bytes in a message are within the longest stream
 abbrev pub StaysInStream : Body → Type 0
 StaysInStream (DataMsg part) = part.offset + length part.bytes ≤ 2 ^ 24
 StaysInStream _ = Unit {0}
 
--- what a body says of an entry, if it has the entry's key
+-- the entry after a body, which changes it only if it is about the entry's key
 abbrev pub logged_in : Body → Entry → Entry
 logged_in (DataMsg part) e = if key_eq e.key part.key then with_part part e else e
 logged_in (ReadMsg key index length) e = if key_eq e.key key then with_read index length e else e

@@ -1,11 +1,11 @@
--- The answer to a message, from the log that has taken it.
+-- The answer to a message, given the log that has taken it.
 use Rattle.std.specs.Prelude.{ℕ, ◌==◌, nat_lt, Option, Some, None, option_map, List, [], take, drop, if◌then◌else◌}
 use Rattle.std.specs.Option.{option_map_or}
 use Rattle.seq_arith.specs.Message.{Body, Message, is_answer}
 use Rattle.seq_arith.specs.Message.Body.{CutsMsg, StaleMsg}
 use Rattle.ft_model.specs.Log.{Log, entry_of, answer_from}
 
--- an older boot is told the newer one, the log's own boot gets its answer, and no other boot gets any
+-- a server of an older boot gets the newer boot number, one of the log's own boot gets its answer, and no other gets any
 abbrev pub reply_body : Log → Message → Option Body
 reply_body log message =
     if is_answer message.body then None

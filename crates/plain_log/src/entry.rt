@@ -1,4 +1,4 @@
-//! What is logged of one connection.
+//! The log's entry for one connection.
 
 ghost use Rattle.std.specs.Prelude.{◌≡◌, ◌≤◌, ◌+◌, ◌^◌, ◌++◌, OnOk, IfSome, length, take, drop, option_map, true};
 ghost use Rattle.seq_arith.specs.Message.Body.{EntryMsg, OpenedMsg, StableMsg, ReadsMsg};
@@ -12,10 +12,10 @@ use logger_wire::Body;
 use std::alloc::Global;
 use std::marker::Model;
 
-/// How many bytes one answer brings, at most.
+/// The largest number of bytes in one answer.
 const MOST_BYTES: usize = 1_024;
 
-/// How many lengths one answer brings, at most.
+/// The largest number of lengths in one answer.
 const MOST_LENGTHS: usize = 512;
 
 /// The numbers with which a connection is opened.
@@ -23,9 +23,9 @@ const MOST_LENGTHS: usize = 512;
 pub(crate) struct Numbers {
     /// The client's address and port.
     pub key: Key,
-    /// The client's initial number.
+    /// The client's initial sequence number.
     pub cisn: u32,
-    /// The server's initial number, as the client knows it.
+    /// The server's initial sequence number, as the client knows it.
     pub sisn: u32,
     /// The segment size, in bytes.
     pub mss: u16,
@@ -46,10 +46,10 @@ pub(crate) struct Part<'a> {
     pub bytes: &'a [u8],
 }
 
-/// What is logged of a connection. The lengths of its reads are summed as they are logged.
+/// The log's entry for one connection. The lengths of its reads are summed as they are logged.
 #[derive(Debug, Drop)]
 pub struct PlainEntry {
-    /// The key, the initial numbers and the segment size.
+    /// The key, the initial sequence numbers and the segment size.
     numbers: Numbers,
     /// The client's bytes, from the first on: at most 2^24.
     bytes: Vec<u8>,
@@ -57,9 +57,9 @@ pub struct PlainEntry {
     fin: bool,
     /// The lengths of the server's reads, in bytes.
     lengths: Vec<u16>,
-    /// Their sum.
+    /// The sum of the lengths.
     read: u32,
-    /// Whether the read of length 0 is among them, which is the last one.
+    /// Whether the read of length 0, which is the last one, is logged.
     closed: bool,
     /// The units of output that the client has acknowledged.
     acknowledged: u32,
@@ -92,7 +92,7 @@ impl Model for PlainEntry {
 }
 
 impl PlainEntry {
-    /// An entry in which nothing is logged yet. Nothing is allocated.
+    /// Creates an entry in which nothing is logged yet. Allocates nothing.
     pub(crate) fn new(alloc: Global, numbers: &Numbers) -> PlainEntry
         ensures { result ≡ new_entry (numbers_in numbers.now) }
     {
@@ -108,14 +108,14 @@ impl PlainEntry {
         }
     }
 
-    /// The client's address and port.
+    /// Returns the client's address and port.
     pub fn key(&self) -> Key
         ensures { result ≡ self.now.key }
     {
         self.numbers.key
     }
 
-    /// How many of the client's bytes are logged.
+    /// Returns how many of the client's bytes are logged.
     pub fn length(&self) -> u32
         ensures value { result ≡ length self.now.bytes }
         ensures within { result ≤ 2 ^ 24 }
@@ -123,49 +123,49 @@ impl PlainEntry {
         self.bytes.len() as u32
     }
 
-    /// Whether the client's FIN is logged.
+    /// Returns whether the client's FIN is logged.
     pub fn fin(&self) -> bool
         ensures { result ≡ self.now.fin }
     {
         self.fin
     }
 
-    /// The lengths of the server's reads, in order.
+    /// Returns the lengths of the server's reads, in order.
     pub fn lengths(&self) -> &[u16]
         ensures { result.now ≡ self.now.lengths }
     {
         self.lengths.as_slice()
     }
 
-    /// How many reads are logged.
+    /// Returns how many reads are logged.
     fn reads(&self) -> u32
         ensures { result ≡ length self.now.lengths }
     {
         self.lengths.len() as u32
     }
 
-    /// How many units of output the client has acknowledged.
+    /// Returns how many units of output the client has acknowledged.
     pub fn acked(&self) -> u32
         ensures { result ≡ self.now.acknowledged }
     {
         self.acknowledged
     }
 
-    /// Whether the connection has ended.
+    /// Returns whether the connection has ended.
     pub fn is_done(&self) -> bool
         ensures { result ≡ self.now.done }
     {
         self.done
     }
 
-    /// Notes that the connection has ended.
+    /// Records that the connection has ended.
     pub(crate) fn end(&mut self)
         ensures { self.new ≡ record self.old { done = true } }
     {
         self.done = true;
     }
 
-    /// Logs the bytes past those that are logged, unless they leave a gap or come after the FIN.
+    /// Logs those bytes of a part that aren't logged yet, unless they leave a gap or come after the FIN.
     fn take_bytes(&mut self, part: &Part<'_>) -> Result<(), NoMemory>
         requires { part.now.offset + length part.now.bytes.now ≤ 2 ^ 24 }
         ensures { OnOk result (self.new ≡ with_bytes (part_in part.now) self.old) }
@@ -203,7 +203,7 @@ impl PlainEntry {
         Ok(())
     }
 
-    /// Whether a read of this index and length is the one to be logged next.
+    /// Returns whether a read of this index and length is the next one to be logged.
     fn is_next_read(&self, index: u32, len: u16) -> bool
         ensures { result ≡ is_next_read self.now index len }
     {
@@ -226,7 +226,7 @@ impl PlainEntry {
         Ok(())
     }
 
-    /// All but its bytes and lengths, as the entry at this place.
+    /// Returns everything but the bytes and lengths, as the entry at this index.
     pub(crate) fn head<'a>(&self, index: u16) -> Body<'a>
         ensures { body_of result ≡ EntryMsg index (head_of self.now) }
     {
@@ -250,7 +250,7 @@ impl PlainEntry {
         }
     }
 
-    /// The numbers with which it was opened.
+    /// Returns the numbers with which the entry was opened.
     pub(crate) fn opened<'a>(&self) -> Body<'a>
         ensures { body_of result ≡ OpenedMsg (numbers_of_entry self.now) }
     {
@@ -268,7 +268,7 @@ impl PlainEntry {
         }
     }
 
-    /// How much is logged, as the answer to bytes.
+    /// Returns how much is logged, as the answer to bytes.
     pub(crate) fn stable<'a>(&self) -> Body<'a>
         ensures { body_of result ≡ StableMsg (kept_of self.now) }
     {
@@ -280,7 +280,7 @@ impl PlainEntry {
         }
     }
 
-    /// How much is logged, as the answer to a read.
+    /// Returns how much is logged, as the answer to a read.
     pub(crate) fn reads_told<'a>(&self) -> Body<'a>
         ensures { body_of result ≡ ReadsMsg (kept_of self.now) }
     {
@@ -292,7 +292,7 @@ impl PlainEntry {
         }
     }
 
-    /// At most 1,024 of its bytes, from an offset below their count.
+    /// Returns at most 1,024 of the bytes, from an offset below their number on.
     pub(crate) fn part(&self, offset: u32) -> Option<Body<'_>>
         ensures { option_map body_of result ≡ part_of self.now offset }
     {
@@ -306,7 +306,7 @@ impl PlainEntry {
         })
     }
 
-    /// At most 512 lengths of its reads, from a place below their count. `lens` spells them.
+    /// Returns at most 512 lengths of reads, from an index below their number on. `lens` spells them.
     pub(crate) fn lens<'a>(&self, first: u32, lens: &'a [u8]) -> Option<Body<'a>>
         requires { lens_in lens.now ≡ take 512 (drop first self.now.lengths) }
         ensures { option_map body_of result ≡ lens_of self.now first }
@@ -321,7 +321,7 @@ impl PlainEntry {
         })
     }
 
-    /// Spells these lengths, with two bytes each. After `NoMemory` `out` may only be dropped.
+    /// Appends these lengths, at most 512, with two bytes each. After `NoMemory` `out` may only be dropped.
     pub(crate) fn spell_lengths(&self, first: u32, out: &mut Vec<u8>) -> Result<(), NoMemory>
         requires { length out.old.items ≡ 0 }
         ensures { OnOk result (lens_in out.new.items ≡ take 512 (drop first self.now.lengths)) }
@@ -331,7 +331,7 @@ impl PlainEntry {
     }
 }
 
-/// The elements from a place on.
+/// Returns the elements from an index on.
 #[tactic(auto, using(std::proofs::lemmas::List::take_rest))]
 fn behind<T>(elements: &[T], first: usize) -> &[T]
     ensures { result.now ≡ drop first elements.now }
@@ -339,14 +339,14 @@ fn behind<T>(elements: &[T], first: usize) -> &[T]
     &elements[first.min(elements.len())..]
 }
 
-/// So many of the first elements, or all where there are fewer.
+/// Returns the first `most` elements, or all if there are fewer.
 fn front<T>(elements: &[T], most: usize) -> &[T]
     ensures { result.now ≡ take most elements.now }
 {
     &elements[..most.min(elements.len())]
 }
 
-/// Appends each length, with two bytes, the high one first. After `NoMemory` `out` may only be dropped.
+/// Appends each length in two bytes, the high one first. After `NoMemory` `out` may only be dropped.
 #[tactic(auto, using(crate::proofs::Lengths::none_spelled, crate::proofs::Lengths::one_more_spelled, std::proofs::lemmas::List::take_more))]
 fn spell(lengths: &[u16], out: &mut Vec<u8>) -> Result<(), NoMemory>
     requires { length out.old.items ≡ 0 }

@@ -1,5 +1,5 @@
-//! The log as plain values: an entry for each connection, in order, with its bytes and the lengths of its reads in two lists. It answers the same questions as
-//! the logger, and shares no code with it, so that it can judge what a logger said.
+//! The log as plain values: an entry for each connection, in order, with its bytes and the lengths of its reads in two lists. It answers the same questions
+//! as the logger and shares no code with it, so that it can judge the logger's answers.
 #![tactic(auto)]
 
 ghost use Rattle.std.specs.Prelude.{◌≡◌};

@@ -17,7 +17,7 @@ use logger_wire::{Body, Msg};
 use std::alloc::Global;
 use std::marker::Model;
 
-/// How many entries a log may have.
+/// The largest number of entries in a log.
 const ENTRY_LIMIT: usize = 64;
 
 /// The log of a schedule's run.
@@ -40,7 +40,7 @@ impl Model for PlainLog {
     ghost invariant = { λ l. length l.entries.items ≤ 64 };
 }
 
-/// Whether only the logger sends such a body.
+/// Returns whether only the logger sends such a body.
 fn is_answer(body: &Body<'_>) -> bool
     ensures { result ≡ answer_lem (body_of body.now) }
 {
@@ -59,7 +59,7 @@ fn is_answer(body: &Body<'_>) -> bool
     }
 }
 
-/// Whether a body is Hello.
+/// Returns whether a body is Hello.
 fn is_hello(body: &Body<'_>) -> bool
     ensures { result ≡ hello_lem (body_of body.now) }
 {
@@ -69,7 +69,7 @@ fn is_hello(body: &Body<'_>) -> bool
     }
 }
 
-/// Logs in an entry what a body says of its key. After `NoMemory` the entry may only be dropped.
+/// Logs in an entry what a body says about its key. After `NoMemory` the entry may only be dropped.
 fn log_in(entry: &mut PlainEntry, body: &Body<'_>) -> Result<(), NoMemory>
     requires { StaysInStream (body_of body.now) }
     ensures { OnOk result (entry.new ≡ logged_in (body_of body.now) entry.old) }
@@ -99,7 +99,7 @@ fn log_in(entry: &mut PlainEntry, body: &Body<'_>) -> Result<(), NoMemory>
     }
 }
 
-/// Logs in each entry what a body says of its key. After `NoMemory` the entries may only be dropped.
+/// Logs in each entry what a body says about its key. After `NoMemory` the entries may only be dropped.
 fn log_in_all(entries: &mut [PlainEntry], body: &Body<'_>) -> Result<(), NoMemory>
     requires { StaysInStream (body_of body.now) }
     ensures { OnOk result (entries.new ≡ map (logged_in (body_of body.now)) entries.old) }
@@ -110,14 +110,14 @@ fn log_in_all(entries: &mut [PlainEntry], body: &Body<'_>) -> Result<(), NoMemor
     Ok(())
 }
 
-/// The entry of a key.
+/// Returns the entry of a key.
 fn find_entry(entries: &[PlainEntry], key: Key) -> Option<&PlainEntry>
     ensures { option_copied result ≡ find (λ e. key_eq e.key key) entries.now }
 {
     entries.iter().find(|entry| entry.key() == key)
 }
 
-/// Whether a key has an entry.
+/// Returns whether a key has an entry.
 fn has_entry(entries: &[PlainEntry], key: Key) -> bool
     ensures { result ≡ list_any (λ e. key_eq e.key key) entries.now }
 {
@@ -125,7 +125,7 @@ fn has_entry(entries: &[PlainEntry], key: Key) -> bool
 }
 
 impl PlainLog {
-    /// A log of boot 0 without entries. Nothing is allocated yet.
+    /// Creates a log of boot 0 without entries. Allocates nothing.
     pub fn new(alloc: Global) -> PlainLog
         ensures { result ≡ empty_log }
     {
@@ -135,14 +135,14 @@ impl PlainLog {
         }
     }
 
-    /// The boot number of the newest server that has sent Hello; 0 before the first.
+    /// Returns the boot number of the newest server that has sent Hello; 0 before the first.
     pub fn boot(&self) -> u64
         ensures { result ≡ self.now.boot }
     {
         self.boot
     }
 
-    /// The entries, in the order in which they were opened.
+    /// Returns the entries, in the order in which they were opened.
     pub fn entries(&self) -> &[PlainEntry]
         ensures { result.now ≡ self.now.entries }
     {
@@ -155,14 +155,14 @@ impl PlainLog {
         find_entry(self.entries.as_slice(), key)
     }
 
-    /// Whether no entry is added for a key: it has one, or the log is full.
+    /// Returns whether a new entry for this key is refused: the key has one, or the log is full.
     fn turns_away(&self, key: Key) -> bool
         ensures { result ≡ (list_any (λ e. key_eq e.key key) self.now.entries || nat_le 64 (length self.now.entries)) }
     {
         has_entry(self.entries.as_slice(), key) || self.entries.len() >= ENTRY_LIMIT
     }
 
-    /// Adds an entry of an unknown key, while there is room.
+    /// Adds an entry for an unknown key, if there is room.
     fn open(&mut self, alloc: Global, numbers: &Numbers) -> Result<(), NoMemory>
         ensures { OnOk result (self.new ≡ opened (numbers_in numbers.now) self.old) }
     {
@@ -172,7 +172,7 @@ impl PlainLog {
         Ok(())
     }
 
-    /// Logs what a body of the log's own boot says.
+    /// Logs the content of a body whose boot number is the log's own.
     fn take_body(&mut self, alloc: Global, body: &Body<'_>) -> Result<(), NoMemory>
         requires { StaysInStream (body_of body.now) }
         ensures { OnOk result (self.new ≡ with_body (body_of body.now) self.old) }
@@ -199,7 +199,7 @@ impl PlainLog {
         }
     }
 
-    /// The log takes a message: what a codec reads may be sent. After `NoMemory` the log may only be dropped.
+    /// Takes a message. It is one that may be sent, as every message that a codec reads is. After `NoMemory` the log may only be dropped.
     #[tactic(auto, using(crate::proofs::Ranges::stays_in_stream), unfolding(ft_model::specs::Log::log_after))]
     pub fn take(&mut self, alloc: Global, msg: &Msg<'_>) -> Result<(), NoMemory>
         requires { IsSendable msg.now }
@@ -218,7 +218,7 @@ impl PlainLog {
         Ok(())
     }
 
-    /// How many entries there are.
+    /// Returns the number of entries.
     fn summary<'a>(&self) -> Body<'a>
         ensures { Some (body_of result) ≡ answer_from HelloMsg self.now }
     {
@@ -227,7 +227,7 @@ impl PlainLog {
         }
     }
 
-    /// The numbers with which a key was opened, or that the log is full.
+    /// Returns the numbers with which a key was opened, or that the log is full.
     fn opened<'a>(&self, key: Key) -> Body<'a>
         ensures { Some (body_of result) ≡ opened_answer key (entry_of key self.now) }
     {
@@ -237,7 +237,7 @@ impl PlainLog {
         }
     }
 
-    /// What the log says once it has taken a body of its own boot.
+    /// Returns the log's answer after it has taken a body whose boot number is its own.
     fn answer_body<'a>(&'a self, body: &Body<'_>, lens: &'a [u8]) -> Option<Body<'a>>
         requires { lens_in lens.now ≡ lengths_asked (body_of body.now) self.now }
         ensures { option_map body_of result ≡ answer_from (body_of body.now) self.now }
@@ -261,7 +261,7 @@ impl PlainLog {
         }
     }
 
-    /// Spells the lengths that a question asks for, with two bytes each, into an empty list. After `NoMemory` `lens` may only be dropped.
+    /// Writes the lengths that a request asks for, in two bytes each, to an empty list. After `NoMemory` `lens` may only be dropped.
     pub fn spell_lengths(&self, msg: &Msg<'_>, lens: &mut Vec<u8>) -> Result<(), NoMemory>
         requires { length lens.old.items ≡ 0 }
         ensures { OnOk result (lens_in lens.new.items ≡ lengths_asked (body_of msg.now.body) self.now) }
@@ -274,7 +274,7 @@ impl PlainLog {
         Ok(())
     }
 
-    /// The answer to a message that the log has just taken. `lens` spells the lengths that it asks for (`spell_lengths`).
+    /// Returns the answer to a message that the log has just taken. `lens` spells the lengths that the message asks for (`spell_lengths`).
     #[tactic(auto, using(crate::proofs::Replies::reply_is_the_answer))]
     pub fn answer<'a>(&'a self, msg: &Msg<'_>, lens: &'a [u8]) -> Option<Msg<'a>>
         requires { lens_in lens.now ≡ lengths_asked (body_of msg.now.body) self.now }

@@ -24,7 +24,7 @@ pub record AreRestored {S : Type 0} (service : Machine S) (node : law.Node) (fet
   pub opened : now.opened ≡ restored_count fetched
   pub go : SendsBy (AllGo (Revives service node) (all_restored service fetched) (places_in now.places.items)) old new
 
--- the stage of a restart that serves now, or still fetches
+-- the stage after a restart, which serves now, or still fetches
 abbrev pub stage_then : {S : Type 0} → Option (Serving S) → (count : ℕ) → List Fetched → law.Stage
 stage_then (Some serving) count fetched = law.Stage.Serving serving.opened (places_in serving.places.items)
 stage_then None count fetched = law.Stage.Fetching count fetched
@@ -38,7 +38,7 @@ abbrev pub IsServedAfter : {S : Type 0} → (kind : ℕ) → Machine S → Optio
 IsServedAfter kind service (Some after) = IsServedStage kind service after × (opened_at after ≤ 65535)
 IsServedAfter kind service None = Unit {0}
 
--- what holds of it
+-- the invariant of that stage
 abbrev pub IsServedThen : {S : Type 0} → (kind : ℕ) → Machine S → Option (Serving S) → (count : ℕ) → List Fetched → Type 0
 IsServedThen kind service (Some serving) count fetched = AreServed kind service serving.places.items × (serving.opened ≤ 65535)
 IsServedThen kind service None count fetched = IsFetchedOf count fetched

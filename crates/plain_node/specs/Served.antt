@@ -1,4 +1,4 @@
--- What holds of a node between its turns, whatever came.
+-- What holds of a node between its turns, whatever it received.
 use Rattle.std.specs.Prelude.{◌≡◌, ◌≤◌, ℕ, true, List, [], ◌∷◌, length}
 use Rattle.std.specs.List.{AllByRecursion}
 use Rattle.server_trait.specs.Service.{Machine}
@@ -29,7 +29,7 @@ abbrev pub earlier_ones : List Fetched → List Fetched
 earlier_ones [] = []
 earlier_ones (newest ∷ earlier) = earlier
 
--- what is fetched of a log with so many entries: each but the newest is complete
+-- the fetched entries of a log with `count` entries: each but the newest is complete
 pub record IsFetchedOf (count : ℕ) (fetched : List Fetched) : Type 0 where
   pub few : length fetched ≤ count
   pub whole : AreWhole (earlier_ones fetched)

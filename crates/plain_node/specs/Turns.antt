@@ -34,7 +34,7 @@ pub record OneGoes {S : Type 0} (service : Machine S) (node : Node) (input : Inp
   pub next_is : next ≡ at + length now
   pub goes : SendsBy (PlaceTurn service node input (place_in place) (places_in now)) old new
 
--- the first places have taken their turns, and the others are as before
+-- the first places have taken their turns, and the others are unchanged
 pub record FirstGo {S : Type 0} (service : Machine S) (node : Node) (input : Input) (at : ℕ) (before after : List (PlainPlace S)) (old new : List Wire) : Type 0 where
   pub done : List (PlainPlace S)
   pub went : List (PlainPlace S)

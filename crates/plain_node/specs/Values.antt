@@ -19,7 +19,7 @@ input_in (input.Message msg) = law.Input.Message_comes (message_of msg)
 input_in input.Noise = law.Input.Noise_comes
 input_in input.Tick = law.Input.Tick_comes
 
--- what a codec reads: a message that may be sent
+-- an input that a codec reads: its message is one that may be sent
 abbrev pub IsReadInput : Input → Type 0
 IsReadInput (input.Message msg) = IsSendable msg
 IsReadInput _ = Unit {0}
@@ -57,7 +57,7 @@ pub record NodeState (S : Type 0) : Type 0 where
 abbrev pub node_in : {S : Type 0} → NodeState S → law.Node
 node_in n = record { server = n.server; boot = n.boot; isn = n.isn; stage = stage_in n.stage }
 
--- how many initial numbers are used up
+-- how many initial sequence numbers are used up
 abbrev pub opened_at : {S : Type 0} → PlainStage S → ℕ
 opened_at (stage.Serving serving) = serving.opened
 opened_at _ = 0

@@ -1,4 +1,4 @@
-//! What a server asks the log while it boots (the law Restart).
+//! What a booting server asks the log (the law Restart).
 
 ghost use Rattle.std.specs.Prelude.{◌≡◌, ◌∷◌, [], Some, OnOk};
 ghost use Rattle.seq_arith.specs.Message.Body.{HelloMsg};
@@ -15,7 +15,7 @@ use plain_fetch::{Wanted, question};
 use plain_packets::PlainPackets;
 use std::alloc::Global;
 
-/// Greets the log. After `NoMemory` the packets may only be dropped.
+/// Sends Hello to the log. After `NoMemory` the packets may only be dropped.
 pub(crate) fn send_hello(alloc: Global, boot: u64, sent: &mut PlainPackets) -> Result<(), NoMemory>
     ensures { OnOk result (Appends sent.old sent.new (told_by boot HelloMsg ∷ [])) }
 {
@@ -41,7 +41,7 @@ pub(crate) fn ask(
     sent.send_to_logger(alloc, &Msg { boot, body })
 }
 
-/// The count that a Summary reports.
+/// Returns the count that a Summary reports.
 pub(crate) fn summary_count(body: &Body<'_>) -> Option<u16>
     ensures { result ≡ count_lem (body_of body.now) }
 {

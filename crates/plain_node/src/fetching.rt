@@ -1,4 +1,4 @@
-//! A server that fetches the log: one question after another, until nothing is missing.
+//! A server that fetches the log: one request after another, until nothing is missing.
 
 ghost use Rattle.std.specs.Prelude.{◌≡◌, [], IfOk, OnOk};
 ghost use Rattle.seq_arith.specs.Value.{said};
@@ -32,7 +32,7 @@ use seq_arith::{ACK, Seq};
 use server_trait::Service;
 use std::alloc::Global;
 
-/// The answer to a client whose entry has come: it acknowledges the logged length and FIN, with window 0.
+/// Returns the answer to a client whose entry has arrived: it acknowledges the logged length and FIN, with window 0.
 fn holding_head(server: Addr, head: &EntryHead) -> Head
     ensures { record { head = said result; payload = [] } ≡ holding_segment server (head_in head.now) }
 {
@@ -50,8 +50,8 @@ fn holding_head(server: Addr, head: &EntryHead) -> Head
     }
 }
 
-/// Sends what a client is sent while the server fetches: nothing until its entry has come, nor where that is done, nor in answer to a RST. After `NoMemory` the
-/// packets may only be dropped.
+/// Answers a client while the server fetches. It sends nothing before the client's entry has arrived, nothing if that is done, and nothing in answer to a
+/// RST. After `NoMemory` the packets may only be dropped.
 fn hold(
     alloc: Global,
     who: Incarnation,
@@ -70,7 +70,7 @@ fn hold(
     }
 }
 
-/// Asks for what is wanted, if anything is. After `NoMemory` the packets may only be dropped.
+/// Requests what is wanted, if anything is. After `NoMemory` the packets may only be dropped.
 fn ask_again(
     alloc: Global,
     who: Incarnation,
@@ -86,8 +86,8 @@ fn ask_again(
     }
 }
 
-/// Asks for what is wanted now. Where nothing is, all entries become places: then the restart has ended. After `NoMemory` the entries and the packets may only be
-/// dropped.
+/// Requests what is wanted now. If nothing is, the restart has ended, and all entries become places. After `NoMemory` the entries and the packets may only
+/// be dropped.
 pub(crate) fn go_on<S: Service>(
     alloc: Global,
     who: Incarnation,
@@ -108,7 +108,7 @@ pub(crate) fn go_on<S: Service>(
     Ok(Some(serving))
 }
 
-/// A message comes. Returns the places, if the restart has ended. After `NoMemory` the entries and the packets may only be dropped.
+/// Takes a message. Returns the places if the restart has ended. After `NoMemory` the entries and the packets may only be dropped.
 fn take_answer<S: Service>(
     alloc: Global,
     who: Incarnation,
@@ -132,7 +132,7 @@ fn take_answer<S: Service>(
     go_on(alloc, who, count, fetched, sent)
 }
 
-/// The turn of a server that fetches. Returns the places, if the restart has ended. After `NoMemory` the entries and the packets may only be dropped.
+/// Takes the turn of a server that fetches. Returns the places if the restart has ended. After `NoMemory` the entries and the packets may only be dropped.
 pub(crate) fn turn_fetching<S: Service>(
     alloc: Global,
     who: Incarnation,

@@ -1,4 +1,4 @@
-//! What a message of this boot does at the place of its key.
+//! The effect of a message of this boot on the place of its key.
 
 ghost use Rattle.std.specs.Prelude.{◌≡◌, ◌∷◌, [], ℕ, IfOk, OnOk};
 ghost use Rattle.server_trait.specs.Service.{Machine, machine};
@@ -26,7 +26,7 @@ use plain_point::{Kept, Numbers};
 use server_trait::Service;
 use std::alloc::Global;
 
-/// How much of a connection is logged, from the fields of a message.
+/// Returns how much of a connection is logged, from the fields of a message.
 fn kept(key: Key, length: u32, fin: u8, reads: u32) -> Kept
     ensures { kept_in result ≡ record { key = key; length = length; fin = is_set fin; reads = reads } }
 {
@@ -38,7 +38,7 @@ fn kept(key: Key, length: u32, fin: u8, reads: u32) -> Kept
     }
 }
 
-/// A new connection, after its first turn. After `NoMemory` the packets may only be dropped.
+/// Creates a connection and takes its first turn. After `NoMemory` the packets may only be dropped.
 fn begin<S: Service>(
     alloc: Global,
     who: Incarnation,
@@ -55,7 +55,7 @@ fn begin<S: Service>(
 }
 
 impl<S: Service> PlainPlace<S> {
-    /// How much of a live connection is logged. After `NoMemory` the place may only be dropped.
+    /// Takes a message on how much of a live connection is logged. After `NoMemory` the place may only be dropped.
     fn hear_logged(
         &mut self,
         alloc: Global,
@@ -78,7 +78,7 @@ impl<S: Service> PlainPlace<S> {
         }
     }
 
-    /// Ended ends a live connection.
+    /// Takes an Ended: it ends a live connection.
     fn hear_ended(&mut self)
         ensures turn { (service : Machine S) (node : law.Node) (key : key_type)
             → Hears service node (EndedMsg key) (place_in self.old) (place_in self.new ∷ []) [] }
@@ -90,8 +90,8 @@ impl<S: Service> PlainPlace<S> {
         }
     }
 
-    /// Opened with the client's number makes the connection, by the numbers that the log keeps; with another number it drops the opening. Returns whether the place
-    /// stays. After `NoMemory` the place may only be dropped.
+    /// Takes an Opened. With the client's number it makes the connection, by the numbers that the log keeps; with another number it drops the opening.
+    /// Returns whether the place remains. After `NoMemory` the place may only be dropped.
     fn hear_opened(
         &mut self,
         alloc: Global,
@@ -115,7 +115,7 @@ impl<S: Service> PlainPlace<S> {
         Ok(true)
     }
 
-    /// Full drops an opening and refuses its SYN. Returns whether the place stays. After `NoMemory` the place may only be dropped.
+    /// Takes a Full: it drops an opening and refuses its SYN. Returns whether the place remains. After `NoMemory` the place may only be dropped.
     fn hear_full(
         &self,
         alloc: Global,
@@ -132,7 +132,7 @@ impl<S: Service> PlainPlace<S> {
         Ok(false)
     }
 
-    /// A message of this boot names its key. Returns whether the place stays. After `NoMemory` the place may only be dropped.
+    /// Takes a message of this boot that names the key. Returns whether the place remains. After `NoMemory` the place may only be dropped.
     pub(crate) fn hear(
         &mut self,
         alloc: Global,

@@ -5,12 +5,12 @@ use ft_io::Addr;
 /// One incarnation of a server.
 #[derive(Clone, Copy, Debug)]
 pub(crate) struct Incarnation {
-    /// Which service it has.
+    /// The kind of its service.
     pub(crate) kind: u8,
     /// Its address and port.
     pub(crate) server: Addr,
     /// Its boot number.
     pub(crate) boot: u64,
-    /// The first initial number that it chooses.
+    /// The first initial sequence number that it chooses.
     pub(crate) isn: u32,
 }

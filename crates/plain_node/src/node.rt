@@ -35,7 +35,7 @@ impl<S: Service> Model for PlainNode<S> {
 }
 
 impl<S: Service> PlainNode<S> {
-    /// An incarnation at its boot. Nothing is allocated.
+    /// Creates an incarnation at its boot. Allocates nothing.
     pub fn booted(kind: u8, server: Addr, boot: u64, isn: u32) -> PlainNode<S>
         ensures node { node_in result ≡ law.booted server boot isn }
         ensures kind { result.kind ≡ kind }
@@ -53,21 +53,21 @@ impl<S: Service> PlainNode<S> {
         }
     }
 
-    /// Its boot number.
+    /// Returns its boot number.
     pub fn boot(&self) -> u64
         ensures { result ≡ (node_in self.now).boot }
     {
         self.who.boot
     }
 
-    /// Sends what its boot sends. After `NoMemory` the packets may only be dropped.
+    /// Sends the messages of its boot. After `NoMemory` the packets may only be dropped.
     pub fn send_hello(&self, alloc: Global, sent: &mut PlainPackets) -> Result<(), NoMemory>
         ensures { OnOk result (Appends sent.old sent.new (hello (node_in self.now))) }
     {
         asking::send_hello(alloc, self.who.boot, sent)
     }
 
-    /// One turn, by an input that doesn't fence it. After `NoMemory` the node may only be dropped.
+    /// Takes one turn, on an input that doesn't fence it. After `NoMemory` the node may only be dropped.
     pub fn turn(
         &mut self,
         alloc: Global,

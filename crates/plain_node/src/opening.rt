@@ -1,4 +1,4 @@
-//! The law Opening: which segments open a connection, and what the log is asked to keep.
+//! The law Opening: which segments open a connection, and which numbers the log is asked to keep.
 
 ghost use Rattle.std.specs.Prelude.{◌≡◌, ◌≤◌, ◌^◌, ◌&&◌, ◌∷◌, [], OnOk, map, nat_lt};
 ghost use Rattle.std.specs.List.{list_any};
@@ -31,17 +31,17 @@ use seq_arith::segment_size;
 use server_trait::Service;
 use std::alloc::Global;
 
-/// How many openings may be pending.
+/// The largest number of pending openings.
 const MOST_PENDING: usize = 64;
 
-/// Whether a segment opens: a SYN without ACK and RST.
+/// Returns whether a segment opens a connection: a SYN without ACK and RST.
 fn is_syn(segment: &PacketRef<'_>) -> bool
     ensures { result ≡ syn_lem (segment_of segment.now) }
 {
     has_syn(segment) && !has_ack(segment) && !has_rst(segment)
 }
 
-/// The initial number of the nth connection, from 0, of an incarnation.
+/// Returns the initial sequence number of an incarnation's nth connection, counted from 0.
 fn initial_number(isn: u32, n: u64) -> u32
     requires { n ≤ 2 ^ 32 }
     ensures { result ≡ initial_lem isn n }
@@ -49,7 +49,7 @@ fn initial_number(isn: u32, n: u64) -> u32
     ((u64::from(isn) + 65_536 * n) % (1 << 32)) as u32
 }
 
-/// The numbers of the nth connection, which a SYN asks for.
+/// Returns the numbers of the nth connection, which a SYN requests.
 fn numbers_for(isn: u32, n: u64, syn: &PacketRef<'_>) -> Numbers
     requires { n ≤ 2 ^ 32 }
     ensures { numbers_in result ≡ numbers_lem isn n (segment_of syn.now) }
@@ -62,7 +62,7 @@ fn numbers_for(isn: u32, n: u64, syn: &PacketRef<'_>) -> Numbers
     }
 }
 
-/// Whether a pending opening is asked for: at its SYN, at each repetition of that, and at each tick.
+/// Returns whether the log is asked for a pending opening: at its SYN, at each retransmission of the SYN, and at each tick.
 fn is_asked(who: Incarnation, input: &Input<'_>, numbers: &Numbers) -> bool
     ensures { (stage : law.Stage) → result ≡ asked_lem (node_of who stage) (input_in input.now) (numbers_in numbers.now) }
 {
@@ -109,7 +109,7 @@ fn send_open(
 }
 
 impl<S: Service> PlainPlace<S> {
-    /// Asks the log for its numbers, if its opening is pending and asked for. After `NoMemory` the packets may only be dropped.
+    /// Asks the log to keep the numbers of a pending opening, if the input calls for it. After `NoMemory` the packets may only be dropped.
     pub(crate) fn ask(
         &self,
         alloc: Global,
@@ -129,21 +129,21 @@ impl<S: Service> PlainPlace<S> {
     }
 }
 
-/// Whether a place has a key.
+/// Returns whether a place has a key.
 fn has_key<S: Service>(places: &[PlainPlace<S>], key: Key) -> bool
     ensures { result ≡ list_any (λ place. key_eq (law.key_of (place_in place)) key) places.now }
 {
     places.iter().any(|place| place.key() == key)
 }
 
-/// Whether there is a place for a key.
+/// Returns whether there is a place for a key.
 fn is_known<S: Service>(places: &[PlainPlace<S>], key: Key) -> bool
     ensures { result ≡ law.is_known key (places_in places.now) }
 {
     has_key(places, key)
 }
 
-/// How many openings are pending.
+/// Returns how many openings are pending.
 fn pending_count<S: Service>(places: &[PlainPlace<S>]) -> usize
     ensures { result ≡ law.pending_count (places_in places.now) }
 {
@@ -154,7 +154,7 @@ fn pending_count<S: Service>(places: &[PlainPlace<S>]) -> usize
     count
 }
 
-/// Whether a segment is for this server, and from an unknown client.
+/// Returns whether a segment is for this server, and from an unknown client.
 fn is_strange<S: Service>(
     who: Incarnation,
     segment: &PacketRef<'_>,
@@ -165,7 +165,7 @@ fn is_strange<S: Service>(
     is_for(who.server, segment) && !is_known(places, segment.head.sender())
 }
 
-/// Whether a segment makes an opening: a SYN of an unknown client, while fewer than 64 are pending.
+/// Returns whether a segment makes an opening: a SYN of an unknown client, while fewer than 64 are pending.
 fn may_open<S: Service>(who: Incarnation, segment: &PacketRef<'_>, places: &[PlainPlace<S>]) -> bool
     ensures { (stage : law.Stage) → result ≡ (strange_lem (node_of who stage) (segment_of segment.now) (places_in places.now)
         && syn_lem (segment_of segment.now) && nat_lt (law.pending_count (places_in places.now)) 64) }
@@ -179,7 +179,7 @@ fn may_open<S: Service>(who: Incarnation, segment: &PacketRef<'_>, places: &[Pla
     pending_count(places) < MOST_PENDING
 }
 
-/// The opening that a SYN of an unknown client makes, while fewer than 64 are pending.
+/// Returns the opening that a SYN of an unknown client makes, while fewer than 64 are pending.
 pub(crate) fn newcomer<S: Service>(
     who: Incarnation,
     input: &Input<'_>,
@@ -200,7 +200,7 @@ pub(crate) fn newcomer<S: Service>(
     }
 }
 
-/// The RST that refuses an acknowledgement of an unknown client.
+/// Returns the RST that refuses an acknowledgement of an unknown client.
 pub(crate) fn refusal<S: Service>(
     who: Incarnation,
     input: &Input<'_>,

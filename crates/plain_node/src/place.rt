@@ -28,7 +28,7 @@ use std::alloc::Global;
 /// What the server has for a key that it knows.
 #[derive(Drop)]
 pub(crate) enum PlainPlace<S: Service> {
-    /// Its opening is pending: these numbers are asked for.
+    /// Its opening is pending: the log is asked to keep these numbers.
     Opens(Numbers),
     /// Its connection is live.
     Lives(PlainConnection<S>),
@@ -36,14 +36,14 @@ pub(crate) enum PlainPlace<S: Service> {
     Ended(Key),
 }
 
-/// Whether a segment is for this server.
+/// Returns whether a segment is for this server.
 pub(crate) fn is_for(server: Addr, segment: &PacketRef<'_>) -> bool
     ensures { result ≡ law.is_for server (segment_of segment.now) }
 {
     segment.head.dst == server.ip && segment.head.dport == server.port
 }
 
-/// Whether a message to a known connection names this key.
+/// Returns whether a message to a known connection names this key.
 fn names(body: &Body<'_>, key: Key) -> bool
     ensures { result ≡ names_lem (body_of body.now) key }
 {
@@ -57,7 +57,7 @@ fn names(body: &Body<'_>, key: Key) -> bool
     }
 }
 
-/// Whether an input concerns this key: a packet from its client, a message of this boot that names it, and each tick.
+/// Returns whether an input concerns this key: a packet from its client, a message of this boot that names it, or a tick.
 fn concerns(who: Incarnation, input: &Input<'_>, key: Key) -> bool
     ensures { (stage : law.Stage) → result ≡ concerns_lem (node_of who stage) (input_in input.now) key }
 {
@@ -69,7 +69,7 @@ fn concerns(who: Incarnation, input: &Input<'_>, key: Key) -> bool
     }
 }
 
-/// A live connection takes its turn. After `NoMemory` it may only be dropped.
+/// Takes the turn of a live connection. After `NoMemory` it may only be dropped.
 pub(crate) fn turn_live<S: Service>(
     alloc: Global,
     who: Incarnation,
@@ -86,7 +86,7 @@ pub(crate) fn turn_live<S: Service>(
 }
 
 impl<S: Service> PlainPlace<S> {
-    /// Its key.
+    /// Returns its key.
     pub(crate) fn key(&self) -> Key
         ensures { result ≡ law.key_of (place_in self.now) }
     {
@@ -97,14 +97,14 @@ impl<S: Service> PlainPlace<S> {
         }
     }
 
-    /// Whether its opening is pending.
+    /// Returns whether its opening is pending.
     pub(crate) fn is_pending(&self) -> bool
         ensures { result ≡ law.is_pending (place_in self.now) }
     {
         matches!(self, PlainPlace::Opens(_))
     }
 
-    /// A segment of its client comes. After `NoMemory` the place may only be dropped.
+    /// Takes a segment of its client. After `NoMemory` the place may only be dropped.
     fn take_segment(
         &mut self,
         alloc: Global,
@@ -126,7 +126,7 @@ impl<S: Service> PlainPlace<S> {
         }
     }
 
-    /// A tick. After `NoMemory` the place may only be dropped.
+    /// Takes a tick. After `NoMemory` the place may only be dropped.
     fn tick(
         &mut self,
         alloc: Global,
@@ -144,7 +144,7 @@ impl<S: Service> PlainPlace<S> {
         }
     }
 
-    /// An input that concerns it comes. Returns whether it stays. After `NoMemory` the place may only be dropped.
+    /// Takes an input that concerns it. Returns whether the place remains. After `NoMemory` the place may only be dropped.
     fn meet(
         &mut self,
         alloc: Global,
@@ -166,7 +166,7 @@ impl<S: Service> PlainPlace<S> {
         Ok(true)
     }
 
-    /// Its turn, whatever comes. Returns whether it stays. After `NoMemory` the place may only be dropped.
+    /// Takes its turn on any input. Returns whether the place remains. After `NoMemory` the place may only be dropped.
     pub(crate) fn turn(
         &mut self,
         alloc: Global,

@@ -24,7 +24,7 @@ pub(crate) fn send_bare(alloc: Global, head: Head, sent: &mut PlainPackets) -> R
     sent.send_to_client(alloc, &PacketRef { head, payload: &[] })
 }
 
-/// The answer of LISTEN, if there is one: a RST to an acknowledgement, none to a RST.
+/// Returns the answer in state LISTEN, if there is one: a RST to an acknowledgement, nothing to a RST.
 pub(crate) fn as_listen(server: Addr, segment: &PacketRef<'_>) -> Option<Head>
     ensures { map (λ head. To_client (record { head = said head; payload = [] })) (option_to_list result) ≡ map To_client (as_listen server (segment_of segment.now)) }
 {
@@ -35,7 +35,7 @@ pub(crate) fn as_listen(server: Addr, segment: &PacketRef<'_>) -> Option<Head>
     }
 }
 
-/// The RST that acknowledges a segment.
+/// Returns the RST that acknowledges a segment.
 fn rst_behind(server: Addr, segment: &PacketRef<'_>) -> Head
     ensures { record { head = said result; payload = [] } ≡ behind_lem server (segment_of segment.now) }
 {
@@ -43,7 +43,7 @@ fn rst_behind(server: Addr, segment: &PacketRef<'_>) -> Head
     segment.head.reset_behind(server, len as u32)
 }
 
-/// Sends the answer of CLOSED: a RST to all but a RST. After `NoMemory` the packets may only be dropped.
+/// Sends the answer in state CLOSED: a RST to anything but a RST. After `NoMemory` the packets may only be dropped.
 pub(crate) fn refuse_closed(
     alloc: Global,
     server: Addr,
@@ -61,7 +61,7 @@ pub(crate) fn refuse_closed(
     send_bare(alloc, rst_behind(server, segment), sent)
 }
 
-/// Refuses the SYN of an opening: the log is full. After `NoMemory` the packets may only be dropped.
+/// Refuses the SYN of an opening because the log is full. After `NoMemory` the packets may only be dropped.
 pub(crate) fn refuse_full(
     alloc: Global,
     server: Addr,

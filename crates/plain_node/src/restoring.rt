@@ -20,7 +20,8 @@ use plain_packets::PlainPackets;
 use server_trait::Service;
 use std::alloc::Global;
 
-/// The place of a fetched entry, after its first turn: its connection at the entry's point, unless it is done. After `NoMemory` the packets may only be dropped.
+/// Returns the place of a fetched entry after its first turn. Unless the entry is done, it is a connection at its point. After `NoMemory` the packets may
+/// only be dropped.
 fn restored_place<S: Service>(
     alloc: Global,
     who: Incarnation,
@@ -42,7 +43,7 @@ fn restored_place<S: Service>(
 }
 
 impl<S: Service> Serving<S> {
-    /// The next entry becomes the last place. Unless it is done it uses up an initial number. After `NoMemory` it may only be dropped.
+    /// Makes the next entry the last place. Unless it is done, it uses up an initial sequence number. After `NoMemory` `self` may only be dropped.
     fn restore(
         &mut self,
         alloc: Global,
@@ -65,7 +66,8 @@ impl<S: Service> Serving<S> {
     }
 }
 
-/// The places of all fetched entries, in the log's order, each after its first turn. After `NoMemory` the entries and the packets may only be dropped.
+/// Returns the places of all fetched entries, in the log's order, each after its first turn. After `NoMemory` the entries and the packets may only be
+/// dropped.
 pub(crate) fn restore_all<S: Service>(
     alloc: Global,
     who: Incarnation,

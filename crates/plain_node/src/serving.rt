@@ -30,13 +30,14 @@ use std::alloc::Global;
 /// The places of a server that serves.
 #[derive(Drop)]
 pub(crate) struct Serving<S: Service> {
-    /// How many initial numbers are used up.
+    /// How many initial sequence numbers are used up.
     pub(crate) opened: u64,
-    /// In the log's order, then in that of the SYNs.
+    /// In the log's order, and then in the order of the SYNs.
     pub(crate) places: Vec<PlainPlace<S>>,
 }
 
-/// The place at an index takes its turn, and leaves if it is gone. Returns where the next one is. After `NoMemory` the places may only be dropped.
+/// Takes the turn of the place at an index, and removes the place if it is gone. Returns the index of the next one. After `NoMemory` the places may only be
+/// dropped.
 fn go_at<S: Service>(
     alloc: Global,
     who: Incarnation,
@@ -58,7 +59,7 @@ fn go_at<S: Service>(
     Ok(at)
 }
 
-/// All places take their turns, in order. After `NoMemory` the places may only be dropped.
+/// Takes the turns of all places, in order. After `NoMemory` the places may only be dropped.
 fn go_all<S: Service>(
     alloc: Global,
     who: Incarnation,
@@ -78,7 +79,7 @@ fn go_all<S: Service>(
     Ok(())
 }
 
-/// Asks the log for each pending opening that is asked for, in order. After `NoMemory` the packets may only be dropped.
+/// Asks the log for each pending opening for which the input calls, in order. After `NoMemory` the packets may only be dropped.
 fn ask_all<S: Service>(
     alloc: Global,
     who: Incarnation,
@@ -120,7 +121,7 @@ impl<S: Service> Serving<S> {
         Ok(())
     }
 
-    /// Its turn. After `NoMemory` it may only be dropped.
+    /// Takes its turn. After `NoMemory` it may only be dropped.
     pub(crate) fn turn(
         &mut self,
         alloc: Global,

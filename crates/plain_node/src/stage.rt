@@ -25,15 +25,15 @@ use std::alloc::Global;
 /// The stage of an incarnation.
 #[derive(Drop)]
 pub(crate) enum PlainStage<S: Service> {
-    /// Hello is unanswered.
+    /// Its Hello is unanswered.
     Asking,
-    /// Of so many entries these have come.
+    /// It fetches. Of `count` entries these are fetched.
     Fetching { count: u16, fetched: PlainFetching },
     /// It serves.
     Serving(Serving<S>),
 }
 
-/// The count that a message reports, if it is a Summary of this boot.
+/// Returns the count that a message reports, if it is a Summary of this boot.
 fn count_told(who: Incarnation, msg: &Msg<'_>) -> Option<u16>
     ensures { (stage : law.Stage) → result ≡ told_lem (node_of who stage) (message_of msg.now) }
 {
@@ -44,7 +44,7 @@ fn count_told(who: Incarnation, msg: &Msg<'_>) -> Option<u16>
     }
 }
 
-/// The stage of a server that has learned how many entries the log has. After `NoMemory` the packets may only be dropped.
+/// Returns the stage of a server that has just received the number of the log's entries. After `NoMemory` the packets may only be dropped.
 fn begin_fetching<S: Service>(
     alloc: Global,
     who: Incarnation,
@@ -63,7 +63,7 @@ fn begin_fetching<S: Service>(
     }
 }
 
-/// The turn of a server whose Hello is unanswered. Returns the next stage, if its Hello is answered now. After `NoMemory` the packets may only be dropped.
+/// Takes the turn of a server whose Hello is unanswered. Returns the next stage if it is answered now. After `NoMemory` the packets may only be dropped.
 fn turn_asking<S: Service>(
     alloc: Global,
     who: Incarnation,
@@ -91,7 +91,7 @@ fn turn_asking<S: Service>(
 }
 
 impl<S: Service> PlainStage<S> {
-    /// One turn. After `NoMemory` the stage may only be dropped.
+    /// Takes one turn. After `NoMemory` the stage may only be dropped.
     pub(crate) fn turn(
         &mut self,
         alloc: Global,

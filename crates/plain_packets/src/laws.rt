@@ -1,11 +1,11 @@
-//! Laws of what was sent. Nothing here runs; each function is a theorem.
+//! Laws of the packets sent. Nothing here runs; each function is a theorem.
 
 ghost use Rattle.std.specs.Prelude.{◌≡◌, ℕ, List, [], ◌++◌, map, option_map};
 ghost use Rattle.ft_model.specs.Network.{Packet, packet_at};
 ghost use Rattle.ft_model.specs.Wire.{Wire, wire_of};
 ghost use Rattle.plain_packets.specs.Sent.{Appends, wire_at};
 
-/// Nothing is sent where nothing changes, and what is sent in two steps is sent in one.
+/// If nothing changes, nothing was sent; and what is sent in two steps can be sent in one.
 #[tactic(auto, using(crate::proofs::Sent::appends_none, crate::proofs::Sent::appends_both))]
 pub fn packets_follow_one_another()
     ensures none { (wires : List Wire) → Appends wires wires [] }
@@ -13,7 +13,7 @@ pub fn packets_follow_one_another()
         → Appends before after (first ++ more) }
 {}
 
-/// A packet's wire has the packet's number.
+/// The wire of a packet has the same number as the packet.
 #[tactic(auto, using(crate::proofs::Sent::wire_numbered))]
 pub fn wires_have_the_packets_numbers()
     ensures { (packets : List Packet) (n : ℕ) → wire_at (map wire_of packets) n ≡ option_map wire_of (packet_at packets n) }

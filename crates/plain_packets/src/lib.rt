@@ -1,5 +1,5 @@
-//! Packets as their bytes, each with its sender and its receiver: what a run has sent so far, in order. The model of one is the model's wire. A packet is written in
-//! its one spelling as it is sent; one that has no spelling isn't written.
+//! The packets that a run has sent so far, in order: each as bytes, with its sender and its receiver. The model of one is the model's wire. A packet is
+//! written in its one spelling when it is sent; a packet without a spelling isn't written.
 #![tactic(auto)]
 
 pub use packets::PlainPackets;

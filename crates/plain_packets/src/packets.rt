@@ -35,7 +35,7 @@ impl Model for PlainPackets {
 }
 
 impl PlainPackets {
-    /// No packets. Nothing is allocated.
+    /// Creates an empty list of packets. Allocates nothing.
     pub fn new(alloc: Global) -> PlainPackets
         ensures { result ≡ [] }
     {
@@ -44,14 +44,14 @@ impl PlainPackets {
         }
     }
 
-    /// How many packets there are.
+    /// Returns how many packets there are.
     pub fn len(&self) -> usize
         ensures { result ≡ length self.now }
     {
         self.wires.len()
     }
 
-    /// Packet `n`, counted from 1; none where no such packet was sent.
+    /// Returns packet `n`, counted from 1, or `None` if no such packet was sent.
     pub fn get(&self, n: u32) -> Option<&PlainWire>
         ensures { option_copied result ≡ wire_at self.now n }
     {
@@ -61,7 +61,7 @@ impl PlainPackets {
         self.wires.get(n as usize - 1)
     }
 
-    /// The packets, in order.
+    /// Returns the packets, in order.
     pub fn as_slice(&self) -> &[PlainWire]
         ensures { result.now ≡ self.now }
     {
@@ -111,7 +111,7 @@ impl PlainPackets {
         }
     }
 
-    /// The server sends a segment to the client at its destination. After `NoMemory` the list may only be dropped.
+    /// Sends a segment from the server to the client at its destination. After `NoMemory` the list may only be dropped.
     #[tactic(auto, using(crate::proofs::Sent::one_follows))]
     pub fn send_to_client(&mut self, alloc: Global, segment: &PacketRef<'_>) -> Result<(), NoMemory>
         ensures { OnOk result (Appends self.old self.new (To_client (segment_of segment.now) ∷ [])) }
@@ -123,7 +123,7 @@ impl PlainPackets {
         self.push_segment(alloc, Path::ToClient(key), segment)
     }
 
-    /// The client at its source sends a segment to the server. After `NoMemory` the list may only be dropped.
+    /// Sends a segment from the client at its source to the server. After `NoMemory` the list may only be dropped.
     #[tactic(auto, using(crate::proofs::Sent::one_follows))]
     pub fn send_to_server(&mut self, alloc: Global, segment: &PacketRef<'_>) -> Result<(), NoMemory>
         ensures { OnOk result (Appends self.old self.new (To_server (segment_of segment.now) ∷ [])) }
@@ -135,7 +135,7 @@ impl PlainPackets {
         self.push_segment(alloc, Path::ToServer(key), segment)
     }
 
-    /// The server sends a message to the logger. After `NoMemory` the list may only be dropped.
+    /// Sends a message from the server to the logger. After `NoMemory` the list may only be dropped.
     #[tactic(auto, using(crate::proofs::Sent::one_follows))]
     pub fn send_to_logger(&mut self, alloc: Global, msg: &Msg<'_>) -> Result<(), NoMemory>
         ensures { OnOk result (Appends self.old self.new (To_logger (message_of msg.now) ∷ [])) }
@@ -143,7 +143,7 @@ impl PlainPackets {
         self.push_message(alloc, Path::ToLogger, msg)
     }
 
-    /// The logger sends a message to the server. After `NoMemory` the list may only be dropped.
+    /// Sends a message from the logger to the server. After `NoMemory` the list may only be dropped.
     #[tactic(auto, using(crate::proofs::Sent::one_follows))]
     pub fn send_from_logger(&mut self, alloc: Global, msg: &Msg<'_>) -> Result<(), NoMemory>
         ensures { OnOk result (Appends self.old self.new (From_logger (message_of msg.now) ∷ [])) }

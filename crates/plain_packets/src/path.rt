@@ -1,8 +1,8 @@
-//! Where a packet goes.
+//! The sender and the receiver of a packet.
 
 use ft_io::Key;
 
-/// Who sends a packet, and who receives it. A client is named by its address and port.
+/// The sender and the receiver of a packet. A client is named by its address and port.
 #[derive(Clone, Copy, Debug, PartialEq, Eq)]
 pub enum Path {
     /// From this client to the server.

@@ -8,17 +8,17 @@ use ft_io::NoMemory;
 use segment_codec::{PacketRef, payload_start, write_header};
 use std::alloc::Global;
 
-/// The most bytes of a packet.
+/// The largest size of a packet, in bytes.
 const LONGEST_PACKET: usize = 1_500;
 
-/// Whether a segment fits a packet.
+/// Returns whether a segment fits a packet.
 pub(crate) fn fits_packet(segment: &PacketRef<'_>) -> bool
     ensures { IsTrue result ↔ (packet_length (segment_of segment.now) ≤ 1500) }
 {
     payload_start(segment.head.mss) + segment.payload.len() <= LONGEST_PACKET
 }
 
-/// The bytes of a segment that fits a packet.
+/// Returns the bytes of a segment that fits a packet.
 pub(crate) fn segment_bytes(alloc: Global, segment: &PacketRef<'_>) -> Result<Vec<u8>, NoMemory>
     requires { packet_length (segment_of segment.now) ≤ 1500 }
     ensures { IfOk result (λ bytes. bytes.items ≡ spelling (segment_of segment.now)) }

@@ -6,7 +6,7 @@ ghost use Rattle.plain_packets.specs.Parties.{from_of, to_of};
 use crate::path::Path;
 use std::marker::Model;
 
-/// A packet as its bytes, with its sender and its receiver.
+/// A packet as bytes, with its sender and its receiver.
 #[derive(Debug, Drop)]
 pub struct PlainWire {
     path: Path,
@@ -23,14 +23,14 @@ impl Model for PlainWire {
 }
 
 impl PlainWire {
-    /// A packet of these bytes. It allocates nothing.
+    /// Creates a packet of these bytes. Allocates nothing.
     pub(crate) fn new(path: Path, bytes: Vec<u8>) -> PlainWire
         ensures { result ≡ record { from = from_of path; to = to_of path; bytes = bytes.items } }
     {
         PlainWire { path, bytes }
     }
 
-    /// Its sender and its receiver.
+    /// Returns its sender and its receiver.
     pub fn path(&self) -> Path
         ensures from { from_of result ≡ self.now.from }
         ensures to { to_of result ≡ self.now.to }
@@ -38,7 +38,7 @@ impl PlainWire {
         self.path
     }
 
-    /// Its bytes.
+    /// Returns its bytes.
     pub fn bytes(&self) -> &[u8]
         ensures { result.now ≡ self.now.bytes }
     {

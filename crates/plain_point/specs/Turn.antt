@@ -33,7 +33,7 @@ pub record IsSendingAfter (news : News) (p : Point) (sending : Sending) : Type 0
   pub congestion : congestion_in sending.congestion ≡ congestion_after news p
   pub syn_acked : sending.syn_acked ≡ syn_acked_after news p
 
--- whether the service may read on, where all its reads have made so many bytes of output, and the answered ones so many
+-- whether the service may read on, after all its reads have made `made` bytes of output, and the answered ones `released` bytes
 abbrev pub may_read_at : (made released : ℕ) → Point → Bool
 may_read_at made released p = nat_le made (min released (p.una + 65535)) && nat_le made (2 ^ 24 - 2 ^ 20) && nat_lt (length p.lengths - p.reads_answered) 32
 
@@ -47,7 +47,7 @@ is_set_anew_since timer p = timer.rest == 0 || (nat_lt timer.una p.una || (p.syn
 abbrev pub expires_since : Bool → Timer → Bool
 expires_since ticks timer = ticks && timer.rest == 1
 
--- the interval of the timer, and the ticks left, after a turn that is a tick or not, where the timer must run or not
+-- the interval of the timer and the remaining ticks after a turn, given whether the turn is a tick and whether the timer must run
 abbrev pub interval_since : (ticks : Bool) → Timer → Point → ℕ
 interval_since ticks timer p = if is_set_anew_since timer p then 1 else (if expires_since ticks timer then min 64 (2 * timer.interval) else timer.interval)
 

@@ -30,7 +30,7 @@ abbrev pub bodies_of : Option Data → List said.Body
 bodies_of None = []
 bodies_of (Some d) = DataMsg (data_in d) ∷ []
 
--- what a segment acknowledges, where its acknowledgement is used for something
+-- what a segment acknowledges, if its acknowledgement is used for something
 abbrev pub IsAcknowledged : Bool → Point → Segment → Option Acknowledged → Type 0
 IsAcknowledged used p segment None = used ≡ false
 IsAcknowledged used p segment (Some a) =

@@ -1,4 +1,4 @@
-//! The law Taken: which segments count, and what their text and FIN do (RFC 9293, 3.10.7.4). And when an ACK is pending because of a segment.
+//! The law Taken: which segments count, and what their text and FIN do (RFC 9293, 3.10.7.4); and when a segment makes an ACK pending.
 
 ghost use Rattle.std.specs.Prelude.{◌≡◌, OnOk};
 ghost use Rattle.segment_codec.specs.Value.{segment_of};
@@ -22,21 +22,21 @@ impl PlainPoint {
     ghost use Rattle.ft_model.specs.Segments.{repeats_syn as repeats_lem};
     ghost use Rattle.ft_model.specs.ResetAndEnd.{reset_after};
 
-    /// Where a segment begins in the client's stream.
+    /// Returns the offset at which a segment begins in the client's stream.
     pub(crate) fn first(&self, segment: &PacketRef<'_>) -> i64
         ensures { result ≡ first_of self.now.cisn (segment_of segment.now) }
     {
         first(self.numbers.cisn, segment)
     }
 
-    /// Up to where a segment acknowledges the output.
+    /// Returns the offset up to which a segment acknowledges the output.
     pub(crate) fn ack(&self, segment: &PacketRef<'_>) -> i64
         ensures { result ≡ ack_of self.now.sisn (segment_of segment.now) }
     {
         ack(self.numbers.sisn, segment)
     }
 
-    /// Whether a segment is acceptable, or at the right edge.
+    /// Returns whether a segment is acceptable, or at the right edge.
     #[tactic(auto, unfolding(ft_model::specs::Taken::accepts))]
     fn accepts(&self, segment: &PacketRef<'_>) -> bool
         ensures { result ≡ accepts_lem self.now (segment_of segment.now) }
@@ -45,7 +45,7 @@ impl PlainPoint {
         accepts(next, room, self.first(segment), segment_len(segment))
     }
 
-    /// Whether the acknowledgement of a segment is used.
+    /// Returns whether the acknowledgement of a segment is used.
     #[tactic(auto, unfolding(ft_model::specs::Taken::uses))]
     fn uses(&self, segment: &PacketRef<'_>) -> bool
         ensures { result ≡ uses_lem self.now (segment_of segment.now) }
@@ -54,7 +54,7 @@ impl PlainPoint {
         is_usable(next, room, self.first(segment), segment_len(segment))
     }
 
-    /// Whether a segment counts.
+    /// Returns whether a segment counts.
     #[tactic(auto, unfolding(ft_model::specs::Taken::counts))]
     pub(crate) fn counts(&self, segment: &PacketRef<'_>) -> bool
         ensures { result ≡ counts_lem self.now (segment_of segment.now) }
@@ -66,7 +66,7 @@ impl PlainPoint {
             && (self.syn_acked || self.ack(segment) >= 0)
     }
 
-    /// Takes or holds the text and the FIN of a segment, where it counts. After `NoMemory` the point may only be dropped.
+    /// Takes or holds the text and the FIN of a segment, if it counts. After `NoMemory` the point may only be dropped.
     #[tactic(auto, unfolding(ft_model::specs::Taken::taken_after, ft_model::specs::Taken::early_after, ft_model::specs::Taken::fin_after, ft_model::specs::Taken::came))]
     pub(crate) fn take(&mut self, alloc: Global, segment: &PacketRef<'_>) -> Result<(), NoMemory>
         ensures { OnOk result (self.new ≡ record self.old {
@@ -96,14 +96,14 @@ impl PlainPoint {
         Ok(())
     }
 
-    /// Whether TCP answers an acknowledgement of less than the SYN with a RST, which isn't passed on.
+    /// Returns whether a segment acknowledges less than the SYN, before the SYN is acknowledged. TCP answers it with a RST, which isn't passed on.
     fn is_refused(&self, segment: &PacketRef<'_>) -> bool
         ensures { result ≡ refused_lem self.now (segment_of segment.now) }
     {
         !self.syn_acked && has_ack(segment) && self.ack(segment) < 0
     }
 
-    /// Whether TCP answers an acceptable segment with an ACK.
+    /// Returns whether TCP answers an acceptable segment with an ACK.
     fn needs_ack_if_acceptable(&self, segment: &PacketRef<'_>) -> bool
         ensures { result ≡ acceptable_lem self.now (segment_of segment.now) }
     {
@@ -116,7 +116,7 @@ impl PlainPoint {
         }
     }
 
-    /// Whether TCP answers a segment with an ACK.
+    /// Returns whether TCP answers a segment with an ACK.
     #[tactic(auto, unfolding(ft_model::specs::PendingAck::needs_ack))]
     pub fn needs_ack(&self, segment: &PacketRef<'_>) -> bool
         ensures { result ≡ needs_lem self.now (segment_of segment.now) }
@@ -128,7 +128,7 @@ impl PlainPoint {
         }
     }
 
-    /// Whether the client repeats its SYN, while neither its stream nor the output has progressed.
+    /// Returns whether the client retransmits its SYN, while neither its stream nor the output has progressed.
     pub fn repeats_syn(&self, segment: &PacketRef<'_>) -> bool
         ensures { result ≡ repeats_lem self.now (segment_of segment.now) }
     {
@@ -140,7 +140,7 @@ impl PlainPoint {
             && self.una == 0
     }
 
-    /// Whether the client resets the connection with a segment, or has.
+    /// Returns whether the client resets the connection with this segment, or has reset it already.
     #[tactic(auto, unfolding(ft_model::specs::ResetAndEnd::reset_after))]
     pub fn resets(&self, segment: &PacketRef<'_>) -> bool
         ensures { result ≡ reset_after (Comes (segment_of segment.now)) self.now }

@@ -4,10 +4,10 @@ ghost use Rattle.std.specs.Prelude.{◌≡◌, ◌≤◌};
 ghost use Rattle.seq_arith.specs.Congestion.{initial_congestion, initial_window as initial_lem, growth as growth_lem, lowered_threshold as lowered_lem, with_new_data, with_duplicate, with_expiry, is_third};
 ghost use Rattle.plain_point.specs.Values.{congestion_in};
 
-/// The congestion window is never above this.
+/// The upper bound of the congestion window, in bytes.
 const MOST_WINDOW: u64 = 1 << 20;
 
-/// The congestion window, the slow start threshold, and the duplicate acknowledgements, up to four.
+/// The congestion window, the slow start threshold, and the number of duplicate acknowledgements, up to four.
 #[derive(Clone, Copy, Debug, PartialEq, Eq)]
 pub struct Window {
     pub cwnd: u64,
@@ -16,7 +16,7 @@ pub struct Window {
 }
 
 impl Window {
-    /// The window with which a connection begins.
+    /// Returns the congestion window with which a connection begins.
     pub(crate) fn initial(mss: u16) -> Window
         ensures { congestion_in result ≡ initial_congestion mss }
     {
@@ -27,7 +27,7 @@ impl Window {
         }
     }
 
-    /// How far the window grows: slow start adds what is acknowledged, up to a segment, and congestion avoidance a segment for each window.
+    /// Returns how far the window grows: in slow start by what is acknowledged, up to a segment; in congestion avoidance by a segment for each window.
     fn growth(self, mss: u16, units: u64) -> u64
         ensures { result ≡ growth_lem mss units (congestion_in self) }
     {
@@ -38,7 +38,7 @@ impl Window {
         (segment * segment / self.cwnd.max(1)).max(1)
     }
 
-    /// New data is acknowledged: fast recovery ends, or the window grows.
+    /// Returns the state after new data is acknowledged: fast recovery ends, or the window grows.
     #[tactic(auto, unfolding(seq_arith::specs::Congestion::with_new_data))]
     pub(crate) fn with_new_data(self, mss: u16, units: u64) -> Window
         ensures { congestion_in result ≡ with_new_data mss units (congestion_in self) }
@@ -58,7 +58,7 @@ impl Window {
         }
     }
 
-    /// Whether the next duplicate is the third in a row.
+    /// Returns whether the next duplicate is the third in a row.
     #[tactic(auto, unfolding(seq_arith::specs::Congestion::is_third))]
     pub(crate) fn is_third(self) -> bool
         ensures { result ≡ is_third (congestion_in self) }
@@ -66,7 +66,7 @@ impl Window {
         self.dups == 2
     }
 
-    /// A duplicate acknowledgement arrives. The third begins fast recovery.
+    /// Returns the state after a duplicate acknowledgement. The third one begins fast recovery.
     #[tactic(auto, unfolding(seq_arith::specs::Congestion::with_duplicate, seq_arith::specs::Congestion::is_third))]
     pub(crate) fn with_duplicate(self, mss: u16, flight: u64) -> Window
         ensures { congestion_in result ≡ with_duplicate mss flight (congestion_in self) }
@@ -93,7 +93,7 @@ impl Window {
         }
     }
 
-    /// The timer expires: all that is in flight counts as lost. Only the first expiry lowers the threshold.
+    /// Returns the state after the timer expires: everything in flight counts as lost. Only the first expiry lowers the threshold.
     #[tactic(auto, unfolding(seq_arith::specs::Congestion::with_expiry))]
     pub(crate) fn with_expiry(self, mss: u16, flight: u64, is_first: bool) -> Window
         ensures { congestion_in result ≡ with_expiry mss flight is_first (congestion_in self) }
@@ -114,7 +114,7 @@ impl Window {
     }
 }
 
-/// The initial window: four segments, or three where a segment has more than 1,095 bytes.
+/// Returns the initial window: four segments, or three if a segment has more than 1,095 bytes.
 fn initial_window(mss: u16) -> u64
     ensures { result ≡ initial_lem mss }
 {
@@ -126,7 +126,7 @@ fn initial_window(mss: u16) -> u64
     }
 }
 
-/// The threshold after a loss: half of the flight, but at least two segments.
+/// Returns the threshold after a loss: half of the flight size, but at least two segments.
 fn lowered_threshold(mss: u64, flight: u64) -> u64
     requires { mss ≤ 65535 }
     ensures value { result ≡ lowered_lem mss flight }

@@ -1,4 +1,4 @@
-//! The law Copy: which part of a segment is sent to the logger. Whether the segment was acceptable doesn't matter.
+//! The law Copy: which part of a segment is sent to the logger. It doesn't matter whether the segment was acceptable.
 
 ghost use Rattle.std.specs.Prelude.{◌≡◌, ◌≤◌, ◌+◌, ◌^◌, ◌==◌, ◌&&◌, ◌||◌, not, nat_lt, length};
 ghost use Rattle.segment_codec.specs.Value.{segment_of};
@@ -30,7 +30,7 @@ pub struct Data<'a> {
 impl PlainPoint {
     ghost use Rattle.ft_model.specs.Copy.{copy_start as start_lem, copied_text as text_lem, copies_fin as fin_lem, una_part as una_lem, own_data as own_lem, further_start};
 
-    /// Where the part of a segment's text that isn't known to be logged begins.
+    /// Returns where the part of a segment's text begins that isn't known to be logged.
     fn copy_start(&self, segment: &PacketRef<'_>) -> u64
         ensures { result ≡ start_lem self.now (segment_of segment.now) }
     {
@@ -42,7 +42,7 @@ impl PlainPoint {
         }
     }
 
-    /// The text from there up to the bytes taken.
+    /// Returns the segment's text from there up to the end of the bytes taken.
     fn copied_text<'a>(&self, segment: &PacketRef<'a>) -> &'a [u8]
         ensures { result.now ≡ text_lem self.now (segment_of segment.now) }
     {
@@ -52,7 +52,7 @@ impl PlainPoint {
         part(counted_text(segment), skipped, room)
     }
 
-    /// Whether the segment's FIN is the one that is taken, and isn't known to be logged.
+    /// Returns whether the segment's FIN is the one that is taken, and isn't known to be logged.
     fn copies_fin(&self, segment: &PacketRef<'_>) -> bool
         ensures { result ≡ fin_lem self.now (segment_of segment.now) }
     {
@@ -64,7 +64,7 @@ impl PlainPoint {
             && self.answered <= taken
     }
 
-    /// The part of a segment between what is answered and what is taken after the turn, if there is one.
+    /// Returns the part of a segment between what is answered and what is taken after the turn, if there is one.
     #[tactic(auto, unfolding(ft_model::specs::Copy::own_data))]
     pub fn own_data<'a>(&self, segment: &PacketRef<'a>) -> Option<Data<'a>>
         ensures { bodies_of result ≡ own_lem self.now (segment_of segment.now) }
@@ -82,7 +82,7 @@ impl PlainPoint {
         })
     }
 
-    /// Data that only reports what is acknowledged.
+    /// Returns a Data without text that only reports SND.UNA.
     pub fn una_data<'a>(&self) -> Data<'a>
         ensures { data_in result ≡ una_lem self.now }
     {
@@ -95,8 +95,8 @@ impl PlainPoint {
         }
     }
 
-    /// Where the text begins that was held and is taken in this turn, and isn't known to be logged: after so many bytes that were taken before the turn, and
-    /// after the segment's own.
+    /// Returns where the text begins that was held, is taken in this turn, and isn't known to be logged. It comes after the `taken` bytes that were taken
+    /// before the turn, and after the segment's own text.
     fn further_start(&self, taken: u64, segment: &PacketRef<'_>) -> u64
         requires { taken ≤ 2 ^ 63 }
         ensures value { (before : Point) → taken ≡ length before.taken → result ≡ further_start before self.now (segment_of segment.now) }
@@ -108,8 +108,8 @@ impl PlainPoint {
         self.answered.max(taken.max(own))
     }
 
-    /// The text and the FIN that were held and are taken in this turn, and aren't known to be logged, where so many bytes were taken before the turn, and the FIN
-    /// or not.
+    /// Returns the text and the FIN that were held, are taken in this turn, and aren't known to be logged. Before the turn `taken` bytes were taken, and
+    /// `fin` says whether the FIN was.
     pub fn further_data(&self, taken: u64, fin: bool, segment: &PacketRef<'_>) -> Data<'_>
         requires { taken ≤ 2 ^ 63 }
         ensures value { (before : Point) → taken ≡ length before.taken → fin ≡ before.fin

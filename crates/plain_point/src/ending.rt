@@ -7,10 +7,10 @@ use crate::point::PlainPoint;
 /// The longest interval of the timer, in ticks.
 const LONGEST_INTERVAL: u64 = 64;
 
-/// How many end ticks are counted.
+/// The number of end ticks that are counted.
 const END_TICKS: u64 = 4;
 
-/// The timer before a turn, and what renews it.
+/// The timer before a turn, and the fields that show whether it is restarted.
 #[derive(Clone, Copy, Debug, PartialEq, Eq)]
 pub struct Timer {
     una: u64,
@@ -22,7 +22,7 @@ pub struct Timer {
 impl PlainPoint {
     ghost use Rattle.plain_point.specs.Turn.{timer_of, is_set_anew_since, interval_since, rest_since};
 
-    /// The timer before a turn.
+    /// Returns the timer before a turn.
     pub fn timer(&self) -> Timer
         ensures { result ≡ timer_of self.now }
     {
@@ -34,14 +34,14 @@ impl PlainPoint {
         }
     }
 
-    /// Whether the timer's past no longer counts: it didn't run, or something new was acknowledged since.
+    /// Returns whether the timer starts anew: it didn't run, or something new has been acknowledged since.
     fn is_set_anew(&self, timer: Timer) -> bool
         ensures { result ≡ is_set_anew_since timer self.now }
     {
         timer.rest == 0 || timer.una < self.una || (self.syn_acked && !timer.syn_acked)
     }
 
-    /// The interval after a turn: 1 tick where the timer is restarted, and twice as much after each expiry.
+    /// Returns the interval after a turn: 1 tick if the timer is restarted. At an expiry it is doubled, up to 64 ticks.
     fn interval_after(&self, timer: Timer, ticks: bool) -> u64
         ensures { result ≡ interval_since ticks timer self.now }
     {
@@ -54,7 +54,8 @@ impl PlainPoint {
         }
     }
 
-    /// The ticks left after a turn, where the timer must run or not: a full interval where it is restarted or has expired, and one less at each other tick.
+    /// Returns the ticks that remain after a turn: a full interval if the timer is restarted or has expired; one less at each other tick; none if it needn't
+    /// run.
     fn rest_after(&self, timer: Timer, ticks: bool, must_run: bool) -> u64
         ensures { result ≡ rest_since must_run ticks timer self.now }
     {
@@ -67,7 +68,7 @@ impl PlainPoint {
         timer.rest.saturating_sub(u64::from(ticks))
     }
 
-    /// Sets the timer after a turn, where it must run or not.
+    /// Sets the timer after a turn. `must_run` says whether it must run.
     pub fn set_timer(&mut self, timer: Timer, ticks: bool, must_run: bool)
         ensures { self.new ≡ record self.old { interval = interval_since ticks timer self.old; rest = rest_since must_run ticks timer self.old } }
     {
@@ -76,7 +77,7 @@ impl PlainPoint {
         self.rest = rest;
     }
 
-    /// Counts an end tick, up to four.
+    /// Counts an end tick, up to four, if `ends` is set.
     pub fn count_end(&mut self, ends: bool)
         ensures { self.new ≡ record self.old { end_ticks = (if ends then min 4 (self.old.end_ticks + 1) else self.old.end_ticks) } }
     {

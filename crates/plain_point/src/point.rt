@@ -14,9 +14,9 @@ use std::marker::Model;
 pub struct Numbers {
     /// The client's address and port.
     pub key: Key,
-    /// The client's initial number.
+    /// The client's initial sequence number.
     pub cisn: u32,
-    /// The server's initial number, as the client knows it.
+    /// The server's initial sequence number, as the client knows it.
     pub sisn: u32,
     /// The segment size, in bytes.
     pub mss: u16,
@@ -26,7 +26,7 @@ pub struct Numbers {
 #[derive(Debug, Drop)]
 pub struct PlainPoint {
     pub(crate) numbers: Numbers,
-    /// The client's bytes that a restart fetched.
+    /// How many of the client's bytes a restart fetched.
     pub(crate) fetched: u64,
     /// The client's bytes that are taken.
     pub(crate) taken: Vec<u8>,
@@ -34,17 +34,17 @@ pub struct PlainPoint {
     pub(crate) fin: bool,
     /// The client's text after the bytes taken, and its FIN, that are held.
     pub(crate) held: Held,
-    /// The client's units that are known to be logged.
+    /// How many of the client's units are known to be logged.
     pub(crate) answered: u64,
     /// The lengths of all reads.
     pub(crate) lengths: Vec<u16>,
-    /// How many of these are known to be logged.
+    /// How many of these reads are known to be logged.
     pub(crate) reads_answered: usize,
     /// SND.UNA.
     pub(crate) una: u64,
     /// SND.NXT.
     pub(crate) sent: u64,
-    /// The client's right edge.
+    /// The right edge of the client's window.
     pub(crate) edge: u64,
     /// SND.WL1.
     pub(crate) wl1: i64,
@@ -58,7 +58,7 @@ pub struct PlainPoint {
     pub(crate) interval: u64,
     /// The ticks until the timer expires; 0 while it doesn't run.
     pub(crate) rest: u64,
-    /// The end ticks so far, up to four.
+    /// The number of end ticks so far, up to four.
     pub(crate) end_ticks: u64,
     /// Whether the client reset the connection.
     pub(crate) reset: bool,
@@ -110,7 +110,7 @@ impl PlainPoint {
     ghost use Rattle.ft_model.specs.Opening.{point_opened};
     ghost use Rattle.ft_model.specs.Segments.{window as window_lem};
 
-    /// The point of a new connection: nothing is taken, and nothing may be sent yet. Nothing is allocated.
+    /// Creates the point of a new connection: nothing is taken, and nothing may be sent yet. Allocates nothing.
     pub fn opened(alloc: Global, numbers: &Numbers) -> PlainPoint
         ensures { result ≡ point_opened (numbers_in numbers.now) }
     {
@@ -139,7 +139,7 @@ impl PlainPoint {
         }
     }
 
-    /// RCV.NXT: the units taken.
+    /// Returns RCV.NXT as a number of units: those taken.
     pub fn taken_units(&self) -> u64
         ensures value { result ≡ units_lem self.now }
         ensures within { result ≤ 2 ^ 63 }
@@ -147,7 +147,7 @@ impl PlainPoint {
         self.taken.len() as u64 + u64::from(self.fin)
     }
 
-    /// What may be acknowledged: the units that are taken and known to be logged.
+    /// Returns how many units may be acknowledged: those that are taken and known to be logged.
     pub fn acknowledgement(&self) -> u64
         ensures value { result ≡ acknowledgement_lem self.now }
         ensures within { result ≤ 2 ^ 63 }
@@ -155,7 +155,7 @@ impl PlainPoint {
         self.taken_units().min(self.answered)
     }
 
-    /// The receive edge: no byte from here on is taken.
+    /// Returns the right edge of the receive window: no byte from here on is taken.
     pub fn receive_edge(&self) -> u64
         ensures value { result ≡ edge_lem self.now }
         ensures within { result ≤ 2 ^ 24 }
@@ -166,7 +166,7 @@ impl PlainPoint {
             .min(1 << 24)
     }
 
-    /// The edge that TCP advertises: a FIN that is taken has used up one number.
+    /// Returns the right edge that TCP advertises: a FIN that is taken has used up one number.
     pub fn advertised_edge(&self) -> u64
         ensures value { result ≡ advertised_lem self.now }
         ensures within { result ≤ 2 ^ 24 + 1 }
@@ -174,7 +174,7 @@ impl PlainPoint {
         self.receive_edge() + u64::from(self.fin)
     }
 
-    /// RCV.WND.
+    /// Returns RCV.WND.
     pub fn room(&self) -> u64
         ensures value { result ≡ room_lem self.now }
         ensures within { result ≤ 2 ^ 24 + 1 }
@@ -182,7 +182,7 @@ impl PlainPoint {
         self.advertised_edge().saturating_sub(self.taken_units())
     }
 
-    /// The window that a segment advertises: from what is acknowledged up to the edge.
+    /// Returns the window that a segment advertises: from what is acknowledged up to the edge.
     pub fn window(&self) -> u16
         ensures { result ≡ window_lem self.now }
     {

@@ -9,24 +9,24 @@ use plain_segment::part;
 /// The longest read, in bytes.
 const LONGEST_READ: u64 = 2_048;
 
-/// Most output of a service that may still read, in bytes: the longest stream less the output of one read.
+/// The most output, in bytes, of a service that may still read: the longest stream less the output of one read.
 const MOST_MADE: u64 = (1 << 24) - (1 << 20);
 
-/// The most unanswered reads of a service that may still read, and one more.
+/// The number of unanswered reads at which a service may no longer read.
 const UNANSWERED: usize = 32;
 
 impl PlainPoint {
     ghost use Rattle.ft_model.specs.Reads.{next_length as length_lem, with_read};
     ghost use Rattle.plain_point.specs.Turn.{may_read_at};
 
-    /// How many reads are known to be logged.
+    /// Returns how many reads are known to be logged.
     pub fn reads_answered(&self) -> usize
         ensures { result ≡ self.now.reads_answered }
     {
         self.reads_answered
     }
 
-    /// How much there is to read next, if anything: 0 for the read that closes.
+    /// Returns the length of the next read, if there is anything to read; 0 for the read that closes.
     #[tactic(auto, unfolding(ft_model::specs::Reads::next_length))]
     pub fn next_length(&self) -> Option<u16>
         ensures value { result ≡ length_lem self.now }
@@ -44,7 +44,7 @@ impl PlainPoint {
         }
     }
 
-    /// Whether the service may read on, where all its reads have made so many bytes of output, and the answered ones so many.
+    /// Returns whether the service may read on, after all its reads have made `made` bytes of output, and the answered ones `released` bytes.
     pub fn may_read(&self, made: u64, released: u64) -> bool
         ensures { result ≡ may_read_at made released self.now }
     {
@@ -52,14 +52,14 @@ impl PlainPoint {
         made <= room && made <= MOST_MADE && self.lengths.len() - self.reads_answered < UNANSWERED
     }
 
-    /// So many of the bytes that aren't read.
+    /// Returns the first `len` bytes that aren't read yet.
     pub fn unread(&self, len: u16) -> &[u8]
         ensures { result.now ≡ take len (drop (sum self.now.lengths) self.now.taken) }
     {
         part(&self.taken, self.read, u64::from(len))
     }
 
-    /// The service reads so much, which is there to be read. After `NoMemory` the point may only be dropped.
+    /// Adds a read of this length, which is there to be read. After `NoMemory` the point may only be dropped.
     pub fn add_read(&mut self, len: u16) -> Result<(), NoMemory>
         requires { sum self.old.lengths + len ≤ max self.old.fetched (length self.old.taken) }
         ensures { OnOk result (self.new ≡ with_read len self.old) }

@@ -8,8 +8,8 @@ use crate::point::{Numbers, PlainPoint};
 use std::alloc::Global;
 
 impl PlainPoint {
-    /// All bytes and the FIN of the log are taken and known to be logged, and one acknowledgement has counted, with window 0. Nothing is read yet. Nothing is
-    /// allocated.
+    /// Creates the point of a connection whose logged bytes and FIN are taken and known to be logged. One acknowledgement has counted, with window 0.
+    /// Nothing is read yet. Allocates nothing.
     pub fn fetched(alloc: Global, numbers: &Numbers, bytes: Vec<u8>, fin: bool) -> PlainPoint
         requires { length bytes.items ≤ 2 ^ 32 }
         ensures { result ≡ point_fetched (numbers_in numbers.now) bytes.items fin }
@@ -26,7 +26,7 @@ impl PlainPoint {
         }
     }
 
-    /// The reads that were made are known to be logged, and the output continues from this offset on.
+    /// Sets the reads that were made as known to be logged, and the output to continue from this offset.
     pub fn resume_at(&mut self, at: u64)
         ensures { self.new ≡ with_output_from at self.old }
     {

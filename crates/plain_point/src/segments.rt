@@ -1,4 +1,4 @@
-//! What is sent to the client: the laws Acknowledgement and Window, in the one header that all segments share.
+//! The segments to the client: the laws Acknowledgement and Window, in the one header that all segments share.
 
 ghost use Rattle.std.specs.Prelude.{◌≡◌, Some};
 ghost use Rattle.seq_arith.specs.Value.{said};
@@ -16,7 +16,7 @@ const OFFERED_SIZE: u16 = 1_460;
 impl PlainPoint {
     ghost use Rattle.ft_model.specs.Segments.{head_to, segment_at as segment_lem, syn_ack as syn_lem, bare_segment as bare_lem};
 
-    /// The header of a segment to the client: it acknowledges exactly what is both taken and known to be logged.
+    /// Returns the header of a segment to the client. It acknowledges exactly what is both taken and known to be logged.
     fn head_to(&self, server: Addr, seq: u32, flags: u8, mss: Option<u16>) -> Head
         ensures { said result ≡ head_to server self.now seq flags mss }
     {
@@ -33,7 +33,7 @@ impl PlainPoint {
         }
     }
 
-    /// A segment at an offset of the output.
+    /// Returns a segment at an offset of the output.
     pub fn segment_at<'a>(
         &self,
         server: Addr,
@@ -50,7 +50,7 @@ impl PlainPoint {
         }
     }
 
-    /// The SYN-ACK, with the logged numbers.
+    /// Returns the SYN-ACK, with the logged numbers.
     pub fn syn_ack<'a>(&self, server: Addr) -> PacketRef<'a>
         ensures { segment_of result ≡ syn_lem server self.now }
     {
@@ -60,7 +60,7 @@ impl PlainPoint {
         }
     }
 
-    /// The segment without data, at SND.NXT.
+    /// Returns the segment without data, at SND.NXT.
     pub fn bare_segment<'a>(&self, server: Addr) -> PacketRef<'a>
         ensures { segment_of result ≡ bare_lem server self.now }
     {

@@ -1,4 +1,4 @@
-//! The law Sending: what an acknowledgement does (RFC 9293, 3.10.7.4, fifth check; RFC 5681, 2 and 3). All is computed from the point before the turn.
+//! The law Sending: the effect of an acknowledgement (RFC 9293, 3.10.7.4, fifth check; RFC 5681, 2 and 3). All is computed from the point before the turn.
 
 ghost use Rattle.std.specs.Prelude.{◌≡◌, ◌<◌, ◌≤◌, ◌-◌, ◌^◌, OnOk, IfSome, nat_lt};
 ghost use Rattle.segment_codec.specs.Value.{segment_of};
@@ -22,7 +22,8 @@ pub struct Sending {
     pub syn_acked: bool,
 }
 
-/// An acknowledgement that is used: the offset that it names, at most what was sent, and the window, raised so that the right edge is where the client put it.
+/// An acknowledgement that is used: the offset that it names, at most what was sent, and the window, raised so that the right edge is where the client put
+/// it.
 #[derive(Clone, Copy, Debug)]
 pub(crate) struct Acknowledged {
     pub(crate) first: i64,
@@ -37,7 +38,7 @@ impl PlainPoint {
     ghost use Rattle.plain_point.specs.Values.{IsAcknowledged};
     ghost use Rattle.plain_point.specs.Turn.{noted, IsSendingAfter};
 
-    /// The acknowledgement of a segment, where it is used.
+    /// Returns the acknowledgement of a segment, if it is used.
     pub(crate) fn acknowledged(&self, segment: &PacketRef<'_>) -> Option<Acknowledged>
         ensures value { IsAcknowledged (acknowledges self.now (segment_of segment.now)) self.now (segment_of segment.now) result }
         ensures small { IfSome result (λ a. (a.acked ≤ 2 ^ 63) × (a.window ≤ 65535)) }
@@ -55,14 +56,14 @@ impl PlainPoint {
         })
     }
 
-    /// SND.NXT less SND.UNA: what is in flight.
+    /// Returns the flight size: SND.NXT less SND.UNA.
     pub(crate) fn flight(&self) -> u64
         ensures { result ≡ flight_lem self.now }
     {
         self.sent.saturating_sub(self.una)
     }
 
-    /// Whether the window of an acknowledgement is used, by TCP's test for older segments.
+    /// Returns whether the window of an acknowledgement is used, by TCP's test for older segments.
     fn updates_window(&self, acknowledged: Acknowledged) -> bool
         ensures { result ≡ updates_lem self.now.una self.now.wl1 self.now.wl2 acknowledged.first acknowledged.acked }
     {
@@ -71,7 +72,7 @@ impl PlainPoint {
                 || (self.wl1 == acknowledged.first && self.wl2 <= acknowledged.acked))
     }
 
-    /// The acknowledgement of a segment, where its window is used too.
+    /// Returns the acknowledgement of a segment, if its window is used too.
     fn window_update(&self, segment: &PacketRef<'_>) -> Option<Acknowledged>
         ensures value { IsAcknowledged (moves_edge self.now (segment_of segment.now)) self.now (segment_of segment.now) result }
         ensures small { IfSome result (λ a. (a.acked ≤ 2 ^ 63) × (a.window ≤ 65535)) }
@@ -83,7 +84,7 @@ impl PlainPoint {
         Some(acknowledged)
     }
 
-    /// Whether a segment is a duplicate acknowledgement (RFC 5681, 2).
+    /// Returns whether a segment is a duplicate acknowledgement (RFC 5681, 2).
     #[tactic(auto, unfolding(ft_model::specs::Sending::is_duplicate))]
     pub(crate) fn is_duplicate(&self, segment: &PacketRef<'_>) -> bool
         ensures { result ≡ duplicate_lem self.now (segment_of segment.now) }
@@ -100,7 +101,7 @@ impl PlainPoint {
         }
     }
 
-    /// How many units a segment acknowledges that weren't; 0 where it acknowledges nothing new.
+    /// Returns how many units a segment newly acknowledges; 0 if it acknowledges nothing new.
     fn new_units(&self, segment: &PacketRef<'_>) -> u64
         ensures some { nat_lt 0 result ≡ acknowledges_new self.now (segment_of segment.now) }
         ensures value { 0 < result → result ≡ acknowledged_by self.now (segment_of segment.now) - self.now.una }
@@ -111,7 +112,7 @@ impl PlainPoint {
         }
     }
 
-    /// Congestion control after a segment.
+    /// Returns the state of congestion control after a segment.
     #[tactic(auto, unfolding(ft_model::specs::Sending::congestion_after))]
     fn congestion_after(&self, segment: &PacketRef<'_>) -> Window
         ensures { congestion_in result ≡ congestion_after (Comes (segment_of segment.now)) self.now }
@@ -127,14 +128,14 @@ impl PlainPoint {
         }
     }
 
-    /// Whether the timer expires while something is in flight and the client has room for it.
+    /// Returns whether the timer expires while something is in flight and the client has room for it.
     fn is_lost(&self) -> bool
         ensures { result ≡ lost_lem self.now }
     {
         self.rest == 1 && self.una < self.sent && self.una < self.edge
     }
 
-    /// Congestion control after a tick.
+    /// Returns the state of congestion control after a tick.
     #[tactic(auto, unfolding(ft_model::specs::Sending::congestion_after))]
     pub(crate) fn congestion_after_tick(&self) -> Window
         ensures { congestion_in result ≡ congestion_after Ticks self.now }
@@ -147,14 +148,14 @@ impl PlainPoint {
         }
     }
 
-    /// Nothing new is sent from this offset on: the right edge, or the end of the congestion window.
+    /// Returns the offset from which on nothing new is sent: the right edge, or the end of the congestion window.
     pub fn send_edge(&self) -> u64
         ensures { result ≡ send_edge_lem self.now }
     {
         self.una.saturating_add(self.congestion.cwnd).min(self.edge)
     }
 
-    /// SND.UNA after a segment.
+    /// Returns SND.UNA after a segment.
     #[tactic(auto, unfolding(ft_model::specs::Sending::acknowledged_after))]
     fn una_after(&self, segment: &PacketRef<'_>) -> u64
         ensures { result ≡ acknowledged_after (Comes (segment_of segment.now)) self.now }
@@ -165,7 +166,7 @@ impl PlainPoint {
         }
     }
 
-    /// The right edge after a segment, with SND.WL1 and SND.WL2.
+    /// Returns the right edge after a segment, with SND.WL1 and SND.WL2.
     #[tactic(auto, unfolding(ft_model::specs::Sending::edge_after, ft_model::specs::Sending::wl1_after, ft_model::specs::Sending::wl2_after))]
     fn edge_after(&self, segment: &PacketRef<'_>) -> (u64, i64, u64)
         ensures edge { result.0 ≡ edge_after (Comes (segment_of segment.now)) self.now }
@@ -184,7 +185,7 @@ impl PlainPoint {
         }
     }
 
-    /// What the sender knows after a segment.
+    /// Returns what the sender knows after a segment.
     #[tactic(auto, unfolding(ft_model::specs::Sending::syn_acked_after))]
     pub fn after_segment(&self, segment: &PacketRef<'_>) -> Sending
         ensures { IsSendingAfter (Comes (segment_of segment.now)) self.now result }

@@ -1,4 +1,4 @@
-//! The law Answered: what the logger's answers say is logged. And what a tick changes at once.
+//! The law Answered: what the logger's answers say is logged; and what a tick changes at once.
 
 ghost use Rattle.std.specs.Prelude.{◌≡◌};
 ghost use Rattle.plain_point.specs.Values.{kept_in};
@@ -11,11 +11,11 @@ use ft_io::Key;
 pub struct Kept {
     /// The client's address and port.
     pub key: Key,
-    /// The client's bytes.
+    /// How many of the client's bytes are logged.
     pub length: u32,
     /// Whether the client's FIN is logged.
     pub fin: bool,
-    /// How many reads.
+    /// How many reads are logged.
     pub reads: u32,
 }
 
@@ -23,7 +23,7 @@ impl PlainPoint {
     ghost use Rattle.ft_model.specs.News.News.{Logged, Ticks};
     ghost use Rattle.plain_point.specs.Turn.{noted};
 
-    /// Notes how much is logged. An answer counts for at most the reads that were made.
+    /// Records how much is logged. Of the reads, an answer counts only for those that were made.
     #[tactic(auto, unfolding(ft_model::specs::Taken::taken_after, ft_model::specs::Taken::early_after, ft_model::specs::Taken::fin_after, ft_model::specs::Answered::answered_after, ft_model::specs::Answered::reads_answered_after, ft_model::specs::Sending::syn_acked_after, ft_model::specs::Sending::acknowledged_after, ft_model::specs::Sending::edge_after, ft_model::specs::Sending::wl1_after, ft_model::specs::Sending::wl2_after, ft_model::specs::Sending::congestion_after))]
     pub fn note_logged(&mut self, kept: Kept)
         ensures { self.new ≡ noted (Logged (kept_in kept)) self.old }
@@ -34,7 +34,7 @@ impl PlainPoint {
         self.reads_answered = self.reads_answered.max(reads);
     }
 
-    /// Notes a tick: where the timer expires while something is in flight, it counts as lost.
+    /// Records a tick: if the timer expires while something is in flight, that counts as lost.
     #[tactic(auto, unfolding(ft_model::specs::Taken::taken_after, ft_model::specs::Taken::early_after, ft_model::specs::Taken::fin_after, ft_model::specs::Answered::answered_after, ft_model::specs::Answered::reads_answered_after, ft_model::specs::Sending::syn_acked_after, ft_model::specs::Sending::acknowledged_after, ft_model::specs::Sending::edge_after, ft_model::specs::Sending::wl1_after, ft_model::specs::Sending::wl2_after))]
     pub fn note_tick(&mut self)
         ensures { self.new ≡ noted Ticks self.old }

@@ -1,5 +1,5 @@
-//! The tests that TCP makes on an arriving segment, over stream offsets (RFC 9293, 3.10.7.4). An offset of a hostile packet may be before the stream's
-//! beginning, so it is signed. What was taken of a stream is counted without a sign.
+//! TCP's tests of an arriving segment, over stream offsets (RFC 9293, 3.10.7.4). A hostile packet's offset may be before the beginning of the stream, so it
+//! is signed. What was taken of a stream is counted by an unsigned number.
 
 ghost use Rattle.std.specs.Prelude.{◌≡◌, ◌+◌, ◌^◌, ◌<◌, ◌≤◌, MatchOption, pos, ◌+ℤ◌, ◌<ℤ◌, length, take, drop};
 ghost use Rattle.seq_arith.specs.Number.{number_at, offset_of as offset_lem};
@@ -7,7 +7,7 @@ ghost use Rattle.seq_arith.specs.Arrival.{int_eq, is_acceptable as acceptable_le
 
 use seq_arith::Seq;
 
-/// The number of an offset in the stream whose SYN has the number `isn`.
+/// Returns the sequence number at an offset of the stream whose initial sequence number is `isn`.
 pub fn number_of(isn: u32, offset: u64) -> u32
     requires { offset ≤ 2 ^ 63 }
     ensures { result ≡ number_at isn offset }
@@ -15,7 +15,7 @@ pub fn number_of(isn: u32, offset: u64) -> u32
     ((u64::from(isn) + 1 + offset) % (1 << 32)) as u32
 }
 
-/// The offset that a number names in the stream whose SYN has the number `isn`. The SYN is at -1.
+/// Returns the offset of a sequence number in the stream whose initial sequence number is `isn`. The SYN is at -1.
 #[tactic(auto, unfolding(seq_arith::specs::Number::offset_of))]
 pub fn offset_of(isn: u32, number: u32) -> i64
     ensures { result ≡ offset_lem isn number }
@@ -23,7 +23,7 @@ pub fn offset_of(isn: u32, number: u32) -> i64
     Seq(number).signed_gap(Seq(isn).add(1))
 }
 
-/// The offset n past `first`; `None` where it is before the stream's beginning.
+/// Returns the offset n past `first`, or `None` if it is before the beginning of the stream.
 pub fn place_of(first: i64, n: u64) -> Option<u64>
     requires { n < 2 ^ 63 }
     ensures { MatchOption result ((first +ℤ pos n) <ℤ pos 0) (λ place. (first +ℤ pos n) ≡ pos place) }
@@ -35,7 +35,7 @@ pub fn place_of(first: i64, n: u64) -> Option<u64>
     }
 }
 
-/// Whether the offset n past `first` is `next`.
+/// Returns whether the offset n past `first` is `next`.
 pub fn is_at(next: u64, first: i64, n: u64) -> bool
     requires { n < 2 ^ 63 }
     ensures { result ≡ int_eq (first +ℤ pos n) (pos next) }
@@ -46,7 +46,7 @@ pub fn is_at(next: u64, first: i64, n: u64) -> bool
     }
 }
 
-/// Whether the offset n past `first` is in the window that begins at `next`.
+/// Returns whether the offset n past `first` is in the window that begins at `next`.
 fn lies_in(next: u64, window: u64, first: i64, n: u64) -> bool
     requires { n < 2 ^ 63 }
     ensures { result ≡ lies_lem next window (first +ℤ pos n) }
@@ -57,7 +57,7 @@ fn lies_in(next: u64, window: u64, first: i64, n: u64) -> bool
     }
 }
 
-/// Whether a segment of length `len` that begins at `first` is acceptable, by the four cases of length and window.
+/// Returns whether a segment of length `len` that begins at `first` is acceptable, by the four cases of length and window.
 pub fn is_acceptable(next: u64, window: u64, first: i64, len: u64) -> bool
     requires { len ≤ 2 ^ 63 }
     ensures { result ≡ acceptable_lem next window first len }
@@ -70,7 +70,7 @@ pub fn is_acceptable(next: u64, window: u64, first: i64, len: u64) -> bool
     }
 }
 
-/// Whether a segment of length 0 is at exactly the right edge of an open window.
+/// Returns whether a segment of length 0 is at exactly the right edge of an open window.
 #[tactic(auto, unfolding(seq_arith::specs::Arrival::is_at_right_edge))]
 fn is_at_right_edge(next: u64, window: u64, first: i64, len: u64) -> bool
     requires next { next ≤ 2 ^ 63 }
@@ -80,7 +80,7 @@ fn is_at_right_edge(next: u64, window: u64, first: i64, len: u64) -> bool
     len == 0 && window > 0 && is_at(next + window, first, 0)
 }
 
-/// Whether a segment is acceptable, or at the right edge.
+/// Returns whether a segment is acceptable, or at the right edge.
 pub fn accepts(next: u64, window: u64, first: i64, len: u64) -> bool
     requires next { next ≤ 2 ^ 63 }
     requires window { window < 2 ^ 62 }
@@ -90,7 +90,7 @@ pub fn accepts(next: u64, window: u64, first: i64, len: u64) -> bool
     is_acceptable(next, window, first, len) || is_at_right_edge(next, window, first, len)
 }
 
-/// Whether a segment begins at exactly the next number while the window is zero.
+/// Returns whether a segment begins at exactly the next number while the window is zero.
 #[tactic(auto, unfolding(seq_arith::specs::Arrival::is_allowed_at_zero))]
 fn is_allowed_at_zero(next: u64, window: u64, first: i64) -> bool
     ensures { result ≡ is_allowed_at_zero next window first }
@@ -98,7 +98,7 @@ fn is_allowed_at_zero(next: u64, window: u64, first: i64) -> bool
     window == 0 && is_at(next, first, 0)
 }
 
-/// Whether the acknowledgement of a segment is used: it is acceptable, at the right edge, or at the next number of a zero window.
+/// Returns whether the acknowledgement of a segment is used: it is acceptable, at the right edge, or at the next number of a zero window.
 pub fn is_usable(next: u64, window: u64, first: i64, len: u64) -> bool
     requires next { next ≤ 2 ^ 63 }
     requires window { window < 2 ^ 62 }
@@ -108,7 +108,7 @@ pub fn is_usable(next: u64, window: u64, first: i64, len: u64) -> bool
     accepts(next, window, first, len) || is_allowed_at_zero(next, window, first)
 }
 
-/// A text without its first bytes.
+/// Returns a text without its first `skipped` bytes.
 pub fn rest(text: &[u8], skipped: u64) -> &[u8]
     ensures { result.now ≡ drop skipped text.now }
 {
@@ -116,7 +116,7 @@ pub fn rest(text: &[u8], skipped: u64) -> &[u8]
     &text[from..]
 }
 
-/// A text without its first bytes, cut to the room that there is for it.
+/// Returns a text without its first `skipped` bytes, cut to this room.
 pub fn part(text: &[u8], skipped: u64, room: u64) -> &[u8]
     ensures { result.now ≡ take room (drop skipped text.now) }
 {

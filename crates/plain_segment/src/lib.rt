@@ -1,5 +1,5 @@
-//! What an arriving segment is in the stream of its sender: where it begins and what it acknowledges, whether it is acceptable, and which text counts
-//! (RFC 9293, 3.4 and 3.10.7.4). For the plain world, which shares no code with the endpoints that it judges.
+//! An arriving segment in the stream of its sender: where it begins and what it acknowledges, whether it is acceptable, and which text counts (RFC 9293, 3.4
+//! and 3.10.7.4). For the plain world, which shares no code with the endpoints that it judges.
 #![tactic(auto)]
 
 pub use arrival::{

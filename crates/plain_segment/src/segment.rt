@@ -1,4 +1,4 @@
-//! What the fields of an arriving segment say: its place in the stream, and its text.
+//! The fields of an arriving segment: its place in the stream, and its text.
 
 ghost use Rattle.std.specs.Prelude.{◌≡◌, ◌≤◌, ◌^◌};
 ghost use Rattle.seq_arith.specs.Packet.{has_fin as fin_lem, has_syn as syn_lem, has_rst as rst_lem, has_ack as ack_lem};
@@ -15,28 +15,28 @@ fn has_fin(segment: &PacketRef<'_>) -> bool
     has(segment.head.flags, FIN)
 }
 
-/// Whether a segment has the flag SYN.
+/// Returns whether a segment has the flag SYN.
 pub fn has_syn(segment: &PacketRef<'_>) -> bool
     ensures { result ≡ syn_lem (segment_of segment.now) }
 {
     has(segment.head.flags, SYN)
 }
 
-/// Whether a segment has the flag RST.
+/// Returns whether a segment has the flag RST.
 pub fn has_rst(segment: &PacketRef<'_>) -> bool
     ensures { result ≡ rst_lem (segment_of segment.now) }
 {
     has(segment.head.flags, RST)
 }
 
-/// Whether a segment has the flag ACK.
+/// Returns whether a segment has the flag ACK.
 pub fn has_ack(segment: &PacketRef<'_>) -> bool
     ensures { result ≡ ack_lem (segment_of segment.now) }
 {
     has(segment.head.flags, ACK)
 }
 
-/// The text that counts: none with a SYN or a RST.
+/// Returns the text that counts: none with a SYN or a RST.
 pub fn counted_text<'a>(segment: &PacketRef<'a>) -> &'a [u8]
     ensures { result.now ≡ text_of (segment_of segment.now) }
 {
@@ -46,14 +46,14 @@ pub fn counted_text<'a>(segment: &PacketRef<'a>) -> &'a [u8]
     segment.payload
 }
 
-/// Whether it ends its sender's stream. A FIN with a SYN or a RST doesn't count.
+/// Returns whether a segment ends its sender's stream. A FIN with a SYN or a RST doesn't count.
 pub fn counts_fin(segment: &PacketRef<'_>) -> bool
     ensures { result ≡ fin_of (segment_of segment.now) }
 {
     has_fin(segment) && !(has_syn(segment) || has_rst(segment))
 }
 
-/// SEG.LEN: the text and the FIN, or only the SYN; 0 of a RST (RFC 9293, 3.4).
+/// Returns SEG.LEN: the length of the text and the FIN, or only that of the SYN; 0 for a RST (RFC 9293, 3.4).
 pub fn segment_len(segment: &PacketRef<'_>) -> u64
     ensures value { result ≡ length_of (segment_of segment.now) }
     ensures within { result ≤ 2 ^ 63 }
@@ -67,14 +67,14 @@ pub fn segment_len(segment: &PacketRef<'_>) -> u64
     segment.payload.len() as u64 + u64::from(has_fin(segment))
 }
 
-/// Where a segment begins in its sender's stream, whose SYN has the number `own`.
+/// Returns the offset at which a segment begins in its sender's stream, whose initial sequence number is `own`.
 pub fn first(own: u32, segment: &PacketRef<'_>) -> i64
     ensures { result ≡ first_of own (segment_of segment.now) }
 {
     offset_of(own, segment.head.seq.0)
 }
 
-/// Up to where a segment acknowledges the other stream, whose SYN has the number `peer`.
+/// Returns the offset up to which a segment acknowledges the other stream, whose initial sequence number is `peer`.
 pub fn ack(peer: u32, segment: &PacketRef<'_>) -> i64
     ensures { result ≡ ack_of peer (segment_of segment.now) }
 {

@@ -1,4 +1,4 @@
--- What an event does to the plain world.
+-- The effect of an event on the plain world.
 use Rattle.std.specs.Prelude.{◌≡◌, ℕ, ◌+◌, ◌-◌, ◌*◌, ◌<◌, ◌≤◌, max, Option, Some, None, List, [], ◌∷◌, ◌++◌, map, length, slice_set}
 use Rattle.ft_io.specs.declared.Addr.{Addr}
 use Rattle.server_trait.specs.Service.{Machine}
@@ -17,13 +17,13 @@ use Rattle.plain_node.specs.Values.{NodeState}
 use Rattle.plain_world.specs.Premises.{Premises, IsFree, PassesBy}
 use Rattle.plain_world.specs.WorldState.{ActorsState, WorldState, node_of, world_with, world_of, OfKind, IsServedUp, opened_of}
 
--- the server is as ready as before
+-- the server keeps its invariants
 pub record StaysReady {State : Type 0} (service : ℕ → Machine State) (before after : Option (NodeState State)) : Type 0 where
   pub same_kind : (kind : ℕ) → OfKind kind before → OfKind kind after
   pub served : IsServedUp service after
   pub few : opened_of after ≤ max 65535 (opened_of before + 1)
 
--- the server takes its turn on what comes, if it is up
+-- the server takes its turn on an input, if it is up
 pub record Serves {State : Type 0} (service : ℕ → Machine State) (input : Input) (before after : Option (NodeState State)) (old new : List Wire) : Type 0 where
   pub ready : StaysReady service before after
   pub turn : (kind : ℕ) → OfKind kind before → IsFree input (node_of before) → SendsBy (λ sent. ServerTurn (service kind) input (node_of before) sent (node_of after)) old new
@@ -34,12 +34,12 @@ MakesMove event before after old new =
     (move : Move) → move_of event ≡ Some move → refusal_of_move before move ≡ None
     → (after ≡ moved before move (window_of before event)) × Appends old new (To_server (segment_of before move (window_of before event)) ∷ [])
 
--- the client with a number, if there is one, makes the move
+-- the client with this number, if there is one, makes the move
 abbrev pub MovesOne : ℕ → Event → (before after : List Client) → (old new : List Wire) → Type 0
 MovesOne number event before after old new =
     (client : Client) → client_at before number ≡ Some client → (later : Client) × MakesMove event client later old new × (after ≡ slice_set before (number - 1) later)
 
--- a client makes a move, and the others are as before
+-- a client makes a move, and nothing else among the actors changes
 pub record MovesClient {State : Type 0} (number : ℕ) (event : Event) (before after : ActorsState State) (old new : List Wire) : Type 0 where
   pub log : after.log ≡ before.log
   pub node : after.node ≡ before.node
@@ -59,7 +59,7 @@ pub record BringsFlipped {State : Type 0} (service : ℕ → Machine State) (wir
       → bit < 8 * length (wire_of packet).bytes
       → SendsBy (λ sent. Flipped (service kind) (world_with server boot packets before) packet bit sent (world_with server boot (packets ++ sent) after)) old new
 
--- an event happens as the script asks for it: these packets are sent, and the plain world is then at the next one
+-- an event happens as the script asks for it: these packets are sent, and then the plain world corresponds to the next one
 pub record Advances {State : Type 0} (service : Machine State) (event : Event) (before : World) (after : WorldState State) (sent : List Packet) : Type 0 where
   pub happens : Happens service before event sent (world_of after (before.packets ++ sent))
   pub scripted : IsScripted before event sent (world_of after (before.packets ++ sent))

@@ -15,7 +15,7 @@ use Rattle.ft_model.specs.declared.schedule.Schedule.{Schedule}
 use Rattle.plain_node.specs.Served.{IsServedNode}
 use Rattle.plain_node.specs.Values.{NodeState, node_in, opened_in}
 
--- those who take part: the clients, the log, and the server, if it is up
+-- the clients, the log, and the server, if it is up
 pub record ActorsState (State : Type 0) : Type 0 where
   pub clients : List Client
   pub log : Log
@@ -42,11 +42,11 @@ world_with server boot packets actors = record { server = server; clients = acto
 abbrev pub actors_of : {State : Type 0} → WorldState State → ActorsState State
 actors_of state = record { clients = state.clients; log = state.log; node = state.node }
 
--- the world of the definitions that has these packets
+-- the world of the definitions with these packets
 abbrev pub world_of : {State : Type 0} → WorldState State → List Packet → World
 world_of state packets = world_with state.server state.boot packets (actors_of state)
 
--- the plain world has what a world of the definitions has, each packet as its wire
+-- the plain world has the contents of a world of the definitions, with each packet as its wire
 pub record Represents {State : Type 0} (state : WorldState State) (w : World) : Type 0 where
   pub server : state.server ≡ w.server
   pub clients : state.clients ≡ w.clients
@@ -65,7 +65,7 @@ abbrev pub IsServedUp : {State : Type 0} → (ℕ → Machine State) → Option 
 IsServedUp service None = Unit {0}
 IsServedUp service (Some n) = IsServedNode (service n.kind) n
 
--- .. and it has used up so many initial numbers
+-- .. and it has used up so many initial sequence numbers
 abbrev pub opened_of : {State : Type 0} → Option (NodeState State) → ℕ
 opened_of None = 0
 opened_of (Some n) = opened_in n
@@ -84,7 +84,7 @@ pub record IsAt {State : Type 0} (service : ℕ → Machine State) (schedule : S
   pub kind : state.kind ≡ kind_of schedule.service
   pub ready : IsReady service state
 
--- one more moment: the event happened, and what it sent follows
+-- one more moment: the event happened, and what it sent is appended
 pub record Steps {State : Type 0} (service : ℕ → Machine State) (schedule : Schedule) (trace : List Moment) (asked : Event) (old new : WorldState State) : Type 0 where
   pub moment : Moment
   pub event : moment.event ≡ asked

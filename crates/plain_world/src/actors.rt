@@ -1,4 +1,4 @@
-//! Those who take part: the clients, the log and the server. A packet reaches one of them.
+//! The clients, the log and the server. A packet is delivered to one of them.
 
 ghost use Rattle.std.specs.Prelude.{◌≡◌, ◌≤◌, ◌^◌, OnOk};
 ghost use Rattle.ft_model.specs.Legal.{machines};
@@ -38,7 +38,7 @@ impl<S: Service> Model for Actors<S> {
 }
 
 impl<S: Service> Actors<S> {
-    /// A tick of the server's clock. After `NoMemory` both may only be dropped.
+    /// Makes the server's clock tick. After `NoMemory` the actors and the packets may only be dropped.
     pub(crate) fn tick(&mut self, alloc: Global, sent: &mut PlainPackets) -> Result<(), NoMemory>
         requires served { IsServedUp (machines S.started S.after) self.old.node }
         requires few { opened_of self.old.node ≤ 2 ^ 32 }
@@ -49,7 +49,7 @@ impl<S: Service> Actors<S> {
         serve(&mut self.node, alloc, &Input::Tick, sent)
     }
 
-    /// A client makes the move that an event asks for. After `NoMemory` both may only be dropped.
+    /// Makes a client's move that an event asks for. After `NoMemory` the actors and the packets may only be dropped.
     pub(crate) fn make(
         &mut self,
         alloc: Global,
@@ -62,7 +62,7 @@ impl<S: Service> Actors<S> {
         make(&mut self.clients, alloc, number, event, sent)
     }
 
-    /// A packet reaches its addressee. After `NoMemory` both may only be dropped.
+    /// Delivers a packet to its addressee. After `NoMemory` the actors and the packets may only be dropped.
     pub(crate) fn bring(
         &mut self,
         alloc: Global,
@@ -94,7 +94,8 @@ impl<S: Service> Actors<S> {
         }
     }
 
-    /// A packet reaches its addressee with a changed bit, and can't be read: the server takes a turn on noise. After `NoMemory` both may only be dropped.
+    /// Delivers a packet with a changed bit, which can't be read: the server takes a turn on noise. After `NoMemory` the actors and the packets may only be
+    /// dropped.
     pub(crate) fn bring_flipped(
         &mut self,
         alloc: Global,

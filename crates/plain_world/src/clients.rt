@@ -1,4 +1,4 @@
-//! The clients: as a schedule lists them, what they receive, and the moves that they make.
+//! The clients: their creation from a schedule, what they receive, and the moves that they make.
 
 ghost use Rattle.std.specs.Prelude.{◌≡◌, ◌≤◌, ◌^◌, length, All, IfOk, OnOk, option_copied, if◌then◌else◌};
 ghost use Rattle.ft_io.specs.Key.{key_eq};
@@ -15,7 +15,7 @@ use plain_packets::PlainPackets;
 use segment_codec::PacketRef;
 use std::alloc::Global;
 
-/// A client of a schedule, before anything was sent.
+/// Creates a client of a schedule, before anything is sent.
 fn new_client(alloc: Global, server: Addr, line: &ClientLine) -> Result<PlainClient, NoMemory>
     requires { length (bytes_of line.now.script) ≤ 2 ^ 24 }
     ensures { IfOk result (λ client. client ≡ client_of server line.now) }
@@ -24,7 +24,7 @@ fn new_client(alloc: Global, server: Addr, line: &ClientLine) -> Result<PlainCli
     Ok(PlainClient::new(alloc, line.key, server, line.isn, script))
 }
 
-/// The clients of a schedule, before anything was sent.
+/// Creates the clients of a schedule, before anything is sent.
 pub(crate) fn new_clients(
     alloc: Global,
     server: Addr,
@@ -40,7 +40,7 @@ pub(crate) fn new_clients(
     Ok(clients)
 }
 
-/// The client with a number, counted from 1.
+/// Returns the client with this number, counted from 1.
 pub(crate) fn numbered(clients: &[PlainClient], number: u8) -> Option<&PlainClient>
     ensures { option_copied result ≡ client_at clients.now number }
 {
@@ -50,7 +50,7 @@ pub(crate) fn numbered(clients: &[PlainClient], number: u8) -> Option<&PlainClie
     clients.get(usize::from(number) - 1)
 }
 
-/// A segment arrives at a client, if it has this key. After `NoMemory` the client may only be dropped.
+/// Delivers a segment to a client, if it has this key. After `NoMemory` the client may only be dropped.
 fn receive_one(client: &mut PlainClient, key: Key, segment: &PacketRef<'_>) -> Result<(), NoMemory>
     ensures { OnOk result (client.new ≡ (if key_eq client.old.key key then received client.old (segment_of segment.now) else client.old)) }
 {
@@ -60,7 +60,7 @@ fn receive_one(client: &mut PlainClient, key: Key, segment: &PacketRef<'_>) -> R
     Ok(())
 }
 
-/// A segment arrives at the client of a key. After `NoMemory` the clients may only be dropped.
+/// Delivers a segment to the client of a key. After `NoMemory` the clients may only be dropped.
 fn receive_among(
     clients: &mut [PlainClient],
     key: Key,
@@ -74,7 +74,7 @@ fn receive_among(
     Ok(())
 }
 
-/// A segment arrives at the client of a key. After `NoMemory` the clients may only be dropped.
+/// Delivers a segment to the client of a key. After `NoMemory` the clients may only be dropped.
 pub(crate) fn receive(
     clients: &mut Vec<PlainClient>,
     key: Key,
@@ -85,7 +85,7 @@ pub(crate) fn receive(
     receive_among(clients, key, segment)
 }
 
-/// A client makes the move that an event asks for, if its state allows it. After `NoMemory` the packets may only be dropped.
+/// Makes the move that an event asks for, if the client's state allows it. After `NoMemory` the packets may only be dropped.
 fn make_one(
     client: &mut PlainClient,
     alloc: Global,
@@ -106,7 +106,7 @@ fn make_one(
     Ok(())
 }
 
-/// The client with a number, if there is one, makes the move that an event asks for. After `NoMemory` the clients and the packets may only be dropped.
+/// Makes the move that an event asks for, by the client with this number, if there is one. After `NoMemory` the clients and the packets may only be dropped.
 pub(crate) fn make(
     clients: &mut Vec<PlainClient>,
     alloc: Global,

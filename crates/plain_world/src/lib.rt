@@ -1,5 +1,5 @@
-//! The world of a schedule as plain values: its clients, the log, the server, and each packet that was sent. An event does to it what the definitions allow, and
-//! nothing else. It shares no code with the programs that it judges.
+//! The world of a schedule as plain values: its clients, the log, the server, and each packet that was sent. An event changes it as the definitions allow,
+//! and in no other way. It shares no code with the programs that it judges.
 #![tactic(auto)]
 
 pub use world::PlainWorld;

@@ -13,7 +13,7 @@ use plain_log::PlainLog;
 use plain_packets::PlainPackets;
 use std::alloc::Global;
 
-/// A message arrives at the log, which sends its answer. After `NoMemory` both may only be dropped.
+/// Delivers a message to the log, and sends the answer. After `NoMemory` the log and the packets may only be dropped.
 #[tactic(auto, using(plain_packets::proofs::Sent::appends_none))]
 pub(crate) fn hear(
     log: &mut PlainLog,

@@ -15,7 +15,7 @@ use plain_packets::PlainPackets;
 use server_trait::Service;
 use std::alloc::Global;
 
-/// Whether an input fences a server of this boot number.
+/// Returns whether an input fences a server of this boot number.
 fn fences(boot: u64, input: &Input<'_>) -> bool
     ensures { (node : Node) → node.boot ≡ boot → result ≡ is_some (fence node (input_in input.now)) }
 {
@@ -28,8 +28,8 @@ fn fences(boot: u64, input: &Input<'_>) -> bool
     }
 }
 
-/// The server takes its turn on what comes, if it is up. No server of a legal trace is fenced, and what would fence one is passed over. After `NoMemory` the node
-/// and the packets may only be dropped.
+/// Takes the server's turn on an input, if it is up. No server of a legal trace is fenced, so an input that would fence it is ignored. After `NoMemory` the
+/// node and the packets may only be dropped.
 pub(crate) fn serve<S: Service>(
     node: &mut Option<PlainNode<S>>,
     alloc: Global,

@@ -1,4 +1,4 @@
-//! What each event does to the world.
+//! The effect of each event on the world.
 
 ghost use Rattle.std.specs.Prelude.{◌≡◌, ◌<◌, ◌≤◌, ◌^◌, ℕ, None, Some, OnOk, List};
 ghost use Rattle.ft_model.specs.Client.{mover_of};
@@ -21,7 +21,7 @@ use server_trait::Service;
 use std::alloc::Global;
 
 impl<S: Service> PlainWorld<S> {
-    /// The server starts.
+    /// Starts the server.
     fn start(&mut self, alloc: Global, boot: u64, isn: u32) -> Result<(), NoMemory>
         ensures { OnOk result (Does (machines S.started S.after) (Boot boot isn) self.old self.new) }
     {
@@ -32,14 +32,14 @@ impl<S: Service> PlainWorld<S> {
         Ok(())
     }
 
-    /// The server goes down, and all that it held is lost.
+    /// Crashes the server. All that it held is lost.
     fn crash(&mut self)
         ensures { Does (machines S.started S.after) Crash self.old self.new }
     {
         self.actors.node = None;
     }
 
-    /// A tick of the server's clock.
+    /// Makes the server's clock tick.
     fn tick(&mut self, alloc: Global) -> Result<(), NoMemory>
         requires served { IsServedUp (machines S.started S.after) self.old.node }
         requires few { opened_of self.old.node ≤ 2 ^ 32 }
@@ -48,7 +48,7 @@ impl<S: Service> PlainWorld<S> {
         self.actors.tick(alloc, &mut self.packets)
     }
 
-    /// A packet reaches its addressee.
+    /// Delivers a packet to its addressee.
     fn deliver(&mut self, alloc: Global, number: u32) -> Result<(), NoMemory>
         requires served { IsServedUp (machines S.started S.after) self.old.node }
         requires few { opened_of self.old.node ≤ 2 ^ 32 }
@@ -62,7 +62,7 @@ impl<S: Service> PlainWorld<S> {
         self.packets.append(sent)
     }
 
-    /// A packet reaches its addressee with one bit changed.
+    /// Delivers a packet to its addressee, with one bit changed.
     fn flip(&mut self, alloc: Global, number: u32) -> Result<(), NoMemory>
         requires served { IsServedUp (machines S.started S.after) self.old.node }
         requires few { opened_of self.old.node ≤ 2 ^ 32 }
@@ -76,7 +76,7 @@ impl<S: Service> PlainWorld<S> {
         self.packets.append(sent)
     }
 
-    /// A client makes the move that an event asks for.
+    /// Makes a client's move that an event asks for.
     fn move_client(&mut self, alloc: Global, number: u8, event: &Event) -> Result<(), NoMemory>
         requires mover { mover_of event.now ≡ Some number }
         requires served { IsServedUp (machines S.started S.after) self.old.node }
@@ -109,7 +109,7 @@ impl<S: Service> PlainWorld<S> {
         }
     }
 
-    /// An event happens, which `refusal` allows. After `NoMemory` the world may only be dropped.
+    /// Does an event that `refusal` allows. After `NoMemory` the world may only be dropped.
     pub fn step(&mut self, alloc: Global, event: &Event) -> Result<(), NoMemory>
         requires room { self.old.turns < 2 ^ 31 }
         requires ready { IsReady (machines S.started S.after) self.old }

@@ -1,4 +1,4 @@
-//! The world, and what an event does to it.
+//! The world, and the effect of an event on it.
 
 ghost use Rattle.std.specs.Prelude.{◌≡◌, Some, IfOk, List, [], map};
 ghost use Rattle.ft_model.specs.Client.{mover_of, move_asked};
@@ -58,7 +58,7 @@ impl<S: Service> Model for PlainWorld<S> {
 }
 
 impl<S: Service> PlainWorld<S> {
-    /// The world before the first event.
+    /// Creates the world before the first event.
     pub fn new(alloc: Global, schedule: &Schedule) -> Result<PlainWorld<S>, NoMemory>
         requires { IsPlayable schedule.now }
         ensures { (events : List Asked) → IfOk result (λ w. IsAt (machines S.started S.after) (record schedule.now { events = events }) [] w) }
@@ -79,35 +79,35 @@ impl<S: Service> PlainWorld<S> {
         })
     }
 
-    /// All packets that were sent.
+    /// Returns all packets that were sent.
     pub fn packets(&self) -> &PlainPackets
         ensures { result.now ≡ self.now.packets }
     {
         &self.packets
     }
 
-    /// The clients.
+    /// Returns the clients.
     pub fn clients(&self) -> &[PlainClient]
         ensures { result.now ≡ self.now.clients }
     {
         self.actors.clients.as_slice()
     }
 
-    /// The log.
+    /// Returns the log.
     pub fn log(&self) -> &PlainLog
         ensures { result.now ≡ self.now.log }
     {
         &self.actors.log
     }
 
-    /// How many events happened.
+    /// Returns how many events happened.
     pub fn turns(&self) -> u32
         ensures { result ≡ self.now.turns }
     {
         self.turns
     }
 
-    /// Why a client may not make the move that an event asks for.
+    /// Returns why a client may not make the move that an event asks for.
     fn move_refusal(&self, number: u8, event: &Event) -> Option<EventWhy>
         requires { mover_of event.now ≡ Some number }
         ensures { result ≡ refusal_of_asked self.now.clients (move_asked event.now) }
@@ -118,7 +118,7 @@ impl<S: Service> PlainWorld<S> {
         client.refusal(move_of(event)?)
     }
 
-    /// Why a bit of a packet may not be changed.
+    /// Returns why a bit of a packet may not be changed.
     fn flip_refusal(&self, number: u32, bit: u32) -> Option<EventWhy>
         ensures { (packets : List Packet) → self.now.packets ≡ map wire_of packets → result ≡ refusal_lem (world_of self.now packets) (Flip number bit) }
     {
@@ -131,7 +131,7 @@ impl<S: Service> PlainWorld<S> {
         None
     }
 
-    /// Why an event may not happen, by the packets that these wires are.
+    /// Returns why an event may not happen, given the packets whose wires are stored.
     fn refusal_now(&self, event: &Event) -> Option<EventWhy>
         ensures { (packets : List Packet) → self.now.packets ≡ map wire_of packets → result ≡ refusal_lem (world_of self.now packets) event.now }
     {
@@ -155,7 +155,7 @@ impl<S: Service> PlainWorld<S> {
         }
     }
 
-    /// Why an event may not happen; none where it may.
+    /// Returns why an event may not happen, or `None` if it may.
     pub fn refusal(&self, event: &Event) -> Option<EventWhy>
         ensures { (schedule : Written) (trace : List Moment) → IsAt (machines S.started S.after) schedule trace self.now
             → result ≡ refusal_lem (world_after (start_of schedule) trace) event.now }

@@ -1,4 +1,4 @@
--- What a text must be for its run to end in a certain way, and the status that the run then has.
+-- The texts for which a run ends in a certain way, and the status that the run then has.
 use Rattle.std.specs.Prelude.{◌≡◌, ◌⊎◌, ℕ, Bool, true, false, Option, None, Some, Ok, Err, List}
 use Rattle.ft_io.specs.Faults.{Rose}
 use Rattle.ft_model.specs.Grammar.{read_text}
@@ -12,7 +12,7 @@ use Rattle.mark_traces.specs.MarkedOutcome.{IsMarkedWhole, IsMarkedRefused, IsMa
 use Rattle.twin_laws.specs.TwinOutcome.{IsTwinWhole, IsTwinRefused, IsTwinPastPackets}
 use Rattle.replay_tool.specs.Traces.{any_marker}
 
--- With two loggers, with one log or with marks: each event of a schedule may happen in its turn, within the limit of packets; one of them may not; or they exceed that limit
+-- The outcomes with two loggers, one log or marks: all events may happen, within the limit of packets; one of them may not; or the packets exceed the limit
 abbrev pub AllHappen : (twin : Bool) → (marks : Option ℕ) → Schedule → Type 0
 AllHappen true marks schedule = IsTwinWhole any_machine schedule
 AllHappen false None schedule = IsWhole any_machine schedule
@@ -28,25 +28,25 @@ PacketsExceed true marks schedule = IsTwinPastPackets any_machine schedule
 PacketsExceed false None schedule = IsPastPackets any_machine schedule
 PacketsExceed false (Some every) schedule = IsMarkedPastPackets (any_marker every) schedule
 
--- it spells a schedule, and each of its events may happen in its turn, within the limit of packets
+-- the text spells a schedule, and each of its events may happen in its turn, within the limit of packets
 pub record IsInOrder (text : List ℕ) : Type 0 where
   pub schedule : Schedule
   pub spelled : read_text text ≡ Ok schedule
   pub whole : AllHappen schedule.twin schedule.marks schedule
 
--- one of its lines is refused
+-- one of the text's lines is refused
 pub record HasBadLine (text : List ℕ) : Type 0 where
   pub line : ℕ
   pub why : LineWhy
   pub refused : read_text text ≡ Err (BadLine line why)
 
--- it spells a schedule, and one of its events may not happen in its turn
+-- the text spells a schedule, and one of its events may not happen in its turn
 pub record HasBadEvent (text : List ℕ) : Type 0 where
   pub schedule : Schedule
   pub spelled : read_text text ≡ Ok schedule
   pub refused : OneIsRefused schedule.twin schedule.marks schedule
 
--- it is too long, has too many events, or these exceed the limit of packets
+-- the text is too long, or has too many events, or the packets of its schedule exceed their limit
 pub data IsPastLimit (text : List ℕ) : Type 0 where
   by_text : (what : Limit) → read_text text ≡ Err (TooLong what) → IsPastLimit text
   by_packets : (schedule : Schedule) → read_text text ≡ Ok schedule → PacketsExceed schedule.twin schedule.marks schedule → IsPastLimit text
@@ -55,7 +55,7 @@ pub data IsPastLimit (text : List ℕ) : Type 0 where
 abbrev pub IsStill : ℕ → ℕ → Type 0
 IsStill before after = Rose before after → ⊥
 
--- The status by the text, where no count of faults rises: it is determined, unless an allocation failed.
+-- The status, given the text, if no count of faults rises: it is determined, unless an allocation failed.
 pub record IsSettled (text : List ℕ) (code : ℕ) : Type 0 where
   pub in_order : IsInOrder text → (code ≡ 0) ⊎ (code ≡ 3)
   pub bad_line : HasBadLine text → (code ≡ 6) ⊎ (code ≡ 3)

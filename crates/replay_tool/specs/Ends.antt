@@ -1,4 +1,4 @@
--- The ends of the parts of a run as ends of the run.
+-- The ends of the parts of a run, as ends of the run.
 use Rattle.std.specs.Prelude.{◌≡◌, ℕ, Bool, ◌==◌, ◌&&◌, ◌||◌, nat_le, Result, Err}
 use Rattle.ft_io.specs.Faults.{Rose}
 use Rattle.ft_io.specs.declared.reading.ReadEnd.{ReadEnd}
@@ -53,23 +53,23 @@ code_of (BadEvent event why) = 7
 code_of (TooLong what) = 8
 code_of (Rejected line law) = 9
 
--- a count of failed calls rises where the sink of the report failed, and stays otherwise
+-- the count of failed calls rises if the sink of the report failed, and otherwise doesn't change
 abbrev pub CountsFaults : (old new : ℕ) → Result (Unit {0}) RunEnd → Type 0
 CountsFaults old new (Err WriteFault) = Rose old new
 CountsFaults old new _ = new ≡ old
 
--- the statuses of the program
+-- the exit statuses of the program
 abbrev pub is_code : ℕ → Bool
 is_code code = code == 0 || (nat_le 2 code && nat_le code 9)
 
--- .. of the run of a schedule
+-- the exit statuses of the run of a schedule
 abbrev pub is_run_code : ℕ → Bool
 is_run_code code = code == 0 || (nat_le 3 code && nat_le code 8)
 
--- .. of the check of a report
+-- the exit statuses of the check of a report
 abbrev pub is_check_code : ℕ → Bool
 is_check_code code = code == 0 || (nat_le 3 code && nat_le code 5 || (code == 8 || code == 9))
 
--- .. and of a generated run
+-- the exit statuses of a generated run
 abbrev pub is_seed_code : ℕ → Bool
 is_seed_code code = code == 0 || (code == 3 || (code == 5 || code == 8))

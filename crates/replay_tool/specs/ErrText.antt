@@ -51,7 +51,7 @@ law_word law.End = codes "end"
 unfoldable pub error_line : List ℕ → List ℕ
 error_line text = codes "ftreplay: " ++ (text ++ 10 ∷ [])
 
--- a name with its number, and a word
+-- a name followed by its number, and a word
 unfoldable pub numbered : List ℕ → ℕ → List ℕ → List ℕ
 numbered name n word = (name ++ decimal n) ++ (codes ": " ++ word)
 

@@ -7,7 +7,7 @@ use Rattle.net_schedule.specs.AtNumber.{at_number}
 use Rattle.net_schedule.specs.StoredPackets.{Carried}
 use Rattle.schedule_text.specs.Bytes.{content_in}
 
--- of a direction and bytes; none where the bytes can't be read
+-- the line for a direction and bytes; empty where the bytes can't be read
 abbrev pub line_of : ℕ → Option Way → Option (List ℕ) → List ℕ
 line_of n (Some way) (Some bytes) = option_map_or (line_of_packet n way) (content_in way bytes) []
 line_of n _ _ = []
@@ -15,7 +15,7 @@ line_of n _ _ = []
 abbrev pub stored_line : Carried → ℕ → List ℕ
 stored_line kept n = line_of n (at_number kept.ways n) (at_number kept.bytes n)
 
--- of `count` packets from a number on
+-- the lines of `count` packets, starting with number `first`
 abbrev pub stored_lines : Carried → (first count : ℕ) → List ℕ
 stored_lines kept first zero = []
 stored_lines kept first (suc count) = stored_line kept first ++ stored_lines kept (first + 1) count

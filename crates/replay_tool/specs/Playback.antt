@@ -1,4 +1,4 @@
--- Playing a schedule, event after event: the state in between, and where it ends early.
+-- Playing a schedule, event by event: the state between events, and the early ends.
 use Rattle.std.specs.Prelude.{◌≡◌, ℕ, ◌+◌, ◌<◌, Some, List, ◌∷◌, Option, length}
 use Rattle.ft_model.specs.declared.event.Event.{Event}
 use Rattle.ft_model.specs.declared.event.EventWhy.{EventWhy}
@@ -17,18 +17,18 @@ use Rattle.replay_tool.specs.declared.status.RunEnd.TheVariants.{NoMemory, Write
 abbrev pub piece : ℕ
 piece = 65536
 
--- All events but these are played: the world is at that point, and the lines so far are being written to the sink, which had taken `old`.
+-- All events but these are played: the world is in the state after them, and the lines so far are being written to the sink, which had taken `old`.
 pub record Plays (schedule : Schedule) (others : List Event) (w : Kept AnyService) (old now : Option (List ℕ)) (held : List ℕ) : Type 0 where
   pub played : IsPlayedTo schedule others
   pub stands : IsTraceEnd schedule.twin schedule.marks schedule played.events played.trace w
   pub text : IsOnItsWay old now held (lines_so_far schedule played.trace)
 
--- .. and less than a piece of them is held back. So while the next event is played, at most that and the event's own lines are held back
+-- The same, with less than a piece held back. So while the next event is played, at most that and the event's own lines are held back
 pub record Reaches (schedule : Schedule) (others : List Event) (w : Kept AnyService) (old now : Option (List ℕ)) (held : List ℕ) : Type 0 where
   pub plays : Plays schedule others w old now held
   pub held_back : length held < piece
 
--- the text that an end of the playing leaves
+-- the text written, by how playing ended
 abbrev pub EndsPlaying : Schedule → RunEnd → List ℕ → Type 0
 EndsPlaying schedule NoMemory text = ReportsFront schedule text
 EndsPlaying schedule WriteFault text = ReportsFront schedule text
@@ -36,12 +36,12 @@ EndsPlaying schedule (BadEvent number why) text = ReportsTill schedule number wh
 EndsPlaying schedule (TooLong Packets) text = ReportsToLimit schedule text
 EndsPlaying schedule _ text = ⊥
 
--- it is being written, and where the sink failed a prefix of it was taken
+-- the text is being written; if the sink failed, a prefix of it was written
 abbrev pub HoldsAtEnd : Schedule → (old now : Option (List ℕ)) → List ℕ → RunEnd → Type 0
 HoldsAtEnd schedule old now held WriteFault = Wrote old now (ReportsFront schedule)
 HoldsAtEnd schedule old now held end = Holds old now held (EndsPlaying schedule end)
 
--- the next event is refused, and everything is where the events before it lead
+-- the next event is refused, and the world and the report are as the events before it leave them
 pub record StandsAt (schedule : Schedule) (number : ℕ) (why : EventWhy) (w : Kept AnyService) (old now : Option (List ℕ)) (held : List ℕ) : Type 0 where
   pub event : Event
   pub others : List Event
@@ -49,7 +49,7 @@ pub record StandsAt (schedule : Schedule) (number : ℕ) (why : EventWhy) (w : K
   pub number_is : number ≡ length reaches.plays.played.events + 1
   pub refused : (traces schedule).refuses schedule reaches.plays.played.trace event ≡ Some why
 
--- an event isn't done
+-- how playing stops before all events are played
 abbrev pub StopsPlaying : Schedule → Kept AnyService → (old now : Option (List ℕ)) → List ℕ → RunEnd → Type 0
 StopsPlaying schedule w old now held (BadEvent number why) = StandsAt schedule number why w old now held
 StopsPlaying schedule w old now held end = HoldsAtEnd schedule old now held end

@@ -12,7 +12,7 @@ use Rattle.replay_tool.specs.declared.status.TooMuch.TheVariants.{Text, Events, 
 use Rattle.replay_tool.specs.declared.status.RunEnd.{RunEnd}
 use Rattle.replay_tool.specs.declared.status.RunEnd.TheVariants.{Usage, NoMemory, ReadFault, WriteFault, BadLine, BadEvent, TooLong, Rejected}
 
--- the input was read to its end, its text spells a schedule, a text of this kind for it was written to out, and no call on either failed
+-- the input was read to its end and its text spells a schedule; a text of this kind was written to out; no call on either failed
 pub record Reports (input out : Stream) (Is : Schedule → List ℕ → Type 0) : Type 0 where
   pub written : IfSome input.before (λ text. Spells text (λ schedule. Wrote out.before out.after (Is schedule)))
   pub end : IsAtEnd input.after
@@ -31,7 +31,7 @@ abbrev pub KeepsFront : (input out : Stream) → Type 0
 KeepsFront input out =
     out.Untouched ⊎ (IsAtEnd input.after × IfSome input.before (λ text. Spells text (λ schedule. Wrote out.before out.after (ReportsFront schedule))))
 
--- a run ends early
+-- how a run ends early
 abbrev pub RunStops : (input out : Stream) → RunEnd → Type 0
 RunStops input out Usage = ⊥
 RunStops input out NoMemory = KeepsFront input out × HasNotFailed input × HasNotFailed out
@@ -44,12 +44,12 @@ RunStops input out (TooLong Events) = Refuses input out (reading.TooLong limits.
 RunStops input out (TooLong Packets) = Reports input out ReportsToLimit
 RunStops input out (Rejected line law) = ⊥
 
--- a run, by its end
+-- the result of a run
 abbrev pub RunDoes : (input out : Stream) → Result (Unit {0}) RunEnd → Type 0
 RunDoes input out (Ok _) = Reports input out ReportsAll
 RunDoes input out (Err end) = RunStops input out end
 
--- a text spells no schedule, unless an allocation failed
+-- why a text isn't read: it spells no schedule, or an allocation failed
 abbrev pub StopsReading : List ℕ → RunEnd → Type 0
 StopsReading text NoMemory = Unit {0}
 StopsReading text (BadLine line why) = read_text text ≡ Err (reading.BadLine line why)

@@ -7,14 +7,14 @@ use Rattle.replay_tool.specs.declared.status.TooMuch.TheVariants.{Packets}
 use Rattle.replay_tool.specs.declared.status.RunEnd.{RunEnd}
 use Rattle.replay_tool.specs.declared.status.RunEnd.TheVariants.{NoMemory, WriteFault, TooLong}
 
--- it ends early: nothing was written to out, unless its calls failed, and then a prefix of the summary
+-- how it ends early: nothing was written to out, unless a call on out failed; then a prefix of the summary was
 abbrev pub SeedStops : Asked → (out : Stream) → RunEnd → Type 0
 SeedStops asked out NoMemory = out.Untouched
 SeedStops asked out WriteFault = IsSummarizedInPart asked out.before out.after × HasFailed out
 SeedStops asked out (TooLong Packets) = IsPastLimit asked × out.Untouched
 SeedStops asked out _ = ⊥
 
--- by its end
+-- the result of a generated run
 abbrev pub SeedDoes : Asked → (out : Stream) → Result (Unit {0}) RunEnd → Type 0
 SeedDoes asked out (Ok _) = IsSummarized asked out.before out.after × HasNotFailed out
 SeedDoes asked out (Err end) = SeedStops asked out end

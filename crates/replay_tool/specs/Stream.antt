@@ -2,8 +2,8 @@
 use Rattle.std.specs.Prelude.{◌≡◌, ℕ, List, Option}
 use Rattle.ft_io.specs.Faults.{Rose}
 
--- Its content, which is what a source has left or a sink has taken; how many of its calls have failed; and the statement that it is unchanged, so that no call
--- was made on it
+-- Its content, which is what remains to be read from a source, or what a sink has taken; the number of its failed calls; and the statement that it is
+-- unchanged, so that no call was made on it
 pub record Stream : Type 1 where
   pub before : Option (List ℕ)
   pub after : Option (List ℕ)
@@ -24,6 +24,6 @@ stream content fault_count old new = record {
 abbrev pub HasFailed : Stream → Type 0
 HasFailed s = Rose s.faults_before s.faults_after
 
--- none of them did
+-- none of its calls failed
 abbrev pub HasNotFailed : Stream → Type 0
 HasNotFailed s = s.faults_after ≡ s.faults_before

@@ -15,20 +15,20 @@ use Rattle.sample_servers.specs.declared.any_service.AnyService.{AnyService}
 use Rattle.replay_tool.specs.PacketLines.{stored_lines}
 use Rattle.replay_tool.specs.Traces.{any_marker, traces_of}
 
--- at the end of a legal trace of a schedule
+-- the world is at the end of a legal trace of these events of a schedule
 abbrev pub IsTraceEnd : (twin : Bool) → (marks : Option ℕ) → Schedule → List Event → List (traces_of twin marks).Turn → Kept AnyService → Type 0
 IsTraceEnd true marks schedule events trace w = TwinStandsAfter any_machine schedule events trace w
 IsTraceEnd false None schedule events trace w = StandsAfter any_machine schedule events trace w
 IsTraceEnd false (Some every) schedule events trace w = MarkedStandsAfter (any_marker every) schedule events trace w
 
--- .. of some schedule
+-- the world is at the end of a legal trace of some schedule
 pub record IsStanding (w : Kept AnyService) : Type 0 where
   pub schedule : Schedule
   pub events : List Event
   pub trace : List (traces_of schedule.twin schedule.marks).Turn
   pub stands : IsTraceEnd schedule.twin schedule.marks schedule events trace w
 
--- one event more is played, and its lines are the event's own and those of the packets that were stored with it
+-- one more event is played, and its lines are its own and those of the packets that it stored
 pub record PlaysOne (twin : Bool) (marks : Option ℕ) (schedule : Schedule) (events : List Event) (trace : List (traces_of twin marks).Turn) (event : Event) (answer : StepOut)
     (w : Kept AnyService) : Type 0 where
   pub moment : (traces_of twin marks).Turn
@@ -37,7 +37,7 @@ pub record PlaysOne (twin : Bool) (marks : Option ℕ) (schedule : Schedule) (ev
   pub lines : (traces_of twin marks).lines schedule (moment ∷ trace)
       ≡ (traces_of twin marks).lines schedule trace ++ (event_line (length events + 1) event ++ stored_lines w.packets answer.first answer.count)
 
--- with one event more the packets exceed their limit
+-- with one more event the packets exceed their limit
 pub record Exceeds (twin : Bool) (marks : Option ℕ) (schedule : Schedule) (events : List Event) (trace : List (traces_of twin marks).Turn) (event : Event) : Type 0 where
   pub moment : (traces_of twin marks).Turn
   pub legal : (traces_of twin marks).IsLegal schedule (events ++ event ∷ []) (moment ∷ trace)

@@ -1,5 +1,5 @@
--- The traces of a schedule's runs: those of the world with one log, those of the world with a head and a tail, and those of the world with marks. What is said
--- of a run and of its report is said of each.
+-- The traces of a schedule's runs, in the world with one log, with a head and a tail, or with marks. Statements about a run and its report hold for all
+-- three.
 use Rattle.std.specs.Prelude.{ℕ, Bool, true, false, Option, None, Some, List}
 use Rattle.sample_servers.specs.AnyService.{any_machine, any_form, any_state_of}
 use Rattle.sample_servers.specs.declared.any_service.AnyService.{AnyService}
@@ -23,11 +23,11 @@ use Rattle.twin_laws.specs.TwinLegal.{twin_start, twin_refusal, IsTwinLegalFor, 
 use Rattle.twin_laws.specs.TwinReport.{twin_event_lines, twin_report}
 use Rattle.twin_laws.specs.TwinWorld.{TwinMoment, twin_after}
 
--- Newest moment first. The service is the one that the schedule names
+-- The traces in one of these worlds, newest moment first. The service is the one that the schedule names
 pub record Traces : Type 1 where
   pub Turn : Type 0
   pub IsLegal : Schedule → List Event → List Turn → Type 0  -- a legal trace of these first events
-  pub IsSafe : Schedule → List Turn → Type 0  -- what is proved of it
+  pub IsSafe : Schedule → List Turn → Type 0  -- the proved property of a legal trace
   pub sent : Schedule → List Turn → ℕ  -- how many packets were sent up to its end
   pub refuses : Schedule → List Turn → Event → Option EventWhy  -- why an event may not happen next
   pub lines : Schedule → List Turn → List ℕ  -- the report's lines on its events
@@ -44,8 +44,7 @@ of_one_log = record {
   report = report;
 }
 
--- .. with two loggers its moments are of that world, and what is proved of it is said of the trace with one log that it becomes when it is made flat: it is
--- legal too, and safe
+-- With two loggers the moments are those of that world, and the proved property is that of its reduction to one log: the reduction is legal too, and safe
 pub record IsSafeFlat (schedule : Schedule) (trace : List Moment) : Type 0 where
   pub legal : IsLegalFor any_machine schedule (events_of trace) trace
   pub safe : IsSafe (any_machine (kind_of schedule.service)) (start_of schedule) trace
@@ -61,11 +60,11 @@ of_two_loggers = record {
   report = twin_report;
 }
 
--- how the server marks each kind of service, with a mark due after so many reads
+-- how the server makes marks for each kind of service, one after so many reads
 abbrev pub any_marker : (every : ℕ) → ℕ → Marker AnyService
 any_marker every = markers any_machine any_form any_state_of every
 
--- .. with marks its moments are of that world too, and what is proved of it is said of the trace without them: it is masked. Its marks are true
+-- With marks the moments are those of that world, and the proved property is that the trace without its marks is masked, and that the marks are true
 pub record IsSafeMarked (every : ℕ) (schedule : Schedule) (trace : List MarkedMoment) : Type 0 where
   pub masked : Masked (any_machine (kind_of schedule.service)) (start_of schedule) (plain_trace trace)
   pub marks : MarksAreTrue (any_marker every (kind_of schedule.service)) (marked_after (marked_start schedule) trace)
@@ -81,7 +80,7 @@ of_marks every = record {
   report = marked_report;
 }
 
--- with two loggers, or with one log, which the server marks or doesn't
+-- the traces with two loggers, with one log, or with one log and marks
 abbrev pub traces_of : (twin : Bool) → (marks : Option ℕ) → Traces
 traces_of true marks = of_two_loggers
 traces_of false None = of_one_log

@@ -1,4 +1,4 @@
--- The words of `ftreplay`. Those of a seed are `asked` of the crate that plays it.
+-- The arguments of `ftreplay`. Those of a seed are defined by `asked` of `seed_run`.
 use Rattle.std.specs.Prelude.{◌≡◌, ℕ, Bool, false, None, List, [], ◌∷◌, codes, if◌then◌else◌}
 use Rattle.std.specs.Str.{bytes_eq}
 use Rattle.seed_run.specs.Words.{asked}
@@ -13,10 +13,10 @@ abbrev pub is_check : List (List ℕ) → Bool
 is_check (word ∷ []) = bytes_eq word (codes "check")
 is_check _ = false
 
--- neither `run` nor `check` nor the words of a seed
+-- neither `run` nor `check` nor the arguments of a seed
 abbrev pub AreOther : List (List ℕ) → Type 0
 AreOther words = (is_run words ≡ false) × (is_check words ≡ false) × (asked words ≡ None)
 
--- the most bytes that are read of the input: one more than the longest schedule, or for `check` than the longest report
+-- the largest number of bytes read from the input: one more than the limit of a schedule, or for `check` of a report
 abbrev pub most_read : List (List ℕ) → ℕ
 most_read words = if is_check words then 268435457 else 8388609

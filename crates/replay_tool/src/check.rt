@@ -1,4 +1,4 @@
-//! The check of a report, from its text to the line that tells that it is legal.
+//! The check of a report: reads its text, and writes one line if the report is legal.
 
 ghost use Rattle.std.specs.Prelude.{◌++◌, ◌∷◌, [], codes, OnOk, OnErr, IfErr};
 ghost use Rattle.std.specs.Io.KnownBytes.{Appends};
@@ -16,10 +16,10 @@ use seed_run::laws::joint_traces_are_safe;
 use std::alloc::Global;
 use trace_check::{Yes, check_trace};
 
-/// The most bytes of a report.
+/// The largest size of a report, in bytes.
 const REPORT_LIMIT: usize = 268_435_456;
 
-/// A name with its number.
+/// Writes a name followed by its number.
 #[tactic(auto, unfolding(crate::specs::Checks::counted))]
 fn write_counted<O: Sink>(out: &mut O, name: &[u8], n: u32) -> Result<(), Failed>
     ensures whole { OnOk result (Appends (O.taken out.old) (O.taken out.new) (counted name.now n)) }
@@ -30,7 +30,7 @@ fn write_counted<O: Sink>(out: &mut O, name: &[u8], n: u32) -> Result<(), Failed
     write_both(out, name, number.format(n).as_bytes())
 }
 
-/// The number of packets, and the end of the line.
+/// Writes the number of packets and the end of the line.
 #[tactic(auto, using(crate::proofs::Fronts::then_whole, crate::proofs::Fronts::then_front, crate::proofs::Fronts::front_then))]
 fn write_packets<O: Sink>(out: &mut O, packets: u32) -> Result<(), Failed>
     ensures whole { OnOk result (Appends (O.taken out.old) (O.taken out.new) (counted (codes " packets ") packets ++ 10 ∷ [])) }
@@ -42,7 +42,7 @@ fn write_packets<O: Sink>(out: &mut O, packets: u32) -> Result<(), Failed>
     Ok(())
 }
 
-/// The line on a legal report.
+/// Writes the line for a legal report.
 #[tactic(auto, using(crate::proofs::Fronts::then_whole, crate::proofs::Fronts::then_front, crate::proofs::Fronts::front_then), unfolding(crate::specs::Checks::legal_line))]
 fn write_legal<O: Sink>(out: &mut O, yes: Yes) -> Result<(), Failed>
     ensures whole { OnOk result (Appends (O.taken out.old) (O.taken out.new) (legal_line yes.events yes.packets)) }
@@ -54,7 +54,7 @@ fn write_legal<O: Sink>(out: &mut O, yes: Yes) -> Result<(), Failed>
     Ok(())
 }
 
-/// Reads a report to its end, checks it, and writes that it is legal.
+/// Reads a report to its end, checks it, and writes one line if it is legal.
 pub(crate) fn check<I: Source, O: Sink>(
     alloc: Global,
     input: &mut I,

@@ -1,4 +1,4 @@
-//! What holds of every trace that a run plays. Nothing here runs.
+//! Laws of every trace that a run plays. Nothing here runs.
 
 ghost use Rattle.std.specs.Prelude.{List};
 ghost use Rattle.ft_model.specs.declared.event.Event.{Event};
@@ -12,7 +12,7 @@ use sample_servers::AnyService;
 use seed_run::laws::joint_traces_are_safe;
 use twin_laws::{legal_traces_are_masked, twin_schedules_have_one_outcome};
 
-/// A legal trace is safe: with one log it is joint, with two loggers it becomes a joint trace when it is made flat, and with marks it is masked.
+/// Every legal trace is safe. With one log the trace is joint; with two loggers its reduction to one log is; and with marks the trace is masked.
 pub(crate) fn legal_traces_are_safe()
     ensures { (schedule : Schedule) (events : List Event) (trace : List (traces schedule).Turn) → (traces schedule).IsLegal schedule events trace
         → (traces schedule).IsSafe schedule trace }
@@ -23,7 +23,7 @@ pub(crate) fn legal_traces_are_safe()
     marks_are_true::<AnyService>();
 }
 
-/// A schedule's events end in one way, with two loggers and with marks as with one log.
+/// Proves that a schedule's events have only one of the three outcomes, with one log, with two loggers and with marks.
 pub(crate) fn schedules_end_in_one_way()
     ensures whole_or_refused { (schedule : Schedule) → AllHappen schedule.twin schedule.marks schedule → OneIsRefused schedule.twin schedule.marks schedule → ⊥ }
     ensures whole_or_past { (schedule : Schedule) → AllHappen schedule.twin schedule.marks schedule → PacketsExceed schedule.twin schedule.marks schedule → ⊥ }

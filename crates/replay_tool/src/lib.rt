@@ -1,5 +1,5 @@
-//! `replay`: the top call of `ftreplay`. It reads a schedule, plays its events in the world and writes the report while it runs; or it generates a schedule
-//! from a seed, plays it and writes a summary; or it reads a report, and writes whether it is that of a legal trace.
+//! `replay`: the top call of `ftreplay`. It reads a schedule, plays its events in the world and writes the report as it runs; or it generates a schedule
+//! from a seed, plays it and writes a summary; or it reads a report and checks whether it is the report of a legal trace.
 #![tactic(auto)]
 
 pub use program::run_ftreplay;

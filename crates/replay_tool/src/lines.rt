@@ -1,4 +1,4 @@
-//! The lines of a report, as they are appended to a text: those of an event's packets, and those on clients and log at the end.
+//! The lines of a report, appended to a text: those of an event and its packets, and the closing lines on the clients and the log.
 
 ghost use Rattle.std.specs.Prelude.{◌≡◌, ◌+◌, ◌<◌, ◌≤◌, ◌^◌, Some, None, ◌++◌, length, slice_get, IfOk, OnOk};
 ghost use Rattle.std.specs.List.{flat_map};
@@ -22,10 +22,10 @@ use schedule_text::{
 };
 use std::alloc::Global;
 
-/// The most clients of a schedule.
+/// The largest number of clients in a schedule.
 const CLIENT_LIMIT: u8 = 16;
 
-/// The line of packet `n`.
+/// Appends the line of packet `n`.
 fn write_packet(
     alloc: Global,
     world: &World<AnyService>,
@@ -46,7 +46,7 @@ fn write_packet(
     write_packet_line(alloc, n, way, bytes, lines)
 }
 
-/// The lines of `count` packets from number `first` on.
+/// Appends the lines of `count` packets, starting with number `first`.
 fn write_packets(
     alloc: Global,
     world: &World<AnyService>,
@@ -64,7 +64,7 @@ fn write_packets(
     Ok(())
 }
 
-/// The lines of event number `n`, which was just played: its own, and those of the packets that it sent.
+/// Appends the lines of event number `n`, which was just played: its own, and those of the packets that it sent.
 pub(crate) fn write_played(
     alloc: Global,
     n: u32,
@@ -82,14 +82,14 @@ pub(crate) fn write_played(
     write_packets(alloc, world, answer.first, answer.count, lines)
 }
 
-/// The line of client `n`.
+/// Appends the line of client `n`.
 fn write_client(alloc: Global, n: u32, client: &Client, lines: &mut Vec<u8>) -> Result<(), NoMemory>
     ensures { OnOk result (lines.new.items ≡ lines.old.items ++ client_line n client.now) }
 {
     write_client_line(alloc, n, client.phase(), client.accepted(), lines)
 }
 
-/// The line of the client at place `i`, if there is one.
+/// Appends the line of the client at index `i`, if there is one.
 fn write_client_at(
     alloc: Global,
     world: &World<AnyService>,
@@ -106,7 +106,7 @@ fn write_client_at(
     }
 }
 
-/// The lines of the clients, numbered from 1.
+/// Appends the lines of the clients, numbered from 1.
 fn write_clients(
     alloc: Global,
     world: &World<AnyService>,
@@ -121,7 +121,7 @@ fn write_clients(
     Ok(())
 }
 
-/// The lengths of the reads of the log's entry at place `i`, of which there are `count`, in order.
+/// Returns the lengths, in order, of the `count` reads of the log's entry at index `i`.
 fn read_lengths(alloc: Global, log: &LogStore, i: u16, count: u32) -> Result<Vec<u16>, NoMemory>
     requires { count ≡ length (lengths_of (slice_get log.now.entries i)) }
     ensures { IfOk result (λ lengths. lengths.items ≡ lengths_of (slice_get log.now.entries i)) }
@@ -133,7 +133,7 @@ fn read_lengths(alloc: Global, log: &LogStore, i: u16, count: u32) -> Result<Vec
     Ok(lengths)
 }
 
-/// The line of the log's entry at place `i`.
+/// Appends the line of the log's entry at index `i`.
 fn write_entry(alloc: Global, log: &LogStore, i: u16, lines: &mut Vec<u8>) -> Result<(), NoMemory>
     ensures { OnOk result ((e : Entry) → slice_get log.now.entries i ≡ Some e → lines.new.items ≡ lines.old.items ++ log_line e) }
 {
@@ -152,7 +152,7 @@ fn write_entry(alloc: Global, log: &LogStore, i: u16, lines: &mut Vec<u8>) -> Re
     write_log_line(alloc, &line, lines)
 }
 
-/// The lines of the log, in order.
+/// Appends the lines of the log's entries, in order.
 fn write_entries(alloc: Global, log: &LogStore, lines: &mut Vec<u8>) -> Result<(), NoMemory>
     ensures { OnOk result (lines.new.items ≡ lines.old.items ++ flat_map log_line log.now.entries) }
 {
@@ -162,7 +162,7 @@ fn write_entries(alloc: Global, log: &LogStore, lines: &mut Vec<u8>) -> Result<(
     Ok(())
 }
 
-/// The state of the world after `n` events, as the end of a report.
+/// Appends the closing lines of a report: the state of the clients and the log after `n` events, and the last line.
 pub(crate) fn write_closing(
     alloc: Global,
     world: &World<AnyService>,

@@ -1,4 +1,4 @@
-//! Playing a schedule: each event is done in the world, and its lines are appended to the report before the next one.
+//! Playing a schedule: each event is played in the world, and its lines are appended to the report before the next event.
 
 ghost use Rattle.std.specs.Prelude.{◌≡◌, ℕ, ◌+◌, ◌<◌, ◌≤◌, List, [], ◌∷◌, ◌++◌, Option, Some, Err, length, OnOk, OnErr, IfOk, IfErr};
 ghost use Rattle.std.specs.List.{flat_map};
@@ -85,7 +85,7 @@ fn play_events<O: Sink>(
     Ok(())
 }
 
-/// Appends the state of the world after `n` events to the report.
+/// Appends the closing lines, with the state of the world after `n` events, to the report.
 fn close(
     alloc: Global,
     world: &World<AnyService>,
@@ -104,7 +104,7 @@ fn close(
     Ok(())
 }
 
-/// The world in which a schedule starts, with the header of its report.
+/// Creates the world in which a schedule starts, and appends the header to the report.
 fn start<O: Sink>(
     alloc: Global,
     schedule: &Schedule,
@@ -129,7 +129,7 @@ fn start<O: Sink>(
     Ok(world)
 }
 
-/// Appends the state of the world after all events of a schedule to the report.
+/// Appends the closing lines to the report, once all events of the schedule have been played.
 fn close_whole(
     alloc: Global,
     schedule: &Schedule,
@@ -151,7 +151,7 @@ fn close_whole(
     Ok(())
 }
 
-/// The end of a run that stops early. Where an event is refused, the state of the world before it is appended to the report.
+/// Ends the report of a run that stops early. If an event was refused, it appends the closing lines, with the state of the world before that event.
 fn close_early(alloc: Global, world: &World<AnyService>, end: RunEnd, report: &mut Report) -> RunEnd
     requires { (number : ℕ) (why : EventWhy) → end ≡ BadEvent number why → length world.now.clients.items ≤ 16 }
     ensures stops { (schedule : Written) (old now : Option (List ℕ)) → StopsPlaying schedule (kept world.now) old now report.old.held.items end
@@ -169,7 +169,7 @@ fn close_early(alloc: Global, world: &World<AnyService>, end: RunEnd, report: &m
     }
 }
 
-/// Plays the events from the start of the world to their end, or to the first that is refused, and appends how the world stands then.
+/// Plays the events up to the end, or up to the first that is refused, and then appends the closing lines.
 fn play_to_end<O: Sink>(
     alloc: Global,
     schedule: &Schedule,
@@ -195,7 +195,7 @@ fn play_to_end<O: Sink>(
     }
 }
 
-/// Plays a schedule, and leaves in the report what is still to be written.
+/// Plays a schedule. What hasn't been written yet remains in the report.
 fn play_whole<O: Sink>(
     alloc: Global,
     schedule: &Schedule,
@@ -215,7 +215,7 @@ fn play_whole<O: Sink>(
     play_to_end(alloc, schedule, &mut world, report, out)
 }
 
-/// Writes what is still to be written where a run ends early, unless the sink has failed.
+/// Writes the rest of the report of a run that ends early, unless the sink has failed.
 fn write_rest<O: Sink>(end: RunEnd, report: &mut Report, out: &mut O) -> RunEnd
     ensures stops { (schedule : Written) (old : Option (List ℕ)) → HoldsAtEnd schedule old (O.taken out.old) report.old.held.items end
         → Wrote old (O.taken out.new) (EndsPlaying schedule result) }
@@ -230,8 +230,8 @@ fn write_rest<O: Sink>(end: RunEnd, report: &mut Report, out: &mut O) -> RunEnd
     }
 }
 
-/// Plays a schedule, and writes its report. Where an event is refused, the report ends with the events before it. What was played is
-/// written however the run ends, unless the sink fails.
+/// Plays a schedule and writes its report. If an event is refused, the report ends after the events before it. However the run ends, the lines of what was
+/// played are written, unless the sink fails.
 pub(crate) fn play<O: Sink>(alloc: Global, schedule: &Schedule, out: &mut O) -> Result<(), RunEnd>
     requires playable { IsPlayable schedule.now }
     requires clients { length schedule.now.clients ≤ 16 }

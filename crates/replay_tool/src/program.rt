@@ -1,4 +1,4 @@
-//! All of `ftreplay`, with the system that is passed to it.
+//! The whole program `ftreplay`, for the system that is passed to it.
 
 use crate::top::replay;
 use ft_io::{ReadSource, WriteSink};
@@ -7,8 +7,8 @@ use std::process::ExitCode;
 use std::rt::Env;
 use std::{env, io};
 
-/// `ftreplay` with the arguments of this system and with these three streams. It returns the exit status, which is that of [`replay`]; or an error of std, if
-/// an argument isn't UTF-8, or an allocation for the arguments fails.
+/// Runs `ftreplay` with the arguments of this system and with these three streams. Returns the exit status, which is that of [`replay`]. Returns an error of
+/// std if an argument isn't UTF-8, or where an allocation for the arguments fails.
 pub fn run_ftreplay<R: Env + AllocGlobal, I: Read + Drop, O: Write + Drop, E: Write + Drop>(
     system: &R,
     input: I,

@@ -1,4 +1,4 @@
-//! A report that is being written to a sink: it is held in one buffer, and written in pieces.
+//! A report that is being written to a sink: it is buffered, and written in pieces.
 
 ghost use Rattle.std.specs.Prelude.{◌≡◌, ◌<◌, ℕ, List, [], Option, OnOk, OnErr, length};
 ghost use Rattle.replay_tool.specs.PartialWrite.{IsOnItsWay, WroteFront, CountsFailed};
@@ -7,10 +7,10 @@ ghost use Rattle.replay_tool.specs.Playback.{piece};
 use ft_io::{Failed, Sink, write_all};
 use std::alloc::Global;
 
-/// A piece: as soon as this many bytes are held, they are written.
+/// The size of a piece in bytes: once at least this many are held, they are written.
 const PIECE: usize = 65_536;
 
-/// What is still to be written of a report, and the lines of one event, or of the end, until they are complete.
+/// The part of a report that isn't written yet, and the lines of one event, or of the end, until they are complete.
 #[derive(Drop)]
 pub(crate) struct Report {
     pub(crate) held: Vec<u8>,
@@ -20,7 +20,7 @@ pub(crate) struct Report {
 impl Report {
     ghost use Rattle.std.specs.Prelude.{◌≡◌, []};
 
-    /// A report of which nothing is written yet.
+    /// Returns a report without any text.
     pub(crate) fn new(alloc: Global) -> Report
         ensures { result.held.items ≡ [] }
     {
@@ -45,7 +45,7 @@ pub(crate) fn flush<O: Sink>(report: &mut Report, out: &mut O) -> Result<(), Fai
     Ok(())
 }
 
-/// Writes what is held, if it is at least a piece. So less than a piece is held afterwards.
+/// Writes the held bytes if they are at least a piece, so that fewer are held afterwards.
 pub(crate) fn flush_piece<O: Sink>(report: &mut Report, out: &mut O) -> Result<(), Failed>
     ensures held_back { OnOk result (length report.new.held.items < piece) }
     ensures ok { OnOk result ((old : Option (List ℕ)) (text : List ℕ) → IsOnItsWay old (O.taken out.old) report.old.held.items text

@@ -1,4 +1,4 @@
-//! The check of a report, from its text to its status.
+//! The `check` command, from reading the report to the exit status.
 
 ghost use Rattle.std.specs.Prelude.{◌≡◌};
 ghost use Rattle.ft_io.specs.Source.{ConsumesAtMost};
@@ -14,7 +14,7 @@ use report_laws::no_report_has_a_rejected_prefix;
 use sample_servers::AnyService;
 use std::alloc::Global;
 
-/// Reads a report to its end and checks it. It writes to `out` that the report is legal, or to `err` at which line it is rejected, or why the check ended early.
+/// Reads a report to its end and checks it. Writes to `out` that it is legal, or to `err` at which line it is rejected or why the check ended early.
 pub(crate) fn check_report<I: Source, O: Sink, E: Sink>(
     alloc: Global,
     input: &mut I,

@@ -1,4 +1,4 @@
-//! A run of a schedule, from its text to the end of its report.
+//! A run of a schedule, from reading its text to the end of its report.
 
 ghost use Rattle.std.specs.Prelude.{◌≡◌, ℕ, ◌<◌, ◌≤◌, length, Some, Ok, IfOk, IfErr, OnOk};
 ghost use Rattle.ft_io.specs.Source.{ConsumesAtMost};
@@ -15,10 +15,10 @@ use ft_model::grammar::{accepted_schedules_can_be_played, accepted_schedules_kee
 use schedule_text::{Schedule, read_schedule};
 use std::alloc::Global;
 
-/// The most bytes of a schedule's text.
+/// The largest size of a schedule's text, in bytes.
 const TEXT_LIMIT: usize = 8_388_608;
 
-/// The schedule that a text spells: it can be played.
+/// Reads the schedule that a text spells. It can be played.
 fn read(alloc: Global, text: &[u8]) -> Result<Schedule, RunEnd>
     ensures spelled { IfOk result (λ s. read_text text.now ≡ Ok s) }
     ensures stops { IfErr result (StopsReading text.now) }

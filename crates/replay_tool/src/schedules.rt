@@ -1,4 +1,4 @@
-//! The run of a schedule, from its text to its status.
+//! The `run` command, from reading the schedule to the exit status.
 
 ghost use Rattle.std.specs.Prelude.{◌≡◌};
 ghost use Rattle.ft_io.specs.Source.{ConsumesAtMost};
@@ -14,7 +14,7 @@ use crate::telling::tell;
 use ft_io::{Sink, Source};
 use std::alloc::Global;
 
-/// Reads a schedule to its end, plays it and writes its report to `out`, and then writes to `err` why the run ended early.
+/// Reads a schedule to its end, plays it and writes its report to `out`. If the run ended early, it then writes the reason to `err`.
 pub(crate) fn replay_schedule<I: Source, O: Sink, E: Sink>(
     alloc: Global,
     input: &mut I,

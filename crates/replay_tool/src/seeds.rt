@@ -1,4 +1,4 @@
-//! A generated run, from its words to its status.
+//! The `seed` command, from its arguments to the exit status.
 
 ghost use Rattle.std.specs.Prelude.{◌≡◌, ◌⊎◌, true, map, string_bytes, None, IfSome};
 ghost use Rattle.seed_run.specs.Words.{asked};
@@ -14,7 +14,7 @@ use ft_io::Sink;
 use seed_run::seed;
 use std::alloc::Global;
 
-/// Plays the schedule that the words of a seed make, writes its summary to `out`, and then writes to `err` why the run ended early.
+/// Plays the schedule generated from the arguments and writes its summary to `out`. If the run ended early, it then writes the reason to `err`.
 pub(crate) fn replay_seed<O: Sink, E: Sink>(
     alloc: Global,
     words: &[String],

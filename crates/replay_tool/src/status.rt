@@ -1,4 +1,4 @@
-//! How a run ends, or a check.
+//! How a run or a check ends.
 
 ghost use Rattle.std.specs.Prelude.{◌≡◌};
 ghost use Rattle.replay_tool.specs.declared.status.RunEnd.TheVariants as ends;
@@ -16,11 +16,11 @@ use trace_check::CheckEnd;
 /// The exit status of the program.
 #[derive(Clone, Copy, Debug, PartialEq, Eq)]
 pub struct Status {
-    /// 0 if everything was done, otherwise the number of the end.
+    /// 0 if everything was done, otherwise the number of the reason.
     pub code: u8,
 }
 
-/// What exceeded its limit.
+/// The limit that was exceeded.
 #[derive(Clone, Copy, Debug, PartialEq, Eq)]
 pub(crate) enum TooMuch {
     Text,
@@ -28,7 +28,7 @@ pub(crate) enum TooMuch {
     Packets,
 }
 
-/// How a run ends early, or a check.
+/// Why a run or a check ends early.
 #[derive(Clone, Copy, Debug, PartialEq, Eq)]
 pub(crate) enum RunEnd {
     Usage,
@@ -112,7 +112,7 @@ impl From<Failed> for RunEnd {
     }
 }
 
-/// The end of a run at event number `event`.
+/// Returns the end of a run whose step at event number `event` failed.
 pub(crate) fn end_of_step(end: StepEnd, event: u32) -> RunEnd
     ensures { result ≡ end_lem end event }
 {
@@ -123,7 +123,7 @@ pub(crate) fn end_of_step(end: StepEnd, event: u32) -> RunEnd
     }
 }
 
-/// The end of a generated run.
+/// Returns the end of a generated run as the end of a run.
 pub(crate) fn end_of_seed(end: SeedEnd) -> RunEnd
     ensures { result ≡ seed_end_lem end }
 {

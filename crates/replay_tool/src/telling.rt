@@ -1,4 +1,4 @@
-//! What a run or a check that ends early writes to the error sink.
+//! The text that a run or a check writes to the error sink when it ends early.
 
 ghost use Rattle.std.specs.Prelude.{◌≡◌, ◌⊎◌, ◌++◌, ◌∷◌, [], OnOk, OnErr};
 ghost use Rattle.std.specs.Io.KnownBytes.{Appends};
@@ -68,7 +68,7 @@ fn law_word(law: Law) -> &'static [u8]
     }
 }
 
-/// A text.
+/// Writes a text.
 #[tactic(auto, using(crate::proofs::Fronts::front_taken))]
 pub(crate) fn write_text<E: Sink>(err: &mut E, text: &[u8]) -> Result<(), Failed>
     ensures whole { OnOk result (Appends (E.taken err.old) (E.taken err.new) text.now) }
@@ -79,7 +79,7 @@ pub(crate) fn write_text<E: Sink>(err: &mut E, text: &[u8]) -> Result<(), Failed
     Ok(())
 }
 
-/// Two texts, one after the other.
+/// Writes two texts, one after the other.
 #[tactic(auto, using(crate::proofs::Fronts::then_whole, crate::proofs::Fronts::then_front, crate::proofs::Fronts::front_then))]
 pub(crate) fn write_both<E: Sink>(err: &mut E, first: &[u8], second: &[u8]) -> Result<(), Failed>
     ensures whole { OnOk result (Appends (E.taken err.old) (E.taken err.new) (first.now ++ second.now)) }
@@ -91,7 +91,7 @@ pub(crate) fn write_both<E: Sink>(err: &mut E, first: &[u8], second: &[u8]) -> R
     Ok(())
 }
 
-/// A name with its number, and a word.
+/// Writes a name followed by its number, and a word.
 #[tactic(auto, using(crate::proofs::Fronts::then_whole, crate::proofs::Fronts::then_front, crate::proofs::Fronts::front_then), unfolding(crate::specs::ErrText::numbered))]
 fn write_numbered<E: Sink>(err: &mut E, name: &[u8], n: u32, word: &[u8]) -> Result<(), Failed>
     ensures whole { OnOk result (Appends (E.taken err.old) (E.taken err.new) (numbered name.now n word.now)) }
@@ -104,7 +104,7 @@ fn write_numbered<E: Sink>(err: &mut E, name: &[u8], n: u32, word: &[u8]) -> Res
     Ok(())
 }
 
-/// Why a run ended.
+/// Writes why a run ended.
 fn write_cause<E: Sink>(err: &mut E, end: RunEnd) -> Result<(), Failed>
     ensures whole { OnOk result (Appends (E.taken err.old) (E.taken err.new) (cause_text end)) }
     ensures front { OnErr result (WroteFront (E.taken err.old) (E.taken err.new) (cause_text end)) }
@@ -122,7 +122,7 @@ fn write_cause<E: Sink>(err: &mut E, end: RunEnd) -> Result<(), Failed>
     }
 }
 
-/// .. and the end of the line.
+/// Writes why a run ended, and the end of the line.
 #[tactic(auto, using(crate::proofs::Fronts::then_whole, crate::proofs::Fronts::then_front, crate::proofs::Fronts::front_then))]
 fn write_line<E: Sink>(err: &mut E, end: RunEnd) -> Result<(), Failed>
     ensures whole { OnOk result (Appends (E.taken err.old) (E.taken err.new) (cause_text end ++ 10 ∷ [])) }
@@ -134,7 +134,7 @@ fn write_line<E: Sink>(err: &mut E, end: RunEnd) -> Result<(), Failed>
     Ok(())
 }
 
-/// The text of an end, on a line of its own.
+/// Writes the whole line on an end: the program's name, why the run ended, and the end of the line.
 #[tactic(auto, using(crate::proofs::Fronts::then_whole, crate::proofs::Fronts::then_front, crate::proofs::Fronts::front_then), unfolding(crate::specs::ErrText::error_line))]
 fn write_end<E: Sink>(err: &mut E, end: RunEnd) -> Result<(), Failed>
     ensures whole { OnOk result (Appends (E.taken err.old) (E.taken err.new) (error_line (cause_text end))) }
@@ -161,7 +161,7 @@ fn code(end: RunEnd) -> u8
     }
 }
 
-/// Writes the text of an end, and returns its status: 5 where that write failed. Where the sink of the report failed, no text is written.
+/// Writes the text of an end and returns its exit status, or 5 if that write failed. Where the sink of the report failed, it writes nothing.
 pub(crate) fn tell<E: Sink>(err: &mut E, end: RunEnd) -> Status
     ensures told { ((result.code ≡ code_of end) × Appends (E.taken err.old) (E.taken err.new) (text_of end)
         × (E.fault_count err.new ≡ E.fault_count err.old))

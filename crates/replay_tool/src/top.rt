@@ -20,7 +20,7 @@ use ft_io::{Sink, Source};
 use seed_run::Asked;
 use std::alloc::Global;
 
-/// Whether the words are the one word `run`.
+/// Returns whether the arguments are the one word `run`.
 fn asks_for_run(words: &[String]) -> bool
     ensures { result ≡ is_run (map string_bytes words.now) }
 {
@@ -30,7 +30,7 @@ fn asks_for_run(words: &[String]) -> bool
     }
 }
 
-/// Whether the words are the one word `check`.
+/// Returns whether the arguments are the one word `check`.
 fn asks_for_check(words: &[String]) -> bool
     ensures { result ≡ is_check (map string_bytes words.now) }
 {
@@ -40,12 +40,12 @@ fn asks_for_check(words: &[String]) -> bool
     }
 }
 
-/// `ftreplay` with these words. For `run` it reads a schedule from `input` to its end and writes the report of its run to `out` while it runs. For `check` it
-/// reads a report from `input` to its end, and writes to `out` that it is that of a legal trace, or to `err` at which line and by which law it is rejected. For
-/// `seed SEED CLIENTS EVENTS` it plays this many events of the schedule that the seed generates for this many clients, and writes their summary to `out` once
-/// they are done; nothing is read. After that it writes to `err` why a run ended early. The status is 0 where all was done, 2 for other words, 3 where an
-/// allocation failed, 4 for a fault of the source, 5 for a fault of a sink, 6 for a refused line, 7 for a refused event, 8 at a limit, and 9 for a rejected
-/// report. With a seed it is 0, 3, 5 or 8.
+/// Runs `ftreplay` with these arguments. For `run` it reads a schedule from `input` to its end and writes the report to `out` as it plays the schedule. For
+/// `check` it reads a report from `input` to its end, and writes either to `out` that it is the report of a legal trace, or to `err` the line and the law by
+/// which it is rejected. For `seed SEED CLIENTS EVENTS` it plays this many events of the schedule that the seed generates for this many clients, and writes
+/// their summary to `out` at the end; it reads nothing. If a run ended early, it then writes the reason to `err`. The status is 0 if all was done, 2 for
+/// other arguments, 3 where an allocation failed, 4 for a fault of the source, 5 for a fault of a sink, 6 for a refused line, 7 for a refused event, 8 at a
+/// limit, and 9 for a rejected report. For a seed it is 0, 3, 5 or 8.
 #[tactic(auto, using(crate::proofs::Seeding::run_asks_none, crate::proofs::Seeding::check_asks_none, crate::proofs::Seeding::run_is_no_check))]
 pub fn replay<I: Source, O: Sink, E: Sink>(
     alloc: Global,
@@ -54,14 +54,14 @@ pub fn replay<I: Source, O: Sink, E: Sink>(
     out: &mut O,
     err: &mut E,
 ) -> Status
-    // The headline: the input was read to its end and spells a schedule, and what was written is the report of a legal, masked trace of it.
+    // For `run`, the main promise: the input was read to its end and spells a schedule, and the text written is the report of a legal, masked trace of it.
     ensures done { is_run (map string_bytes words.now) ≡ true → result.code ≡ 0
         → IfSome (I.left input.old) (λ text. Spells text (λ schedule. Wrote (O.taken out.old) (O.taken out.new) (ReportsAll schedule))) }
-    // .. for `check`: the input is the report of a legal, masked trace, and what was written has the numbers of its events and packets.
+    // For `check`: the input is the report of a legal, masked trace, and the text written gives the numbers of its events and packets.
     ensures legal { is_check (map string_bytes words.now) ≡ true → result.code ≡ 0
         → IfSome (I.left input.old) (λ text. Wrote (O.taken out.old) (O.taken out.new) (IsFoundLegal text)) }
 
-    // How it ended, with what was read, what was written, and which calls failed; the status of that end, and what was written of it to err.
+    // How the call ended: what was read, what was written, and which calls failed; the exit status, and what was written to err.
     ensures run { is_run (map string_bytes words.now) ≡ true
         → HasRun (stream I.left I.fault_count input.old input.new) (stream O.taken O.fault_count out.old out.new)
         (stream E.taken E.fault_count err.old err.new) result.code }
@@ -75,11 +75,11 @@ pub fn replay<I: Source, O: Sink, E: Sink>(
         → IsUsage (stream I.left I.fault_count input.old input.new) (stream O.taken O.fault_count out.old out.new)
         (stream E.taken E.fault_count err.old err.new) result.code }
 
-    // The status is 2 for other words only, and 9 for `check` only.
+    // The status is 2 only for other arguments, and 9 only for `check`.
     ensures codes { is_code result.code ≡ true }
     ensures usage { result.code ≡ 2 → AreOther (map string_bytes words.now) }
     ensures rejected { result.code ≡ 9 → is_check (map string_bytes words.now) ≡ true }
-    // At most one byte past the limit of the text is read.
+    // It reads at most one byte past the limit of the text.
     ensures taken { ConsumesAtMost (most_read (map string_bytes words.now)) (I.left input.old) (I.left input.new) }
 {
     if Asked::from_words(words).is_some() {

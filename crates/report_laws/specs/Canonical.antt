@@ -1,6 +1,6 @@
--- A report contains its schedule, line by line, in one spelling: the lines of its header after the first, and its event lines without the number.
--- The limit of a schedule's text is that of these lines together. Reports of schedules with two loggers or with marks aren't checked, so `twin` and
--- `marks` have no spelling here.
+-- A report contains its schedule, line by line, in one spelling: the lines of its header after the first, and its event lines without the number. The limit
+-- on a schedule's text applies to these lines together. Reports of schedules with two loggers or with marks aren't checked, so `twin` and `marks` have no
+-- spelling here.
 use Rattle.std.specs.Prelude.{◌≡◌, ℕ, false, None, ◌+◌, ◌-◌, ◌≤◌, Ok, codes, List, [], ◌∷◌, ◌++◌, length, take}
 use Rattle.std.specs.List.{flat_map}
 use Rattle.ft_model.specs.Grammar.{line_of, with_line}
@@ -15,7 +15,7 @@ use Rattle.ft_model.specs.declared.schedule.ClientLine.{ClientLine}
 use Rattle.ft_model.specs.declared.schedule.Schedule.{Schedule}
 use Rattle.schedule_text.specs.EventLines.{asked_line}
 
--- the canonical line for what a schedule's line says, where the next client's number is n
+-- the canonical line of a schedule for this content, if the next client's number is n
 abbrev pub line_for : ℕ → Line → List ℕ
 line_for n (says.Service kind) = line (codes "service") (service_text kind ∷ [])
 line_for n (says.Server at) = line (codes "server") (address_text at.ip at.port ∷ [])
@@ -32,7 +32,7 @@ next_client draft = 1
 abbrev pub canonical_line : Draft → Line → List ℕ
 canonical_line draft l = line_for (next_client draft) l
 
--- the canonical lines of a draft together
+-- the canonical lines of a draft, concatenated
 abbrev pub schedule_bytes : Draft → List ℕ
 schedule_bytes Empty = []
 schedule_bytes (Named kind) = line (codes "service") (service_text kind ∷ [])
@@ -41,11 +41,11 @@ schedule_bytes (Begun schedule) =
     ++ (line (codes "server") (address_text schedule.server.ip schedule.server.port ∷ [])
     ++ (schedule_lines 1 schedule.clients ++ flat_map (λ e. asked_line e ++ 10 ∷ []) schedule.events))
 
--- they have at most 8,388,608 bytes, not counting the last line feed
+-- a draft's canonical lines have at most 8,388,608 bytes, not counting the last line feed
 abbrev pub FitsLimit : Draft → Type 0
 FitsLimit draft = length (schedule_bytes draft) - 1 ≤ 8388608
 
--- The line is the canonical one for what it says, the grammar accepts it after this draft, and the schedule's text stays within its limit.
+-- The line is the canonical one for its content, the grammar accepts it after this draft, and the schedule's text stays within its limit.
 pub record IsCanonical (draft : Draft) (l : Line) (text : List ℕ) : Type 0 where
   pub spelled : text ≡ canonical_line draft l
   pub accepted : line_of draft (take (length text - 1) text) ≡ Ok l
@@ -65,7 +65,7 @@ abbrev pub EventsAccepted : Schedule → List Event → Type 0
 EventsAccepted schedule [] = Unit {0}
 EventsAccepted schedule (e ∷ more) = Follows (Begun schedule) (says.Event e) × EventsAccepted (record schedule { events = schedule.events ++ e ∷ [] }) more
 
--- the schedule of a service and a server's address alone
+-- the schedule with only a service and a server's address
 abbrev pub bare : Schedule → Schedule
 bare schedule = record schedule { twin = false; marks = None; clients = []; events = [] }
 
@@ -77,7 +77,7 @@ pub record HeaderAccepted (schedule : Schedule) : Type 0 where
   pub server : Follows (Named schedule.service) (says.Server schedule.server)
   pub clients : ClientsAccepted (bare schedule) schedule.clients
 
--- A schedule within the limits: it has one logger and no marks, the grammar accepts its lines one after another, and they aren't too many.
+-- A schedule within the limits: it has one logger and no marks, the grammar accepts its lines one after another, and it has at most 100,000 events.
 pub record IsWithinLimits (schedule : Schedule) : Type 0 where
   pub header : HeaderAccepted schedule
   pub events : EventsAccepted (record schedule { events = [] }) schedule.events
@@ -88,7 +88,7 @@ abbrev pub client_header_lines : ℕ → List ClientLine → List (List ℕ)
 client_header_lines n [] = []
 client_header_lines n (c ∷ more) = schedule_line n c ∷ client_header_lines (n + 1) more
 
--- the lines of a schedule's header, with the report's first
+-- the lines of a schedule's header, including the report's first line
 abbrev pub header_lines : Schedule → List (List ℕ)
 header_lines schedule =
     codes "ftreplay 1\n" ∷ canonical_line Empty (says.Service schedule.service) ∷ canonical_line (Named schedule.service) (says.Server schedule.server)

@@ -1,7 +1,7 @@
 -- The lines of a text, each with its line feed (byte 10). A text that doesn't end with a line feed has a last line without one.
 use Rattle.std.specs.Prelude.{ℕ, ◌==◌, List, [], ◌∷◌, if◌then◌else◌}
 
--- a byte before the first line
+-- the lines with a byte put before the first one
 abbrev pub onto_first : ℕ → List (List ℕ) → List (List ℕ)
 onto_first c [] = (c ∷ []) ∷ []
 onto_first c (line ∷ lines) = (c ∷ line) ∷ lines

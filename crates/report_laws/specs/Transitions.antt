@@ -1,5 +1,5 @@
--- The checker of reports as a relation. It reads a report line by line; at each line, the report so far may continue, is rejected by a
--- law, or is accepted. Nothing here parses: a line is what the report's own definitions would print.
+-- The checker of reports as a relation. It reads a report line by line. At each line the report so far may continue, is rejected by a law, or is accepted.
+-- Nothing here parses: a line is compared with what the report's own definitions would print.
 --
 -- | law | at this line |
 -- |---|---|
@@ -46,20 +46,20 @@ pub record IsReport {State : Type 0} (service : ℕ → Machine State) (text : L
   pub packets : packet_count trace ≤ 200000
   pub text_is : text ≡ report schedule trace
 
--- the lines read so far
+-- how far a report is read
 pub data Position : Type 0 where
-  AtStart : Position  -- none
-  InHeader : Draft → Position  -- the header's, which spell this
-  InTurn : Schedule → List Moment → Event → List Packet → Position  -- those of a schedule's legal trace, then an event's, and these packets'
-  InClosing : List (List ℕ) → Position  -- all but these closing lines
+  AtStart : Position  -- no line is read
+  InHeader : Draft → Position  -- lines of the header are read, which spell this draft
+  InTurn : Schedule → List Moment → Event → List Packet → Position  -- read are a schedule's legal trace, then the line of an event, and these packets of it
+  InClosing : List (List ℕ) → Position  -- all is read but these closing lines
 
--- what the next line does to the verdict. The end of the text counts as a line
+-- the effect of the next line on the verdict. The end of the text counts as a line
 pub data Step : Type 0 where
   Continues : Position → Step
   Rejects : Law → Step
   Accepts : Step
 
--- where something with this property exists, its outcome; otherwise the other outcome
+-- if something with this property exists, its outcome; otherwise the other outcome
 abbrev pub IfExists : {A : Type 0} → (A → Type 0) → (A → Type 0) → Type 0 → Type 0
 IfExists {A} Is Outcome otherwise = ((a : A) × Is a × Outcome a) ⊎ (((a : A) → Is a → ⊥) × otherwise)
 
@@ -81,7 +81,7 @@ receiver (Some (To_client segment)) = law.Client
 receiver (Some (To_logger message)) = law.Log
 receiver _ = law.Server
 
--- .. of the party whose turn an event is: a client moves, a packet's receiver takes it, and the server has every other event
+-- .. of the party whose turn an event is: a moving client, or the receiver of a packet; every other event is the server's
 abbrev pub actor : World → Event → Law
 actor w (Deliver number) = receiver (packet_at w.packets number)
 actor w (Flip number bit) = receiver (packet_at w.packets number)
@@ -90,13 +90,13 @@ actor w event = if is_some (mover_of event) then law.Client else law.Server
 abbrev pub begins_with : List ℕ → List ℕ → Bool
 begins_with word text = starts_with nat_eq text word
 
--- these closing lines remain
+-- the effect of a line if these closing lines remain
 abbrev pub ClosingLine : List (List ℕ) → Option (List ℕ) → Step → Type 0
 ClosingLine [] None step = step ≡ Accepts
 ClosingLine (due ∷ more) (Some text) step = MatchBool (bytes_eq text due) (step ≡ Continues (InClosing more)) (step ≡ Rejects law.End)
 ClosingLine _ _ step = step ≡ Rejects law.End
 
--- the line begins `event `, where the next event may follow
+-- the effect of a line that begins with `event `, where the next event may follow
 abbrev pub EventLine : Schedule → List Moment → List ℕ → Step → Type 0
 EventLine schedule trace text step =
     IfExists (λ event. IsEventLine schedule (length trace + 1) event text)
@@ -108,14 +108,14 @@ EventLine schedule trace text step =
 abbrev pub closing_of : Schedule → List Moment → List (List ℕ)
 closing_of schedule trace = lines_in (closing_lines (world_after (start_of schedule) trace) (length trace))
 
--- a line after the header and the turns of a legal trace
+-- the effect of a line after the header and the turns of a legal trace
 abbrev pub AfterTurn : Schedule → List Moment → Option (List ℕ) → Step → Type 0
 AfterTurn schedule trace (Some text) step =
     MatchBool (begins_with (codes "packet ") text && nat_le 1 (length trace)) (step ≡ Rejects law.Packet)
     (MatchBool (begins_with (codes "event ") text) (EventLine schedule trace text step) (ClosingLine (closing_of schedule trace) (Some text) step))
 AfterTurn schedule trace None step = ClosingLine (closing_of schedule trace) None step
 
--- A line of the header: the service's, the server's, or the next client's
+-- The effect of a line of the header: the service's, the server's, or the next client's
 abbrev pub HeaderLine : Draft → List ℕ → Step → Type 0
 HeaderLine Empty text step =
     IfExists (λ kind. IsCanonical Empty (says.Service kind) text) (λ kind. step ≡ Continues (InHeader (Named kind))) (step ≡ Rejects law.Text)
@@ -129,15 +129,15 @@ HeaderLine (Begun schedule) text step =
 abbrev pub pieces : List ℕ → List (List ℕ)
 pieces text = slice_split (λ c. is 32 c || is 10 c) text
 
--- After the server's line, a line is the header's where it is for the next client. The words `twin` and `marks` are of schedules that aren't
--- checked, so such a line is the header's too, and no line of its kind is accepted
+-- After the server's line, a line belongs to the header if it is one for the next client. Schedules with the words `twin` and `marks` aren't checked, so a
+-- line with one of these belongs to the header too, and is rejected there
 abbrev pub is_header_line : Schedule → List (List ℕ) → Bool
 is_header_line schedule [] = false
 is_header_line schedule (first ∷ []) = bytes_eq first (codes "twin") || bytes_eq first (codes "marks")
 is_header_line schedule (first ∷ second ∷ more) =
     bytes_eq first (codes "twin") || bytes_eq first (codes "marks") || bytes_eq first (codes "client") && bytes_eq second (decimal (length schedule.clients + 1))
 
--- What a line does at a position.
+-- The effect of a line at a position.
 abbrev pub LineGives : {State : Type 0} → (ℕ → Machine State) → Position → Option (List ℕ) → Step → Type 0
 LineGives service AtStart None step = step ≡ Rejects law.End
 LineGives service AtStart (Some text) step = MatchBool (bytes_eq text (codes "ftreplay 1\n")) (step ≡ Continues (InHeader Empty)) (step ≡ Rejects law.Text)
@@ -146,7 +146,7 @@ LineGives service (InHeader (Begun schedule)) (Some text) step =
 LineGives service (InHeader (Begun schedule)) None step = AfterTurn schedule [] None step
 LineGives service (InHeader draft) None step = step ≡ Rejects law.End
 LineGives service (InHeader draft) (Some text) step = HeaderLine draft text step
--- a packet line continues the turn; any other ends it, and then its packets are judged together
+-- a packet line continues the turn; any other line ends it, and then the packets are judged together
 LineGives service (InTurn schedule trace event sent) text step =
     IfExists (λ packet. (line : List ℕ) × (text ≡ Some line) × IsPacketLine schedule (packet_count trace + length sent + 1) packet line)
     (λ packet. step ≡ Continues (InTurn schedule trace event (sent ++ packet ∷ [])))
@@ -159,7 +159,7 @@ LineGives service (InClosing due) text step = ClosingLine due text step
 abbrev pub report_so_far : Schedule → List Moment → List ℕ
 report_so_far schedule trace = header schedule ++ event_lines (clients_in schedule) trace
 
--- an event's line and its packets'
+-- the lines of an event and of its packets
 abbrev pub turn_so_far : Schedule → List Moment → Event → List Packet → List ℕ
 turn_so_far schedule trace event sent = event_line (length trace + 1) event ++ packet_lines (clients_in schedule) (packet_count trace + 1) sent
 

@@ -20,7 +20,7 @@ abbrev pub packet_line_list : List Client → ℕ → List Packet → List (List
 packet_line_list clients n [] = []
 packet_line_list clients n (p ∷ ps) = packet_line n (way_of clients p) p ∷ packet_line_list clients (n + 1) ps
 
--- the lines of a trace's turns, each an event's and its packets'
+-- the lines of a trace's turns: each event's, and its packets'
 abbrev pub turn_line_list : Schedule → List Moment → List (List ℕ)
 turn_line_list schedule [] = []
 turn_line_list schedule (m ∷ earlier) =

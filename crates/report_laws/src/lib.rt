@@ -1,5 +1,5 @@
-//! The verdict on a text that may be the report of a legal trace, and its laws. `specs/Transitions` defines the verdict as a relation on lines. Nothing
-//! here runs: each function is a theorem, and its body is empty.
+//! The verdict on a text that may be the report of a legal trace, and its laws. `specs/Transitions` defines the verdict as a relation on lines. Nothing here
+//! runs: each function is a theorem, and its body is empty.
 #![tactic(auto)]
 
 ghost use Rattle.std.specs.Prelude.{◌≡◌, ℕ, ◌-◌, Ok, Option, List, length, take};
@@ -35,31 +35,31 @@ pub enum Law {
     End,
 }
 
-/// At a position, a line has one outcome.
+/// At a position, a line has at most one outcome.
 pub fn a_line_has_one_outcome<S: Service>()
     ensures { (position : Position) (text : Option (List ℕ)) (one other : Step)
         → LineGives (machines S.started S.after) position text one → LineGives (machines S.started S.after) position text other → one ≡ other }
 {}
 
-/// A text is rejected at one line and by one law.
+/// A text is rejected at most at one line, and by one law.
 pub fn a_rejection_is_unique<S: Service>()
     ensures { (text : List ℕ) (line other : ℕ) (law also : Law)
         → IsRejected (machines S.started S.after) text line law → IsRejected (machines S.started S.after) text other also → (line ≡ other) × (law ≡ also) }
 {}
 
-/// A rejected text's lines, up to the rejected one, begin no report. The end of a text counts as a line.
+/// No report begins with the lines of a rejected text up to the rejected one. The end of a text counts as a line.
 pub fn no_report_has_a_rejected_prefix<S: Service>()
     ensures { (text other : List ℕ) (line : ℕ) (law : Law) → IsRejected (machines S.started S.after) text line law
         → SameLines line (lines_in text) (lines_in other) → IsReport (machines S.started S.after) other → ⊥ }
 {}
 
-/// A text is accepted exactly where it is the report of a legal trace.
+/// A text is accepted if and only if it is the report of a legal trace.
 pub fn accepted_texts_are_reports<S: Service>()
     ensures reports { (text : List ℕ) → AcceptedFrom (machines S.started S.after) AtStart (lines_in text) → IsReport (machines S.started S.after) text }
     ensures accepted { (text : List ℕ) → IsReport (machines S.started S.after) text → AcceptedFrom (machines S.started S.after) AtStart (lines_in text) }
 {}
 
-/// A schedule within the limits is what its own text spells.
+/// The text of a schedule within the limits spells that schedule.
 pub fn schedules_within_limits_are_read()
     ensures { (schedule : Schedule) → IsWithinLimits schedule
         → read_text (take (length (schedule_bytes (Begun schedule)) - 1) (schedule_bytes (Begun schedule))) ≡ Ok schedule }

@@ -1,5 +1,5 @@
--- What bytes spell by the grammar of their direction: a segment between a client and the server, a message between the server and the logger, which may be about
--- marks, or a datagram between two loggers.
+-- What bytes spell by the grammar of their direction: a segment between a client and the server, a message between the server and the logger, which may be
+-- about marks, or a datagram between two loggers.
 use Rattle.std.specs.Prelude.{ℕ, Option, None, Some, option_map, Result, Ok, Err, List}
 use Rattle.seq_arith.specs.PacketGrammar as segments
 use Rattle.seq_arith.specs.MessageGrammar as messages
@@ -23,7 +23,7 @@ abbrev pub said_as : {A E : Type 0} → (A → Packet) → Result A E → Option
 said_as packet (Ok x) = Some (packet x)
 said_as packet (Err why) = None
 
--- the packet; none where the grammar refuses the bytes, and for what is about marks or goes between two loggers
+-- the packet; none if the grammar refuses the bytes, and none for messages about marks and for datagrams between two loggers
 abbrev pub packet_in : Way → List ℕ → Option Packet
 packet_in (ClientToServer n) bytes = said_as To_server (segments.reading bytes)
 packet_in (ServerToClient n) bytes = said_as To_client (segments.reading bytes)
@@ -32,13 +32,13 @@ packet_in LoggerToServer bytes = said_as From_logger (messages.reading bytes)
 packet_in HeadToTail bytes = None
 packet_in TailToHead bytes = None
 
--- the words of what a server and its logger say: a message, or one about marks. Their magics differ, so no bytes are both
+-- the words of a message between server and logger, or of one about marks. Their magics differ, so no bytes are both
 abbrev pub logged_words : Result Message BadMsg → Result MarkMessage BadMark → Option (List (List ℕ))
 logged_words (Ok message) about_marks = Some (message_words message)
 logged_words (Err why) (Ok message) = Some (mark_words message)
 logged_words (Err why) (Err other) = None
 
--- the words of a datagram between two loggers. One that tells a logger to serve alone is none of a run's packets
+-- the words of a datagram between two loggers. One that makes a logger serve alone is none of a run's packets
 abbrev pub forwarded_words : ℕ → Result Message BadMsg → Option (List (List ℕ))
 forwarded_words number (Ok message) = Some (forward_words number message)
 forwarded_words number (Err why) = None

@@ -1,4 +1,4 @@
--- What a schedule can ask for, and the line that asks for it.
+-- Which events a schedule can ask for, and the line that asks for each.
 use Rattle.std.specs.Prelude.{ℕ, ◌<◌, ◌≤◌, ◌^◌, ⊤, List}
 use Rattle.std.specs.List.{join_with_byte}
 use Rattle.ft_model.specs.Report.{event_words}

@@ -1,7 +1,7 @@
--- A text that a line is being appended to.
+-- A text to which a line is being appended.
 use Rattle.std.specs.Prelude.{ℕ, List}
 
--- the text before the line, and what is written of the line
+-- the text before the line, and the part of the line written so far
 pub record Written : Type 0 where
   pub before : List ℕ
   pub words : List ℕ

@@ -9,17 +9,17 @@ use Rattle.schedule_text.specs.declared.end.LineEnd.TheVariants as line_end
 use Rattle.schedule_text.specs.declared.end.ScheduleEnd.{ScheduleEnd}
 use Rattle.schedule_text.specs.declared.end.ScheduleEnd.TheVariants as end
 
--- what a line does to the lines before it
+-- the draft after a line
 abbrev pub with_text : Draft → List ℕ → Result Draft LineWhy
 with_text draft text = line_of draft text >>= λ l. Ok (with_line draft l)
 
--- a line's outcome is the grammar's, unless an allocation failed
+-- the result for a line is the grammar's, unless an allocation failed
 abbrev pub GivesLine : {X : Type 0} → Result X LineEnd → Result X LineWhy → Type 0
 GivesLine (Ok x) read = read ≡ Ok x
 GivesLine (Err line_end.NoMemory) read = Unit {0}
 GivesLine (Err (line_end.Refused why)) read = read ≡ Err why
 
--- the outcome of a text, or of lines of it, is the grammar's, unless an allocation failed
+-- the result for a text, or for lines of it, is the grammar's, unless an allocation failed
 abbrev pub Gives : {X : Type 0} → Result X ScheduleEnd → Result X Refusal → Type 0
 Gives (Ok x) read = read ≡ Ok x
 Gives (Err end.NoMemory) read = Unit {0}

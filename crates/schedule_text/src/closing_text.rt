@@ -1,4 +1,4 @@
-//! The last lines of a report: the state of the clients and the log, and how many events there were.
+//! The last lines of a report: the state of the clients and of the log, and the number of events.
 
 ghost use Rattle.std.specs.Prelude.{◌≡◌, ◌++◌, ◌∷◌, [], codes, decimal, OnOk, OnErr};
 ghost use Rattle.ft_model.specs.Texts.{spaced, bit_text, list_text, phase_text};
@@ -15,7 +15,7 @@ use std::alloc::Global;
 pub struct LogLine<'a> {
     /// The client's address and port.
     pub key: Key,
-    /// The client's bytes that are logged.
+    /// How many of the client's bytes are logged.
     pub length: u32,
     /// Whether the client's FIN is logged.
     pub fin: bool,
@@ -27,7 +27,7 @@ pub struct LogLine<'a> {
     pub reads: &'a [u16],
 }
 
-/// Writes the state of client `n`: its phase, and what it has accepted from the server. After `NoMemory` `out` is as it was.
+/// Writes the state of client `n`: its phase, and what it has accepted from the server. After `NoMemory` `out` is unchanged.
 pub fn write_client_line(
     alloc: Global,
     n: u32,
@@ -56,7 +56,7 @@ fn put_client(n: u32, phase: Phase, accepted: &[u8], line: &mut LineOut) -> Resu
     line.push(b'\n')
 }
 
-/// The word for a phase.
+/// Returns the word for a phase.
 #[tactic(auto, unfolding(ft_model::specs::Texts::phase_text))]
 pub fn phase_word(phase: Phase) -> &'static [u8]
     ensures { result.now ≡ phase_text phase }
@@ -70,7 +70,7 @@ pub fn phase_word(phase: Phase) -> &'static [u8]
     }
 }
 
-/// Writes the state of a connection in the log. After `NoMemory` `out` is as it was.
+/// Writes the state of a connection in the log. After `NoMemory` `out` is unchanged.
 pub fn write_log_line(alloc: Global, entry: &LogLine<'_>, out: &mut Vec<u8>) -> Result<(), NoMemory>
     ensures ok { OnOk result (out.new.items
         ≡ out.old.items ++ entry_line entry.now.key entry.now.length entry.now.fin entry.now.acked entry.now.done entry.now.reads.now) }
@@ -94,7 +94,7 @@ fn put_log(entry: &LogLine<'_>, line: &mut LineOut) -> Result<(), NoMemory>
     line.push(b'\n')
 }
 
-/// Whether a connection is over, and the lengths of its reads.
+/// Appends whether a connection is over, and the lengths of its reads.
 #[tactic(auto, using(crate::proofs::LineLemmas::line_rules))]
 fn put_standing(entry: &LogLine<'_>, line: &mut LineOut) -> Result<(), NoMemory>
     ensures ok { OnOk result (line.new.words
@@ -106,7 +106,7 @@ fn put_standing(entry: &LogLine<'_>, line: &mut LineOut) -> Result<(), NoMemory>
     put_list(entry.reads, line)
 }
 
-/// How much of a connection is logged, and how much of its output is acknowledged.
+/// Appends how much of a connection is logged, and how much of its output is acknowledged.
 #[tactic(auto, using(crate::proofs::LineLemmas::line_rules))]
 fn put_counts(entry: &LogLine<'_>, line: &mut LineOut) -> Result<(), NoMemory>
     ensures ok { OnOk result (line.new.words
@@ -119,7 +119,7 @@ fn put_counts(entry: &LogLine<'_>, line: &mut LineOut) -> Result<(), NoMemory>
     put_field(b" acked ", u64::from(entry.acked), line)
 }
 
-/// Writes the last line, with the number of events. After `NoMemory` `out` is as it was.
+/// Writes the last line, with the number of events. After `NoMemory` `out` is unchanged.
 pub fn write_end(alloc: Global, n: u32, out: &mut Vec<u8>) -> Result<(), NoMemory>
     ensures ok { OnOk result (out.new.items ≡ out.old.items ++ end_line n) }
     ensures err { OnErr result (out.new.items ≡ out.old.items) }

@@ -1,4 +1,4 @@
-//! How reading ends without a schedule.
+//! Why a schedule isn't read.
 
 ghost use Rattle.std.specs.Prelude.{◌≡◌};
 ghost use Rattle.schedule_text.specs.declared.end.LineEnd.TheVariants.{NoMemory, Refused};
@@ -7,13 +7,13 @@ use ft_io::NoMemory;
 use ft_model::{Limit, LineWhy};
 use thiserror::Error;
 
-/// Why a text gave no schedule.
+/// Why a text isn't read as a schedule.
 #[derive(Clone, Copy, Debug, PartialEq, Eq, Error)]
 pub enum ScheduleEnd {
     /// An allocation failed.
     #[error("no memory")]
     NoMemory,
-    /// The first line that is refused, counted from 1, and why.
+    /// The first line that is refused, counted from 1, and the reason.
     #[error("line {line} is refused")]
     BadLine { line: u32, why: LineWhy },
     /// The text exceeds a limit.
@@ -21,7 +21,7 @@ pub enum ScheduleEnd {
     TooLong { what: Limit },
 }
 
-/// Why a line gave nothing.
+/// Why a line isn't read.
 #[derive(Clone, Copy, Debug, PartialEq, Eq)]
 pub(crate) enum LineEnd {
     NoMemory,

@@ -1,4 +1,4 @@
-//! The lines of events, from the words after the first: their count is tested first, and then each number in order.
+//! The lines of events, read from the words after the first. The number of words is tested first, and then each number in order.
 
 ghost use Rattle.std.specs.Prelude.{◌≡◌, ◌-◌, ◌^◌, ◌≤◌, ℕ, List, [], ◌∷◌, IfOk, MatchResult};
 ghost use Rattle.ft_model.specs.Words.{words_of};
@@ -9,7 +9,7 @@ use crate::spelling::read_number;
 use crate::words::next_word;
 use ft_model::{Event, LineWhy, Verb};
 
-/// The next word and what follows it.
+/// Returns the next word and what follows it. Without a word, the reason is `Count`.
 pub(crate) fn word_of(words: &[u8]) -> Result<(&[u8], &[u8]), LineWhy>
     ensures { MatchResult result (λ w. words_of words.now ≡ w.0.now ∷ words_of w.1.now) (λ e. (words_of words.now ≡ []) × (e ≡ LineWhy.Count)) }
 {
@@ -58,14 +58,14 @@ pub(crate) fn read_client_number(word: &[u8]) -> Result<u8, LineWhy>
     Ok(number_in(word, 1, 16)? as u8)
 }
 
-/// One of two loggers: 1 is the head, 2 the tail.
+/// Reads one of two loggers: 1 is the head, 2 the tail.
 fn read_part(word: &[u8]) -> Result<u8, LineWhy>
     ensures { result ≡ part_number word.now }
 {
     Ok(number_in(word, 1, 2)? as u8)
 }
 
-/// After how many reads a mark is due.
+/// Reads after how many reads a mark is due.
 pub(crate) fn read_every(word: &[u8]) -> Result<u32, LineWhy>
     ensures { result ≡ every_number word.now }
 {
@@ -171,7 +171,7 @@ fn read_stop(words: &[u8]) -> Result<Event, LineWhy>
     Ok(Event::Stop { part })
 }
 
-/// Reads an event's line, from the words after its first.
+/// Reads an event's line from the words after its first.
 pub(crate) fn read_event(verb: Verb, words: &[u8]) -> Result<Event, LineWhy>
     ensures { result ≡ event_line verb (words_of words.now) }
 {

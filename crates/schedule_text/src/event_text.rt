@@ -10,7 +10,7 @@ use ft_io::NoMemory;
 use ft_model::Event;
 use std::alloc::Global;
 
-/// Writes the line of event `n`: its number and what happens, as a schedule spells it. After `NoMemory` `out` is as it was.
+/// Writes the line of event `n`: its number, and the event as a schedule spells it. After `NoMemory` `out` is unchanged.
 pub fn write_event(alloc: Global, n: u32, e: &Event, out: &mut Vec<u8>) -> Result<(), NoMemory>
     ensures ok { OnOk result (out.new.items ≡ out.old.items ++ event_line n e.now) }
     ensures err { OnErr result (out.new.items ≡ out.old.items) }
@@ -31,7 +31,7 @@ fn put_event_line(n: u32, e: &Event, line: &mut LineOut) -> Result<(), NoMemory>
     line.push(b'\n')
 }
 
-/// The words of an event, each after a space.
+/// Appends the words of an event, each after a space.
 #[tactic(auto, using(crate::proofs::LineLemmas::line_rules))]
 fn put_event(e: &Event, line: &mut LineOut) -> Result<(), NoMemory>
     ensures ok { OnOk result (line.new.words ≡ line.old.words ++ spaced (event_words e.now)) }
@@ -65,7 +65,7 @@ fn put_event(e: &Event, line: &mut LineOut) -> Result<(), NoMemory>
     }
 }
 
-/// An event's word with its spaces, and its two numbers.
+/// Appends an event's word with its spaces, and its two numbers.
 #[tactic(auto, using(std::proofs::Common::append_assoc))]
 fn put_two(word: &[u8], first: u64, second: u64, line: &mut LineOut) -> Result<(), NoMemory>
     ensures ok { OnOk result (line.new.words ≡ line.old.words ++ (word.now ++ (decimal first ++ 32 ∷ decimal second))) }

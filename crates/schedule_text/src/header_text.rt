@@ -1,4 +1,4 @@
-//! The header of a report: the schedule's lines before its events.
+//! The header of a report: the report's first line, and the schedule's lines before its events.
 
 ghost use Rattle.std.specs.Prelude.{◌≡◌, ◌+◌, ◌++◌, ◌∷◌, ◌==◌, if◌then◌else◌, codes, length, OnOk, OnErr};
 ghost use Rattle.hex.specs.Hex.{encode_lower};
@@ -11,7 +11,7 @@ use ft_io::{Addr, NoMemory};
 use ft_model::{ClientLine, Schedule, Script, ServiceKind};
 use std::alloc::Global;
 
-/// Writes the report's name and version and the schedule's lines before its events. After `NoMemory` `out` is as it was.
+/// Writes the report's name and version, and the schedule's lines before its events. After `NoMemory` `out` is unchanged.
 pub fn write_header(alloc: Global, s: &Schedule, out: &mut Vec<u8>) -> Result<(), NoMemory>
     ensures ok { OnOk result (out.new.items ≡ out.old.items ++ header s.now) }
     ensures err { OnErr result (out.new.items ≡ out.old.items) }
@@ -32,7 +32,7 @@ fn put_header(s: &Schedule, line: &mut LineOut) -> Result<(), NoMemory>
     put_rest(s.twin, s.marks, s.clients.as_slice(), line)
 }
 
-/// The end of the service's line, and the server's line.
+/// Appends the end of the service's line, and the server's line.
 #[tactic(auto, using(crate::proofs::LineLemmas::line_rules))]
 fn put_server(server: Addr, line: &mut LineOut) -> Result<(), NoMemory>
     ensures ok { OnOk result (line.new.words ≡ line.old.words ++ (codes "\nserver " ++ (address_text server.ip server.port ++ codes "\n"))) }
@@ -43,7 +43,7 @@ fn put_server(server: Addr, line: &mut LineOut) -> Result<(), NoMemory>
     line.push(b'\n')
 }
 
-/// The lines behind the server's.
+/// Appends the lines after the server's.
 #[tactic(auto, using(std::proofs::Common::append_assoc))]
 fn put_rest(
     twin: bool,
@@ -59,7 +59,7 @@ fn put_rest(
     put_clients(clients, line)
 }
 
-/// The line that says that there are two loggers.
+/// Appends the line that says that there are two loggers, if there are.
 fn put_twin(twin: bool, line: &mut LineOut) -> Result<(), NoMemory>
     ensures ok { OnOk result (line.new.words ≡ line.old.words ++ twin_line twin) }
     ensures before { line.new.before ≡ line.old.before }
@@ -70,7 +70,7 @@ fn put_twin(twin: bool, line: &mut LineOut) -> Result<(), NoMemory>
     Ok(())
 }
 
-/// The line that says that the server marks the log, and after how many reads.
+/// Appends the line that says after how many reads the server makes a mark, if it makes marks.
 #[tactic(auto, using(crate::proofs::LineLemmas::line_rules))]
 fn put_marks(marks: Option<u32>, line: &mut LineOut) -> Result<(), NoMemory>
     ensures ok { OnOk result (line.new.words ≡ line.old.words ++ marks_line marks) }
@@ -84,7 +84,7 @@ fn put_marks(marks: Option<u32>, line: &mut LineOut) -> Result<(), NoMemory>
     Ok(())
 }
 
-/// The name of a service.
+/// Returns the name of a service.
 #[tactic(auto, unfolding(ft_model::specs::Texts::service_text))]
 fn service_word(kind: ServiceKind) -> &'static [u8]
     ensures { result.now ≡ service_text kind }
@@ -97,7 +97,7 @@ fn service_word(kind: ServiceKind) -> &'static [u8]
     }
 }
 
-/// The lines of the clients, numbered from 1.
+/// Appends the lines of the clients, numbered from 1.
 #[tactic(auto, using(std::proofs::Common::append_assoc))]
 fn put_clients(clients: &[ClientLine], line: &mut LineOut) -> Result<(), NoMemory>
     ensures ok { OnOk result (line.new.words ≡ line.old.words ++ schedule_lines 1 clients.now) }
@@ -109,7 +109,7 @@ fn put_clients(clients: &[ClientLine], line: &mut LineOut) -> Result<(), NoMemor
     Ok(())
 }
 
-/// The line of client `n`.
+/// Appends the line of client `n`.
 #[tactic(auto, using(crate::proofs::LineLemmas::line_rules), unfolding(ft_model::specs::Report::schedule_line))]
 fn put_client(n: u64, client: &ClientLine, line: &mut LineOut) -> Result<(), NoMemory>
     ensures ok { OnOk result (line.new.words ≡ line.old.words ++ schedule_line n client.now) }
@@ -123,7 +123,7 @@ fn put_client(n: u64, client: &ClientLine, line: &mut LineOut) -> Result<(), NoM
     line.push(b'\n')
 }
 
-/// A space, and what a client has to say.
+/// Appends a space, and the script of a client.
 #[tactic(auto, using(std::proofs::Common::append_assoc), unfolding(ft_model::specs::Texts::script_text))]
 fn put_script(script: &Script, line: &mut LineOut) -> Result<(), NoMemory>
     ensures ok { OnOk result (line.new.words ≡ line.old.words ++ 32 ∷ script_text script.now) }
@@ -138,7 +138,7 @@ fn put_script(script: &Script, line: &mut LineOut) -> Result<(), NoMemory>
     }
 }
 
-/// A space, and the bytes of a script: `-` for none, otherwise their hexadecimal after `hex:`.
+/// Appends a space, and the bytes of a script: `-` for none, otherwise their hexadecimal after `hex:`.
 #[tactic(auto, using(std::proofs::Common::append_assoc))]
 fn put_bytes(bytes: &[u8], line: &mut LineOut) -> Result<(), NoMemory>
     ensures ok { OnOk result (line.new.words ≡ line.old.words ++ 32 ∷ (if length bytes.now == 0 then codes "-" else codes "hex:" ++ encode_lower bytes.now)) }

@@ -1,4 +1,4 @@
-//! One line of a schedule: its tests in their order, and what it says. The order is that of `LineWhy`.
+//! One line of a schedule: its tests in their order, which is that of `LineWhy`, and its meaning.
 
 ghost use Rattle.std.specs.Prelude.{◌≡◌, ◌==◌, ◌&&◌, ◌||◌, ◌<◌, nat_le};
 ghost use Rattle.std.specs.List.{list_any};
@@ -17,7 +17,7 @@ use ft_io::{Addr, Key};
 use ft_model::{ClientLine, Draft, Keyword, Line, LineWhy, Schedule, ServiceKind, Verb};
 use std::alloc::Global;
 
-/// The most clients of a schedule.
+/// The largest number of clients in a schedule.
 const CLIENT_LIMIT: usize = 16;
 
 #[tactic(auto, unfolding(ft_model::specs::Grammar::service_line))]
@@ -38,14 +38,14 @@ fn read_server_line(words: &[u8]) -> Result<Addr, LineWhy>
     read_addr(address).ok_or(LineWhy::Address)
 }
 
-/// Whether a client has this address.
+/// Returns whether a client has this address.
 fn has_address(clients: &[ClientLine], addr: Addr) -> bool
     ensures { result ≡ list_any (λ client. client.key.ip == addr.ip && client.key.port == addr.port) clients.now }
 {
     clients.iter().any(|client| client.key.ip == addr.ip && client.key.port == addr.port)
 }
 
-/// Whether the server or a client has this address.
+/// Returns whether the server or a client has this address.
 #[tactic(auto, unfolding(ft_model::specs::Grammar::is_taken))]
 fn takes_address(draft: &Draft, addr: Addr) -> bool
     ensures { result ≡ is_taken draft.now addr }
@@ -101,7 +101,7 @@ fn read_twin_line(words: &[u8]) -> Result<Line, LineWhy>
     Ok(Line::Twin)
 }
 
-/// Reads the line that says that the server marks the log, and after how many reads.
+/// Reads the line that says after how many reads the server makes a mark.
 #[tactic(auto, unfolding(ft_model::specs::Grammar::marks_line))]
 fn read_marks_line(words: &[u8]) -> Result<u32, LineWhy>
     ensures { result ≡ marks_line (words_of words.now) }
@@ -111,7 +111,7 @@ fn read_marks_line(words: &[u8]) -> Result<u32, LineWhy>
     read_every(every)
 }
 
-/// Reads what a line says, from the words after its keyword.
+/// Reads the meaning of a line, from the words after its keyword.
 fn read_words(alloc: Global, draft: &Draft, keyword: Keyword, words: &[u8]) -> Result<Line, LineEnd>
     ensures { GivesLine result (line_from draft.now keyword (words_of words.now)) }
 {
@@ -125,7 +125,7 @@ fn read_words(alloc: Global, draft: &Draft, keyword: Keyword, words: &[u8]) -> R
     }
 }
 
-/// The event that a word announces.
+/// Returns the event that a word introduces.
 #[tactic(auto, unfolding(ft_model::specs::Grammar::verb_of))]
 fn read_verb(word: &[u8]) -> Option<Verb>
     ensures { result ≡ verb_of word.now }
@@ -157,7 +157,7 @@ fn read_verb(word: &[u8]) -> Option<Verb>
     }
 }
 
-/// What a word announces.
+/// Returns the kind of line that a word introduces.
 #[tactic(auto, unfolding(ft_model::specs::Grammar::keyword_of))]
 fn read_keyword(word: &[u8]) -> Option<Keyword>
     ensures { result ≡ keyword_of word.now }
@@ -177,7 +177,7 @@ fn read_keyword(word: &[u8]) -> Option<Keyword>
     }
 }
 
-/// Whether a service line has a name that no service has.
+/// Returns whether a service line has a name that no service has.
 #[tactic(auto, unfolding(ft_model::specs::Grammar::names_no_service))]
 fn has_unknown_name(keyword: Keyword, words: &[u8]) -> bool
     ensures { result ≡ names_no_service keyword (words_of words.now) }
@@ -191,7 +191,7 @@ fn has_unknown_name(keyword: Keyword, words: &[u8]) -> bool
     }
 }
 
-/// Whether the line's number is the next one, or left to a later test.
+/// Returns whether the line's number is the next one, or is left to a later test.
 #[tactic(auto, unfolding(ft_model::specs::Grammar::has_next_number, ft_model::specs::Grammar::is_next))]
 fn fits_number(count: usize, words: &[u8]) -> bool
     ensures { result ≡ has_next_number count (words_of words.now) }
@@ -205,7 +205,7 @@ fn fits_number(count: usize, words: &[u8]) -> bool
     }
 }
 
-/// Whether another client line may follow these lines.
+/// Returns whether another client line may follow these lines.
 #[tactic(auto, unfolding(ft_model::specs::Grammar::may_join))]
 fn takes_client(schedule: &Schedule, words: &[u8]) -> bool
     ensures { result ≡ may_join schedule.now (words_of words.now) }
@@ -220,7 +220,7 @@ fn takes_client(schedule: &Schedule, words: &[u8]) -> bool
     fits_number(count, words)
 }
 
-/// Whether it may still be said that there are two loggers, or that the server marks the log: nothing follows the server's line yet.
+/// Returns whether a line for two loggers or for marks may follow: nothing follows the server's line yet.
 #[tactic(auto, unfolding(ft_model::specs::Grammar::has_only_server))]
 fn ends_with_server(schedule: &Schedule) -> bool
     ensures { result ≡ has_only_server schedule.now }
@@ -251,7 +251,7 @@ fn takes_line(draft: &Draft, keyword: Keyword, words: &[u8]) -> bool
     }
 }
 
-/// Reads a line from the words after its keyword: the name of a service, the place, and what the line says.
+/// Reads a line from the words after its keyword: the name of a service, the line's place, and its meaning.
 #[tactic(auto, unfolding(ft_model::specs::Grammar::line_behind))]
 fn read_behind(
     alloc: Global,
@@ -283,7 +283,7 @@ fn is_plain_text(text: &[u8]) -> bool
     text.iter().all(|byte| is_plain(*byte))
 }
 
-/// Reads a line that follows the lines read so far, by its tests in their order.
+/// Reads a line that follows the lines read so far, with its tests in their order.
 #[tactic(auto, unfolding(ft_model::specs::Grammar::line_of))]
 pub(crate) fn read_line(alloc: Global, draft: &Draft, text: &[u8]) -> Result<Line, LineEnd>
     ensures { GivesLine result (line_of draft.now text.now) }
@@ -300,7 +300,7 @@ pub(crate) fn read_line(alloc: Global, draft: &Draft, text: &[u8]) -> Result<Lin
     read_behind(alloc, draft, keyword, words)
 }
 
-/// Whether the first word is an event's.
+/// Returns whether the first word is an event's.
 pub(crate) fn begins_with_event(text: &[u8]) -> bool
     ensures { result ≡ begins_event (words_of text.now) }
 {

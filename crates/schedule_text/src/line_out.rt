@@ -1,4 +1,4 @@
-//! A line that is being appended to a text. It is written there at once, and cut off again where an allocation fails.
+//! A line that is being appended to a text. It is written to the text at once, and cut off again where an allocation fails.
 
 ghost use Rattle.std.specs.Prelude.{◌≡◌, ◌∷◌, [], ◌++◌, length, OnOk, OnErr};
 
@@ -7,7 +7,7 @@ use std::alloc::Global;
 use std::marker::Model;
 use std::mem;
 
-/// A text, and after its first `start` bytes what is written of the line.
+/// A text, and after its first `start` bytes the part of the line written so far.
 #[derive(Drop)]
 pub(crate) struct LineOut {
     bytes: Vec<u8>,
@@ -27,7 +27,7 @@ impl Model for LineOut {
 
 #[tactic(auto, using(crate::proofs::LineLemmas::line_grows))]
 impl LineOut {
-    /// Begins a line at the end of a text, which is taken out of `out` meanwhile.
+    /// Begins a line at the end of a text, which is moved out of `out` until `close`.
     #[inline]
     pub(crate) fn open(alloc: Global, out: &mut Vec<u8>) -> LineOut
         ensures before { result.before ≡ out.old.items }
@@ -38,7 +38,7 @@ impl LineOut {
         LineOut { bytes, start }
     }
 
-    /// Returns the text: with the line, or without what there is of it where an allocation failed.
+    /// Puts the text back into `out`: with the line, or, where an allocation failed, without any of it.
     #[inline]
     pub(crate) fn close(
         self,
@@ -57,7 +57,7 @@ impl LineOut {
         written
     }
 
-    /// How many bytes of the line are written.
+    /// Returns how many bytes of the line are written.
     #[inline]
     pub(crate) fn len(&self) -> usize
         ensures { result ≡ length self.now.words }

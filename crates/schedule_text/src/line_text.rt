@@ -1,4 +1,4 @@
-//! The words of a report's line, appended one by one: each value in its one spelling. After `NoMemory` what was appended to is to be dropped.
+//! The words of a report's line, appended one by one: each value in its one spelling. After `NoMemory` the line must be dropped.
 
 ghost use Rattle.std.specs.Prelude.{◌≡◌, ◌<◌, ◌≤◌, ◌∷◌, [], ◌++◌, codes, decimal, length, take, drop, OnOk};
 ghost use Rattle.hex.specs.Hex.{encode_lower};
@@ -13,7 +13,7 @@ use itoa::Buffer;
 /// How many bytes are turned into hexadecimal at a time.
 const HEX_BYTES: usize = 64;
 
-/// A number in decimal, with nothing before it.
+/// Appends a number in decimal, with nothing before it.
 #[inline]
 #[tactic(auto, using(std::proofs::lemmas::Fmt::decimal_digit))]
 pub(crate) fn put_digits(n: u64, line: &mut LineOut) -> Result<(), NoMemory>
@@ -28,7 +28,7 @@ pub(crate) fn put_digits(n: u64, line: &mut LineOut) -> Result<(), NoMemory>
     line.append(buffer.format(n).as_bytes())
 }
 
-/// A space and a word.
+/// Appends a space and a word.
 #[inline]
 pub(crate) fn put_word(word: &[u8], line: &mut LineOut) -> Result<(), NoMemory>
     ensures ok { OnOk result (line.new.words ≡ line.old.words ++ 32 ∷ word.now) }
@@ -38,7 +38,7 @@ pub(crate) fn put_word(word: &[u8], line: &mut LineOut) -> Result<(), NoMemory>
     line.append(word)
 }
 
-/// A space and a number.
+/// Appends a space and a number.
 #[inline]
 pub(crate) fn put_number(n: u64, line: &mut LineOut) -> Result<(), NoMemory>
     ensures ok { OnOk result (line.new.words ≡ line.old.words ++ 32 ∷ decimal n) }
@@ -48,7 +48,7 @@ pub(crate) fn put_number(n: u64, line: &mut LineOut) -> Result<(), NoMemory>
     put_digits(n, line)
 }
 
-/// A field's name with its spaces, and its number.
+/// Appends a field's name with its spaces, and then its number.
 #[inline]
 pub(crate) fn put_field(name: &[u8], n: u64, line: &mut LineOut) -> Result<(), NoMemory>
     ensures ok { OnOk result (line.new.words ≡ line.old.words ++ (name.now ++ decimal n)) }
@@ -58,7 +58,7 @@ pub(crate) fn put_field(name: &[u8], n: u64, line: &mut LineOut) -> Result<(), N
     put_digits(n, line)
 }
 
-/// A field's name with its spaces, and 1 or 0.
+/// Appends a field's name with its spaces, and then 1 or 0.
 #[inline]
 #[tactic(auto, using(std::proofs::Common::append_assoc), unfolding(ft_model::specs::Texts::bit_text))]
 pub(crate) fn put_bit(name: &[u8], bit: bool, line: &mut LineOut) -> Result<(), NoMemory>
@@ -69,7 +69,7 @@ pub(crate) fn put_bit(name: &[u8], bit: bool, line: &mut LineOut) -> Result<(), 
     line.push(if bit { b'1' } else { b'0' })
 }
 
-/// A dash, where nothing follows the first `start` bytes.
+/// Appends a dash if nothing follows the first `start` bytes.
 #[inline]
 #[tactic(auto, using(crate::proofs::Dashes::dash_for_none, crate::proofs::Dashes::itself_for_some))]
 pub(crate) fn put_dash(start: usize, line: &mut LineOut) -> Result<(), NoMemory>
@@ -83,7 +83,7 @@ pub(crate) fn put_dash(start: usize, line: &mut LineOut) -> Result<(), NoMemory>
     Ok(())
 }
 
-/// A space, and bytes in hexadecimal.
+/// Appends a space, and bytes in hexadecimal.
 #[tactic(auto, using(crate::proofs::Dashes::seams), unfolding(ft_model::specs::Texts::hex_text))]
 pub(crate) fn put_hex(bytes: &[u8], line: &mut LineOut) -> Result<(), NoMemory>
     ensures ok { OnOk result (line.new.words ≡ line.old.words ++ 32 ∷ hex_text bytes.now) }
@@ -95,7 +95,7 @@ pub(crate) fn put_hex(bytes: &[u8], line: &mut LineOut) -> Result<(), NoMemory>
     put_dash(start, line)
 }
 
-/// Bytes in hexadecimal, with nothing before them.
+/// Appends bytes in hexadecimal, with nothing before them.
 #[tactic(auto, using(crate::proofs::Hex::part_written, crate::proofs::Hex::all_written))]
 pub(crate) fn put_hex_digits(bytes: &[u8], line: &mut LineOut) -> Result<(), NoMemory>
     ensures ok { OnOk result (line.new.words ≡ line.old.words ++ encode_lower bytes.now) }
@@ -115,7 +115,7 @@ pub(crate) fn put_hex_digits(bytes: &[u8], line: &mut LineOut) -> Result<(), NoM
     Ok(())
 }
 
-/// A space, and numbers joined by commas.
+/// Appends a space, and numbers joined by commas.
 #[tactic(auto, using(crate::proofs::Lengths::no_numbers, crate::proofs::Lengths::numbers_cons, std::proofs::Common::append_assoc))]
 pub(crate) fn put_list(numbers: &[u16], line: &mut LineOut) -> Result<(), NoMemory>
     ensures ok { OnOk result (line.new.words ≡ line.old.words ++ 32 ∷ list_text numbers.now) }
@@ -128,7 +128,7 @@ pub(crate) fn put_list(numbers: &[u16], line: &mut LineOut) -> Result<(), NoMemo
     put_others(others, line)
 }
 
-/// Numbers in decimal, each after a comma.
+/// Appends numbers in decimal, each after a comma.
 #[tactic(auto, using(std::proofs::Common::append_assoc))]
 fn put_others(numbers: &[u16], line: &mut LineOut) -> Result<(), NoMemory>
     ensures ok { OnOk result (line.new.words ≡ line.old.words ++ behind_commas numbers.now) }
@@ -141,7 +141,7 @@ fn put_others(numbers: &[u16], line: &mut LineOut) -> Result<(), NoMemory>
     Ok(())
 }
 
-/// A space, and an IPv4 address with a port.
+/// Appends a space, and an IPv4 address with a port.
 #[tactic(auto, using(std::proofs::Common::append_assoc), unfolding(ft_model::specs::Texts::address_text))]
 pub(crate) fn put_address(ip: u32, port: u16, line: &mut LineOut) -> Result<(), NoMemory>
     ensures ok { OnOk result (line.new.words ≡ line.old.words ++ 32 ∷ address_text ip port) }
@@ -155,7 +155,7 @@ pub(crate) fn put_address(ip: u32, port: u16, line: &mut LineOut) -> Result<(), 
     put_digits(u64::from(port), line)
 }
 
-/// A number, and a mark after it.
+/// Appends a number, and a mark after it.
 #[inline]
 #[tactic(auto, using(std::proofs::Common::append_assoc))]
 fn put_part(n: u32, mark: u8, line: &mut LineOut) -> Result<(), NoMemory>
@@ -166,7 +166,7 @@ fn put_part(n: u32, mark: u8, line: &mut LineOut) -> Result<(), NoMemory>
     line.push(mark)
 }
 
-/// A space, and the letters of the flags that are set.
+/// Appends a space, and the letters of the flags that are set.
 #[tactic(auto, using(crate::proofs::Dashes::seams), unfolding(ft_model::specs::Texts::flags_text))]
 pub(crate) fn put_flags(flags: u8, line: &mut LineOut) -> Result<(), NoMemory>
     ensures ok { OnOk result (line.new.words ≡ line.old.words ++ 32 ∷ flags_text flags) }
@@ -178,7 +178,7 @@ pub(crate) fn put_flags(flags: u8, line: &mut LineOut) -> Result<(), NoMemory>
     put_dash(start, line)
 }
 
-/// The letters of the flags that are set.
+/// Appends the letters of the flags that are set.
 #[tactic(auto, using(std::proofs::Common::append_assoc))]
 fn put_letters(flags: u8, line: &mut LineOut) -> Result<(), NoMemory>
     ensures ok { OnOk result (line.new.words ≡ line.old.words ++ flag_letters flags) }
@@ -194,7 +194,7 @@ fn put_letters(flags: u8, line: &mut LineOut) -> Result<(), NoMemory>
     put_letter(flags, 0x01, b'F', line)
 }
 
-/// A flag's letter, where the flag is set.
+/// Appends a flag's letter if the flag is set.
 #[inline]
 fn put_letter(flags: u8, flag: u8, letter: u8, line: &mut LineOut) -> Result<(), NoMemory>
     requires { 0 < flag }
@@ -207,7 +207,7 @@ fn put_letter(flags: u8, flag: u8, letter: u8, line: &mut LineOut) -> Result<(),
     Ok(())
 }
 
-/// The name of the MSS option and its value, each after a space.
+/// Appends the name of the MSS option and its value, each after a space.
 #[inline]
 #[tactic(auto, using(std::proofs::Common::append_assoc), unfolding(ft_model::specs::Texts::mss_text))]
 pub(crate) fn put_mss(mss: Option<u16>, line: &mut LineOut) -> Result<(), NoMemory>
@@ -220,7 +220,7 @@ pub(crate) fn put_mss(mss: Option<u16>, line: &mut LineOut) -> Result<(), NoMemo
     }
 }
 
-/// A space, and a packet's direction.
+/// Appends a space, and a packet's direction.
 #[inline]
 #[tactic(auto, using(std::proofs::Common::append_assoc), unfolding(ft_model::specs::Texts::way_text))]
 pub(crate) fn put_way(way: Way, line: &mut LineOut) -> Result<(), NoMemory>

@@ -1,4 +1,4 @@
-//! The words of a message about marks: its name, its boot number, then its fields by name, in the order in which it holds them.
+//! The words of a message about marks: its name, its boot number, and then its fields by name, in the order of the message.
 
 ghost use Rattle.std.specs.Prelude.{◌≡◌, ◌++◌, OnOk};
 ghost use Rattle.ft_model.specs.Texts.{spaced};
@@ -11,7 +11,7 @@ use crate::message_text::put_key;
 use checkpoint::{MarkBody, MarkMsg};
 use ft_io::{Key, NoMemory};
 
-/// A message about marks: its name, its boot number, then the fields of its body.
+/// Appends a message about marks: its name, its boot number, then the fields of its body.
 #[tactic(auto, using(crate::proofs::LineLemmas::line_rules), unfolding(mark_reports::specs::MarkedReport::mark_words))]
 pub(crate) fn put_mark_message(msg: &MarkMsg<'_>, line: &mut LineOut) -> Result<(), NoMemory>
     ensures ok { OnOk result (line.new.words ≡ line.old.words ++ spaced (mark_words (message_of msg.now))) }
@@ -22,7 +22,7 @@ pub(crate) fn put_mark_message(msg: &MarkMsg<'_>, line: &mut LineOut) -> Result<
     put_fields(&msg.body, line)
 }
 
-/// The name of a kind of message.
+/// Returns the name of a kind of message.
 fn name(body: &MarkBody<'_>) -> &'static [u8]
     ensures { result.now ≡ name_of_mark (body_of body.now) }
 {
@@ -34,7 +34,7 @@ fn name(body: &MarkBody<'_>) -> &'static [u8]
     }
 }
 
-/// The fields of a body.
+/// Appends the fields of a body.
 #[tactic(auto, using(crate::proofs::LineLemmas::line_rules))]
 fn put_fields(body: &MarkBody<'_>, line: &mut LineOut) -> Result<(), NoMemory>
     ensures ok { OnOk result (line.new.words ≡ line.old.words ++ spaced (fields_of_mark (body_of body.now))) }
@@ -63,7 +63,7 @@ fn put_fields(body: &MarkBody<'_>, line: &mut LineOut) -> Result<(), NoMemory>
     }
 }
 
-/// A mark of a connection: its numbers, and the form of its state.
+/// Appends a mark of a connection: its numbers, and the form of its state.
 #[tactic(auto, using(crate::proofs::LineLemmas::line_rules))]
 fn put_mark(
     key: Key,

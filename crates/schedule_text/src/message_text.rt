@@ -1,4 +1,4 @@
-//! The words of a message: its name, its boot number, then its fields by name, in the order in which it holds them.
+//! The words of a message: its name, its boot number, and then its fields by name, in the order of the message.
 
 ghost use Rattle.std.specs.Prelude.{◌≡◌, ◌+◌, ◌*◌, ◌++◌, ◌∷◌, [], codes, decimal, map, OnOk};
 ghost use Rattle.std.specs.List.{join_with_byte};
@@ -12,7 +12,7 @@ use crate::line_text::{put_address, put_bit, put_dash, put_digits, put_field, pu
 use ft_io::{Key, NoMemory};
 use logger_wire::{Body, Msg};
 
-/// A message: its name, its boot number, then the fields of its body.
+/// Appends a message: its name, its boot number, then the fields of its body.
 #[tactic(auto, using(crate::proofs::LineLemmas::line_rules), unfolding(ft_model::specs::Report::message_words))]
 pub(crate) fn put_message(msg: &Msg<'_>, line: &mut LineOut) -> Result<(), NoMemory>
     ensures ok { OnOk result (line.new.words ≡ line.old.words ++ spaced (message_words (message_of msg.now))) }
@@ -23,7 +23,7 @@ pub(crate) fn put_message(msg: &Msg<'_>, line: &mut LineOut) -> Result<(), NoMem
     put_fields(&msg.body, line)
 }
 
-/// The name of a kind of message.
+/// Returns the name of a kind of message.
 fn name(body: &Body<'_>) -> &'static [u8]
     ensures { result.now ≡ name_of (body_of body.now) }
 {
@@ -49,7 +49,7 @@ fn name(body: &Body<'_>) -> &'static [u8]
     }
 }
 
-/// The fields of a body.
+/// Appends the fields of a body.
 #[tactic(auto, using(crate::proofs::LineLemmas::line_rules))]
 fn put_fields(body: &Body<'_>, line: &mut LineOut) -> Result<(), NoMemory>
     ensures ok { OnOk result (line.new.words ≡ line.old.words ++ spaced (field_words (body_of body.now))) }
@@ -119,7 +119,7 @@ fn put_fields(body: &Body<'_>, line: &mut LineOut) -> Result<(), NoMemory>
     }
 }
 
-/// A connection's key.
+/// Appends a connection's key.
 #[tactic(auto, using(crate::proofs::LineLemmas::line_rules))]
 pub(crate) fn put_key(key: Key, line: &mut LineOut) -> Result<(), NoMemory>
     ensures ok { OnOk result (line.new.words ≡ line.old.words ++ spaced (key_words key)) }
@@ -129,7 +129,7 @@ pub(crate) fn put_key(key: Key, line: &mut LineOut) -> Result<(), NoMemory>
     put_address(key.ip, key.port, line)
 }
 
-/// A key, and a place in what is logged of it.
+/// Appends a key, and a place in what is logged of its connection.
 #[tactic(auto, using(crate::proofs::LineLemmas::line_rules))]
 fn put_place(key: Key, name: &[u8], place: u32, line: &mut LineOut) -> Result<(), NoMemory>
     ensures ok { OnOk result (line.new.words ≡ line.old.words ++ (spaced (key_words key) ++ (name.now ++ decimal place))) }
@@ -139,7 +139,7 @@ fn put_place(key: Key, name: &[u8], place: u32, line: &mut LineOut) -> Result<()
     put_field(name, u64::from(place), line)
 }
 
-/// The numbers of a connection.
+/// Appends the numbers of a connection: its key, both initial sequence numbers and its MSS.
 #[tactic(auto, using(crate::proofs::LineLemmas::line_rules))]
 fn put_numbers(key: Key, cisn: u32, sisn: u32, mss: u16, line: &mut LineOut) -> Result<(), NoMemory>
     ensures ok { OnOk result (line.new.words ≡ line.old.words ++ spaced (numbers_words (record { key = key; cisn = cisn; sisn = sisn; mss = mss }))) }
@@ -151,7 +151,7 @@ fn put_numbers(key: Key, cisn: u32, sisn: u32, mss: u16, line: &mut LineOut) -> 
     put_field(b" mss ", u64::from(mss), line)
 }
 
-/// How much of a connection is logged.
+/// Appends how much of a connection is logged.
 #[tactic(auto, using(crate::proofs::LineLemmas::line_rules))]
 fn put_kept(key: Key, length: u32, fin: u8, reads: u32, line: &mut LineOut) -> Result<(), NoMemory>
     ensures ok { OnOk result (line.new.words ≡ line.old.words ++ spaced (kept_words (record { key = key; length = length; fin = is_set fin; reads = reads }))) }
@@ -163,7 +163,7 @@ fn put_kept(key: Key, length: u32, fin: u8, reads: u32, line: &mut LineOut) -> R
     put_field(b" reads ", u64::from(reads), line)
 }
 
-/// The state of a logged connection, after how many bytes it has.
+/// Appends the state of a logged connection, which follows the number of its bytes.
 #[tactic(auto, using(crate::proofs::LineLemmas::line_rules))]
 fn put_standing(
     fin: u8,
@@ -183,7 +183,7 @@ fn put_standing(
     put_field(b" acked ", u64::from(acked), line)
 }
 
-/// Logged bytes.
+/// Appends logged bytes.
 #[tactic(auto, using(crate::proofs::LineLemmas::line_rules))]
 fn put_part(key: Key, offset: u32, bytes: &[u8], line: &mut LineOut) -> Result<(), NoMemory>
     ensures ok { OnOk result (line.new.words
@@ -195,7 +195,7 @@ fn put_part(key: Key, offset: u32, bytes: &[u8], line: &mut LineOut) -> Result<(
     put_hex(bytes, line)
 }
 
-/// Bytes to be logged.
+/// Appends bytes to be logged.
 #[tactic(auto, using(crate::proofs::LineLemmas::line_rules))]
 fn put_data(
     key: Key,
@@ -221,7 +221,7 @@ fn put_data(
     put_hex(bytes, line)
 }
 
-/// The length of a read.
+/// Appends the length of a read.
 #[tactic(auto, using(crate::proofs::LineLemmas::line_rules))]
 fn put_read(key: Key, index: u32, length: u16, line: &mut LineOut) -> Result<(), NoMemory>
     ensures ok { OnOk result (line.new.words ≡ line.old.words ++ spaced (read_words key index length)) }
@@ -231,7 +231,7 @@ fn put_read(key: Key, index: u32, length: u16, line: &mut LineOut) -> Result<(),
     put_field(b" length ", u64::from(length), line)
 }
 
-/// Logged lengths of reads.
+/// Appends the logged lengths of reads.
 #[tactic(auto, using(crate::proofs::LineLemmas::line_rules))]
 fn put_lens(key: Key, first: u32, lens: &[u8], line: &mut LineOut) -> Result<(), NoMemory>
     ensures ok { OnOk result (line.new.words
@@ -243,7 +243,7 @@ fn put_lens(key: Key, first: u32, lens: &[u8], line: &mut LineOut) -> Result<(),
     put_lengths(lens, line)
 }
 
-/// A space, and lengths of two bytes each, joined by commas.
+/// Appends a space, and lengths of two bytes each, joined by commas.
 #[tactic(auto, using(crate::proofs::Dashes::seams), unfolding(ft_model::specs::Texts::list_text))]
 fn put_lengths(lens: &[u8], line: &mut LineOut) -> Result<(), NoMemory>
     ensures ok { OnOk result (line.new.words ≡ line.old.words ++ 32 ∷ list_text (lens_in lens.now)) }
@@ -255,7 +255,7 @@ fn put_lengths(lens: &[u8], line: &mut LineOut) -> Result<(), NoMemory>
     put_dash(start, line)
 }
 
-/// Lengths of two bytes each, joined by commas, with nothing before them.
+/// Appends lengths of two bytes each, joined by commas, with nothing before them.
 #[tactic(auto, using(crate::proofs::Lengths::nothing_joined, ft_model::proofs::ReportParts::joined_behind, std::proofs::Common::append_assoc))]
 fn put_joined(lens: &[u8], line: &mut LineOut) -> Result<(), NoMemory>
     ensures ok { OnOk result (line.new.words ≡ line.old.words ++ join_with_byte 44 (map decimal (lens_in lens.now))) }
@@ -268,7 +268,7 @@ fn put_joined(lens: &[u8], line: &mut LineOut) -> Result<(), NoMemory>
     put_others(others, line)
 }
 
-/// Lengths of two bytes each, each after a comma.
+/// Appends lengths of two bytes each, each after a comma.
 #[tactic(auto, using(std::proofs::Common::append_assoc))]
 fn put_others(lens: &[u8], line: &mut LineOut) -> Result<(), NoMemory>
     ensures ok { OnOk result (line.new.words ≡ line.old.words ++ behind_commas (lens_in lens.now)) }
@@ -283,7 +283,7 @@ fn put_others(lens: &[u8], line: &mut LineOut) -> Result<(), NoMemory>
     Ok(())
 }
 
-/// A length from its two bytes.
+/// Returns a length from its two bytes.
 fn length_of(high: u8, low: u8) -> u64
     ensures { result ≡ 256 * high + low }
 {

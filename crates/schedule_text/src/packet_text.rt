@@ -1,4 +1,4 @@
-//! The line of a packet: a segment, a message, which may be about marks, or a datagram between two loggers, with its fields by name.
+//! The line of a packet, with its fields by name. The packet is a segment, a message, which may be about marks, or a datagram between two loggers.
 
 ghost use Rattle.std.specs.Prelude.{◌≡◌, ◌++◌, ◌∷◌, ◌↔◌, codes, decimal, [], IsTrue, OnOk, OnErr, IsSome, IfSome};
 ghost use Rattle.seq_arith.specs.MarkGrammar.{reading as mark_reading};
@@ -22,7 +22,7 @@ use seq_arith::Head;
 use std::alloc::Global;
 use twin_wire::{TwinMsg, read_twin};
 
-/// Whether bytes are a packet of this direction: one that the codec of its kind accepts.
+/// Returns whether bytes are a packet of this direction: whether the codec of its kind accepts them.
 pub fn is_packet(way: Way, bytes: &[u8]) -> bool
     ensures { IsTrue result ↔ IsSome (content_in way bytes.now) }
 {
@@ -33,14 +33,14 @@ pub fn is_packet(way: Way, bytes: &[u8]) -> bool
     }
 }
 
-/// Whether bytes are a message between a server and its logger, or one about marks.
+/// Returns whether bytes are a message between a server and its logger, or one about marks.
 fn is_logged(bytes: &[u8]) -> bool
     ensures { IsTrue result ↔ IsSome (logged_words (message_reading bytes.now) (mark_reading bytes.now)) }
 {
     read_msg(bytes).is_ok() || read_mark(bytes).is_ok()
 }
 
-/// Whether bytes are a datagram that one of two loggers sends the other.
+/// Returns whether bytes are a datagram that one of two loggers sends the other.
 fn is_told(bytes: &[u8]) -> bool
     ensures { IsTrue result ↔ IsSome (told_words (reading bytes.now)) }
 {
@@ -51,8 +51,8 @@ fn is_told(bytes: &[u8]) -> bool
     }
 }
 
-/// Writes the line of packet `n` of the run: its number, its direction and its content. The bytes are a packet of that direction. After `NoMemory` `out` is as
-/// it was.
+/// Writes the line of packet `n` of the run: its number, its direction and its content. The bytes are a packet of that direction. After `NoMemory` `out` is
+/// unchanged.
 pub fn write_packet_line(
     alloc: Global,
     n: u32,
@@ -80,7 +80,7 @@ fn put_packet_line(n: u32, way: Way, bytes: &[u8], line: &mut LineOut) -> Result
     line.push(b'\n')
 }
 
-/// What comes before a packet's content.
+/// Appends the part of the line before the packet's content.
 #[tactic(auto, using(crate::proofs::LineLemmas::line_rules))]
 fn put_start(n: u32, way: Way, line: &mut LineOut) -> Result<(), NoMemory>
     ensures ok { OnOk result (line.new.words ≡ line.old.words ++ (codes "packet" ++ spaced (decimal n ∷ way_text way ∷ []))) }
@@ -91,7 +91,7 @@ fn put_start(n: u32, way: Way, line: &mut LineOut) -> Result<(), NoMemory>
     put_way(way, line)
 }
 
-/// The words of the packet that bytes spell, each after a space.
+/// Appends the words of the packet that bytes spell, each after a space.
 #[tactic(auto, unfolding(ft_model::specs::Report::content_words))]
 fn put_bytes(way: Way, bytes: &[u8], line: &mut LineOut) -> Result<(), NoMemory>
     requires { IsSome (content_in way bytes.now) }
@@ -108,7 +108,7 @@ fn put_bytes(way: Way, bytes: &[u8], line: &mut LineOut) -> Result<(), NoMemory>
     }
 }
 
-/// What a server and its logger say: a message, or one about marks.
+/// Appends the words of a message between server and logger, or of one about marks.
 fn put_logged(bytes: &[u8], line: &mut LineOut) -> Result<(), NoMemory>
     requires { IsSome (logged_words (message_reading bytes.now) (mark_reading bytes.now)) }
     ensures ok { OnOk result (IfSome (logged_words (message_reading bytes.now) (mark_reading bytes.now)) (λ words. line.new.words
@@ -124,7 +124,7 @@ fn put_logged(bytes: &[u8], line: &mut LineOut) -> Result<(), NoMemory>
     put_mark_message(&msg, line)
 }
 
-/// What one of two loggers tells the other: a message with its number, or the number alone.
+/// Appends the words of a datagram between two loggers: a message with its number, or the number alone.
 #[tactic(auto, using(crate::proofs::LineLemmas::line_rules), unfolding(ft_model::specs::Report::forward_words, ft_model::specs::Report::got_words))]
 fn put_told(bytes: &[u8], line: &mut LineOut) -> Result<(), NoMemory>
     requires { IsSome (told_words (reading bytes.now)) }
@@ -144,7 +144,7 @@ fn put_told(bytes: &[u8], line: &mut LineOut) -> Result<(), NoMemory>
     }
 }
 
-/// A segment: its flags, then its other fields.
+/// Appends a segment: its flags, then its other fields.
 #[tactic(auto, using(crate::proofs::LineLemmas::line_rules))]
 fn put_segment(head: &Head, payload: &[u8], line: &mut LineOut) -> Result<(), NoMemory>
     ensures ok { OnOk result (line.new.words ≡ line.old.words ++ spaced (segment_words (record { head = said head.now; payload = payload.now }))) }

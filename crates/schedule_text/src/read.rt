@@ -1,4 +1,4 @@
-//! Reading a complete text, line after line.
+//! Reading a complete text, line by line.
 
 ghost use Rattle.std.specs.Prelude.{◌≡◌, IfOk, length};
 ghost use Rattle.ft_model.specs.Grammar.{with_line, no_objection, is_comment, is_passed_over, is_full, is_too_much, after_line, schedule_of, read_text};
@@ -11,10 +11,10 @@ use ft_io::NoMemory;
 use ft_model::{ClientLines, Draft, Events, Limit, Line, LineWhy, Schedule};
 use std::alloc::Global;
 
-/// The most bytes of a text.
+/// The largest size of a text, in bytes.
 const TEXT_LIMIT: usize = 8_388_608;
 
-/// The most event lines of a text.
+/// The largest number of event lines in a text.
 const EVENT_LIMIT: usize = 100_000;
 
 fn starts_comment(text: &[u8]) -> bool
@@ -26,7 +26,7 @@ fn starts_comment(text: &[u8]) -> bool
     }
 }
 
-/// Whether a line is a comment or has no word.
+/// Returns whether a line is a comment or blank.
 #[tactic(auto, unfolding(ft_model::specs::Grammar::is_passed_over))]
 fn says_nothing(text: &[u8]) -> bool
     ensures { result ≡ is_passed_over text.now }
@@ -37,7 +37,7 @@ fn says_nothing(text: &[u8]) -> bool
     next_word(text).is_none()
 }
 
-/// Whether no further event may follow.
+/// Returns whether a schedule already has as many events as it may.
 fn has_all_events(draft: &Draft) -> bool
     ensures { result ≡ is_full draft.now }
 {
@@ -119,7 +119,7 @@ fn take_line(alloc: Global, number: u32, draft: Draft, text: &[u8]) -> Result<Dr
     }
 }
 
-/// The schedule at the end of a text, whose next line would be `number`.
+/// Returns the schedule at the end of a text whose next line would be `number`.
 fn finish(number: u32, draft: Draft) -> Result<Schedule, ScheduleEnd>
     ensures { Gives result (schedule_of number draft) }
 {
@@ -132,8 +132,8 @@ fn finish(number: u32, draft: Draft) -> Result<Schedule, ScheduleEnd>
     }
 }
 
-/// Reads a schedule from its text. Unless an allocation fails, it returns the schedule that the text spells; or the first line that is refused and why; or the
-/// limit that is exceeded.
+/// Reads a schedule from its text. Returns the schedule that the text spells. The error is the first line that is refused, with the reason, or the limit
+/// that is exceeded, or `NoMemory` where an allocation fails.
 #[tactic(auto, using(crate::proofs::LineByLine::goes_on, crate::proofs::LineByLine::stops, crate::proofs::LineByLine::ends), unfolding(ft_model::specs::Grammar::read_with))]
 pub fn read_schedule(alloc: Global, text: &[u8]) -> Result<Schedule, ScheduleEnd>
     ensures { Gives result (read_text text.now) }

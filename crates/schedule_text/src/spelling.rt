@@ -1,4 +1,4 @@
-//! The words of a schedule: numbers, addresses, services and scripts, each read only by its spelling.
+//! The words of a schedule: numbers, addresses, services and scripts. Each is accepted only in its spelling.
 
 ghost use Rattle.std.specs.Prelude.{◌≡◌, ◌+◌, ◌*◌, ◌%◌, ◌<◌, ◌≤◌, ◌^◌, true, length, option_map, IsTrue, IfOk, IfSome};
 ghost use Rattle.std.specs.List.{list_all};
@@ -12,13 +12,13 @@ use ft_io::{Addr, NoMemory, Octets};
 use ft_model::{Script, ServiceKind};
 use std::alloc::Global;
 
-/// The most digits of a number.
+/// The largest number of digits in a number.
 pub(crate) const NUMBER_DIGITS: usize = 20;
 
-/// The most digits of a number in an address.
+/// The largest number of digits in a number of an address.
 const ADDRESS_DIGITS: usize = 5;
 
-/// The most bytes of a script.
+/// The largest size of a script, in bytes.
 const SCRIPT_LIMIT: usize = 1 << 24;
 
 fn is_digit(byte: u8) -> bool
@@ -33,7 +33,7 @@ fn all_digits(word: &[u8]) -> bool
     word.iter().all(|byte| is_digit(*byte))
 }
 
-/// The number that digits spell.
+/// Returns the number that digits spell.
 fn value_of(word: &[u8]) -> u128
     requires digits { list_all is_ascii_digit word.now ≡ true }
     requires short { length word.now ≤ 20 }
@@ -46,7 +46,7 @@ fn value_of(word: &[u8]) -> u128
     value
 }
 
-/// The number that one to `digits` decimal digits spell.
+/// Reads the number that one to `digits` decimal digits spell.
 #[tactic(auto, unfolding(ft_model::specs::Spelling::numeral))]
 pub(crate) fn read_numeral(digits: usize, word: &[u8]) -> Option<u128>
     requires { digits ≤ 20 }
@@ -155,7 +155,7 @@ fn all_hex_digits(digits: &[u8]) -> bool
     digits.iter().all(|byte| is_hex_byte(*byte))
 }
 
-/// Whether these are pairs of hexadecimal digits, as many as a script may have.
+/// Returns whether these are pairs of hexadecimal digits, and no more of them than a script may have.
 #[tactic(auto, unfolding(ft_model::specs::Spelling::is_hex))]
 fn is_hex_text(digits: &[u8]) -> bool
     ensures value { result ≡ is_hex digits.now }
@@ -171,7 +171,7 @@ fn is_hex_text(digits: &[u8]) -> bool
     2 <= digits.len() && digits.len() <= 2 * SCRIPT_LIMIT
 }
 
-/// The bytes that pairs of hexadecimal digits spell.
+/// Returns the bytes that pairs of hexadecimal digits spell.
 #[tactic(auto, using(crate::proofs::Hex::digits_read))]
 fn bytes_of_hex(alloc: Global, digits: &[u8]) -> Result<Vec<u8>, NoMemory>
     requires digits { list_all is_ascii_hexdigit digits.now ≡ true }

@@ -1,17 +1,17 @@
-//! Lines and words: each is cut off the beginning of what is left. So a text is passed over once, and a line as often as it has tests.
+//! Lines and words, each cut off the beginning of the remaining text. So a text is scanned once, and a line once for each of its tests.
 
 ghost use Rattle.std.specs.Prelude.{◌≡◌, ℕ, List, ◌<◌, ◌≤◌, not, [], ◌∷◌, length, IfSome, MatchOption};
 ghost use Rattle.std.specs.List.{position, position_or_len, slice_split};
 ghost use Rattle.ft_model.specs.Words.{is, lines_of, words_of};
 
-/// The first place of a byte.
+/// Returns the index of the first occurrence of a byte.
 fn find(bytes: &[u8], mark: u8) -> Option<usize>
     ensures { result ≡ position (is mark) bytes.now }
 {
     bytes.iter().position(|byte| *byte == mark)
 }
 
-/// The first place of a byte, or the length where there is none.
+/// Returns the index of the first occurrence of a byte, or the length if there is none.
 #[tactic(auto, using(crate::proofs::Pieces::position_or_length))]
 fn position_of(bytes: &[u8], mark: u8) -> usize
     ensures value { result ≡ position_or_len (is mark) bytes.now }
@@ -20,7 +20,7 @@ fn position_of(bytes: &[u8], mark: u8) -> usize
     find(bytes, mark).unwrap_or(bytes.len())
 }
 
-/// The piece before a mark and what follows the mark, or nothing where there is no mark.
+/// Returns the piece before the first `mark` and what follows the mark, or `None` if there is no mark.
 #[tactic(auto, using(crate::proofs::Pieces::slice_split_whole, crate::proofs::Pieces::slice_split_at_mark, std::proofs::lemmas::List::take_rest))]
 pub(crate) fn next_piece(bytes: &[u8], mark: u8) -> Option<(&[u8], &[u8])>
     ensures pieces { MatchOption result (slice_split (is mark) bytes.now ≡ bytes.now ∷ [])
@@ -34,7 +34,7 @@ pub(crate) fn next_piece(bytes: &[u8], mark: u8) -> Option<(&[u8], &[u8])>
     Some((&bytes[..end], &bytes[end + 1..]))
 }
 
-/// All bytes, if there is no mark among them.
+/// Returns all bytes, if there is no mark among them.
 #[tactic(auto, using(crate::proofs::Pieces::two_pieces))]
 pub(crate) fn last_piece(bytes: &[u8], mark: u8) -> Option<&[u8]>
     ensures { MatchOption result
@@ -47,7 +47,7 @@ pub(crate) fn last_piece(bytes: &[u8], mark: u8) -> Option<&[u8]>
     }
 }
 
-/// The first line of a text, without its line feed, and the lines after it.
+/// Returns the first line of a text, without its line feed, and the lines after it.
 #[tactic(auto, using(crate::proofs::Pieces::lines_of_first, crate::proofs::Pieces::lines_of_last))]
 pub(crate) fn next_line(text: &[u8]) -> (&[u8], &[u8])
     requires { 0 < length text.now }
@@ -60,14 +60,14 @@ pub(crate) fn next_line(text: &[u8]) -> (&[u8], &[u8])
     }
 }
 
-/// The place of the first byte that is no space.
+/// Returns the index of the first byte that isn't a space.
 fn find_word(line: &[u8]) -> Option<usize>
     ensures { result ≡ position (λ byte. not (is 32 byte)) line.now }
 {
     line.iter().position(|byte| *byte != b' ')
 }
 
-/// The first word of a line and what follows it, or nothing where the line has no word.
+/// Returns the first word of a line and what follows it, or `None` if the line has no word.
 #[tactic(auto, using(crate::proofs::Pieces::words_of_none, crate::proofs::Pieces::words_of_some, std::proofs::lemmas::List::take_rest))]
 pub(crate) fn next_word(line: &[u8]) -> Option<(&[u8], &[u8])>
     ensures { MatchOption result (words_of line.now ≡ []) (λ w. words_of line.now ≡ w.0.now ∷ words_of w.1.now) }

@@ -1,4 +1,4 @@
--- What a generator draws from a state. The state after the draw is the one that it steps to.
+-- What a generator draws from a state. The state after the draw is its successor.
 use Rattle.std.specs.Prelude.{ℕ}
 use Rattle.seq_arith.specs.Generator.{stepped, drawn}
 

@@ -1,4 +1,4 @@
--- The schedule that a seed makes: its clients, and events drawn one after another, each in the world after those before it.
+-- The schedule generated from a seed: its clients, and events drawn one after another, each in the world after those before it.
 use Rattle.std.specs.Prelude.{◌≡◌, ℕ, false, None, zero, suc, ◌+◌, ◌*◌, List, [], ◌∷◌, ◌++◌}
 use Rattle.ft_io.specs.declared.Addr.{Addr}
 use Rattle.ft_model.specs.Legal.{start_of}
@@ -16,7 +16,7 @@ use Rattle.seed_run.specs.Events.{next_event_in}
 abbrev pub server_address : Addr
 server_address = record { ip = 3221226084; port = 7 }
 
--- client i has the address 192.0.2.i:40000, a number that is drawn, and 1000 * i letters to send
+-- client i has the address 192.0.2.i:40000, a drawn initial sequence number, and 1000 * i letters to send
 abbrev pub client_line : ℕ → ℕ → ClientLine
 client_line state i = record { key = record { ip = 3221225984 + i; port = 40000 }; isn = draw state; script = Fill (1000 * i) }
 
@@ -25,7 +25,7 @@ abbrev pub after_draws : ℕ → ℕ → ℕ
 after_draws state zero = state
 after_draws state (suc count) = stepped (after_draws state count)
 
--- `count` clients, numbered from 1, each with a draw of its own
+-- `count` clients, numbered from 1, each with its own draw
 abbrev pub client_lines : ℕ → ℕ → List ClientLine
 client_lines state zero = []
 client_lines state (suc count) = client_lines state count ++ client_line (after_draws state count) (count + 1) ∷ []
@@ -37,7 +37,7 @@ schedule_of seed clients events = record { service = Echo; server = server_addre
 abbrev pub start_for : (seed clients : ℕ) → World
 start_for seed clients = start_of (schedule_of seed clients [])
 
--- the generator's state after a trace
+-- the generator's state after the draws for a trace
 abbrev pub state_behind : ℕ → World → List Moment → ℕ
 state_behind state start [] = state
 state_behind state start (moment ∷ earlier) = (next_event_in (state_behind state start earlier) (world_after start earlier)).state

@@ -22,25 +22,25 @@ start_of_run asked = start_for asked.seed asked.clients
 abbrev pub packets_of_run : Asked → List Moment → ℕ
 packets_of_run asked trace = length (world_after (start_of_run asked) trace).packets
 
--- a trace of the first events of the schedule that the generator makes: each of them is the one that is drawn, and is allowed
+-- a trace of the first events of the generated schedule: each of them is the one drawn, and is allowed
 pub record IsGenerated (asked : Asked) (trace : List Moment) : Type 0 where
   pub legal : Legal any_machine (schedule_of asked.seed asked.clients (events_of trace)) trace
   pub drawn : AreDrawn (after_draws asked.seed asked.clients) (start_of_run asked) trace
 
--- all events that were asked for are played, safely and within the limit of packets
+-- all requested events are played, safely and within the limit of packets
 pub record IsRun (asked : Asked) (trace : List Moment) : Type 0 where
   pub generated : IsGenerated asked trace
   pub safe : IsSafe (any_machine 1) (start_of_run asked) trace
   pub count : length trace ≡ asked.events
   pub within : packets_of_run asked trace ≤ 200000
 
--- a text is the summary of such a run
+-- a text is the summary of a complete run
 pub record IsSummary (asked : Asked) (text : List ℕ) : Type 0 where
   pub trace : List Moment
   pub run : IsRun asked trace
   pub text_is : text ≡ summary asked.seed (start_of_run asked) trace
 
--- the summary of such a run is written ..
+-- the summary of a complete run is written ..
 pub record IsSummarized (asked : Asked) (old new : Option (List ℕ)) : Type 0 where
   pub text : List ℕ
   pub is_summary : IsSummary asked text
@@ -52,7 +52,7 @@ pub record IsSummarizedInPart (asked : Asked) (old new : Option (List ℕ)) : Ty
   pub is_summary : IsSummary asked text
   pub written : AppendsFront old new text
 
--- one of the events that were asked for exceeds the limit of packets, and those before it don't
+-- one of the requested events exceeds the limit of packets, and those before it don't
 pub record IsPastLimit (asked : Asked) : Type 0 where
   pub moment : Moment
   pub earlier : List Moment
@@ -61,7 +61,7 @@ pub record IsPastLimit (asked : Asked) : Type 0 where
   pub within : packets_of_run asked earlier ≤ 200000
   pub over : 200000 < packets_of_run asked (moment ∷ earlier)
 
--- what was done where a run ends early: unless writing the summary failed, nothing is written
+-- what was written by a run that ends early: nothing, unless writing the summary failed
 abbrev pub EndsRun : Asked → (old new : Option (List ℕ)) → SeedEnd → Type 0
 EndsRun asked old new Usage = ⊥
 EndsRun asked old new NoMemory = new ≡ old

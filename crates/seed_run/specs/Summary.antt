@@ -1,4 +1,4 @@
--- The summary of a generated run: what was asked for and what came of it, then the state of each client.
+-- The summary of a generated run: what was asked for, the counts of the run, and then the state of each client.
 use Rattle.std.specs.Prelude.{ℕ, ◌+◌, codes, List, [], ◌∷◌, ◌++◌, length, Bool, true, false}
 use Rattle.std.specs.Fmt.{decimal}
 use Rattle.seq_arith.specs.Offset.{one_if}
@@ -34,7 +34,7 @@ is_crash (Ack client window) = false
 is_crash (Reset client) = false
 is_crash (Stop part) = false
 
--- how many moments of a trace have such an event
+-- how many events of this kind a trace has
 abbrev pub count_events : (Event → Bool) → List Moment → ℕ
 count_events is [] = 0
 count_events is (moment ∷ earlier) = count_events is earlier + one_if (is moment.event)
@@ -44,7 +44,7 @@ first_line seed clients events packets boots crashes =
     codes "seed " ++ decimal seed ++ codes " clients " ++ decimal clients ++ codes " events " ++ decimal events ++ codes " packets " ++ decimal packets
     ++ codes " boots " ++ decimal boots ++ codes " crashes " ++ decimal crashes ++ 10 ∷ []
 
--- a client's number and phase, and how many of its script's bytes it has got back
+-- a client's number and phase, and how many bytes of its script it has received back
 unfoldable pub client_result : ℕ → Client → List ℕ
 client_result n client =
     codes "client " ++ decimal n ++ codes " " ++ phase_text client.phase ++ codes " accepted " ++ decimal (length client.accepted)
@@ -55,7 +55,7 @@ abbrev pub client_results : ℕ → List Client → List ℕ
 client_results n [] = []
 client_results n (client ∷ others) = client_result n client ++ client_results (n + 1) others
 
--- of a trace from a start
+-- the summary of a trace from a start
 abbrev pub summary : ℕ → World → List Moment → List ℕ
 summary seed start trace =
     first_line seed (length start.clients) (length trace) (length (world_after start trace).packets) (count_events is_boot trace) (count_events is_crash trace)

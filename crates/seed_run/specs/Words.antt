@@ -1,10 +1,10 @@
--- What the words of a generated run ask for.
+-- What the arguments of a generated run ask for.
 use Rattle.std.specs.Prelude.{ℕ, Option, None, Some, List, [], ◌∷◌, codes, if◌then◌else◌}
 use Rattle.std.specs.Str.{bytes_eq}
 use Rattle.ft_model.specs.Spelling.{number_of}
 use Rattle.seed_run.specs.declared.asked.Asked.{Asked}
 
--- three numbers, if they are there
+-- three numbers, if all are given
 abbrev pub asked_of : (seed clients events : Option ℕ) → Option Asked
 asked_of (Some seed) (Some clients) (Some events) = Some (record { seed = seed; clients = clients; events = events })
 asked_of _ _ _ = None

@@ -1,4 +1,4 @@
-//! The words of a generated run.
+//! The arguments of a generated run.
 
 ghost use Rattle.std.specs.Prelude.{◌≡◌, ◌≤◌, map, string_bytes, IfSome};
 ghost use Rattle.seed_run.specs.Words.{asked as asked_lem};
@@ -8,7 +8,7 @@ use schedule_text::read_number;
 /// What a generated run is asked for.
 #[derive(Clone, Copy, Debug, PartialEq, Eq)]
 pub struct Asked {
-    /// The generator's first state.
+    /// The initial state of the generator.
     pub seed: u64,
     /// How many clients there are, 1 to 16.
     pub clients: u8,
@@ -17,7 +17,7 @@ pub struct Asked {
 }
 
 impl Asked {
-    /// What the words ask for: `seed SEED CLIENTS EVENTS`. `None` if they have another form, or a number is outside its spelling or its range.
+    /// Reads the arguments `seed SEED CLIENTS EVENTS`. Returns `None` if they have another form, or a number is misspelled or out of range.
     pub fn from_words(words: &[String]) -> Option<Asked>
         ensures value { result ≡ asked_lem (map string_bytes words.now) }
         ensures clients { IfSome result (λ asked. (1 ≤ asked.clients) × (asked.clients ≤ 16)) }

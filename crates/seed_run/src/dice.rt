@@ -1,4 +1,4 @@
-//! Drawing events: pseudorandom numbers, and the event that they decide.
+//! Drawing events: pseudorandom numbers, and the events that they select.
 
 ghost use Rattle.std.specs.Prelude.{◌≡◌, ℕ, ◌*◌, ◌<◌, ◌^◌, Some, option_copied, length};
 ghost use Rattle.ft_model.specs.Client.{Client as Seen};
@@ -15,21 +15,21 @@ use seq_arith::Generator;
 /// The window that a client advertises.
 const WINDOW: u16 = 65_535;
 
-/// The most bytes of a drawn text.
+/// The largest size of a drawn text, in bytes.
 const TEXT: u32 = 536;
 
-/// How many bytes each client sends more than the one before it.
+/// How many more bytes each client sends than the one before it.
 pub(crate) const STEP: u32 = 1_000;
 
 /// The server's state, as far as a drawn event depends on it.
 #[derive(Clone, Copy, Debug, PartialEq, Eq)]
 pub struct ServerNow {
     pub is_up: bool,
-    /// How many times it has booted, which is the number of its last boot.
+    /// How many times it has booted, which is also its last boot number.
     pub boots: u64,
 }
 
-/// What decides the next event: a generator, from which numbers are drawn.
+/// The generator from which the numbers for the next event are drawn.
 #[derive(Clone, Copy, Debug)]
 pub struct Dice {
     pub draws: Generator,
@@ -40,7 +40,7 @@ impl Dice {
     ghost use Rattle.seed_run.specs.Events.{progress as progress_lem, acknowledgement as acknowledgement_lem, client_event as client_lem};
     ghost use Rattle.seed_run.specs.Events.{next_event as next_lem};
 
-    /// A number of 31 bits.
+    /// Draws a number of 31 bits.
     fn draw(&mut self) -> u32
         ensures value { result ≡ draw_lem self.old.draws.state }
         ensures state { self.new.draws.state ≡ stepped self.old.draws.state }
@@ -49,7 +49,7 @@ impl Dice {
         self.draws.draw()
     }
 
-    /// A tick of the server's clock. A server that is down starts, with the next boot number.
+    /// Returns a tick of the server's clock. If the server is down, it returns a boot with the next boot number.
     pub fn server_event(&mut self, server: ServerNow) -> Event
         requires { server.boots < 2 ^ 32 }
         ensures { record { event = result; state = self.new.draws.state } ≡ server_lem self.old.draws.state server }
@@ -64,7 +64,7 @@ impl Dice {
         }
     }
 
-    /// The same, but a server that is up crashes once in 64 times.
+    /// Returns the same, but once in 64 times a crash if the server is up.
     fn risky_event(&mut self, server: ServerNow) -> Event
         requires { server.boots < 2 ^ 32 }
         ensures { record { event = result; state = self.new.draws.state } ≡ risky_lem self.old.draws.state server }
@@ -79,7 +79,7 @@ impl Dice {
         }
     }
 
-    /// The delivery of one of the last 64 packets.
+    /// Returns a delivery of one of the last 64 packets.
     fn delivery(&mut self, packets: u32) -> Event
         requires { 0 < packets }
         ensures { record { event = result; state = self.new.draws.state } ≡ delivery_lem self.old.draws.state packets }
@@ -90,7 +90,7 @@ impl Dice {
         }
     }
 
-    /// Text of a client whose script has `total` bytes, some of which aren't acknowledged.
+    /// Returns an event in which a client sends text. Its script has `total` bytes, some of which aren't acknowledged.
     fn text_event(&mut self, number: u8, client: &Client, total: u32) -> Event
         requires total { total ≡ length client.now.script }
         requires left { client.now.acknowledged < total }
@@ -106,7 +106,7 @@ impl Dice {
         }
     }
 
-    /// What advances a client: its SYN, its text, its FIN. Where there is nothing to advance, it is an event of the server instead.
+    /// Returns what advances a client: its SYN, its text or its FIN. If there is nothing to advance, it returns an event of the server.
     fn progress(&mut self, number: u8, client: &Client, total: u32, server: ServerNow) -> Event
         requires total { total ≡ length client.now.script }
         requires boots { server.boots < 2 ^ 32 }
@@ -130,7 +130,7 @@ impl Dice {
         }
     }
 
-    /// An open client acknowledges what it has accepted.
+    /// Returns an acknowledgement by an open client of what it has accepted, or an event of the server if the client isn't open.
     fn acknowledgement(&mut self, number: u8, client: &Client, server: ServerNow) -> Event
         requires { server.boots < 2 ^ 32 }
         ensures { record { event = result; state = self.new.draws.state } ≡ acknowledgement_lem self.old.draws.state number client.now server }
@@ -144,7 +144,7 @@ impl Dice {
         }
     }
 
-    /// The event of a client: by two of its four sides of the die it advances, and by all four where it isn't open yet; otherwise it acknowledges.
+    /// Returns the event of a client. Two of its four sides of the die advance it, and all four if it isn't open yet; the others acknowledge.
     fn client_event(
         &mut self,
         die: u32,
@@ -167,7 +167,7 @@ impl Dice {
         }
     }
 
-    /// Draws the next event, in a world with this many packets and clients. Before anything was sent it is the server's.
+    /// Draws the next event, in a world with this many packets and clients. Before anything is sent, it is the server's.
     pub fn next_event(
         &mut self,
         world: &World<AnyService>,

@@ -1,4 +1,4 @@
-//! What holds of every trace that a run plays. Nothing here runs.
+//! Laws of every trace that a run plays. Nothing here runs.
 
 ghost use Rattle.std.specs.Prelude.{ℕ, List};
 ghost use Rattle.ft_model.specs.World.{Joint, Moment, World};
@@ -11,8 +11,8 @@ use ft_model::headline::{
 };
 use sample_servers::AnyService;
 
-/// Of every joint trace crashes can't be seen from outside, no connection that the log keeps is reset, no server is fenced, and the logged lengths cut the
-/// logged bytes.
+/// In every joint trace, crashes can't be seen from outside, no connection that the log keeps is reset, no server is fenced, and the lengths of the logged
+/// reads cut the logged bytes.
 pub fn joint_traces_are_safe()
     ensures { (kind : ℕ) (start : World) (trace : List Moment) → Joint (any_machine kind) start trace → IsSafe (any_machine kind) start trace }
 {

@@ -1,4 +1,4 @@
-//! Runs of generated schedules: clients and events are drawn from a seed, each event given the world's state, and a summary says what the run did.
+//! Runs of generated schedules: clients and events are drawn from a seed, each event given the state of the world. A summary says what the run did.
 #![tactic(auto)]
 
 pub use asked::Asked;

@@ -1,4 +1,4 @@
-//! Playing drawn events: how far a run is, and one event after another.
+//! Playing drawn events: the progress of a run, and one event after another.
 
 ghost use Rattle.std.specs.Prelude.{◌≡◌, ℕ, ◌+◌, ◌*◌, ◌<◌, ◌≤◌, ◌^◌, Some, is_some, length, OnOk, IsErrOf};
 ghost use Rattle.ft_model.specs.Client.{Client as Seen};
@@ -14,11 +14,11 @@ use net_schedule::{StepEnd, StepOut, World};
 use sample_servers::AnyService;
 use std::alloc::Global;
 
-/// How far a run is: the dice, and what was counted of the events that were played.
+/// The progress of a run: the dice, and the counts over the events that were played.
 #[derive(Clone, Copy, Debug)]
 pub(crate) struct Progress {
     pub dice: Dice,
-    /// Packets that were sent.
+    /// Packets sent.
     pub packets: u32,
     /// Boots of the server, and crashes.
     pub boots: u64,
@@ -75,7 +75,7 @@ impl Progress {
         }
     }
 
-    /// Plays event number `n`, counted from 0. It is never refused.
+    /// Plays event number `n`, counted from 0. The event is never refused.
     fn play_event(
         &mut self,
         alloc: Global,
@@ -103,7 +103,7 @@ impl Progress {
         }
     }
 
-    /// Plays all events, from the world in which the schedule starts.
+    /// Plays all events, in the world in which the schedule starts.
     pub fn play(
         &mut self,
         alloc: Global,

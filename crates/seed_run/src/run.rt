@@ -1,4 +1,4 @@
-//! A generated run, from its words to its summary.
+//! A generated run, from its arguments to its summary.
 
 ghost use Rattle.std.specs.Prelude.{◌≡◌, ◌≤◌, ◌<◌, map, string_bytes, None, IfSome, IfOk, IfErr, OnOk, IsErrOf};
 ghost use Rattle.ft_io.specs.Faults.{Rose};
@@ -22,7 +22,7 @@ use std::alloc::Global;
 /// Why a generated run ends without its complete summary.
 #[derive(Clone, Copy, Debug, PartialEq, Eq)]
 pub enum SeedEnd {
-    /// The words are no `seed SEED CLIENTS EVENTS`.
+    /// The arguments aren't `seed SEED CLIENTS EVENTS`.
     Usage,
     NoMemory,
     /// The sink failed. It took a prefix of the summary.
@@ -47,7 +47,7 @@ impl From<Failed> for SeedEnd {
     }
 }
 
-/// Plays the events in the world in which their schedule starts, and gives their summary.
+/// Plays the events in the world in which their schedule starts, and returns the summary.
 fn play_in(
     alloc: Global,
     asked: Asked,
@@ -67,7 +67,7 @@ fn play_in(
     Ok(summarize(alloc, asked, world, progress)?)
 }
 
-/// Plays the events that were asked for, and gives their summary.
+/// Plays the requested events, and returns the summary.
 fn play_asked(alloc: Global, asked: Asked) -> Result<Vec<u8>, SeedEnd>
     requires clients { (0 < asked.clients) × (asked.clients ≤ 16) }
     requires events { asked.events ≤ 20000 }
@@ -83,7 +83,7 @@ fn play_asked(alloc: Global, asked: Asked) -> Result<Vec<u8>, SeedEnd>
     play_in(alloc, asked, &mut progress, &mut world)
 }
 
-/// Plays the schedule that the words make, and writes the summary of the run once it is done.
+/// Plays the schedule generated from the arguments, and then writes the summary of the run.
 pub fn seed<O: Sink>(alloc: Global, words: &[String], out: &mut O) -> Result<(), SeedEnd>
     ensures done { OnOk result (IfSome (asked_lem (map string_bytes words.now)) (λ asked. IsSummarized asked (O.taken out.old) (O.taken out.new))) }
     ensures ends { IfErr result (λ end. IfSome (asked_lem (map string_bytes words.now)) (λ asked. EndsRun asked (O.taken out.old) (O.taken out.new) end)) }

@@ -1,4 +1,4 @@
-//! The schedule with which a generator begins: its service, its server and its clients.
+//! The schedule before its events: its service, its server and its clients.
 
 ghost use Rattle.std.specs.Prelude.{◌≡◌, ◌≤◌, ◌+◌, [], length, IfOk};
 ghost use Rattle.ft_model.specs.Playable.{IsPlayable};
@@ -17,13 +17,13 @@ const SERVER: Addr = Addr {
     port: 7,
 };
 
-/// 192.0.2.0: client i has the ith address after it.
+/// 192.0.2.0: client i has the ith address after this one.
 const NETWORK: u32 = 3_221_225_984;
 
 /// The port of every client.
 const CLIENT_PORT: u16 = 40_000;
 
-/// Client `i` of a schedule, with a number that is drawn.
+/// Returns client `i` of a schedule, with a drawn initial sequence number.
 fn client_line(generator: &mut Generator, i: u8) -> ClientLine
     ensures line { result ≡ client_lem generator.old.state i }
     ensures state { generator.new.state ≡ stepped generator.old.state }
@@ -39,7 +39,7 @@ fn client_line(generator: &mut Generator, i: u8) -> ClientLine
     }
 }
 
-/// `count` clients, numbered from 1.
+/// Returns `count` clients, numbered from 1.
 fn clients_for(alloc: Global, generator: &mut Generator, count: u8) -> Result<ClientLines, NoMemory>
     requires { count ≤ 16 }
     ensures lines { IfOk result (λ lines. lines ≡ client_lines generator.old.state count) }
@@ -52,7 +52,7 @@ fn clients_for(alloc: Global, generator: &mut Generator, count: u8) -> Result<Cl
     Ok(lines)
 }
 
-/// The schedule with which a generated run starts. It has no events yet: each is drawn in the world after those before it.
+/// Returns the schedule with which a generated run starts. It has no events yet: each is drawn in the world after those before it.
 pub(crate) fn schedule_for(
     alloc: Global,
     generator: &mut Generator,

@@ -26,7 +26,7 @@ fn put_field(name: &[u8], n: u64, lines: &mut Vec<u8>) -> Result<(), NoMemory>
     Ok(())
 }
 
-/// Appends what was asked for, and what came of it.
+/// Appends what was asked for, and the counts of the run.
 #[tactic(auto, using(std::proofs::Common::append_assoc), unfolding(crate::specs::Summary::first_line))]
 fn put_first(asked: Asked, progress: &Progress, lines: &mut Vec<u8>) -> Result<(), NoMemory>
     ensures { OnOk result (lines.new.items
@@ -57,7 +57,7 @@ fn put_client(n: u8, client: &Client, total: u32, lines: &mut Vec<u8>) -> Result
     Ok(())
 }
 
-/// The summary of a run that is done.
+/// Returns the summary of a run that is done.
 pub(crate) fn summarize(
     alloc: Global,
     asked: Asked,

@@ -21,7 +21,7 @@ abbrev pub first_of : List (List ℕ) → Option (List ℕ)
 first_of [] = None
 first_of (line ∷ lines) = Some line
 
--- the turns of a trace are read: what the next line does is what it does after them
+-- the turns of a trace are read: the next line has the effect that it has after them
 pub record IsAfter {State : Type 0} (service : ℕ → Machine State) (text : List ℕ) (schedule : Schedule) (trace : List Moment) (rest : List ℕ) (lines : ℕ) : Type 0 where
   pub position : Position
   pub leads : Leads service text position rest lines

@@ -1,4 +1,4 @@
--- How far a text is read: its first lines lead to a position, and what the lines after them do there decides about the text.
+-- How far a text is read: its first lines lead to a position, and the effect of the lines after them there decides about the text.
 use Rattle.std.specs.Prelude.{◌≡◌, ℕ, ◌+◌, ◌≤◌, true, false, List, [], ◌∷◌, length, take, drop}
 use Rattle.server_trait.specs.Service.{Machine}
 use Rattle.ft_model.specs.declared.line.Draft.{Draft}
@@ -13,7 +13,7 @@ use Rattle.report_laws.specs.Verdict.{RejectedFrom, IsRejected}
 use Rattle.trace_check.specs.declared.end.CheckEnd.{CheckEnd}
 use Rattle.trace_check.specs.declared.end.CheckEnd.TheVariants as ends
 
--- where the rest is rejected from this position on, the text is rejected
+-- if the rest is rejected from this position on, the text is rejected
 pub record Leads {State : Type 0} (service : ℕ → Machine State) (text : List ℕ) (position : Position) (rest : List ℕ) (lines : ℕ) : Type 0 where
   pub rejects : (line : ℕ) (law : Law) → RejectedFrom service position (lines_in rest) line law → IsRejected service text (lines + line) law
 
@@ -26,7 +26,7 @@ pub record IsReadTo {State : Type 0} (service : ℕ → Machine State) (text : L
   pub few : lines ≤ at
   pub leads : Leads service text (InHeader draft) (drop at text) lines
 
--- the text is rejected so, unless an allocation failed
+-- the text is rejected for this reason, unless an allocation failed
 abbrev pub IsRejection : {State : Type 0} → (ℕ → Machine State) → List ℕ → CheckEnd → Type 0
 IsRejection service text ends.NoMemory = Unit {0}
 IsRejection service text (ends.Reject line law) = IsRejected service text line law

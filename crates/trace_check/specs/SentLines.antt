@@ -1,4 +1,4 @@
--- The lines of packets that are kept as their bytes.
+-- The lines of packets that are stored as bytes.
 use Rattle.std.specs.Prelude.{ℕ, ◌+◌, Option, Some, None, is_some, List, [], ◌∷◌, ◌++◌, position, IsSome, if◌then◌else◌}
 use Rattle.std.specs.Option.{option_map_or}
 use Rattle.std.specs.List.{AllByRecursion}

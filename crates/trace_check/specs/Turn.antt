@@ -18,7 +18,7 @@ use Rattle.trace_check.specs.Leads.{Leads}
 abbrev pub with_events : Schedule → List Event → Schedule
 with_events schedule events = record schedule { events = events }
 
--- the lines between two places are those of packets, as many as `count`, and lead on in the turn
+-- the lines between two places are those of `count` packets, and lead on in the turn
 pub record TellsPackets {State : Type 0} (service : ℕ → Machine State) (text : List ℕ) (schedule : Schedule) (trace : List Moment) (event : Event) (from at lines count : ℕ) : Type 0 where
   pub sent : List Packet
   pub count_is : length sent ≡ count
@@ -30,25 +30,25 @@ abbrev pub EndsTurn : Schedule → (n : ℕ) → List (List ℕ) → Type 0
 EndsTurn schedule n [] = Unit {0}
 EndsTurn schedule n (line ∷ lines) = (packet : Packet) → IsPacketLine schedule n packet line → ⊥
 
--- between two places the text has what is due, and the next line isn't that of packet n
+-- the text between two places is `due`, and the next line isn't that of packet n
 pub record IsTold (text : List ℕ) (schedule : Schedule) (from end n : ℕ) (due : List ℕ) : Type 0 where
   pub begins : from ≤ end
   pub within : end ≤ length text
   pub told : drop from (take end text) ≡ due
   pub ends : EndsTurn schedule n (lines_in (drop end text))
 
--- .. the lines of all packets of a turn are due, numbered from `first`
+-- .. where `due` is the lines of all packets of a turn, numbered from `first`
 pub record TellsTurn (text : List ℕ) (schedule : Schedule) (from end first : ℕ) (sent : List Packet) : Type 0 where
   pub is : IsTold text schedule from end (first + length sent) (packet_lines (clients_in schedule) first sent)
   pub few : first + length sent ≤ 200001
 
--- the wires after the first ones are those of packets
+-- the wires after the first `before` ones are those of these packets
 pub record AreSent (wires : List Wire) (before : ℕ) (sent : List Packet) : Type 0 where
   pub wires_are : drop before wires ≡ map wire_of sent
   pub count : length wires ≡ before + length sent
   pub have : AllByRecursion HasWire sent
 
--- what is known of a schedule whose header is read
+-- the facts about a schedule whose header is read
 pub record IsChecked (schedule : Schedule) : Type 0 where
   pub few : length schedule.clients ≤ 16
   pub fits : FitsSchedule schedule

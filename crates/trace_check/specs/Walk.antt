@@ -1,4 +1,4 @@
--- How far a walk over a report's turns has come.
+-- How far a walk over a report's turns has got.
 use Rattle.std.specs.Prelude.{◌≡◌, ℕ, ◌+◌, ◌≤◌, List, [], ◌∷◌, length, map, take, drop}
 use Rattle.server_trait.specs.Service.{Machine}
 use Rattle.ft_model.specs.Legal.{start_of}

@@ -1,4 +1,4 @@
-//! A text is checked from its first line to its end.
+//! The check of a text, from its first line to its end.
 
 ghost use Rattle.std.specs.Prelude.{◌≡◌, ◌+◌, ◌≤◌, ◌^◌, List, [], drop, length, IfErr, IfOk};
 ghost use Rattle.ft_model.specs.Legal.{machines};
@@ -23,7 +23,7 @@ use plain_world::PlainWorld;
 use server_trait::Service;
 use std::alloc::Global;
 
-/// What a check counted in the report of a legal trace.
+/// The counts that a check returns for the report of a legal trace.
 #[derive(Clone, Copy, Debug, PartialEq, Eq)]
 pub struct Yes {
     /// The trace's events.
@@ -32,10 +32,10 @@ pub struct Yes {
     pub packets: u32,
 }
 
-/// The bytes of a report's first line.
+/// The length of a report's first line, in bytes.
 const NAME_BYTES: usize = 11;
 
-/// Checks the closing lines of a report whose turns end at a place.
+/// Checks the closing lines of a report whose turns end at this place.
 fn close<S: Service>(
     alloc: Global,
     schedule: &Schedule,
@@ -101,7 +101,7 @@ fn check_after<S: Service>(alloc: Global, header: &Header, text: &[u8]) -> Resul
     check_turns(alloc, &header.schedule, text, start, &mut world)
 }
 
-/// Checks a text: whether it is the report of a legal trace, or at which line it is none.
+/// Checks a text. Returns the counts if it is the report of a legal trace. Otherwise the error is the line at which it is rejected, and the law.
 pub fn check_trace<S: Service>(alloc: Global, text: &[u8]) -> Result<Yes, CheckEnd>
     requires { length text.now ≤ 268435456 }
     ensures legal { IfOk result (λ yes. (r : IsReport (machines S.started S.after) text.now) × (yes.events ≡ length r.trace) × (yes.packets ≡ packet_count r.trace)) }

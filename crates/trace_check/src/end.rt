@@ -1,8 +1,8 @@
-//! Why a text is no report of a legal trace.
+//! Why a text isn't accepted as the report of a legal trace.
 
 use report_laws::Law;
 
-/// Why a check ended without a yes.
+/// Why a check doesn't accept a text.
 #[derive(Clone, Copy, Debug, PartialEq, Eq)]
 pub enum CheckEnd {
     NoMemory,

@@ -21,14 +21,14 @@ use schedule_text::Schedule;
 use server_trait::Service;
 use std::alloc::Global;
 
-/// A header that is read so far.
+/// A header, as far as it is read.
 #[derive(Debug, Drop)]
 pub struct Header {
-    /// What it spells.
+    /// The schedule that it spells.
     pub schedule: Schedule,
-    /// How many bytes of the report it has.
+    /// Its length in bytes.
     pub bytes: usize,
-    /// How many lines.
+    /// Its number of lines.
     pub lines: u32,
 }
 
@@ -38,7 +38,7 @@ fn is_name(line: &[u8]) -> bool
     line == b"ftreplay 1\n".as_slice()
 }
 
-/// The length of a report's first line.
+/// Returns the length of a report's first line.
 #[tactic(auto, using(line_check::proofs::Spelled::same_bytes, crate::proofs::HeaderLines::empty_is_rejected, crate::proofs::HeaderLines::name_is_read, crate::proofs::HeaderLines::name_is_rejected))]
 fn read_name<S: Service>(text: &[u8]) -> Result<usize, CheckEnd>
     ensures ok { IfOk result (λ at. (at ≤ length text.now) × (0 < at) × (take at text.now ≡ codes "ftreplay 1\n") × Leads (machines S.started S.after) text.now (InHeader Empty) (drop at text.now) 1) }
@@ -61,7 +61,7 @@ fn read_name<S: Service>(text: &[u8]) -> Result<usize, CheckEnd>
     }
 }
 
-/// The service of a report's second line, which begins at `at`, and the end of that line.
+/// Reads the service from a report's second line, which begins at `at`. Returns the service and the end of that line.
 #[tactic(auto, using(crate::proofs::HeaderLines::no_service_is_rejected, crate::proofs::HeaderLines::service_is_read, crate::proofs::HeaderLines::service_is_rejected))]
 fn read_service<S: Service>(text: &[u8], at: usize) -> Result<(ServiceKind, usize), CheckEnd>
     requires within { (0 < at) × (at ≤ length text.now) }
@@ -86,7 +86,7 @@ fn read_service<S: Service>(text: &[u8], at: usize) -> Result<(ServiceKind, usiz
     }
 }
 
-/// Reads the header's line from `at` to `end`, after so many lines.
+/// Reads the header's line from `at` to `end`, after `lines` lines.
 #[tactic(auto, using(crate::proofs::HeaderLines::header_line_is_read, crate::proofs::HeaderLines::header_line_is_rejected))]
 fn read_line<S: Service>(
     alloc: Global,
@@ -137,7 +137,7 @@ fn read_server<S: Service>(alloc: Global, text: &[u8]) -> Result<Header, CheckEn
     read_line::<S>(alloc, text, at, end, 2)
 }
 
-/// The end of the next line, if it belongs to the header.
+/// Returns the end of the next line, if it belongs to the header.
 #[tactic(auto, using(crate::proofs::HeaderLines::header_ends_with_text, crate::proofs::HeaderLines::header_ends_before))]
 fn next_line_end(header: &Header, text: &[u8]) -> Option<usize>
     requires { header.now.bytes ≤ length text.now }
@@ -157,8 +157,8 @@ fn next_line_end(header: &Header, text: &[u8]) -> Option<usize>
     }
 }
 
-/// Reads a report's header. What follows it is no line of a header, but an event's or the first of the closing lines. The text is rejected at the first line that
-/// may not follow those before it.
+/// Reads a report's header. The line after it is no line of a header, but an event's or the first of the closing lines. The text is rejected at the first
+/// line that may not follow those before it.
 #[tactic(auto, using(crate::proofs::HeaderLines::header_leads, crate::proofs::HeaderLines::header_size))]
 pub fn read_header<S: Service>(alloc: Global, text: &[u8]) -> Result<Header, CheckEnd>
     requires { length text.now < 2 ^ 32 }

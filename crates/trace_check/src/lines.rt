@@ -10,14 +10,14 @@ ghost use Rattle.report_laws.specs.Transitions.{is_header_line, pieces};
 use itoa::Buffer;
 use schedule_text::Schedule;
 
-/// The first place of a line feed.
+/// Returns the index of the first line feed.
 fn find_feed(text: &[u8]) -> Option<usize>
     ensures { result ≡ position (is 10) text.now }
 {
     text.iter().position(|byte| *byte == b'\n')
 }
 
-/// The first place of a line feed, or the length where there is none.
+/// Returns the index of the first line feed, or the length if there is none.
 #[tactic(auto, using(schedule_text::proofs::Pieces::position_or_length))]
 fn feed_or_end(text: &[u8]) -> usize
     ensures value { result ≡ position_or_len (is 10) text.now }
@@ -26,7 +26,7 @@ fn feed_or_end(text: &[u8]) -> usize
     find_feed(text).unwrap_or(text.len())
 }
 
-/// How many bytes the first line of a text has.
+/// Returns the length of a text's first line, in bytes.
 #[tactic(auto, using(crate::proofs::TextLines::first_line, crate::proofs::TextLines::last_line))]
 pub(crate) fn line_length(text: &[u8]) -> usize
     requires { 0 < length text.now }
@@ -37,7 +37,7 @@ pub(crate) fn line_length(text: &[u8]) -> usize
     if end == text.len() { end } else { end + 1 }
 }
 
-/// The end of the line that begins at `at`.
+/// Returns the end of the line that begins at `at`.
 #[tactic(auto, using(crate::proofs::TextLines::line_from, std::proofs::lemmas::List::take_rest))]
 pub(crate) fn line_end(text: &[u8], at: usize) -> usize
     requires { at < length text.now }
@@ -47,7 +47,7 @@ pub(crate) fn line_end(text: &[u8], at: usize) -> usize
     at + line_length(&text[at..])
 }
 
-/// The bytes from `at` to `end`.
+/// Returns the bytes from `at` to `end`.
 #[tactic(auto, using(std::proofs::lemmas::List::take_rest))]
 pub(crate) fn between(text: &[u8], at: usize, end: usize) -> &[u8]
     requires { (at ≤ end) × (end ≤ length text.now) }
@@ -63,14 +63,14 @@ fn ends_piece(byte: u8) -> bool
     byte == b' ' || byte == b'\n'
 }
 
-/// The first place of a space or a line feed.
+/// Returns the index of the first space or line feed.
 fn find_end(text: &[u8]) -> Option<usize>
     ensures { result ≡ position (λ c. is 32 c || is 10 c) text.now }
 {
     text.iter().position(|byte| ends_piece(*byte))
 }
 
-/// The first place of a space or a line feed, or the length where there is none.
+/// Returns the index of the first space or line feed, or the length if there is none.
 #[tactic(auto, using(schedule_text::proofs::Pieces::position_or_length))]
 fn end_of_piece(text: &[u8]) -> usize
     ensures value { result ≡ position_or_len (λ c. is 32 c || is 10 c) text.now }
@@ -79,7 +79,7 @@ fn end_of_piece(text: &[u8]) -> usize
     find_end(text).unwrap_or(text.len())
 }
 
-/// The first piece of a line and what follows its end, or nothing where it is the only one.
+/// Returns the first piece of a line and what follows its end, or `None` if it is the only one.
 #[tactic(auto, using(schedule_text::proofs::Pieces::slice_split_whole, schedule_text::proofs::Pieces::slice_split_at_mark, std::proofs::lemmas::List::take_rest))]
 fn next_piece(text: &[u8]) -> Option<(&[u8], &[u8])>
     ensures { MatchOption result (pieces text.now ≡ text.now ∷ []) (λ p. pieces text.now ≡ p.0.now ∷ pieces p.1.now) }
@@ -91,7 +91,7 @@ fn next_piece(text: &[u8]) -> Option<(&[u8], &[u8])>
     Some((&text[..end], &text[end + 1..]))
 }
 
-/// The first piece of a line.
+/// Returns the first piece of a line.
 fn first_piece(text: &[u8]) -> &[u8]
     ensures { (more : List (List ℕ)) × (pieces text.now ≡ result.now ∷ more) }
 {
@@ -108,28 +108,28 @@ fn is_number(n: usize, word: &[u8]) -> bool
     word == buffer.format(n).as_bytes()
 }
 
-/// Whether a word begins a line that no report of one logger has.
+/// Returns whether a word begins a line that no report of one logger has.
 fn is_unchecked(word: &[u8]) -> bool
     ensures { result ≡ (bytes_eq word.now (codes "twin") || bytes_eq word.now (codes "marks")) }
 {
     word == b"twin".as_slice() || word == b"marks".as_slice()
 }
 
-/// Whether these pieces begin the line of client `n`.
+/// Returns whether these pieces begin the line of client `n`.
 fn is_client(n: usize, first: &[u8], second: &[u8]) -> bool
     ensures { result ≡ (bytes_eq first.now (codes "client") && bytes_eq second.now (decimal n)) }
 {
     first == b"client".as_slice() && is_number(n, second)
 }
 
-/// Whether these pieces begin a line of a header in which client `n` is the next.
+/// Returns whether these pieces begin a line of a header in which client `n` is the next.
 fn begins_header_line(n: usize, first: &[u8], second: &[u8]) -> bool
     ensures { result ≡ (bytes_eq first.now (codes "twin") || bytes_eq first.now (codes "marks") || bytes_eq first.now (codes "client") && bytes_eq second.now (decimal n)) }
 {
     is_unchecked(first) || is_client(n, first, second)
 }
 
-/// Whether a line belongs to the header that so far spells a schedule.
+/// Returns whether a line belongs to the header that so far spells a schedule.
 #[tactic(auto, using(crate::proofs::TextLines::one_piece, crate::proofs::TextLines::two_pieces))]
 pub(crate) fn belongs_to_header(schedule: &Schedule, line: &[u8]) -> bool
     ensures { result ≡ is_header_line schedule.now (pieces line.now) }

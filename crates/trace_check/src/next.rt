@@ -24,11 +24,11 @@ pub struct EventRead {
     pub event: Event,
     /// Where its line ends in the text.
     pub end: usize,
-    /// How many bytes the schedule's own text has with it.
+    /// The size in bytes of the schedule's own text with the event.
     pub size: usize,
 }
 
-/// Whether a line begins as a packet's, after so many events.
+/// Returns whether a line begins as a packet's, although at least one event has been read.
 fn is_late_packet(line: &[u8], events: u32) -> bool
     ensures { result ≡ (begins_with (codes "packet ") line.now && nat_le 1 events) }
 {
@@ -41,8 +41,8 @@ fn begins_event(line: &[u8]) -> bool
     line.starts_with(b"event ")
 }
 
-/// Reads the line after the first `at` bytes of a text, where a legal trace of so many events ends, and the schedule's own text has `size` bytes so far. Returns
-/// nothing where closing lines are due there. Whether the event may happen then is for the caller to find out.
+/// Reads the line after the first `at` bytes of a text, where a legal trace of so many events ends, and the schedule's own text has `size` bytes so far.
+/// Returns `None` if closing lines are due there. It doesn't test whether the event may happen.
 #[tactic(auto, using(crate::proofs::AfterLines::late_packet_is_rejected, crate::proofs::AfterLines::no_event_is_rejected, crate::proofs::AfterLines::event_is_read, crate::proofs::AfterLines::closing_begins, crate::proofs::AfterLines::closing_begins_at_end))]
 pub fn read_event<S: Service>(
     text: &[u8],

@@ -14,7 +14,7 @@ use report_laws::Law;
 use schedule_text::write_packet_line;
 use std::alloc::Global;
 
-/// The place of the client with a key.
+/// Returns the index of the client with this key.
 fn find_client(lines: &[ClientLine], key: Key) -> Option<usize>
     ensures value { result ≡ position (λ line. key_eq line.key key) lines.now }
     ensures within { IfSome result (λ i. i < length lines.now) }
@@ -22,7 +22,7 @@ fn find_client(lines: &[ClientLine], key: Key) -> Option<usize>
     lines.iter().position(|line| line.key == key)
 }
 
-/// The number of the client with a key, counted from 1; 0 where there is none.
+/// Returns the number of the client with this key, counted from 1, or 0 if there is none.
 fn client_number(lines: &[ClientLine], key: Key) -> u8
     requires { length lines.now ≤ 16 }
     ensures { result ≡ spelled.number_in lines.now key }
@@ -33,7 +33,7 @@ fn client_number(lines: &[ClientLine], key: Key) -> u8
     }
 }
 
-/// The direction of a packet.
+/// Returns the direction of a packet.
 #[tactic(auto, using(crate::proofs::SentLines::number_is))]
 fn way_along(schedule: &Schedule, path: Path) -> Way
     requires { length schedule.now.clients ≤ 16 }
@@ -84,7 +84,7 @@ pub(crate) fn write_wires(
     Ok(())
 }
 
-/// The law of the party that receives packet `n`.
+/// Returns the law of the party that receives packet `n`.
 fn receiver(packets: &PlainPackets, n: u32) -> Law
     ensures { result ≡ spelled.law_at (wire_at packets.now n) }
 {
@@ -98,7 +98,7 @@ fn receiver(packets: &PlainPackets, n: u32) -> Law
     }
 }
 
-/// The law of the party whose turn an event is.
+/// Returns the law of the party whose turn an event is.
 pub(crate) fn actor(packets: &PlainPackets, event: &Event) -> Law
     ensures { result ≡ spelled.actor_along packets.now event.now }
 {

@@ -20,7 +20,7 @@ use schedule_text::Schedule;
 use server_trait::Service;
 use std::alloc::Global;
 
-/// The most packets of a trace.
+/// The largest number of packets in a trace.
 const PACKET_LIMIT: usize = 200_000;
 
 /// The packet lines of an event.
@@ -28,11 +28,11 @@ const PACKET_LIMIT: usize = 200_000;
 pub struct PacketLines {
     /// Where they end in the text.
     pub end: usize,
-    /// How many they are.
+    /// How many there are.
     pub count: u32,
 }
 
-/// The packet lines that follow the first `at` bytes of a text, where so many packets were told before. The line after them is not that of the next packet.
+/// Reads the packet lines after the first `at` bytes of a text; those of `told` packets come before. The line after them is not that of the next packet.
 #[tactic(auto, using(crate::proofs::TurnLines::all_begin, crate::proofs::TurnLines::all_grow, crate::proofs::TurnLines::few_packets, crate::proofs::TurnLines::turn_ends_with_text, crate::proofs::TurnLines::turn_ends_before))]
 pub fn read_packet_lines<S: Service>(
     schedule: &Schedule,
@@ -61,7 +61,7 @@ pub fn read_packet_lines<S: Service>(
     PacketLines { end, count }
 }
 
-/// Whether the line of packet `n` follows the first `at` bytes of a text.
+/// Returns whether the line of packet `n` follows the first `at` bytes of a text.
 #[tactic(auto, using(crate::proofs::ToldTurns::no_packet_begins, crate::proofs::TurnLines::turn_ends_before, crate::proofs::ToldTurns::packet_follows, std::proofs::lemmas::List::take_rest))]
 fn another_follows(schedule: &Schedule, text: &[u8], at: usize, n: u32) -> bool
     requires within { at ≤ length text.now }
@@ -76,7 +76,7 @@ fn another_follows(schedule: &Schedule, text: &[u8], at: usize, n: u32) -> bool
     is_packet_line(schedule, n, between(text, at, end))
 }
 
-/// Where what is due ends, if it follows the first `from` bytes of a text, and then no line of packet `n`.
+/// Returns where `due` ends, if it follows the first `from` bytes of a text, and is not followed by the line of packet `n`.
 #[tactic(auto, using(crate::proofs::ToldTurns::due_is_told, crate::proofs::ToldTurns::other_is_due, crate::proofs::ToldTurns::more_is_due, std::proofs::lemmas::List::take_rest))]
 fn told_end(schedule: &Schedule, text: &[u8], from: usize, due: &[u8], n: u32) -> Option<usize>
     requires within { from ≤ length text.now }
@@ -94,7 +94,7 @@ fn told_end(schedule: &Schedule, text: &[u8], from: usize, due: &[u8], n: u32) -
     }
 }
 
-/// The packet lines that follow the first `from` bytes of a text, if they are the lines of all packets after the first `before`. `due` is overwritten.
+/// Reads the packet lines after the first `from` bytes of a text, if they are the lines of all packets after the first `before`. `due` is overwritten.
 pub(crate) fn read_sent(
     alloc: Global,
     schedule: &Schedule,

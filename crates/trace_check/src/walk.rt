@@ -1,4 +1,4 @@
-//! The turns of a report: each event is played in the plain world, and the packet lines that follow its line are those of what the world sends.
+//! The turns of a report: each event is played in the plain world, and the packet lines after its line must be those of the packets that the world sends.
 
 ghost use Rattle.std.specs.Prelude.{◌≡◌, ℕ, ◌+◌, ◌<◌, ◌≤◌, ◌^◌, List, [], ◌∷◌, ◌++◌, drop, length, IfErr, IfOk};
 ghost use Rattle.ft_model.specs.Legal.{IsLegalFor, machines, start_of};
@@ -28,28 +28,28 @@ use report_laws::Law;
 use server_trait::Service;
 use std::alloc::Global;
 
-/// The most events of a trace.
+/// The largest number of events in a trace.
 const EVENT_LIMIT: u32 = 100_000;
 
 /// A place in a report's text.
 #[derive(Clone, Copy, Debug, PartialEq, Eq)]
 pub(crate) struct Place {
-    /// The bytes of the text before it.
+    /// How many bytes of the text come before it.
     pub at: usize,
-    /// The lines before it.
+    /// How many lines come before it.
     pub lines: u32,
-    /// The bytes that the schedule's own text has up to it.
+    /// The size in bytes of the schedule's own text up to it.
     pub size: usize,
 }
 
-/// Whether an event may not happen then, or is one too many.
+/// Returns whether an event may not happen then, or is one too many.
 fn is_refused<S: Service>(world: &PlainWorld<S>, event: &Event) -> bool
     ensures { (schedule : Written) (trace : List Moment) → IsAt (machines S.started S.after) schedule trace world.now → result ≡ refused_lem schedule trace event.now }
 {
     world.refusal(event).is_some() || EVENT_LIMIT <= world.turns()
 }
 
-/// The rejection of a turn whose packet lines, which follow a place, no legal trace has.
+/// Returns the rejection of a turn whose packet lines, after a place, no legal trace has.
 fn reject_turn<S: Service>(
     schedule: &Schedule,
     text: &[u8],
@@ -73,7 +73,7 @@ fn reject_turn<S: Service>(
     }
 }
 
-/// The packet lines of an event that was just played, which follow a place: they are right where they are the lines of all packets after the first `before`.
+/// Judges the packet lines after a place, of an event that was just played: they must be the lines of all packets after the first `before`.
 fn judge<S: Service>(
     alloc: Global,
     schedule: &Schedule,
@@ -112,8 +112,8 @@ fn judge<S: Service>(
     }
 }
 
-/// Plays the event of the line after a place. The text is rejected where the event may not happen then, and where its packet lines aren't those of its turn.
-/// After `NoMemory` the world may only be dropped.
+/// Plays the event of the line after a place. The text is rejected if the event may not happen then, or if its packet lines aren't those of its turn. After
+/// `NoMemory` the world may only be dropped.
 fn take_event<S: Service>(
     alloc: Global,
     schedule: &Schedule,
@@ -151,7 +151,7 @@ fn take_event<S: Service>(
     }
 }
 
-/// Walks over the turns of a report, from a place on, to the first line that isn't an event's. After `NoMemory` the world may only be dropped.
+/// Walks over the turns of a report, from a place on, up to the first line that isn't an event's. After `NoMemory` the world may only be dropped.
 pub(crate) fn walk<S: Service>(
     alloc: Global,
     schedule: &Schedule,
