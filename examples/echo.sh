@@ -1,7 +1,7 @@
 #!/usr/bin/env bash
 # Ten echoes without a crash: each time a client of ftnode sends BYTES bytes through a server and a logger on the loopback, and compares what is returned. The
 # sockets' buffers have the system's default sizes. A run may take 300 seconds. The status is 0 if all ten pass. It needs a built ftnode:
-#     examples/echo.sh [PROGRAM] [BYTES]        defaults: PROGRAM crates/ftnode/out/ftnode, BYTES 2,000,000 (at most 16,777,216)
+#     examples/echo.sh [PROGRAM] [BYTES]        defaults: PROGRAM crates/ftnode/out/ftnode, BYTES 2,000,000 (at most 15,728,640: an echo of more never ends)
 set -u
 cd "$(dirname "$0")/.." || exit 2
 program=${1:-crates/ftnode/out/ftnode} bytes=${2:-2000000}
