@@ -24,10 +24,10 @@ AreLines {X} lines line = (n : ℕ) (x : X) (xs : List X) → lines n (x ∷ xs)
 -- one line more is written, and one less is left
 pub one_line : {X : Type 0} (lines : ℕ → List X → List ℕ) (line : ℕ → X → List ℕ) → AreLines lines line → (xs : List X) (n i : ℕ) (now next whole : List ℕ)
     → ((x : X) → slice_get xs i ≡ Some x → next ≡ now ++ line n x) → i < length xs → now ++ lines n (drop i xs) ≡ whole → next ++ lines (n + 1) (drop (i + 1) xs) ≡ whole
-one_line lines line are [] n i now next whole written index_within so_far = absurd (omega arith)
-one_line lines line are (x ∷ xs) n zero now next whole written index_within so_far =
+one_line lines line are [] n i now next whole written inside so_far = absurd (omega arith)
+one_line lines line are (x ∷ xs) n zero now next whole written inside so_far =
     ap (λ l. l ++ lines (n + 1) xs) (written x refl) ∙ append_assoc now (line n x) (lines (n + 1) xs) ∙ ap (λ l. now ++ l) (sym (are n x xs)) ∙ so_far
-one_line lines line are (x ∷ xs) n (suc i) now next whole written index_within so_far =
+one_line lines line are (x ∷ xs) n (suc i) now next whole written inside so_far =
     let place : suc i + 1 ≡ suc (i + 1) = omega arith in
     ap (λ k. next ++ lines (n + 1) (drop k (x ∷ xs))) place ∙ one_line lines line are xs n i now next whole written (omega arith) so_far
 
