@@ -2,7 +2,7 @@
 
 use crate::said::Said;
 use disk::{Desk, Disk, FileDisk, HostDesk, ShelfEnd};
-use ft_io::{Addr, Failed, Heard, NoMemory};
+use ft_io::{Addr, Failed, Heard};
 use std::fs;
 use std::fs::{File, Files};
 use std::net::Net;
@@ -21,51 +21,56 @@ fn change<D: Disk>(disk: &mut D) -> Result<(), Failed> {
 }
 
 /// Says whether the file of this name is opened.
-fn say_opening<R: Files<File = File>>(
-    system: &R,
-    name: &str,
-    said: &mut Said,
-) -> Result<(), NoMemory> {
+fn say_opening<R: Files<File = File>>(system: &R, name: &str, said: &mut Said) {
     said.word(match FileDisk::open(system, name) {
         Ok(_) => b"opened",
         Err(ShelfEnd::InUse) => b"in use",
         Err(ShelfEnd::Failed) => b"failed",
-    })
+    });
 }
 
-/// Changes a new file, and opens it while it is open and after that: says how the changes ended, whether it was opened a second time, what two reads of it give.
-pub fn keep_file<R: Files<File = File>>(system: &R, said: &mut Said) -> Result<(), NoMemory> {
-    let Ok(mut disk) = FileDisk::open(system, "kept") else {
-        return said.word(b"no file");
-    };
-    said.outcome(change(&mut disk))?;
-    say_opening(system, "kept", said)?;
-    drop(disk);
-    let Ok(mut disk) = FileDisk::open(system, "./kept") else {
-        return said.word(b"no file");
-    };
+/// Changes a new file: says how the changes ended, and whether the file was opened a second time meanwhile.
+fn change_kept<R: Files<File = File>>(system: &R, said: &mut Said) {
+    match FileDisk::open(system, "kept") {
+        Ok(mut disk) => {
+            said.outcome(change(&mut disk));
+            say_opening(system, "kept", said);
+        }
+        Err(_) => said.word(b"no file"),
+    }
+}
+
+/// Says what two reads of the disk give.
+fn say_reads<D: Disk>(disk: &mut D, said: &mut Said) {
     let mut back = [b'.'; 9];
     for _ in 0..2 {
         let read = disk.read(&mut back);
-        said.moved(read)?;
-        said.word(&back)?;
+        said.moved(read);
+        said.word(&back);
     }
-    Ok(())
+}
+
+/// Changes a new file, and opens it while it is open and after that: says how the changes ended, whether it was opened a second time, what two reads of it give.
+pub fn keep_file<R: Files<File = File>>(system: &R, said: &mut Said) {
+    change_kept(system, said);
+    match FileDisk::open(system, "./kept") {
+        Ok(mut disk) => say_reads(&mut disk, said),
+        Err(_) => said.word(b"no file"),
+    }
 }
 
 /// A file, a symbolic link to it, a folder, a file in a folder that isn't there; and the file once it has a second name, by each of the two: says which are opened.
-pub fn open_names<R: Files<File = File>>(system: &R, said: &mut Said) -> Result<(), NoMemory> {
-    say_opening(system, "plain", said)?;
-    said.done(symlink(system, "plain", "link").is_ok())?;
-    said.done(fs::create_dir(system, "folder").is_ok())?;
+pub fn open_names<R: Files<File = File>>(system: &R, said: &mut Said) {
+    say_opening(system, "plain", said);
+    said.done(symlink(system, "plain", "link").is_ok());
+    said.done(fs::create_dir(system, "folder").is_ok());
     for name in ["link", "folder", "none/plain"] {
-        say_opening(system, name, said)?;
+        say_opening(system, name, said);
     }
-    said.done(fs::hard_link(system, "plain", "second").is_ok())?;
+    said.done(fs::hard_link(system, "plain", "second").is_ok());
     for name in ["plain", "second"] {
-        say_opening(system, name, said)?;
+        say_opening(system, name, said);
     }
-    Ok(())
 }
 
 /// Binds the desk to a port of this machine, one of 16 of which some may be taken.
@@ -83,7 +88,7 @@ fn bind_desk<K: Desk>(desk: &mut K) -> Option<Addr> {
 }
 
 /// Says what a receive gave.
-fn say_receive<K: Desk>(desk: &mut K, waits: bool, said: &mut Said) -> Result<(), NoMemory> {
+fn say_receive<K: Desk>(desk: &mut K, waits: bool, said: &mut Said) {
     let mut buf = [0u8; 2048];
     let heard = if waits {
         desk.recv(&mut buf)
@@ -97,24 +102,34 @@ fn say_receive<K: Desk>(desk: &mut K, waits: bool, said: &mut Said) -> Result<()
     }
 }
 
-/// A sync, a send and the opening of a folder at a desk without a file and an address, with the counts of faults; then two datagrams from one desk to another:
-/// says what receives give before and after.
-pub fn use_desks<R: Net + Files<File = File>>(system: &R, said: &mut Said) -> Result<(), NoMemory> {
-    let mut desk = HostDesk::new(system);
-    let mut other = HostDesk::new(system);
-    said.outcome(desk.sync())?;
-    said.outcome(desk.send(Addr { ip: 1, port: 2 }, b"a"))?;
-    said.done(desk.open("/").is_ok())?;
-    said.count(desk.faults())?;
-    said.count(desk.link_faults())?;
-    let (Some(here), Some(_)) = (bind_desk(&mut desk), bind_desk(&mut other)) else {
+/// Says what calls give at a desk without a file and an address, with the counts of faults.
+fn say_unused<K: Desk>(desk: &mut K, said: &mut Said) {
+    said.outcome(desk.sync());
+    said.outcome(desk.send(Addr { ip: 1, port: 2 }, b"a"));
+    said.done(desk.open("/").is_ok());
+    said.count(desk.faults());
+    said.count(desk.link_faults());
+}
+
+/// Says what receives give before and after two datagrams of another desk.
+fn say_exchange<K: Desk>(desk: &mut K, other: &mut K, said: &mut Said) {
+    let (Some(here), Some(_)) = (bind_desk(desk), bind_desk(other)) else {
         return said.word(b"no port is free");
     };
-    say_receive(&mut desk, false, said)?;
-    say_receive(&mut desk, true, said)?;
-    said.outcome(other.send(here, b"abc"))?;
-    said.outcome(other.send(here, b"defg"))?;
-    say_receive(&mut desk, true, said)?;
-    say_receive(&mut desk, false, said)?;
-    say_receive(&mut desk, false, said)
+    say_receive(desk, false, said);
+    say_receive(desk, true, said);
+    said.outcome(other.send(here, b"abc"));
+    said.outcome(other.send(here, b"defg"));
+    say_receive(desk, true, said);
+    say_receive(desk, false, said);
+    say_receive(desk, false, said);
+}
+
+/// A sync, a send and the opening of a folder at a desk without a file and an address, with the counts of faults; then two datagrams from one desk to another:
+/// says what receives give before and after.
+pub fn use_desks<R: Net + Files<File = File>>(system: &R, said: &mut Said) {
+    let mut desk = HostDesk::new(system);
+    let mut other = HostDesk::new(system);
+    say_unused(&mut desk, said);
+    say_exchange(&mut desk, &mut other, said);
 }

@@ -26,8 +26,7 @@ fn main(rt: HostRuntime) -> io::Result<()> {
     let mut said = Said::new(rt.alloc());
     for line in rt.lines(rt.alloc()) {
         if play(&rt, rt.alloc(), line?.as_str(), &mut said).is_err() {
-            println!(rt; "no memory")?;
-            return Ok(());
+            return println!(rt; "no memory");
         }
     }
     if write_all(&mut WriteSink::new(rt.stdout()), said.bytes()).is_err() {
@@ -45,33 +44,40 @@ fn play<R: Net + Clock + Files<File = File> + Processes>(
 ) -> Result<(), NoMemory> {
     let (word, rest) = line.split_once(' ').unwrap_or((line, ""));
     let numbers = numbers(alloc, rest)?;
-    match word.as_bytes() {
-        b"#" => said.word(line.as_bytes())?,
-        b"source" => memory::read_five(alloc, numbers, said)?,
-        b"rest" => memory::read_once(alloc, said)?,
-        b"sink" => memory::write_three(alloc, numbers, said)?,
-        b"spawn" => memory::start_two(alloc, numbers, said)?,
-        b"read" => reading::read_text(alloc, rest, said)?,
-        b"chunks" => reading::read_long(alloc, numbers, said)?,
-        b"write" => reading::write_text(alloc, numbers, said)?,
-        b"receive" => links::receive_five(alloc, numbers, said)?,
-        b"send" => links::send_two(alloc, numbers, false, said)?,
-        b"unbound" => links::send_two(alloc, numbers, true, said)?,
-        b"bind" => links::bind_three(alloc, numbers, said)?,
-        b"reader" => streams::read_four(said)?,
-        b"writer" => streams::write_four(said)?,
-        b"process" => processes::run_three(system, alloc, said)?,
-        b"datagrams" => sockets::send_to_itself(system, said)?,
-        b"clock" => ticks::by_the_list(system, alloc, rest, said)?,
-        b"silence" => ticks::in_silence(system, said)?,
-        b"traffic" => ticks::in_traffic(system, said)?,
-        b"file" => files::keep_file(system, said)?,
-        b"names" => files::open_names(system, said)?,
-        b"desks" => files::use_desks(system, said)?,
-        b"exchange" => ticks::in_exchange(system, said)?,
-        _ => said.word(b"no such line")?,
+    match word {
+        "#" => said.word(line.as_bytes()),
+        "source" => memory::read_five(alloc, numbers, said)?,
+        "rest" => memory::read_once(alloc, said)?,
+        "sink" => memory::write_three(alloc, numbers, said),
+        "spawn" => memory::start_two(alloc, numbers, said)?,
+        "read" => reading::read_text(alloc, rest, said)?,
+        "chunks" => reading::read_long(alloc, numbers, said)?,
+        "write" => reading::write_text(alloc, numbers, said),
+        "receive" => links::receive_five(alloc, numbers, said)?,
+        "send" => links::send_two(alloc, numbers, false, said),
+        "unbound" => links::send_two(alloc, numbers, true, said),
+        "bind" => links::bind_three(alloc, numbers, said)?,
+        "process" => processes::run_three(system, alloc, said)?,
+        "clock" => ticks::by_the_list(system, alloc, rest, said)?,
+        _ => play_system(system, line, said),
     }
     said.end_line()
+}
+
+/// Plays a line of the system, which wants no memory.
+fn play_system<R: Net + Clock + Files<File = File>>(system: &R, line: &str, said: &mut Said) {
+    match line {
+        "reader" => streams::read_four(said),
+        "writer" => streams::write_four(said),
+        "datagrams" => sockets::send_to_itself(system, said),
+        "silence" => ticks::in_silence(system, said),
+        "traffic" => ticks::in_traffic(system, said),
+        "exchange" => ticks::in_exchange(system, said),
+        "file" => files::keep_file(system, said),
+        "names" => files::open_names(system, said),
+        "desks" => files::use_desks(system, said),
+        _ => said.word(b"no such line"),
+    }
 }
 
 /// The numbers of a text, between single spaces.

@@ -7,61 +7,58 @@ use std::alloc::Global;
 /// Five reads of `hello` of at most two bytes: what they gave, `!` for each that failed, and the count of faults.
 pub fn read_five(alloc: Global, fails: Vec<u32>, said: &mut Said) -> Result<(), NoMemory> {
     let mut source = MemSource::new(b"hello".to_vec(alloc)?, fails);
-    let mut given = Vec::new(alloc);
+    said.begin_word();
     for _ in 0..5 {
         let mut buf = [0u8; 2];
         match source.read(&mut buf) {
-            Ok(n) => given.extend_from_slice(&buf[..n])?,
-            Err(Failed) => given.push(b'!')?,
+            Ok(n) => said.add(&buf[..n]),
+            Err(Failed) => said.add(b"!"),
         }
     }
-    said.word(given.as_slice())?;
-    said.count(source.faults())
+    said.count(source.faults());
+    Ok(())
 }
 
 /// What is left of `hello`, what one read of three bytes gives, and what is left then.
 pub fn read_once(alloc: Global, said: &mut Said) -> Result<(), NoMemory> {
     let mut source = MemSource::new(b"hello".to_vec(alloc)?, Vec::new(alloc));
-    said.word(source.rest())?;
+    said.word(source.rest());
     let mut buf = [b'.'; 3];
     let read = source.read(&mut buf);
-    said.moved(read)?;
-    said.word(&buf)?;
-    said.word(source.rest())
+    said.moved(read);
+    said.word(&buf);
+    said.word(source.rest());
+    Ok(())
 }
 
 /// Writes of `ab`, `cd` and `ef`: what the sink took, the count of faults, and how many wanted memory.
-pub fn write_three(alloc: Global, fails: Vec<u32>, said: &mut Said) -> Result<(), NoMemory> {
+pub fn write_three(alloc: Global, fails: Vec<u32>, said: &mut Said) {
     let mut sink = MemSink::new(alloc, fails);
     for piece in [b"ab", b"cd", b"ef"] {
         // What fails is counted, and said below.
         let _ = sink.write(piece);
     }
-    said.word(sink.written())?;
-    said.count(sink.faults())?;
-    said.count(sink.starved())
+    said.word(sink.written());
+    said.count(sink.faults());
+    said.count(sink.starved());
 }
 
 /// A start with the word `echo`, one without words, and a wait for each child that was started, the first of which ends with 7: what they returned, the count
 /// of faults, and how many calls are recorded.
 pub fn start_two(alloc: Global, fails: Vec<u32>, said: &mut Said) -> Result<(), NoMemory> {
-    let mut spawner = MemSpawner::new(alloc, vec![in alloc; 7]?, fails);
     let words = vec![in alloc; String::from_str(alloc, "echo")?]?;
+    let mut spawner = MemSpawner::new(alloc, vec![in alloc; 7]?, fails);
     let first = spawner.start(&words);
     let second = spawner.start(&[]);
-    said.started(first)?;
-    said.started(second)?;
+    said.started(first);
+    said.started(second);
     if let Ok(child) = first {
-        let status = spawner.wait(child);
-        said.ended(status)?;
+        said.ended(spawner.wait(child));
     }
     if let Ok(child) = second {
-        let status = spawner.wait(child);
-        said.ended(status)?;
+        said.ended(spawner.wait(child));
     }
-    said.count(spawner.faults())?;
-    match spawner.told() {
-        Some(calls) => said.count(calls.len() as u64),
-        None => said.count(0),
-    }
+    said.count(spawner.faults());
+    said.count(spawner.told().map_or(0, |calls| calls.len() as u64));
+    Ok(())
 }

@@ -1,7 +1,7 @@
 //! Std's UDP socket as a link.
 
 use crate::said::Said;
-use ft_io::{Addr, Failed, Heard, Link, NoMemory, UdpLink};
+use ft_io::{Addr, Failed, Heard, Link, UdpLink};
 use std::net::Net;
 use std::time::Clock;
 
@@ -30,20 +30,15 @@ fn await_datagram<L: Link>(link: &mut L, buf: &mut [u8; 2048]) -> Result<Heard, 
     Ok(Heard::Nothing)
 }
 
-/// Sends itself a datagram of this many bytes, and prints its length and first bytes when it arrives.
-fn send_round<L: Link>(
-    link: &mut L,
-    here: Addr,
-    text: &[u8],
-    said: &mut Said,
-) -> Result<(), NoMemory> {
-    said.outcome(link.send(here, text))?;
+/// Sends itself a datagram of this many bytes, and says its length and first bytes when it arrives.
+fn send_round<L: Link>(link: &mut L, here: Addr, text: &[u8], said: &mut Said) {
+    said.outcome(link.send(here, text));
     let mut buf = [b'.'; 2048];
     match await_datagram(link, &mut buf) {
         Ok(Heard::Got { len, from }) if from == here => {
-            said.count(len as u64)?;
+            said.count(len as u64);
             let same = buf[..len.min(2048)] == text[..len.min(text.len())];
-            said.word(if same { b"the same" } else { b"other bytes" })
+            said.word(if same { b"the same" } else { b"other bytes" });
         }
         Ok(Heard::Got { .. }) => said.word(b"elsewhere"),
         Ok(Heard::Nothing) => said.word(b"silent"),
@@ -51,25 +46,31 @@ fn send_round<L: Link>(
     }
 }
 
-/// A receive before the bind; datagrams of 5, 0, 2,048 and 3,000 bytes to itself; a receive in silence; a second link that asks for
-/// the same address, and then sends. Says what each answered, and how many faults there were besides binds to other ports.
-pub fn send_to_itself<R: Net + Clock>(system: &R, said: &mut Said) -> Result<(), NoMemory> {
-    let mut link = UdpLink::new(system);
-    let mut buf = [0u8; 2048];
-    said.done(link.recv(&mut buf).is_ok())?;
-    let Some(here) = bind_somewhere(&mut link) else {
-        return said.word(b"no port is free");
-    };
+/// Datagrams of 5, 0, 2,048 and 3,000 bytes to itself, and a receive in silence; then another link asks for the same address, and sends. Says what each
+/// answered, and how many faults there were besides binds to other ports.
+fn say_rounds<L: Link>(link: &mut L, second: &mut L, here: Addr, said: &mut Said) {
     let others = link.bind_faults();
     for text in [b"hello".as_slice(), b"", &[7; 2048], &[9; 3000]] {
-        send_round(&mut link, here, text, said)?;
+        send_round(link, here, text, said);
     }
+    let mut buf = [0u8; 2048];
     let silent = link.recv(&mut buf) == Ok(Heard::Nothing);
-    said.word(if silent { b"silent" } else { b"not silent" })?;
-    said.count(link.faults().saturating_sub(others))?;
+    said.word(if silent { b"silent" } else { b"not silent" });
+    said.count(link.faults().saturating_sub(others));
+    said.outcome(second.bind(here));
+    said.outcome(second.send(here, b"early"));
+    said.count(second.faults());
+    said.count(second.bind_faults());
+}
+
+/// A receive before the bind, and then what `say_rounds` does.
+pub fn send_to_itself<R: Net + Clock>(system: &R, said: &mut Said) {
+    let mut link = UdpLink::new(system);
     let mut second = UdpLink::new(system);
-    said.outcome(second.bind(here))?;
-    said.outcome(second.send(here, b"early"))?;
-    said.count(second.faults())?;
-    said.count(second.bind_faults())
+    let mut buf = [0u8; 2048];
+    said.done(link.recv(&mut buf).is_ok());
+    match bind_somewhere(&mut link) {
+        Some(here) => say_rounds(&mut link, &mut second, here, said),
+        None => said.word(b"no port is free"),
+    }
 }

@@ -9,27 +9,19 @@ use std::net::Net;
 use std::time::{Clock, Duration, Instant};
 use std::{io, thread};
 
-/// A bind at the first of the listed times, in milliseconds, and a receive at each later one, `-` for a clock that can't be read.
-/// Before each receive a datagram is sent to the link, so that something always comes: by the link itself where `+` follows the time,
-/// and else by a stranger. Says what each receive answered, and the count of faults.
-pub fn by_the_list<R: Net + Clock>(
-    system: &R,
-    alloc: Global,
-    times: &str,
-    said: &mut Said,
-) -> Result<(), NoMemory> {
+/// The listed times, in milliseconds; `-` is a clock that can't be read.
+fn listed(alloc: Global, times: &str) -> Result<Vec<Option<u64>>, NoMemory> {
     let mut listed = Vec::new(alloc);
     for time in times.split(' ') {
         let digits = time.strip_suffix('+').unwrap_or(time);
         listed.push(digits.parse::<u64>().ok())?;
     }
-    let watch = Watch::new(system, listed.as_slice());
-    let mut link = UdpLink::new(&watch);
-    let mut stranger = UdpLink::new(system);
-    let Some(here) = bind_somewhere(&mut link) else {
-        return said.word(b"no port is free");
-    };
-    let Some(_elsewhere) = bind_somewhere(&mut stranger) else {
+    Ok(listed)
+}
+
+/// Says what the link receives at each time but the first. A datagram is sent to it before: by itself where `+` follows the time, and else by the stranger.
+fn say_at_times<L: Link, M: Link>(link: &mut L, stranger: &mut M, times: &str, said: &mut Said) {
+    let (Some(here), Some(_)) = (bind_somewhere(link), bind_somewhere(stranger)) else {
         return said.word(b"no port is free");
     };
     for time in times.split(' ').skip(1) {
@@ -39,40 +31,60 @@ pub fn by_the_list<R: Net + Clock>(
         } else {
             stranger.send(here, b"stray")
         };
-        say_receive(&mut link, said)?;
+        say_receive(link, said);
     }
-    said.count(link.faults().saturating_sub(link.bind_faults()))
+    said.count(link.faults().saturating_sub(link.bind_faults()));
+}
+
+/// A bind at the first of the listed times, in milliseconds, and a receive at each later one, `-` for a clock that can't be read.
+/// Before each receive a datagram is sent to the link, so that something always comes: by the link itself where `+` follows the time,
+/// and else by a stranger. Says what each receive answered, and the count of faults.
+pub fn by_the_list<R: Net + Clock>(
+    system: &R,
+    alloc: Global,
+    times: &str,
+    said: &mut Said,
+) -> Result<(), NoMemory> {
+    let listed = listed(alloc, times)?;
+    let watch = Watch::new(system, listed.as_slice());
+    let mut stranger = UdpLink::new(system);
+    say_at_times(&mut UdpLink::new(&watch), &mut stranger, times, said);
+    Ok(())
 }
 
 /// Receives once, and says what that gave.
-fn say_receive<L: Link>(link: &mut L, said: &mut Said) -> Result<(), NoMemory> {
+fn say_receive<L: Link>(link: &mut L, said: &mut Said) {
     let mut buf = [0u8; 2048];
     said.word(match link.recv(&mut buf) {
         Ok(Heard::Got { .. }) => b"got",
         Ok(Heard::Nothing) => b"nothing",
         Err(_) => b"failed",
-    })
+    });
 }
 
 /// Five receives in silence: says whether the quickest of the last four took 15 to 200 ms, and else how long it took.
-pub fn in_silence<R: Net + Clock>(system: &R, said: &mut Said) -> Result<(), NoMemory> {
-    let mut link = UdpLink::new(system);
-    if bind_somewhere(&mut link).is_none() {
+fn say_silence<C: Clock, L: Link>(clock: &C, link: &mut L, said: &mut Said) {
+    if bind_somewhere(link).is_none() {
         return said.word(b"no port is free");
     }
     let mut quickest = u128::MAX;
     for round in 0..5u32 {
-        match silent_millis(system, &mut link) {
+        match silent_millis(clock, link) {
             Ok(Some(millis)) if round > 0 => quickest = quickest.min(millis),
             Ok(Some(_)) => (),
-            _ => said.word(b"not silent")?,
+            _ => said.word(b"not silent"),
         }
     }
     if (15..=200).contains(&quickest) {
         return said.word(b"nothing after 15 to 200 ms");
     }
-    said.word(b"nothing after ms")?;
-    said.count(u64::try_from(quickest).unwrap_or(u64::MAX))
+    said.word(b"nothing after ms");
+    said.count(u64::try_from(quickest).unwrap_or(u64::MAX));
+}
+
+/// Five receives of a link, in silence.
+pub fn in_silence<R: Net + Clock>(system: &R, said: &mut Said) {
+    say_silence(system, &mut UdpLink::new(system), said);
 }
 
 /// How many milliseconds a receive took, or `None` where it gave something.
@@ -104,63 +116,67 @@ impl Came {
     }
 }
 
+/// The milliseconds since a time, or 0 without a clock.
+fn millis_since<C: Clock>(clock: &C, begun: Instant) -> u128 {
+    begun.elapsed(clock).map_or(0, |time| time.as_millis())
+}
+
 /// 2,000 datagrams of a stranger, one half a millisecond after another, so that one always waits: says whether all came, with 20 ticks
 /// or more among them and no more than one in 15 ms, and else what came.
-pub fn in_traffic<R: Net + Clock>(system: &R, said: &mut Said) -> Result<(), NoMemory> {
-    let mut link = UdpLink::new(system);
-    let mut stranger = UdpLink::new(system);
-    let Some(here) = bind_somewhere(&mut link) else {
+fn say_traffic<C: Clock, L: Link>(clock: &C, link: &mut L, stranger: &mut L, said: &mut Said) {
+    let (Some(here), Some(_)) = (bind_somewhere(link), bind_somewhere(stranger)) else {
         return said.word(b"no port is free");
     };
-    let Some(_elsewhere) = bind_somewhere(&mut stranger) else {
-        return said.word(b"no port is free");
-    };
-    let Ok(begun) = Instant::now(system) else {
+    let Ok(begun) = Instant::now(clock) else {
         return said.word(b"no clock");
     };
     let mut came = Came::new();
     for _ in 0..2000 {
         // One that isn't sent shows in what comes.
         let _ = stranger.send(here, b"stray");
-        receive_past_ticks(&mut link, &mut came);
-        thread::sleep(system, Duration::from_micros(500));
+        receive_past_ticks(link, &mut came);
+        thread::sleep(clock, Duration::from_micros(500));
     }
-    let millis = match begun.elapsed(system) {
-        Ok(time) => time.as_millis(),
-        Err(_) => 0,
-    };
-    if came.datagrams == 2000 && came.ticks >= 20 && u128::from(came.ticks) <= 1 + millis / 15 {
+    let most = 1 + millis_since(clock, begun) / 15;
+    if came.datagrams == 2000 && came.ticks >= 20 && u128::from(came.ticks) <= most {
         return said.word(b"2000 datagrams, 20 ticks or more, at most one in 15 ms");
     }
-    said.count(came.datagrams)?;
-    said.count(came.ticks)
+    said.count(came.datagrams);
+    said.count(came.ticks);
+}
+
+/// Two links between which datagrams go without a pause.
+pub fn in_traffic<R: Net + Clock>(system: &R, said: &mut Said) {
+    let mut stranger = UdpLink::new(system);
+    say_traffic(system, &mut UdpLink::new(system), &mut stranger, said);
 }
 
 /// The same, but that the link sends the datagrams to itself, as one that answers what comes: says whether all came, with at most one tick
 /// a second among them, and else what came.
-pub fn in_exchange<R: Net + Clock>(system: &R, said: &mut Said) -> Result<(), NoMemory> {
-    let mut link = UdpLink::new(system);
-    let Some(here) = bind_somewhere(&mut link) else {
+fn say_exchange<C: Clock, L: Link>(clock: &C, link: &mut L, said: &mut Said) {
+    let Some(here) = bind_somewhere(link) else {
         return said.word(b"no port is free");
     };
-    let Ok(begun) = Instant::now(system) else {
+    let Ok(begun) = Instant::now(clock) else {
         return said.word(b"no clock");
     };
     let mut came = Came::new();
     for _ in 0..2000 {
         let _ = link.send(here, b"own");
-        receive_past_ticks(&mut link, &mut came);
-        thread::sleep(system, Duration::from_micros(500));
+        receive_past_ticks(link, &mut came);
+        thread::sleep(clock, Duration::from_micros(500));
     }
-    let millis = match begun.elapsed(system) {
-        Ok(time) => time.as_millis(),
-        Err(_) => 0,
-    };
-    if came.datagrams == 2000 && u128::from(came.ticks) <= 1 + millis / 1000 {
+    let most = 1 + millis_since(clock, begun) / 1000;
+    if came.datagrams == 2000 && u128::from(came.ticks) <= most {
         return said.word(b"2000 datagrams, at most one tick a second");
     }
-    said.count(came.datagrams)?;
-    said.count(came.ticks)
+    said.count(came.datagrams);
+    said.count(came.ticks);
+}
+
+/// A link that sends datagrams to itself without a pause.
+pub fn in_exchange<R: Net + Clock>(system: &R, said: &mut Said) {
+    say_exchange(system, &mut UdpLink::new(system), said);
 }
 
 /// Receives until a datagram comes, at most eight times.
