@@ -1,5 +1,6 @@
 //! A link in memory.
 
+use crate::numbers;
 use crate::said::Said;
 use ft_io::{Addr, Arrival, Failed, Heard, Link, MemLink, NoMemory, Octets};
 use std::alloc::Global;
@@ -44,7 +45,8 @@ fn say_heard(heard: Result<Heard, Failed>, buf: &[u8], said: &mut Said) {
 }
 
 /// Five receives: what each returned, and the counts of faults and of recorded calls.
-pub fn receive_five(alloc: Global, fails: Vec<u32>, said: &mut Said) -> Result<(), NoMemory> {
+pub fn receive_five(alloc: Global, fails: &str, said: &mut Said) -> Result<(), NoMemory> {
+    let fails = numbers(alloc, fails)?;
     let arrivals = four_arrivals(alloc)?;
     let mut link = MemLink::new(alloc, arrivals, Vec::new(alloc), fails, false);
     for _ in 0..5 {
@@ -57,16 +59,24 @@ pub fn receive_five(alloc: Global, fails: Vec<u32>, said: &mut Said) -> Result<(
 }
 
 /// A bind, which fails where all do, and two sends: what each answered, and the counts.
-pub fn send_two(alloc: Global, fails: Vec<u32>, bind_fails: bool, said: &mut Said) {
+pub fn send_two(
+    alloc: Global,
+    fails: &str,
+    bind_fails: bool,
+    said: &mut Said,
+) -> Result<(), NoMemory> {
+    let fails = numbers(alloc, fails)?;
     let mut link = MemLink::new(alloc, Vec::new(alloc), fails, Vec::new(alloc), bind_fails);
     said.outcome(link.bind(HOME));
     said.outcome(link.send(PEER, b"abc"));
     said.outcome(link.send(PEER, b""));
     say_counts(&link, said);
+    Ok(())
 }
 
 /// Three binds, some of which are listed to fail: what each answered, and the counts.
-pub fn bind_three(alloc: Global, fails: Vec<u32>, said: &mut Said) -> Result<(), NoMemory> {
+pub fn bind_three(alloc: Global, fails: &str, said: &mut Said) -> Result<(), NoMemory> {
+    let fails = numbers(alloc, fails)?;
     let arrivals = four_arrivals(alloc)?;
     let none = Vec::new(alloc);
     let mut link = MemLink::with_bind_fails(alloc, arrivals, none, Vec::new(alloc), fails);

@@ -1,12 +1,13 @@
 //! A source, a sink and a spawner in memory.
 
+use crate::numbers;
 use crate::said::Said;
 use ft_io::{Failed, MemSink, MemSource, MemSpawner, NoMemory, Sink, Source, Spawner};
 use std::alloc::Global;
 
 /// Five reads of `hello` of at most two bytes: what they gave, `!` for each that failed, and the count of faults.
-pub fn read_five(alloc: Global, fails: Vec<u32>, said: &mut Said) -> Result<(), NoMemory> {
-    let mut source = MemSource::new(b"hello".to_vec(alloc)?, fails);
+pub fn read_five(alloc: Global, fails: &str, said: &mut Said) -> Result<(), NoMemory> {
+    let mut source = MemSource::new(b"hello".to_vec(alloc)?, numbers(alloc, fails)?);
     said.begin_word();
     for _ in 0..5 {
         let mut buf = [0u8; 2];
@@ -32,8 +33,8 @@ pub fn read_once(alloc: Global, said: &mut Said) -> Result<(), NoMemory> {
 }
 
 /// Writes of `ab`, `cd` and `ef`: what the sink took, the count of faults, and how many wanted memory.
-pub fn write_three(alloc: Global, fails: Vec<u32>, said: &mut Said) {
-    let mut sink = MemSink::new(alloc, fails);
+pub fn write_three(alloc: Global, fails: &str, said: &mut Said) -> Result<(), NoMemory> {
+    let mut sink = MemSink::new(alloc, numbers(alloc, fails)?);
     for piece in [b"ab", b"cd", b"ef"] {
         // What fails is counted, and said below.
         let _ = sink.write(piece);
@@ -41,13 +42,14 @@ pub fn write_three(alloc: Global, fails: Vec<u32>, said: &mut Said) {
     said.word(sink.written());
     said.count(sink.faults());
     said.count(sink.starved());
+    Ok(())
 }
 
 /// A start with the word `echo`, one without words, and a wait for each child that was started, the first of which ends with 7: what they returned, the count
 /// of faults, and how many calls are recorded.
-pub fn start_two(alloc: Global, fails: Vec<u32>, said: &mut Said) -> Result<(), NoMemory> {
+pub fn start_two(alloc: Global, fails: &str, said: &mut Said) -> Result<(), NoMemory> {
     let words = vec![in alloc; String::from_str(alloc, "echo")?]?;
-    let mut spawner = MemSpawner::new(alloc, vec![in alloc; 7]?, fails);
+    let mut spawner = MemSpawner::new(alloc, vec![in alloc; 7]?, numbers(alloc, fails)?);
     let first = spawner.start(&words);
     let second = spawner.start(&[]);
     said.started(first);

@@ -1,5 +1,6 @@
 //! Reading to a limit, and writing completely.
 
+use crate::numbers;
 use crate::said::Said;
 use ft_io::{Failed, MemSink, MemSource, NoMemory, ReadEnd, Sink, read_to_limit, write_all};
 use std::alloc::Global;
@@ -38,9 +39,9 @@ fn long_text(alloc: Global) -> Result<Vec<u8>, NoMemory> {
 }
 
 /// Reads 10,000 bytes, which takes three reads and one at the end.
-pub fn read_long(alloc: Global, fails: Vec<u32>, said: &mut Said) -> Result<(), NoMemory> {
+pub fn read_long(alloc: Global, fails: &str, said: &mut Said) -> Result<(), NoMemory> {
     let text = long_text(alloc)?;
-    let mut source = MemSource::new(long_text(alloc)?, fails);
+    let mut source = MemSource::new(long_text(alloc)?, numbers(alloc, fails)?);
     match read_to_limit(alloc, &mut source, 10_000) {
         Ok(bytes) => said.word(if bytes.as_slice() == text.as_slice() {
             b"the same"
@@ -73,9 +74,10 @@ impl<S: Sink> Sink for Narrow<S> {
 }
 
 /// Writes all of `abcdefgh` to a sink that takes three bytes a call: whether that succeeded, and what the sink has.
-pub fn write_text(alloc: Global, fails: Vec<u32>, said: &mut Said) {
-    let inner = MemSink::new(alloc, fails);
+pub fn write_text(alloc: Global, fails: &str, said: &mut Said) -> Result<(), NoMemory> {
+    let inner = MemSink::new(alloc, numbers(alloc, fails)?);
     let mut sink = Narrow { inner };
     said.outcome(write_all(&mut sink, b"abcdefgh"));
     said.word(sink.inner.written());
+    Ok(())
 }
