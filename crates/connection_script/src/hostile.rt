@@ -2,16 +2,19 @@
 //! numbers.
 
 ghost use Rattle.std.specs.Prelude.{◌≤◌};
+ghost use Rattle.wrapped_conn.specs.Sound.{IsSound};
 
-use crate::peers::{CISN, CLIENT, SERVER, SISN, take_packet};
+use crate::peers::{CISN, CLIENT, SERVER, SISN, connection, take_packet};
 use crate::rules::{CLIENTS, Kept, Rule, check};
-use crate::situations::{Situation, arranged, log_all};
+use crate::situations::{Situation, arrange, log_all};
 use ft_io::NoMemory;
+use sample_servers::AnyService;
 use segment_codec::{Head, read_packet, write_packet};
 use seq_arith::{ACK, FIN, RST, Seq, has};
 use std::alloc::Global;
+use tcp_endpoint::StateName;
 use test_data::Draws;
-use wrapped_conn::{Inside, TurnOut};
+use wrapped_conn::{Conn, ConnStage, Inside, TurnOut};
 
 const SEED: u64 = 1;
 
@@ -20,9 +23,11 @@ const CONNECTIONS: u32 = 200;
 
 const DATAGRAMS: u32 = 50;
 
-/// What came of all datagrams.
+/// In which situation connections were, and what came of all datagrams.
 #[derive(Clone, Copy)]
 pub(crate) struct Tally {
+    /// The state of TCP and the stage in which the last connection met its first datagram.
+    pub(crate) begun: Option<(StateName, ConnStage)>,
     pub(crate) datagrams: u32,
     pub(crate) packets: u32,
     /// Whether any segment left.
@@ -113,14 +118,18 @@ fn kind_of(bytes: &[u8], inside: Inside) -> (bool, bool) {
 }
 
 /// One connection meets its datagrams. At every fifth, all that it has taken and read is logged then.
-fn attack_one(
+fn meet(
     alloc: Global,
+    conn: &mut Conn<AnyService>,
     situation: Situation,
     draws: &mut Draws,
     out: &mut TurnOut,
     tally: &mut Tally,
-) -> Result<(), NoMemory> {
-    let mut conn = arranged(alloc, situation, out)?;
+) -> Result<(), NoMemory>
+    requires { IsSound conn.old }
+{
+    arrange(alloc, conn, situation, out)?;
+    tally.begun = Some((conn.endpoint().state().name, conn.stage()));
     let mut is_reset = situation == Situation::Reset;
     let mut bytes = [0u8; 1_500];
     for i in 0..DATAGRAMS {
@@ -128,30 +137,46 @@ fn attack_one(
         let len = datagram(draws, i, before, &mut bytes);
         let (is_packet, resets) = kind_of(&bytes[..len], before);
         is_reset = is_reset || resets;
-        take_packet(alloc, &mut conn, &mut bytes[..len], out)?;
+        take_packet(alloc, conn, &mut bytes[..len], out)?;
         tally.count(is_packet);
-        tally.note(check(before, is_reset, is_packet, &conn, out), out);
+        tally.note(check(before, is_reset, is_packet, conn, out), out);
         if i % 5 == 4 {
             let before = conn.inside();
-            log_all(alloc, &mut conn, out)?;
-            tally.note(check(before, is_reset, true, &conn, out), out);
+            log_all(alloc, conn, out)?;
+            tally.note(check(before, is_reset, true, conn, out), out);
         }
     }
     Ok(())
 }
 
+/// One connection is brought into the situation and meets its datagrams.
+fn attack_one(
+    alloc: Global,
+    situation: Situation,
+    draws: &mut Draws,
+    out: &mut TurnOut,
+    tally: &mut Tally,
+) -> Result<(), NoMemory> {
+    let mut conn = connection(alloc, situation.kind())?;
+    meet(alloc, &mut conn, situation, draws, out, tally)
+}
+
 /// Hands all datagrams to connections in this situation, one after another.
-pub(crate) fn attack(alloc: Global, situation: Situation) -> Result<Tally, NoMemory> {
+pub(crate) fn attack(
+    alloc: Global,
+    situation: Situation,
+    out: &mut TurnOut,
+) -> Result<Tally, NoMemory> {
     let mut draws = Draws::new(SEED);
-    let mut out = TurnOut::new(alloc)?;
     let mut tally = Tally {
+        begun: None,
         datagrams: 0,
         packets: 0,
         answers: false,
         broken: None,
     };
     for _ in 0..CONNECTIONS {
-        attack_one(alloc, situation, &mut draws, &mut out, &mut tally)?;
+        attack_one(alloc, situation, &mut draws, out, &mut tally)?;
     }
     Ok(tally)
 }

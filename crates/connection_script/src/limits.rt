@@ -4,7 +4,7 @@
 ghost use Rattle.std.specs.Prelude.{◌≤◌, length, OnOk};
 ghost use Rattle.wrapped_conn.specs.Sound.{IsSound};
 
-use crate::peers::{Answer, all_of, begin, hear, say, say_acked};
+use crate::peers::{Answer, all_of, connection, hear, say, say_acked, start};
 use ft_io::NoMemory;
 use sample_servers::AnyService;
 use seq_arith::ACK;
@@ -125,28 +125,48 @@ fn turns_unacknowledged(
 
 /// The client acknowledges nothing: how many reads there are when 65,504 bytes are made, 65,535, 65,536, and a request more has come; and when it has
 /// acknowledged one byte.
-pub(crate) fn make_unacknowledged(alloc: Global) -> Result<[u32; 5], NoMemory> {
-    let mut out = TurnOut::new(alloc)?;
-    let mut conn = begin(alloc, TRANSFER, &mut out)?;
+pub(crate) fn make_unacknowledged(alloc: Global, out: &mut TurnOut) -> Result<[u32; 5], NoMemory> {
+    let mut conn = connection(alloc, TRANSFER)?;
+    unacknowledged(alloc, &mut conn, out)
+}
+
+fn unacknowledged(
+    alloc: Global,
+    conn: &mut Conn<AnyService>,
+    out: &mut TurnOut,
+) -> Result<[u32; 5], NoMemory>
+    requires { IsSound conn.old }
+{
+    start(alloc, conn, out)?;
     Ok([
-        turns_unacknowledged(alloc, &mut conn, b"\x00\x00\x07\xff", 32, &mut out)?,
-        turn(alloc, &mut conn, b"\x00\x00\x00\x1f", 0, &mut out)?,
-        turn(alloc, &mut conn, b"\x00\x00\x00\x01", 0, &mut out)?,
-        turn(alloc, &mut conn, b"\x00\x00\x00\x01", 0, &mut out)?,
-        turn(alloc, &mut conn, b"", 1, &mut out)?,
+        turns_unacknowledged(alloc, conn, b"\x00\x00\x07\xff", 32, out)?,
+        turn(alloc, conn, b"\x00\x00\x00\x1f", 0, out)?,
+        turn(alloc, conn, b"\x00\x00\x00\x01", 0, out)?,
+        turn(alloc, conn, b"\x00\x00\x00\x01", 0, out)?,
+        turn(alloc, conn, b"", 1, out)?,
     ])
 }
 
 /// The client acknowledges everything: how many reads there are when 15,728,640 bytes are made, one more, and a request more has come.
-pub(crate) fn make_all(alloc: Global) -> Result<[u32; 3], NoMemory> {
+pub(crate) fn make_all(alloc: Global, out: &mut TurnOut) -> Result<[u32; 3], NoMemory> {
+    let mut conn = connection(alloc, TRANSFER)?;
+    acknowledged(alloc, &mut conn, out)
+}
+
+fn acknowledged(
+    alloc: Global,
+    conn: &mut Conn<AnyService>,
+    out: &mut TurnOut,
+) -> Result<[u32; 3], NoMemory>
+    requires { IsSound conn.old }
+{
     let many = requests(2_047);
-    let mut out = TurnOut::new(alloc)?;
-    let mut conn = begin(alloc, TRANSFER, &mut out)?;
-    turns_acknowledged(alloc, &mut conn, &many[..], SEGMENTS, &mut out)?;
-    turns_acknowledged(alloc, &mut conn, b"\x00\x00\x07\xff", 18, &mut out)?;
+    start(alloc, conn, out)?;
+    turns_acknowledged(alloc, conn, &many[..], SEGMENTS, out)?;
+    turns_acknowledged(alloc, conn, b"\x00\x00\x07\xff", 18, out)?;
     Ok([
-        turn_acknowledged(alloc, &mut conn, b"\x00\x00\x06\x03", &mut out)?,
-        turn_acknowledged(alloc, &mut conn, b"\x00\x00\x00\x01", &mut out)?,
-        turn_acknowledged(alloc, &mut conn, b"\x00\x00\x00\x01", &mut out)?,
+        turn_acknowledged(alloc, conn, b"\x00\x00\x06\x03", out)?,
+        turn_acknowledged(alloc, conn, b"\x00\x00\x00\x01", out)?,
+        turn_acknowledged(alloc, conn, b"\x00\x00\x00\x01", out)?,
     ])
 }

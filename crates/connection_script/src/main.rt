@@ -2,18 +2,15 @@
 //! two to its limits, and restarts others from a log. It prints a line for each finding. Statuses: 0, 1 where a rule is broken, 3 without memory.
 #![tactic(auto)]
 
-use ft_io::NoMemory;
 use hostile::{Tally, attack};
 use limits::{make_all, make_unacknowledged};
 use meter::{Filled, fill_all};
 use restarts::play_all;
 use segment_codec::Head;
-use situations::{SITUATIONS, Situation, arranged};
-use std::alloc::Global;
+use situations::{SITUATIONS, Situation};
 use std::io;
 use std::process::ExitCode;
-use tcp_endpoint::StateName;
-use wrapped_conn::{ConnStage, TurnOut};
+use wrapped_conn::TurnOut;
 
 mod hostile;
 mod limits;
@@ -23,42 +20,24 @@ mod restarts;
 mod rules;
 mod situations;
 
-/// The state of a connection's TCP in a situation, and its stage.
-fn standing(alloc: Global, situation: Situation) -> Result<(StateName, ConnStage), NoMemory> {
-    let mut out = TurnOut::new(alloc)?;
-    let conn = arranged(alloc, situation, &mut out)?;
-    Ok((conn.endpoint().state().name, conn.stage()))
-}
-
 fn tell_attack(rt: &impl Print, situation: Situation, tally: Tally) -> io::Result<()> {
     let Tally {
+        begun,
         datagrams,
         packets,
         answers,
         broken,
     } = tally;
+    match begun {
+        Some((name, stage)) => println!(rt; "{situation:?}: {name:?}, {stage:?}")?,
+        None => println!(rt; "{situation:?}: no connection")?,
+    }
     println!(rt; "{situation:?}: {datagrams} datagrams, {packets} of them packets")?;
     let answered = if answers { "segments" } else { "no segment" };
     match broken {
         Some(rule) => println!(rt; "{situation:?}: {answered} left, {rule:?} is broken"),
         None => println!(rt; "{situation:?}: {answered} left, no rule is broken"),
     }
-}
-
-/// The attack in one situation. Whether all rules are kept.
-fn play<R: Print + AllocGlobal>(
-    rt: &R,
-    situation: Situation,
-) -> io::Result<Result<bool, NoMemory>> {
-    let Ok((name, stage)) = standing(rt.alloc(), situation) else {
-        return Ok(Err(NoMemory));
-    };
-    println!(rt; "{situation:?}: {name:?}, {stage:?}")?;
-    let Ok(tally) = attack(rt.alloc(), situation) else {
-        return Ok(Err(NoMemory));
-    };
-    tell_attack(rt, situation, tally)?;
-    Ok(Ok(tally.broken.is_none()))
 }
 
 /// The letters of the flags that a connection sends.
@@ -103,30 +82,57 @@ fn tell_limits(rt: &impl Print, unacknowledged: [u32; 5], all: [u32; 3]) -> io::
     println!(rt; "15728640 bytes made: {a} reads, {b} with one request more, {c} with two")
 }
 
+/// The attack in each situation. Whether all rules are kept, or `None` without memory.
+fn attack_all<R: Print + AllocGlobal>(rt: &R, out: &mut TurnOut) -> io::Result<Option<bool>> {
+    let mut whole = true;
+    for situation in SITUATIONS {
+        let Ok(tally) = attack(rt.alloc(), situation, out) else {
+            return Ok(None);
+        };
+        tell_attack(rt, situation, tally)?;
+        whole = whole && tally.broken.is_none();
+    }
+    Ok(Some(whole))
+}
+
+/// The stream that is filled, and the limits of output. Whether there was memory.
+fn fill_and_tell<R: Print + AllocGlobal>(rt: &R, out: &mut TurnOut) -> io::Result<bool> {
+    let Ok(filled) = fill_all(rt.alloc(), out) else {
+        return Ok(false);
+    };
+    tell_filled(rt, filled)?;
+    let (Ok(unacknowledged), Ok(all)) = (
+        make_unacknowledged(rt.alloc(), out),
+        make_all(rt.alloc(), out),
+    ) else {
+        return Ok(false);
+    };
+    tell_limits(rt, unacknowledged, all)?;
+    Ok(true)
+}
+
+/// All connections that aren't restarted. Whether all rules are kept, or `None` without memory.
+fn play_connections<R: Print + AllocGlobal>(rt: &R) -> io::Result<Option<bool>> {
+    let Ok(mut out) = TurnOut::new(rt.alloc()) else {
+        return Ok(None);
+    };
+    let whole = attack_all(rt, &mut out)?;
+    Ok(if fill_and_tell(rt, &mut out)? {
+        whole
+    } else {
+        None
+    })
+}
+
 fn without_memory(rt: &impl Eprint) -> io::Result<ExitCode> {
     eprintln!(rt; "connection_script: no memory")?;
     Ok(ExitCode::from(3))
 }
 
 fn main(rt: HostRuntime) -> io::Result<ExitCode> {
-    let mut whole = true;
-    for situation in SITUATIONS {
-        let Ok(kept) = play(&rt, situation)? else {
-            return without_memory(&rt);
-        };
-        whole = whole && kept;
-    }
-    let Ok(filled) = fill_all(rt.alloc()) else {
+    let Some(whole) = play_connections(&rt)? else {
         return without_memory(&rt);
     };
-    tell_filled(&rt, filled)?;
-    let Ok(unacknowledged) = make_unacknowledged(rt.alloc()) else {
-        return without_memory(&rt);
-    };
-    let Ok(all) = make_all(rt.alloc()) else {
-        return without_memory(&rt);
-    };
-    tell_limits(&rt, unacknowledged, all)?;
     let Ok(restarts) = play_all(rt.alloc()) else {
         return without_memory(&rt);
     };

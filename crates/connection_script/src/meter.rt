@@ -3,7 +3,7 @@
 ghost use Rattle.std.specs.Prelude.{◌≤◌, length, OnOk};
 ghost use Rattle.wrapped_conn.specs.Sound.{IsSound};
 
-use crate::peers::{Answer, Logged, begin, hear, say};
+use crate::peers::{Answer, Logged, connection, hear, say, start};
 use ft_io::NoMemory;
 use sample_servers::AnyService;
 use segment_codec::{Head, read_packet};
@@ -63,18 +63,29 @@ fn fill(
 }
 
 /// The complete stream arrives, and one byte more.
-pub(crate) fn fill_all(alloc: Global) -> Result<Filled, NoMemory> {
+fn fill_stream(
+    alloc: Global,
+    conn: &mut Conn<AnyService>,
+    out: &mut TurnOut,
+) -> Result<Filled, NoMemory>
+    requires { IsSound conn.old }
+{
     let text = [120u8; 1_460];
-    let mut out = TurnOut::new(alloc)?;
-    let mut conn = begin(alloc, 4, &mut out)?;
+    start(alloc, conn, out)?;
     for number in 0..SEGMENTS {
-        let _acknowledged = fill(alloc, &mut conn, number, &text[..], &mut out)?;
+        let _acknowledged = fill(alloc, conn, number, &text[..], out)?;
     }
-    let full = fill(alloc, &mut conn, SEGMENTS, &text[..LAST], &mut out)?;
-    say(alloc, &mut conn, ACK, b"x", &mut out)?;
+    let full = fill(alloc, conn, SEGMENTS, &text[..LAST], out)?;
+    say(alloc, conn, ACK, b"x", out)?;
     Ok(Filled {
         inside: conn.inside(),
         full,
-        beyond: first_segment(&out),
+        beyond: first_segment(out),
     })
+}
+
+/// A connection whose client fills its stream.
+pub(crate) fn fill_all(alloc: Global, out: &mut TurnOut) -> Result<Filled, NoMemory> {
+    let mut conn = connection(alloc, 4)?;
+    fill_stream(alloc, &mut conn, out)
 }

@@ -42,18 +42,24 @@ pub(crate) enum Answer {
     Reads,
 }
 
-/// A connection with a service of this kind, which has sent its SYN-ACK.
-pub(crate) fn begin(
-    alloc: Global,
-    kind: u8,
-    out: &mut TurnOut,
-) -> Result<Conn<AnyService>, NoMemory>
+/// A connection with a service of this kind, whose client has sent its SYN.
+pub(crate) fn connection(alloc: Global, kind: u8) -> Result<Conn<AnyService>, NoMemory>
     ensures { IfOk result (λ c. IsSound c) }
 {
+    Conn::first(alloc, 1, CLIENT, SERVER, CISN, SISN, 536, kind)
+}
+
+/// The first turn of a connection, which sends its SYN-ACK.
+pub(crate) fn start(
+    alloc: Global,
+    conn: &mut Conn<AnyService>,
+    out: &mut TurnOut,
+) -> Result<(), NoMemory>
+    requires { IsSound conn.old }
+    ensures { OnOk result (IsSound conn.new) }
+{
     out.clear();
-    let mut conn = Conn::first(alloc, 1, CLIENT, SERVER, CISN, SISN, 536, kind)?;
-    conn.start(alloc, out)?;
-    Ok(conn)
+    conn.start(alloc, out)
 }
 
 /// A datagram comes from the client. Nothing is done where it is no packet.

@@ -1,9 +1,9 @@
 //! The situations in which a connection meets hostile datagrams.
 
-ghost use Rattle.std.specs.Prelude.{IfOk, OnOk};
+ghost use Rattle.std.specs.Prelude.{OnOk};
 ghost use Rattle.wrapped_conn.specs.Sound.{IsSound};
 
-use crate::peers::{Answer, all_of, begin, hear, say};
+use crate::peers::{Answer, all_of, hear, say, start};
 use ft_io::NoMemory;
 use sample_servers::AnyService;
 use seq_arith::{ACK, FIN, RST};
@@ -39,6 +39,13 @@ pub(crate) const SITUATIONS: [Situation; 7] = [
     Situation::Ending,
 ];
 
+impl Situation {
+    /// The kind of the service: Quit where the server closes first, and else Echo.
+    pub(crate) fn kind(self) -> u8 {
+        if self == Situation::ServerFirst { 2 } else { 1 }
+    }
+}
+
 /// The logger has all that is taken and read.
 pub(crate) fn log_all(
     alloc: Global,
@@ -52,79 +59,85 @@ pub(crate) fn log_all(
 }
 
 /// The client has sent five bytes to Echo, and closes if asked to.
-fn unlogged(alloc: Global, closes: bool, out: &mut TurnOut) -> Result<Conn<AnyService>, NoMemory>
-    ensures { IfOk result (λ c. IsSound c) }
+fn unlogged(
+    alloc: Global,
+    conn: &mut Conn<AnyService>,
+    closes: bool,
+    out: &mut TurnOut,
+) -> Result<(), NoMemory>
+    requires { IsSound conn.old }
+    ensures { OnOk result (IsSound conn.new) }
 {
-    let mut conn = begin(alloc, 1, out)?;
-    say(alloc, &mut conn, ACK, b"abcde", out)?;
+    say(alloc, conn, ACK, b"abcde", out)?;
     if closes {
-        say(alloc, &mut conn, FIN | ACK, b"", out)?;
+        say(alloc, conn, FIN | ACK, b"", out)?;
     }
-    Ok(conn)
+    Ok(())
 }
 
 /// The client closes first, the server after its echo: it reads the end once the echo is written.
-fn client_first(alloc: Global, out: &mut TurnOut) -> Result<Conn<AnyService>, NoMemory>
-    ensures { IfOk result (λ c. IsSound c) }
+fn client_first(
+    alloc: Global,
+    conn: &mut Conn<AnyService>,
+    out: &mut TurnOut,
+) -> Result<(), NoMemory>
+    requires { IsSound conn.old }
+    ensures { OnOk result (IsSound conn.new) }
 {
-    let mut conn = unlogged(alloc, true, out)?;
-    log_all(alloc, &mut conn, out)?;
-    log_all(alloc, &mut conn, out)?;
-    say(alloc, &mut conn, ACK, b"", out)?;
-    Ok(conn)
+    unlogged(alloc, conn, true, out)?;
+    log_all(alloc, conn, out)?;
+    log_all(alloc, conn, out)?;
+    say(alloc, conn, ACK, b"", out)
 }
 
 /// The server closes first, since it is asked to.
-fn server_first(alloc: Global, out: &mut TurnOut) -> Result<Conn<AnyService>, NoMemory>
-    ensures { IfOk result (λ c. IsSound c) }
-{
-    let mut conn = begin(alloc, 2, out)?;
-    say(alloc, &mut conn, ACK, b"quit\n", out)?;
-    log_all(alloc, &mut conn, out)?;
-    say(alloc, &mut conn, FIN | ACK, b"", out)?;
-    Ok(conn)
-}
-
-/// A tick passes.
-fn tick(conn: &mut Conn<AnyService>, out: &mut TurnOut)
-    requires { IsSound conn.old }
-    ensures { IsSound conn.new }
-{
-    out.clear();
-    conn.on_tick(out);
-}
-
-/// Four ticks after both FINs.
-fn ending(alloc: Global, out: &mut TurnOut) -> Result<Conn<AnyService>, NoMemory>
-    ensures { IfOk result (λ c. IsSound c) }
-{
-    let mut conn = client_first(alloc, out)?;
-    tick(&mut conn, out);
-    tick(&mut conn, out);
-    tick(&mut conn, out);
-    tick(&mut conn, out);
-    Ok(conn)
-}
-
-/// A connection that has come so far.
-pub(crate) fn arranged(
+fn server_first(
     alloc: Global,
+    conn: &mut Conn<AnyService>,
+    out: &mut TurnOut,
+) -> Result<(), NoMemory>
+    requires { IsSound conn.old }
+    ensures { OnOk result (IsSound conn.new) }
+{
+    say(alloc, conn, ACK, b"quit\n", out)?;
+    log_all(alloc, conn, out)?;
+    say(alloc, conn, FIN | ACK, b"", out)
+}
+
+/// Four ticks pass after both FINs.
+fn ending(alloc: Global, conn: &mut Conn<AnyService>, out: &mut TurnOut) -> Result<(), NoMemory>
+    requires { IsSound conn.old }
+    ensures { OnOk result (IsSound conn.new) }
+{
+    client_first(alloc, conn, out)?;
+    for _ in 0..4u32 {
+        out.clear();
+        conn.on_tick(out);
+    }
+    Ok(())
+}
+
+/// Brings a connection, whose SYN has come, so far.
+pub(crate) fn arrange(
+    alloc: Global,
+    conn: &mut Conn<AnyService>,
     situation: Situation,
     out: &mut TurnOut,
-) -> Result<Conn<AnyService>, NoMemory>
-    ensures { IfOk result (λ c. IsSound c) }
+) -> Result<(), NoMemory>
+    requires { IsSound conn.old }
+    ensures { OnOk result (IsSound conn.new) }
 {
+    start(alloc, conn, out)?;
     match situation {
-        Situation::Started => begin(alloc, 1, out),
-        Situation::Unlogged => unlogged(alloc, false, out),
-        Situation::FinTaken => unlogged(alloc, true, out),
-        Situation::ServerFirst => server_first(alloc, out),
-        Situation::ClientFirst => client_first(alloc, out),
+        Situation::Started => Ok(()),
+        Situation::Unlogged => unlogged(alloc, conn, false, out),
+        Situation::FinTaken => unlogged(alloc, conn, true, out),
+        Situation::ServerFirst => server_first(alloc, conn, out),
+        Situation::ClientFirst => client_first(alloc, conn, out),
         Situation::Reset => {
-            let mut conn = unlogged(alloc, false, out)?;
-            say(alloc, &mut conn, RST, b"", out)?;
-            Ok(conn)
+            unlogged(alloc, conn, false, out)?;
+            say(alloc, conn, RST, b"", out)
         }
-        Situation::Ending => ending(alloc, out),
+        Situation::Ending => ending(alloc, conn, out),
     }
 }

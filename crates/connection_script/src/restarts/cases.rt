@@ -1,9 +1,9 @@
 //! The restarts that are played.
 
 use crate::restarts::hostile::attack;
-use crate::restarts::logged::{Logged, NO_MARK};
+use crate::restarts::logged::{Logged, NO_MARK, head_of, lens_of};
 use crate::restarts::marked::marked_cases;
-use crate::restarts::play::{begin, fetch, hand, restore};
+use crate::restarts::play::{BOOT, begin, fetch, hand, restore};
 use ft_io::{Key, NoMemory};
 use reincarnate::Fetching;
 use sample_servers::AnyService;
@@ -37,13 +37,21 @@ pub(crate) fn restart(
     entry: Logged<'_>,
     out: &mut String,
 ) -> Result<(), NoMemory> {
-    out.push_str("case ")?;
-    out.push_str(name)?;
-    out.push_str("\n")?;
-    let entries = [entry];
-    fetch(alloc, &mut fetching, &entries, out)?;
+    fetch_case(alloc, name, &mut fetching, &[entry], out)?;
     restore(alloc, fetching, out)?;
     Ok(())
+}
+
+/// The case's name, and what is asked in it.
+fn fetch_case(
+    alloc: Global,
+    name: &str,
+    fetching: &mut Fetching<AnyService>,
+    entries: &[Logged<'_>],
+    out: &mut String,
+) -> Result<(), NoMemory> {
+    write!(out, "case {name}\n")?;
+    fetch(alloc, fetching, entries, out)
 }
 
 /// An entry of the worked runs' client.
@@ -60,7 +68,7 @@ pub(crate) fn logged<'a>(bytes: &'a [u8], fin: u8, reads: &'a [u16], acked: u32)
 }
 
 /// 64 entries of one byte each; of every second one the connection has ended.
-fn many(alloc: Global, out: &mut String) -> Result<(), NoMemory> {
+fn many_entries(alloc: Global) -> Result<Vec<Logged<'static>>, NoMemory> {
     let mut entries = Vec::new(alloc);
     for i in 0..64u16 {
         entries.push(Logged {
@@ -73,26 +81,43 @@ fn many(alloc: Global, out: &mut String) -> Result<(), NoMemory> {
             mark: NO_MARK,
         })?;
     }
+    Ok(entries)
+}
+
+/// Restores what a log of these entries holds, and says how many connections that is.
+fn restored(alloc: Global, entries: &[Logged<'_>], passed: &mut String) -> Result<u32, NoMemory> {
     let mut fetching = begin(alloc, ECHO, 64, false)?;
-    let mut passed = String::new(alloc);
-    fetch(alloc, &mut fetching, &entries, &mut passed)?;
-    let count = restore(alloc, fetching, &mut passed)?;
-    out.push_str(format!(in alloc; "case 64_entries\nrestored {count}\n")?.as_str())?;
+    fetch(alloc, &mut fetching, entries, passed)?;
+    restore(alloc, fetching, passed)
+}
+
+/// 64 entries, of which only the count of connections is printed.
+fn many(alloc: Global, out: &mut String) -> Result<(), NoMemory> {
+    let entries = many_entries(alloc)?;
+    let count = restored(alloc, &entries, &mut String::new(alloc))?;
+    write!(out, "case 64_entries\nrestored {count}\n")?;
     Ok(())
 }
 
 /// 10,000 messages that answer no question, in the middle of a restart, which continues as if they hadn't arrived.
+fn hostile_fetch(
+    alloc: Global,
+    fetching: &mut Fetching<AnyService>,
+    entry: Logged<'_>,
+    out: &mut String,
+) -> Result<(), NoMemory> {
+    hand(alloc, fetching, &head_of(alloc, BOOT, 0, &entry)?)?;
+    hand(alloc, fetching, &lens_of(alloc, BOOT, &entry, 0)?)?;
+    let fitted = attack(alloc, fetching, &entry, 10_000)?;
+    write!(out, "case hostile_messages\nfitted {fitted}\n")?;
+    fetch(alloc, fetching, &[entry], out)
+}
+
+/// A restart that hostile messages meet.
 fn hostile(alloc: Global, bytes: &[u8], out: &mut String) -> Result<(), NoMemory> {
-    let entry = logged(bytes, 0, &[2_048, 452], 5);
-    let entries = [entry];
     let mut fetching = begin(alloc, METER, 1, false)?;
-    let head = crate::restarts::logged::head_of(alloc, crate::restarts::play::BOOT, 0, &entry)?;
-    hand(alloc, &mut fetching, &head)?;
-    let lens = crate::restarts::logged::lens_of(alloc, crate::restarts::play::BOOT, &entry, 0)?;
-    hand(alloc, &mut fetching, &lens)?;
-    let fitted = attack(alloc, &mut fetching, &entry, 10_000)?;
-    out.push_str(format!(in alloc; "case hostile_messages\nfitted {fitted}\n")?.as_str())?;
-    fetch(alloc, &mut fetching, &entries, out)?;
+    let entry = logged(bytes, 0, &[2_048, 452], 5);
+    hostile_fetch(alloc, &mut fetching, entry, out)?;
     restore(alloc, fetching, out)?;
     Ok(())
 }

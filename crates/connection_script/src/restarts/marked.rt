@@ -1,9 +1,11 @@
 //! Restarts that begin at marks.
 
 use crate::restarts::cases::{ECHO, KEY, METER, logged, restart};
-use crate::restarts::logged::{Logged, Marked, held_of, lens_of, part_of};
+use crate::restarts::logged::{Logged, Marked, head_of, held_of, lens_of, part_of};
 use crate::restarts::play::{BOOT, begin, fetch, hand, restore};
 use ft_io::{Key, NoMemory};
+use reincarnate::Fetching;
+use sample_servers::AnyService;
 use std::alloc::Global;
 
 const LINE: u8 = 2;
@@ -154,30 +156,58 @@ fn wrong(alloc: Global, entry: &Logged<'_>, drawn: u32) -> Result<Vec<u8>, NoMem
     held_of(alloc, BOOT, entry.key, wrong)
 }
 
+/// How many of 1,000 such messages are taken.
+fn attack(
+    alloc: Global,
+    fetching: &mut Fetching<AnyService>,
+    entry: &Logged<'_>,
+) -> Result<u32, NoMemory> {
+    let mut fitted = 0u32;
+    for drawn in 0..1_000u32 {
+        if hand(alloc, fetching, &wrong(alloc, entry, drawn)?)? {
+            fitted = fitted.saturating_add(1);
+        }
+    }
+    Ok(fitted)
+}
+
+/// How many of three equal marks are taken.
+fn hand_thrice(alloc: Global, fetching: &mut Fetching<AnyService>) -> Result<u32, NoMemory> {
+    let held = held_of(alloc, BOOT, KEY, CUT_IN_TWO)?;
+    let mut fitted = 0u32;
+    for _ in 0..3u32 {
+        if hand(alloc, fetching, &held)? {
+            fitted = fitted.saturating_add(1);
+        }
+    }
+    Ok(fitted)
+}
+
 /// 1,000 such messages while a mark is awaited. The restart continues as if they hadn't arrived. Once the mark has come, it is no answer any more.
-fn hostile(alloc: Global, out: &mut String) -> Result<(), NoMemory> {
+fn hostile_fetch(
+    alloc: Global,
+    fetching: &mut Fetching<AnyService>,
+    out: &mut String,
+) -> Result<(), NoMemory> {
     let entry = Logged {
         mark: CUT_IN_TWO,
         ..logged(REQUESTS, 0, &[6, 2], 302)
     };
+    hand(alloc, fetching, &head_of(alloc, BOOT, 0, &entry)?)?;
+    let wrong = attack(alloc, fetching, &entry)?;
+    let right = hand_thrice(alloc, fetching)?;
+    write!(
+        out,
+        "case hostile_marks\nfitted {}\n",
+        wrong.saturating_add(right)
+    )?;
+    fetch(alloc, fetching, &[entry], out)
+}
+
+/// A restart that hostile marks meet.
+fn hostile(alloc: Global, out: &mut String) -> Result<(), NoMemory> {
     let mut fetching = begin(alloc, TRANSFER, 1, true)?;
-    let head = crate::restarts::logged::head_of(alloc, BOOT, 0, &entry)?;
-    hand(alloc, &mut fetching, &head)?;
-    let mut fitted = 0u32;
-    for drawn in 0..1_000u32 {
-        if hand(alloc, &mut fetching, &wrong(alloc, &entry, drawn)?)? {
-            fitted = fitted.saturating_add(1);
-        }
-    }
-    let held = held_of(alloc, BOOT, KEY, CUT_IN_TWO)?;
-    for _ in 0..3u32 {
-        if hand(alloc, &mut fetching, &held)? {
-            fitted = fitted.saturating_add(1);
-        }
-    }
-    out.push_str(format!(in alloc; "case hostile_marks\nfitted {fitted}\n")?.as_str())?;
-    let entries = [entry];
-    fetch(alloc, &mut fetching, &entries, out)?;
+    hostile_fetch(alloc, &mut fetching, out)?;
     restore(alloc, fetching, out)?;
     Ok(())
 }

@@ -1,11 +1,11 @@
 //! One restart.
 
 use crate::restarts::logged::{Logged, any_answer};
-use crate::restarts::text::any_line;
+use crate::restarts::text::tell_question;
 use checkpoint::read_mark;
 use ft_io::{Addr, NoMemory};
 use logger_wire::read_msg;
-use reincarnate::{AnyMsg, Asked, Fetching, LostIn, Replayed, Spliced};
+use reincarnate::{AnyMsg, Asked, Entries, Fetching, LostIn, Replayed, Spliced};
 use sample_servers::AnyService;
 use seq_arith::Seq;
 use std::alloc::Global;
@@ -58,21 +58,23 @@ pub(crate) fn hand(
     }
 }
 
-/// Asks and answers once, and says what was asked; None where nothing is.
+/// What is asked next is printed, and answered; whether anything was asked.
 fn step(
     alloc: Global,
     fetching: &mut Fetching<AnyService>,
     entries: &[Logged<'_>],
-) -> Result<Option<String>, NoMemory> {
-    let (line, bytes) = match fetching.question() {
-        Some(question) => (
-            any_line(alloc, &question)?,
-            any_answer(alloc, BOOT, entries, &question)?,
-        ),
-        None => return Ok(None),
+    out: &mut String,
+) -> Result<bool, NoMemory> {
+    let bytes = match fetching.question() {
+        Some(question) => {
+            tell_question(&question, out)?;
+            any_answer(alloc, BOOT, entries, &question)?
+        }
+        None => return Ok(false),
     };
     hand(alloc, fetching, &bytes)?;
-    Ok(Some(line))
+    write!(out, "held {}\n", fetching.held())?;
+    Ok(true)
 }
 
 /// Asks and answers until nothing is missing.
@@ -83,12 +85,9 @@ pub(crate) fn fetch(
     out: &mut String,
 ) -> Result<(), NoMemory> {
     for _ in 0..QUESTIONS {
-        let Some(line) = step(alloc, fetching, entries)? else {
+        if !step(alloc, fetching, entries, out)? {
             return Ok(());
-        };
-        out.push_str(line.as_str())?;
-        let held = fetching.held();
-        out.push_str(format!(in alloc; "held {held}\n")?.as_str())?;
+        }
     }
     Ok(())
 }
@@ -102,34 +101,43 @@ fn state_of(name: StateName) -> &'static str {
 }
 
 /// Where a connection continues: delta, and the number, acknowledgement and window of the first segment that it would send.
-fn tell(
-    alloc: Global,
-    spliced: &Spliced<AnyService>,
-    pending: &str,
-    out: &mut String,
-) -> Result<(), NoMemory> {
+fn tell(spliced: &Spliced<AnyService>, pending: &str, out: &mut String) -> Result<(), NoMemory> {
     let delta = spliced.south().delta();
-    out.push_str(format!(in alloc; "delta {delta}\n")?.as_str())?;
     let number = spliced.endpoint().sent().add(delta).0;
-    out.push_str(format!(in alloc; "seq {number}\n")?.as_str())?;
     let told = spliced.south().ack_now();
     let (ack, window) = (told.ack.0, told.window);
-    out.push_str(format!(in alloc; "ack {ack}\n")?.as_str())?;
-    out.push_str(format!(in alloc; "window {window}\n")?.as_str())?;
-    out.push_str("state ")?;
-    out.push_str(state_of(spliced.endpoint().state().name))?;
-    out.push_str("\npending ")?;
-    out.push_str(pending)?;
-    out.push_str("\n")?;
+    let state = state_of(spliced.endpoint().state().name);
+    write!(
+        out,
+        "delta {delta}\nseq {number}\nack {ack}\nwindow {window}\n"
+    )?;
+    write!(out, "state {state}\npending {pending}\n")?;
     Ok(())
 }
 
 fn join(alloc: Global, replayed: Replayed<AnyService>, out: &mut String) -> Result<(), NoMemory> {
     let pending = hex::encode(alloc, replayed.pending())?;
     match replayed.splice(alloc, u64::from(BOOT), LOCAL, ISN) {
-        Ok(spliced) => tell(alloc, &spliced, pending.as_str(), out),
+        Ok(spliced) => tell(&spliced, pending.as_str(), out),
         Err(end) => Err(lost(end)),
     }
+}
+
+/// Joins each connection that is replayed, and says how many that is.
+fn join_all(
+    alloc: Global,
+    entries: &mut Entries<AnyService>,
+    out: &mut String,
+) -> Result<u32, NoMemory> {
+    let mut count = 0u32;
+    for _ in 0..64u32 {
+        let Some(replayed) = entries.next() else {
+            return Ok(count);
+        };
+        join(alloc, replayed, out)?;
+        count = count.saturating_add(1);
+    }
+    Ok(count)
 }
 
 /// Restores what is fetched, and says how many connections that is.
@@ -142,14 +150,5 @@ pub(crate) fn restore(
         out.push_str("something is missing\n")?;
         return Ok(0);
     }
-    let mut entries = fetching.finish();
-    let mut count = 0u32;
-    for _ in 0..64u32 {
-        let Some(replayed) = entries.next() else {
-            return Ok(count);
-        };
-        join(alloc, replayed, out)?;
-        count = count.saturating_add(1);
-    }
-    Ok(count)
+    join_all(alloc, &mut fetching.finish(), out)
 }

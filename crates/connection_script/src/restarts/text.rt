@@ -2,29 +2,25 @@
 
 use checkpoint::{MarkBody, MarkMsg};
 use ft_io::NoMemory;
-use logger_wire::{Body, Msg};
+use logger_wire::Body;
 use reincarnate::AnyMsg;
-use std::alloc::Global;
 
-/// The line of a question of either kind.
-pub(crate) fn any_line(alloc: Global, question: &AnyMsg<'_>) -> Result<String, NoMemory> {
+/// Appends the line of a question of either kind.
+pub(crate) fn tell_question(question: &AnyMsg<'_>, out: &mut String) -> Result<(), NoMemory> {
     match question {
-        AnyMsg::Log(question) => question_line(alloc, question),
+        AnyMsg::Log(question) => match question.body {
+            Body::ListMsg { index } => write!(out, "list {index}\n")?,
+            Body::BytesMsg { offset, .. } => write!(out, "bytes {offset}\n")?,
+            Body::CutsMsg { first, .. } => write!(out, "cuts {first}\n")?,
+            _ => out.push_str("another\n")?,
+        },
         AnyMsg::Mark(
             MarkMsg {
                 body: MarkBody::Ask { .. },
                 ..
             },
-        ) => Ok(format!(in alloc; "ask\n")?),
-        AnyMsg::Mark(_) => Ok(format!(in alloc; "another\n")?),
+        ) => out.push_str("ask\n")?,
+        AnyMsg::Mark(_) => out.push_str("another\n")?,
     }
-}
-
-fn question_line(alloc: Global, question: &Msg<'_>) -> Result<String, NoMemory> {
-    Ok(match question.body {
-        Body::ListMsg { index } => format!(in alloc; "list {index}\n")?,
-        Body::BytesMsg { offset, .. } => format!(in alloc; "bytes {offset}\n")?,
-        Body::CutsMsg { first, .. } => format!(in alloc; "cuts {first}\n")?,
-        _ => format!(in alloc; "another\n")?,
-    })
+    Ok(())
 }

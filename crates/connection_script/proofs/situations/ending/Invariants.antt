@@ -1,0 +1,5 @@
+use Rattle.wrapped_conn.specs.Sound.{IsSound}
+use Rattle.connection_script.proofs.situations.ending.Given as goal
+
+abbrev pub invariant-loop : goal.invariant-loop
+invariant-loop l = IsSound l.conn
