@@ -71,15 +71,32 @@ fn give(
     })
 }
 
-/// The log's answer to a datagram in hexadecimal, as a line.
-fn answer_to(alloc: Global, log: &mut TrimStore, text: &str) -> Result<String, NoMemory> {
+/// Writes an answer as a line: `out HEX`, or `out -` without one.
+fn tell_answer(alloc: Global, answer: &[u8], said: &mut String) -> Result<(), NoMemory> {
+    let answer = word_of_bytes(alloc, answer)?;
+    write!(said, "out {answer}")?;
+    Ok(())
+}
+
+/// Writes the log's answer to a datagram.
+fn answer_to(
+    alloc: Global,
+    log: &mut TrimStore,
+    text: &str,
+    said: &mut String,
+) -> Result<(), NoMemory> {
     let Some(datagram) = bytes_of_hex(alloc, text)? else {
-        return Ok(format!(in alloc; "no datagram")?);
+        return tell(said, "no datagram");
     };
     let mut out = MsgOut::new();
     give(alloc, log, datagram.as_slice(), &mut out)?;
-    let answer = word_of_bytes(alloc, out.bytes())?;
-    Ok(format!(in alloc; "out {answer}")?)
+    tell_answer(alloc, out.bytes(), said)
+}
+
+/// Writes a text that is printed as it is.
+fn tell(said: &mut String, text: &str) -> Result<(), NoMemory> {
+    said.push_str(text)?;
+    Ok(())
 }
 
 /// The logs of a script: one that is trimmed by lines, one with marks, and a pair, with what it has sent.
@@ -93,85 +110,101 @@ struct Logs {
 
 impl Logs {
     fn new(alloc: Global) -> Result<Logs, NoMemory> {
+        let sent = TwinOut::new(alloc)?;
+        let pair = Pair::new(alloc)?;
         Ok(Logs {
             trimmed: TrimStore::new(alloc),
             marked: MarkStore::new(alloc),
-            pair: Pair::new(alloc)?,
-            sent: TwinOut::new(alloc)?,
+            pair,
+            sent,
         })
     }
 }
 
-/// Plays a line of the log with marks, and answers what it prints; None where it is another line.
+/// Plays a line of the log with marks, and writes what it prints. Returns whether it is such a line.
 fn play_marked(
     alloc: Global,
     log: &mut MarkStore,
     word: &str,
     rest: &str,
-) -> Result<Option<String>, NoMemory> {
-    let said = match word.as_bytes() {
-        b"marks" => {
+    said: &mut String,
+) -> Result<bool, NoMemory> {
+    match word {
+        "marks" => {
             *log = MarkStore::new(alloc);
-            format!(in alloc; "marks")?
+            tell(said, "marks")?;
         }
-        b"give" => give_bytes(alloc, log, rest)?,
-        b"mark" => mark_line(alloc, log, rest)?,
-        b"ask" => ask_line(alloc, log, rest)?,
-        b"kept" => match rest.strip_prefix("marked ") {
-            Some(place) => kept_marked(alloc, log, place)?,
-            None => return Ok(None),
+        "give" => give_bytes(alloc, log, rest, said)?,
+        "mark" => mark_line(alloc, log, rest, said)?,
+        "ask" => ask_line(alloc, log, rest, said)?,
+        "kept" => match rest.strip_prefix("marked ") {
+            Some(place) => kept_marked(log, place, said)?,
+            None => return Ok(false),
         },
-        _ => return Ok(None),
-    };
-    Ok(Some(said))
+        _ => return Ok(false),
+    }
+    Ok(true)
 }
 
-/// Plays a line of the log that is trimmed, and answers what it prints.
+/// Plays a line of the log that is trimmed, and writes what it prints.
 fn play_trimmed(
     alloc: Global,
     log: &mut TrimStore,
     line: &str,
-    word: &str,
-    rest: &str,
-) -> Result<String, NoMemory> {
-    match word.as_bytes() {
-        b"#" => Ok(format!(in alloc; "{line}")?),
-        b"log" => {
+    said: &mut String,
+) -> Result<(), NoMemory> {
+    let (word, rest) = line.split_once(' ').unwrap_or((line, ""));
+    match word {
+        "#" => tell(said, line),
+        "log" => {
             *log = TrimStore::new(alloc);
-            Ok(format!(in alloc; "log")?)
+            tell(said, "log")
         }
-        b"in" => answer_to(alloc, log, rest),
-        b"state" => {
-            let (boot, count) = (log.boot(), log.count());
-            Ok(format!(in alloc; "state boot {boot} count {count}")?)
-        }
-        b"entry" => entry_at(alloc, log, rest),
-        b"byte" => byte_at(alloc, log, rest),
-        b"length" => length_at(alloc, log, rest),
-        b"trim" => trim_at(alloc, log, rest),
-        b"kept" => kept_at(alloc, log, rest),
-        b"random" => give_random(alloc, log, rest),
-        _ => Ok(format!(in alloc; "no such line")?),
+        "in" => answer_to(alloc, log, rest, said),
+        "random" => give_random(alloc, log, rest, said),
+        "trim" => trim_at(log, rest, said),
+        _ => tell_kept(log, word, rest, said),
     }
 }
 
-/// Plays a line, and answers what it prints.
-fn play(alloc: Global, logs: &mut Logs, line: &str) -> Result<String, NoMemory> {
+/// Writes what a line asks of the log that is trimmed.
+fn tell_kept(log: &TrimStore, word: &str, rest: &str, said: &mut String) -> Result<(), NoMemory> {
+    match word {
+        "state" => {
+            let (boot, count) = (log.boot(), log.count());
+            write!(said, "state boot {boot} count {count}")?;
+            Ok(())
+        }
+        "entry" => entry_at(log, rest, said),
+        "byte" => byte_at(log, rest, said),
+        "length" => length_at(log, rest, said),
+        "kept" => kept_at(log, rest, said),
+        _ => tell(said, "no such line"),
+    }
+}
+
+/// Plays a line, and writes what it prints.
+fn play(alloc: Global, logs: &mut Logs, line: &str, said: &mut String) -> Result<(), NoMemory> {
+    said.clear();
     let (word, rest) = line.split_once(' ').unwrap_or((line, ""));
-    if let Some(said) = play_marked(alloc, &mut logs.marked, word, rest)? {
-        return Ok(said);
+    if play_marked(alloc, &mut logs.marked, word, rest, said)?
+        || play_pair(alloc, &mut logs.pair, word, rest, &mut logs.sent, said)?
+    {
+        return Ok(());
     }
-    match play_pair(alloc, &mut logs.pair, word, rest, &mut logs.sent)? {
-        Some(said) => Ok(said),
-        None => play_trimmed(alloc, &mut logs.trimmed, line, word, rest),
-    }
+    play_trimmed(alloc, &mut logs.trimmed, line, said)
 }
 
 /// Plays a line. Where memory is refused it is played once more, since the logs are then as they were before.
-fn play_again(alloc: Global, logs: &mut Logs, line: &str) -> Result<String, NoMemory> {
-    match play(alloc, logs, line) {
-        Ok(text) => Ok(text),
-        Err(NoMemory) => play(alloc, logs, line),
+fn play_again(
+    alloc: Global,
+    logs: &mut Logs,
+    line: &str,
+    said: &mut String,
+) -> Result<(), NoMemory> {
+    match play(alloc, logs, line, said) {
+        Ok(()) => Ok(()),
+        Err(NoMemory) => play(alloc, logs, line, said),
     }
 }
 
@@ -183,16 +216,21 @@ fn begin_again(alloc: Global) -> Result<Logs, NoMemory> {
     }
 }
 
-fn main(rt: HostRuntime) -> io::Result<()> {
-    let Ok(mut logs) = begin_again(rt.alloc()) else {
-        return println!(rt; "no memory");
-    };
+/// Plays the lines of the input, and prints what each prints.
+fn play_lines(rt: &HostRuntime, logs: &mut Logs) -> io::Result<()> {
+    let mut said = String::new(rt.alloc());
     for line in rt.lines(rt.alloc()) {
-        let Ok(text) = play_again(rt.alloc(), &mut logs, line?.as_str()) else {
-            println!(rt; "no memory")?;
-            return Ok(());
-        };
-        println!(rt; "{text}")?;
+        if play_again(rt.alloc(), logs, line?.as_str(), &mut said).is_err() {
+            return println!(rt; "no memory");
+        }
+        println!(rt; "{said}")?;
     }
     Ok(())
+}
+
+fn main(rt: HostRuntime) -> io::Result<()> {
+    match begin_again(rt.alloc()) {
+        Ok(mut logs) => play_lines(&rt, &mut logs),
+        Err(NoMemory) => println!(rt; "no memory"),
+    }
 }

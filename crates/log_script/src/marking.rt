@@ -1,11 +1,12 @@
 //! The lines that play a log with marks.
 
+use crate::{tell, tell_answer};
 use checkpoint::{MarkBody, MarkMsg, write_mark};
 use ft_io::{Key, NoMemory};
 use logger_store::MsgOut;
 use mark_store::MarkStore;
 use std::alloc::Global;
-use test_data::{bytes_of_word, word_of_bytes};
+use test_data::bytes_of_word;
 
 /// The most that a length and the output may be, in bytes.
 const STREAM: u32 = 1 << 24;
@@ -13,12 +14,16 @@ const STREAM: u32 = 1 << 24;
 /// The longest state, in bytes.
 const STATE: usize = 1_100;
 
-/// Gives bytes to the log, and answers what it answers, as a line.
-fn answer_to(alloc: Global, log: &mut MarkStore, bytes: &[u8]) -> Result<String, NoMemory> {
+/// Gives bytes to the log, and writes what it answers, as a line.
+fn answer_to(
+    alloc: Global,
+    log: &mut MarkStore,
+    bytes: &[u8],
+    said: &mut String,
+) -> Result<(), NoMemory> {
     let mut out = MsgOut::new();
     log.answer(alloc, bytes, &mut out)?;
-    let answer = word_of_bytes(alloc, out.bytes())?;
-    Ok(format!(in alloc; "out {answer}")?)
+    tell_answer(alloc, out.bytes(), said)
 }
 
 /// Gives the bytes of a line to the log.
@@ -26,10 +31,11 @@ pub(crate) fn give_bytes(
     alloc: Global,
     log: &mut MarkStore,
     text: &str,
-) -> Result<String, NoMemory> {
+    said: &mut String,
+) -> Result<(), NoMemory> {
     match bytes_of_word(alloc, text)? {
-        Some(bytes) => answer_to(alloc, log, bytes.as_slice()),
-        None => Ok(format!(in alloc; "no datagram")?),
+        Some(bytes) => answer_to(alloc, log, bytes.as_slice(), said),
+        None => tell(said, "no datagram"),
     }
 }
 
@@ -67,7 +73,8 @@ fn give_mark(
     log: &mut MarkStore,
     numbers: &Numbers,
     state: &[u8],
-) -> Result<String, NoMemory> {
+    said: &mut String,
+) -> Result<(), NoMemory> {
     let Numbers {
         boot,
         key,
@@ -82,7 +89,7 @@ fn give_mark(
         || made > STREAM
         || state.len() > STATE
     {
-        return Ok(format!(in alloc; "no such line")?);
+        return tell(said, "no such line");
     }
     let body = MarkBody::Mark {
         key,
@@ -93,7 +100,7 @@ fn give_mark(
     };
     let mut bytes = [0; 2_048];
     let len = write_mark(&MarkMsg { boot, body }, &mut bytes);
-    answer_to(alloc, log, &bytes[..len])
+    answer_to(alloc, log, &bytes[..len], said)
 }
 
 /// Gives the mark of a line to the log.
@@ -101,46 +108,60 @@ pub(crate) fn mark_line(
     alloc: Global,
     log: &mut MarkStore,
     text: &str,
-) -> Result<String, NoMemory> {
+    said: &mut String,
+) -> Result<(), NoMemory> {
     let words: Vec<&str> = text.split(' ').collect(alloc)?;
     if let [numbers @ .., state] = words.as_slice()
         && let Some(numbers) = numbers_of(numbers)
         && let Some(state) = bytes_of_word(alloc, state)?
     {
-        return give_mark(alloc, log, &numbers, state.as_slice());
+        return give_mark(alloc, log, &numbers, state.as_slice(), said);
     }
-    Ok(format!(in alloc; "no such line")?)
+    tell(said, "no such line")
+}
+
+/// The boot number and the key of a line.
+fn asked(text: &str) -> Option<(u64, Key)> {
+    let (boot, rest) = text.split_once(' ')?;
+    let (ip, port) = rest.split_once(' ')?;
+    let key = Key {
+        ip: ip.parse().ok()?,
+        port: port.parse().ok()?,
+    };
+    Some((boot.parse().ok()?, key))
 }
 
 /// Asks the log for the mark of a line's key.
 #[tactic(auto, unfolding(seq_arith::specs::MarkGrammar::has_length, seq_arith::specs::MarkGrammar::is_sound))]
-pub(crate) fn ask_line(alloc: Global, log: &mut MarkStore, text: &str) -> Result<String, NoMemory> {
-    let words: Vec<&str> = text.split(' ').collect(alloc)?;
-    let [boot, ip, port] = words.as_slice() else {
-        return Ok(format!(in alloc; "no such line")?);
-    };
-    let (Ok(boot), Ok(ip), Ok(port)) = (boot.parse::<u64>(), ip.parse::<u32>(), port.parse::<u16>())
-    else {
-        return Ok(format!(in alloc; "no such line")?);
+pub(crate) fn ask_line(
+    alloc: Global,
+    log: &mut MarkStore,
+    text: &str,
+    said: &mut String,
+) -> Result<(), NoMemory> {
+    let Some((boot, key)) = asked(text) else {
+        return tell(said, "no such line");
     };
     if boot == 0 {
-        return Ok(format!(in alloc; "no such line")?);
+        return tell(said, "no such line");
     }
-    let body = MarkBody::Ask {
-        key: Key { ip, port },
-    };
     let mut bytes = [0; 2_048];
-    let len = write_mark(&MarkMsg { boot, body }, &mut bytes);
-    answer_to(alloc, log, &bytes[..len])
+    let message = MarkMsg {
+        boot,
+        body: MarkBody::Ask { key },
+    };
+    let len = write_mark(&message, &mut bytes);
+    answer_to(alloc, log, &bytes[..len], said)
 }
 
 /// How many bytes of an entry are kept, as a line.
-pub(crate) fn kept_marked(alloc: Global, log: &MarkStore, text: &str) -> Result<String, NoMemory> {
-    if let Ok(place) = text.parse::<u16>()
-        && place < log.count()
-    {
-        let kept = log.kept(place);
-        return Ok(format!(in alloc; "kept marked {place} is {kept}")?);
+pub(crate) fn kept_marked(log: &MarkStore, text: &str, said: &mut String) -> Result<(), NoMemory> {
+    match text.parse::<u16>() {
+        Ok(place) if place < log.count() => {
+            let kept = log.kept(place);
+            write!(said, "kept marked {place} is {kept}")?;
+            Ok(())
+        }
+        _ => tell(said, "no such entry"),
     }
-    Ok(format!(in alloc; "no such entry")?)
 }

@@ -3,7 +3,7 @@
 
 ghost use Rattle.std.specs.Prelude.{◌≡◌, ◌<◌, ◌≤◌, length};
 
-use crate::{Given, give};
+use crate::{Given, give, tell};
 use ft_io::NoMemory;
 use logger_store::{MsgOut, TrimStore};
 use seq_arith::Sum16;
@@ -116,15 +116,16 @@ fn give_all(alloc: Global, log: &mut TrimStore, count: u32, seed: u64) -> Result
     Ok(tally)
 }
 
-/// Gives the log as many datagrams as a line says, and answers what it prints.
+/// Gives the log as many datagrams as a line says, and writes what that prints.
 pub(crate) fn give_random(
     alloc: Global,
     log: &mut TrimStore,
     text: &str,
-) -> Result<String, NoMemory> {
+    said: &mut String,
+) -> Result<(), NoMemory> {
     let (count, seed) = text.split_once(' ').unwrap_or((text, ""));
     let (Ok(count), Ok(seed)) = (count.parse::<u32>(), seed.parse::<u64>()) else {
-        return Ok(format!(in alloc; "no such line")?);
+        return tell(said, "no such line");
     };
     let Tally {
         refused,
@@ -132,7 +133,9 @@ pub(crate) fn give_random(
         silent,
         answers,
     } = give_all(alloc, log, count, seed)?;
-    Ok(format!(in alloc;
+    write!(
+        said,
         "random {count}: refused {refused} answered {answered} silent {silent} answers {answers}"
-    )?)
+    )?;
+    Ok(())
 }

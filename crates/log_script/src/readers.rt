@@ -1,8 +1,8 @@
 //! The lines that print what a log keeps.
 
+use crate::tell;
 use ft_io::NoMemory;
 use logger_store::{EntryHead, TrimStore};
-use std::alloc::Global;
 
 /// Two numbers, separated by a space.
 pub(crate) fn numbers(text: &str) -> Option<(u16, u32)> {
@@ -11,13 +11,21 @@ pub(crate) fn numbers(text: &str) -> Option<(u16, u32)> {
 }
 
 /// The entry at a place, as a line.
-pub(crate) fn entry_at(alloc: Global, log: &TrimStore, text: &str) -> Result<String, NoMemory> {
+pub(crate) fn entry_at(log: &TrimStore, text: &str, said: &mut String) -> Result<(), NoMemory> {
     let Ok(place) = text.parse::<u16>() else {
-        return Ok(format!(in alloc; "no such line")?);
+        return tell(said, "no such line");
     };
-    let Some(entry) = log.entry(place) else {
-        return Ok(format!(in alloc; "entry {place} none")?);
-    };
+    match log.entry(place) {
+        Some(entry) => tell_entry(place, &entry, said),
+        None => {
+            write!(said, "entry {place} none")?;
+            Ok(())
+        }
+    }
+}
+
+/// An entry's numbers, as a line.
+fn tell_entry(place: u16, entry: &EntryHead, said: &mut String) -> Result<(), NoMemory> {
     let EntryHead {
         key,
         cisn,
@@ -28,46 +36,55 @@ pub(crate) fn entry_at(alloc: Global, log: &TrimStore, text: &str) -> Result<Str
         done,
         reads,
         acked,
-    } = entry;
-    let (ip, port) = (key.ip, key.port);
-    Ok(format!(in alloc;
-        "entry {place} ip {ip} port {port} cisn {cisn} sisn {sisn} mss {mss} length {length} fin {fin} done {done} reads {reads} acked {acked}"
-    )?)
+    } = *entry;
+    write!(
+        said,
+        "entry {place} ip {} port {} cisn {cisn} sisn {sisn} mss {mss} ",
+        key.ip, key.port
+    )?;
+    write!(
+        said,
+        "length {length} fin {fin} done {done} reads {reads} acked {acked}"
+    )?;
+    Ok(())
 }
 
 /// The byte at a place of an entry, as a line.
-pub(crate) fn byte_at(alloc: Global, log: &TrimStore, text: &str) -> Result<String, NoMemory> {
+pub(crate) fn byte_at(log: &TrimStore, text: &str, said: &mut String) -> Result<(), NoMemory> {
     if let Some((place, at)) = numbers(text)
         && let Some(entry) = log.entry(place)
         && at < entry.length
         && log.trim_at(place).bytes <= at
     {
         let byte = log.byte(place, at);
-        return Ok(format!(in alloc; "byte {place} {at} is {byte}")?);
+        write!(said, "byte {place} {at} is {byte}")?;
+        return Ok(());
     }
-    Ok(format!(in alloc; "no such byte")?)
+    tell(said, "no such byte")
 }
 
 /// The length of a read of an entry, as a line.
-pub(crate) fn length_at(alloc: Global, log: &TrimStore, text: &str) -> Result<String, NoMemory> {
+pub(crate) fn length_at(log: &TrimStore, text: &str, said: &mut String) -> Result<(), NoMemory> {
     if let Some((place, at)) = numbers(text)
         && let Some(entry) = log.entry(place)
         && at < entry.reads
         && log.trim_at(place).reads <= at
     {
         let length = log.length(place, at);
-        return Ok(format!(in alloc; "length {place} {at} is {length}")?);
+        write!(said, "length {place} {at} is {length}")?;
+        return Ok(());
     }
-    Ok(format!(in alloc; "no such length")?)
+    tell(said, "no such length")
 }
 
 /// How many bytes of an entry are kept, as a line.
-pub(crate) fn kept_at(alloc: Global, log: &TrimStore, text: &str) -> Result<String, NoMemory> {
-    if let Ok(place) = text.parse::<u16>()
-        && place < log.count()
-    {
-        let kept = log.kept(place);
-        return Ok(format!(in alloc; "kept {place} is {kept}")?);
+pub(crate) fn kept_at(log: &TrimStore, text: &str, said: &mut String) -> Result<(), NoMemory> {
+    match text.parse::<u16>() {
+        Ok(place) if place < log.count() => {
+            let kept = log.kept(place);
+            write!(said, "kept {place} is {kept}")?;
+            Ok(())
+        }
+        _ => tell(said, "no such entry"),
     }
-    Ok(format!(in alloc; "no such entry")?)
 }

@@ -1,5 +1,6 @@
 //! Two loggers that act as one, and the lines of a script on them.
 
+use crate::tell;
 use ft_io::NoMemory;
 pub(crate) use pair::Pair;
 use random::play_random;
@@ -13,72 +14,74 @@ mod random;
 
 /// The part of a name.
 fn part_of(name: &str) -> Option<Part> {
-    match name.as_bytes() {
-        b"head" => Some(Part::Head),
-        b"tail" => Some(Part::Tail),
+    match name {
+        "head" => Some(Part::Head),
+        "tail" => Some(Part::Tail),
         _ => None,
     }
 }
 
 /// What is sent, as a line after the part's name.
-fn sent_line(alloc: Global, name: &str, out: &TwinOut) -> Result<String, NoMemory> {
-    let mut line = format!(in alloc; "{name}")?;
+fn tell_sent(alloc: Global, name: &str, out: &TwinOut, said: &mut String) -> Result<(), NoMemory> {
+    said.push_str(name)?;
     if out.len() == 0 {
-        line.push_str(" -")?;
+        said.push_str(" -")?;
     }
     for i in 0..out.len() {
-        line.push_str(match out.to(i) {
+        said.push_str(match out.to(i) {
             Side::Server => " server ",
             Side::Other => " other ",
         })?;
-        let text = hex::encode(alloc, out.bytes(i))?;
-        line.push_str(text.as_str())?;
+        said.push_str(hex::encode(alloc, out.bytes(i))?.as_str())?;
     }
-    Ok(line)
+    Ok(())
 }
 
 /// Gives a part a datagram in hexadecimal.
-fn given(
+fn give_to(
     alloc: Global,
     pair: &mut Pair,
-    name: &str,
+    part: Part,
     from: Side,
     text: &str,
     out: &mut TwinOut,
-) -> Result<String, NoMemory> {
-    let Some(part) = part_of(name) else {
-        return Ok(format!(in alloc; "no such part")?);
-    };
+) -> Result<bool, NoMemory> {
     let Some(datagram) = bytes_of_hex(alloc, text)? else {
-        return Ok(format!(in alloc; "no datagram")?);
+        return Ok(false);
     };
     pair.deliver(alloc, part, from, datagram.as_slice(), out)?;
-    sent_line(alloc, name, out)
+    Ok(true)
 }
 
-/// Gives a part what the other sent at a place.
-fn sent_again(
+/// Delivers what a line that begins with a part's name says. Returns whether it is a line that delivers.
+fn deliver_line(
     alloc: Global,
     pair: &mut Pair,
-    name: &str,
-    text: &str,
+    part: Part,
+    rest: &str,
     out: &mut TwinOut,
-) -> Result<String, NoMemory> {
-    let (Some(part), Ok(place)) = (part_of(name), text.parse::<u32>()) else {
-        return Ok(format!(in alloc; "no such line")?);
-    };
-    pair.deliver_sent(alloc, part, place as usize, out)?;
-    sent_line(alloc, name, out)
+) -> Result<bool, NoMemory> {
+    let (word, text) = rest.split_once(' ').unwrap_or((rest, ""));
+    match word {
+        "server" => give_to(alloc, pair, part, Side::Server, text, out),
+        "other" => give_to(alloc, pair, part, Side::Other, text, out),
+        "sent" => match text.parse::<u32>() {
+            Ok(place) => {
+                pair.deliver_sent(alloc, part, place as usize, out)?;
+                Ok(true)
+            }
+            Err(_) => Ok(false),
+        },
+        _ => Ok(false),
+    }
 }
 
 /// How far a part is, as a line.
-fn log_line(alloc: Global, pair: &Pair, name: &str) -> Result<String, NoMemory> {
-    let Some(part) = part_of(name) else {
-        return Ok(format!(in alloc; "no such part")?);
-    };
+fn tell_log(pair: &Pair, part: Part, name: &str, said: &mut String) -> Result<(), NoMemory> {
     let logger = pair.logger(part);
     let (number, boot, count) = (logger.number(), logger.log().boot(), logger.log().count());
-    Ok(format!(in alloc; "{name} log number {number} boot {boot} count {count}")?)
+    write!(said, "{name} log number {number} boot {boot} count {count}")?;
+    Ok(())
 }
 
 /// Plays a line that begins with a part's name.
@@ -88,37 +91,41 @@ fn play_part(
     name: &str,
     rest: &str,
     out: &mut TwinOut,
-) -> Result<String, NoMemory> {
-    let (word, text) = rest.split_once(' ').unwrap_or((rest, ""));
-    match word.as_bytes() {
-        b"server" => given(alloc, pair, name, Side::Server, text, out),
-        b"other" => given(alloc, pair, name, Side::Other, text, out),
-        b"sent" => sent_again(alloc, pair, name, text, out),
-        b"log" => log_line(alloc, pair, name),
-        _ => Ok(format!(in alloc; "no such line")?),
+    said: &mut String,
+) -> Result<(), NoMemory> {
+    let Some(part) = part_of(name) else {
+        return tell(said, "no such part");
+    };
+    if rest == "log" {
+        return tell_log(pair, part, name, said);
     }
+    if deliver_line(alloc, pair, part, rest, out)? {
+        return tell_sent(alloc, name, out, said);
+    }
+    tell(said, "no such line")
 }
 
-/// Plays a line on a pair, and answers what it prints; None where it is another line.
+/// Plays a line on a pair, and writes what it prints. Returns whether it is such a line.
 pub(crate) fn play_pair(
     alloc: Global,
     pair: &mut Pair,
     word: &str,
     rest: &str,
     out: &mut TwinOut,
-) -> Result<Option<String>, NoMemory> {
-    let said = match word.as_bytes() {
-        b"pair" => {
-            *pair = Pair::new(alloc)?;
-            format!(in alloc; "pair")?
+    said: &mut String,
+) -> Result<bool, NoMemory> {
+    match word {
+        "pair" => {
+            pair.begin_anew(alloc)?;
+            tell(said, "pair")?;
         }
-        b"stop" => {
+        "stop" => {
             pair.stop(if rest == "1" { Part::Head } else { Part::Tail });
-            format!(in alloc; "stop {rest}")?
+            write!(said, "stop {rest}")?;
         }
-        b"lists" => play_random(alloc, rest, out)?,
-        b"head" | b"tail" => play_part(alloc, pair, word, rest, out)?,
-        _ => return Ok(None),
-    };
-    Ok(Some(said))
+        "lists" => play_random(alloc, rest, out, said)?,
+        "head" | "tail" => play_part(alloc, pair, word, rest, out, said)?,
+        _ => return Ok(false),
+    }
+    Ok(true)
 }

@@ -2,6 +2,7 @@
 
 ghost use Rattle.std.specs.Prelude.{◌<◌};
 
+use crate::tell;
 use crate::twins::messages::{ROOM, any_message};
 use crate::twins::pair::Pair;
 use ft_io::NoMemory;
@@ -110,6 +111,39 @@ fn deliver_one(
     deliver_some(alloc, draws, pair, part, kind == 39, out)
 }
 
+/// Plays one list with this pair.
+fn play_list(
+    alloc: Global,
+    len: u32,
+    draws: &mut Draws,
+    pair: &mut Pair,
+    out: &mut TwinOut,
+    tally: &mut Tally,
+) -> Result<(), NoMemory> {
+    for _delivery in 0..len {
+        deliver_one(alloc, draws, pair, out)?;
+        tally.count(out);
+    }
+    let (head, tail) = (pair.logger(Part::Head), pair.logger(Part::Tail));
+    tally.numbers = tally
+        .numbers
+        .wrapping_add(head.number())
+        .wrapping_add(tail.number());
+    Ok(())
+}
+
+/// Plays one list with a new pair.
+fn play_new(
+    alloc: Global,
+    len: u32,
+    draws: &mut Draws,
+    out: &mut TwinOut,
+    tally: &mut Tally,
+) -> Result<(), NoMemory> {
+    let mut pair = Pair::new(alloc)?;
+    play_list(alloc, len, draws, &mut pair, out, tally)
+}
+
 /// Plays this many lists, each with a new pair.
 fn play_lists(
     alloc: Global,
@@ -126,16 +160,7 @@ fn play_lists(
         bytes: 0,
     };
     for _list in 0..count {
-        let mut pair = Pair::new(alloc)?;
-        for _delivery in 0..len {
-            deliver_one(alloc, &mut draws, &mut pair, out)?;
-            tally.count(out);
-        }
-        let (head, tail) = (pair.logger(Part::Head), pair.logger(Part::Tail));
-        tally.numbers = tally
-            .numbers
-            .wrapping_add(head.number())
-            .wrapping_add(tail.number());
+        play_new(alloc, len, &mut draws, out, &mut tally)?;
     }
     Ok(tally)
 }
@@ -147,14 +172,15 @@ fn numbers(text: &str) -> Option<(u32, u32, u64)> {
     Some((count.parse().ok()?, len.parse().ok()?, seed.parse().ok()?))
 }
 
-/// Plays the lists that a line asks for, and answers what it prints.
+/// Plays the lists that a line asks for, and writes what that prints.
 pub(crate) fn play_random(
     alloc: Global,
     text: &str,
     out: &mut TwinOut,
-) -> Result<String, NoMemory> {
+    said: &mut String,
+) -> Result<(), NoMemory> {
     let Some((count, len, seed)) = numbers(text) else {
-        return Ok(format!(in alloc; "no such line")?);
+        return tell(said, "no such line");
     };
     let Tally {
         answers,
@@ -162,7 +188,9 @@ pub(crate) fn play_random(
         numbers,
         bytes,
     } = play_lists(alloc, count, len, seed, out)?;
-    Ok(format!(in alloc;
+    write!(
+        said,
         "lists {count}: answers {answers} others {others} numbers {numbers} bytes {bytes}"
-    )?)
+    )?;
+    Ok(())
 }
