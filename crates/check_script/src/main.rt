@@ -40,16 +40,16 @@ fn play(
     out: &mut Vec<u8>,
 ) -> Result<(), NoMemory> {
     let (word, rest) = line.split_once(' ').unwrap_or((line, ""));
-    match word.as_bytes() {
-        b"#" => say(line, out),
-        b"schedule" => {
+    match word {
+        "#" => say(line, out),
+        "schedule" => {
             *schedule = bytes_of(alloc, rest)?;
             Ok(())
         }
-        b"packet" => ask_packet(alloc, schedule.as_slice(), rest, out),
-        b"event" => ask_event(alloc, rest, out),
-        b"service" => ask_service(alloc, rest, out),
-        b"header" => ask_header(alloc, rest, out),
+        "packet" => ask_packet(alloc, schedule.as_slice(), rest, out),
+        "event" => ask_event(alloc, rest, out),
+        "service" => ask_service(alloc, rest, out),
+        "header" => ask_header(alloc, rest, out),
         _ => say("no such line", out),
     }
 }

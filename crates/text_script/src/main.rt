@@ -40,12 +40,12 @@ fn main(rt: HostRuntime) -> io::Result<()> {
 /// Plays a line, and appends what it prints.
 fn play(alloc: Global, line: &str, out: &mut Vec<u8>) -> Result<(), NoMemory> {
     let (word, rest) = line.split_once(' ').unwrap_or((line, ""));
-    match word.as_bytes() {
-        b"#" => push_line(line, out),
-        b"read" => read(alloc, rest, out),
-        b"many" => read_many(alloc, rest, out),
-        b"script" => say_script(alloc, rest, out),
-        b"packet" => say_packet(alloc, rest, out),
+    match word {
+        "#" => push_line(line, out),
+        "read" => read(alloc, rest, out),
+        "many" => read_many(alloc, rest, out),
+        "script" => say_script(alloc, rest, out),
+        "packet" => say_packet(alloc, rest, out),
         _ => push_line("no such line", out),
     }
 }
@@ -129,12 +129,12 @@ fn say_script(alloc: Global, word: &str, out: &mut Vec<u8>) -> Result<(), NoMemo
 /// Says the line of a packet.
 fn say_packet(alloc: Global, rest: &str, out: &mut Vec<u8>) -> Result<(), NoMemory> {
     let (way, text) = rest.split_once(' ').unwrap_or((rest, ""));
-    let way = match way.as_bytes() {
-        b"up" => Way::ClientToServer(1),
-        b"down" => Way::ServerToClient(1),
-        b"out" => Way::ServerToLogger,
-        b"on" => Way::HeadToTail,
-        b"back" => Way::TailToHead,
+    let way = match way {
+        "up" => Way::ClientToServer(1),
+        "down" => Way::ServerToClient(1),
+        "out" => Way::ServerToLogger,
+        "on" => Way::HeadToTail,
+        "back" => Way::TailToHead,
         _ => Way::LoggerToServer,
     };
     match bytes_of_hex(alloc, text)? {

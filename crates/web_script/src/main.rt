@@ -39,12 +39,12 @@ fn main(rt: HostRuntime) -> io::Result<()> {
 /// Plays a line, and appends what it prints.
 fn play(alloc: Global, line: &str, parts: &mut Parts, out: &mut Vec<u8>) -> Result<(), NoMemory> {
     let (word, rest) = line.split_once(' ').unwrap_or((line, ""));
-    match word.as_bytes() {
-        b"#" => push_line(line, out),
-        b"part" => parts.begin(number(rest)),
-        b"piece" => add_piece(alloc, rest, parts),
-        b"say" => say_one(alloc, rest, out),
-        b"random" => play_random(alloc, rest, parts, out),
+    match word {
+        "#" => push_line(line, out),
+        "part" => parts.begin(number(rest)),
+        "piece" => add_piece(alloc, rest, parts),
+        "say" => say_one(alloc, rest, out),
+        "random" => play_random(alloc, rest, parts, out),
         _ => push_line("no such line", out),
     }
 }
