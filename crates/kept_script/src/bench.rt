@@ -1,17 +1,19 @@
 //! A file in memory, and the log that is kept in it.
 
 use crate::datagrams::long_data;
-use crate::text::{bytes_text, call_count, calls_text, entry_text, log_text, opening_text};
+use crate::text::{
+    call_count, tell, tell_bytes, tell_calls, tell_entry, tell_hex, tell_log, tell_opening,
+};
 use disk::{Death, MemDisk};
 use ft_io::NoMemory;
 use journal::KeepEnd;
-use kept_log::{KeptLog, OpenEnd};
+use kept_log::KeptLog;
 use logger_store::MsgOut;
 use logger_wire::read_msg;
 use std::alloc::Global;
 use test_data::bytes_of_hex;
 
-/// Which calls fail of the files that are opened.
+/// Which calls fail of the files that are opened: their numbers, counted from 1; 0 for none.
 #[derive(Clone, Copy)]
 struct Fails {
     read: u32,
@@ -35,39 +37,55 @@ fn two_numbers(text: &str) -> Option<(u32, u32)> {
     Some((first.parse().ok()?, second.parse().ok()?))
 }
 
-/// The number of a call that fails, if it is none of them.
-fn listed(alloc: Global, number: u32) -> Result<Vec<u32>, NoMemory> {
-    let mut numbers = Vec::new(alloc);
-    if number > 0 {
-        numbers.push(number)?;
-    }
-    Ok(numbers)
+/// The death of a line.
+fn death_of(text: &str) -> Option<Death> {
+    let (calls, rest) = text.split_once(' ')?;
+    let calls = calls.parse::<u32>().ok()?;
+    let (kept, put) = two_numbers(rest)?;
+    Some(Death {
+        calls: calls as usize,
+        kept: kept as usize,
+        is_put: put == 1,
+    })
 }
 
-/// A file that was opened, and what came of it.
-fn opened(
+/// A file of these bytes, with the calls that fail.
+fn disk_of(alloc: Global, bytes: &[u8], fails: Fails) -> Result<MemDisk, NoMemory> {
+    let first = bytes.to_vec(alloc)?;
+    let read_fails = vec![in alloc; fails.read]?;
+    let call_fails = vec![in alloc; fails.call]?;
+    Ok(MemDisk::new(alloc, first, read_fails, call_fails))
+}
+
+/// Writes what comes of an opening of a file of these bytes, with the calls on it.
+fn tell_outcome(
     alloc: Global,
     bytes: &[u8],
     fails: Fails,
-) -> Result<(MemDisk, Result<KeptLog, OpenEnd>), NoMemory> {
-    let first = bytes.to_vec(alloc)?;
-    let mut disk = MemDisk::new(
-        alloc,
-        first,
-        listed(alloc, fails.read)?,
-        listed(alloc, fails.call)?,
-    );
-    let log = KeptLog::open(alloc, &mut disk);
-    Ok((disk, log))
+    said: &mut String,
+) -> Result<(), NoMemory> {
+    let mut disk = disk_of(alloc, bytes, fails)?;
+    let opened = KeptLog::open(alloc, &mut disk);
+    tell_opening(alloc, &opened, &disk, said)
 }
 
-/// What comes of an opening, with the calls on the file.
-fn outcome(alloc: Global, bytes: &[u8], fails: Fails) -> Result<String, NoMemory> {
-    let (disk, log) = opened(alloc, bytes, fails)?;
-    let mut text = opening_text(alloc, &log)?;
-    let calls = calls_text(alloc, &disk, 0)?;
-    text.push_str(calls.as_str())?;
-    Ok(text)
+/// Gives a log a datagram, and writes its answer.
+fn give(
+    alloc: Global,
+    log: &mut KeptLog,
+    datagram: &[u8],
+    said: &mut String,
+) -> Result<(), NoMemory> {
+    let Ok(message) = read_msg(datagram) else {
+        return tell(said, "no message");
+    };
+    if log.is_full() {
+        return tell(said, "full");
+    }
+    let mut out = MsgOut::new();
+    log.take(alloc, datagram, &message, &mut out)?;
+    said.push_str("out ")?;
+    tell_hex(alloc, out.bytes(), said)
 }
 
 impl Bench {
@@ -81,167 +99,170 @@ impl Bench {
         }
     }
 
-    pub(crate) fn set_file(&mut self, alloc: Global, text: &str) -> Result<String, NoMemory> {
-        let Some(file) = bytes_of_hex(alloc, text)? else {
-            return Ok(format!(in alloc; "no bytes")?);
-        };
-        self.file = file;
+    /// Writes how long the next file is.
+    fn tell_file(&self, said: &mut String) -> Result<(), NoMemory> {
         let len = self.file.len();
-        Ok(format!(in alloc; "file {len}")?)
+        write!(said, "file {len}")?;
+        Ok(())
     }
 
-    pub(crate) fn lengthen(&mut self, alloc: Global, text: &str) -> Result<String, NoMemory> {
+    pub(crate) fn set_file(
+        &mut self,
+        alloc: Global,
+        text: &str,
+        said: &mut String,
+    ) -> Result<(), NoMemory> {
+        match bytes_of_hex(alloc, text)? {
+            Some(file) => {
+                self.file = file;
+                self.tell_file(said)
+            }
+            None => tell(said, "no bytes"),
+        }
+    }
+
+    pub(crate) fn lengthen(&mut self, text: &str, said: &mut String) -> Result<(), NoMemory> {
         let Some((count, byte)) = two_numbers(text) else {
-            return Ok(format!(in alloc; "no such line")?);
+            return tell(said, "no such line");
         };
         for _ in 0..count {
             self.file.push((byte % 256) as u8)?;
         }
-        let len = self.file.len();
-        Ok(format!(in alloc; "file {len}")?)
+        self.tell_file(said)
     }
 
-    pub(crate) fn set_fails(&mut self, alloc: Global, text: &str) -> Result<String, NoMemory> {
+    pub(crate) fn set_fails(&mut self, text: &str, said: &mut String) -> Result<(), NoMemory> {
         let Some((read, call)) = two_numbers(text) else {
-            return Ok(format!(in alloc; "no such line")?);
+            return tell(said, "no such line");
         };
         self.fails = Fails { read, call };
-        Ok(format!(in alloc; "fail {read} {call}")?)
+        write!(said, "fail {read} {call}")?;
+        Ok(())
     }
 
-    pub(crate) fn open(&mut self, alloc: Global) -> Result<String, NoMemory> {
-        let (disk, log) = opened(alloc, &self.file, self.fails)?;
-        let mut text = opening_text(alloc, &log)?;
-        let calls = calls_text(alloc, &disk, 0)?;
-        text.push_str(calls.as_str())?;
-        self.shown = call_count(&disk);
-        self.disk = disk;
-        self.log = log.ok();
-        Ok(format!(in alloc; "open {text}")?)
+    pub(crate) fn open(&mut self, alloc: Global, said: &mut String) -> Result<(), NoMemory> {
+        said.push_str("open ")?;
+        self.log = None;
+        self.disk = disk_of(alloc, &self.file, self.fails)?;
+        let opened = KeptLog::open(alloc, &mut self.disk);
+        let told = tell_opening(alloc, &opened, &self.disk, said);
+        self.shown = call_count(&self.disk);
+        self.log = opened.ok();
+        told
     }
 
-    pub(crate) fn open_cuts(&mut self, alloc: Global) -> Result<String, NoMemory> {
-        let mut lines = format!(in alloc; "cuts")?;
+    pub(crate) fn open_cuts(&self, alloc: Global, said: &mut String) -> Result<(), NoMemory> {
+        said.push_str("cuts")?;
         for len in 0..=self.file.len() {
-            let text = outcome(alloc, &self.file[..len], self.fails)?;
-            let line = format!(in alloc; "\n{len} {text}")?;
-            lines.push_str(line.as_str())?;
+            write!(said, "\n{len} ")?;
+            tell_outcome(alloc, &self.file[..len], self.fails, said)?;
         }
-        Ok(lines)
+        Ok(())
     }
 
-    /// What comes of an opening of the file with one bit changed.
-    fn flip(&self, alloc: Global, at: usize, bit: u8) -> Result<String, NoMemory> {
+    /// Writes what comes of an opening of the file with one bit changed.
+    fn flip(&self, alloc: Global, at: usize, bit: u8, said: &mut String) -> Result<(), NoMemory> {
+        write!(said, "\n{at} {bit} ")?;
         let mut bytes = self.file.as_slice().to_vec(alloc)?;
         if let Some(byte) = bytes.get_mut(at) {
             *byte ^= 1u8.wrapping_shl(u32::from(bit));
         }
-        let text = outcome(alloc, &bytes, self.fails)?;
-        Ok(format!(in alloc; "\n{at} {bit} {text}")?)
+        tell_outcome(alloc, &bytes, self.fails, said)
     }
 
-    pub(crate) fn open_flips(&mut self, alloc: Global) -> Result<String, NoMemory> {
-        let mut lines = format!(in alloc; "flips")?;
+    pub(crate) fn open_flips(&self, alloc: Global, said: &mut String) -> Result<(), NoMemory> {
+        said.push_str("flips")?;
         for at in 0..self.file.len() {
             for bit in 0..8u8 {
-                let line = self.flip(alloc, at, bit)?;
-                lines.push_str(line.as_str())?;
+                self.flip(alloc, at, bit, said)?;
             }
         }
-        Ok(lines)
+        Ok(())
     }
 
-    pub(crate) fn take(&mut self, alloc: Global, text: &str) -> Result<String, NoMemory> {
-        let Some(bytes) = bytes_of_hex(alloc, text)? else {
-            return Ok(format!(in alloc; "no datagram")?);
+    pub(crate) fn take(
+        &mut self,
+        alloc: Global,
+        text: &str,
+        said: &mut String,
+    ) -> Result<(), NoMemory> {
+        let Some(datagram) = bytes_of_hex(alloc, text)? else {
+            return tell(said, "no datagram");
         };
-        let Some(log) = &mut self.log else {
-            return Ok(format!(in alloc; "no log")?);
-        };
-        let Ok(message) = read_msg(&bytes) else {
-            return Ok(format!(in alloc; "no message")?);
-        };
-        if log.is_full() {
-            return Ok(format!(in alloc; "full")?);
+        match &mut self.log {
+            Some(log) => give(alloc, log, datagram.as_slice(), said),
+            None => tell(said, "no log"),
         }
-        let mut out = MsgOut::new();
-        log.take(alloc, &bytes, &message, &mut out)?;
-        let answer = hex::encode(alloc, out.bytes())?;
-        Ok(format!(in alloc; "out {answer}")?)
     }
 
-    pub(crate) fn take_long(&mut self, alloc: Global, text: &str) -> Result<String, NoMemory> {
+    pub(crate) fn take_long(
+        &mut self,
+        alloc: Global,
+        text: &str,
+        said: &mut String,
+    ) -> Result<(), NoMemory> {
         let (Some(log), Ok(count)) = (&mut self.log, text.parse::<u32>()) else {
-            return Ok(format!(in alloc; "no log")?);
+            return tell(said, "no log");
         };
         let mut out = MsgOut::new();
         for piece in 0..count {
             if log.is_full() {
-                return Ok(format!(in alloc; "full behind {piece}")?);
+                write!(said, "full behind {piece}")?;
+                return Ok(());
             }
             let bytes = long_data(log.log().boot(), piece);
             if let Ok(message) = read_msg(&bytes) {
                 log.take(alloc, &bytes, &message, &mut out)?;
             }
         }
-        Ok(format!(in alloc; "took {count}")?)
+        write!(said, "took {count}")?;
+        Ok(())
     }
 
-    /// The calls that weren't printed yet.
-    fn new_calls(&mut self, alloc: Global) -> Result<String, NoMemory> {
-        let calls = calls_text(alloc, &self.disk, self.shown)?;
-        self.shown = call_count(&self.disk);
-        Ok(calls)
-    }
-
-    pub(crate) fn commit(&mut self, alloc: Global) -> Result<String, NoMemory> {
+    pub(crate) fn commit(&mut self, alloc: Global, said: &mut String) -> Result<(), NoMemory> {
         let Some(log) = &mut self.log else {
-            return Ok(format!(in alloc; "no log")?);
+            return tell(said, "no log");
         };
         let committed = log.commit(alloc, &mut self.disk);
-        let calls = self.new_calls(alloc)?;
+        if committed.is_err() {
+            self.log = None;
+        }
         match committed {
-            Ok(()) => Ok(format!(in alloc; "commit{calls}")?),
-            Err(KeepEnd::Failed) => {
-                self.log = None;
-                Ok(format!(in alloc; "failed{calls}")?)
-            }
-            Err(KeepEnd::NoMemory) => {
-                self.log = None;
-                Err(NoMemory)
-            }
+            Ok(()) => said.push_str("commit")?,
+            Err(KeepEnd::Failed) => said.push_str("failed")?,
+            Err(KeepEnd::NoMemory) => return Err(NoMemory),
         }
+        tell_calls(alloc, &self.disk, self.shown, said)?;
+        self.shown = call_count(&self.disk);
+        Ok(())
     }
 
-    pub(crate) fn state(&self, alloc: Global) -> Result<String, NoMemory> {
+    pub(crate) fn state(&self, said: &mut String) -> Result<(), NoMemory> {
         match &self.log {
-            Some(log) => log_text(alloc, log),
-            None => Ok(format!(in alloc; "no log")?),
+            Some(log) => tell_log(log, said),
+            None => tell(said, "no log"),
         }
     }
 
-    pub(crate) fn entry(&self, alloc: Global, text: &str) -> Result<String, NoMemory> {
+    pub(crate) fn entry(&self, text: &str, said: &mut String) -> Result<(), NoMemory> {
         match (&self.log, text.parse::<u16>()) {
-            (Some(log), Ok(place)) => entry_text(alloc, log.log(), place),
-            _ => Ok(format!(in alloc; "no log")?),
+            (Some(log), Ok(place)) => tell_entry(log.log(), place, said),
+            _ => tell(said, "no log"),
         }
     }
 
-    pub(crate) fn die(&mut self, alloc: Global, text: &str) -> Result<String, NoMemory> {
-        let Some((calls, rest)) = text.split_once(' ') else {
-            return Ok(format!(in alloc; "no such line")?);
-        };
-        let (Ok(calls), Some((kept, put))) = (calls.parse::<u32>(), two_numbers(rest)) else {
-            return Ok(format!(in alloc; "no such line")?);
-        };
-        let death = Death {
-            calls: calls as usize,
-            kept: kept as usize,
-            is_put: put == 1,
+    pub(crate) fn die(
+        &mut self,
+        alloc: Global,
+        text: &str,
+        said: &mut String,
+    ) -> Result<(), NoMemory> {
+        let Some(death) = death_of(text) else {
+            return tell(said, "no such line");
         };
         self.file = self.disk.after_death(death)?;
         self.log = None;
-        let left = bytes_text(alloc, &self.file)?;
-        Ok(format!(in alloc; "left {left}")?)
+        said.push_str("left ")?;
+        tell_bytes(alloc, &self.file, said)
     }
 }

@@ -14,39 +14,47 @@ use bench::Bench;
 use ft_io::NoMemory;
 use std::alloc::Global;
 use std::io;
+use text::tell;
 
 mod bench;
 mod datagrams;
 mod text;
 
-/// Plays a line, and answers what it prints.
-fn play(alloc: Global, bench: &mut Bench, line: &str) -> Result<String, NoMemory> {
+/// Plays a line, and writes what it prints.
+fn play(alloc: Global, bench: &mut Bench, line: &str, said: &mut String) -> Result<(), NoMemory> {
+    said.clear();
     let (word, rest) = line.split_once(' ').unwrap_or((line, ""));
     match word.as_bytes() {
-        b"#" => Ok(format!(in alloc; "{line}")?),
-        b"file" => bench.set_file(alloc, rest),
-        b"more" => bench.lengthen(alloc, rest),
-        b"fail" => bench.set_fails(alloc, rest),
-        b"open" => bench.open(alloc),
-        b"cuts" => bench.open_cuts(alloc),
-        b"flips" => bench.open_flips(alloc),
-        b"in" => bench.take(alloc, rest),
-        b"long" => bench.take_long(alloc, rest),
-        b"commit" => bench.commit(alloc),
-        b"state" => bench.state(alloc),
-        b"entry" => bench.entry(alloc, rest),
-        b"death" => bench.die(alloc, rest),
-        _ => Ok(format!(in alloc; "no such line")?),
+        b"#" => tell(said, line),
+        b"file" => bench.set_file(alloc, rest, said),
+        b"more" => bench.lengthen(rest, said),
+        b"fail" => bench.set_fails(rest, said),
+        b"open" => bench.open(alloc, said),
+        b"cuts" => bench.open_cuts(alloc, said),
+        b"flips" => bench.open_flips(alloc, said),
+        b"in" => bench.take(alloc, rest, said),
+        b"long" => bench.take_long(alloc, rest, said),
+        b"commit" => bench.commit(alloc, said),
+        b"state" => bench.state(said),
+        b"entry" => bench.entry(rest, said),
+        b"death" => bench.die(alloc, rest, said),
+        _ => tell(said, "no such line"),
     }
 }
 
-fn main(rt: HostRuntime) -> io::Result<()> {
-    let mut bench = Bench::new(rt.alloc());
+/// Plays the lines of the input, and prints what each says.
+fn play_lines(rt: &HostRuntime, bench: &mut Bench, said: &mut String) -> io::Result<()> {
     for line in rt.lines(rt.alloc()) {
-        match play(rt.alloc(), &mut bench, line?.as_str()) {
-            Ok(text) => println!(rt; "{text}")?,
+        match play(rt.alloc(), bench, line?.as_str(), said) {
+            Ok(()) => println!(rt; "{said}")?,
             Err(NoMemory) => println!(rt; "no memory")?,
         }
     }
     Ok(())
+}
+
+fn main(rt: HostRuntime) -> io::Result<()> {
+    let mut bench = Bench::new(rt.alloc());
+    let mut said = String::new(rt.alloc());
+    play_lines(&rt, &mut bench, &mut said)
 }

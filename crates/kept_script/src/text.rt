@@ -1,4 +1,4 @@
-//! What is printed of calls on a file, and of a log.
+//! What is written of calls on a file, and of a log.
 
 use disk::{DeskCall, DiskCall, MemDisk};
 use ft_io::NoMemory;
@@ -10,45 +10,64 @@ use test_data::hashed;
 /// Up to how many bytes are printed in full.
 const SHOWN: usize = 256;
 
-/// Bytes in hexadecimal, or how many they are and their hash.
-pub(crate) fn bytes_text(alloc: Global, bytes: &[u8]) -> Result<String, NoMemory> {
+/// Writes a text that is printed as it is.
+pub(crate) fn tell(said: &mut String, text: &str) -> Result<(), NoMemory> {
+    said.push_str(text)?;
+    Ok(())
+}
+
+/// Writes bytes in hexadecimal.
+pub(crate) fn tell_hex(alloc: Global, bytes: &[u8], said: &mut String) -> Result<(), NoMemory> {
+    tell(said, hex::encode(alloc, bytes)?.as_str())
+}
+
+/// Writes bytes in hexadecimal, or how many they are and their hash.
+pub(crate) fn tell_bytes(alloc: Global, bytes: &[u8], said: &mut String) -> Result<(), NoMemory> {
     if bytes.len() <= SHOWN {
-        return Ok(hex::encode(alloc, bytes)?);
+        return tell_hex(alloc, bytes, said);
     }
     let (len, hash) = (bytes.len(), hashed(0, bytes));
-    Ok(format!(in alloc; "{len} bytes {hash}")?)
+    write!(said, "{len} bytes {hash}")?;
+    Ok(())
 }
 
-/// A call that changes a file, after a semicolon.
-fn disk_call(alloc: Global, call: &DiskCall) -> Result<String, NoMemory> {
-    let (text, failed) = match call {
-        DiskCall::Appended(bytes, failed) => {
-            let bytes = bytes_text(alloc, bytes.as_slice())?;
-            (format!(in alloc; "append {bytes}")?, *failed)
+/// Writes a call that changes a file, after a semicolon.
+fn tell_call(alloc: Global, call: &DiskCall, said: &mut String) -> Result<(), NoMemory> {
+    let failed = match call {
+        DiskCall::Appended(_, failed)
+        | DiskCall::Put(_, _, failed)
+        | DiskCall::Cut(_, failed)
+        | DiskCall::Synced(failed) => *failed,
+    };
+    said.push_str(if failed { "; failed " } else { "; " })?;
+    match call {
+        DiskCall::Appended(bytes, _) => {
+            said.push_str("append ")?;
+            tell_bytes(alloc, bytes.as_slice(), said)?;
         }
-        DiskCall::Put(at, byte, failed) => (format!(in alloc; "put {at} {byte}")?, *failed),
-        DiskCall::Cut(at, failed) => (format!(in alloc; "cut {at}")?, *failed),
-        DiskCall::Synced(failed) => (format!(in alloc; "sync")?, *failed),
-    };
-    if failed {
-        return Ok(format!(in alloc; "; failed {text}")?);
+        DiskCall::Put(at, byte, _) => write!(said, "put {at} {byte}")?,
+        DiskCall::Cut(at, _) => write!(said, "cut {at}")?,
+        DiskCall::Synced(_) => said.push_str("sync")?,
     }
-    Ok(format!(in alloc; "; {text}")?)
+    Ok(())
 }
 
-/// The calls on a disk from one of them on.
-pub(crate) fn calls_text(alloc: Global, disk: &MemDisk, from: usize) -> Result<String, NoMemory> {
+/// Writes the calls on a disk from one of them on.
+pub(crate) fn tell_calls(
+    alloc: Global,
+    disk: &MemDisk,
+    from: usize,
+    said: &mut String,
+) -> Result<(), NoMemory> {
     let Some(calls) = disk.told() else {
-        return Ok(format!(in alloc; "; untold")?);
+        return tell(said, "; untold");
     };
-    let mut text = String::new(alloc);
     for call in calls.iter().skip(from) {
         if let DeskCall::OnDisk(call) = call {
-            let call = disk_call(alloc, call)?;
-            text.push_str(call.as_str())?;
+            tell_call(alloc, call, said)?;
         }
     }
-    Ok(text)
+    Ok(())
 }
 
 /// How many calls a disk has recorded.
@@ -59,29 +78,34 @@ pub(crate) fn call_count(disk: &MemDisk) -> usize {
     }
 }
 
-/// A log's boot number, its count of entries and the place of the closed gate.
-pub(crate) fn log_text(alloc: Global, log: &KeptLog) -> Result<String, NoMemory> {
+/// Writes a log's boot number, its count of entries and the place of the closed gate.
+pub(crate) fn tell_log(log: &KeptLog, said: &mut String) -> Result<(), NoMemory> {
     let (boot, count, end) = (log.log().boot(), log.log().count(), log.end());
-    Ok(format!(in alloc; "boot {boot} count {count} end {end}")?)
+    write!(said, "boot {boot} count {count} end {end}")?;
+    Ok(())
 }
 
-/// What came of an opening.
-pub(crate) fn opening_text(
+/// Writes what came of an opening, with the calls on the file.
+pub(crate) fn tell_opening(
     alloc: Global,
     opened: &Result<KeptLog, OpenEnd>,
-) -> Result<String, NoMemory> {
+    disk: &MemDisk,
+    said: &mut String,
+) -> Result<(), NoMemory> {
     match opened {
-        Ok(log) => log_text(alloc, log),
-        Err(OpenEnd::NoMemory) => Err(NoMemory),
-        Err(OpenEnd::Failed) => Ok(format!(in alloc; "failed")?),
-        Err(OpenEnd::Wrong(at)) => Ok(format!(in alloc; "wrong {at}")?),
+        Ok(log) => tell_log(log, said)?,
+        Err(OpenEnd::NoMemory) => return Err(NoMemory),
+        Err(OpenEnd::Failed) => said.push_str("failed")?,
+        Err(OpenEnd::Wrong(at)) => write!(said, "wrong {at}")?,
     }
+    tell_calls(alloc, disk, 0, said)
 }
 
-/// The entry at a place of a log.
-pub(crate) fn entry_text(alloc: Global, log: &LogStore, place: u16) -> Result<String, NoMemory> {
+/// Writes the entry at a place of a log.
+pub(crate) fn tell_entry(log: &LogStore, place: u16, said: &mut String) -> Result<(), NoMemory> {
     let Some(entry) = log.entry(place) else {
-        return Ok(format!(in alloc; "entry {place} none")?);
+        write!(said, "entry {place} none")?;
+        return Ok(());
     };
     let EntryHead {
         key,
@@ -92,8 +116,10 @@ pub(crate) fn entry_text(alloc: Global, log: &LogStore, place: u16) -> Result<St
         acked,
         ..
     } = entry;
-    let (ip, port) = (key.ip, key.port);
-    Ok(format!(in alloc;
-        "entry {place} ip {ip} port {port} length {length} fin {fin} done {done} reads {reads} acked {acked}"
-    )?)
+    write!(
+        said,
+        "entry {place} ip {} port {} length {length} fin {fin} done {done} reads {reads} acked {acked}",
+        key.ip, key.port
+    )?;
+    Ok(())
 }
