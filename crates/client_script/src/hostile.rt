@@ -1,6 +1,6 @@
 //! Hostile datagrams from a seed, to both clients: half of them are any bytes, and half are packets whose numbers lie near the client's own.
 
-ghost use Rattle.std.specs.Prelude.{◌≤◌};
+ghost use Rattle.std.specs.Prelude.{◌≤◌, ◌^◌, length, IfOk};
 
 use crate::joined::{CLIENT, SERVER};
 use crate::rules::{Kept, Rule, SERVERS, anything, may_follow, require};
@@ -52,6 +52,11 @@ impl Tally {
         if let Err(rule) = kept {
             self.broken = self.broken.or(Some(rule));
         }
+    }
+
+    /// Whether all datagrams have come.
+    fn is_complete(&self) -> bool {
+        self.datagrams >= DATAGRAMS
     }
 }
 
@@ -126,19 +131,24 @@ fn opening(bytes: &[u8]) -> Option<Seq> {
     (answers && head.ack == Seq(ISN).add(1)).then_some(head.seq)
 }
 
-/// A scripted client that has sent its SYN, and in three of four cases, where it is open, some of its script.
-fn scripted(alloc: Global, is_open: bool) -> Result<Client, NoMemory> {
+/// The script, as a client takes it.
+fn script(alloc: Global) -> Result<Vec<u8>, NoMemory>
+    ensures { IfOk result (λ script. length script.items ≤ 2 ^ 24) }
+{
+    Ok(SCRIPT.to_vec(alloc)?)
+}
+
+/// A scripted client that hasn't begun.
+fn scripted(alloc: Global) -> Result<Client, NoMemory> {
     let key = Key {
         ip: CLIENT.ip,
         port: CLIENT.port,
     };
-    let script = SCRIPT.to_vec(alloc)?;
-    let script = if script.len() <= 1 << 24 {
-        script
-    } else {
-        Vec::new(alloc)
-    };
-    let mut client = Client::new(alloc, key, SERVER, ISN, script);
+    Ok(Client::new(alloc, key, SERVER, ISN, script(alloc)?))
+}
+
+/// A scripted client sends its SYN and, where it is open, gets the server's and sends some of its script.
+fn begin(alloc: Global, client: &mut Client, is_open: bool) -> Result<(), NoMemory> {
     let mut out = [0u8; 1_500];
     let _syn = client.step(
         &Event::Begin {
@@ -159,7 +169,7 @@ fn scripted(alloc: Global, is_open: bool) -> Result<Client, NoMemory> {
             &mut out,
         );
     }
-    Ok(client)
+    Ok(())
 }
 
 /// A scripted client's state, as its methods report it.
@@ -195,35 +205,60 @@ fn check_scripted(before: Told, client: &Client, is_packet: bool) -> Kept {
     require(may_follow(before.phase, after.phase), Rule::End)
 }
 
-/// Hands all datagrams to scripted clients, one after another.
-pub(crate) fn attack_scripted(alloc: Global) -> Result<Tally, NoMemory> {
-    let mut draws = Draws::new(SEED);
-    let mut tally = Tally::new();
-    let mut client = scripted(alloc, true)?;
-    let mut base = Some(Seq(SERVER_ISN));
-    let mut age = 0;
+/// A scripted client begins, and meets datagrams until it is reset or has got as many as one gets.
+fn meet_all(
+    alloc: Global,
+    client: &mut Client,
+    is_open: bool,
+    draws: &mut Draws,
+    tally: &mut Tally,
+) -> Result<(), NoMemory> {
+    begin(alloc, client, is_open)?;
+    let mut base = is_open.then_some(Seq(SERVER_ISN));
     let mut out = [0u8; 1_500];
-    for i in 0..DATAGRAMS {
-        if age >= AGE || client.phase() == Phase::Reset {
-            let is_open = draws.below(4) > 0;
-            client = scripted(alloc, is_open)?;
-            base = is_open.then_some(Seq(SERVER_ISN));
-            age = 0;
-        }
-        let before = readers_of(&client);
+    for _ in 0..AGE {
+        let before = readers_of(client);
         let from = base.unwrap_or(Seq(SERVER_ISN));
         let known = Known {
             base: from,
             next: from.add(1).add((before.accepted % 65_536) as u32),
             sent: Seq(ISN).add(1).add(before.sent),
         };
-        let len = datagram(&mut draws, i, known, &mut out);
+        let len = datagram(draws, tally.datagrams, known, &mut out);
         let bytes = &out[..len.min(1_500)];
         client.deliver(alloc, bytes)?;
         base = base.or(opening(bytes));
         let is_packet = read_packet(bytes).is_ok();
-        tally.note(is_packet, check_scripted(before, &client, is_packet));
-        age += 1;
+        tally.note(is_packet, check_scripted(before, client, is_packet));
+        if tally.is_complete() || client.phase() == Phase::Reset {
+            break;
+        }
+    }
+    Ok(())
+}
+
+/// Hands datagrams to a new scripted client.
+fn attack_one_scripted(
+    alloc: Global,
+    is_open: bool,
+    draws: &mut Draws,
+    tally: &mut Tally,
+) -> Result<(), NoMemory> {
+    let mut client = scripted(alloc)?;
+    meet_all(alloc, &mut client, is_open, draws, tally)
+}
+
+/// Hands all datagrams to scripted clients, one after another. The first is open, and each later one in three of four cases.
+pub(crate) fn attack_scripted(alloc: Global) -> Result<Tally, NoMemory> {
+    let mut draws = Draws::new(SEED);
+    let mut tally = Tally::new();
+    let mut is_open = true;
+    for _client in 0..DATAGRAMS {
+        attack_one_scripted(alloc, is_open, &mut draws, &mut tally)?;
+        if tally.is_complete() {
+            break;
+        }
+        is_open = draws.below(4) > 0;
     }
     Ok(tally)
 }
@@ -232,42 +267,36 @@ pub(crate) fn attack_scripted(alloc: Global) -> Result<Tally, NoMemory> {
 #[derive(Drop)]
 struct Target {
     client: LiveClient,
-    out: Outbox,
     /// The server's initial number, once it is known.
     base: Option<Seq>,
     handed: u32,
-    age: u32,
 }
 
 impl Target {
-    fn new(alloc: Global, draws: &mut Draws) -> Result<Target, NoMemory> {
-        let script = SCRIPT.to_vec(alloc)?;
-        let script = if script.len() <= 1 << 24 {
-            script
-        } else {
-            Vec::new(alloc)
-        };
-        let mut target = Target {
-            client: LiveClient::new(alloc, CLIENT, SERVER, ISN, script)?,
-            out: Outbox::new(alloc)?,
+    fn new(alloc: Global) -> Result<Target, NoMemory> {
+        let client = LiveClient::new(alloc, CLIENT, SERVER, ISN, script(alloc)?)?;
+        Ok(Target {
+            client,
             base: None,
             handed: 0,
-            age: 0,
-        };
-        target.flush();
+        })
+    }
+
+    /// The client sends its SYN, and in three of four cases it gets the server's.
+    fn begin(&mut self, draws: &mut Draws, out: &mut Outbox) {
+        self.flush(out);
         if draws.below(4) > 0 {
             let mut packet = [0u8; 1_500];
             let len = syn_ack(&mut packet);
-            target.client.on_packet(&packet[..len]);
-            target.flush();
-            target.base = Some(Seq(SERVER_ISN));
+            self.client.on_packet(&packet[..len]);
+            self.flush(out);
+            self.base = Some(Seq(SERVER_ISN));
         }
-        Ok(target)
     }
 
-    fn flush(&mut self) {
-        self.out.clear();
-        self.client.flush(&mut self.out);
+    fn flush(&mut self, out: &mut Outbox) {
+        out.clear();
+        self.client.flush(out);
     }
 
     /// Checks that the bytes handed out are those that the server sends at that place, and returns how many they are.
@@ -280,72 +309,103 @@ impl Target {
         Ok(count)
     }
 
-    /// The rules on what leaves.
-    fn check_leaving(&self) -> Kept {
-        for i in 0..self.out.len() {
-            let sent = read_packet(self.out.packet(i)).map_err(|_| Rule::Packet)?;
-            let head = sent.head;
-            require(
-                head.src == CLIENT.ip && head.dst == SERVER.ip && head.dport == SERVER.port,
-                Rule::Packet,
-            )?;
-            let first = head.seq.minus(Seq(ISN).add(1)) as usize;
-            let text = sent.payload;
-            require(
-                text.is_empty()
-                    || SCRIPT
-                        .get(first..)
-                        .is_some_and(|rest| rest.starts_with(text)),
-                Rule::Script,
-            )?;
-        }
-        Ok(())
-    }
-
-    /// A datagram comes, some bytes are accepted, and the turn ends.
-    fn meet(&mut self, bytes: &[u8], is_packet: bool, draws: &mut Draws) -> Kept {
+    /// A datagram comes.
+    fn hear(&mut self, bytes: &[u8], is_packet: bool) -> Kept {
         let before = self.client.outcome();
         self.client.on_packet(bytes);
         self.base = self.base.or(opening(bytes));
         let after = self.client.outcome();
         require(before.is_none() || after == before, Rule::End)?;
-        require(is_packet || after == before, Rule::Silence)?;
+        require(is_packet || after == before, Rule::Silence)
+    }
+
+    /// A datagram comes, some bytes are accepted, and the turn ends.
+    fn meet(&mut self, bytes: &[u8], is_packet: bool, draws: &mut Draws, out: &mut Outbox) -> Kept {
+        let is_over = self.client.outcome().is_some();
+        self.hear(bytes, is_packet)?;
         let count = self.accept_some(draws)?;
-        self.flush();
-        require(is_packet || count > 0 || self.out.is_empty(), Rule::Silence)?;
-        if before.is_none() {
-            self.check_leaving()?;
+        self.flush(out);
+        require(is_packet || count > 0 || out.is_empty(), Rule::Silence)?;
+        if !is_over {
+            check_leaving(out)?;
         }
         if draws.below(20) == 0 {
             self.client.on_tick();
-            self.flush();
+            self.flush(out);
         }
-        self.age = self.age.saturating_add(1);
         Ok(())
+    }
+
+    /// The client begins, and meets as many datagrams as one gets.
+    fn meet_all(&mut self, draws: &mut Draws, out: &mut Outbox, tally: &mut Tally) {
+        self.begin(draws, out);
+        let mut packet = [0u8; 1_500];
+        for _ in 0..AGE {
+            let base = self.base.unwrap_or(Seq(SERVER_ISN));
+            let known = Known {
+                base,
+                next: base.add(1).add(self.handed),
+                sent: Seq(ISN).add(1).add(draws.below(22)),
+            };
+            let len = datagram(draws, tally.datagrams, known, &mut packet);
+            let bytes = &packet[..len.min(1_500)];
+            let is_packet = read_packet(bytes).is_ok();
+            tally.note(is_packet, self.meet(bytes, is_packet, draws, out));
+            if tally.is_complete() {
+                break;
+            }
+        }
     }
 }
 
+/// The rules on a packet that leaves.
+fn check_packet(bytes: &[u8]) -> Kept {
+    let sent = read_packet(bytes).map_err(|_| Rule::Packet)?;
+    let head = sent.head;
+    require(
+        head.src == CLIENT.ip && head.dst == SERVER.ip && head.dport == SERVER.port,
+        Rule::Packet,
+    )?;
+    let first = head.seq.minus(Seq(ISN).add(1)) as usize;
+    let text = sent.payload;
+    require(
+        text.is_empty()
+            || SCRIPT
+                .get(first..)
+                .is_some_and(|rest| rest.starts_with(text)),
+        Rule::Script,
+    )
+}
+
+/// The rules on what leaves.
+fn check_leaving(out: &Outbox) -> Kept {
+    for i in 0..out.len() {
+        check_packet(out.packet(i))?;
+    }
+    Ok(())
+}
+
+/// Hands datagrams to a new live client.
+fn attack_one_live(
+    alloc: Global,
+    draws: &mut Draws,
+    out: &mut Outbox,
+    tally: &mut Tally,
+) -> Result<(), NoMemory> {
+    let mut target = Target::new(alloc)?;
+    target.meet_all(draws, out, tally);
+    Ok(())
+}
+
 /// Hands all datagrams to live clients, one after another.
-pub(crate) fn attack_live(alloc: Global) -> Result<Tally, NoMemory> {
+pub(crate) fn attack_live(alloc: Global, out: &mut Outbox) -> Result<Tally, NoMemory> {
     let mut draws = Draws::new(SEED);
     let mut tally = Tally::new();
-    let mut target = Target::new(alloc, &mut draws)?;
-    let mut out = [0u8; 1_500];
-    for i in 0..DATAGRAMS {
-        if target.age >= AGE {
-            target = Target::new(alloc, &mut draws)?;
+    for _client in 0..DATAGRAMS {
+        attack_one_live(alloc, &mut draws, out, &mut tally)?;
+        if tally.is_complete() {
+            break;
         }
-        let base = target.base.unwrap_or(Seq(SERVER_ISN));
-        let known = Known {
-            base,
-            next: base.add(1).add(target.handed),
-            sent: Seq(ISN).add(1).add(draws.below(22)),
-        };
-        let len = datagram(&mut draws, i, known, &mut out);
-        let bytes = &out[..len.min(1_500)];
-        let is_packet = read_packet(bytes).is_ok();
-        let kept = target.meet(bytes, is_packet, &mut draws);
-        tally.note(is_packet, kept);
     }
     Ok(tally)
 }

@@ -1,5 +1,7 @@
 //! A live client and an endpoint of `listen`, joined by ways that lose, repeat and reorder. Each sends a text to the other.
 
+ghost use Rattle.std.specs.Prelude.{◌≤◌, length};
+
 use ft_io::{Addr, NoMemory};
 use peer_client::{ClientEnd, LiveClient};
 use segment_codec::read_packet;
@@ -22,7 +24,7 @@ pub(crate) const SERVER: Addr = Addr {
 const LIMIT: u32 = 1 << 24;
 
 /// How many bytes each sends.
-const LENGTH: usize = 100_000;
+const LENGTH: u32 = 100_000;
 
 /// The client's text.
 const CLIENTS: Pattern = Pattern::Numbers;
@@ -40,6 +42,12 @@ struct Way {
 }
 
 impl Way {
+    fn new(alloc: Global) -> Way {
+        Way {
+            packets: Vec::new(alloc),
+        }
+    }
+
     /// Puts what was sent on its path. One packet in six is lost.
     fn carry(&mut self, alloc: Global, out: &Outbox, draws: &mut Draws) -> Result<(), NoMemory> {
         for i in 0..out.len() {
@@ -63,146 +71,173 @@ impl Way {
     }
 }
 
-/// The server: an endpoint whose user writes a text, closes after it, and keeps what comes.
-#[derive(Drop)]
-struct Server {
-    endpoint: Endpoint,
-    text: Vec<u8>,
-    written: usize,
-    heard: Vec<u8>,
+/// What came of a text so far: how many bytes, and whether they are those that were written.
+#[derive(Clone, Copy)]
+struct Came {
+    count: u32,
+    same: bool,
 }
 
-impl Server {
-    fn act(&mut self) -> Result<(), NoMemory> {
-        let mut buf = [0u8; 3_000];
-        let count = self.endpoint.read(&mut buf).min(buf.len());
-        self.heard.extend_from_slice(&buf[..count])?;
-        let from = self.written.min(self.text.len());
-        let rest = &self.text[from..];
-        if rest.is_empty() {
-            self.endpoint.close();
+impl Came {
+    fn nothing() -> Came {
+        Came {
+            count: 0,
+            same: true,
         }
-        self.written = from
-            + self
-                .endpoint
-                .write(&rest[..rest.len().min(7_000)])
-                .min(rest.len());
-        Ok(())
+    }
+
+    /// The next bytes of this text come.
+    fn take(&mut self, text: Pattern, bytes: &[u8])
+        requires { length bytes.now ≤ 3000 }
+    {
+        self.same = self.same && text.is_part(self.count, bytes);
+        self.count = self.count.saturating_add(bytes.len() as u32);
+    }
+
+    /// Whether the whole text came as it was written.
+    fn is_whole(self) -> bool {
+        self.same && self.count == LENGTH
     }
 }
 
 /// How an exchange ended.
 #[derive(Clone, Copy)]
 pub(crate) struct Joined {
-    pub(crate) accepted: usize,
-    pub(crate) read: usize,
+    pub(crate) accepted: u32,
+    pub(crate) read: u32,
     /// Whether both texts came as they were written.
     pub(crate) same: bool,
     pub(crate) outcome: Option<ClientEnd>,
 }
 
-/// Both ends, the ways to them, and what the client accepted.
+/// Both ends and the ways to them. The server is an endpoint whose user writes a text, and closes after it.
 #[derive(Drop)]
 struct Exchange {
     client: LiveClient,
-    accepted: Vec<u8>,
-    server: Server,
+    /// What the client accepted of the server's text.
+    accepted: Came,
+    server: Endpoint,
+    /// How many bytes of its text the server has written.
+    written: u32,
+    /// What the server read of the client's text.
+    heard: Came,
     to_client: Way,
     to_server: Way,
-    out: Outbox,
     draws: Draws,
 }
 
 impl Exchange {
     fn new(alloc: Global, seed: u64) -> Result<Exchange, NoMemory> {
-        let script = CLIENTS.part(alloc, 0, LENGTH)?;
-        let script = if script.len() <= 1 << 24 {
-            script
-        } else {
-            Vec::new(alloc)
-        };
+        let script = CLIENTS.part(alloc, 0, LENGTH as usize)?;
+        let client = LiveClient::new(alloc, CLIENT, SERVER, 1_000, script)?;
+        let server = Endpoint::listen(alloc, SERVER, Seq(5_000), LIMIT)?;
         Ok(Exchange {
-            client: LiveClient::new(alloc, CLIENT, SERVER, 1_000, script)?,
-            accepted: Vec::new(alloc),
-            server: Server {
-                endpoint: Endpoint::listen(alloc, SERVER, Seq(5_000), LIMIT)?,
-                text: SERVERS.part(alloc, 0, LENGTH)?,
-                written: 0,
-                heard: Vec::new(alloc),
-            },
-            to_client: Way {
-                packets: Vec::new(alloc),
-            },
-            to_server: Way {
-                packets: Vec::new(alloc),
-            },
-            out: Outbox::new(alloc)?,
+            client,
+            accepted: Came::nothing(),
+            server,
+            written: 0,
+            heard: Came::nothing(),
+            to_client: Way::new(alloc),
+            to_server: Way::new(alloc),
             draws: Draws::new(seed),
         })
     }
 
-    fn client_turn(&mut self, alloc: Global) -> Result<(), NoMemory> {
+    fn client_turn(&mut self, alloc: Global, out: &mut Outbox) -> Result<(), NoMemory> {
+        self.call_client(alloc)?;
+        self.accept();
+        self.flush_client(alloc, out)
+    }
+
+    /// The client gets a tick, or a packet where one arrives.
+    fn call_client(&mut self, alloc: Global) -> Result<(), NoMemory> {
         if self.draws.below(3) == 0 {
             self.client.on_tick();
         } else if let Some(packet) = self.to_client.arrival(alloc, &mut self.draws)? {
             self.client.on_packet(packet.as_slice());
         }
+        Ok(())
+    }
+
+    /// The client's user accepts some bytes.
+    fn accept(&mut self) {
         let mut buf = [0u8; 3_000];
         let most = self.draws.below(3_001) as usize;
         let count = self.client.accept(&mut buf[..most]).min(most);
-        self.accepted.extend_from_slice(&buf[..count])?;
-        self.flush_client(alloc)
+        self.accepted.take(SERVERS, &buf[..count]);
     }
 
-    fn flush_client(&mut self, alloc: Global) -> Result<(), NoMemory> {
-        self.out.clear();
-        self.client.flush(&mut self.out);
-        self.to_server.carry(alloc, &self.out, &mut self.draws)
+    fn flush_client(&mut self, alloc: Global, out: &mut Outbox) -> Result<(), NoMemory> {
+        out.clear();
+        self.client.flush(out);
+        self.to_server.carry(alloc, out, &mut self.draws)
     }
 
-    fn server_turn(&mut self, alloc: Global) -> Result<(), NoMemory> {
+    fn server_turn(&mut self, alloc: Global, out: &mut Outbox) -> Result<(), NoMemory> {
+        self.call_server(alloc)?;
+        self.read();
+        self.write();
+        out.clear();
+        self.server.flush(out);
+        self.to_client.carry(alloc, out, &mut self.draws)
+    }
+
+    /// The server gets a tick, or a packet where one arrives.
+    fn call_server(&mut self, alloc: Global) -> Result<(), NoMemory> {
         if self.draws.below(3) == 0 {
-            self.server.endpoint.on_tick();
+            self.server.on_tick();
         } else if let Some(packet) = self.to_server.arrival(alloc, &mut self.draws)? {
             if let Ok(p) = read_packet(packet.as_slice()) {
-                self.server.endpoint.on_packet(p);
+                self.server.on_packet(p);
             }
         }
-        self.server.act()?;
-        self.out.clear();
-        self.server.endpoint.flush(&mut self.out);
-        self.to_client.carry(alloc, &self.out, &mut self.draws)
+        Ok(())
+    }
+
+    /// The server's user reads.
+    fn read(&mut self) {
+        let mut buf = [0u8; 3_000];
+        let count = self.server.read(&mut buf).min(3_000);
+        self.heard.take(CLIENTS, &buf[..count]);
+    }
+
+    /// The server's user writes more of its text, or closes.
+    fn write(&mut self) {
+        let mut buf = [0u8; 7_000];
+        let rest = LENGTH.saturating_sub(self.written).min(7_000) as usize;
+        if rest == 0 {
+            self.server.close();
+        }
+        SERVERS.fill(self.written, &mut buf[..rest]);
+        let count = self.server.write(&buf[..rest]).min(rest);
+        self.written = self.written.saturating_add(count as u32);
     }
 
     /// The client has an outcome, and the rest of what it accepted was handed out.
     fn is_over(&self) -> bool {
-        self.client.outcome().is_some() && self.accepted.len() >= LENGTH
+        self.client.outcome().is_some() && self.accepted.count >= LENGTH
     }
 
-    fn run(&mut self, alloc: Global) -> Result<(), NoMemory> {
-        self.flush_client(alloc)?;
+    fn run(&mut self, alloc: Global, out: &mut Outbox) -> Result<Joined, NoMemory> {
+        self.flush_client(alloc, out)?;
         for _ in 0..TURNS {
             if self.is_over() {
                 break;
             }
-            self.client_turn(alloc)?;
-            self.server_turn(alloc)?;
+            self.client_turn(alloc, out)?;
+            self.server_turn(alloc, out)?;
         }
-        Ok(())
+        Ok(Joined {
+            accepted: self.accepted.count,
+            read: self.heard.count,
+            same: self.accepted.is_whole() && self.heard.is_whole(),
+            outcome: self.client.outcome(),
+        })
     }
 }
 
 /// An exchange from a seed.
-pub(crate) fn join(alloc: Global, seed: u64) -> Result<Joined, NoMemory> {
+pub(crate) fn join(alloc: Global, seed: u64, out: &mut Outbox) -> Result<Joined, NoMemory> {
     let mut exchange = Exchange::new(alloc, seed)?;
-    exchange.run(alloc)?;
-    let sent = CLIENTS.part(alloc, 0, LENGTH)?;
-    let heard = exchange.server.heard.as_slice() == sent.as_slice();
-    let accepted = exchange.accepted.as_slice() == exchange.server.text.as_slice();
-    Ok(Joined {
-        accepted: exchange.accepted.len(),
-        read: exchange.server.heard.len(),
-        same: heard && accepted,
-        outcome: exchange.client.outcome(),
-    })
+    exchange.run(alloc, out)
 }

@@ -5,58 +5,71 @@
 use ft_io::NoMemory;
 use hostile::{Tally, attack_live, attack_scripted};
 use joined::{Joined, join};
+use std::alloc::Global;
 use std::io;
 use std::process::ExitCode;
+use tcp_endpoint::Outbox;
 
 mod hostile;
 mod joined;
 mod rules;
 
-fn tell_joined(rt: &impl Print, seed: u64, joined: Joined) -> io::Result<()> {
+fn tell_joined(seed: u64, joined: Joined, said: &mut String) -> Result<(), NoMemory> {
     let (accepted, read) = (joined.accepted, joined.read);
     let same = if joined.same { "the same" } else { "others" };
-    println!(rt; "seed {seed}: the client accepted {accepted} bytes, and the server read {read}")?;
-    println!(rt; "seed {seed}: they are {same}, {:?}", joined.outcome)
+    write!(
+        said,
+        "seed {seed}: the client accepted {accepted} bytes, and the server read {read}\n"
+    )?;
+    write!(said, "seed {seed}: they are {same}, {:?}\n", joined.outcome)?;
+    Ok(())
 }
 
-fn tell_tally(rt: &impl Print, who: &str, tally: Tally) -> io::Result<()> {
+fn tell_tally(who: &str, tally: Tally, said: &mut String) -> Result<(), NoMemory> {
     let (datagrams, packets) = (tally.datagrams, tally.packets);
-    println!(rt; "{who}: {datagrams} datagrams, {packets} of them packets")?;
+    write!(
+        said,
+        "{who}: {datagrams} datagrams, {packets} of them packets\n"
+    )?;
     match tally.broken {
-        Some(rule) => println!(rt; "{who}: {rule:?} is broken"),
-        None => println!(rt; "{who}: no rule is broken"),
+        Some(rule) => write!(said, "{who}: {rule:?} is broken\n")?,
+        None => write!(said, "{who}: no rule is broken\n")?,
     }
+    Ok(())
 }
 
-fn without_memory(rt: &impl Eprint) -> io::Result<ExitCode> {
-    eprintln!(rt; "client_script: no memory")?;
-    Ok(ExitCode::from(3))
+/// Plays everything, and writes what came of it. What is sent is put into `out`. Whether nothing is lost and no rule is broken.
+fn play(alloc: Global, out: &mut Outbox, said: &mut String) -> Result<bool, NoMemory> {
+    let mut whole = true;
+    for seed in 1..4u64 {
+        let joined = join(alloc, seed, out)?;
+        tell_joined(seed, joined, said)?;
+        whole = whole && joined.same;
+    }
+    let scripted = attack_scripted(alloc)?;
+    tell_tally("scripted client", scripted, said)?;
+    let live = attack_live(alloc, out)?;
+    tell_tally("live client", live, said)?;
+    Ok(whole && scripted.broken.is_none() && live.broken.is_none())
 }
 
-/// The attacks on both clients.
-fn attack<R: Print + AllocGlobal>(rt: &R) -> io::Result<Result<bool, NoMemory>> {
-    let Ok(scripted) = attack_scripted(rt.alloc()) else {
-        return Ok(Err(NoMemory));
+fn play_all(alloc: Global, said: &mut String) -> Result<bool, NoMemory> {
+    let mut out = Outbox::new(alloc)?;
+    play(alloc, &mut out, said)
+}
+
+/// Prints what was written, and answers the status.
+fn end(rt: &HostRuntime, played: Result<bool, NoMemory>, said: &str) -> io::Result<ExitCode> {
+    let Ok(whole) = played else {
+        eprintln!(rt; "client_script: no memory")?;
+        return Ok(ExitCode::from(3));
     };
-    tell_tally(rt, "scripted client", scripted)?;
-    let Ok(live) = attack_live(rt.alloc()) else {
-        return Ok(Err(NoMemory));
-    };
-    tell_tally(rt, "live client", live)?;
-    Ok(Ok(scripted.broken.is_none() && live.broken.is_none()))
+    print!(rt; "{said}")?;
+    Ok(ExitCode::from(if whole { 0 } else { 1 }))
 }
 
 fn main(rt: HostRuntime) -> io::Result<ExitCode> {
-    let mut whole = true;
-    for seed in 1..4u64 {
-        let Ok(joined) = join(rt.alloc(), seed) else {
-            return without_memory(&rt);
-        };
-        whole = whole && joined.same;
-        tell_joined(&rt, seed, joined)?;
-    }
-    match attack(&rt)? {
-        Ok(kept) => Ok(ExitCode::from(if whole && kept { 0 } else { 1 })),
-        Err(NoMemory) => without_memory(&rt),
-    }
+    let mut said = String::new(rt.alloc());
+    let played = play_all(rt.alloc(), &mut said);
+    end(&rt, played, said.as_str())
 }
