@@ -33,14 +33,13 @@ pub(crate) struct Sent {
 }
 
 /// The packets of all cycles, one after the other.
-pub(crate) fn all_sent(alloc: Global, cycles: u32) -> Result<Vec<Sent>, NoMemory>
+pub(crate) fn push_cycles(alloc: Global, cycles: u32, sent: &mut Vec<Sent>) -> Result<(), NoMemory>
     requires { cycles ≤ 100000 }
 {
-    let mut sent = Vec::new(alloc);
     for i in 0..cycles {
-        push_cycle(alloc, i, &mut sent)?;
+        push_cycle(alloc, i, sent)?;
     }
-    Ok(sent)
+    Ok(())
 }
 
 /// The packets of a cycle: the byte, a bare segment, Data, Read, Stable, an acknowledgement, Reads, the echo, the client's acknowledgement of it, and
@@ -162,8 +161,8 @@ fn push_message(alloc: Global, way: Way, m: &Msg<'_>, sent: &mut Vec<Sent>) -> R
 
 /// Adds a packet, unless its bytes are none.
 fn push(alloc: Global, way: Way, bytes: &[u8], sent: &mut Vec<Sent>) -> Result<(), NoMemory> {
-    let bytes = Vec::from_slice(alloc, bytes)?;
-    if is_packet(way, bytes.as_slice()) {
+    if is_packet(way, bytes) {
+        let bytes = Vec::from_slice(alloc, bytes)?;
         sent.push(Sent { way, bytes })?;
     }
     Ok(())

@@ -4,7 +4,7 @@
 
 ghost use Rattle.std.specs.Prelude.{◌≤◌, ◌<◌};
 
-use crate::cycle::{SENT, Sent, all_sent};
+use crate::cycle::{SENT, Sent, push_cycles};
 use anyhow::{Context, Result, bail, ensure};
 use ft_io::{NoMemory, Sink, Source, read_to_limit, write_all};
 use ft_model::Event;
@@ -28,10 +28,9 @@ pub(crate) fn write<O: Sink>(alloc: Global, words: &[&str], out: &mut O) -> Resu
     let cycles: u32 = cycles.parse().context("CYCLES")?;
     ensure!(cycles <= CYCLES, "CYCLES is at most 100,000");
     let rounds: u32 = rounds.parse().context("ROUNDS")?;
-    let Ok(sent) = all_sent(alloc, cycles) else {
-        bail!("no memory");
-    };
-    write_rounds(alloc, sent.as_slice(), cycles, rounds, out)
+    let mut lines = Vec::with_capacity(alloc, 2 * GATHERED)?;
+    let mut sent = Vec::new(alloc);
+    write_rounds(alloc, cycles, rounds, &mut sent, &mut lines, out)
 }
 
 /// How many events a schedule spells, over the rounds of these words.
@@ -57,24 +56,25 @@ fn read_rounds(alloc: Global, text: &[u8], rounds: u32) -> u64 {
     events
 }
 
-/// Writes the lines of all cycles, this many times.
+/// Makes the packets of all cycles, and writes the lines of the cycles this many times.
 fn write_rounds<O: Sink>(
     alloc: Global,
-    sent: &[Sent],
     cycles: u32,
     rounds: u32,
+    sent: &mut Vec<Sent>,
+    lines: &mut Vec<u8>,
     out: &mut O,
 ) -> Result<()>
     requires { cycles ≤ 100000 }
 {
-    let mut lines = Vec::with_capacity(alloc, 2 * GATHERED)?;
+    ensure!(push_cycles(alloc, cycles, sent).is_ok(), "no memory");
     for _ in 0..rounds {
         ensure!(
-            write_cycles(alloc, sent, cycles, &mut lines, out).is_ok(),
+            write_cycles(alloc, sent, cycles, lines, out).is_ok(),
             "no memory, or a fault"
         );
     }
-    ensure!(write_all(out, lines.as_slice()).is_ok(), "a fault");
+    ensure!(write_all(out, lines).is_ok(), "a fault");
     Ok(())
 }
 

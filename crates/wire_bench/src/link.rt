@@ -19,12 +19,8 @@ pub(crate) fn came<R: Net + Clock>(rt: &R, words: &[&str]) -> Result<u64> {
     let bytes: usize = bytes.parse().context("BYTES")?;
     let rounds: u32 = rounds.parse().context("ROUNDS")?;
     ensure!(bytes <= 2048, "BYTES is at most 2048");
-    let mut link = UdpLink::new(rt);
-    let Some(here) = bind_somewhere(&mut link) else {
-        bail!("no port is free");
-    };
     let text = [b'a'; 2048];
-    Ok(exchange(&mut link, here, &text[..bytes], rounds))
+    exchange(&mut UdpLink::new(rt), &text[..bytes], rounds)
 }
 
 /// Binds the link to a port of this machine, and answers its address: `None` where all that were tried are taken.
@@ -41,9 +37,12 @@ fn bind_somewhere<L: Link>(link: &mut L) -> Option<Addr> {
     None
 }
 
-/// So many times a send and a receive, and how many bytes came back. Where 20 milliseconds are over the receive gives nothing, and
-/// the datagram is asked for once more.
-fn exchange<L: Link>(link: &mut L, here: Addr, text: &[u8], rounds: u32) -> u64 {
+/// Binds the link, then sends to it and receives so many times, and returns how many bytes came back. Where 20 milliseconds are over the receive gives
+/// nothing, and the datagram is asked for once more.
+fn exchange<L: Link>(link: &mut L, text: &[u8], rounds: u32) -> Result<u64> {
+    let Some(here) = bind_somewhere(link) else {
+        bail!("no port is free");
+    };
     let mut buf = [0u8; 2048];
     let mut came = 0u64;
     for _ in 0..rounds {
@@ -58,5 +57,5 @@ fn exchange<L: Link>(link: &mut L, here: Addr, text: &[u8], rounds: u32) -> u64 
             came = came.wrapping_add(len as u64);
         }
     }
-    came
+    Ok(came)
 }

@@ -23,8 +23,13 @@ mod packets;
 fn main(rt: HostRuntime) -> Result<()> {
     let words: Vec<String> = env::args(&rt)?.skip(1).collect(rt.alloc())?;
     let words: Vec<&str> = words.iter().map(|word| word.as_str()).collect(rt.alloc())?;
-    for command in words.as_slice().split(|word| *word == "then") {
-        play(&rt, command)?;
+    play_all(&rt, &words)
+}
+
+/// Does what the words of each command ask for, until one fails.
+fn play_all<R: AllocGlobal + Input + Print + Net + Clock>(rt: &R, words: &[&str]) -> Result<()> {
+    for command in words.split(|word| *word == "then") {
+        play(rt, command)?;
     }
     Ok(())
 }
@@ -32,23 +37,30 @@ fn main(rt: HostRuntime) -> Result<()> {
 /// Does what the words of one command ask for.
 fn play<R: AllocGlobal + Input + Print + Net + Clock>(rt: &R, command: &[&str]) -> Result<()> {
     match command {
-        ["packets", words @ ..] => {
-            println!(rt; "{}", packets::total(rt.alloc(), words)?)?;
+        ["packets", words @ ..] => print(rt, packets::total(rt.alloc(), words), ""),
+        ["messages", words @ ..] => print(rt, messages::total(rt.alloc(), words), ""),
+        ["lines", words @ ..] => play_lines(rt, words),
+        ["link", words @ ..] => print(rt, link::came(rt, words), " bytes"),
+        _ => bail!("wire_bench packets|messages|lines|link WORD.."),
+    }
+}
+
+/// .. those after `lines`.
+fn play_lines<R: AllocGlobal + Input + Print>(rt: &R, words: &[&str]) -> Result<()> {
+    match words {
+        ["write", words @ ..] => {
+            lines::write(rt.alloc(), words, &mut WriteSink::new(io::writer(rt)))
         }
-        ["messages", words @ ..] => {
-            println!(rt; "{}", messages::total(rt.alloc(), words)?)?;
-        }
-        ["lines", "write", words @ ..] => {
-            lines::write(rt.alloc(), words, &mut WriteSink::new(io::writer(rt)))?;
-        }
-        ["lines", "read", words @ ..] => {
-            let events = lines::read(rt.alloc(), words, &mut ReadSource::new(rt.reader()))?;
-            println!(rt; "{events}")?;
-        }
-        ["link", words @ ..] => {
-            println!(rt; "{} bytes", link::came(rt, words)?)?;
+        ["read", words @ ..] => {
+            let events = lines::read(rt.alloc(), words, &mut ReadSource::new(rt.reader()));
+            print(rt, events, "")
         }
         _ => bail!("wire_bench packets|messages|lines|link WORD.."),
     }
+}
+
+/// Prints a number and its unit. Its error is handed on.
+fn print(rt: &impl Print, number: Result<u64>, unit: &str) -> Result<()> {
+    println!(rt; "{}{unit}", number?)?;
     Ok(())
 }

@@ -28,8 +28,8 @@ pub(crate) fn total(alloc: Global, words: &[&str]) -> Result<u64> {
     if *what == "write" {
         return Ok(write_all(is_data, &text, rounds));
     }
-    let messages = make(alloc, is_data, &text)?;
-    Ok(read_all(messages.as_slice(), if is_data { 1491 } else { 28 }, rounds))
+    let mut messages = Vec::new(alloc);
+    read_all(is_data, &text, rounds, &mut messages)
 }
 
 /// The ith Data with this text, or the ith length of a read.
@@ -62,16 +62,15 @@ fn message(is_data: bool, i: u32, text: &[u8]) -> Msg<'_>
 }
 
 /// The messages, one after the other.
-fn make(alloc: Global, is_data: bool, text: &[u8]) -> Result<Vec<u8>, AllocError>
+fn push_messages(is_data: bool, text: &[u8], messages: &mut Vec<u8>) -> Result<(), AllocError>
     requires { length text.now ≡ 1460 }
 {
     let mut out = [0u8; 2048];
-    let mut messages = Vec::new(alloc);
     for i in 0..MESSAGES {
         let len = write_msg(&message(is_data, i, text), &mut out);
         messages.extend_from_slice(&out[..len.min(2048)])?;
     }
-    Ok(messages)
+    Ok(())
 }
 
 fn write_all(is_data: bool, text: &[u8], rounds: u32) -> u64
@@ -89,9 +88,12 @@ fn write_all(is_data: bool, text: &[u8], rounds: u32) -> u64
     total
 }
 
-fn read_all(messages: &[u8], len: usize, rounds: u32) -> u64
-    requires { 0 < len }
+/// Writes the messages into an empty vector, reads each of them so many times, and returns what they add up to.
+fn read_all(is_data: bool, text: &[u8], rounds: u32, messages: &mut Vec<u8>) -> Result<u64>
+    requires { length text.now ≡ 1460 }
 {
+    push_messages(is_data, text, messages)?;
+    let len = if is_data { 1491 } else { 28 };
     let mut total = 0u64;
     for _ in 0..rounds {
         for message in messages.chunks_exact(len) {
@@ -101,7 +103,7 @@ fn read_all(messages: &[u8], len: usize, rounds: u32) -> u64
             });
         }
     }
-    total
+    Ok(total)
 }
 
 /// Its number, and how many bytes or which length it brings.

@@ -21,22 +21,30 @@ pub(crate) fn total(alloc: Global, words: &[&str]) -> Result<u64> {
     let bytes: usize = bytes.parse().context("BYTES")?;
     let rounds: u32 = rounds.parse().context("ROUNDS")?;
     ensure!(40 <= bytes && bytes <= 1500, "BYTES is 40 to 1500");
-    let mut packets = make(alloc, bytes)?;
+    let mut packets = Vec::new(alloc);
+    add_up(bytes, rounds, sets, &mut packets)
+}
+
+/// Writes packets of this length into an empty vector, reads or sets them so many times, and returns what they add up to.
+fn add_up(bytes: usize, rounds: u32, sets: bool, packets: &mut Vec<u8>) -> Result<u64>
+    requires long { 40 ≤ bytes }
+    requires short { bytes ≤ 1500 }
+{
+    push_packets(bytes, packets)?;
     if !sets {
-        return Ok(read_all(packets.as_slice(), bytes, rounds));
+        return Ok(read_all(packets, bytes, rounds));
     }
     set_all(packets.as_mut_slice(), bytes, rounds);
-    Ok(read_all(packets.as_slice(), bytes, 1).wrapping_add(checks(packets.as_slice(), bytes)))
+    Ok(read_all(packets, bytes, 1).wrapping_add(checks(packets, bytes)))
 }
 
 /// Packets of this length, one after the other. The ith has the sequence number i.
-fn make(alloc: Global, bytes: usize) -> Result<Vec<u8>, AllocError>
+fn push_packets(bytes: usize, packets: &mut Vec<u8>) -> Result<(), AllocError>
     requires long { 40 ≤ bytes }
     requires short { bytes ≤ 1500 }
 {
     let text = [b'a'; 1460];
     let mut out = [0u8; 1500];
-    let mut packets = Vec::new(alloc);
     for i in 0..PACKETS {
         let head = Head {
             src: 0xC000_0201,
@@ -52,7 +60,7 @@ fn make(alloc: Global, bytes: usize) -> Result<Vec<u8>, AllocError>
         let len = write_packet(&head, &text[..bytes - 40], &mut out);
         packets.extend_from_slice(&out[..len])?;
     }
-    Ok(packets)
+    Ok(())
 }
 
 fn read_all(packets: &[u8], bytes: usize, rounds: u32) -> u64
