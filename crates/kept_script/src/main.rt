@@ -24,20 +24,20 @@ mod text;
 fn play(alloc: Global, bench: &mut Bench, line: &str, said: &mut String) -> Result<(), NoMemory> {
     said.clear();
     let (word, rest) = line.split_once(' ').unwrap_or((line, ""));
-    match word.as_bytes() {
-        b"#" => tell(said, line),
-        b"file" => bench.set_file(alloc, rest, said),
-        b"more" => bench.lengthen(rest, said),
-        b"fail" => bench.set_fails(rest, said),
-        b"open" => bench.open(alloc, said),
-        b"cuts" => bench.open_cuts(alloc, said),
-        b"flips" => bench.open_flips(alloc, said),
-        b"in" => bench.take(alloc, rest, said),
-        b"long" => bench.take_long(alloc, rest, said),
-        b"commit" => bench.commit(alloc, said),
-        b"state" => bench.state(said),
-        b"entry" => bench.entry(rest, said),
-        b"death" => bench.die(alloc, rest, said),
+    match word {
+        "#" => tell(said, line),
+        "file" => bench.set_file(alloc, rest, said),
+        "more" => bench.lengthen(rest, said),
+        "fail" => bench.set_fails(rest, said),
+        "open" => bench.open(alloc, said),
+        "cuts" => bench.open_cuts(alloc, said),
+        "flips" => bench.open_flips(alloc, said),
+        "in" => bench.take(alloc, rest, said),
+        "long" => bench.take_long(alloc, rest, said),
+        "commit" => bench.commit(alloc, said),
+        "state" => bench.state(said),
+        "entry" => bench.entry(rest, said),
+        "death" => bench.die(alloc, rest, said),
         _ => tell(said, "no such line"),
     }
 }
