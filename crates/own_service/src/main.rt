@@ -2,7 +2,7 @@
 //! each client has accepted, next to what a server that never failed would have answered.
 #![tactic(auto)]
 
-ghost use Rattle.std.specs.Prelude.{◌≡◌, ◌≤◌, length, IfOk, IfSome};
+ghost use Rattle.std.specs.Prelude.{◌≡◌, ◌≤◌, [], length, IfOk, IfSome, OnOk};
 ghost use Rattle.std.specs.List.{AllByRecursion};
 ghost use Rattle.ft_model.specs.Playable.{IsPlayable};
 ghost use Rattle.net_schedule.specs.WorldView.{kept};
@@ -14,7 +14,7 @@ use ft_io::{NoMemory, ReadSource, read_to_limit};
 use ft_model::Script;
 use ft_model::grammar::{accepted_schedules_can_be_played, accepted_schedules_keep_the_limits};
 use ft_model::headline::clients_see_an_unfailing_server;
-use net_schedule::World;
+use net_schedule::{StepEnd, World};
 use schedule_text::{Schedule, read_schedule};
 use server_trait::{CHUNK_LIMIT, Service};
 use std::alloc::Global;
@@ -28,15 +28,68 @@ fn main(rt: HostRuntime) -> io::Result<()> {
     let Ok(text) = read_to_limit(rt.alloc(), &mut input, TEXT_LIMIT) else {
         return println!(rt; "no text");
     };
-    let Some(schedule) = read(rt.alloc(), &text) else {
-        return println!(rt; "no schedule");
-    };
-    let Some(world) = play(rt.alloc(), &schedule) else {
-        return println!(rt; "not played");
-    };
-    match tell(rt.alloc(), &schedule, &world) {
-        Ok(lines) => print!(rt; "{lines}"),
-        Err(_) => println!(rt; "no memory"),
+    let mut lines = String::new(rt.alloc());
+    match play_text(rt.alloc(), &text, &mut lines) {
+        Ok(()) => print!(rt; "{lines}"),
+        Err(end) => println!(rt; "{}", end.text()),
+    }
+}
+
+/// Why a run has nothing to print.
+#[derive(Clone, Copy, Debug, PartialEq, Eq)]
+enum End {
+    NoSchedule,
+    NotPlayed,
+    NoMemory,
+}
+
+impl End {
+    fn text(self) -> &'static str {
+        match self {
+            End::NoSchedule => "no schedule",
+            End::NotPlayed => "not played",
+            End::NoMemory => "no memory",
+        }
+    }
+}
+
+/// Plays the schedule that a text spells, and writes what is printed of its clients.
+fn play_text(alloc: Global, text: &[u8], lines: &mut String) -> Result<(), End> {
+    match read(alloc, text) {
+        Some(schedule) => play_schedule(alloc, &schedule, lines),
+        None => Err(End::NoSchedule),
+    }
+}
+
+/// Plays a schedule with one logger in a world of its own.
+fn play_schedule(alloc: Global, schedule: &Schedule, lines: &mut String) -> Result<(), End>
+    requires playable { IsPlayable schedule.now }
+    requires few { length schedule.now.clients ≤ 16 }
+{
+    if schedule.twin || schedule.marks.is_some() {
+        return Err(End::NotPlayed);
+    }
+    match World::new(alloc, schedule) {
+        Ok(mut world) => play_in(alloc, schedule, &mut world, lines),
+        Err(NoMemory) => Err(End::NoMemory),
+    }
+}
+
+/// Plays a schedule in the world in which it starts, and writes what is printed at the end.
+fn play_in(
+    alloc: Global,
+    schedule: &Schedule,
+    world: &mut World<Counter>,
+    lines: &mut String,
+) -> Result<(), End>
+    requires { IsPlayed schedule.now [] (kept world.old) }
+{
+    if play(alloc, schedule, world).is_err() {
+        return Err(End::NotPlayed);
+    }
+    match tell(alloc, schedule, world, lines) {
+        Ok(()) => Ok(()),
+        Err(NoMemory) => Err(End::NoMemory),
     }
 }
 
@@ -53,27 +106,18 @@ fn read(alloc: Global, text: &[u8]) -> Option<Schedule>
     }
 }
 
-/// Plays all events of a schedule with one logger, and returns the world at its end. Whatever the events lose or repeat, and whenever the server crashes,
-/// what a client has accepted is a prefix of the answers to its script.
-fn play(alloc: Global, schedule: &Schedule) -> Option<World<Counter>>
-    requires playable { IsPlayable schedule.now }
-    requires few { length schedule.now.clients ≤ 16 }
-    ensures played { IfSome result (λ w. IsPlayed schedule.now schedule.now.events (kept w)) }
-    ensures seen { IfSome result (λ w. AllByRecursion SeesAnswers (kept w).clients) }
+/// Plays all events of a schedule in the world in which it starts. Whatever the events lose or repeat, and whenever the server crashes, what a client has accepted
+/// is a prefix of the answers to its script.
+fn play(alloc: Global, schedule: &Schedule, world: &mut World<Counter>) -> Result<(), StepEnd>
+    requires { IsPlayed schedule.now [] (kept world.old) }
+    ensures played { OnOk result (IsPlayed schedule.now schedule.now.events (kept world.new)) }
+    ensures seen { OnOk result (AllByRecursion SeesAnswers (kept world.new).clients) }
 {
     clients_see_an_unfailing_server::<Counter>();
-    if schedule.twin || schedule.marks.is_some() {
-        return None;
-    }
-    let Ok(mut world) = World::new(alloc, schedule) else {
-        return None;
-    };
     for event in schedule.events.as_slice() {
-        let Ok(_) = world.step(alloc, event) else {
-            return None;
-        };
+        world.step(alloc, event)?;
     }
-    Some(world)
+    Ok(())
 }
 
 /// Returns what a server that never failed answers to a script, read in pieces of 2,048 bytes.
@@ -91,17 +135,33 @@ fn unfailing(alloc: Global, script: &[u8]) -> Result<Vec<u8>, NoMemory>
     Ok(out)
 }
 
-/// Prints two lines for each client whose script is written out: what it has accepted, and what it is answered without a crash.
-fn tell(alloc: Global, schedule: &Schedule, world: &World<Counter>) -> Result<String, NoMemory> {
-    let mut lines = String::new(alloc);
+/// Writes what a client has accepted, and next to it what its script is answered without a crash.
+fn tell_client(
+    alloc: Global,
+    n: u8,
+    accepted: &[u8],
+    script: &[u8],
+    lines: &mut String,
+) -> Result<(), NoMemory> {
+    let accepted = str::from_utf8(accepted).unwrap_or("no text");
+    write!(lines, "client {n} accepted {accepted:?}\n")?;
+    let answers = unfailing(alloc, script)?;
+    let answers = str::from_utf8(&answers).unwrap_or("no text");
+    write!(lines, "without a crash   {answers:?}\n")?;
+    Ok(())
+}
+
+/// Writes two lines for each client whose script is written out.
+fn tell(
+    alloc: Global,
+    schedule: &Schedule,
+    world: &World<Counter>,
+    lines: &mut String,
+) -> Result<(), NoMemory> {
     for (n, line) in (1..=16).zip(schedule.clients.as_slice()) {
         if let (Some(client), Script::Bytes(script)) = (world.client(n), &line.script) {
-            let accepted = str::from_utf8(client.accepted()).unwrap_or("no text");
-            let answers = unfailing(alloc, script.as_slice())?;
-            let answers = str::from_utf8(&answers).unwrap_or("no text");
-            lines.push_str(format!(in alloc; "client {n} accepted {accepted:?}\n")?.as_str())?;
-            lines.push_str(format!(in alloc; "without a crash   {answers:?}\n")?.as_str())?;
+            tell_client(alloc, n, client.accepted(), script.as_slice(), lines)?;
         }
     }
-    Ok(lines)
+    Ok(())
 }

@@ -6,7 +6,7 @@ pub loop-event-preserved : goal.loop-event-preserved
 loop-event-preserved c =
     plays_next c.args.schedule.now c.as_slice-event-items.result.now c.loop-event.event-index _ (kept c.loop-event.world) (kept c.step.new.self) _
     c.as_slice-event-items.ensures c.loop-event-test.true c.loop-event.invariant
-    (c.in-Ok-step.ensures.done c.args.schedule.now _ c.loop-event.invariant.trace c.loop-event.invariant.stands)
+    (c.in_ok-step.ensures.done c.args.schedule.now _ c.loop-event.invariant.trace c.loop-event.invariant.stands)
 
 pub returns-clause-seen : goal.returns-clause-seen
 returns-clause-seen c =
