@@ -1,15 +1,10 @@
-//! The crash table: the first events of a schedule, then a crash, with the stop of a logger or without, and a restart, after which the client continues as long as
-//! it must.
-
-ghost use Rattle.std.specs.Prelude.{◌≤◌, length, IfOk};
-ghost use Rattle.ft_model.specs.Playable.{IsPlayable};
+//! A line of the crash table: the first events of a schedule, then a crash, with the stop of a logger or without, and a restart, after which the client continues as
+//! long as it must.
 
 use ft_io::NoMemory;
-use ft_model::grammar::{accepted_schedules_can_be_played, accepted_schedules_keep_the_limits};
 use ft_model::{Event, Phase};
 use net_schedule::{StepEnd, World};
 use sample_servers::AnyService;
-use schedule_text::{Schedule, ScheduleEnd, read_schedule};
 use std::alloc::Global;
 
 /// The most packets of a run.
@@ -21,26 +16,15 @@ const CLIENT: u8 = 1;
 /// The window that the client advertises, in bytes.
 const WINDOW: u16 = 65_535;
 
-/// The schedule that a text spells.
-pub(crate) fn schedule_of(alloc: Global, text: &[u8]) -> Result<Schedule, ScheduleEnd>
-    ensures playable { IfOk result IsPlayable }
-    ensures clients { IfOk result (λ s. length s.clients ≤ 16) }
-{
-    accepted_schedules_can_be_played();
-    accepted_schedules_keep_the_limits();
-    read_schedule(alloc, text)
-}
-
 /// A world, and how many of its packets were delivered.
-#[derive(Drop)]
-struct Driven {
-    world: World<AnyService>,
+struct Driven<'a> {
+    world: &'a mut World<AnyService>,
     delivered: u32,
     /// Which of two loggers stops as the server crashes.
     stops: Option<u8>,
 }
 
-impl Driven {
+impl Driven<'_> {
     /// Delivers each packet that wasn't, in order, until none is left.
     fn drain(&mut self, alloc: Global) -> Result<(), StepEnd> {
         for number in 1..PACKET_LIMIT {
@@ -145,24 +129,6 @@ impl Driven {
         self.crash(alloc)
     }
 
-    /// The first events of a schedule, a crash, and what the client has at the end, or why an event was refused.
-    fn play_and_tell(
-        &mut self,
-        alloc: Global,
-        events: &[Event],
-        out: &mut Vec<u8>,
-    ) -> Result<(), NoMemory> {
-        match self.play(alloc, events) {
-            Ok(()) => self.tell(alloc, out),
-            Err(StepEnd::NoMemory) => Err(NoMemory),
-            Err(end) => {
-                let text = format!(in alloc; "{end:?}\n")?;
-                out.extend_from_slice(text.as_bytes())?;
-                Ok(())
-            }
-        }
-    }
-
     /// What the client has accepted, and the lengths of the reads of the log's first entry.
     fn tell(&self, alloc: Global, out: &mut Vec<u8>) -> Result<(), NoMemory> {
         if let Some(client) = self.world.client(CLIENT) {
@@ -179,43 +145,27 @@ impl Driven {
     }
 }
 
-/// The first `count` events of a schedule, a crash, and what the client has at the end.
-fn play_crash(
+/// Plays the first events of a schedule in its world, then a crash, with the stop of a logger if one is named. Appends what the client has at the end, or why an
+/// event was refused.
+pub(crate) fn play_crash(
     alloc: Global,
-    schedule: &Schedule,
-    count: usize,
+    world: &mut World<AnyService>,
+    events: &[Event],
     stops: Option<u8>,
     out: &mut Vec<u8>,
-) -> Result<(), NoMemory>
-    requires playable { IsPlayable schedule.now }
-    requires clients { length schedule.now.clients ≤ 16 }
-    requires count { count ≤ length schedule.now.events }
-{
+) -> Result<(), NoMemory> {
     let mut driven = Driven {
-        world: World::new(alloc, schedule)?,
+        world,
         delivered: 0,
         stops,
     };
-    let events = schedule.events.as_slice();
-    driven.play_and_tell(alloc, &events[..count], out)
-}
-
-/// Plays a crash after each number of the first events of a schedule, and with it the stop of a logger, if one is named.
-pub fn play_crashes(
-    alloc: Global,
-    name: &str,
-    stops: Option<u8>,
-    text: &[u8],
-    out: &mut Vec<u8>,
-) -> Result<(), NoMemory> {
-    let Ok(schedule) = schedule_of(alloc, text) else {
-        out.extend_from_slice(b"no schedule\n")?;
-        return Ok(());
-    };
-    for count in 1..=schedule.events.as_slice().len() {
-        let head = format!(in alloc; "{name}, crash after {count}: ")?;
-        out.extend_from_slice(head.as_bytes())?;
-        play_crash(alloc, &schedule, count, stops, out)?;
+    match driven.play(alloc, events) {
+        Ok(()) => driven.tell(alloc, out),
+        Err(StepEnd::NoMemory) => Err(NoMemory),
+        Err(end) => {
+            let text = format!(in alloc; "{end:?}\n")?;
+            out.extend_from_slice(text.as_bytes())?;
+            Ok(())
+        }
     }
-    Ok(())
 }

@@ -1,29 +1,13 @@
 //! By how much the numbers outside are above those inside, of each connection that the server has live at the end of a schedule.
 
-use crate::crashes::schedule_of;
 use ft_io::NoMemory;
 use net_schedule::World;
 use sample_servers::AnyService;
 use schedule_text::Schedule;
 use std::alloc::Global;
 
-/// Plays a schedule, and appends a line of each client whose connection is live at the end: by how much its numbers differ, modulo 2^32.
-pub fn play_deltas(
-    alloc: Global,
-    name: &str,
-    text: &[u8],
-    out: &mut Vec<u8>,
-) -> Result<(), NoMemory> {
-    let Ok(schedule) = schedule_of(alloc, text) else {
-        out.extend_from_slice(b"no schedule\n")?;
-        return Ok(());
-    };
-    let mut world: World<AnyService> = World::new(alloc, &schedule)?;
-    tell_deltas(alloc, name, &schedule, &mut world, out)
-}
-
-/// Plays the schedule's events in its world, and appends the lines at the end.
-fn tell_deltas(
+/// Plays a schedule's events in its world, and appends a line of each client whose connection is live at the end: by how much its numbers differ, modulo 2^32.
+pub(crate) fn tell_deltas(
     alloc: Global,
     name: &str,
     schedule: &Schedule,

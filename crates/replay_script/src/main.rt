@@ -13,16 +13,16 @@
 //! Among the lines of a schedule, `*COUNT LINE` means this line COUNT times.
 #![tactic(auto)]
 
-use crashes::play_crashes;
-use deltas::play_deltas;
 use ft_io::NoMemory;
 use playing::{play, play_checked};
 use std::alloc::Global;
 use std::io;
+use worlds::{play_crashes, play_deltas};
 
 mod crashes;
 mod deltas;
 mod playing;
+mod worlds;
 
 /// What a script says up to here: what is to be done next, and with which text.
 #[derive(Drop)]
