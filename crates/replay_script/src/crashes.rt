@@ -17,6 +17,7 @@ const CLIENT: u8 = 1;
 const WINDOW: u16 = 65_535;
 
 /// A world, and how many of its packets were delivered.
+#[derive(Drop)]
 struct Driven<'a> {
     world: &'a mut World<AnyService>,
     delivered: u32,

@@ -4,24 +4,73 @@ use ft_io::{MemSink, MemSource, NoMemory};
 use replay_tool::replay;
 use std::alloc::Global;
 
+/// What the last words of an order say: which call of the source, of the sink of the report and of that of the errors fails, 0 for none, and how many of the
+/// report's last lines are printed, 0 for all.
+#[derive(Clone, Copy)]
+struct Ends {
+    read: u32,
+    wrote: u32,
+    told: u32,
+    last: u32,
+}
+
 /// Plays a text as the order says, and appends its name, its status, and what was written.
 pub fn play(alloc: Global, order: &[&str], text: &[u8], out: &mut Vec<u8>) -> Result<(), NoMemory> {
     let [name, spoken, read, wrote, told, last] = order else {
         out.extend_from_slice(b"no such order\n")?;
         return Ok(());
     };
+    let ends = Ends {
+        read: number(read),
+        wrote: number(wrote),
+        told: number(told),
+        last: number(last),
+    };
+    let words = words_of(alloc, spoken)?;
+    play_words(alloc, name, &words, ends, text, out)
+}
+
+/// The words of an order, joined there by `~`.
+fn words_of(alloc: Global, spoken: &str) -> Result<Vec<String>, NoMemory> {
     let mut words = Vec::new(alloc);
     for word in spoken.split('~') {
         words.push(String::from_str(alloc, word)?)?;
     }
-    let mut input = MemSource::new(text.to_vec(alloc)?, failing(alloc, read)?);
-    let mut report = MemSink::new(alloc, failing(alloc, wrote)?);
-    let mut err = MemSink::new(alloc, failing(alloc, told)?);
-    let status = replay(alloc, &words, &mut input, &mut report, &mut err);
-    let head = format!(in alloc; "{name}: status {}\n", status.code)?;
-    out.extend_from_slice(head.as_bytes())?;
+    Ok(words)
+}
+
+/// Plays a text with these words.
+fn play_words(
+    alloc: Global,
+    name: &str,
+    words: &[String],
+    ends: Ends,
+    text: &[u8],
+    out: &mut Vec<u8>,
+) -> Result<(), NoMemory> {
+    let read_fails = failing(alloc, ends.read)?;
+    let write_fails = failing(alloc, ends.wrote)?;
+    let told_fails = failing(alloc, ends.told)?;
+    let mut input = MemSource::new(text.to_vec(alloc)?, read_fails);
+    let mut report = MemSink::new(alloc, write_fails);
+    let mut err = MemSink::new(alloc, told_fails);
+    let status = replay(alloc, words, &mut input, &mut report, &mut err);
+    tell_run(alloc, name, status.code, &report, &err, ends.last, out)
+}
+
+/// Appends the name and the status of a case, and what was written to both sinks.
+fn tell_run(
+    alloc: Global,
+    name: &str,
+    code: u8,
+    report: &MemSink,
+    err: &MemSink,
+    last: u32,
+    out: &mut Vec<u8>,
+) -> Result<(), NoMemory> {
+    out.extend_from_slice(format!(in alloc; "{name}: status {code}\n")?.as_bytes())?;
     out.extend_from_slice(err.written())?;
-    out.extend_from_slice(last_lines(report.written(), number(last)))?;
+    out.extend_from_slice(last_lines(report.written(), last))?;
     Ok(())
 }
 
@@ -32,8 +81,7 @@ pub fn play_checked(
     text: &[u8],
     out: &mut Vec<u8>,
 ) -> Result<(), NoMemory> {
-    let mut words = Vec::new(alloc);
-    words.push(String::from_str(alloc, "run")?)?;
+    let words = words_of(alloc, "run")?;
     let mut input = MemSource::new(text.to_vec(alloc)?, Vec::new(alloc));
     let mut report = MemSink::new(alloc, Vec::new(alloc));
     let mut err = MemSink::new(alloc, Vec::new(alloc));
@@ -51,11 +99,10 @@ fn number(word: &str) -> u32 {
 }
 
 /// The numbers of the calls that fail: this one, or none for 0.
-fn failing(alloc: Global, word: &str) -> Result<Vec<u32>, NoMemory> {
+fn failing(alloc: Global, number: u32) -> Result<Vec<u32>, NoMemory> {
     let mut fails = Vec::new(alloc);
-    let n = number(word);
-    if n != 0 {
-        fails.push(n)?;
+    if number != 0 {
+        fails.push(number)?;
     }
     Ok(fails)
 }

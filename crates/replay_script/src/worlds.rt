@@ -1,0 +1,116 @@
+//! What is done with a schedule in worlds of its own.
+
+ghost use Rattle.std.specs.Prelude.{◌≤◌, length, IfOk};
+ghost use Rattle.ft_model.specs.Playable.{IsPlayable};
+
+use crate::crashes::play_crash;
+use crate::deltas::tell_deltas;
+use ft_io::NoMemory;
+use ft_model::grammar::{accepted_schedules_can_be_played, accepted_schedules_keep_the_limits};
+use net_schedule::World;
+use sample_servers::AnyService;
+use schedule_text::{Schedule, ScheduleEnd, read_schedule};
+use std::alloc::Global;
+
+/// What is done in one world.
+#[derive(Clone, Copy)]
+enum Task {
+    /// A crash after this number of events, with the stop of a logger if one is named.
+    Crash { count: usize, stops: Option<u8> },
+    /// The differences of numbers at the end.
+    Deltas,
+}
+
+/// The schedule that a text spells.
+fn schedule_of(alloc: Global, text: &[u8]) -> Result<Schedule, ScheduleEnd>
+    ensures playable { IfOk result IsPlayable }
+    ensures clients { IfOk result (λ s. length s.clients ≤ 16) }
+{
+    accepted_schedules_can_be_played();
+    accepted_schedules_keep_the_limits();
+    read_schedule(alloc, text)
+}
+
+/// Does a task in a new world, and appends what it prints. Only this function owns a world: each exit of a function that drops one adds to its proof.
+fn do_task(
+    alloc: Global,
+    name: &str,
+    schedule: &Schedule,
+    task: Task,
+    out: &mut Vec<u8>,
+) -> Result<(), NoMemory>
+    requires playable { IsPlayable schedule.now }
+    requires clients { length schedule.now.clients ≤ 16 }
+{
+    let mut world: World<AnyService> = World::new(alloc, schedule)?;
+    do_in(alloc, name, schedule, task, &mut world, out)
+}
+
+/// Does a task in a world.
+fn do_in(
+    alloc: Global,
+    name: &str,
+    schedule: &Schedule,
+    task: Task,
+    world: &mut World<AnyService>,
+    out: &mut Vec<u8>,
+) -> Result<(), NoMemory> {
+    let events = schedule.events.as_slice();
+    match task {
+        Task::Crash { count, stops } => {
+            play_crash(alloc, world, &events[..count.min(events.len())], stops, out)
+        }
+        Task::Deltas => tell_deltas(alloc, name, schedule, world, out),
+    }
+}
+
+/// Plays a crash after each number of the first events of a schedule, and with it the stop of a logger, if one is named.
+fn play_each_crash(
+    alloc: Global,
+    name: &str,
+    schedule: &Schedule,
+    stops: Option<u8>,
+    out: &mut Vec<u8>,
+) -> Result<(), NoMemory>
+    requires playable { IsPlayable schedule.now }
+    requires clients { length schedule.now.clients ≤ 16 }
+{
+    for count in 1..=schedule.events.as_slice().len() {
+        let head = format!(in alloc; "{name}, crash after {count}: ")?;
+        out.extend_from_slice(head.as_bytes())?;
+        do_task(alloc, name, schedule, Task::Crash { count, stops }, out)?;
+    }
+    Ok(())
+}
+
+/// Plays the crash table of the schedule that a text spells.
+pub(crate) fn play_crashes(
+    alloc: Global,
+    name: &str,
+    stops: Option<u8>,
+    text: &[u8],
+    out: &mut Vec<u8>,
+) -> Result<(), NoMemory> {
+    match schedule_of(alloc, text) {
+        Ok(schedule) => play_each_crash(alloc, name, &schedule, stops, out),
+        Err(_) => tell_none(out),
+    }
+}
+
+/// Plays the schedule that a text spells, and appends by how much numbers differ at the end.
+pub(crate) fn play_deltas(
+    alloc: Global,
+    name: &str,
+    text: &[u8],
+    out: &mut Vec<u8>,
+) -> Result<(), NoMemory> {
+    match schedule_of(alloc, text) {
+        Ok(schedule) => do_task(alloc, name, &schedule, Task::Deltas, out),
+        Err(_) => tell_none(out),
+    }
+}
+
+fn tell_none(out: &mut Vec<u8>) -> Result<(), NoMemory> {
+    out.extend_from_slice(b"no schedule\n")?;
+    Ok(())
+}
