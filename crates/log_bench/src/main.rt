@@ -50,8 +50,13 @@ const STREAM: u32 = 1 << 24;
 fn main(rt: HostRuntime) -> Result<()> {
     let words: Vec<String> = env::args(&rt)?.skip(1).collect(rt.alloc())?;
     let words: Vec<&str> = words.iter().map(|word| word.as_str()).collect(rt.alloc())?;
-    for command in words.as_slice().split(|word| *word == "then") {
-        run(&rt, command)?;
+    run_all(&rt, &words)
+}
+
+/// Does what the words of each command ask for, until one fails.
+fn run_all<R: AllocGlobal + Print + Clock>(rt: &R, words: &[&str]) -> Result<()> {
+    for command in words.split(|word| *word == "then") {
+        run(rt, command)?;
     }
     Ok(())
 }
@@ -59,25 +64,37 @@ fn main(rt: HostRuntime) -> Result<()> {
 /// Does what the words of one command ask for.
 fn run<R: AllocGlobal + Print + Clock>(rt: &R, command: &[&str]) -> Result<()> {
     match command {
-        ["marks", words @ ..] => {
-            let Seen { first, last, kept } = run_marks(rt, rt.alloc(), words)?;
-            println!(rt;
-                "at most {kept} bytes kept; the first marks {first} ns, the last {last} ns"
-            )?;
-        }
-        ["twin", words @ ..] => {
-            let tally = run_twins(rt.alloc(), words)?;
-            println!(rt;
-                "{} messages, {} forwarded, {} answered",
-                tally.messages, tally.forwards, tally.answers
-            )?;
-        }
+        ["marks", words @ ..] => print_seen(rt, run_marks(rt, rt.alloc(), words)),
+        ["twin", words @ ..] => print_sent(rt, run_twins(rt.alloc(), words)),
         [reads, bytes, rounds, rest @ ..] => {
-            let tally = run_plain(rt.alloc(), reads, bytes, rounds, !rest.is_empty())?;
-            println!(rt; "{} messages, {}", tally.messages, tally.total)?;
+            let tally = run_plain(rt.alloc(), reads, bytes, rounds, !rest.is_empty());
+            print_tally(rt, tally)
         }
         _ => bail!("log_bench marks|twin|READS WORD.."),
     }
+}
+
+/// Prints what a run over marks saw. Its error is handed on, here and below.
+fn print_seen(rt: &impl Print, seen: Result<Seen>) -> Result<()> {
+    let Seen { first, last, kept } = seen?;
+    println!(rt; "at most {kept} bytes kept; the first marks {first} ns, the last {last} ns")?;
+    Ok(())
+}
+
+/// Prints what a log or a pair sent.
+fn print_sent(rt: &impl Print, sent: Result<twins::Tally>) -> Result<()> {
+    let sent = sent?;
+    println!(rt;
+        "{} messages, {} forwarded, {} answered",
+        sent.messages, sent.forwards, sent.answers
+    )?;
+    Ok(())
+}
+
+/// Prints the tally of all rounds.
+fn print_tally(rt: &impl Print, tally: Result<Tally>) -> Result<()> {
+    let tally = tally?;
+    println!(rt; "{} messages, {}", tally.messages, tally.total)?;
     Ok(())
 }
 
@@ -104,19 +121,32 @@ fn play(alloc: Global, reads: &str, bytes: u32, rounds: u32, is_marked: bool) ->
         total: 0,
     };
     for _ in 0..rounds {
-        let ear = if is_marked {
-            Ear::Marked(MarkStore::new(alloc))
-        } else if reads == "made" {
-            Ear::Nobody
-        } else {
-            Ear::Log(LogStore::new(alloc))
+        let ear = Ear::new(alloc, reads, is_marked);
+        let Ok(after) = round(alloc, ear, tally, bytes, reads == "other") else {
+            bail!("no memory");
         };
-        let mut talk = Talk::new(ear, tally);
-        let done = round(alloc, &mut talk, bytes, reads == "other");
-        ensure!(done.is_ok(), "no memory");
-        tally = talk.tally;
+        tally = after;
     }
     Ok(tally)
+}
+
+/// One round, with a log of its own. Returns the tally as it is after it.
+fn round(
+    alloc: Global,
+    ear: Ear,
+    tally: Tally,
+    bytes: u32,
+    alternates: bool,
+) -> Result<Tally, NoMemory>
+    requires { bytes ≤ 2 ^ 24 }
+{
+    let mut talk = Talk {
+        ear,
+        datagram: [0; 2_048],
+        out: MsgOut::new(),
+        tally,
+    };
+    fill_and_fetch(alloc, &mut talk, bytes, alternates)
 }
 
 /// The messages so far, and what their answers add up to, modulo 2^64.
@@ -148,6 +178,19 @@ enum Ear {
     Marked(MarkStore),
 }
 
+impl Ear {
+    /// An empty log for these reads, with marks or without; or nobody, if the messages are only made.
+    fn new(alloc: Global, reads: &str, is_marked: bool) -> Ear {
+        if is_marked {
+            Ear::Marked(MarkStore::new(alloc))
+        } else if reads == "made" {
+            Ear::Nobody
+        } else {
+            Ear::Log(LogStore::new(alloc))
+        }
+    }
+}
+
 /// A log, and one who sends it messages.
 #[derive(Drop)]
 struct Talk {
@@ -158,15 +201,6 @@ struct Talk {
 }
 
 impl Talk {
-    fn new(ear: Ear, tally: Tally) -> Talk {
-        Talk {
-            ear,
-            datagram: [0; 2_048],
-            out: MsgOut::new(),
-            tally,
-        }
-    }
-
     /// Spells a message, and gives it to the log.
     fn say(&mut self, alloc: Global, m: &Msg<'_>) -> Result<(), NoMemory>
         requires { IsSendable m.now }
@@ -187,8 +221,13 @@ impl Talk {
     }
 }
 
-/// Opens an entry, fills it, and fetches it.
-fn round(alloc: Global, talk: &mut Talk, bytes: u32, alternates: bool) -> Result<(), NoMemory>
+/// Opens an entry, fills it, and fetches it. Returns the tally.
+fn fill_and_fetch(
+    alloc: Global,
+    talk: &mut Talk,
+    bytes: u32,
+    alternates: bool,
+) -> Result<Tally, NoMemory>
     requires { bytes ≤ 2 ^ 24 }
 {
     open(alloc, talk)?;
@@ -210,7 +249,7 @@ fn round(alloc: Global, talk: &mut Talk, bytes: u32, alternates: bool) -> Result
     for i in 0..bytes.div_ceil(DATA).div_ceil(LENS) {
         fetch_lengths(alloc, talk, i * LENS)?;
     }
-    Ok(())
+    Ok(talk.tally)
 }
 
 #[tactic(auto, unfolding(seq_arith::specs::MessageGrammar::has_length, seq_arith::specs::MessageGrammar::is_sound))]

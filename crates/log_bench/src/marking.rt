@@ -40,14 +40,9 @@ impl Talk {
     }
 }
 
-/// An empty log, in which a connection is opened.
+/// Opens a connection in the log.
 #[tactic(auto, unfolding(seq_arith::specs::MessageGrammar::has_length, seq_arith::specs::MessageGrammar::is_sound))]
-fn begin(alloc: Global) -> Result<Talk, NoMemory> {
-    let mut talk = Talk {
-        log: MarkStore::new(alloc),
-        datagram: [0; 2_048],
-        out: MsgOut::new(),
-    };
+fn open(alloc: Global, talk: &mut Talk) -> Result<(), NoMemory> {
     talk.say(
         alloc,
         &Msg {
@@ -61,8 +56,7 @@ fn begin(alloc: Global) -> Result<Talk, NoMemory> {
         sisn: 5_000,
         mss: 1_460,
     };
-    talk.say(alloc, &Msg { boot: 1, body })?;
-    Ok(talk)
+    talk.say(alloc, &Msg { boot: 1, body })
 }
 
 /// The bytes for the reads up to the next mark, and these reads.
@@ -150,15 +144,30 @@ pub(crate) fn run_marks<C: Clock>(clock: &C, alloc: Global, words: &[&str]) -> R
 /// .. once.
 fn run_once<C: Clock>(clock: &C, alloc: Global, reads: u32, seen: &mut Seen) -> Result<()> {
     ensure!(reads <= READS, "READS is at most 2^20");
-    let marks = reads / EVERY;
-    let Ok(mut talk) = begin(alloc) else {
-        bail!("no memory");
+    let mut talk = Talk {
+        log: MarkStore::new(alloc),
+        datagram: [0; 2_048],
+        out: MsgOut::new(),
     };
+    give_marks(clock, alloc, &mut talk, reads / EVERY, seen)
+}
+
+/// Opens a connection in an empty log, and gives it so many marks, each after its reads.
+fn give_marks<C: Clock>(
+    clock: &C,
+    alloc: Global,
+    talk: &mut Talk,
+    marks: u32,
+    seen: &mut Seen,
+) -> Result<()>
+    requires { marks ≤ 2 ^ 14 }
+{
+    ensure!(open(alloc, talk).is_ok(), "no memory");
     for i in 0..marks {
-        let given = give_reads(alloc, &mut talk, EVERY * i);
+        let given = give_reads(alloc, talk, EVERY * i);
         ensure!(given.is_ok(), "no memory");
         seen.kept = seen.kept.max(talk.log.kept(0));
-        let took = time_mark(clock, alloc, &mut talk, EVERY * (i + 1))?;
+        let took = time_mark(clock, alloc, talk, EVERY * (i + 1))?;
         if i < TIMED {
             seen.first = seen.first.min(took);
         }

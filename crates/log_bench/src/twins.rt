@@ -55,7 +55,7 @@ impl Tally {
 }
 
 /// A message as it is sent.
-#[derive(Drop)]
+#[derive(Clone, Copy)]
 struct Datagram {
     bytes: [u8; 2_048],
     len: usize,
@@ -119,7 +119,13 @@ fn data(i: u32) -> Datagram
 fn to_one(alloc: Global, count: u32) -> Result<Tally, NoMemory>
     requires { count ≤ 100000 }
 {
-    let mut log = LogStore::new(alloc);
+    give_all(alloc, &mut LogStore::new(alloc), count)
+}
+
+/// .. this one, which is empty.
+fn give_all(alloc: Global, log: &mut LogStore, count: u32) -> Result<Tally, NoMemory>
+    requires { count ≤ 100000 }
+{
     let mut out = MsgOut::new();
     let mut tally = Tally::new(count);
     for i in 0..count {
@@ -148,13 +154,28 @@ struct Pair {
 impl Pair {
     fn new(alloc: Global, count: u32) -> Result<Pair, NoMemory> {
         Ok(Pair {
+            out: TwinOut::new(alloc)?,
             head: TwinLog::new(alloc, Part::Head)?,
             tail: TwinLog::new(alloc, Part::Tail)?,
-            out: TwinOut::new(alloc)?,
             to_tail: Vec::new(alloc),
             to_head: Vec::new(alloc),
             tally: Tally::new(count),
         })
+    }
+
+    /// Takes the messages, in bursts. Returns what went out.
+    fn take_all(&mut self, alloc: Global, count: u32, burst: u32) -> Result<Tally, NoMemory>
+        requires { count ≤ 100000 }
+    {
+        for i in 0..count {
+            let datagram = message(i);
+            self.ask(alloc, datagram.bytes())?;
+            if burst == 0 || (i + 1) % burst == 0 {
+                self.settle(alloc)?;
+            }
+        }
+        self.settle(alloc)?;
+        Ok(self.tally)
     }
 
     /// The head takes a message.
@@ -216,13 +237,5 @@ fn to_pair(alloc: Global, count: u32, burst: u32) -> Result<Tally, NoMemory>
     requires { count ≤ 100000 }
 {
     let mut pair = Pair::new(alloc, count)?;
-    for i in 0..count {
-        let datagram = message(i);
-        pair.ask(alloc, datagram.bytes())?;
-        if burst == 0 || (i + 1) % burst == 0 {
-            pair.settle(alloc)?;
-        }
-    }
-    pair.settle(alloc)?;
-    Ok(pair.tally)
+    pair.take_all(alloc, count, burst)
 }
