@@ -69,23 +69,68 @@ fn tell_outcome(
     tell_opening(alloc, &opened, &disk, said)
 }
 
-/// Gives a log a datagram, and writes its answer.
+/// What became of a datagram.
+#[derive(Clone, Copy)]
+enum Given {
+    /// It is no message.
+    Refused,
+    /// The round has no room for it.
+    Full,
+    Taken,
+}
+
+/// Gives a log a datagram.
 fn give(
+    alloc: Global,
+    log: &mut KeptLog,
+    datagram: &[u8],
+    out: &mut MsgOut,
+) -> Result<Given, NoMemory> {
+    let Ok(message) = read_msg(datagram) else {
+        return Ok(Given::Refused);
+    };
+    if log.is_full() {
+        return Ok(Given::Full);
+    }
+    log.take(alloc, datagram, &message, out)?;
+    Ok(Given::Taken)
+}
+
+/// Writes a log's answer to a datagram.
+fn answer_to(
     alloc: Global,
     log: &mut KeptLog,
     datagram: &[u8],
     said: &mut String,
 ) -> Result<(), NoMemory> {
-    let Ok(message) = read_msg(datagram) else {
-        return tell(said, "no message");
-    };
-    if log.is_full() {
-        return tell(said, "full");
-    }
     let mut out = MsgOut::new();
-    log.take(alloc, datagram, &message, &mut out)?;
-    said.push_str("out ")?;
-    tell_hex(alloc, out.bytes(), said)
+    match give(alloc, log, datagram, &mut out)? {
+        Given::Refused => tell(said, "no message"),
+        Given::Full => tell(said, "full"),
+        Given::Taken => {
+            said.push_str("out ")?;
+            tell_hex(alloc, out.bytes(), said)
+        }
+    }
+}
+
+/// Gives a log long messages until its round is full, and at most this many.
+fn give_long(
+    alloc: Global,
+    log: &mut KeptLog,
+    count: u32,
+    said: &mut String,
+) -> Result<(), NoMemory> {
+    let mut out = MsgOut::new();
+    for piece in 0..count {
+        let datagram = long_data(log.log().boot(), piece);
+        if let Given::Full = give(alloc, log, &datagram, &mut out)? {
+            write!(said, "full behind {piece}")?;
+            return Ok(());
+        }
+    }
+    write!(said, "took {count}")?;
+    Ok(())
 }
 
 impl Bench {
@@ -142,11 +187,11 @@ impl Bench {
 
     pub(crate) fn open(&mut self, alloc: Global, said: &mut String) -> Result<(), NoMemory> {
         said.push_str("open ")?;
-        self.log = None;
-        self.disk = disk_of(alloc, &self.file, self.fails)?;
-        let opened = KeptLog::open(alloc, &mut self.disk);
-        let told = tell_opening(alloc, &opened, &self.disk, said);
-        self.shown = call_count(&self.disk);
+        let mut disk = disk_of(alloc, &self.file, self.fails)?;
+        let opened = KeptLog::open(alloc, &mut disk);
+        let told = tell_opening(alloc, &opened, &disk, said);
+        self.shown = call_count(&disk);
+        self.disk = disk;
         self.log = opened.ok();
         told
     }
@@ -190,7 +235,7 @@ impl Bench {
             return tell(said, "no datagram");
         };
         match &mut self.log {
-            Some(log) => give(alloc, log, datagram.as_slice(), said),
+            Some(log) => answer_to(alloc, log, datagram.as_slice(), said),
             None => tell(said, "no log"),
         }
     }
@@ -201,22 +246,10 @@ impl Bench {
         text: &str,
         said: &mut String,
     ) -> Result<(), NoMemory> {
-        let (Some(log), Ok(count)) = (&mut self.log, text.parse::<u32>()) else {
-            return tell(said, "no log");
-        };
-        let mut out = MsgOut::new();
-        for piece in 0..count {
-            if log.is_full() {
-                write!(said, "full behind {piece}")?;
-                return Ok(());
-            }
-            let bytes = long_data(log.log().boot(), piece);
-            if let Ok(message) = read_msg(&bytes) {
-                log.take(alloc, &bytes, &message, &mut out)?;
-            }
+        match (&mut self.log, text.parse::<u32>()) {
+            (Some(log), Ok(count)) => give_long(alloc, log, count, said),
+            _ => tell(said, "no log"),
         }
-        write!(said, "took {count}")?;
-        Ok(())
     }
 
     pub(crate) fn commit(&mut self, alloc: Global, said: &mut String) -> Result<(), NoMemory> {
