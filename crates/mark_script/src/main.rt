@@ -15,6 +15,7 @@
 use ft_io::NoMemory;
 use std::alloc::Global;
 use std::io;
+use test_data::word_of_bytes;
 
 mod messages;
 mod services;
@@ -25,36 +26,53 @@ fn count_and_seed(text: &str) -> Option<(u32, u64)> {
     Some((count.parse().ok()?, seed.parse().ok()?))
 }
 
-/// Plays a line, and answers what it prints.
-fn play(alloc: Global, line: &str) -> Result<String, NoMemory> {
+/// Writes a text.
+fn tell(said: &mut String, text: &str) -> Result<(), NoMemory> {
+    said.push_str(text)?;
+    Ok(())
+}
+
+/// Writes bytes in hexadecimal, or `-` for none.
+fn tell_bytes(alloc: Global, bytes: &[u8], said: &mut String) -> Result<(), NoMemory> {
+    tell(said, word_of_bytes(alloc, bytes)?.as_str())
+}
+
+/// Plays a line, and writes what it prints.
+fn play(alloc: Global, line: &str, said: &mut String) -> Result<(), NoMemory> {
+    said.clear();
     let (word, rest) = line.split_once(' ').unwrap_or((line, ""));
-    match word.as_bytes() {
-        b"#" => Ok(format!(in alloc; "{line}")?),
-        b"load" => services::load_line(alloc, rest),
-        b"play" => services::play_line(alloc, rest),
-        b"resume" => services::resume_line(alloc, rest),
-        b"runs" => services::runs_line(alloc, rest),
-        b"mark" => messages::mark_line(alloc, rest),
-        b"random" => messages::random_line(alloc, rest),
-        _ => Ok(format!(in alloc; "no such line")?),
+    match word {
+        "#" => tell(said, line),
+        "load" => services::load_line(alloc, rest, said),
+        "play" => services::play_line(alloc, rest, said),
+        "resume" => services::resume_line(alloc, rest, said),
+        "runs" => services::runs_line(alloc, rest, said),
+        "mark" => messages::mark_line(alloc, rest, said),
+        "random" => messages::random_line(alloc, rest, said),
+        _ => tell(said, "no such line"),
     }
 }
 
 /// Plays a line. Where memory is refused it is played once more.
-fn play_again(alloc: Global, line: &str) -> Result<String, NoMemory> {
-    match play(alloc, line) {
-        Ok(text) => Ok(text),
-        Err(NoMemory) => play(alloc, line),
+fn play_again(alloc: Global, line: &str, said: &mut String) -> Result<(), NoMemory> {
+    match play(alloc, line, said) {
+        Ok(()) => Ok(()),
+        Err(NoMemory) => play(alloc, line, said),
     }
 }
 
-fn main(rt: HostRuntime) -> io::Result<()> {
+/// Plays the lines of the input, and prints what each writes.
+fn play_lines(rt: &HostRuntime, said: &mut String) -> io::Result<()> {
     for line in rt.lines(rt.alloc()) {
-        let Ok(text) = play_again(rt.alloc(), line?.as_str()) else {
-            println!(rt; "no memory")?;
-            return Ok(());
-        };
-        println!(rt; "{text}")?;
+        if play_again(rt.alloc(), line?.as_str(), said).is_err() {
+            return println!(rt; "no memory");
+        }
+        println!(rt; "{said}")?;
     }
     Ok(())
+}
+
+fn main(rt: HostRuntime) -> io::Result<()> {
+    let mut said = String::new(rt.alloc());
+    play_lines(&rt, &mut said)
 }

@@ -2,12 +2,12 @@
 
 ghost use Rattle.std.specs.Prelude.{◌≤◌, ◌<◌};
 
-use crate::count_and_seed;
+use crate::{count_and_seed, tell, tell_bytes};
 use checkpoint::{BadMark, MarkBody, MarkMsg, read_mark, write_mark};
-use ft_io::NoMemory;
+use ft_io::{Key, NoMemory};
 use seq_arith::{Sum16, flip};
 use std::alloc::Global;
-use test_data::{Draws, bytes_of_word, hashed, word_of_bytes};
+use test_data::{Draws, bytes_of_word, hashed};
 
 /// The most that a length may be, in bytes.
 const STREAM: u32 = 1 << 24;
@@ -15,27 +15,33 @@ const STREAM: u32 = 1 << 24;
 /// Room for a message that is written.
 const ROOM: usize = 2_048;
 
-/// Reads the message of a line, and answers what it says.
-pub(crate) fn mark_line(alloc: Global, text: &str) -> Result<String, NoMemory> {
-    let Some(bytes) = bytes_of_word(alloc, text)? else {
-        return Ok(format!(in alloc; "no such line")?);
-    };
-    let bytes = bytes.as_slice();
-    match read_mark(bytes) {
-        Ok(msg) => {
-            let said = said(alloc, &msg)?;
-            let mut room = [0; ROOM];
-            let len = write_mark(&msg, &mut room);
-            let again = if &room[..len] == bytes { " again" } else { "" };
-            Ok(format!(in alloc; "{said}{again}")?)
-        }
-        Err(bad) => Ok(format!(in alloc; "{bad:?}")?),
+/// Reads the message of a line, and writes what it says.
+pub(crate) fn mark_line(alloc: Global, text: &str, said: &mut String) -> Result<(), NoMemory> {
+    match bytes_of_word(alloc, text)? {
+        Some(bytes) => tell_message(alloc, bytes.as_slice(), said),
+        None => tell(said, "no such line"),
     }
 }
 
-/// What a message says.
-fn said(alloc: Global, msg: &MarkMsg<'_>) -> Result<String, NoMemory> {
-    let boot = msg.boot;
+/// Writes what a message says, and `again` if writing it gives the same bytes; or which test it fails.
+fn tell_message(alloc: Global, bytes: &[u8], said: &mut String) -> Result<(), NoMemory> {
+    match read_mark(bytes) {
+        Ok(msg) => {
+            tell_mark(alloc, &msg, said)?;
+            let mut room = [0; ROOM];
+            let len = write_mark(&msg, &mut room);
+            let again = if &room[..len] == bytes { " again" } else { "" };
+            tell(said, again)
+        }
+        Err(bad) => {
+            write!(said, "{bad:?}")?;
+            Ok(())
+        }
+    }
+}
+
+/// Writes what a message says.
+fn tell_mark(alloc: Global, msg: &MarkMsg<'_>, said: &mut String) -> Result<(), NoMemory> {
     match msg.body {
         MarkBody::Mark {
             key,
@@ -44,20 +50,15 @@ fn said(alloc: Global, msg: &MarkMsg<'_>) -> Result<String, NoMemory> {
             made,
             state,
         } => {
-            let state = word_of_bytes(alloc, state)?;
-            Ok(format!(in alloc;
-                "Mark boot {boot} ip {} port {} reads {reads} length {length} made {made} state {state}",
-                key.ip, key.port
-            )?)
+            tell_head("Mark", msg.boot, key, said)?;
+            tell_state(alloc, [reads, length, made], state, said)
         }
-        MarkBody::Marked { key, reads } => Ok(format!(in alloc;
-            "Marked boot {boot} ip {} port {} reads {reads}",
-            key.ip, key.port
-        )?),
-        MarkBody::Ask { key } => Ok(format!(in alloc;
-            "Ask boot {boot} ip {} port {}",
-            key.ip, key.port
-        )?),
+        MarkBody::Marked { key, reads } => {
+            tell_head("Marked", msg.boot, key, said)?;
+            write!(said, " reads {reads}")?;
+            Ok(())
+        }
+        MarkBody::Ask { key } => tell_head("Ask", msg.boot, key, said),
         MarkBody::Held {
             key,
             reads,
@@ -65,13 +66,28 @@ fn said(alloc: Global, msg: &MarkMsg<'_>) -> Result<String, NoMemory> {
             made,
             state,
         } => {
-            let state = word_of_bytes(alloc, state)?;
-            Ok(format!(in alloc;
-                "Held boot {boot} ip {} port {} reads {reads} length {length} made {made} state {state}",
-                key.ip, key.port
-            )?)
+            tell_head("Held", msg.boot, key, said)?;
+            tell_state(alloc, [reads, length, made], state, said)
         }
     }
+}
+
+/// Writes a message's kind, boot number and key.
+fn tell_head(kind: &str, boot: u64, key: Key, said: &mut String) -> Result<(), NoMemory> {
+    let Key { ip, port } = key;
+    write!(said, "{kind} boot {boot} ip {ip} port {port}")?;
+    Ok(())
+}
+
+/// Writes a state and its numbers.
+fn tell_state(
+    alloc: Global,
+    [reads, length, made]: [u32; 3],
+    state: &[u8],
+    said: &mut String,
+) -> Result<(), NoMemory> {
+    write!(said, " reads {reads} length {length} made {made} state ")?;
+    tell_bytes(alloc, state, said)
 }
 
 /// What came of many messages: how many fail each test, in the tests' order, and then how many are read.
@@ -81,6 +97,11 @@ struct Tally {
     /// What follows from all that is written again.
     bytes: u32,
 }
+
+/// The names of a tally's counts.
+const NAMES: [&str; 8] = [
+    "short", "magic", "version", "kind", "length", "sum", "field", "read",
+];
 
 /// The place of a test's count.
 fn place_of(bad: BadMark) -> usize
@@ -97,25 +118,43 @@ fn place_of(bad: BadMark) -> usize
     }
 }
 
-/// Reads the messages that a line asks for, and answers what it prints.
-pub(crate) fn random_line(alloc: Global, text: &str) -> Result<String, NoMemory> {
+/// Reads the messages that a line asks for, and writes what came of them.
+pub(crate) fn random_line(alloc: Global, text: &str, said: &mut String) -> Result<(), NoMemory> {
     let Some((count, seed)) = count_and_seed(text) else {
-        return Ok(format!(in alloc; "no such line")?);
+        return tell(said, "no such line");
     };
+    let tally = read_random(alloc, count, seed)?;
+    write!(said, "random {count}:")?;
+    tell_tally(&tally, said)
+}
+
+fn tell_tally(tally: &Tally, said: &mut String) -> Result<(), NoMemory> {
+    for place in 0..8 {
+        let (name, count) = (NAMES[place], tally.counts[place]);
+        write!(said, " {name} {count}")?;
+    }
+    write!(said, " bytes {}", tally.bytes)?;
+    Ok(())
+}
+
+/// Reads this many messages, drawn from a seed.
+fn read_random(alloc: Global, count: u32, seed: u64) -> Result<Tally, NoMemory> {
+    let mut message = Vec::new(alloc);
+    read_all(count, seed, &mut message)
+}
+
+/// The same, with a vector for the messages, one after another.
+fn read_all(count: u32, seed: u64, message: &mut Vec<u8>) -> Result<Tally, NoMemory> {
     let mut draws = Draws::new(seed);
     let mut tally = Tally {
         counts: [0; 8],
         bytes: 0,
     };
     for _message in 0..count {
-        let message = any_message(alloc, &mut draws)?;
+        make_message(&mut draws, message)?;
         read_one(message.as_slice(), &mut tally);
     }
-    let Tally { counts, bytes } = tally;
-    let [short, magic, version, kind, length, sum, field, read] = counts;
-    Ok(format!(in alloc;
-        "random {count}: short {short} magic {magic} version {version} kind {kind} length {length} sum {sum} field {field} read {read} bytes {bytes}"
-    )?)
+    Ok(tally)
 }
 
 /// Reads a message, and writes it again where it is one.
@@ -147,23 +186,29 @@ fn any_number(draws: &mut Draws, most: u32) -> u32
     }
 }
 
-/// A message of any kind, most of them damaged in some way.
-fn any_message(alloc: Global, draws: &mut Draws) -> Result<Vec<u8>, NoMemory> {
+/// Makes a message of any kind in place of what is there. Most are damaged in some way.
+fn make_message(draws: &mut Draws, bytes: &mut Vec<u8>) -> Result<(), NoMemory> {
     let kind = 1 + draws.below(4) as u8;
-    let mut bytes = Vec::from_slice(alloc, &[0x46, 0x56, 1, kind, 0, 0, 0, 0, 0, 0, 0, 0])?;
-    put(&mut bytes, draws.below(8))?;
-    put(&mut bytes, 0xC000_0201)?;
-    bytes.extend_from_slice(&(40_000 + draws.below(3) as u16).to_be_bytes())?;
+    bytes.clear();
+    put_head(draws, kind, bytes)?;
     if kind != 3 {
-        put(&mut bytes, any_number(draws, STREAM + 1))?;
+        put(bytes, any_number(draws, STREAM + 1))?;
     }
     if kind == 1 || kind == 4 {
-        put(&mut bytes, any_number(draws, STREAM))?;
-        put(&mut bytes, any_number(draws, STREAM))?;
-        put_state(draws, &mut bytes)?;
+        put(bytes, any_number(draws, STREAM))?;
+        put(bytes, any_number(draws, STREAM))?;
+        put_state(draws, bytes)?;
     }
-    damage(draws, &mut bytes)?;
-    Ok(bytes)
+    damage(draws, bytes)
+}
+
+/// Appends what all kinds begin with: the header, whose length and checksum aren't known yet, the boot number and the key.
+fn put_head(draws: &mut Draws, kind: u8, bytes: &mut Vec<u8>) -> Result<(), NoMemory> {
+    bytes.extend_from_slice(&[0x46, 0x56, 1, kind, 0, 0, 0, 0, 0, 0, 0, 0])?;
+    put(bytes, draws.below(8))?;
+    put(bytes, 0xC000_0201)?;
+    bytes.extend_from_slice(&(40_000 + draws.below(3) as u16).to_be_bytes())?;
+    Ok(())
 }
 
 fn put(bytes: &mut Vec<u8>, n: u32) -> Result<(), NoMemory> {

@@ -1,121 +1,164 @@
 //! Services that are kept as bytes and read back.
 
-use crate::count_and_seed;
+use crate::{count_and_seed, tell, tell_bytes};
 use counter_service::Counter;
 use ft_io::NoMemory;
 use sample_servers::{AnyService, Line};
 use server_trait::{CHUNK_LIMIT, Next, Saved, Service};
 use std::alloc::Global;
-use test_data::{Draws, bytes_of_word, hashed, word_of_bytes};
+use test_data::{Draws, bytes_of_word, hashed};
 
 /// The kind of the sample service of a name, and 0 for the counter.
 fn kind_of(name: &str) -> Option<u8> {
-    match name.as_bytes() {
-        b"counter" => Some(0),
-        b"echo" => Some(1),
-        b"line" => Some(2),
-        b"transfer" => Some(3),
-        b"meter" => Some(4),
+    match name {
+        "counter" => Some(0),
+        "echo" => Some(1),
+        "line" => Some(2),
+        "transfer" => Some(3),
+        "meter" => Some(4),
         _ => None,
     }
 }
 
-/// Loads a service, and returns the form that it then has.
-pub(crate) fn load_line(alloc: Global, text: &str) -> Result<String, NoMemory> {
+/// Loads the service of a line, and writes the form that it then has.
+pub(crate) fn load_line(alloc: Global, text: &str, said: &mut String) -> Result<(), NoMemory> {
     let (name, text) = text.split_once(' ').unwrap_or((text, ""));
-    let (Some(kind), Some(bytes)) = (kind_of(name), bytes_of_word(alloc, text)?) else {
-        return Ok(format!(in alloc; "no such line")?);
+    let Some(kind) = kind_of(name) else {
+        return tell(said, "no such line");
     };
-    let form = if kind == 0 {
-        loaded::<Counter>(alloc, kind, bytes.as_slice())?
-    } else {
-        loaded::<AnyService>(alloc, kind, bytes.as_slice())?
-    };
-    match form {
-        Some(form) => {
-            let text = word_of_bytes(alloc, form.as_slice())?;
-            Ok(format!(in alloc; "{name} {text}")?)
+    match bytes_of_word(alloc, text)? {
+        Some(form) if kind == 0 => load::<Counter>(alloc, name, kind, form.as_slice(), said),
+        Some(form) => load::<AnyService>(alloc, name, kind, form.as_slice(), said),
+        None => tell(said, "no such line"),
+    }
+}
+
+/// Loads a service from its form, and writes the form that it then has, or `none`.
+fn load<S: Saved>(
+    alloc: Global,
+    name: &str,
+    kind: u8,
+    form: &[u8],
+    said: &mut String,
+) -> Result<(), NoMemory> {
+    match S::load(alloc, kind, form)? {
+        Some(service) => tell_form(alloc, name, &service, said),
+        None => {
+            write!(said, "{name} none")?;
+            Ok(())
         }
-        None => Ok(format!(in alloc; "{name} none")?),
     }
 }
 
-/// The form of the service whose form these bytes are.
-fn loaded<S: Saved>(alloc: Global, kind: u8, bytes: &[u8]) -> Result<Option<Vec<u8>>, NoMemory> {
-    match S::load(alloc, kind, bytes)? {
-        Some(service) => Ok(Some(form_of(alloc, &service)?)),
-        None => Ok(None),
-    }
-}
-
-fn form_of<S: Saved>(alloc: Global, service: &S) -> Result<Vec<u8>, NoMemory> {
+fn tell_form<S: Saved>(
+    alloc: Global,
+    name: &str,
+    service: &S,
+    said: &mut String,
+) -> Result<(), NoMemory> {
+    write!(said, "{name} ")?;
     let mut form = Vec::new(alloc);
     service.save(&mut form)?;
-    Ok(form)
+    tell_bytes(alloc, form.as_slice(), said)
 }
 
 /// Up to how many bytes of output are printed in full.
 const SHOWN: usize = 256;
 
-/// Gives a new service chunks, and returns whether it closes and all that it writes.
-pub(crate) fn play_line(alloc: Global, text: &str) -> Result<String, NoMemory> {
+/// Gives a new service chunks, and writes whether it closes and all that it writes.
+pub(crate) fn play_line(alloc: Global, text: &str, said: &mut String) -> Result<(), NoMemory> {
     let (name, words) = text.split_once(' ').unwrap_or((text, ""));
     match kind_of(name) {
-        Some(0) => say_played(alloc, name, Counter::fresh(alloc, 0), words),
-        Some(kind) => say_played(alloc, name, AnyService::fresh(alloc, kind), words),
-        None => Ok(format!(in alloc; "no such line")?),
+        Some(0) => play(alloc, name, Counter::fresh(alloc, 0), words, said),
+        Some(kind) => play(alloc, name, AnyService::fresh(alloc, kind), words, said),
+        None => tell(said, "no such line"),
     }
 }
 
 /// The same for Line that is loaded.
-pub(crate) fn resume_line(alloc: Global, text: &str) -> Result<String, NoMemory> {
+pub(crate) fn resume_line(alloc: Global, text: &str, said: &mut String) -> Result<(), NoMemory> {
     let (form, words) = text.split_once(' ').unwrap_or((text, ""));
-    let form = bytes_of_word(alloc, form)?.unwrap_or(Vec::new(alloc));
-    match Line::load(alloc, 2, form.as_slice())? {
-        Some(service) => say_played(alloc, "line", service, words),
-        None => Ok(format!(in alloc; "line none")?),
+    match bytes_of_word(alloc, form)? {
+        Some(form) => resume(alloc, form.as_slice(), words, said),
+        None => tell(said, "line none"),
     }
 }
 
-/// Gives a service the chunks that these words say, each of at most 2,048 bytes, until it closes. Whether it does.
+/// Loads Line from its form, and gives it chunks.
+fn resume(alloc: Global, form: &[u8], words: &str, said: &mut String) -> Result<(), NoMemory> {
+    match Line::load(alloc, 2, form)? {
+        Some(service) => play(alloc, "line", service, words, said),
+        None => tell(said, "line none"),
+    }
+}
+
+/// Gives a service the chunks that these words say, and writes what it does with them.
+fn play<S: Service>(
+    alloc: Global,
+    name: &str,
+    mut service: S,
+    words: &str,
+    said: &mut String,
+) -> Result<(), NoMemory> {
+    let mut out = Vec::new(alloc);
+    tell_played(alloc, name, &mut service, words, &mut out, said)
+}
+
+/// The same, with a vector for its output.
+fn tell_played<S: Service>(
+    alloc: Global,
+    name: &str,
+    service: &mut S,
+    words: &str,
+    out: &mut Vec<u8>,
+    said: &mut String,
+) -> Result<(), NoMemory> {
+    match feed(alloc, service, words, out)? {
+        Next::Close => write!(said, "{name} closed ")?,
+        Next::Go => write!(said, "{name} open ")?,
+    }
+    tell_output(alloc, out.as_slice(), said)
+}
+
+/// Gives a service the chunks that these words say, until it closes. Whether it does.
 fn feed<S: Service>(
     alloc: Global,
     service: &mut S,
     words: &str,
     out: &mut Vec<u8>,
-) -> Result<bool, NoMemory> {
+) -> Result<Next, NoMemory> {
     for word in words.split(' ') {
-        let chunk = bytes_of_word(alloc, word)?.unwrap_or(Vec::new(alloc));
-        if service.take(&chunk[..chunk.len().min(CHUNK_LIMIT)], out)? == Next::Close {
-            return Ok(true);
+        if give(alloc, service, word, out)? == Next::Close {
+            return Ok(Next::Close);
         }
     }
-    Ok(false)
+    Ok(Next::Go)
 }
 
-/// What a service does with the chunks that these words say. One that has closed is given no more.
-fn say_played<S: Service>(
+/// Gives a service the chunk that a word says, an empty one where the word isn't hexadecimal.
+fn give<S: Service>(
     alloc: Global,
-    name: &str,
-    mut service: S,
-    words: &str,
-) -> Result<String, NoMemory> {
-    let mut out = Vec::new(alloc);
-    let closed = feed(alloc, &mut service, words, &mut out)?;
-    let out = out_text(alloc, out.as_slice())?;
-    if closed {
-        return Ok(format!(in alloc; "{name} closed {out}")?);
-    }
-    Ok(format!(in alloc; "{name} open {out}")?)
+    service: &mut S,
+    word: &str,
+    out: &mut Vec<u8>,
+) -> Result<Next, NoMemory> {
+    let chunk = bytes_of_word(alloc, word)?.unwrap_or(Vec::new(alloc));
+    take(service, chunk.as_slice(), out)
 }
 
-/// Output in hexadecimal, or how many bytes it has and their hash.
-fn out_text(alloc: Global, out: &[u8]) -> Result<String, NoMemory> {
+/// Gives a service a chunk, of which it is given at most 2,048 bytes, and appends what it writes.
+fn take<S: Service>(service: &mut S, chunk: &[u8], out: &mut Vec<u8>) -> Result<Next, NoMemory> {
+    service.take(&chunk[..chunk.len().min(CHUNK_LIMIT)], out)
+}
+
+/// Writes output in hexadecimal, or how many bytes it has and their hash.
+fn tell_output(alloc: Global, out: &[u8], said: &mut String) -> Result<(), NoMemory> {
     if out.len() <= SHOWN {
-        return word_of_bytes(alloc, out);
+        return tell_bytes(alloc, out, said);
     }
     let (len, hash) = (out.len(), hashed(0, out));
-    Ok(format!(in alloc; "{len} bytes {hash}")?)
+    write!(said, "{len} bytes {hash}")?;
+    Ok(())
 }
 
 /// What came of many runs.
@@ -131,28 +174,68 @@ struct Tally {
     bytes: u32,
 }
 
-/// Plays the runs that a line asks for, and answers what it prints.
-pub(crate) fn runs_line(alloc: Global, text: &str) -> Result<String, NoMemory> {
+/// The bytes of a run. The next run uses the same vectors again.
+#[derive(Drop)]
+struct Bytes {
+    /// The chunk that services are given.
+    chunk: Vec<u8>,
+    /// The form of a service, and what it writes.
+    form: Vec<u8>,
+    out: Vec<u8>,
+    /// The form of the service that is read back, and what it writes.
+    loaded_form: Vec<u8>,
+    loaded_out: Vec<u8>,
+}
+
+impl Bytes {
+    fn new(alloc: Global) -> Bytes {
+        Bytes {
+            chunk: Vec::new(alloc),
+            form: Vec::new(alloc),
+            out: Vec::new(alloc),
+            loaded_form: Vec::new(alloc),
+            loaded_out: Vec::new(alloc),
+        }
+    }
+}
+
+/// Plays the runs that a line asks for, and writes what came of them.
+pub(crate) fn runs_line(alloc: Global, text: &str, said: &mut String) -> Result<(), NoMemory> {
     let (name, rest) = text.split_once(' ').unwrap_or((text, ""));
     let (Some(kind), Some((count, seed))) = (kind_of(name), count_and_seed(rest)) else {
-        return Ok(format!(in alloc; "no such line")?);
+        return tell(said, "no such line");
     };
     let Tally {
         closed,
         read_back,
         refused,
         bytes,
-    } = if kind == 0 {
-        play_runs::<Counter>(alloc, kind, count, seed)?
-    } else {
-        play_runs::<AnyService>(alloc, kind, count, seed)?
-    };
-    Ok(format!(in alloc;
+    } = play_runs(alloc, kind, count, seed)?;
+    write!(
+        said,
         "{name} {count}: closed {closed} read back {read_back} refused {refused} bytes {bytes}"
-    )?)
+    )?;
+    Ok(())
 }
 
-fn play_runs<S: Saved>(alloc: Global, kind: u8, count: u32, seed: u64) -> Result<Tally, NoMemory> {
+/// Plays this many runs of the service of this kind, drawn from a seed.
+fn play_runs(alloc: Global, kind: u8, count: u32, seed: u64) -> Result<Tally, NoMemory> {
+    let mut bytes = Bytes::new(alloc);
+    if kind == 0 {
+        play_all::<Counter>(alloc, kind, count, seed, &mut bytes)
+    } else {
+        play_all::<AnyService>(alloc, kind, count, seed, &mut bytes)
+    }
+}
+
+/// Plays this many runs of this service.
+fn play_all<S: Saved>(
+    alloc: Global,
+    kind: u8,
+    count: u32,
+    seed: u64,
+    bytes: &mut Bytes,
+) -> Result<Tally, NoMemory> {
     let mut draws = Draws::new(seed);
     let mut tally = Tally {
         closed: 0,
@@ -161,55 +244,64 @@ fn play_runs<S: Saved>(alloc: Global, kind: u8, count: u32, seed: u64) -> Result
         bytes: 0,
     };
     for _run in 0..count {
-        match run::<S>(alloc, &mut draws, kind)? {
-            Some(service) => check(alloc, &mut draws, kind, service, &mut tally)?,
-            None => tally.closed = tally.closed.wrapping_add(1),
-        }
+        let mut service = S::fresh(alloc, kind);
+        play_run(alloc, kind, &mut service, &mut draws, bytes, &mut tally)?;
     }
     Ok(tally)
 }
 
-/// A service after one to five chunks, where it hasn't closed.
-fn run<S: Saved>(alloc: Global, draws: &mut Draws, kind: u8) -> Result<Option<S>, NoMemory> {
-    let mut service = S::fresh(alloc, kind);
-    let mut closed = false;
-    for _chunk in 0..1 + draws.below(5) {
-        let chunk = any_chunk(alloc, draws, kind)?;
-        if !closed {
-            let (next, _output) = taken(alloc, &mut service, chunk.as_slice())?;
-            closed = next == Next::Close;
-        }
+/// Plays the run of a new service: one to five chunks, after which it is checked if it hasn't closed.
+fn play_run<S: Saved>(
+    alloc: Global,
+    kind: u8,
+    service: &mut S,
+    draws: &mut Draws,
+    bytes: &mut Bytes,
+    tally: &mut Tally,
+) -> Result<(), NoMemory> {
+    if give_some(kind, service, draws, bytes)? == Next::Close {
+        tally.closed = tally.closed.wrapping_add(1);
+        return Ok(());
     }
-    Ok(if closed { None } else { Some(service) })
+    check(alloc, kind, service, draws, bytes, tally)
 }
 
-/// What a service does with a chunk, of which it is given at most 2,048 bytes.
-fn taken<S: Saved>(
-    alloc: Global,
+/// Gives a service one to five chunks. Whether it closes. One that has closed is given no more.
+fn give_some<S: Service>(
+    kind: u8,
     service: &mut S,
-    chunk: &[u8],
-) -> Result<(Next, Vec<u8>), NoMemory> {
-    let mut out = Vec::new(alloc);
-    let next = service.take(&chunk[..chunk.len().min(CHUNK_LIMIT)], &mut out)?;
-    Ok((next, out))
+    draws: &mut Draws,
+    bytes: &mut Bytes,
+) -> Result<Next, NoMemory> {
+    let mut next = Next::Go;
+    for _chunk in 0..1 + draws.below(5) {
+        make_chunk(draws, kind, &mut bytes.chunk)?;
+        if next == Next::Go {
+            bytes.out.clear();
+            next = take(service, bytes.chunk.as_slice(), &mut bytes.out)?;
+        }
+    }
+    Ok(next)
 }
 
 /// Saves a service, reads it back, and loads what is damaged of its form.
 fn check<S: Saved>(
     alloc: Global,
-    draws: &mut Draws,
     kind: u8,
-    service: S,
+    service: &mut S,
+    draws: &mut Draws,
+    bytes: &mut Bytes,
     tally: &mut Tally,
 ) -> Result<(), NoMemory> {
-    let mut form = form_of(alloc, &service)?;
-    tally.bytes = hashed(tally.bytes, form.as_slice());
-    let chunk = any_chunk(alloc, draws, kind)?;
-    if is_read_back(alloc, kind, service, form.as_slice(), chunk.as_slice())? {
+    bytes.form.clear();
+    service.save(&mut bytes.form)?;
+    tally.bytes = hashed(tally.bytes, bytes.form.as_slice());
+    make_chunk(draws, kind, &mut bytes.chunk)?;
+    if is_read_back(alloc, kind, service, bytes)? {
         tally.read_back = tally.read_back.wrapping_add(1);
     }
-    damage(draws, &mut form)?;
-    if S::load(alloc, kind, form.as_slice())?.is_none() {
+    damage(draws, &mut bytes.form)?;
+    if S::load(alloc, kind, bytes.form.as_slice())?.is_none() {
         tally.refused = tally.refused.wrapping_add(1);
     }
     Ok(())
@@ -219,18 +311,38 @@ fn check<S: Saved>(
 fn is_read_back<S: Saved>(
     alloc: Global,
     kind: u8,
-    service: S,
-    form: &[u8],
-    chunk: &[u8],
+    service: &mut S,
+    bytes: &mut Bytes,
 ) -> Result<bool, NoMemory> {
-    let Some(mut loaded) = S::load(alloc, kind, form)? else {
-        return Ok(false);
-    };
-    let mut service = service;
-    let again = form_of(alloc, &loaded)?;
-    let (next, out) = taken(alloc, &mut service, chunk)?;
-    let (loaded_next, loaded_out) = taken(alloc, &mut loaded, chunk)?;
-    Ok(again.as_slice() == form && next == loaded_next && out.as_slice() == loaded_out.as_slice())
+    match S::load(alloc, kind, bytes.form.as_slice())? {
+        Some(mut loaded) => is_alike(service, &mut loaded, bytes),
+        None => Ok(false),
+    }
+}
+
+fn is_alike<S: Saved>(
+    service: &mut S,
+    loaded: &mut S,
+    bytes: &mut Bytes,
+) -> Result<bool, NoMemory> {
+    let Bytes {
+        chunk,
+        form,
+        out,
+        loaded_form,
+        loaded_out,
+    } = bytes;
+    loaded_form.clear();
+    loaded.save(loaded_form)?;
+    out.clear();
+    let next = take(service, chunk.as_slice(), out)?;
+    loaded_out.clear();
+    let loaded_next = take(loaded, chunk.as_slice(), loaded_out)?;
+    Ok(
+        loaded_form.as_slice() == form.as_slice()
+            && next == loaded_next
+            && out.as_slice() == loaded_out.as_slice(),
+    )
 }
 
 /// Changes a byte of a form, drops its last or appends one.
@@ -248,13 +360,13 @@ fn damage(draws: &mut Draws, form: &mut Vec<u8>) -> Result<(), NoMemory> {
     Ok(())
 }
 
-/// A chunk of one to four pieces.
-fn any_chunk(alloc: Global, draws: &mut Draws, kind: u8) -> Result<Vec<u8>, NoMemory> {
-    let mut chunk = Vec::new(alloc);
+/// Makes a chunk of one to four pieces in place of what is there.
+fn make_chunk(draws: &mut Draws, kind: u8, chunk: &mut Vec<u8>) -> Result<(), NoMemory> {
+    chunk.clear();
     for _piece in 0..1 + draws.below(4) {
-        put_piece(draws, kind, &mut chunk)?;
+        put_piece(draws, kind, chunk)?;
     }
-    Ok(chunk)
+    Ok(())
 }
 
 /// A line feed, the line `quit`, many bytes of one letter, a request, or a few bytes. Transfer, which gives much for little, is given few of the letters.
