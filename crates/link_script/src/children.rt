@@ -1,41 +1,39 @@
 //! The calls that a spawner in memory has recorded.
 
-use ft_io::{NoMemory, SpawnCall};
-use std::alloc::Global;
-use test_data::push_line;
+use crate::said::Said;
+use ft_io::SpawnCall;
 
 /// Says the calls on a spawner, each in a line.
-pub fn say_children(
-    alloc: Global,
-    calls: &[SpawnCall],
-    said: &mut Vec<u8>,
-) -> Result<(), NoMemory> {
+pub fn say_children(calls: &[SpawnCall], said: &mut Said) {
     for call in calls {
         match call {
-            SpawnCall::Started(words) => say_start(words.as_slice(), said)?,
-            SpawnCall::Ended(child, status) => {
-                let line = format!(in alloc; "ended {child} {status}")?;
-                push_line(line.as_str(), said)?;
-            }
+            SpawnCall::Started(words) => say_start(words.as_slice(), said),
+            SpawnCall::Ended(child, status) => say_end(*child, *status, said),
         }
     }
-    Ok(())
 }
 
 /// Says the words of a start as a script spells them.
-fn say_start(words: &[String], said: &mut Vec<u8>) -> Result<(), NoMemory> {
-    said.extend_from_slice(b"started")?;
+fn say_start(words: &[String], said: &mut Said) {
+    said.add(b"started");
     for word in words {
-        said.push(b' ')?;
-        say_word(word.as_bytes(), said)?;
+        said.add(b" ");
+        say_word(word.as_bytes(), said);
     }
-    said.push(b'\n')?;
-    Ok(())
+    said.line("");
 }
 
-fn say_word(word: &[u8], said: &mut Vec<u8>) -> Result<(), NoMemory> {
+fn say_word(word: &[u8], said: &mut Said) {
     for byte in word {
-        said.push(if *byte == b' ' { b'~' } else { *byte })?;
+        said.add(&[if *byte == b' ' { b'~' } else { *byte }]);
     }
-    Ok(())
+}
+
+/// Says with which status a child has ended.
+fn say_end(child: u32, status: i32, said: &mut Said) {
+    said.add(b"ended ");
+    said.number(i64::from(child));
+    said.add(b" ");
+    said.number(i64::from(status));
+    said.line("");
 }

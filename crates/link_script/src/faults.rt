@@ -1,45 +1,56 @@
 //! Which calls of a run fail.
 
+use ft_io::NoMemory;
 use schedule_text::read_number;
+use std::alloc::Global;
 
-/// The number of a call of each kind that fails, from 1; 0 where none does.
-#[derive(Clone, Copy, Debug)]
+/// The numbers of the calls of each kind that fail, from 1.
+#[derive(Drop)]
 pub struct Faults {
-    pub bind: u32,
-    pub send: u32,
-    pub receive: u32,
-    pub read: u32,
-    pub write: u32,
-    pub error: u32,
-    pub child: u32,
+    pub binds: Vec<u32>,
+    pub sends: Vec<u32>,
+    pub receives: Vec<u32>,
+    pub reads: Vec<u32>,
+    pub writes: Vec<u32>,
+    pub errors: Vec<u32>,
+    pub children: Vec<u32>,
 }
 
 impl Faults {
-    pub fn none() -> Faults {
+    pub fn new(alloc: Global) -> Faults {
         Faults {
-            bind: 0,
-            send: 0,
-            receive: 0,
-            read: 0,
-            write: 0,
-            error: 0,
-            child: 0,
+            binds: Vec::new(alloc),
+            sends: Vec::new(alloc),
+            receives: Vec::new(alloc),
+            reads: Vec::new(alloc),
+            writes: Vec::new(alloc),
+            errors: Vec::new(alloc),
+            children: Vec::new(alloc),
+        }
+    }
+
+    /// The list of the calls that a line names.
+    fn list(&mut self, call: &str) -> Option<&mut Vec<u32>> {
+        match call {
+            "bind" => Some(&mut self.binds),
+            "send" => Some(&mut self.sends),
+            "receive" => Some(&mut self.receives),
+            "read" => Some(&mut self.reads),
+            "write" => Some(&mut self.writes),
+            "error" => Some(&mut self.errors),
+            "child" => Some(&mut self.children),
+            _ => None,
         }
     }
 
     /// Adds the fault of a line.
-    pub fn add(&mut self, rest: &str) {
+    pub fn add(&mut self, rest: &str) -> Result<(), NoMemory> {
         let (call, number) = rest.split_once(' ').unwrap_or((rest, ""));
-        let number = read_number(number.as_bytes(), 1, 1_000_000).unwrap_or(0) as u32;
-        match call.as_bytes() {
-            b"bind" => self.bind = number,
-            b"send" => self.send = number,
-            b"receive" => self.receive = number,
-            b"read" => self.read = number,
-            b"write" => self.write = number,
-            b"error" => self.error = number,
-            b"child" => self.child = number,
-            _ => (),
+        if let Some(numbers) = self.list(call)
+            && let Some(number) = read_number(number.as_bytes(), 1, 1_000_000)
+        {
+            numbers.push(number as u32)?;
         }
+        Ok(())
     }
 }

@@ -23,6 +23,7 @@ use ft_io::{Addr, Arrival, NoMemory, Octets, WriteSink, write_all};
 use node_link::{Role, read_role};
 use process::Meeting;
 use run::{Setting, Way};
+use said::Said;
 use schedule_text::read_addr;
 use std::alloc::Global;
 use std::fs::{File, Files};
@@ -31,7 +32,7 @@ use std::process::{ExitCode, Processes};
 use std::rt::Env;
 use std::time::Clock;
 use std::{env, io, mem};
-use test_data::{bytes_of_hex, push_line};
+use test_data::bytes_of_hex;
 use twin_link::{TwinRole, read_twin_role, run_ftnode};
 use twin_log::Part;
 
@@ -39,22 +40,35 @@ mod children;
 mod faults;
 mod process;
 mod run;
+mod said;
 
 fn main(rt: HostRuntime) -> io::Result<ExitCode> {
     if env::args(&rt)?.skip(1).next().is_some() {
         return run_ftnode(&rt, rt.stdin(), rt.stdout(), rt.stderr());
     }
     let mut script = Script::new(rt.alloc());
+    play_lines(&rt, &mut script)
+}
+
+/// Plays the lines of the input, and prints what they say.
+fn play_lines(rt: &HostRuntime, script: &mut Script) -> io::Result<ExitCode> {
     for line in rt.lines(rt.alloc()) {
-        if script.play(&rt, line?.as_str()).is_err() {
-            println!(rt; "no memory")?;
-            return Ok(ExitCode::FAILURE);
+        if script.play(rt, line?.as_str()).is_err() {
+            return without_memory(rt);
         }
     }
-    if write_all(&mut WriteSink::new(rt.stdout()), script.said.as_slice()).is_err() {
+    let Ok(said) = script.said.bytes() else {
+        return without_memory(rt);
+    };
+    if write_all(&mut WriteSink::new(rt.stdout()), said).is_err() {
         println!(rt; "a fault")?;
     }
     Ok(ExitCode::SUCCESS)
+}
+
+fn without_memory(rt: &impl Print) -> io::Result<ExitCode> {
+    println!(rt; "no memory")?;
+    Ok(ExitCode::FAILURE)
 }
 
 /// What arrives at the next run and is its input, how its children end, and which of its calls fail; what the next process finds; and what was printed so far.
@@ -65,7 +79,7 @@ struct Script {
     statuses: Vec<i32>,
     faults: Faults,
     meeting: Meeting,
-    said: Vec<u8>,
+    said: Said,
 }
 
 impl Script {
@@ -74,9 +88,9 @@ impl Script {
             arrivals: Vec::new(alloc),
             input: Vec::new(alloc),
             statuses: Vec::new(alloc),
-            faults: Faults::none(),
+            faults: Faults::new(alloc),
             meeting: Meeting::new(alloc),
-            said: Vec::new(alloc),
+            said: Said::new(alloc),
         }
     }
 
@@ -88,29 +102,34 @@ impl Script {
     ) -> Result<(), NoMemory> {
         let alloc = system.alloc();
         let (word, rest) = line.split_once(' ').unwrap_or((line, ""));
-        match word.as_bytes() {
-            b"#" => push_line(line, &mut self.said),
-            b"ask" => ask(alloc, rest, &mut self.said),
-            b"come" => self.come(alloc, rest),
-            b"nothing" => {
-                self.arrivals.push(Arrival::Nothing)?;
+        match word {
+            "#" => {
+                self.said.line(line);
                 Ok(())
             }
-            b"child" => self.end_child(rest),
-            b"fail" => {
-                self.faults.add(rest);
-                Ok(())
-            }
-            b"input" => self.give(alloc, rest),
-            b"run" => self.run(alloc, rest, Way::Node),
-            b"brief" => self.run(alloc, rest, Way::Brief),
-            b"own" => self.run(alloc, rest, Way::Own),
-            b"shell" => self.meeting.set_shell(alloc, rest),
-            b"hold" => self.meeting.hold(alloc, rest),
-            b"answer" => self.answer(alloc, rest),
-            b"start" => self.start(system, rest),
-            _ => push_line("no such line", &mut self.said),
+            "ask" => ask(alloc, rest, &mut self.said),
+            "run" => self.run(alloc, rest, Way::Node),
+            "brief" => self.run(alloc, rest, Way::Brief),
+            "own" => self.run(alloc, rest, Way::Own),
+            "start" => self.start(system, rest),
+            _ => self.prepare(alloc, word, rest),
         }
+    }
+
+    /// Plays a line that says what the next run or the next process meets.
+    fn prepare(&mut self, alloc: Global, word: &str, rest: &str) -> Result<(), NoMemory> {
+        match word {
+            "come" => self.come(alloc, rest)?,
+            "nothing" => self.arrivals.push(Arrival::Nothing)?,
+            "child" => self.end_child(rest)?,
+            "fail" => self.faults.add(rest)?,
+            "input" => self.give(alloc, rest)?,
+            "shell" => self.meeting.shell = String::from_str(alloc, rest)?,
+            "hold" => self.meeting.held = String::from_str(alloc, rest)?,
+            "answer" => self.answer(alloc, rest)?,
+            _ => self.said.line("no such line"),
+        }
+        Ok(())
     }
 
     /// Runs it with these words.
@@ -120,10 +139,11 @@ impl Script {
             arrivals: mem::replace(&mut self.arrivals, Vec::new(alloc)),
             input: mem::replace(&mut self.input, Vec::new(alloc)),
             statuses: mem::replace(&mut self.statuses, Vec::new(alloc)),
-            faults: mem::replace(&mut self.faults, Faults::none()),
+            faults: mem::replace(&mut self.faults, Faults::new(alloc)),
             way,
         };
-        run::run(alloc, words.as_slice(), setting, &mut self.said)
+        run::run(alloc, words.as_slice(), setting, &mut self.said);
+        Ok(())
     }
 
     /// Starts a process with these words.
@@ -134,74 +154,63 @@ impl Script {
     ) -> Result<(), NoMemory> {
         let words = words_of(system.alloc(), rest)?;
         let meeting = mem::replace(&mut self.meeting, Meeting::new(system.alloc()));
-        process::start(system, words.as_slice(), &meeting, &mut self.said)
+        process::start(system, words.as_slice(), &meeting, &mut self.said);
+        Ok(())
     }
 
     /// Adds an answer of the next process's peer.
     fn answer(&mut self, alloc: Global, text: &str) -> Result<(), NoMemory> {
         match bytes_of_hex(alloc, text)? {
-            Some(bytes) => {
-                self.meeting.answers.push(bytes)?;
-                Ok(())
-            }
-            None => push_line("no answer", &mut self.said),
+            Some(bytes) => self.meeting.answers.push(bytes)?,
+            None => self.said.line("no answer"),
         }
+        Ok(())
     }
 
     /// Sets the input.
     fn give(&mut self, alloc: Global, text: &str) -> Result<(), NoMemory> {
         match bytes_of_hex(alloc, text)? {
-            Some(bytes) => {
-                self.input = bytes;
-                Ok(())
-            }
-            None => push_line("no input", &mut self.said),
+            Some(bytes) => self.input = bytes,
+            None => self.said.line("no input"),
         }
+        Ok(())
     }
 
     /// Gives the next child a status.
     fn end_child(&mut self, text: &str) -> Result<(), NoMemory> {
         match text.parse::<i32>() {
-            Ok(status) => {
-                self.statuses.push(status)?;
-                Ok(())
-            }
-            Err(_) => push_line("no status", &mut self.said),
+            Ok(status) => self.statuses.push(status)?,
+            Err(_) => self.said.line("no status"),
         }
+        Ok(())
     }
 
     /// Adds a datagram to what comes.
     fn come(&mut self, alloc: Global, rest: &str) -> Result<(), NoMemory> {
         let (from, text) = rest.split_once(' ').unwrap_or((rest, ""));
-        match datagram(alloc, from, text)? {
-            Some((from, bytes)) => {
+        match (read_addr(from.as_bytes()), bytes_of_hex(alloc, text)?) {
+            (Some(from), Some(bytes)) => {
                 let bytes = Octets::new(bytes);
                 self.arrivals.push(Arrival::Datagram { from, bytes })?;
-                Ok(())
             }
-            None => push_line("no datagram", &mut self.said),
+            _ => self.said.line("no datagram"),
         }
+        Ok(())
     }
 }
 
-/// A datagram, with where it comes from.
-fn datagram(alloc: Global, from: &str, text: &str) -> Result<Option<(Addr, Vec<u8>)>, NoMemory> {
-    let Some(from) = read_addr(from.as_bytes()) else {
-        return Ok(None);
-    };
-    Ok(bytes_of_hex(alloc, text)?.map(|bytes| (from, bytes)))
+/// Says which role the words ask for.
+fn ask(alloc: Global, text: &str, said: &mut Said) -> Result<(), NoMemory> {
+    let words = words_of(alloc, text)?;
+    say_role(alloc, words.as_slice(), said)
 }
 
-/// Says which role the words ask for.
-fn ask(alloc: Global, text: &str, said: &mut Vec<u8>) -> Result<(), NoMemory> {
-    let words = words_of(alloc, text)?;
-    let twin = read_twin_role(alloc, words.as_slice())?;
-    let role = read_role(alloc, words.as_slice())?;
-    let name = match &twin {
-        Some(twin) => name_of_twin(twin),
-        None => name_of(&role),
-    };
-    push_line(name, said)
+fn say_role(alloc: Global, words: &[String], said: &mut Said) -> Result<(), NoMemory> {
+    match read_twin_role(alloc, words)? {
+        Some(twin) => said.line(name_of_twin(&twin)),
+        None => said.line(name_of(&read_role(alloc, words)?)),
+    }
+    Ok(())
 }
 
 /// The name of a role that has to do with two loggers.
@@ -229,22 +238,20 @@ fn name_of<'a>(role: &Option<Role>) -> &'a str {
 /// The words of a text, which single spaces separate. An empty text has none.
 fn words_of(alloc: Global, text: &str) -> Result<Vec<String>, NoMemory> {
     let mut words = Vec::new(alloc);
-    if text.is_empty() {
-        return Ok(words);
-    }
-    for piece in text.split(' ') {
-        words.push(word_of(alloc, piece)?)?;
+    if !text.is_empty() {
+        add_words(alloc, text, &mut words)?;
     }
     Ok(words)
 }
 
+fn add_words(alloc: Global, text: &str, words: &mut Vec<String>) -> Result<(), NoMemory> {
+    for piece in text.split(' ') {
+        words.push(word_of(alloc, piece)?)?;
+    }
+    Ok(())
+}
+
 fn word_of(alloc: Global, piece: &str) -> Result<String, NoMemory> {
-    let mut word = String::new(alloc);
-    if piece == "''" {
-        return Ok(word);
-    }
-    for c in piece.chars() {
-        word.push(if c == '~' { ' ' } else { c })?;
-    }
-    Ok(word)
+    let text = if piece == "''" { "" } else { piece };
+    Ok(text.replace(alloc, '~', " ")?)
 }

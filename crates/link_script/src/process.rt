@@ -1,15 +1,15 @@
 //! A run of `ftnode` as a process. This program with words is `ftnode`, by the one call that `ftnode` itself makes, so it starts itself again.
 
+use crate::said::Said;
 use disk::FileDisk;
-use ft_io::{Addr, Heard, Link, NoMemory, UdpLink};
+use ft_io::{Addr, Heard, Link, UdpLink};
 use std::alloc::Global;
 use std::fs::{File, Files};
 use std::net::Net;
-use std::process::{Command, Output, Processes, Stdio};
+use std::process::{Child, Command, Output, Processes, Stdio};
 use std::rt::Env;
 use std::time::Clock;
 use std::{env, io};
-use test_data::push_line;
 
 /// Where the peer of a process is.
 const PEER: Addr = Addr {
@@ -24,11 +24,11 @@ const PATIENCE: u32 = 1_000;
 #[derive(Drop)]
 pub struct Meeting {
     /// The shell's command that starts it: `$0` is the program, and `$@` are its words. Empty where no more is to be done than that.
-    shell: String,
+    pub shell: String,
     /// What the peer answers to the datagrams that it receives, one after another.
     pub answers: Vec<Vec<u8>>,
     /// A journal that is open meanwhile. None where the name is empty.
-    held: String,
+    pub held: String,
 }
 
 impl Meeting {
@@ -38,16 +38,6 @@ impl Meeting {
             answers: Vec::new(alloc),
             held: String::new(alloc),
         }
-    }
-
-    pub fn set_shell(&mut self, alloc: Global, text: &str) -> Result<(), NoMemory> {
-        self.shell = String::from_str(alloc, text)?;
-        Ok(())
-    }
-
-    pub fn hold(&mut self, alloc: Global, name: &str) -> Result<(), NoMemory> {
-        self.held = String::from_str(alloc, name)?;
-        Ok(())
     }
 
     /// The shell's command.
@@ -64,46 +54,72 @@ pub fn start<R: AllocGlobal + Env + Net + Clock + Files<File = File> + Processes
     system: &R,
     words: &[String],
     meeting: &Meeting,
-    said: &mut Vec<u8>,
-) -> Result<(), NoMemory> {
+    said: &mut Said,
+) {
     let _held = FileDisk::open(system, meeting.held.as_str());
     match run(system, words, meeting) {
         Ok(output) => {
-            let code = output.status.code().unwrap_or(-1);
-            let line = format!(in system.alloc(); "status {code}")?;
-            push_line(line.as_str(), said)?;
-            said.extend_from_slice(output.stdout.as_slice())?;
-            said.extend_from_slice(output.stderr.as_slice())?;
-            Ok(())
+            said.status(output.status.code().unwrap_or(-1));
+            said.add(output.stdout.as_slice());
+            said.add(output.stderr.as_slice());
         }
-        Err(_) => push_line("not started", said),
+        Err(_) => said.line("not started"),
     }
 }
 
-fn run<R: AllocGlobal + Env + Net + Clock + Files<File = File> + Processes>(
+/// Runs it to its end, next to its peer.
+fn run<R: AllocGlobal + Env + Net + Clock + Processes>(
     system: &R,
     words: &[String],
     meeting: &Meeting,
 ) -> io::Result<Output> {
     let mut peer = UdpLink::new(system);
+    run_beside(system, words, meeting, &mut peer)
+}
+
+fn run_beside<R: AllocGlobal + Env + Processes, L: Link>(
+    system: &R,
+    words: &[String],
+    meeting: &Meeting,
+    peer: &mut L,
+) -> io::Result<Output> {
     if peer.bind(PEER).is_err() {
         return Err(io::ErrorKind::AddrInUse.into());
     }
-    let mut command = Command::new(system.alloc(), "/bin/sh")?;
-    command.arg("-c")?.arg(meeting.command())?;
+    let child = spawn(system, words, meeting)?;
+    answer_all(peer, &meeting.answers);
+    child.wait_with_output(system.alloc())
+}
+
+/// Starts a shell, which starts it.
+fn spawn<R: AllocGlobal + Env + Processes>(
+    system: &R,
+    words: &[String],
+    meeting: &Meeting,
+) -> io::Result<Child<R::Started>> {
+    let mut shell = Command::new(system.alloc(), "/bin/sh")?;
+    spawn_by(system, words, meeting, &mut shell)
+}
+
+/// Gives the shell its command, the program and its words, and starts it.
+fn spawn_by<R: AllocGlobal + Env + Processes>(
+    system: &R,
+    words: &[String],
+    meeting: &Meeting,
+    shell: &mut Command,
+) -> io::Result<Child<R::Started>> {
+    shell.arg("-c")?.arg(meeting.command())?;
     if let Some(program) = env::args(system)?.next() {
-        command.arg(program.as_str())?;
+        shell.arg(program.as_str())?;
     }
     for word in words {
-        command.arg(word.as_str())?;
+        shell.arg(word.as_str())?;
     }
-    let child = command
+    shell
         .stdin(Stdio::null())
         .stdout(Stdio::piped())
         .stderr(Stdio::piped())
-        .spawn(system)?;
-    answer_all(&mut peer, &meeting.answers);
-    child.wait_with_output(system.alloc())
+        .spawn(system)
 }
 
 /// Gives each answer, to what comes next that isn't a repeat. A repeat gets the answer that was given before.

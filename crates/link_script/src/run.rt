@@ -2,12 +2,12 @@
 
 use crate::children::say_children;
 use crate::faults::Faults;
+use crate::said::Said;
 use counter_service::Counter;
 use disk::{MemDesk, MemDisk};
-use ft_io::{Addr, Arrival, LinkCall, MemLink, MemSink, MemSource, MemSpawner, NoMemory};
+use ft_io::{Addr, Arrival, LinkCall, MemLink, MemSink, MemSource, MemSpawner, SpawnCall};
 use node_link::node_of;
 use std::alloc::Global;
-use test_data::{push_line, word_of_bytes};
 use twin_link::node_in_pair;
 
 /// What is run, and how its calls on the link are printed.
@@ -31,28 +31,6 @@ pub struct Setting {
     pub way: Way,
 }
 
-/// A run that is over.
-#[derive(Drop)]
-struct Finished {
-    code: u8,
-    link: MemLink,
-    out: MemSink,
-    err: MemSink,
-    kids: MemSpawner,
-}
-
-/// A list of only this number.
-fn only(alloc: Global, number: u32) -> Result<Vec<u32>, NoMemory> {
-    Ok(vec![in alloc; number]?)
-}
-
-fn link_of(alloc: Global, arrivals: Vec<Arrival>, faults: Faults) -> Result<MemLink, NoMemory> {
-    let sends = only(alloc, faults.send)?;
-    let receives = only(alloc, faults.receive)?;
-    let binds = only(alloc, faults.bind)?;
-    Ok(MemLink::with_bind_fails(alloc, arrivals, sends, receives, binds))
-}
-
 /// A desk with no network and an empty file: no run here keeps a journal.
 fn idle_desk(alloc: Global) -> MemDesk {
     let none = Vec::new(alloc);
@@ -68,17 +46,29 @@ fn idle_desk(alloc: Global) -> MemDesk {
     )
 }
 
-/// Runs it between these.
-fn run_between(
-    alloc: Global,
-    words: &[String],
-    way: Way,
-    mut link: MemLink,
-    mut input: MemSource,
-    mut out: MemSink,
-    mut err: MemSink,
-    mut kids: MemSpawner,
-) -> Finished {
+/// Runs it, and says how that ended, what was written and what was called.
+pub fn run(alloc: Global, words: &[String], setting: Setting, said: &mut Said) {
+    let Setting {
+        arrivals,
+        input,
+        statuses,
+        faults,
+        way,
+    } = setting;
+    let Faults {
+        binds,
+        sends,
+        receives,
+        reads,
+        writes,
+        errors,
+        children,
+    } = faults;
+    let mut link = MemLink::with_bind_fails(alloc, arrivals, sends, receives, binds);
+    let mut input = MemSource::new(input, reads);
+    let mut out = MemSink::new(alloc, writes);
+    let mut err = MemSink::new(alloc, errors);
+    let mut kids = MemSpawner::new(alloc, statuses, children);
     let status = match way {
         Way::Node | Way::Brief => node_in_pair(
             alloc,
@@ -92,63 +82,28 @@ fn run_between(
         ),
         Way::Own => node_of::<Counter, _, _, _>(alloc, words, &mut link, &mut out, &mut err),
     };
-    Finished {
-        code: status.code,
-        link,
-        out,
-        err,
-        kids,
-    }
+    said.status(i32::from(status.code));
+    said.add(out.written());
+    said.add(err.written());
+    say_told(link.told(), kids.told(), way, said);
 }
 
-/// Runs it, and says how that ended.
-pub fn run(
-    alloc: Global,
-    words: &[String],
-    setting: Setting,
-    said: &mut Vec<u8>,
-) -> Result<(), NoMemory> {
-    let Setting {
-        arrivals,
-        input,
-        statuses,
-        faults,
-        way,
-    } = setting;
-    let input = MemSource::new(input, only(alloc, faults.read)?);
-    let out = MemSink::new(alloc, only(alloc, faults.write)?);
-    let err = MemSink::new(alloc, only(alloc, faults.error)?);
-    let kids = MemSpawner::new(alloc, statuses, only(alloc, faults.child)?);
-    let link = link_of(alloc, arrivals, faults)?;
-    say_run(
-        alloc,
-        &run_between(alloc, words, way, link, input, out, err, kids),
-        way,
-        said,
-    )
-}
-
-/// Says how a run ended, and what was called and written.
-fn say_run(alloc: Global, ran: &Finished, way: Way, said: &mut Vec<u8>) -> Result<(), NoMemory> {
-    let code = ran.code;
-    let line = format!(in alloc; "status {code}")?;
-    push_line(line.as_str(), said)?;
-    said.extend_from_slice(ran.out.written())?;
-    said.extend_from_slice(ran.err.written())?;
-    let (Some(calls), Some(children)) = (ran.link.told(), ran.kids.told()) else {
-        return push_line("nothing told", said);
+/// Says what was called on the link and on the spawner.
+fn say_told(calls: Option<&[LinkCall]>, children: Option<&[SpawnCall]>, way: Way, said: &mut Said) {
+    let (Some(calls), Some(children)) = (calls, children) else {
+        return said.line("nothing told");
     };
     match way {
-        Way::Brief => say_counts(alloc, calls, said)?,
-        Way::Node | Way::Own => say_calls(alloc, calls, said)?,
+        Way::Brief => say_counts(calls, said),
+        Way::Node | Way::Own => say_calls(calls, said),
     }
-    say_children(alloc, children, said)
+    say_children(children, said);
 }
 
 /// Says how many calls were receives, and how many sends.
-fn say_counts(alloc: Global, calls: &[LinkCall], said: &mut Vec<u8>) -> Result<(), NoMemory> {
-    let mut receives = 0u64;
-    let mut sends = 0u64;
+fn say_counts(calls: &[LinkCall], said: &mut Said) {
+    let mut receives = 0u32;
+    let mut sends = 0u32;
     for call in calls {
         match call {
             LinkCall::Bound(_) => (),
@@ -156,38 +111,34 @@ fn say_counts(alloc: Global, calls: &[LinkCall], said: &mut Vec<u8>) -> Result<(
             _ => receives = receives.saturating_add(1),
         }
     }
-    let line = format!(in alloc; "receives {receives} sends {sends}")?;
-    push_line(line.as_str(), said)
+    said.add(b"receives ");
+    said.number(i64::from(receives));
+    said.add(b" sends ");
+    said.number(i64::from(sends));
+    said.line("");
 }
 
 /// Says the calls on a link, each in a line.
-fn say_calls(alloc: Global, calls: &[LinkCall], said: &mut Vec<u8>) -> Result<(), NoMemory> {
+fn say_calls(calls: &[LinkCall], said: &mut Said) {
     for call in calls {
         match call {
-            LinkCall::Bound(at) => say_bytes(alloc, "bound", *at, b"", said)?,
-            LinkCall::Came(from, bytes) => say_bytes(alloc, "came", *from, bytes.as_slice(), said)?,
-            LinkCall::Silent => push_line("silent", said)?,
-            LinkCall::Missed => push_line("missed", said)?,
+            LinkCall::Bound(at) => say_bytes("bound ", *at, b"", said),
+            LinkCall::Came(from, bytes) => say_bytes("came ", *from, bytes.as_slice(), said),
+            LinkCall::Silent => said.line("silent"),
+            LinkCall::Missed => said.line("missed"),
             LinkCall::Handed(to, bytes, is_lost) => {
-                let name = if *is_lost { "lost" } else { "sent" };
-                say_bytes(alloc, name, *to, bytes.as_slice(), said)?
+                let name = if *is_lost { "lost " } else { "sent " };
+                say_bytes(name, *to, bytes.as_slice(), said);
             }
         }
     }
-    Ok(())
 }
 
 /// Says a call with an address and bytes, or `-` where there are none.
-fn say_bytes(
-    alloc: Global,
-    name: &str,
-    at: Addr,
-    bytes: &[u8],
-    said: &mut Vec<u8>,
-) -> Result<(), NoMemory> {
-    let [a, b, c, d] = at.ip.to_be_bytes();
-    let port = at.port;
-    let line = format!(in alloc; "{name} {a}.{b}.{c}.{d}:{port} ")?;
-    said.extend_from_slice(line.as_bytes())?;
-    push_line(word_of_bytes(alloc, bytes)?.as_str(), said)
+fn say_bytes(name: &str, at: Addr, bytes: &[u8], said: &mut Said) {
+    said.add(name.as_bytes());
+    said.address(at);
+    said.add(b" ");
+    said.word(bytes);
+    said.line("");
 }
