@@ -5,7 +5,6 @@
 
 use crate::exchange::{Exchange, Way};
 use ft_io::NoMemory;
-use std::alloc::Global;
 use std::io;
 
 /// What the words ask for.
@@ -38,12 +37,6 @@ fn work_of(words: &[&str]) -> Option<Work> {
     fits.then_some(Work { bytes, write, way })
 }
 
-fn run(alloc: Global, work: Work) -> Result<Exchange, NoMemory> {
-    let mut exchange = Exchange::new(alloc, work.bytes, work.write, work.way)?;
-    exchange.run();
-    Ok(exchange)
-}
-
 /// Plays the echo of these words, and prints what came of it. Its status.
 pub(crate) fn play<R: AllocGlobal + Print + Eprint>(rt: &R, words: &[&str]) -> io::Result<u8> {
     let Some(work) = work_of(words) else {
@@ -52,11 +45,19 @@ pub(crate) fn play<R: AllocGlobal + Print + Eprint>(rt: &R, words: &[&str]) -> i
         )?;
         return Ok(2);
     };
-    let Ok(exchange) = run(rt.alloc(), work) else {
-        eprintln!(rt; "no memory is left")?;
-        return Ok(3);
-    };
-    tell(rt, &exchange)?;
+    match Exchange::new(rt.alloc(), work.bytes, work.write, work.way) {
+        Ok(mut exchange) => run(rt, &mut exchange),
+        Err(NoMemory) => {
+            eprintln!(rt; "no memory is left")?;
+            Ok(3)
+        }
+    }
+}
+
+/// Plays an exchange to its end, and prints what came of it. Its status.
+fn run(rt: &(impl Print + Eprint), exchange: &mut Exchange) -> io::Result<u8> {
+    exchange.run();
+    tell(rt, exchange)?;
     if exchange.is_whole() {
         return Ok(0);
     }

@@ -79,11 +79,16 @@ pub(crate) struct Side {
 }
 
 impl Side {
-    fn new(alloc: Global, endpoint: Endpoint) -> Result<Side, NoMemory> {
-        let out = Outbox::new(alloc)?;
+    /// The client, which connects, or the server, which listens.
+    fn new(alloc: Global, connects: bool) -> Result<Side, NoMemory> {
+        let endpoint = if connects {
+            Endpoint::connect(alloc, CLIENT, SERVER, Seq(1_000), LIMIT)?
+        } else {
+            Endpoint::listen(alloc, SERVER, Seq(5_000), LIMIT)?
+        };
         Ok(Side {
             endpoint,
-            out,
+            out: Outbox::new(alloc)?,
             due: 0,
             segments: 0,
         })
@@ -142,11 +147,9 @@ impl Exchange {
         write: usize,
         way: Way,
     ) -> Result<Exchange, NoMemory> {
-        let client = Endpoint::connect(alloc, CLIENT, SERVER, Seq(1_000), LIMIT)?;
-        let server = Endpoint::listen(alloc, SERVER, Seq(5_000), LIMIT)?;
         Ok(Exchange {
-            client: Side::new(alloc, client)?,
-            server: Side::new(alloc, server)?,
+            client: Side::new(alloc, true)?,
+            server: Side::new(alloc, false)?,
             pattern: PatternTable::new(),
             buf: [0; 1_460],
             way,

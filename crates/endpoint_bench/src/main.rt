@@ -17,8 +17,16 @@ mod service;
 fn main(rt: HostRuntime) -> io::Result<ExitCode> {
     let words: Vec<String> = env::args(&rt)?.skip(1).collect(rt.alloc())?;
     let words: Vec<&str> = words.iter().map(|word| word.as_str()).collect(rt.alloc())?;
-    for command in words.as_slice().split(|word| *word == "then") {
-        let status = play(&rt, command)?;
+    play_all(&rt, words.as_slice())
+}
+
+/// Does what the words of all commands ask for, up to one that fails. Its status.
+fn play_all<R: AllocGlobal + Input + Print + Eprint>(
+    rt: &R,
+    words: &[&str],
+) -> io::Result<ExitCode> {
+    for command in words.split(|word| *word == "then") {
+        let status = play(rt, command)?;
         if status != 0 {
             return Ok(ExitCode::from(status));
         }

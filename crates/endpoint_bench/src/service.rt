@@ -41,15 +41,20 @@ fn kind_of(name: &str) -> Option<u8>
     }
 }
 
-/// How many bytes a service gives for an input that is read in chunks of 2,048 bytes.
+/// How many bytes a service gives for an input.
 fn output_len<S: Service>(alloc: Global, mut service: S, input: &mut impl Read) -> io::Result<u64> {
-    let mut chunk = [0; CHUNK_LIMIT];
     let mut out = Vec::new(alloc);
+    feed(&mut service, input, &mut out)
+}
+
+/// Feeds a service with an input, in chunks of 2,048 bytes. How many bytes it gives.
+fn feed<S: Service>(service: &mut S, input: &mut impl Read, out: &mut Vec<u8>) -> io::Result<u64> {
+    let mut chunk = [0; CHUNK_LIMIT];
     let mut len = 0u64;
     for _ in 0..u64::MAX {
         let read = input.read(&mut chunk)?;
         out.clear();
-        let Ok(next) = service.take(&chunk[..read], &mut out) else {
+        let Ok(next) = service.take(&chunk[..read], out) else {
             return Err(ErrorKind::OutOfMemory.into());
         };
         len = len.saturating_add(out.len() as u64);

@@ -1,14 +1,13 @@
 //! Two endpoints that hand their packets to one another, over ways that lose, repeat and reorder.
 
-use crate::scene::{Met, Miss};
-use crate::script::{Join, Joiner, Text};
+use crate::scene::{Met, Miss, Scene};
+use crate::script::{Join, Opening};
 use ft_io::{Addr, NoMemory};
 use segment_codec::read_packet;
-use seq_arith::Seq;
 use socket_layer::Socket;
 use std::alloc::{AllocError, Global};
-use tcp_endpoint::{Endpoint, Outbox, StateName};
-use test_data::Draws;
+use tcp_endpoint::{State, StateName};
+use test_data::{Draws, Pattern};
 
 const CLIENT: Addr = Addr {
     ip: 0xC000_0201,
@@ -22,152 +21,162 @@ const SERVER: Addr = Addr {
 
 const LIMIT: u32 = 1 << 24;
 
-/// The place of the pattern at which the server's text begins. The client's begins at 0.
+/// The state in which both must end.
+const CLOSED: State = State {
+    name: StateName::Closed,
+    reset: false,
+};
+
+/// What both users write is part of this stream. The client's text begins at place 0, the server's here.
+const STREAM: Pattern = Pattern::Numbers;
+
 const SERVER_PLACE: u32 = 100;
 
-/// A way that loses, repeats and reorders: the packets that may still arrive.
+/// One of the two: an endpoint, its user, who writes a text and closes after it, and the way on which packets reach it.
 #[derive(Drop)]
-struct Way {
-    packets: Vec<Vec<u8>>,
+struct Side {
+    scene: Scene,
+    /// Where the user's text begins in the stream, how many bytes it has, and how many of them are written.
+    place: u32,
+    bytes: u32,
+    written: u32,
+    /// How many bytes the user has read, and whether they are those that the peer's user wrote.
+    read: u32,
+    is_true: bool,
+    /// The packets that may still arrive.
+    way: Vec<Vec<u8>>,
 }
 
-impl Way {
-    /// A turn of the sender ends. One packet in four is lost.
+impl Side {
+    fn new(alloc: Global, opening: Opening, bytes: u16, place: u32) -> Result<Side, NoMemory> {
+        Ok(Side {
+            scene: Scene::new(alloc, opening)?,
+            place,
+            bytes: u32::from(bytes),
+            written: 0,
+            read: 0,
+            is_true: true,
+            way: Vec::new(alloc),
+        })
+    }
+
+    /// The turn ends. One packet in four is lost.
     fn carry(
         &mut self,
         alloc: Global,
-        from: &mut Endpoint,
-        out: &mut Outbox,
+        peer: &mut Side,
         draws: &mut Draws,
     ) -> Result<(), AllocError> {
-        out.clear();
-        from.flush(out);
+        self.scene.send();
+        let out = &self.scene.out;
         for i in 0..out.len() {
             if draws.below(4) > 0 && i < out.len() {
-                self.packets.push(out.packet(i).to_vec(alloc)?)?;
+                peer.way.push(out.packet(i).to_vec(alloc)?)?;
             }
         }
         Ok(())
     }
 
     /// One of the last six packets arrives. One in four stays and may arrive again.
-    fn deliver(&mut self, to: &mut Endpoint, draws: &mut Draws) {
+    fn deliver(&mut self, draws: &mut Draws) {
         let back = draws.below(6) as usize + 1;
-        let place = self.packets.len().saturating_sub(back);
-        if place >= self.packets.len() {
+        let place = self.way.len().saturating_sub(back);
+        if place >= self.way.len() {
             return;
         }
-        if let Ok(p) = read_packet(&self.packets[place]) {
-            to.on_packet(p);
+        if let Ok(p) = read_packet(&self.way[place]) {
+            self.scene.endpoint.on_packet(p);
         }
         if draws.below(4) > 0 {
-            let _gone = self.packets.remove(place);
+            let _gone = self.way.remove(place);
         }
     }
-}
 
-/// A user who writes a text, closes after it, and keeps what comes.
-#[derive(Drop)]
-struct User {
-    text: Vec<u8>,
-    written: usize,
-    heard: Vec<u8>,
-}
-
-impl User {
-    fn act(&mut self, socket: &mut Endpoint) -> Result<(), AllocError> {
+    /// The user reads what came. The text that it is to be begins at a place of the stream.
+    fn hear(&mut self, place: u32) {
         let mut buf = [0u8; 300];
-        let count = socket.read(&mut buf);
-        self.heard.extend_from_slice(&buf[..count.min(300)])?;
-        let from = self.written.min(self.text.len());
-        let rest = &self.text[from..];
-        if rest.is_empty() {
-            socket.close();
-        }
-        self.written = from + socket.write(&rest[..rest.len().min(700)]).min(rest.len());
-        Ok(())
+        let count = self.scene.endpoint.read(&mut buf).min(300);
+        let is_next = STREAM.is_part(place.wrapping_add(self.read), &buf[..count]);
+        self.is_true = self.is_true && is_next;
+        self.read = self.read.wrapping_add(count as u32);
     }
-}
 
-/// One of the two: its endpoint, its user, and the path on which packets reach it.
-#[derive(Drop)]
-struct Side {
-    endpoint: Endpoint,
-    user: User,
-    way: Way,
-}
-
-impl Side {
-    fn new(
-        alloc: Global,
-        endpoint: Endpoint,
-        joiner: Joiner,
-        place: u32,
-    ) -> Result<Side, NoMemory> {
-        let text = Text::Fill {
-            count: joiner.bytes,
-            place,
-        };
-        Ok(Side {
-            endpoint,
-            user: User {
-                text: text.bytes(alloc)?,
-                written: 0,
-                heard: Vec::new(alloc),
-            },
-            way: Way {
-                packets: Vec::new(alloc),
-            },
-        })
+    /// The user writes the next bytes, or closes where none is left.
+    fn say(&mut self) {
+        let mut buf = [0u8; 700];
+        let next = self.bytes.saturating_sub(self.written).min(700) as usize;
+        if next == 0 {
+            self.scene.endpoint.close();
+        }
+        STREAM.fill(self.place.wrapping_add(self.written), &mut buf);
+        let count = self.scene.endpoint.write(&buf[..next]).min(next);
+        self.written = self.written.wrapping_add(count as u32);
     }
 
     /// A turn: a tick, or a packet of those that are on the way.
     fn turn(
         &mut self,
         alloc: Global,
-        to: &mut Way,
-        out: &mut Outbox,
+        peer: &mut Side,
         draws: &mut Draws,
     ) -> Result<(), AllocError> {
         if draws.below(3) == 0 {
-            self.endpoint.on_tick();
+            self.scene.endpoint.on_tick();
         } else {
-            self.way.deliver(&mut self.endpoint, draws);
+            self.deliver(draws);
         }
-        let name = self.endpoint.state().name;
+        let name = self.scene.endpoint.state().name;
         if name != StateName::SynSent && name != StateName::Listen {
-            self.user.act(&mut self.endpoint)?;
+            self.hear(peer.place);
+            self.say();
         }
-        to.carry(alloc, &mut self.endpoint, out, draws)
+        self.carry(alloc, peer, draws)
     }
 
-    /// All of a text must have come, and nothing else, and the endpoint must be CLOSED without a reset.
-    fn meets(&self, alloc: Global, who: &str, text: &[u8]) -> Met {
-        let state = self.endpoint.state();
-        let heard = self.user.heard.as_slice();
-        if heard == text && state.name == StateName::Closed && !state.reset {
+    /// All of the peer's text must have come, and nothing else, and the endpoint must be CLOSED without a reset.
+    fn meets(&self, who: &str, peer: &Side, said: &mut String) -> Met {
+        let (some, all, state) = (self.read, peer.bytes, self.scene.endpoint.state());
+        if self.is_true && some == all && state == CLOSED {
             return Ok(());
         }
-        let (some, all, name) = (heard.len(), text.len(), state.name);
-        Err(Miss::Differs(format!(in alloc; "the {who} heard {some} bytes of {all}, {name:?}")?))
+        let name = state.name;
+        write!(said, "the {who} heard {some} bytes of {all}, {name:?}")?;
+        Err(Miss::Differs)
     }
 }
 
-/// Joins two endpoints. Each user must read all that the other writes.
-pub(crate) fn join(alloc: Global, join: Join) -> Met {
-    let mut out = Outbox::new(alloc)?;
+/// Plays all turns. Each user must read all that the other writes.
+fn play(alloc: Global, join: Join, client: &mut Side, server: &mut Side, said: &mut String) -> Met {
     let mut draws = Draws::new(join.seed);
-    let client = Endpoint::connect(alloc, CLIENT, SERVER, Seq(join.client.isn), LIMIT)?;
-    let mut client = Side::new(alloc, client, join.client, 0)?;
-    let server = Endpoint::listen(alloc, SERVER, Seq(join.server.isn), LIMIT)?;
-    let mut server = Side::new(alloc, server, join.server, SERVER_PLACE)?;
-    server
-        .way
-        .carry(alloc, &mut client.endpoint, &mut out, &mut draws)?;
+    client.carry(alloc, server, &mut draws)?;
     for _ in 0..join.turns {
-        client.turn(alloc, &mut server.way, &mut out, &mut draws)?;
-        server.turn(alloc, &mut client.way, &mut out, &mut draws)?;
+        client.turn(alloc, server, &mut draws)?;
+        server.turn(alloc, client, &mut draws)?;
     }
-    client.meets(alloc, "client", server.user.text.as_slice())?;
-    server.meets(alloc, "server", client.user.text.as_slice())
+    client.meets("client", server, said)?;
+    server.meets("server", client, said)
+}
+
+/// Joins a server to a client.
+fn join_server(alloc: Global, join: Join, client: &mut Side, said: &mut String) -> Met {
+    let opening = Opening {
+        local: SERVER,
+        remote: None,
+        isn: join.server.isn,
+        limit: LIMIT,
+    };
+    let mut server = Side::new(alloc, opening, join.server.bytes, SERVER_PLACE)?;
+    play(alloc, join, client, &mut server, said)
+}
+
+/// Joins two endpoints.
+pub(crate) fn join(alloc: Global, join: Join, said: &mut String) -> Met {
+    let opening = Opening {
+        local: CLIENT,
+        remote: Some(SERVER),
+        isn: join.client.isn,
+        limit: LIMIT,
+    };
+    let mut client = Side::new(alloc, opening, join.client.bytes, 0)?;
+    join_server(alloc, join, &mut client, said)
 }

@@ -3,14 +3,16 @@
 //! something does, 2 where a script is refused, 3 without memory, 4 where the input can't be read or is longer than 8 MiB.
 #![tactic(auto)]
 
-use ft_io::{ReadSource, read_to_limit};
-use hostile::Tally;
+use ft_io::{NoMemory, ReadSource, read_to_limit};
 use memchr::memmem;
-use play::{CaseEnd, play_case};
-use read::{Refused, ScriptEnd, read_script};
+use play::Play;
+use read::ScriptEnd;
+use scene::Miss;
 use script::Script;
+use std::alloc::Global;
 use std::io;
 use std::process::ExitCode;
+use words::Why;
 
 mod hostile;
 mod joined;
@@ -46,18 +48,6 @@ impl Outcome {
     }
 }
 
-/// Why a run ends before its last script.
-enum RunEnd {
-    NoMemory,
-    Io(io::Error),
-}
-
-impl From<io::Error> for RunEnd {
-    fn from(error: io::Error) -> RunEnd {
-        RunEnd::Io(error)
-    }
-}
-
 /// The first script of a text, and what comes after the line that ends it.
 fn first_script(text: &[u8]) -> (&[u8], Option<&[u8]>) {
     match memmem::find(text, SEAM) {
@@ -69,55 +59,77 @@ fn first_script(text: &[u8]) -> (&[u8], Option<&[u8]>) {
     }
 }
 
-/// Tells a script's line that is refused.
-fn refuse(rt: &impl Print, refused: Refused, outcome: &mut Outcome) -> Result<(), RunEnd> {
-    let (line, why) = (refused.line, refused.why);
+/// Tells of a script's line that is refused.
+fn refuse(line: u32, why: Why, outcome: &mut Outcome, told: &mut String) -> Result<(), NoMemory> {
+    let why = why.text();
     outcome.refused = outcome.refused.saturating_add(1);
-    println!(rt; "refused line {line}: {why}")?;
+    write!(told, "refused line {line}: {why}\n")?;
     Ok(())
 }
 
-/// Plays the cases of a script, up to a line that is refused.
-fn play_script<R: Print + AllocGlobal>(
-    rt: &R,
+/// Plays the cases of a script, up to a line that is refused. What a case that differs has counted is forgotten.
+fn play_cases(
+    alloc: Global,
     script: &Script<'_>,
+    play: &mut Play,
     outcome: &mut Outcome,
-) -> Result<(), RunEnd> {
-    let mut tally = Tally::new();
-    for case in script.cases.as_slice() {
-        let name = case.name;
+    told: &mut String,
+) -> Result<(), NoMemory> {
+    for (number, part) in script.parts.iter().enumerate() {
+        if part.is_way {
+            continue;
+        }
+        let (name, before) = (part.name, play.tally);
         outcome.cases = outcome.cases.saturating_add(1);
-        match play_case(rt.alloc(), script, case, tally) {
-            Ok(after) => {
-                tally = after;
-                println!(rt; "ok {name}")?;
-            }
-            Err(CaseEnd::Differs(difference)) => {
+        match play.play(alloc, script, number) {
+            Ok(()) => write!(told, "ok {name}\n")?,
+            Err(Miss::Differs) => {
+                let (line, said) = (play.line, play.said.as_str());
+                write!(told, "differs {name}: line {line}: {said}\n")?;
+                play.tally = before;
                 outcome.differ = outcome.differ.saturating_add(1);
-                println!(rt; "differs {name}: {difference}")?;
             }
-            Err(CaseEnd::Refused(refused)) => return refuse(rt, refused, outcome),
-            Err(CaseEnd::NoMemory) => return Err(RunEnd::NoMemory),
+            Err(Miss::Refused(why)) => return refuse(play.line, why, outcome, told),
+            Err(Miss::NoMemory) => return Err(NoMemory),
         }
     }
     Ok(())
 }
 
 /// Reads a script and plays it.
-fn read_and_play<R: Print + AllocGlobal>(
-    rt: &R,
-    text: &[u8],
+fn read_and_play<'a>(
+    alloc: Global,
+    text: &'a [u8],
+    script: &mut Script<'a>,
+    play: &mut Play,
     outcome: &mut Outcome,
-) -> Result<(), RunEnd> {
-    match read_script(rt.alloc(), text) {
-        Ok(script) => play_script(rt, &script, outcome),
-        Err(ScriptEnd::Refused(refused)) => refuse(rt, refused, outcome),
-        Err(ScriptEnd::NoMemory) => Err(RunEnd::NoMemory),
+    told: &mut String,
+) -> Result<(), NoMemory> {
+    match script.read(text) {
+        Ok(()) => play_cases(alloc, script, play, outcome, told),
+        Err(ScriptEnd::Refused(why)) => refuse(script.lines, why, outcome, told),
+        Err(ScriptEnd::NoMemory) => Err(NoMemory),
     }
 }
 
-/// Plays all scripts of a text, and returns their outcome.
-fn run<R: Print + AllocGlobal>(rt: &R, text: &[u8]) -> Result<u8, RunEnd> {
+/// Plays the script of a text, and tells what came of it.
+fn play_script(
+    alloc: Global,
+    text: &[u8],
+    outcome: &mut Outcome,
+    told: &mut String,
+) -> Result<(), NoMemory> {
+    let mut script = Script::new(alloc);
+    let mut play = Play::new(alloc);
+    read_and_play(alloc, text, &mut script, &mut play, outcome, told)
+}
+
+/// Plays all scripts of a text, and prints what came of each. The status of the program.
+fn run<R: Print + Eprint + AllocGlobal>(
+    rt: &R,
+    text: &[u8],
+    told: &mut String,
+) -> io::Result<ExitCode> {
     let mut outcome = Outcome {
         cases: 0,
         differ: 0,
@@ -128,26 +140,27 @@ fn run<R: Print + AllocGlobal>(rt: &R, text: &[u8]) -> Result<u8, RunEnd> {
     for _turn in 0..=text.len() {
         let Some(scripts) = rest else { break };
         let (script, behind) = first_script(scripts);
-        read_and_play(rt, script, &mut outcome)?;
+        told.clear();
+        let played = play_script(rt.alloc(), script, &mut outcome, told);
+        print!(rt; "{told}")?;
+        if played.is_err() {
+            eprintln!(rt; "endpoint_script: no memory")?;
+            return Ok(ExitCode::from(3));
+        }
         rest = behind;
     }
     let (cases, differ, refused) = (outcome.cases, outcome.differ, outcome.refused);
     println!(rt; "{cases} cases, {differ} differ; {refused} scripts refused")?;
-    Ok(outcome.status())
+    Ok(ExitCode::from(outcome.status()))
 }
 
 fn main(rt: HostRuntime) -> io::Result<ExitCode> {
     let mut input = ReadSource::new(rt.stdin());
-    let Ok(text) = read_to_limit(rt.alloc(), &mut input, LIMIT) else {
-        eprintln!(rt; "endpoint_script: the script can't be read")?;
-        return Ok(ExitCode::from(4));
-    };
-    match run(&rt, text.as_slice()) {
-        Ok(status) => Ok(ExitCode::from(status)),
-        Err(RunEnd::NoMemory) => {
-            eprintln!(rt; "endpoint_script: no memory")?;
-            Ok(ExitCode::from(3))
+    match read_to_limit(rt.alloc(), &mut input, LIMIT) {
+        Ok(text) => run(&rt, text.as_slice(), &mut String::new(rt.alloc())),
+        Err(_) => {
+            eprintln!(rt; "endpoint_script: the script can't be read")?;
+            Ok(ExitCode::from(4))
         }
-        Err(RunEnd::Io(error)) => Err(error),
     }
 }

@@ -1,152 +1,137 @@
 //! The playing of a case, step by step.
 
-use crate::hostile::{Tally, Target};
+use crate::hostile::{Attack, Tally};
 use crate::joined::join;
-use crate::read::Refused;
-use crate::scene::{Met, Miss, Scene, meets};
-use crate::script::{Action, Hostile, Part, Script, Step};
+use crate::scene::{Met, Miss, Scene};
+use crate::script::{Action, Hostile, Script, Step};
 use crate::words::Why;
 use std::alloc::Global;
-use std::fmt;
-use test_data::Draws;
 
-/// The first line of a case at which something else is seen, and what that is.
-#[derive(Drop)]
-pub(crate) struct Difference {
-    pub(crate) line: u32,
-    pub(crate) found: String,
-}
-
-impl fmt::Display for Difference {
-    fn fmt<W: fmt::Write>(&self, f: &mut fmt::Formatter<W>) -> fmt::Result {
-        let (line, found) = (self.line, self.found.as_str());
-        write!(f, "line {line}: {found}")
-    }
-}
-
-/// Why a case ends before its last line.
-#[derive(Drop)]
-pub(crate) enum CaseEnd {
-    NoMemory,
-    Refused(Refused),
-    Differs(Difference),
-}
-
-/// A miss, with the line of its step.
-fn at_line(miss: Miss, line: u32) -> CaseEnd {
-    match miss {
-        Miss::NoMemory => CaseEnd::NoMemory,
-        Miss::Refused(why) => CaseEnd::Refused(Refused { line, why }),
-        Miss::Differs(found) => CaseEnd::Differs(Difference { line, found }),
-    }
-}
-
-/// The endpoint of a way's end.
-fn at_end_of(alloc: Global, way: &Part<'_>) -> Result<Scene, Miss> {
-    let mut scene = None;
-    for step in way.steps.as_slice() {
-        match step.action {
-            Action::Open(opening) => scene = Some(Scene::new(alloc, opening)?),
-            Action::Deed(deed) => match &mut scene {
-                Some(scene) => scene.act(alloc, deed)?,
-                None => return Err(Miss::Refused(Why::NoEndpoint)),
-            },
-            _ => return Err(Miss::Refused(Why::Place)),
-        }
-    }
+/// Ends the turn of an endpoint, where one is opened.
+fn end_turn(scene: &mut Option<Scene>, said: &mut String) -> Met {
     match scene {
-        Some(mut scene) => {
-            scene.end_turn(alloc)?;
-            Ok(scene)
+        Some(scene) => scene.end_turn(said),
+        None => Ok(()),
+    }
+}
+
+/// Opens an endpoint, or acts on the one that is opened.
+fn act(alloc: Global, scene: &mut Option<Scene>, action: Action<'_>, said: &mut String) -> Met {
+    match action {
+        Action::Open(opening) => {
+            end_turn(scene, said)?;
+            *scene = Some(Scene::new(alloc, opening)?);
+            Ok(())
         }
+        Action::Deed(deed) => match scene {
+            Some(scene) => scene.act(alloc, deed, said),
+            None => Err(Miss::Refused(Why::NoEndpoint)),
+        },
+        _ => Err(Miss::Refused(Why::Place)),
+    }
+}
+
+/// Attacks an endpoint that begins as a way leaves it. None is opened yet.
+fn attack_end(
+    alloc: Global,
+    steps: &[Step<'_>],
+    scene: &mut Option<Scene>,
+    attack: &mut Attack,
+    said: &mut String,
+) -> Met {
+    for step in steps {
+        act(alloc, scene, step.action, said)?;
+    }
+    end_turn(scene, said)?;
+    match scene {
+        Some(scene) => attack.meet(scene, said),
         None => Err(Miss::Refused(Why::NoEndpoint)),
     }
 }
 
-/// The endpoint that is the next one's target: each way's in turn.
-fn target(alloc: Global, ways: &[Part<'_>], turn: usize) -> Result<Target, Miss> {
-    let place = turn % ways.len().max(1);
-    match ways.get(place) {
-        Some(way) => Ok(Target::new(at_end_of(alloc, way)?)),
-        None => Err(Miss::Refused(Why::Way)),
-    }
+/// Attacks an endpoint of its own that begins as a way with these steps leaves it.
+fn attack_way(alloc: Global, steps: &[Step<'_>], attack: &mut Attack, said: &mut String) -> Met {
+    let mut scene = None;
+    attack_end(alloc, steps, &mut scene, attack, said)
 }
 
-/// Sends hostile datagrams to endpoints that begin as the ways leave them.
-fn be_hostile(alloc: Global, ways: &[Part<'_>], hostile: Hostile, tally: &mut Tally) -> Met {
-    let ways = ways.get(..hostile.ways).unwrap_or(ways);
-    let mut draws = Draws::new(hostile.seed);
-    let mut turn = 0usize;
-    let mut target_now = target(alloc, ways, turn)?;
-    for number in 0..hostile.count {
-        if let Err(rule) = target_now.attack(&mut draws, tally) {
-            let found = format!(in alloc; "datagram {number} breaks a rule: {rule}")?;
-            return Err(Miss::Differs(found));
+/// Attacks endpoints that begin as the ways among the first parts leave them, one after the other, until no datagram is left.
+fn attack_ways(
+    alloc: Global,
+    script: &Script<'_>,
+    parts: usize,
+    attack: &mut Attack,
+    said: &mut String,
+) -> Met {
+    for turn in 0..usize::MAX {
+        if attack.number == attack.count {
+            break;
         }
-        if target_now.is_old() {
-            turn = turn.wrapping_add(1);
-            target_now = target(alloc, ways, turn)?;
+        let number = turn % parts.max(1);
+        if script.is_way(number) {
+            attack_way(alloc, script.steps_of(number), attack, said)?;
         }
     }
     Ok(())
 }
 
 /// So much, at least, must be counted.
-fn at_least(alloc: Global, found: u32, least: u32) -> Met {
+fn at_least(found: u32, least: u32, said: &mut String) -> Met {
     if found >= least {
         return Ok(());
     }
-    Err(Miss::Differs(format!(in alloc; "{found}")?))
+    write!(said, "{found}")?;
+    Err(Miss::Differs)
 }
 
 /// A case that is being played.
 #[derive(Drop)]
-struct Play {
+pub(crate) struct Play {
     scene: Option<Scene>,
-    tally: Tally,
+    pub(crate) tally: Tally,
+    /// The line of the last step, and what is seen where that isn't what it says.
+    pub(crate) line: u32,
+    pub(crate) said: String,
 }
 
 impl Play {
-    /// Ends the endpoint's turn, where one is opened.
-    fn end_turn(&mut self, alloc: Global) -> Met {
-        match &mut self.scene {
-            Some(scene) => scene.end_turn(alloc),
-            None => Ok(()),
+    /// No case was played yet.
+    pub(crate) fn new(alloc: Global) -> Play {
+        Play {
+            scene: None,
+            tally: Tally::new(),
+            line: 0,
+            said: String::new(alloc),
         }
     }
 
-    fn step(&mut self, alloc: Global, ways: &[Part<'_>], action: Action<'_>) -> Met {
+    /// Sends hostile datagrams to endpoints that begin as the ways leave them.
+    fn attack(&mut self, alloc: Global, script: &Script<'_>, hostile: Hostile) -> Met {
+        let mut attack = Attack::new(hostile, self.tally);
+        let met = attack_ways(alloc, script, hostile.parts, &mut attack, &mut self.said);
+        self.tally = attack.tally;
+        met
+    }
+
+    fn step(&mut self, alloc: Global, script: &Script<'_>, action: Action<'_>) -> Met {
         match action {
-            Action::Open(opening) => {
-                self.end_turn(alloc)?;
-                self.scene = Some(Scene::new(alloc, opening)?);
-                Ok(())
+            Action::Join(joined) => join(alloc, joined, &mut self.said),
+            Action::Hostile(hostile) => self.attack(alloc, script, hostile),
+            Action::Tally(counted, least) => {
+                at_least(self.tally.count(counted), least, &mut self.said)
             }
-            Action::Deed(deed) => match &mut self.scene {
-                Some(scene) => scene.act(alloc, deed),
-                None => Err(Miss::Refused(Why::NoEndpoint)),
-            },
-            Action::Join(joined) => join(alloc, joined),
-            Action::Hostile(hostile) => be_hostile(alloc, ways, hostile, &mut self.tally),
-            Action::Tally(counted, least) => at_least(alloc, self.tally.count(counted), least),
+            _ => act(alloc, &mut self.scene, action, &mut self.said),
         }
     }
-}
 
-/// Plays a case. By its end the script must have named all segments that were sent.
-pub(crate) fn play_case(
-    alloc: Global,
-    script: &Script<'_>,
-    case: &Part<'_>,
-    tally: Tally,
-) -> Result<Tally, CaseEnd> {
-    let mut play = Play { scene: None, tally };
-    let mut last = 0u32;
-    for step in case.steps.as_slice() {
-        last = step.line;
-        play.step(alloc, script.ways.as_slice(), step.action)
-            .map_err(|miss| at_line(miss, step.line))?;
+    /// Plays the case with this number. By its end the script must have named all segments that were sent.
+    pub(crate) fn play(&mut self, alloc: Global, script: &Script<'_>, number: usize) -> Met {
+        self.scene = None;
+        self.said.clear();
+        for step in script.steps_of(number) {
+            self.line = step.line;
+            self.step(alloc, script, step.action)?;
+        }
+        end_turn(&mut self.scene, &mut self.said)
     }
-    play.end_turn(alloc).map_err(|miss| at_line(miss, last))?;
-    Ok(play.tally)
 }

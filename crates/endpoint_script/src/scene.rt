@@ -1,8 +1,8 @@
 //! An endpoint on which a script acts. A segment or a tick begins a turn. The turn ends where the script names what is sent, by `flush`, or where the next turn
 //! begins. The script must name each segment that is sent.
 
-use crate::script::{Deed, Opening, Segment, Text};
-use crate::text::{Shown, ShownSegment};
+use crate::script::{Deed, Opening, Quantity, Segment, Text};
+use crate::text::{tell_bytes, tell_segment};
 use crate::words::Why;
 use ft_io::{Addr, NoMemory};
 use segment_codec::{Head, PacketRef, read_packet};
@@ -21,12 +21,12 @@ const PEER: Addr = Addr {
 const PEER_ISN: Seq = Seq(1_000);
 
 /// Why a step fails.
-#[derive(Drop)]
+#[derive(Clone, Copy)]
 pub(crate) enum Miss {
     NoMemory,
     Refused(Why),
-    /// Something else is seen.
-    Differs(String),
+    /// Something else is seen, which is told.
+    Differs,
 }
 
 impl From<AllocError> for Miss {
@@ -58,39 +58,46 @@ pub(crate) struct Scene {
     told: usize,
     /// Whether something happened since the last flush.
     is_open: bool,
+    /// The bytes of the text that a step names, and those that it read.
+    text: Vec<u8>,
+    read: Vec<u8>,
 }
 
-/// A number must be this one.
-pub(crate) fn meets(alloc: Global, found: u64, wanted: u64) -> Met {
+/// A number must be this one; another is told.
+pub(crate) fn meets(found: u64, wanted: u64, said: &mut String) -> Met {
     if found == wanted {
         return Ok(());
     }
-    Err(Miss::Differs(format!(in alloc; "{found}")?))
+    write!(said, "{found}")?;
+    Err(Miss::Differs)
 }
 
 /// A state must be this one.
-fn meets_state(alloc: Global, found: State, wanted: State) -> Met {
+fn meets_state(found: State, wanted: State, said: &mut String) -> Met {
     if found == wanted {
         return Ok(());
     }
     let reset = if found.reset { ", reset" } else { "" };
     let name = found.name;
-    Err(Miss::Differs(format!(in alloc; "{name:?}{reset}")?))
+    write!(said, "{name:?}{reset}")?;
+    Err(Miss::Differs)
 }
 
-/// Bytes must be those of this text.
-fn meets_text(alloc: Global, found: &[u8], wanted: Text<'_>) -> Met {
-    let wanted = wanted.bytes(alloc)?;
-    if found == wanted.as_slice() {
-        return Ok(());
+impl Segment<'_> {
+    /// The headers of a segment from one address to another.
+    fn head(self, from: Addr, to: Addr) -> Head {
+        Head {
+            src: from.ip,
+            dst: to.ip,
+            sport: from.port,
+            dport: to.port,
+            seq: Seq(self.seq),
+            ack: Seq(self.ack),
+            flags: self.flags,
+            window: self.window,
+            mss: self.mss,
+        }
     }
-    let found = Shown(found);
-    Err(Miss::Differs(format!(in alloc; "{found}")?))
-}
-
-/// Whether a packet is this segment.
-fn is_segment(head: Head, payload: &[u8], wanted: Head, text: &[u8]) -> bool {
-    head == wanted && payload == text
 }
 
 impl Scene {
@@ -109,167 +116,165 @@ impl Scene {
             peer_isn: PEER_ISN,
             told: 0,
             is_open: true,
+            text: Vec::new(alloc),
+            read: Vec::new(alloc),
         })
     }
 
     /// Does what a step asks for.
-    pub(crate) fn act(&mut self, alloc: Global, deed: Deed<'_>) -> Met {
+    pub(crate) fn act(&mut self, alloc: Global, deed: Deed<'_>, said: &mut String) -> Met {
         match deed {
-            Deed::Comes(segment) => self.comes(alloc, segment),
-            Deed::Tick => self.tick(alloc),
-            Deed::Flush => self.end_turn(alloc),
+            Deed::Comes(segment) => self.comes(alloc, segment, said),
+            Deed::Tick => self.tick(said),
+            Deed::EndTurn => self.end_turn(said),
             Deed::Close => {
                 self.endpoint.close();
                 self.is_open = true;
                 Ok(())
             }
-            Deed::Write { text, taken } => self.write(alloc, text, taken),
-            Deed::Read { room, text } => self.read(alloc, room, text),
-            Deed::Peek { from, room, text } => self.peek(alloc, from, room, text),
-            Deed::Leaves(segment) => self.leaves(alloc, segment),
-            Deed::Segments(count) => self.segments(alloc, count),
-            Deed::Nothing => self.end_turn(alloc),
-            seen => self.shows(alloc, seen),
+            Deed::Write { text, taken } => self.write(alloc, text, taken, said),
+            Deed::Read { from, room, text } => self.read(alloc, from, room, text, said),
+            Deed::Leaves(segment) => self.leaves(alloc, segment, said),
+            Deed::Segments(count) => self.segments(count, said),
+            Deed::State(state) => meets_state(self.endpoint.state(), state, said),
+            Deed::Shows(quantity, number) => meets(self.shown(quantity), u64::from(number), said),
         }
     }
 
     /// What is seen of the endpoint between its calls.
-    fn shows(&self, alloc: Global, deed: Deed<'_>) -> Met {
+    fn shown(&self, quantity: Quantity) -> u64 {
         let endpoint = &self.endpoint;
-        match deed {
-            Deed::State(state) => meets_state(alloc, endpoint.state(), state),
-            Deed::Readable(count) => meets(alloc, endpoint.readable() as u64, count as u64),
-            Deed::Room(count) => meets(alloc, endpoint.room() as u64, count as u64),
-            Deed::Ended(ended) => meets(alloc, u64::from(endpoint.ended()), u64::from(ended)),
-            Deed::Sent(number) => meets(alloc, u64::from(endpoint.sent().0), u64::from(number)),
-            Deed::Acked(number) => meets(alloc, u64::from(endpoint.acked().0), u64::from(number)),
-            _ => Ok(()),
+        match quantity {
+            Quantity::Readable => endpoint.readable() as u64,
+            Quantity::Room => endpoint.room() as u64,
+            Quantity::Ended => u64::from(endpoint.ended()),
+            Quantity::Sent => u64::from(endpoint.sent().0),
+            Quantity::Acked => u64::from(endpoint.acked().0),
         }
+    }
+
+    /// Sends what is due.
+    pub(crate) fn send(&mut self) {
+        self.out.clear();
+        self.endpoint.flush(&mut self.out);
     }
 
     /// Ends the turn, if one is open.
     fn flush(&mut self) {
         if self.is_open {
-            self.out.clear();
-            self.endpoint.flush(&mut self.out);
+            self.send();
             self.told = 0;
             self.is_open = false;
         }
     }
 
     /// Ends the turn. The script must have named all segments that were sent.
-    pub(crate) fn end_turn(&mut self, alloc: Global) -> Met {
+    pub(crate) fn end_turn(&mut self, said: &mut String) -> Met {
         self.flush();
         if self.told < self.out.len() {
-            return Err(self.shown(alloc)?);
+            return self.differs(said);
         }
         Ok(())
     }
 
-    /// What leaves next, as a difference.
-    fn shown(&self, alloc: Global) -> Result<Miss, AllocError> {
+    /// Tells what leaves next, which differs from what the script names.
+    fn differs(&self, said: &mut String) -> Met {
         if self.told >= self.out.len() {
-            return Ok(Miss::Differs(format!(in alloc; "nothing leaves")?));
+            said.push_str("nothing leaves")?;
+            return Err(Miss::Differs);
         }
         match read_packet(self.out.packet(self.told)) {
-            Ok(PacketRef { head, payload }) => {
-                let segment = ShownSegment {
-                    head,
-                    text: payload,
-                };
-                Ok(Miss::Differs(format!(in alloc; "out {segment}")?))
+            Ok(p) => {
+                said.push_str("out ")?;
+                tell_segment(p, said)?;
             }
-            Err(why) => Ok(Miss::Differs(format!(in alloc; "no packet: {why:?}")?)),
+            Err(why) => write!(said, "no packet: {why:?}")?,
         }
+        Err(Miss::Differs)
     }
 
-    /// The headers of a segment from the peer to the endpoint, or the other way.
-    fn head(&self, segment: Segment<'_>, from: Addr, to: Addr) -> Head {
-        Head {
-            src: from.ip,
-            dst: to.ip,
-            sport: from.port,
-            dport: to.port,
-            seq: Seq(segment.seq),
-            ack: Seq(segment.ack),
-            flags: segment.flags,
-            window: segment.window,
-            mss: segment.mss,
-        }
-    }
-
-    fn comes(&mut self, alloc: Global, segment: Segment<'_>) -> Met {
-        self.end_turn(alloc)?;
-        let text = segment.text.bytes(alloc)?;
-        let head = self.head(segment, self.peer, self.local);
-        if has(segment.flags, SYN) {
+    fn comes(&mut self, alloc: Global, segment: Segment<'_>, said: &mut String) -> Met {
+        self.end_turn(said)?;
+        segment.text.put(alloc, &mut self.text)?;
+        let head = segment.head(self.peer, self.local);
+        if has(head.flags, SYN) {
             self.peer_isn = head.seq;
         }
         self.endpoint.on_packet(PacketRef {
             head,
-            payload: text.as_slice(),
+            payload: self.text.as_slice(),
         });
         self.is_open = true;
         Ok(())
     }
 
-    fn tick(&mut self, alloc: Global) -> Met {
-        self.end_turn(alloc)?;
+    fn tick(&mut self, said: &mut String) -> Met {
+        self.end_turn(said)?;
         self.endpoint.on_tick();
         self.is_open = true;
         Ok(())
     }
 
-    fn write(&mut self, alloc: Global, text: Text<'_>, taken: usize) -> Met {
-        let text = text.bytes(alloc)?;
-        let count = self.endpoint.write(text.as_slice());
+    fn write(&mut self, alloc: Global, text: Text<'_>, taken: usize, said: &mut String) -> Met {
+        text.put(alloc, &mut self.text)?;
+        let count = self.endpoint.write(self.text.as_slice());
         self.is_open = true;
-        meets(alloc, count as u64, taken as u64)
+        meets(count as u64, taken as u64, said)
     }
 
-    fn read(&mut self, alloc: Global, room: u16, text: Text<'_>) -> Met {
-        let mut buf = vec![in alloc; 0u8; usize::from(room)]?;
-        let count = self.endpoint.read(buf.as_mut_slice());
-        self.is_open = true;
-        buf.truncate(count);
-        meets_text(alloc, buf.as_slice(), text)
+    /// Reads into so many bytes, or peeks from a place on. This text must be read.
+    fn read(
+        &mut self,
+        alloc: Global,
+        from: Option<u16>,
+        room: u16,
+        text: Text<'_>,
+        said: &mut String,
+    ) -> Met {
+        text.put(alloc, &mut self.text)?;
+        self.read.resize(usize::from(room), 0)?;
+        let count = match from {
+            Some(from) => self
+                .endpoint
+                .peek(usize::from(from), self.read.as_mut_slice()),
+            None => self.endpoint.read(self.read.as_mut_slice()),
+        };
+        self.is_open = self.is_open || from.is_none();
+        self.read.truncate(count);
+        if self.read.as_slice() == self.text.as_slice() {
+            return Ok(());
+        }
+        tell_bytes(self.read.as_slice(), said)?;
+        Err(Miss::Differs)
     }
 
-    fn peek(&self, alloc: Global, from: usize, room: u16, text: Text<'_>) -> Met {
-        let mut buf = vec![in alloc; 0u8; usize::from(room)]?;
-        let count = self.endpoint.peek(from, buf.as_mut_slice());
-        buf.truncate(count);
-        meets_text(alloc, buf.as_slice(), text)
-    }
-
-    /// Whether the next packet is this segment.
-    fn is_next(&self, wanted: Head, text: &[u8]) -> bool {
+    /// Whether the next packet has these headers and the step's text.
+    fn is_next(&self, wanted: Head) -> bool {
         if self.told >= self.out.len() {
             return false;
         }
         match read_packet(self.out.packet(self.told)) {
-            Ok(p) => is_segment(p.head, p.payload, wanted, text),
+            Ok(p) => p.head == wanted && p.payload == self.text.as_slice(),
             Err(_) => false,
         }
     }
 
     /// This segment leaves next.
-    fn leaves(&mut self, alloc: Global, segment: Segment<'_>) -> Met {
+    fn leaves(&mut self, alloc: Global, segment: Segment<'_>, said: &mut String) -> Met {
         self.flush();
-        let text = segment.text.bytes(alloc)?;
-        let wanted = self.head(segment, self.local, self.peer);
-        if !self.is_next(wanted, text.as_slice()) {
-            return Err(self.shown(alloc)?);
+        segment.text.put(alloc, &mut self.text)?;
+        if !self.is_next(segment.head(self.local, self.peer)) {
+            return self.differs(said);
         }
         self.told = self.told.saturating_add(1);
         Ok(())
     }
 
     /// So many segments leave, whatever they say.
-    fn segments(&mut self, alloc: Global, count: usize) -> Met {
+    fn segments(&mut self, count: u16, said: &mut String) -> Met {
         self.flush();
         let left = self.out.len().saturating_sub(self.told);
         self.told = self.out.len();
-        meets(alloc, left as u64, count as u64)
+        meets(left as u64, u64::from(count), said)
     }
 }

@@ -1,6 +1,7 @@
 //! A script as a value: ways and cases, each a list of steps. It borrows the words of its text.
 
 use ft_io::Addr;
+use std::alloc::Global;
 use tcp_endpoint::{State, StateName};
 
 /// A text that is written, read or carried by a segment.
@@ -35,35 +36,38 @@ pub(crate) struct Opening {
     pub(crate) limit: u32,
 }
 
+/// A number that an endpoint shows.
+#[derive(Clone, Copy)]
+pub(crate) enum Quantity {
+    Readable,
+    Room,
+    /// 1 where the peer's stream is read to its end, and else 0.
+    Ended,
+    Sent,
+    Acked,
+}
+
 /// What happens to an endpoint, or what must be seen of it.
 #[derive(Clone, Copy)]
 pub(crate) enum Deed<'a> {
     Comes(Segment<'a>),
     Tick,
-    Flush,
+    EndTurn,
     Write {
         text: Text<'a>,
         taken: usize,
     },
+    /// A read, or a peek where `from` is given.
     Read {
-        room: u16,
-        text: Text<'a>,
-    },
-    Peek {
-        from: usize,
+        from: Option<u16>,
         room: u16,
         text: Text<'a>,
     },
     Close,
     Leaves(Segment<'a>),
-    Segments(usize),
-    Nothing,
+    Segments(u16),
     State(State),
-    Readable(usize),
-    Room(usize),
-    Ended(bool),
-    Sent(u32),
-    Acked(u32),
+    Shows(Quantity, u32),
 }
 
 /// One of two endpoints that are joined: its initial number, and how many bytes its user writes.
@@ -82,12 +86,12 @@ pub(crate) struct Join {
     pub(crate) turns: u32,
 }
 
-/// Hostile datagrams to endpoints that begin as each of the first ways leaves them, in turn.
+/// Hostile datagrams to endpoints that begin as the ways among the first parts of the script leave them, one way after the other.
 #[derive(Clone, Copy)]
 pub(crate) struct Hostile {
     pub(crate) count: u32,
     pub(crate) seed: u64,
-    pub(crate) ways: usize,
+    pub(crate) parts: usize,
 }
 
 /// What is counted of hostile datagrams.
@@ -125,16 +129,59 @@ pub(crate) struct Step<'a> {
     pub(crate) action: Action<'a>,
 }
 
-/// A way or a case. The steps of the way with which it begins come before its own.
-#[derive(Drop)]
+/// A way or a case. Its steps are those from this one on, up to the next part's. They begin with the steps of the way with which it begins.
+#[derive(Clone, Copy)]
 pub(crate) struct Part<'a> {
+    pub(crate) is_way: bool,
     pub(crate) name: &'a str,
-    pub(crate) steps: Vec<Step<'a>>,
+    pub(crate) start: usize,
 }
 
-/// A complete script.
+/// A script, as far as it is read.
 #[derive(Drop)]
 pub(crate) struct Script<'a> {
-    pub(crate) ways: Vec<Part<'a>>,
-    pub(crate) cases: Vec<Part<'a>>,
+    /// Its ways and cases, in their order.
+    pub(crate) parts: Vec<Part<'a>>,
+    /// How many of them there are up to the last way: 0 where none is a way.
+    pub(crate) ways: usize,
+    /// The steps of all of them.
+    pub(crate) steps: Vec<Step<'a>>,
+    /// How many lines were read. The last of them is the one that is refused, where one is.
+    pub(crate) lines: u32,
+}
+
+impl<'a> Script<'a> {
+    /// Nothing is read yet.
+    pub(crate) fn new(alloc: Global) -> Script<'a> {
+        Script {
+            parts: Vec::new(alloc),
+            ways: 0,
+            steps: Vec::new(alloc),
+            lines: 0,
+        }
+    }
+
+    /// Where the steps of a part begin, which are behind those of the parts before it.
+    pub(crate) fn start(&self, number: usize) -> usize {
+        match self.parts.get(number) {
+            Some(part) => part.start,
+            None => self.steps.len(),
+        }
+    }
+
+    /// Whether the part with this number is a way.
+    pub(crate) fn is_way(&self, number: usize) -> bool {
+        match self.parts.get(number) {
+            Some(part) => part.is_way,
+            None => false,
+        }
+    }
+
+    /// The steps of the part with this number, counted from 0.
+    pub(crate) fn steps_of(&self, number: usize) -> &[Step<'a>] {
+        let steps = self.steps.as_slice();
+        let to = self.start(number.saturating_add(1)).min(steps.len());
+        let from = self.start(number).min(to);
+        &steps[from..to]
+    }
 }

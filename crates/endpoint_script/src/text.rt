@@ -1,11 +1,10 @@
-//! The bytes of a text, and what is shown of bytes and segments.
+//! The bytes of a text, and what is told of bytes and segments.
 
 use crate::script::Text;
 use ft_io::NoMemory;
-use segment_codec::Head;
+use segment_codec::PacketRef;
 use seq_arith::{ACK, CWR, ECE, FIN, PSH, RST, SYN, URG, has};
-use std::alloc::Global;
-use std::fmt;
+use std::alloc::{AllocError, Global};
 use test_data::{Pattern, bytes_of_hex};
 
 impl Text<'_> {
@@ -18,80 +17,66 @@ impl Text<'_> {
         }
     }
 
-    pub(crate) fn bytes(self, alloc: Global) -> Result<Vec<u8>, NoMemory> {
-        match self {
-            Text::Word(word) => Ok(Vec::from_slice(alloc, word.as_bytes())?),
-            Text::Hex(digits) => Ok(bytes_of_hex(alloc, digits)?.unwrap_or(Vec::new(alloc))),
-            Text::Fill { count, place } => Pattern::Numbers.part(alloc, place, usize::from(count)),
-        }
-    }
-}
-
-/// Bytes as a script spells them.
-#[derive(Clone, Copy)]
-pub(crate) struct Shown<'a>(pub(crate) &'a [u8]);
-
-impl fmt::Display for Shown<'_> {
-    fn fmt<W: fmt::Write>(&self, f: &mut fmt::Formatter<W>) -> fmt::Result {
-        if self.0.is_empty() {
-            return write!(f, "-");
-        }
-        write!(f, "hex:")?;
-        for byte in self.0 {
-            write!(f, "{byte:02x}")?;
-        }
+    /// Puts its bytes in place of others.
+    pub(crate) fn put(self, alloc: Global, bytes: &mut Vec<u8>) -> Result<(), NoMemory> {
+        *bytes = match self {
+            Text::Word(word) => Vec::from_slice(alloc, word.as_bytes())?,
+            Text::Hex(digits) => bytes_of_hex(alloc, digits)?.unwrap_or(Vec::new(alloc)),
+            Text::Fill { count, place } => {
+                Pattern::Numbers.part(alloc, place, usize::from(count))?
+            }
+        };
         Ok(())
     }
 }
 
-/// Control bits as a script spells them.
-#[derive(Clone, Copy)]
-struct Flags(u8);
+/// Tells bytes as a script spells them.
+pub(crate) fn tell_bytes(bytes: &[u8], said: &mut String) -> Result<(), AllocError> {
+    if bytes.is_empty() {
+        return said.push_str("-");
+    }
+    said.push_str("hex:")?;
+    for byte in bytes {
+        write!(said, "{byte:02x}")?;
+    }
+    Ok(())
+}
 
-const LETTERS: [(u8, char); 8] = [
-    (CWR, 'C'),
-    (ECE, 'E'),
-    (URG, 'U'),
-    (ACK, 'A'),
-    (PSH, 'P'),
-    (RST, 'R'),
-    (SYN, 'S'),
-    (FIN, 'F'),
+const LETTERS: [(u8, &str); 8] = [
+    (CWR, "C"),
+    (ECE, "E"),
+    (URG, "U"),
+    (ACK, "A"),
+    (PSH, "P"),
+    (RST, "R"),
+    (SYN, "S"),
+    (FIN, "F"),
 ];
 
-impl fmt::Display for Flags {
-    fn fmt<W: fmt::Write>(&self, f: &mut fmt::Formatter<W>) -> fmt::Result {
-        if self.0 == 0 {
-            return write!(f, "-");
-        }
-        for (flag, letter) in LETTERS {
-            if has(self.0, flag) {
-                write!(f, "{letter}")?;
-            }
-        }
-        Ok(())
+/// Tells control bits as a script spells them.
+fn tell_flags(flags: u8, said: &mut String) -> Result<(), AllocError> {
+    if flags == 0 {
+        return said.push_str("-");
     }
+    for (flag, letter) in LETTERS {
+        if has(flags, flag) {
+            said.push_str(letter)?;
+        }
+    }
+    Ok(())
 }
 
-/// A segment as a script spells it.
-#[derive(Clone, Copy)]
-pub(crate) struct ShownSegment<'a> {
-    pub(crate) head: Head,
-    pub(crate) text: &'a [u8],
-}
-
-impl fmt::Display for ShownSegment<'_> {
-    fn fmt<W: fmt::Write>(&self, f: &mut fmt::Formatter<W>) -> fmt::Result {
-        let (seq, ack, window) = (self.head.seq.0, self.head.ack.0, self.head.window);
-        let flags = Flags(self.head.flags);
-        write!(f, "{flags} seq {seq} ack {ack} win {window}")?;
-        if let Some(mss) = self.head.mss {
-            write!(f, " mss {mss}")?;
-        }
-        if self.text.is_empty() {
-            return Ok(());
-        }
-        let text = Shown(self.text);
-        write!(f, " data {text}")
+/// Tells a segment as a script spells it.
+pub(crate) fn tell_segment(p: PacketRef<'_>, said: &mut String) -> Result<(), AllocError> {
+    let (seq, ack, window) = (p.head.seq.0, p.head.ack.0, p.head.window);
+    tell_flags(p.head.flags, said)?;
+    write!(said, " seq {seq} ack {ack} win {window}")?;
+    if let Some(mss) = p.head.mss {
+        write!(said, " mss {mss}")?;
     }
+    if p.payload.is_empty() {
+        return Ok(());
+    }
+    said.push_str(" data ")?;
+    tell_bytes(p.payload, said)
 }

@@ -3,7 +3,6 @@
 use crate::script::{Segment, Text};
 use ft_io::Addr;
 use seq_arith::{ACK, CWR, ECE, FIN, PSH, RST, SYN, URG};
-use std::fmt;
 use std::net::SocketAddrV4;
 use tcp_endpoint::{State, StateName};
 
@@ -34,43 +33,37 @@ pub(crate) enum Why {
     NoEndpoint,
 }
 
-impl fmt::Display for Why {
-    fn fmt<W: fmt::Write>(&self, f: &mut fmt::Formatter<W>) -> fmt::Result {
+impl Why {
+    pub(crate) fn text(self) -> &'static str {
         match self {
-            Why::Encoding => write!(f, "not UTF-8"),
-            Why::Word => write!(f, "a wrong word"),
-            Why::Missing => write!(f, "a word is missing"),
-            Why::Number => write!(f, "no such number"),
-            Why::Address => write!(f, "no address"),
-            Why::Flags => write!(f, "no flags"),
-            Why::State => write!(f, "no state"),
-            Why::Text => write!(f, "no text"),
-            Why::Way => write!(f, "no such way, or a second one"),
-            Why::Place => write!(f, "not here"),
-            Why::NoEndpoint => write!(f, "no endpoint"),
+            Why::Encoding => "not UTF-8",
+            Why::Word => "a wrong word",
+            Why::Missing => "a word is missing",
+            Why::Number => "no such number",
+            Why::Address => "no address",
+            Why::Flags => "no flags",
+            Why::State => "no state",
+            Why::Text => "no text",
+            Why::Way => "no such way, or a second one",
+            Why::Place => "not here",
+            Why::NoEndpoint => "no endpoint",
         }
     }
 }
 
 /// The words of a line that aren't read yet. Spaces separate them.
 #[derive(Clone, Copy)]
-pub(crate) struct Words<'a> {
-    rest: &'a str,
-}
+pub(crate) struct Words<'a>(pub(crate) &'a str);
 
 impl<'a> Words<'a> {
-    pub(crate) fn new(rest: &'a str) -> Words<'a> {
-        Words { rest }
-    }
-
     /// The next word, where there is one.
     pub(crate) fn next(&mut self) -> Option<&'a str> {
-        let rest = self.rest.trim_start();
+        let rest = self.0.trim_start();
         if rest.is_empty() {
             return None;
         }
         let (word, behind) = rest.split_once(' ').unwrap_or((rest, ""));
-        self.rest = behind;
+        self.0 = behind;
         Some(word)
     }
 
@@ -79,65 +72,178 @@ impl<'a> Words<'a> {
         self.next().ok_or(Why::Missing)
     }
 
-    /// The word after this one, which must come next.
-    pub(crate) fn behind(&mut self, key: &str) -> Result<&'a str, Why> {
-        if self.word()? != key {
-            return Err(Why::Word);
-        }
-        self.word()
+    /// The only word that is left.
+    pub(crate) fn only(&mut self) -> Result<&'a str, Why> {
+        let word = self.word()?;
+        self.end()?;
+        Ok(word)
     }
 
-    /// The word after this one, where it comes next.
-    pub(crate) fn optional(&mut self, key: &str) -> Result<Option<&'a str>, Why> {
-        let mut ahead = *self;
-        if ahead.next() != Some(key) {
-            return Ok(None);
+    /// All words that are left, of which there must be one.
+    pub(crate) fn all(self) -> Result<&'a str, Why> {
+        let all = self.0.trim();
+        if all.is_empty() {
+            Err(Why::Missing)
+        } else {
+            Ok(all)
         }
-        *self = ahead;
-        Ok(Some(self.word()?))
     }
 
-    /// No word may be left.
-    pub(crate) fn end(&self) -> Result<(), Why> {
-        if self.rest.trim_start().is_empty() {
+    /// This word comes next.
+    pub(crate) fn key(&mut self, key: &str) -> Result<(), Why> {
+        if self.word()? == key {
             Ok(())
         } else {
             Err(Why::Word)
         }
     }
-}
 
-/// A decimal number of 32 bits.
-pub(crate) fn number(word: &str) -> Result<u32, Why> {
-    word.parse::<u32>().map_err(|_| Why::Number)
-}
-
-/// A decimal number of 16 bits.
-pub(crate) fn short(word: &str) -> Result<u16, Why> {
-    word.parse::<u16>().map_err(|_| Why::Number)
-}
-
-/// A decimal number of bytes or segments.
-pub(crate) fn count(word: &str) -> Result<usize, Why> {
-    Ok(usize::from(short(word)?))
-}
-
-/// `A.B.C.D:PORT`.
-pub(crate) fn address(word: &str) -> Result<Addr, Why> {
-    let at = word.parse::<SocketAddrV4>().map_err(|_| Why::Address)?;
-    Ok(Addr {
-        ip: at.ip().to_bits(),
-        port: at.port(),
-    })
-}
-
-/// `yes` or `no`.
-pub(crate) fn answer(word: &str) -> Result<bool, Why> {
-    match word.as_bytes() {
-        b"yes" => Ok(true),
-        b"no" => Ok(false),
-        _ => Err(Why::Word),
+    /// Whether this word comes next. Only then it is passed over.
+    pub(crate) fn has(&mut self, key: &str) -> bool {
+        let mut ahead = *self;
+        let found = ahead.next() == Some(key);
+        if found {
+            *self = ahead;
+        }
+        found
     }
+
+    /// No word may be left.
+    pub(crate) fn end(self) -> Result<(), Why> {
+        if self.0.trim_start().is_empty() {
+            Ok(())
+        } else {
+            Err(Why::Word)
+        }
+    }
+
+    /// A decimal number of 32 bits.
+    pub(crate) fn number(&mut self) -> Result<u32, Why> {
+        self.word()?.parse::<u32>().or(Err(Why::Number))
+    }
+
+    /// The decimal number of 32 bits after this word, which comes next.
+    pub(crate) fn number_after(&mut self, key: &str) -> Result<u32, Why> {
+        self.key(key)?;
+        self.number()
+    }
+
+    /// A decimal number of 16 bits.
+    pub(crate) fn short(&mut self) -> Result<u16, Why> {
+        short(self.word()?)
+    }
+
+    /// The decimal number of 16 bits after this word, which comes next.
+    pub(crate) fn short_after(&mut self, key: &str) -> Result<u16, Why> {
+        self.key(key)?;
+        self.short()
+    }
+
+    /// The decimal number of 16 bits after this word, where it comes next.
+    pub(crate) fn short_if(&mut self, key: &str) -> Result<Option<u16>, Why> {
+        if self.has(key) {
+            return Ok(Some(self.short()?));
+        }
+        Ok(None)
+    }
+
+    /// `A.B.C.D:PORT`.
+    pub(crate) fn address(&mut self) -> Result<Addr, Why> {
+        let at = self.word()?.parse::<SocketAddrV4>().or(Err(Why::Address))?;
+        Ok(Addr {
+            ip: at.ip().to_bits(),
+            port: at.port(),
+        })
+    }
+
+    /// `yes` or `no`.
+    pub(crate) fn answer(&mut self) -> Result<bool, Why> {
+        match self.word()? {
+            "yes" => Ok(true),
+            "no" => Ok(false),
+            _ => Err(Why::Word),
+        }
+    }
+
+    /// Control bits by their first letters, each at most once, or `-` for none.
+    fn flags(&mut self) -> Result<u8, Why> {
+        let word = self.word()?;
+        let mut all = 0u8;
+        if word == "-" {
+            return Ok(all);
+        }
+        for letter in word.as_bytes() {
+            let one = flag(*letter).ok_or(Why::Flags)?;
+            if all & one != 0 {
+                return Err(Why::Flags);
+            }
+            all |= one;
+        }
+        Ok(all)
+    }
+
+    /// A state by its name in RFC 9293.
+    pub(crate) fn state_name(&mut self) -> Result<StateName, Why> {
+        match self.word()? {
+            "CLOSED" => Ok(StateName::Closed),
+            "LISTEN" => Ok(StateName::Listen),
+            "SYN-SENT" => Ok(StateName::SynSent),
+            "SYN-RECEIVED" => Ok(StateName::SynReceived),
+            "ESTABLISHED" => Ok(StateName::Established),
+            "FIN-WAIT-1" => Ok(StateName::FinWait1),
+            "FIN-WAIT-2" => Ok(StateName::FinWait2),
+            "CLOSE-WAIT" => Ok(StateName::CloseWait),
+            "CLOSING" => Ok(StateName::Closing),
+            "LAST-ACK" => Ok(StateName::LastAck),
+            "TIME-WAIT" => Ok(StateName::TimeWait),
+            _ => Err(Why::State),
+        }
+    }
+
+    /// A state, and `reset` after it where the peer has reset the connection.
+    pub(crate) fn state(&mut self) -> Result<State, Why> {
+        let name = self.state_name()?;
+        let reset = self.has("reset");
+        Ok(State { name, reset })
+    }
+
+    /// `hex:` and pairs of digits, `fill:COUNT` or `fill:COUNT@PLACE`, `-` for nothing, or the letters themselves.
+    pub(crate) fn text(&mut self) -> Result<Text<'a>, Why> {
+        let word = self.word()?;
+        if let Some(digits) = word.strip_prefix("hex:") {
+            return hex(digits);
+        }
+        if let Some(size) = word.strip_prefix("fill:") {
+            return fill(size);
+        }
+        if word == "-" {
+            return Ok(Text::Word(""));
+        }
+        if word.len() > 65_535 {
+            return Err(Why::Text);
+        }
+        Ok(Text::Word(word))
+    }
+
+    /// `FLAGS seq N ack N win N`, then `mss N` and `data TEXT` where the segment has them.
+    pub(crate) fn segment(&mut self) -> Result<Segment<'a>, Why> {
+        Ok(Segment {
+            flags: self.flags()?,
+            seq: self.number_after("seq")?,
+            ack: self.number_after("ack")?,
+            window: self.short_after("win")?,
+            mss: self.short_if("mss")?,
+            text: if self.has("data") {
+                self.text()?
+            } else {
+                Text::Word("")
+            },
+        })
+    }
+}
+
+fn short(word: &str) -> Result<u16, Why> {
+    word.parse::<u16>().or(Err(Why::Number))
 }
 
 fn flag(letter: u8) -> Option<u8> {
@@ -152,67 +258,6 @@ fn flag(letter: u8) -> Option<u8> {
         b'F' => Some(FIN),
         _ => None,
     }
-}
-
-/// Control bits by their first letters, each at most once, or `-` for none.
-pub(crate) fn flags(word: &str) -> Result<u8, Why> {
-    let mut all = 0u8;
-    if word == "-" {
-        return Ok(all);
-    }
-    for letter in word.as_bytes() {
-        let one = flag(*letter).ok_or(Why::Flags)?;
-        if all & one != 0 {
-            return Err(Why::Flags);
-        }
-        all |= one;
-    }
-    Ok(all)
-}
-
-/// A state by its name in RFC 9293.
-pub(crate) fn state_name(word: &str) -> Result<StateName, Why> {
-    match word.as_bytes() {
-        b"CLOSED" => Ok(StateName::Closed),
-        b"LISTEN" => Ok(StateName::Listen),
-        b"SYN-SENT" => Ok(StateName::SynSent),
-        b"SYN-RECEIVED" => Ok(StateName::SynReceived),
-        b"ESTABLISHED" => Ok(StateName::Established),
-        b"FIN-WAIT-1" => Ok(StateName::FinWait1),
-        b"FIN-WAIT-2" => Ok(StateName::FinWait2),
-        b"CLOSE-WAIT" => Ok(StateName::CloseWait),
-        b"CLOSING" => Ok(StateName::Closing),
-        b"LAST-ACK" => Ok(StateName::LastAck),
-        b"TIME-WAIT" => Ok(StateName::TimeWait),
-        _ => Err(Why::State),
-    }
-}
-
-/// A state, and `reset` after it where the peer has reset the connection.
-pub(crate) fn state(words: &mut Words<'_>) -> Result<State, Why> {
-    let name = state_name(words.word()?)?;
-    match words.next() {
-        None => Ok(State { name, reset: false }),
-        Some("reset") => Ok(State { name, reset: true }),
-        Some(_) => Err(Why::Word),
-    }
-}
-
-/// `hex:` and pairs of digits, `fill:COUNT` or `fill:COUNT@PLACE`, `-` for nothing, or the letters themselves.
-pub(crate) fn text(word: &str) -> Result<Text<'_>, Why> {
-    if let Some(digits) = word.strip_prefix("hex:") {
-        return hex(digits);
-    }
-    if let Some(size) = word.strip_prefix("fill:") {
-        return fill(size);
-    }
-    if word == "-" {
-        return Ok(Text::Word(""));
-    }
-    if word.len() > 65_535 {
-        return Err(Why::Text);
-    }
-    Ok(Text::Word(word))
 }
 
 fn hex(digits: &str) -> Result<Text<'_>, Why> {
@@ -231,31 +276,6 @@ fn fill(size: &str) -> Result<Text<'_>, Why> {
     let (count, place) = size.split_once('@').unwrap_or((size, "0"));
     Ok(Text::Fill {
         count: short(count)?,
-        place: number(place)?,
-    })
-}
-
-/// `FLAGS seq N ack N win N`, then `mss N` and `data TEXT` where the segment has them.
-pub(crate) fn segment<'a>(words: &mut Words<'a>) -> Result<Segment<'a>, Why> {
-    let flags = flags(words.word()?)?;
-    let seq = number(words.behind("seq")?)?;
-    let ack = number(words.behind("ack")?)?;
-    let window = short(words.behind("win")?)?;
-    let mss = match words.optional("mss")? {
-        Some(word) => Some(short(word)?),
-        None => None,
-    };
-    let text = match words.optional("data")? {
-        Some(word) => text(word)?,
-        None => Text::Word(""),
-    };
-    words.end()?;
-    Ok(Segment {
-        flags,
-        seq,
-        ack,
-        window,
-        mss,
-        text,
+        place: place.parse::<u32>().or(Err(Why::Number))?,
     })
 }
