@@ -22,15 +22,20 @@ mod attack;
 mod player;
 mod strike;
 
-fn main(rt: HostRuntime) -> io::Result<()> {
-    let Ok(mut player) = Player::new(rt.alloc()) else {
-        return println!(rt; "no memory");
-    };
+/// Plays the lines of the input, and prints what each says.
+fn play_lines(rt: &HostRuntime, player: &mut Player) -> io::Result<()> {
     for line in rt.lines(rt.alloc()) {
-        if let Err(NoMemory) = player.play(rt.alloc(), line?.as_str()) {
+        if player.play(rt.alloc(), line?.as_str()).is_err() {
             return println!(rt; "no memory");
         }
         println!(rt; "{}", player.said())?;
     }
     Ok(())
+}
+
+fn main(rt: HostRuntime) -> io::Result<()> {
+    match Player::new(rt.alloc()) {
+        Ok(mut player) => play_lines(&rt, &mut player),
+        Err(NoMemory) => println!(rt; "no memory"),
+    }
 }

@@ -45,14 +45,14 @@ impl Player {
         let Some((word, rest)) = line.split_once(' ') else {
             return self.turn(alloc, Input::Tick);
         };
-        match word.as_bytes() {
-            b"boot" => self.boot(alloc, numbers(rest)),
-            b"conn" => self.tell_conn(alloc, numbers(rest)),
-            b"attack" => self.attack(alloc, numbers(rest)),
-            b"strike" => self.strike(alloc, numbers(rest)),
-            b"packet" => self.give(alloc, rest, true),
-            b"message" => self.give(alloc, rest, false),
-            _ => Ok(self.out.push_str(line)?),
+        match word {
+            "boot" => self.boot(alloc, numbers(rest)),
+            "conn" => self.tell_conn(numbers(rest)),
+            "attack" => self.attack(alloc, numbers(rest)),
+            "strike" => self.strike(alloc, numbers(rest)),
+            "packet" => self.give(alloc, rest, true),
+            "message" => self.give(alloc, rest, false),
+            _ => tell_text(line, &mut self.out),
         }
     }
 
@@ -72,19 +72,16 @@ impl Player {
 
     /// A datagram from a client or from the logger.
     fn give(&mut self, alloc: Global, digits: &str, is_packet: bool) -> Result<(), NoMemory> {
-        let Some(bytes) = bytes_of_hex(alloc, digits)? else {
-            return Ok(self.out.push_str("no digits")?);
-        };
-        if is_packet {
-            self.turn(alloc, Input::Packet(&bytes))
-        } else {
-            self.turn(alloc, Input::Message(&bytes))
+        match bytes_of_hex(alloc, digits)? {
+            Some(bytes) if is_packet => self.turn(alloc, Input::Packet(&bytes)),
+            Some(bytes) => self.turn(alloc, Input::Message(&bytes)),
+            None => tell_text("no digits", &mut self.out),
         }
     }
 
     fn turn(&mut self, alloc: Global, input: Input<'_>) -> Result<(), NoMemory> {
         if !self.up {
-            return Ok(self.out.push_str("no server")?);
+            return tell_text("no server", &mut self.out);
         }
         match self.node.turn(alloc, input) {
             Ok(sent) => tell(alloc, sent, &mut self.out),
@@ -97,13 +94,13 @@ impl Player {
     }
 
     /// The numbers of a client's connection.
-    fn tell_conn(&mut self, _alloc: Global, [ip, port, ..]: [u64; 5]) -> Result<(), NoMemory> {
+    fn tell_conn(&mut self, [ip, port, ..]: [u64; 5]) -> Result<(), NoMemory> {
         let key = Key {
             ip: (ip % 4_294_967_296) as u32,
             port: (port % 65_536) as u16,
         };
         let Some(conn) = self.node.conn(key) else {
-            return Ok(self.out.push_str("none")?);
+            return tell_text("none", &mut self.out);
         };
         let now = conn.inside();
         write!(
@@ -169,11 +166,21 @@ fn tell(alloc: Global, sent: &[OutPacket], out: &mut String) -> Result<(), NoMem
         if 0 < i {
             out.push_str("\n")?;
         }
-        match sent[i].to() {
-            To::Client(Key { ip, port }) => write!(out, "client {ip} {port} ")?,
-            To::Logger => out.push_str("logger ")?,
-        }
-        out.push_str(hex::encode(alloc, sent[i].bytes())?.as_str())?;
+        tell_packet(alloc, &sent[i], out)?;
     }
+    Ok(())
+}
+
+/// A packet that is sent: to whom, and its bytes.
+fn tell_packet(alloc: Global, packet: &OutPacket, out: &mut String) -> Result<(), NoMemory> {
+    match packet.to() {
+        To::Client(Key { ip, port }) => write!(out, "client {ip} {port} ")?,
+        To::Logger => out.push_str("logger ")?,
+    }
+    tell_text(hex::encode(alloc, packet.bytes())?.as_str(), out)
+}
+
+fn tell_text(text: &str, out: &mut String) -> Result<(), NoMemory> {
+    out.push_str(text)?;
     Ok(())
 }
