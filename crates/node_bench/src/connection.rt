@@ -7,9 +7,12 @@ use crate::logger::Logger;
 use crate::{STREAM, without_memory};
 use client::Work;
 use exchange::Exchange;
-use ft_io::NoMemory;
+use ft_io::{Key, NoMemory};
+use server::Backend;
 use std::alloc::Global;
 use std::io;
+use tcp_endpoint::Outbox;
+use wrapped_conn::TurnOut;
 
 mod client;
 mod exchange;
@@ -18,8 +21,11 @@ mod server;
 /// How many connections there are.
 const CONNECTIONS: u16 = 8;
 
-/// The first client's port.
-const PORT: u16 = 40_000;
+/// The address of the clients, and the first one's port.
+const CLIENTS: Key = Key {
+    ip: 0xC000_0201,
+    port: 40_000,
+};
 
 /// What the run did.
 #[derive(Clone, Copy, Debug)]
@@ -33,6 +39,14 @@ struct Totals {
 }
 
 impl Totals {
+    const NONE: Totals = Totals {
+        client_segments: 0,
+        server_segments: 0,
+        messages: 0,
+        echoed: 0,
+        whole: 0,
+    };
+
     fn add(&mut self, exchange: &Exchange) {
         self.client_segments = self
             .client_segments
@@ -57,22 +71,51 @@ fn work_of(words: &[&str]) -> Option<Work> {
     fits.then_some(Work { bytes, write })
 }
 
+/// All connections, with an empty log. What they did.
 fn run(alloc: Global, work: Work) -> Result<Totals, NoMemory> {
-    let mut logger = Logger::new(alloc)?;
-    let mut totals = Totals {
-        client_segments: 0,
-        server_segments: 0,
-        messages: 0,
-        echoed: 0,
-        whole: 0,
+    let mut packets = Outbox::new(alloc)?;
+    let answers = Outbox::new(alloc)?;
+    let turn = TurnOut::new(alloc)?;
+    let mut backend = Backend {
+        turn,
+        answers,
+        logger: Logger::new(alloc, false),
     };
+    connect_all(alloc, work, &mut packets, &mut backend)
+}
+
+/// .. with this log, which is empty, and with room for what the clients send.
+fn connect_all(
+    alloc: Global,
+    work: Work,
+    packets: &mut Outbox,
+    backend: &mut Backend,
+) -> Result<Totals, NoMemory> {
+    backend.logger.begin(alloc)?;
+    let mut totals = Totals::NONE;
     for i in 0..CONNECTIONS {
-        let mut exchange = Exchange::open(alloc, work, PORT + i, &mut logger)?;
-        exchange.run(alloc, &mut logger)?;
-        totals.add(&exchange);
+        let key = Key {
+            ip: CLIENTS.ip,
+            port: CLIENTS.port + i,
+        };
+        connect(alloc, work, key, packets, backend, &mut totals)?;
     }
-    totals.messages = logger.messages;
+    totals.messages = backend.logger.messages;
     Ok(totals)
+}
+
+/// The connection of one client. What it did is added to the totals.
+fn connect(
+    alloc: Global,
+    work: Work,
+    key: Key,
+    packets: &mut Outbox,
+    backend: &mut Backend,
+    totals: &mut Totals,
+) -> Result<(), NoMemory> {
+    backend.logger.open(alloc, key)?;
+    let mut exchange = Exchange::new(alloc, work, key)?;
+    exchange.run(alloc, packets, backend, totals)
 }
 
 /// Plays the connections of these words, and prints what came of them. Its status.
@@ -84,10 +127,9 @@ pub(crate) fn play<R: AllocGlobal + Print + Eprint>(rt: &R, words: &[&str]) -> i
     let Ok(totals) = run(rt.alloc(), work) else {
         return without_memory(rt);
     };
-    println!(rt; "clients {} segments", totals.client_segments)?;
-    println!(rt; "connections {} segments", totals.server_segments)?;
-    println!(rt; "log {} messages", totals.messages)?;
-    println!(rt; "echoed {} bytes", totals.echoed)?;
-    println!(rt; "ended {} connections", totals.whole)?;
+    println!(rt;
+        "clients {} segments\nconnections {} segments\nlog {} messages\nechoed {} bytes\nended {} connections",
+        totals.client_segments, totals.server_segments, totals.messages, totals.echoed, totals.whole
+    )?;
     Ok(u8::from(totals.whole < CONNECTIONS))
 }

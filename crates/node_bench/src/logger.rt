@@ -34,6 +34,15 @@ enum Log {
 }
 
 impl Log {
+    /// An empty log.
+    fn new(alloc: Global, has_marks: bool) -> Log {
+        if has_marks {
+            Log::Marked(MarkStore::new(alloc))
+        } else {
+            Log::Plain(LogStore::new(alloc))
+        }
+    }
+
     /// Takes a datagram, and puts the answer, or nothing, in the place of what `answer` held.
     fn take(
         &mut self,
@@ -62,33 +71,21 @@ pub(crate) struct Logger {
 }
 
 impl Logger {
-    /// An empty log without marks that knows of the server's start.
-    pub(crate) fn new(alloc: Global) -> Result<Logger, NoMemory> {
-        Logger::over(alloc, Log::Plain(LogStore::new(alloc)))
-    }
-
-    /// .. with marks.
-    pub(crate) fn with_marks(alloc: Global) -> Result<Logger, NoMemory> {
-        Logger::over(alloc, Log::Marked(MarkStore::new(alloc)))
-    }
-
-    /// .. of this kind.
-    #[tactic(auto, unfolding(seq_arith::specs::MessageGrammar::has_length, seq_arith::specs::MessageGrammar::is_sound))]
-    fn over(alloc: Global, log: Log) -> Result<Logger, NoMemory> {
-        let mut logger = Logger {
-            log,
+    /// An empty log, with marks or without.
+    pub(crate) fn new(alloc: Global, has_marks: bool) -> Logger {
+        Logger {
+            log: Log::new(alloc, has_marks),
             datagram: [0; 2_048],
             answer: MsgOut::new(),
             messages: 0,
-        };
-        logger.say(
-            alloc,
-            &Msg {
-                boot: BOOT,
-                body: Body::HelloMsg,
-            },
-        )?;
-        Ok(logger)
+        }
+    }
+
+    /// Tells it that the server has started.
+    #[tactic(auto, unfolding(seq_arith::specs::MessageGrammar::has_length, seq_arith::specs::MessageGrammar::is_sound))]
+    pub(crate) fn begin(&mut self, alloc: Global) -> Result<(), NoMemory> {
+        let body = Body::HelloMsg;
+        self.say(alloc, &Msg { boot: BOOT, body })
     }
 
     /// Opens an entry.

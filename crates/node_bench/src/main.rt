@@ -22,8 +22,13 @@ const STREAM: u32 = 1 << 24;
 fn main(rt: HostRuntime) -> io::Result<ExitCode> {
     let words: Vec<String> = env::args(&rt)?.skip(1).collect(rt.alloc())?;
     let words: Vec<&str> = words.iter().map(|word| word.as_str()).collect(rt.alloc())?;
-    for command in words.as_slice().split(|word| *word == "then") {
-        let status = play(&rt, command)?;
+    play_all(&rt, &words)
+}
+
+/// Does what the words of each command ask for, until one fails. The status of the last.
+fn play_all<R: AllocGlobal + Print + Eprint>(rt: &R, words: &[&str]) -> io::Result<ExitCode> {
+    for command in words.split(|word| *word == "then") {
+        let status = play(rt, command)?;
         if status != 0 {
             return Ok(ExitCode::from(status));
         }

@@ -54,6 +54,13 @@ fn run(alloc: Global, work: Work) -> Result<(Counts, Option<Inside>), NoMemory>
     requires { work.size ≤ 1460 }
 {
     let mut host = Host::new(alloc, work.kind)?;
+    run_on(alloc, work, &mut host)
+}
+
+/// .. with this server, which is just booted.
+fn run_on(alloc: Global, work: Work, host: &mut Host) -> Result<(Counts, Option<Inside>), NoMemory>
+    requires { work.size ≤ 1460 }
+{
     host.open(alloc, work.clients)?;
     host.play(alloc, work.clients, work.size, work.rounds)?;
     host.tick(alloc, work.ticks)?;

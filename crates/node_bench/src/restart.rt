@@ -67,31 +67,28 @@ fn marked_of(reads: &str, bytes: u32, read: u16) -> Option<u32> {
     (reads >= 1 && within).then_some(reads)
 }
 
-/// A log that has the entry, with its mark where it has marks.
-fn logged(alloc: Global, work: Work) -> Result<Logger, NoMemory>
-    requires bytes { work.bytes ≤ 2 ^ 24 }
-    requires read { work.read ≤ 2048 }
-{
-    let Some(reads) = work.marked else {
-        let mut logger = Logger::new(alloc)?;
-        fill(alloc, &mut logger, work.bytes, work.read)?;
-        return Ok(logger);
-    };
-    let mut logger = Logger::with_marks(alloc)?;
-    fill(alloc, &mut logger, work.bytes, work.read)?;
-    mark(alloc, &mut logger, work.kind, work.read, reads)?;
-    Ok(logger)
-}
-
 fn run(alloc: Global, work: Work) -> Result<Restored, NoMemory>
     requires bytes { work.bytes ≤ 2 ^ 24 }
     requires read { work.read ≤ 2048 }
 {
-    let mut logger = logged(alloc, work)?;
+    let mut logger = Logger::new(alloc, work.marked.is_some());
+    restart_all(alloc, work, &mut logger)
+}
+
+/// Puts the entry into an empty log, with its mark where the log has marks, and restarts from there.
+fn restart_all(alloc: Global, work: Work, logger: &mut Logger) -> Result<Restored, NoMemory>
+    requires bytes { work.bytes ≤ 2 ^ 24 }
+    requires read { work.read ≤ 2048 }
+{
+    logger.begin(alloc)?;
+    fill(alloc, logger, work.bytes, work.read)?;
+    if let Some(reads) = work.marked {
+        mark(alloc, logger, work.kind, work.read, reads)?;
+    }
     let mut restored = Restored::NONE;
     for round in 0..work.rounds {
         let boot = u64::from(round) + 2;
-        restart(alloc, &mut logger, work.kind, boot, &mut restored)?;
+        restart(alloc, logger, work.kind, boot, &mut restored)?;
     }
     Ok(restored)
 }

@@ -3,90 +3,88 @@
 ghost use Rattle.std.specs.Prelude.{IfOk, OnOk};
 ghost use Rattle.wrapped_conn.specs.Sound.{IsSound};
 
+use crate::connection::Totals;
 use crate::connection::client::{Client, Work};
-use crate::connection::server::Server;
-use crate::logger::Logger;
+use crate::connection::server::{Backend, Server};
 use ft_io::{Key, NoMemory};
 use std::alloc::Global;
 use tcp_endpoint::Outbox;
 
-/// The address of the clients.
-const IP: u32 = 0xC000_0201;
-
 /// How many ticks both sides wait at the end.
 const END_TICKS: u32 = 4;
 
-/// A client and its server, and what the client sent last.
+/// A client and its server.
 #[derive(Drop)]
 pub(crate) struct Exchange {
     pub(crate) client: Client,
     pub(crate) server: Server,
-    packets: Outbox,
 }
 
 impl Exchange {
-    /// The client's SYN has come, and the log has an entry.
-    pub(crate) fn open(
-        alloc: Global,
-        work: Work,
-        port: u16,
-        logger: &mut Logger,
-    ) -> Result<Exchange, NoMemory>
+    /// The client's SYN has come.
+    pub(crate) fn new(alloc: Global, work: Work, key: Key) -> Result<Exchange, NoMemory>
         ensures { IfOk result (λ exchange. IsSound exchange.server.conn) }
     {
-        let key = Key { ip: IP, port };
-        let mut client = Client::new(alloc, key, work)?;
-        let mut packets = Outbox::new(alloc)?;
-        client.flush(&mut packets);
-        logger.open(alloc, key)?;
+        let client = Client::new(alloc, key, work)?;
         let server = Server::new(alloc, key)?;
-        Ok(Exchange {
-            client,
-            server,
-            packets,
-        })
+        Ok(Exchange { client, server })
     }
 
-    /// Turns in turn until the client sends no segment, and then the ticks of the end.
-    pub(crate) fn run(&mut self, alloc: Global, logger: &mut Logger) -> Result<(), NoMemory>
+    /// Turns in turn until the client sends no segment, and then the ticks of the end. What both sides did is added to the totals. `packets` is room for what
+    /// the client sends, and the log has an entry.
+    pub(crate) fn run(
+        &mut self,
+        alloc: Global,
+        packets: &mut Outbox,
+        backend: &mut Backend,
+        totals: &mut Totals,
+    ) -> Result<(), NoMemory>
         requires { IsSound self.old.server.conn }
         ensures { OnOk result (IsSound self.new.server.conn) }
     {
-        self.server.start(alloc, &mut self.client, logger)?;
+        self.client.flush(packets);
+        self.server.start(alloc, &mut self.client, backend)?;
         for _ in 0..u64::MAX {
             self.client.turn();
-            self.client.flush(&mut self.packets);
-            if self.packets.is_empty() {
+            self.client.flush(packets);
+            if packets.is_empty() {
                 break;
             }
-            self.serve(alloc, logger)?;
+            self.serve(alloc, packets, backend)?;
         }
-        self.end(alloc, logger)
+        self.end(alloc, backend)?;
+        totals.add(self);
+        Ok(())
     }
 
     /// What the client sent arrives.
-    fn serve(&mut self, alloc: Global, logger: &mut Logger) -> Result<(), NoMemory>
+    fn serve(
+        &mut self,
+        alloc: Global,
+        packets: &mut Outbox,
+        backend: &mut Backend,
+    ) -> Result<(), NoMemory>
         requires { IsSound self.old.server.conn }
         ensures { OnOk result (IsSound self.new.server.conn) }
     {
-        for i in 0..self.packets.len() {
-            if i >= self.packets.len() {
+        for i in 0..packets.len() {
+            if i >= packets.len() {
                 break;
             }
-            let packet = self.packets.packet_mut(i);
+            let packet = packets.packet_mut(i);
             self.server
-                .on_packet(alloc, packet, &mut self.client, logger)?;
+                .on_packet(alloc, packet, &mut self.client, backend)?;
         }
         Ok(())
     }
 
-    fn end(&mut self, alloc: Global, logger: &mut Logger) -> Result<(), NoMemory>
+    fn end(&mut self, alloc: Global, backend: &mut Backend) -> Result<(), NoMemory>
         requires { IsSound self.old.server.conn }
         ensures { OnOk result (IsSound self.new.server.conn) }
     {
         for _ in 0..END_TICKS {
             self.client.tick();
-            self.server.on_tick(alloc, &mut self.client, logger)?;
+            self.server.on_tick(alloc, &mut self.client, backend)?;
         }
         Ok(())
     }

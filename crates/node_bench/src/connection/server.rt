@@ -24,12 +24,18 @@ const ECHO: u8 = 1;
 /// More answers don't wait in a turn.
 const ANSWERS: usize = 1_100;
 
-/// A wrapped connection, what it sends in a turn, and the log's answers that wait for it.
+/// What lies behind the connections: the log. With it what a connection sends in a turn, and the log's answers that wait for it.
+#[derive(Drop)]
+pub(crate) struct Backend {
+    pub(crate) logger: Logger,
+    pub(crate) turn: TurnOut,
+    pub(crate) answers: Outbox,
+}
+
+/// A wrapped connection.
 #[derive(Drop)]
 pub(crate) struct Server {
     conn: Conn<Echo>,
-    turn: TurnOut,
-    answers: Outbox,
     /// How many segments it sent.
     pub(crate) segments: u64,
 }
@@ -40,26 +46,21 @@ impl Server {
         ensures { IfOk result (λ server. IsSound server.conn) }
     {
         let conn = Conn::first(alloc, BOOT, key, SERVER, CLIENT_ISN, SERVER_ISN, MSS, ECHO)?;
-        Ok(Server {
-            conn,
-            turn: TurnOut::new(alloc)?,
-            answers: Outbox::new(alloc)?,
-            segments: 0,
-        })
+        Ok(Server { conn, segments: 0 })
     }
 
     pub(crate) fn start(
         &mut self,
         alloc: Global,
         client: &mut Client,
-        logger: &mut Logger,
+        backend: &mut Backend,
     ) -> Result<(), NoMemory>
         requires { IsSound self.old.conn }
         ensures { OnOk result (IsSound self.new.conn) }
     {
-        self.turn.clear();
-        self.conn.start(alloc, &mut self.turn)?;
-        self.end_turn(alloc, client, logger)
+        backend.turn.clear();
+        self.conn.start(alloc, &mut backend.turn)?;
+        self.end_turn(alloc, client, backend)
     }
 
     /// A segment of the client.
@@ -68,7 +69,7 @@ impl Server {
         alloc: Global,
         packet: &mut [u8],
         client: &mut Client,
-        logger: &mut Logger,
+        backend: &mut Backend,
     ) -> Result<(), NoMemory>
         requires { IsSound self.old.conn }
         ensures { OnOk result (IsSound self.new.conn) }
@@ -76,23 +77,23 @@ impl Server {
         if read_packet(packet).is_err() {
             return Ok(());
         }
-        self.turn.clear();
-        self.conn.on_packet(alloc, packet, &mut self.turn)?;
-        self.end_turn(alloc, client, logger)
+        backend.turn.clear();
+        self.conn.on_packet(alloc, packet, &mut backend.turn)?;
+        self.end_turn(alloc, client, backend)
     }
 
     pub(crate) fn on_tick(
         &mut self,
         alloc: Global,
         client: &mut Client,
-        logger: &mut Logger,
+        backend: &mut Backend,
     ) -> Result<(), NoMemory>
         requires { IsSound self.old.conn }
         ensures { OnOk result (IsSound self.new.conn) }
     {
-        self.turn.clear();
-        self.conn.on_tick(&mut self.turn);
-        self.end_turn(alloc, client, logger)
+        backend.turn.clear();
+        self.conn.on_tick(&mut backend.turn);
+        self.end_turn(alloc, client, backend)
     }
 
     /// What the turn sends arrives, and so do the log's answers, one after another.
@@ -100,32 +101,32 @@ impl Server {
         &mut self,
         alloc: Global,
         client: &mut Client,
-        logger: &mut Logger,
+        backend: &mut Backend,
     ) -> Result<(), NoMemory>
         requires { IsSound self.old.conn }
         ensures { OnOk result (IsSound self.new.conn) }
     {
-        self.answers.clear();
-        self.send(alloc, client, logger)?;
+        backend.answers.clear();
+        self.send(alloc, client, backend)?;
         for i in 0..ANSWERS {
-            if i >= self.answers.len() {
+            if i >= backend.answers.len() {
                 break;
             }
-            self.on_answer(alloc, i)?;
-            self.send(alloc, client, logger)?;
+            self.on_answer(alloc, i, backend)?;
+            self.send(alloc, client, backend)?;
         }
         Ok(())
     }
 
     /// One of the answers that wait.
-    fn on_answer(&mut self, alloc: Global, i: usize) -> Result<(), NoMemory>
+    fn on_answer(&mut self, alloc: Global, i: usize, backend: &mut Backend) -> Result<(), NoMemory>
         requires sound { IsSound self.old.conn }
-        requires there { i < length self.old.answers }
+        requires there { i < length backend.old.answers }
         ensures { OnOk result (IsSound self.new.conn) }
     {
-        self.turn.clear();
-        if let Ok(m) = read_msg(self.answers.packet(i)) {
-            self.conn.on_msg(alloc, &m, &mut self.turn)?;
+        backend.turn.clear();
+        if let Ok(m) = read_msg(backend.answers.packet(i)) {
+            self.conn.on_msg(alloc, &m, &mut backend.turn)?;
         }
         Ok(())
     }
@@ -135,15 +136,17 @@ impl Server {
         &mut self,
         alloc: Global,
         client: &mut Client,
-        logger: &mut Logger,
+        backend: &mut Backend,
     ) -> Result<(), NoMemory>
         requires { IsSound self.old.conn }
         ensures { OnOk result (IsSound self.new.conn) }
     {
-        let segments = self.turn.segments();
+        let segments = backend.turn.segments();
         self.segments = self.segments.saturating_add(segments.len() as u64);
         client.hear(segments);
-        logger.take_turn(alloc, &self.turn, &mut self.answers)
+        backend
+            .logger
+            .take_turn(alloc, &backend.turn, &mut backend.answers)
     }
 
     /// Whether the log knows that the connection has ended.

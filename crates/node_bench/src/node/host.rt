@@ -77,19 +77,16 @@ pub(crate) struct Host {
 }
 
 impl Host {
-    /// A server of this kind, with an empty log.
+    /// A server of this kind, which has sent its Hello, with an empty log.
     pub(crate) fn new(alloc: Global, kind: u8) -> Result<Host, NoMemory> {
-        let mut host = Host {
+        Ok(Host {
             kind,
+            letters: Outbox::new(alloc)?,
             node: Node::boot(alloc, 1, SERVER_ISN, kind, LOCAL)?,
             log: LogStore::new(alloc),
             answer: MsgOut::new(),
-            letters: Outbox::new(alloc)?,
             counts: Counts::NONE,
-        };
-        count_and_queue(host.node.sent(), &mut host.letters, &mut host.counts);
-        host.exchange_with_log(alloc)?;
-        Ok(host)
+        })
     }
 
     /// The log takes what it is sent, and the server its answers, until nothing is under way.
@@ -158,8 +155,10 @@ impl Host {
         self.exchange_with_log(alloc)
     }
 
-    /// Opens the connections of this many clients. Nothing of that is counted.
+    /// The Hello arrives, and this many clients open their connections. Nothing of that is counted.
     pub(crate) fn open(&mut self, alloc: Global, clients: u16) -> Result<(), NoMemory> {
+        count_and_queue(self.node.sent(), &mut self.letters, &mut self.counts);
+        self.exchange_with_log(alloc)?;
         for i in 0..clients {
             self.send(alloc, i, 0, 0, SYN, 0)?;
             self.send(alloc, i, 1, 1, ACK, 0)?;

@@ -113,6 +113,8 @@ fn output_of(alloc: Global, kind: u8, read: u16) -> Result<u32, NoMemory>
     let text = [b'a'; 2_048];
     let mut output = Vec::new(alloc);
     let mut service = AnyService::fresh(alloc, kind);
-    service.take(&text[..usize::from(read)], &mut output)?;
-    Ok(output.len().min(STREAM as usize) as u32)
+    match service.take(&text[..usize::from(read)], &mut output) {
+        Ok(_) => Ok(output.len().min(STREAM as usize) as u32),
+        Err(NoMemory) => Err(NoMemory),
+    }
 }

@@ -69,15 +69,27 @@ pub(crate) fn restart(
         _ => 0,
     };
     let marks = logger.has_marks();
-    let mut fetching: Fetching<AnyService> = match asked.on_summary(alloc, kind, count, marks) {
-        Ok(fetching) => fetching,
-        Err(end) => return Err(lost(end)),
-    };
-    fetch(alloc, logger, &mut fetching, restored)?;
-    if fetching.question().is_some() {
-        return Ok(());
+    match asked.on_summary(alloc, kind, count, marks) {
+        Ok(fetching) => restore(alloc, logger, fetching, boot, restored),
+        Err(end) => Err(lost(end)),
     }
-    join_all(alloc, boot, fetching.finish(), restored)
+}
+
+/// Fetches the entries, and splices each connection.
+fn restore(
+    alloc: Global,
+    logger: &mut Logger,
+    mut fetching: Fetching<AnyService>,
+    boot: u64,
+    restored: &mut Restored,
+) -> Result<(), NoMemory>
+    requires { 1 ≤ boot }
+{
+    let fetched = fetch(alloc, logger, &mut fetching, restored);
+    if fetched.is_err() || fetching.question().is_some() {
+        return fetched;
+    }
+    join_all(alloc, boot, &mut fetching.finish(), restored)
 }
 
 /// Asks and answers until nothing is missing.
@@ -117,7 +129,7 @@ fn read_any(bytes: &[u8]) -> Option<AnyMsg<'_>>
 fn join_all(
     alloc: Global,
     boot: u64,
-    mut entries: Entries<AnyService>,
+    entries: &mut Entries<AnyService>,
     restored: &mut Restored,
 ) -> Result<(), NoMemory>
     requires { 1 ≤ boot }
