@@ -25,7 +25,7 @@ use wrapped_conn::{Conn, Quiet};
 const STATE: usize = 1_100;
 
 /// What is stored of a connection's marks: the reads of the last one, and the one that isn't answered yet.
-#[derive(Debug, Drop)]
+#[derive(Drop)]
 pub struct Marking {
     /// The reads of the last mark, sent in this incarnation or fetched; 0 without one.
     last: u32,

@@ -10,7 +10,7 @@ use std::alloc::Global;
 
 /// The service that counts the bytes of its input. It answers each line feed with the count up to and including it, in decimal, and a line feed. The count
 /// stays at 2^64 - 1. The end of input closes.
-#[derive(Clone, Copy, Debug, PartialEq, Eq)]
+#[derive(Clone, Copy, PartialEq, Eq)]
 pub struct Counter {
     count: u64,
 }

@@ -3,7 +3,7 @@
 use ft_io::{LinkCall, Octets};
 
 /// A recorded call that changes a file. The flag is true if the call failed: then it may be done in part.
-#[derive(Debug, Drop)]
+#[derive(Drop)]
 pub enum DiskCall {
     /// These bytes are appended at the end.
     Appended(Octets, bool),
@@ -16,7 +16,7 @@ pub enum DiskCall {
 }
 
 /// A call on a network or a file.
-#[derive(Debug, Drop)]
+#[derive(Drop)]
 pub enum DeskCall {
     OnLink(LinkCall),
     OnDisk(DiskCall),

@@ -9,7 +9,7 @@ use ft_io::NoMemory;
 use std::alloc::Global;
 
 /// When a death comes, and how much of the unsynced changes is on the disk then.
-#[derive(Clone, Copy, Debug, PartialEq, Eq)]
+#[derive(Clone, Copy, PartialEq, Eq)]
 pub struct Death {
     /// How many calls came before it.
     pub calls: usize,

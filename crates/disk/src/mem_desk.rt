@@ -21,7 +21,7 @@ use std::alloc::Global;
 use std::marker::Model;
 
 /// A link in memory and a file in memory.
-#[derive(Debug, Drop)]
+#[derive(Drop)]
 pub struct MemDesk {
     alloc: Global,
     link: MemLink,

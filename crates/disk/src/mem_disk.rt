@@ -22,7 +22,7 @@ use std::alloc::Global;
 use std::marker::Model;
 
 /// A file of given bytes, some of whose calls fail.
-#[derive(Debug, Drop)]
+#[derive(Drop)]
 pub struct MemDisk {
     alloc: Global,
     first: Vec<u8>,

@@ -4,7 +4,7 @@ use std::fs::TryLockError;
 use std::io;
 
 /// Why a file couldn't be opened.
-#[derive(Clone, Copy, Debug, PartialEq, Eq)]
+#[derive(Clone, Copy, PartialEq, Eq)]
 pub enum ShelfEnd {
     /// A system call failed, or the name is that of no regular file with one name.
     Failed,

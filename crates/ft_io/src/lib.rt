@@ -44,7 +44,7 @@ mod words;
 mod writing;
 
 /// An IPv4 address and a port, of a server or a logger.
-#[derive(Clone, Copy, Debug, PartialEq, Eq, PartialOrd, Ord, Hash)]
+#[derive(Clone, Copy, PartialEq, Eq, PartialOrd, Ord, Hash)]
 pub struct Addr {
     /// The four octets as one number, the first octet the highest.
     pub ip: u32,
@@ -53,7 +53,7 @@ pub struct Addr {
 }
 
 /// The address and port of a client, which names its connection.
-#[derive(Clone, Copy, Debug, PartialEq, Eq, PartialOrd, Ord, Hash)]
+#[derive(Clone, Copy, PartialEq, Eq, PartialOrd, Ord, Hash)]
 pub struct Key {
     /// The four octets as one number, the first octet the highest.
     pub ip: u32,
@@ -62,5 +62,5 @@ pub struct Key {
 }
 
 /// An input or output call failed. It moved no bytes.
-#[derive(Clone, Copy, Debug, PartialEq, Eq)]
+#[derive(Clone, Copy, PartialEq, Eq)]
 pub struct Failed;

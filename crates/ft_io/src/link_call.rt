@@ -3,7 +3,7 @@
 use crate::{Addr, Octets};
 
 /// One recorded call on a link.
-#[derive(Debug, Drop)]
+#[derive(Drop)]
 pub enum LinkCall {
     /// A bind to this address succeeded.
     Bound(Addr),

@@ -17,7 +17,7 @@ use std::alloc::Global;
 use std::marker::Model;
 
 /// What a receive will give.
-#[derive(Debug, Drop)]
+#[derive(Drop)]
 pub enum Arrival {
     /// A datagram from `from`.
     Datagram { from: Addr, bytes: Octets },
@@ -26,7 +26,7 @@ pub enum Arrival {
 }
 
 /// A link that gives listed datagrams, and some of whose calls fail.
-#[derive(Debug, Drop)]
+#[derive(Drop)]
 pub struct MemLink {
     alloc: Global,
     arrivals: Vec<Arrival>,

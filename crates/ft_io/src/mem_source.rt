@@ -11,7 +11,7 @@ use crate::{Failed, Source};
 use std::marker::Model;
 
 /// Bytes to be read, some of whose reads fail.
-#[derive(Debug, Drop)]
+#[derive(Drop)]
 pub struct MemSource {
     bytes: Vec<u8>,
     at: usize,

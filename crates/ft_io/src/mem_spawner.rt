@@ -15,7 +15,7 @@ use std::alloc::Global;
 use std::marker::Model;
 
 /// Children that end with listed statuses, and some of whose starts and waits fail.
-#[derive(Debug, Drop)]
+#[derive(Drop)]
 pub struct MemSpawner {
     alloc: Global,
     statuses: Vec<i32>,

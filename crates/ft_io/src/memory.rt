@@ -3,7 +3,7 @@
 use std::alloc::{AllocError, AllocFailed};
 
 /// An allocation failed. Unless its documentation says otherwise, the call then changed nothing.
-#[derive(Clone, Copy, Debug, PartialEq, Eq)]
+#[derive(Clone, Copy, PartialEq, Eq)]
 pub struct NoMemory;
 
 impl From<AllocError> for NoMemory {

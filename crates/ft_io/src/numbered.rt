@@ -6,7 +6,7 @@ ghost use Rattle.ft_io.specs.NumberedCalls.{no_call, after_call, IsNextListed};
 use std::marker::Model;
 
 /// How many calls were made, and the numbers of those that fail.
-#[derive(Debug, Drop)]
+#[derive(Drop)]
 pub struct NumberedCalls {
     fails: Vec<u32>,
     made: u64,

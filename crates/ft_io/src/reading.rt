@@ -13,7 +13,7 @@ use std::alloc::{AllocError, Global};
 const CHUNK: usize = 4096;
 
 /// Why a reading ended before the source's end.
-#[derive(Clone, Copy, Debug, PartialEq, Eq)]
+#[derive(Clone, Copy, PartialEq, Eq)]
 pub enum ReadEnd {
     /// An allocation failed.
     NoMemory,

@@ -3,7 +3,7 @@
 use crate::Words;
 
 /// One recorded call on a spawner.
-#[derive(Debug, Drop)]
+#[derive(Drop)]
 pub enum SpawnCall {
     /// A program was started by these words.
     Started(Words),

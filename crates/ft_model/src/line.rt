@@ -6,7 +6,7 @@ use crate::schedule::{ClientLine, Schedule, ServiceKind};
 use ft_io::Addr;
 
 /// The first word of an event's line.
-#[derive(Clone, Copy, Debug, PartialEq, Eq)]
+#[derive(Clone, Copy, PartialEq, Eq)]
 pub enum Verb {
     Boot,
     Crash,
@@ -22,7 +22,7 @@ pub enum Verb {
 }
 
 /// The first word of a line, which names the kind of line.
-#[derive(Clone, Copy, Debug, PartialEq, Eq)]
+#[derive(Clone, Copy, PartialEq, Eq)]
 pub enum Keyword {
     Service,
     Server,
@@ -33,7 +33,7 @@ pub enum Keyword {
 }
 
 /// What a well-formed line says.
-#[derive(Debug, Drop)]
+#[derive(Drop)]
 pub enum Line {
     Service(ServiceKind),
     Server(Addr),
@@ -46,7 +46,7 @@ pub enum Line {
 }
 
 /// What the lines read so far spell.
-#[derive(Debug, Drop)]
+#[derive(Drop)]
 pub enum Draft {
     /// Nothing: the service line comes next.
     Empty,

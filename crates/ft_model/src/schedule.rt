@@ -9,7 +9,7 @@ use std::alloc::Global;
 use std::marker::Model;
 
 /// The services that a schedule can name.
-#[derive(Clone, Copy, Debug, PartialEq, Eq)]
+#[derive(Clone, Copy, PartialEq, Eq)]
 pub enum ServiceKind {
     Echo,
     Line,
@@ -32,7 +32,7 @@ impl ServiceKind {
 }
 
 /// The bytes that a client sends.
-#[derive(Debug, Drop)]
+#[derive(Drop)]
 pub enum Script {
     /// These bytes.
     Bytes(Octets),
@@ -65,7 +65,7 @@ fn letters(alloc: Global, len: u32) -> Result<Vec<u8>, NoMemory>
 }
 
 /// A client: its address and port, its initial number and its script.
-#[derive(Debug, Drop)]
+#[derive(Drop)]
 pub struct ClientLine {
     /// Its address and port.
     pub key: Key,
@@ -76,7 +76,7 @@ pub struct ClientLine {
 }
 
 /// The clients of a schedule, numbered from 1 in this order.
-#[derive(Debug, Drop)]
+#[derive(Drop)]
 pub struct ClientLines {
     lines: Vec<ClientLine>,
 }
@@ -116,7 +116,7 @@ impl ClientLines {
 }
 
 /// The events of a schedule, in order.
-#[derive(Debug, Drop)]
+#[derive(Drop)]
 pub struct Events {
     events: Vec<Event>,
 }
@@ -156,7 +156,7 @@ impl Events {
 }
 
 /// A run as it is written down: the service, the server's address, the clients, and the events in order.
-#[derive(Debug, Drop)]
+#[derive(Drop)]
 pub struct Schedule {
     /// The service that the server runs.
     pub service: ServiceKind,

@@ -14,7 +14,7 @@ use ft_io::Failed;
 use std::alloc::{AllocError, AllocFailed, Global};
 
 /// Why a block wasn't appended.
-#[derive(Clone, Copy, Debug, PartialEq, Eq)]
+#[derive(Clone, Copy, PartialEq, Eq)]
 pub enum KeepEnd {
     NoMemory,
     /// A call on the disk failed; it may be full.
@@ -52,7 +52,7 @@ pub const OPEN: u8 = 209;
 pub const CLOSED: u8 = 46;
 
 /// A journal whose file ends with a closed gate. The caller has the file, and passes the same one to each call.
-#[derive(Clone, Copy, Debug, PartialEq, Eq)]
+#[derive(Clone, Copy, PartialEq, Eq)]
 pub struct Journal {
     /// The place of the closed gate, in bytes from the file's beginning.
     pub end: u64,

@@ -10,7 +10,7 @@ use logger_store::MsgOut;
 use node_link::Counts;
 
 /// An answer and its addressee, to be sent once its round is on the disk; or no bytes.
-#[derive(Debug, Drop)]
+#[derive(Drop)]
 pub struct Answer {
     /// The addressee.
     pub to: Addr,

@@ -17,7 +17,7 @@ const JOURNAL_OPTIONS: [OptionName; 3] = [
 ];
 
 /// The name of a file. It isn't empty and doesn't begin with `-`.
-#[derive(Debug, Drop)]
+#[derive(Drop)]
 pub struct FileName {
     word: String,
 }
@@ -51,7 +51,7 @@ impl FileName {
 }
 
 /// A logger that keeps its log in a journal.
-#[derive(Debug, Drop)]
+#[derive(Drop)]
 pub struct JournalRole {
     /// Its address and turns.
     pub logger: LoggerRole,

@@ -6,7 +6,7 @@ ghost use Rattle.kept_log.specs.ReadSteps.{HasMagic};
 pub const MAGIC: &[u8] = b"ftlog 1\n";
 
 /// What a file begins with, judged by all its bytes, or by more bytes than the magic has.
-#[derive(Clone, Copy, Debug, PartialEq, Eq)]
+#[derive(Clone, Copy, PartialEq, Eq)]
 pub enum Magic {
     /// A prefix of the magic, or the magic and nothing more.
     Part,

@@ -3,7 +3,7 @@
 use ft_io::Key;
 
 /// An entry without its bytes and lengths.
-#[derive(Clone, Copy, Debug, PartialEq, Eq)]
+#[derive(Clone, Copy, PartialEq, Eq)]
 pub struct EntryHead {
     /// The client's address and port.
     pub key: Key,

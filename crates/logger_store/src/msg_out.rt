@@ -10,7 +10,7 @@ use logger_wire::{Msg, write_msg};
 use std::marker::Model;
 
 /// The bytes of a message, or none, in room for 2,048 bytes.
-#[derive(Debug, Drop)]
+#[derive(Drop)]
 pub struct MsgOut {
     /// The message, and room after it.
     bytes: [u8; 2_048],

@@ -10,7 +10,7 @@ use std::marker::Model;
 pub const PAGE: usize = 4_096;
 
 /// A page of at most 4,096 bytes, with room for all of them.
-#[derive(Debug, Drop)]
+#[derive(Drop)]
 pub struct Page {
     /// Its capacity, for a full page, is allocated once.
     bytes: Vec<u8>,

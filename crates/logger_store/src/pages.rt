@@ -19,7 +19,7 @@ pub const PART: usize = 1_024;
 static ZEROS: [u8; PAGE] = [0; PAGE];
 
 /// The bytes of an entry: full pages, and then the page of the last bytes, once there is one. The first pages may be dropped: their bytes then read as zeros.
-#[derive(Debug, Drop)]
+#[derive(Drop)]
 pub struct Pages {
     /// How many pages are dropped.
     given_up: usize,

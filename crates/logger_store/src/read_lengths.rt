@@ -12,7 +12,7 @@ use std::alloc::Global;
 use std::marker::Model;
 
 /// The lengths of reads. Those of the first reads may be dropped: they then read as level ones, which differ by at most one, as many and with the same sum.
-#[derive(Debug, Drop)]
+#[derive(Drop)]
 pub struct ReadLengths {
     /// The smaller of the level lengths in place of the dropped ones, ..
     low: Run,

@@ -10,7 +10,7 @@ use std::alloc::Global;
 use std::marker::Model;
 
 /// Equal lengths that follow one another.
-#[derive(Clone, Copy, Debug)]
+#[derive(Clone, Copy)]
 pub struct Run {
     /// The length, in bytes.
     pub length: u16,
@@ -19,7 +19,7 @@ pub struct Run {
 }
 
 /// The lengths of reads: complete runs, and the run of the last length. That run has the count 0 before the first read.
-#[derive(Debug, Drop)]
+#[derive(Drop)]
 pub struct Runs {
     /// The runs before the last, the first first.
     closed: Vec<Run>,
@@ -68,7 +68,7 @@ pub fn took_of(run: Run, reads: usize) -> Option<u32>
 }
 
 /// A prefix of a list of runs.
-#[derive(Clone, Copy, Debug)]
+#[derive(Clone, Copy)]
 struct Front {
     /// How many runs it has, ..
     runs: usize,

@@ -18,7 +18,7 @@ use std::alloc::Global;
 use std::marker::Model;
 
 /// The numbers of a connection.
-#[derive(Clone, Copy, Debug)]
+#[derive(Clone, Copy)]
 pub struct Numbers {
     /// The client's address and port.
     pub key: Key,
@@ -31,7 +31,7 @@ pub struct Numbers {
 }
 
 /// A part of a client's stream.
-#[derive(Clone, Copy, Debug)]
+#[derive(Clone, Copy)]
 pub struct Part<'a> {
     /// The client's address and port.
     pub key: Key,
@@ -46,7 +46,7 @@ pub struct Part<'a> {
 }
 
 /// What is logged of a connection. Its reads are counted and summed as they are logged.
-#[derive(Debug, Drop)]
+#[derive(Drop)]
 pub struct StoredEntry {
     /// The key, the initial sequence numbers and the segment size.
     numbers: Numbers,

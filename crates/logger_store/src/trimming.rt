@@ -16,7 +16,7 @@ use std::alloc::Global;
 use std::marker::Model;
 
 /// How much of an entry's beginning is trimmed: no answer reports it any more.
-#[derive(Clone, Copy, Debug)]
+#[derive(Clone, Copy)]
 pub struct Trim {
     /// How many of the first bytes are trimmed, at most 2^24: all that the trimmed reads took.
     pub bytes: u32,

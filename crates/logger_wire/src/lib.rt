@@ -19,7 +19,7 @@ mod records;
 mod writing;
 
 /// A message, with the boot number of the server that sends it or that it answers.
-#[derive(Clone, Copy, Debug)]
+#[derive(Clone, Copy)]
 pub struct Msg<'a> {
     /// At least 1.
     pub boot: u64,
@@ -30,7 +30,7 @@ pub struct Msg<'a> {
 /// The content of a message. It borrows the bytes of `PartMsg` and `DataMsg` and the lengths of `LensMsg` from the buffer that was read. An index of a log
 /// entry is at most 63, and a count of entries at most 64. A segment size is 64 to 1,460 bytes. A length, and an offset with its bytes, is at most 2^24
 /// bytes. Counts of reads and of acknowledged units are at most 2^24 + 1. The length of a read is at most 2,048 bytes. Flags are 0 or 1.
-#[derive(Clone, Copy, Debug)]
+#[derive(Clone, Copy)]
 pub enum Body<'a> {
     /// A server has started.
     HelloMsg,

@@ -9,7 +9,7 @@ use std::alloc::Global;
 use std::marker::Model;
 
 /// A mark, as a message carries it: its numbers, and the bytes of its state.
-#[derive(Clone, Copy, Debug)]
+#[derive(Clone, Copy)]
 pub(crate) struct NewMark<'a> {
     /// After how many reads it lies, at most 2^24 + 1.
     pub reads: u32,
@@ -22,7 +22,7 @@ pub(crate) struct NewMark<'a> {
 }
 
 /// A stored mark, or none: then its numbers are 0, and it has no state.
-#[derive(Debug, Drop)]
+#[derive(Drop)]
 pub(crate) struct KeptMark {
     reads: u32,
     /// How many bytes of input the reads took.

@@ -15,7 +15,7 @@ use itoa::Buffer;
 use std::alloc::Global;
 
 /// How many calls there were on a link, by their results.
-#[derive(Clone, Copy, Debug, PartialEq, Eq)]
+#[derive(Clone, Copy, PartialEq, Eq)]
 pub struct Counts {
     /// The receives: one in each turn.
     pub turns: u128,

@@ -15,7 +15,7 @@ use ft_io::NoMemory;
 use std::alloc::{AllocError, Global};
 
 /// An option of a role.
-#[derive(Clone, Copy, Debug, PartialEq, Eq)]
+#[derive(Clone, Copy, PartialEq, Eq)]
 pub enum OptionName {
     Local,
     Logger,

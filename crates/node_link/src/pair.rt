@@ -19,7 +19,7 @@ use itoa::Buffer;
 use std::alloc::Global;
 
 /// The role of a child.
-#[derive(Clone, Copy, Debug, PartialEq, Eq)]
+#[derive(Clone, Copy, PartialEq, Eq)]
 pub(crate) enum ChildName {
     Server,
     Logger,
@@ -51,7 +51,7 @@ impl ChildName {
 }
 
 /// A step of a pair.
-#[derive(Debug, Drop)]
+#[derive(Drop)]
 pub(crate) enum PairStep {
     /// Starts a program by these words.
     Start(Words),
@@ -60,7 +60,7 @@ pub(crate) enum PairStep {
 }
 
 /// What stops the steps of a pair early.
-#[derive(Clone, Copy, Debug, PartialEq, Eq)]
+#[derive(Clone, Copy, PartialEq, Eq)]
 pub(crate) enum PairFault {
     /// A start or a wait failed.
     Child,

@@ -8,7 +8,7 @@ use std::alloc::Global;
 use std::marker::Model;
 
 /// The name by which a program is started. It isn't empty and doesn't begin with `-`.
-#[derive(Debug, Drop)]
+#[derive(Drop)]
 pub struct Program {
     word: String,
 }

@@ -62,7 +62,7 @@ const LAST_BASE: u64 = 65_533;
 const TURN_LIMIT: u64 = 1_000_000;
 
 /// The loggers of a server: one, or two that act as one.
-#[derive(Clone, Copy, Debug)]
+#[derive(Clone, Copy)]
 pub struct Loggers {
     /// The one logger, or the first of two.
     pub first: Addr,
@@ -70,7 +70,7 @@ pub struct Loggers {
 }
 
 /// An incarnation of the server.
-#[derive(Clone, Copy, Debug)]
+#[derive(Clone, Copy)]
 pub struct ServerRole {
     /// Its own address and port.
     pub local: Addr,
@@ -87,7 +87,7 @@ pub struct ServerRole {
 }
 
 /// A logger that starts with an empty log.
-#[derive(Clone, Copy, Debug)]
+#[derive(Clone, Copy)]
 pub struct LoggerRole {
     /// Its own address and port.
     pub local: Addr,
@@ -96,7 +96,7 @@ pub struct LoggerRole {
 }
 
 /// A client that sends a script.
-#[derive(Debug, Drop)]
+#[derive(Drop)]
 pub struct ClientRole {
     /// Its own address and port.
     pub local: Addr,
@@ -111,7 +111,7 @@ pub struct ClientRole {
 }
 
 /// Two servers, one after the other, with a logger and a client, each a process.
-#[derive(Debug, Drop)]
+#[derive(Drop)]
 pub struct PairRole {
     /// The program of every child.
     pub program: Program,
@@ -138,7 +138,7 @@ impl ServerRole {
 }
 
 /// The role of a process.
-#[derive(Debug, Drop)]
+#[derive(Drop)]
 pub enum Role {
     Server(ServerRole),
     Logger(LoggerRole),
@@ -147,7 +147,7 @@ pub enum Role {
 }
 
 /// The role of a process whose program has a service of its own.
-#[derive(Clone, Copy, Debug)]
+#[derive(Clone, Copy)]
 pub(crate) enum OwnRole {
     Server(ServerRole),
     Logger(LoggerRole),

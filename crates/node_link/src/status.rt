@@ -6,14 +6,14 @@ ghost use Rattle.node_link.specs.declared.status.NodeEnd.TheVariants as ends;
 use ft_io::NoMemory;
 
 /// The exit status of the program.
-#[derive(Clone, Copy, Debug, PartialEq, Eq)]
+#[derive(Clone, Copy, PartialEq, Eq)]
 pub struct Status {
     /// 0 if everything was done, otherwise the number of the end.
     pub code: u8,
 }
 
 /// How a process ends early.
-#[derive(Clone, Copy, Debug, PartialEq, Eq)]
+#[derive(Clone, Copy, PartialEq, Eq)]
 pub enum NodeEnd {
     /// The words aren't allowed.
     Usage,

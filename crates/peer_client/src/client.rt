@@ -13,14 +13,14 @@ use std::alloc::Global;
 use std::marker::Model;
 
 /// The error of a move that the client's state doesn't allow.
-#[derive(Clone, Copy, Debug, PartialEq, Eq)]
+#[derive(Clone, Copy, PartialEq, Eq)]
 pub struct Refused {
     /// The first test that the move fails.
     pub why: EventWhy,
 }
 
 /// A client that makes the moves of a schedule. Offsets are in units: bytes, and one more for a FIN.
-#[derive(Debug, Drop)]
+#[derive(Drop)]
 pub struct Client {
     pub(crate) key: Key,
     pub(crate) server: Addr,

@@ -15,7 +15,7 @@ use std::alloc::Global;
 use std::marker::Model;
 
 /// A scripted client. Offsets are in units: bytes, and one more for a FIN.
-#[derive(Debug, Drop)]
+#[derive(Drop)]
 pub struct PlainClient {
     /// Its address and port.
     pub(crate) key: Key,

@@ -8,7 +8,7 @@ use ft_model::Event;
 use seq_arith::{ACK, FIN, RST, SYN};
 
 /// A move of a scripted client. Text has an offset in the script and a length, in bytes.
-#[derive(Clone, Copy, Debug, PartialEq, Eq)]
+#[derive(Clone, Copy, PartialEq, Eq)]
 pub enum Move {
     /// The SYN.
     Syn,

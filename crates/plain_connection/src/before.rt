@@ -13,7 +13,7 @@ use plain_segment::has_rst;
 use server_trait::Service;
 
 /// What a turn compares with the connection before it.
-#[derive(Clone, Copy, Debug)]
+#[derive(Clone, Copy)]
 pub(crate) struct Before {
     /// The client's units that were known to be logged.
     pub(crate) answered: u64,

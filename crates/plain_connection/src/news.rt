@@ -8,7 +8,7 @@ use plain_point::Kept;
 use segment_codec::PacketRef;
 
 /// What happens to one connection in a turn.
-#[derive(Clone, Copy, Debug)]
+#[derive(Clone, Copy)]
 pub enum News<'a> {
     /// A segment of its client.
     Segment(PacketRef<'a>),

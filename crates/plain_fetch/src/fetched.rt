@@ -13,7 +13,7 @@ use std::alloc::Global;
 use std::marker::Model;
 
 /// An entry without its bytes and lengths.
-#[derive(Clone, Copy, Debug, PartialEq, Eq)]
+#[derive(Clone, Copy, PartialEq, Eq)]
 pub struct EntryHead {
     /// The client's address and port.
     pub key: Key,
@@ -36,7 +36,7 @@ pub struct EntryHead {
 }
 
 /// An entry, as far as it has been fetched. If it is done, only its head is fetched.
-#[derive(Debug, Drop)]
+#[derive(Drop)]
 pub struct PlainFetched {
     pub(crate) head: EntryHead,
     /// The client's bytes, from the first on.
@@ -50,7 +50,7 @@ pub struct PlainFetched {
 }
 
 /// The parts of an entry.
-#[derive(Debug, Drop)]
+#[derive(Drop)]
 pub struct EntryParts {
     pub head: EntryHead,
     /// The client's bytes, from the first on.

@@ -15,7 +15,7 @@ use std::alloc::Global;
 use std::marker::Model;
 
 /// The entries fetched so far, newest first.
-#[derive(Debug, Drop)]
+#[derive(Drop)]
 pub struct PlainFetching {
     pub(crate) entries: Vec<PlainFetched>,
 }

@@ -12,7 +12,7 @@ use std::alloc::Global;
 use std::marker::Model;
 
 /// The bytes that a segment adds to those taken, what is held afterwards, and whether the FIN is taken.
-#[derive(Debug, Drop)]
+#[derive(Drop)]
 pub struct Coming {
     pub added: Vec<u8>,
     pub held: Held,
@@ -172,7 +172,7 @@ impl Coming {
 }
 
 /// A stream before a segment: how many bytes are taken, the receive edge, and whether the FIN is taken.
-#[derive(Clone, Copy, Debug)]
+#[derive(Clone, Copy)]
 pub struct Stream {
     pub taken: u64,
     pub edge: u64,

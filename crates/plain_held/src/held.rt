@@ -12,7 +12,7 @@ use std::marker::Model;
 const MOST_RUNS: usize = 16;
 
 /// Out-of-order data: text after the bytes taken, place by place, and at most one FIN, by its offset in the stream.
-#[derive(Debug, Drop)]
+#[derive(Drop)]
 pub struct Held {
     pub(crate) text: Vec<Option<u8>>,
     pub(crate) fin: Option<u64>,

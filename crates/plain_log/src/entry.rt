@@ -19,7 +19,7 @@ const MOST_BYTES: usize = 1_024;
 const MOST_LENGTHS: usize = 512;
 
 /// The numbers with which a connection is opened.
-#[derive(Clone, Copy, Debug)]
+#[derive(Clone, Copy)]
 pub(crate) struct Numbers {
     /// The client's address and port.
     pub key: Key,
@@ -32,7 +32,7 @@ pub(crate) struct Numbers {
 }
 
 /// A part of a client's stream.
-#[derive(Clone, Copy, Debug)]
+#[derive(Clone, Copy)]
 pub(crate) struct Part<'a> {
     /// The client's address and port.
     pub key: Key,
@@ -47,7 +47,7 @@ pub(crate) struct Part<'a> {
 }
 
 /// The log's entry for one connection. The lengths of its reads are summed as they are logged.
-#[derive(Debug, Drop)]
+#[derive(Drop)]
 pub struct PlainEntry {
     /// The key, the initial sequence numbers and the segment size.
     numbers: Numbers,

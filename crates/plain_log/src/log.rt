@@ -21,7 +21,7 @@ use std::marker::Model;
 const ENTRY_LIMIT: usize = 64;
 
 /// The log of a schedule's run.
-#[derive(Debug, Drop)]
+#[derive(Drop)]
 pub struct PlainLog {
     /// The boot number of the newest server that has sent Hello.
     boot: u64,

@@ -3,7 +3,7 @@
 use ft_io::Addr;
 
 /// One incarnation of a server.
-#[derive(Clone, Copy, Debug)]
+#[derive(Clone, Copy)]
 pub(crate) struct Incarnation {
     /// The kind of its service.
     pub(crate) kind: u8,

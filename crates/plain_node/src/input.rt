@@ -4,7 +4,7 @@ use logger_wire::Msg;
 use segment_codec::PacketRef;
 
 /// One turn's input.
-#[derive(Clone, Copy, Debug)]
+#[derive(Clone, Copy)]
 pub enum Input<'a> {
     /// A segment from a client.
     Packet(PacketRef<'a>),

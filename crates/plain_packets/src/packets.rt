@@ -20,7 +20,7 @@ use std::alloc::Global;
 use std::marker::Model;
 
 /// Packets in the order in which they were sent, numbered from 1.
-#[derive(Debug, Drop)]
+#[derive(Drop)]
 pub struct PlainPackets {
     wires: Vec<PlainWire>,
 }

@@ -7,7 +7,7 @@ use crate::path::Path;
 use std::marker::Model;
 
 /// A packet as bytes, with its sender and its receiver.
-#[derive(Debug, Drop)]
+#[derive(Drop)]
 pub struct PlainWire {
     path: Path,
     bytes: Vec<u8>,

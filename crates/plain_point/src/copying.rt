@@ -13,7 +13,7 @@ use segment_codec::PacketRef;
 use seq_arith::below;
 
 /// A part of the client's stream that is sent to the logger.
-#[derive(Clone, Copy, Debug)]
+#[derive(Clone, Copy)]
 pub struct Data<'a> {
     /// The client's address and port.
     pub key: Key,

@@ -10,7 +10,7 @@ use std::alloc::Global;
 use std::marker::Model;
 
 /// The numbers with which a connection is opened.
-#[derive(Clone, Copy, Debug)]
+#[derive(Clone, Copy)]
 pub struct Numbers {
     /// The client's address and port.
     pub key: Key,
@@ -23,7 +23,7 @@ pub struct Numbers {
 }
 
 /// The point of a live connection. Counts are of bytes or units from the beginning of a stream.
-#[derive(Debug, Drop)]
+#[derive(Drop)]
 pub struct PlainPoint {
     pub(crate) numbers: Numbers,
     /// How many of the client's bytes a restart fetched.

@@ -12,7 +12,7 @@ use segment_codec::PacketRef;
 use std::alloc::Global;
 
 /// What the sender knows after a turn's news: SND.UNA, the right edge with SND.WL1 and SND.WL2, congestion control, and whether the SYN is acknowledged.
-#[derive(Clone, Copy, Debug, PartialEq, Eq)]
+#[derive(Clone, Copy, PartialEq, Eq)]
 pub struct Sending {
     pub una: u64,
     pub edge: u64,
@@ -24,7 +24,7 @@ pub struct Sending {
 
 /// An acknowledgement that is used: the offset that it names, at most what was sent, and the window, raised so that the right edge is where the client put
 /// it.
-#[derive(Clone, Copy, Debug)]
+#[derive(Clone, Copy)]
 pub(crate) struct Acknowledged {
     pub(crate) first: i64,
     pub(crate) acked: u64,

@@ -4,7 +4,7 @@ use checkpoint::MarkMsg;
 use logger_wire::Msg;
 
 /// A message to the logger or from it: one about marks, or any other.
-#[derive(Clone, Copy, Debug)]
+#[derive(Clone, Copy)]
 pub enum AnyMsg<'a> {
     /// Any other message.
     Log(Msg<'a>),

@@ -17,7 +17,7 @@ use std::alloc::Global;
 use std::marker::Model;
 
 /// A server that has started, and asks the logger how many entries it has. In contracts it is its boot number.
-#[derive(Debug, Drop)]
+#[derive(Drop)]
 pub struct Asked {
     /// The server's boot number.
     boot: u64,

@@ -7,7 +7,7 @@ ghost use Rattle.reincarnate.specs.ReadLengths.{may_cut, cut_on, cuts_through, H
 use logger_wire::len_at;
 
 /// How many reads are fetched, how many bytes they took, and whether the closing one, of length 0, is among them.
-#[derive(Clone, Copy, Debug)]
+#[derive(Clone, Copy)]
 pub(crate) struct Cuts {
     /// How many reads are fetched.
     pub count: u32,

@@ -1,7 +1,7 @@
 //! What is missing of an entry.
 
 /// What is asked for next of an entry.
-#[derive(Clone, Copy, Debug, PartialEq, Eq)]
+#[derive(Clone, Copy, PartialEq, Eq)]
 pub(crate) enum Lack {
     /// Bytes of its stream.
     Bytes,

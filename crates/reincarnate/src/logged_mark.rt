@@ -8,7 +8,7 @@ ghost use Rattle.reincarnate.specs.Marking.{mark_value};
 use logger_store::EntryHead;
 
 /// A mark as the log has it: how many reads are below it, how many bytes they took, how much output was made by then, and the form of the service's state.
-#[derive(Clone, Copy, Debug)]
+#[derive(Clone, Copy)]
 pub(crate) struct LoggedMark<'a> {
     /// How many reads are below it, 0 where there is no mark.
     pub reads: u32,

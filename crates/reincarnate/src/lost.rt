@@ -1,7 +1,7 @@
 //! What was lost because an allocation failed.
 
 /// A step of the restart.
-#[derive(Clone, Copy, Debug, PartialEq, Eq)]
+#[derive(Clone, Copy, PartialEq, Eq)]
 pub enum Stage {
     /// The logger was asked how many entries it has.
     Asked,
@@ -10,7 +10,7 @@ pub enum Stage {
 }
 
 /// An allocation failed, and the state of this step was dropped.
-#[derive(Clone, Copy, Debug, PartialEq, Eq)]
+#[derive(Clone, Copy, PartialEq, Eq)]
 pub struct LostIn {
     /// The step whose state was dropped.
     pub stage: Stage,

@@ -8,7 +8,7 @@ ghost use Rattle.reincarnate.specs.Marking.{used_if, awaits, marks_after};
 use logger_wire::Body;
 
 /// Whether a restart asks for marks, and whether it awaits one.
-#[derive(Clone, Copy, Debug)]
+#[derive(Clone, Copy)]
 pub(crate) enum Marks {
     /// It asks for none.
     Unused,

@@ -14,14 +14,14 @@ use std::alloc::AllocError;
 use trace_check::CheckEnd;
 
 /// The exit status of the program.
-#[derive(Clone, Copy, Debug, PartialEq, Eq)]
+#[derive(Clone, Copy, PartialEq, Eq)]
 pub struct Status {
     /// 0 if everything was done, otherwise the number of the reason.
     pub code: u8,
 }
 
 /// The limit that was exceeded.
-#[derive(Clone, Copy, Debug, PartialEq, Eq)]
+#[derive(Clone, Copy, PartialEq, Eq)]
 pub(crate) enum TooMuch {
     Text,
     Events,
@@ -29,7 +29,7 @@ pub(crate) enum TooMuch {
 }
 
 /// Why a run or a check ends early.
-#[derive(Clone, Copy, Debug, PartialEq, Eq)]
+#[derive(Clone, Copy, PartialEq, Eq)]
 pub(crate) enum RunEnd {
     Usage,
     NoMemory,

@@ -8,7 +8,7 @@ use server_trait::{Next, Saved, Service};
 use std::alloc::Global;
 
 /// One of the four services. `fresh` takes kind 1 as Echo, 2 as Line, 3 as Transfer, 4 as Meter, and any other kind as Echo.
-#[derive(Debug, Drop)]
+#[derive(Drop)]
 pub enum AnyService {
     Echo(Echo),
     Line(Line),

@@ -7,7 +7,7 @@ use server_trait::{Next, Saved, Service};
 use std::alloc::Global;
 
 /// The echo service. The output of a chunk is the chunk. It has no state.
-#[derive(Clone, Copy, Debug, PartialEq, Eq)]
+#[derive(Clone, Copy, PartialEq, Eq)]
 pub struct Echo;
 
 impl Service for Echo {

@@ -18,7 +18,7 @@ const LINE_LIMIT: usize = 1_024;
 /// The line service. Its input is split at line feeds, and a line that reaches 1,024 bytes without one ends there. Each line comes back as its number, counted
 /// from 1, a space, its bytes and a line feed. At 2^64 - 1 the number stays. A line that is just `quit` is answered by `bye` and closes. The end of input ends
 /// a line that isn't empty.
-#[derive(Debug, Drop)]
+#[derive(Drop)]
 pub struct Line {
     // The number of the last line that is finished.
     finished: u64,
@@ -35,7 +35,7 @@ impl Model for Line {
 }
 
 /// What the bytes of a chunk do to the held line.
-#[derive(Clone, Copy, Debug, PartialEq, Eq)]
+#[derive(Clone, Copy, PartialEq, Eq)]
 enum Piece {
     /// The line ends with `len` more bytes, and `used` bytes of the chunk are used up.
     Ends { len: usize, used: usize },

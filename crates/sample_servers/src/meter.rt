@@ -8,7 +8,7 @@ use server_trait::{Next, Saved, Service};
 use std::alloc::Global;
 
 /// The service that measures its reads. A chunk that isn't empty gives its length, in decimal, and a line feed. It has no state.
-#[derive(Clone, Copy, Debug, PartialEq, Eq)]
+#[derive(Clone, Copy, PartialEq, Eq)]
 pub struct Meter;
 
 impl Service for Meter {

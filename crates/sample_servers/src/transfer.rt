@@ -16,7 +16,7 @@ const SIZE_LIMIT: u32 = 2_047;
 const PERIOD: u8 = 251;
 
 /// The bytes of an incomplete request.
-#[derive(Clone, Copy, Debug, PartialEq, Eq)]
+#[derive(Clone, Copy, PartialEq, Eq)]
 enum Held {
     Nothing,
     One(u8),
@@ -26,7 +26,7 @@ enum Held {
 
 /// The transfer service. Its input is requests of four bytes, a big-endian number each, and a request gives as many bytes as it says, at most 2,047: byte i of
 /// the whole output is i modulo 251. Request 0 closes. The bytes of an incomplete request are held, and ignored at the end of input.
-#[derive(Debug, Drop)]
+#[derive(Drop)]
 pub struct Transfer {
     // How many bytes are written, modulo 251, and so below it.
     place: u8,

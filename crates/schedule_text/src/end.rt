@@ -22,7 +22,7 @@ pub enum ScheduleEnd {
 }
 
 /// Why a line isn't read.
-#[derive(Clone, Copy, Debug, PartialEq, Eq)]
+#[derive(Clone, Copy, PartialEq, Eq)]
 pub(crate) enum LineEnd {
     NoMemory,
     Refused(LineWhy),

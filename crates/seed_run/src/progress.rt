@@ -15,7 +15,7 @@ use sample_servers::AnyService;
 use std::alloc::Global;
 
 /// The progress of a run: the dice, and the counts over the events that were played.
-#[derive(Clone, Copy, Debug)]
+#[derive(Clone, Copy)]
 pub(crate) struct Progress {
     pub dice: Dice,
     /// Packets sent.

@@ -20,7 +20,7 @@ use seq_arith::Generator;
 use std::alloc::Global;
 
 /// Why a generated run ends without its complete summary.
-#[derive(Clone, Copy, Debug, PartialEq, Eq)]
+#[derive(Clone, Copy, PartialEq, Eq)]
 pub enum SeedEnd {
     /// The arguments aren't `seed SEED CLIENTS EVENTS`.
     Usage,

@@ -17,7 +17,7 @@ mod setting;
 mod writing;
 
 /// A packet whose payload stays in the bytes that it was read from.
-#[derive(Clone, Copy, Debug)]
+#[derive(Clone, Copy)]
 pub struct PacketRef<'a> {
     /// The fields of both headers.
     pub head: Head,

@@ -6,7 +6,7 @@ ghost use Rattle.seq_arith.specs.Checksum.{Summed, word_sum, folded, check_of, n
 use std::marker::Model;
 
 /// The sum of the 16-bit words of a string of bytes that is given in pieces. A piece may end inside a word.
-#[derive(Debug, Drop)]
+#[derive(Drop)]
 pub struct Sum16 {
     total: u32,
     odd: bool,

@@ -4,7 +4,7 @@ ghost use Rattle.std.specs.Prelude.{◌≡◌, ◌<◌, ◌^◌};
 ghost use Rattle.seq_arith.specs.Generator.{stepped, drawn};
 
 /// The linear congruential generator of Knuth's MMIX. A seed is a first state.
-#[derive(Clone, Copy, Debug)]
+#[derive(Clone, Copy)]
 pub struct Generator {
     /// Any 64 bits.
     pub state: u64,

@@ -20,7 +20,7 @@ pub enum BadMsg {
 }
 
 /// The kinds of messages, each with its number on the wire. Those that answer another are listed after what they answer.
-#[derive(Clone, Copy, Debug)]
+#[derive(Clone, Copy)]
 pub enum Kind {
     /// A server has started.
     Hello = 1,
@@ -61,7 +61,7 @@ pub enum Kind {
 }
 
 /// What a number in a message means, which determines its size and its range.
-#[derive(Clone, Copy, Debug)]
+#[derive(Clone, Copy)]
 pub enum Field {
     /// A count of log entries.
     Count,

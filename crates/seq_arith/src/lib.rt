@@ -55,7 +55,7 @@ pub enum BadPacket {
 }
 
 /// A sequence number of TCP, modulo 2^32 (RFC 9293, 3.4).
-#[derive(Clone, Copy, Debug, PartialEq, Eq)]
+#[derive(Clone, Copy, PartialEq, Eq)]
 pub struct Seq(pub u32);
 
 impl Seq {

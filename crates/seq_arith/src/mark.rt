@@ -20,7 +20,7 @@ pub enum BadMark {
 }
 
 /// The kinds of messages about marks, each with its number on the wire.
-#[derive(Clone, Copy, Debug)]
+#[derive(Clone, Copy)]
 pub enum MarkKind {
     /// A service's state to be logged.
     Mark = 1,

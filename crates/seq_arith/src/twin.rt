@@ -1,7 +1,7 @@
 //! The kinds of datagrams between two loggers, and why a string of bytes is none.
 
 /// Why a string of bytes is no datagram between two loggers: the first test of their grammar that it fails, in this order.
-#[derive(Clone, Copy, Debug, PartialEq, Eq)]
+#[derive(Clone, Copy, PartialEq, Eq)]
 pub enum BadTwin {
     /// There are fewer than 16 bytes.
     Short,
@@ -20,7 +20,7 @@ pub enum BadTwin {
 }
 
 /// The kinds of datagrams between two loggers, each with its number on the wire.
-#[derive(Clone, Copy, Debug)]
+#[derive(Clone, Copy)]
 pub enum TwinKind {
     /// From the head to the tail: a server's message, with its number.
     Forward = 1,

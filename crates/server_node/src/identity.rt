@@ -3,7 +3,7 @@
 use ft_io::Addr;
 
 /// What never changes in an incarnation of the server.
-#[derive(Clone, Copy, Debug)]
+#[derive(Clone, Copy)]
 pub(crate) struct Identity {
     /// The boot number, at least 1.
     pub boot: u64,

@@ -7,7 +7,7 @@ use ft_io::NoMemory;
 use thiserror::Error;
 
 /// One turn's input.
-#[derive(Clone, Copy, Debug, Drop)]
+#[derive(Clone, Copy, Drop)]
 pub enum Input<'a> {
     /// A datagram from the clients' side.
     Packet(&'a [u8]),

@@ -11,7 +11,7 @@ use std::alloc::Global;
 use std::marker::Model;
 
 /// The addressee of a packet.
-#[derive(Clone, Copy, Debug, PartialEq, Eq)]
+#[derive(Clone, Copy, PartialEq, Eq)]
 pub enum To {
     /// The client at this address and port.
     Client(Key),
@@ -19,7 +19,7 @@ pub enum To {
 }
 
 /// A packet's bytes, with its addressee.
-#[derive(Debug, Drop)]
+#[derive(Drop)]
 pub struct OutPacket {
     to: To,
     text: Vec<u8>,

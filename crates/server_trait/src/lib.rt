@@ -11,7 +11,7 @@ use std::alloc::Global;
 pub const CHUNK_LIMIT: usize = 2_048;
 
 /// Whether a service continues after a chunk.
-#[derive(Clone, Copy, Debug, PartialEq, Eq)]
+#[derive(Clone, Copy, PartialEq, Eq)]
 pub enum Next {
     /// It waits for the next chunk.
     Go,

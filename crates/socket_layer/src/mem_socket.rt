@@ -7,7 +7,7 @@ use std::alloc::{AllocError, Global};
 use std::marker::Model;
 
 /// A socket in memory: what the peer sent, with the bytes before `at` read, and what was written to the peer, at most 8 bytes.
-#[derive(Debug, Drop)]
+#[derive(Drop)]
 pub struct MemSocket {
     came: Vec<u8>,
     at: usize,

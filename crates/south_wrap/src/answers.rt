@@ -3,7 +3,7 @@
 use seq_arith::Seq;
 
 /// What becomes of a segment from the client.
-#[derive(Clone, Copy, Debug, PartialEq, Eq)]
+#[derive(Clone, Copy, PartialEq, Eq)]
 pub enum Inward {
     /// It is passed to TCP.
     Pass,
@@ -13,7 +13,7 @@ pub enum Inward {
 
 /// The part of a segment that is sent to the logger: text from `offset` of the client's stream on, which is `packet[from..to]`, and whether the client's FIN is
 /// sent with it.
-#[derive(Clone, Copy, Debug, PartialEq, Eq)]
+#[derive(Clone, Copy, PartialEq, Eq)]
 pub struct CopyPart {
     /// Where the text begins in the client's stream, in bytes.
     pub offset: u32,
@@ -26,7 +26,7 @@ pub struct CopyPart {
 }
 
 /// SEG.ACK and SEG.WND of a segment to the client.
-#[derive(Clone, Copy, Debug, PartialEq, Eq)]
+#[derive(Clone, Copy, PartialEq, Eq)]
 pub struct AckOut {
     /// SEG.ACK: a sequence number of the client's stream.
     pub ack: Seq,

@@ -21,7 +21,7 @@ const PACKET_ROOM: usize = 1_100;
 const BYTE_ROOM: usize = 120_000;
 
 /// The packets that a turn sends: at most 1,100, of at most 120,000 bytes in all. In contracts an outbox is the list of its packets.
-#[derive(Debug, Drop)]
+#[derive(Drop)]
 pub struct Outbox {
     /// The bytes of all packets, one packet after another.
     bytes: Vec<u8>,

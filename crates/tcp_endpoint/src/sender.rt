@@ -17,7 +17,7 @@ use std::marker::Model;
 use tcp_buffers::{AckKind, SendQueue, SendState};
 
 /// How an acknowledgement counts for the sender.
-#[derive(Clone, Copy, Debug, PartialEq, Eq)]
+#[derive(Clone, Copy, PartialEq, Eq)]
 pub(crate) enum AckUse {
     /// It is ahead of SND.NXT, and nothing of it is used.
     Ahead,

@@ -8,7 +8,7 @@ use seq_arith::{Generator, Seq};
 use std::marker::Model;
 
 /// Numbers that are drawn from a seed, one after another. The same calls from the same seed give the same numbers.
-#[derive(Debug, Drop)]
+#[derive(Drop)]
 pub struct Draws {
     generator: Generator,
 }

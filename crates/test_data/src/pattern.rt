@@ -11,7 +11,7 @@ use std::alloc::Global;
 const PART_LIMIT: usize = 1_460;
 
 /// A stream whose bytes count up from a first byte, and begin again after a period. Places are numbers modulo 2^32.
-#[derive(Clone, Copy, Debug, PartialEq, Eq)]
+#[derive(Clone, Copy, PartialEq, Eq)]
 pub enum Pattern {
     /// From a to z.
     Letters,

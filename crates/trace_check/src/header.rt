@@ -22,7 +22,7 @@ use server_trait::Service;
 use std::alloc::Global;
 
 /// A header, as far as it is read.
-#[derive(Debug, Drop)]
+#[derive(Drop)]
 pub struct Header {
     /// The schedule that it spells.
     pub schedule: Schedule,

@@ -1,7 +1,7 @@
 //! Which of two loggers is meant, and the sender of a datagram to one of them.
 
 /// One of two loggers.
-#[derive(Clone, Copy, Debug, PartialEq, Eq)]
+#[derive(Clone, Copy, PartialEq, Eq)]
 pub enum Part {
     /// The one that takes the server's messages, numbers them and forwards them.
     Head,
@@ -10,7 +10,7 @@ pub enum Part {
 }
 
 /// The other end of a logger's datagrams.
-#[derive(Clone, Copy, Debug, PartialEq, Eq)]
+#[derive(Clone, Copy, PartialEq, Eq)]
 pub enum Side {
     /// The server.
     Server,

@@ -21,7 +21,7 @@ const PART_OPTIONS: [OptionName; 4] = [
 const ALONE_OPTIONS: [OptionName; 2] = [OptionName::Local, OptionName::To];
 
 /// One of two loggers, which starts with an empty log.
-#[derive(Clone, Copy, Debug)]
+#[derive(Clone, Copy)]
 pub struct PartRole {
     pub logger: LoggerRole,
     pub part: Part,
@@ -30,7 +30,7 @@ pub struct PartRole {
 }
 
 /// A process that informs a logger that the other has stopped.
-#[derive(Clone, Copy, Debug)]
+#[derive(Clone, Copy)]
 pub struct AloneRole {
     pub local: Addr,
     /// The logger that serves alone from now on.
@@ -38,7 +38,7 @@ pub struct AloneRole {
 }
 
 /// The roles that this crate adds: one of two loggers, and the process that informs one of them that it serves alone.
-#[derive(Clone, Copy, Debug)]
+#[derive(Clone, Copy)]
 pub enum TwinRole {
     Logger(PartRole),
     Alone(AloneRole),

@@ -16,7 +16,7 @@ const HOME: &[u8] =
     b"A web server whose answers are made, so that it gives the same ones again after a crash.\n/bytes/N has N bytes, and /count/N has N numbered lines.\n";
 
 /// The status of an answer.
-#[derive(Clone, Copy, Debug, PartialEq, Eq)]
+#[derive(Clone, Copy, PartialEq, Eq)]
 pub enum Status {
     Good,
     BadRequest,
@@ -30,7 +30,7 @@ pub enum Status {
 }
 
 /// A reply that is due.
-#[derive(Clone, Copy, Debug, PartialEq, Eq)]
+#[derive(Clone, Copy, PartialEq, Eq)]
 pub enum Reply {
     /// The answer to a request.
     Answer(Request),

@@ -13,7 +13,7 @@ use std::marker::Model;
 const HEAD_LIMIT: usize = 8_192;
 
 /// What is being read.
-#[derive(Clone, Copy, Debug, PartialEq, Eq)]
+#[derive(Clone, Copy, PartialEq, Eq)]
 pub enum Stage {
     /// A request line.
     RequestLine,
@@ -24,7 +24,7 @@ pub enum Stage {
 }
 
 /// What the end of a line does.
-#[derive(Clone, Copy, Debug, PartialEq, Eq)]
+#[derive(Clone, Copy, PartialEq, Eq)]
 pub struct LineEnd {
     /// What is read next.
     pub stage: Stage,
@@ -35,7 +35,7 @@ pub struct LineEnd {
 }
 
 /// Reads the requests of a connection, a byte at a time.
-#[derive(Debug, Drop)]
+#[derive(Drop)]
 pub struct Reader {
     stage: Stage,
     // The bytes of the unfinished line.

@@ -17,7 +17,7 @@ const LINES_LIMIT: u64 = 100_000;
 const SCHEME: &[u8] = b"http://";
 
 /// What a request asks to do.
-#[derive(Clone, Copy, Debug, PartialEq, Eq)]
+#[derive(Clone, Copy, PartialEq, Eq)]
 pub enum Method {
     Get,
     Head,
@@ -25,7 +25,7 @@ pub enum Method {
 }
 
 /// What a request asks for.
-#[derive(Clone, Copy, Debug, PartialEq, Eq)]
+#[derive(Clone, Copy, PartialEq, Eq)]
 pub enum Page {
     /// The page that describes the server.
     Home,
@@ -38,14 +38,14 @@ pub enum Page {
 }
 
 /// HTTP/1.0 or HTTP/1.1.
-#[derive(Clone, Copy, Debug, PartialEq, Eq)]
+#[derive(Clone, Copy, PartialEq, Eq)]
 pub enum Version {
     Ten,
     Eleven,
 }
 
 /// A request, as far as its fields have been read.
-#[derive(Clone, Copy, Debug, PartialEq, Eq)]
+#[derive(Clone, Copy, PartialEq, Eq)]
 pub struct Request {
     /// What it asks to do.
     pub method: Method,

@@ -18,7 +18,7 @@ use std::marker::Model;
 const ANSWER_ROOM: usize = (1 << 20) - 256;
 
 /// The web server. It answers `GET` and `HEAD`.
-#[derive(Debug, Drop)]
+#[derive(Drop)]
 pub struct Web {
     alloc: Global,
     reader: Reader,

@@ -12,7 +12,7 @@ pub enum ConnStage {
 }
 
 /// What a turn remembers of the connection before it.
-#[derive(Clone, Copy, Debug)]
+#[derive(Clone, Copy)]
 pub(crate) struct Before {
     /// The client's bytes that were taken.
     pub taken: u32,
