@@ -48,25 +48,25 @@ fn put_client(n: u32, phase: Phase, accepted: &[u8], line: &mut LineOut) -> Resu
     ensures ok { OnOk result (line.new.words ≡ line.old.words ++ phase_line n phase accepted.now) }
     ensures before { line.new.before ≡ line.old.before }
 {
-    line.append(b"client")?;
+    line.append_text("client")?;
     put_number(u64::from(n), line)?;
     put_word(phase_word(phase), line)?;
-    put_field(b" accepted ", accepted.len() as u64, line)?;
+    put_field(" accepted ", accepted.len() as u64, line)?;
     put_hex(accepted, line)?;
     line.push(b'\n')
 }
 
 /// Returns the word for a phase.
 #[tactic(auto, unfolding(ft_model::specs::Texts::phase_text))]
-pub fn phase_word(phase: Phase) -> &'static [u8]
+pub fn phase_word(phase: Phase) -> &'static str
     ensures { result.now ≡ phase_text phase }
 {
     match phase {
-        Phase::New => b"new",
-        Phase::Opening => b"opening",
-        Phase::Established => b"open",
-        Phase::Ended => b"ended",
-        Phase::Reset => b"reset",
+        Phase::New => "new",
+        Phase::Opening => "opening",
+        Phase::Established => "open",
+        Phase::Ended => "ended",
+        Phase::Reset => "reset",
     }
 }
 
@@ -87,7 +87,7 @@ fn put_log(entry: &LogLine<'_>, line: &mut LineOut) -> Result<(), NoMemory>
         ≡ line.old.words ++ entry_line entry.now.key entry.now.length entry.now.fin entry.now.acked entry.now.done entry.now.reads.now) }
     ensures before { line.new.before ≡ line.old.before }
 {
-    line.append(b"log")?;
+    line.append_text("log")?;
     put_address(entry.key.ip, entry.key.port, line)?;
     put_counts(entry, line)?;
     put_standing(entry, line)?;
@@ -101,8 +101,8 @@ fn put_standing(entry: &LogLine<'_>, line: &mut LineOut) -> Result<(), NoMemory>
         ≡ line.old.words ++ spaced (codes "done" ∷ bit_text entry.now.done ∷ codes "reads" ∷ list_text entry.now.reads.now ∷ [])) }
     ensures before { line.new.before ≡ line.old.before }
 {
-    put_bit(b" done ", entry.done, line)?;
-    line.append(b" reads")?;
+    put_bit(" done ", entry.done, line)?;
+    line.append_text(" reads")?;
     put_list(entry.reads, line)
 }
 
@@ -114,9 +114,9 @@ fn put_counts(entry: &LogLine<'_>, line: &mut LineOut) -> Result<(), NoMemory>
         ∷ [])) }
     ensures before { line.new.before ≡ line.old.before }
 {
-    put_field(b" length ", u64::from(entry.length), line)?;
-    put_bit(b" fin ", entry.fin, line)?;
-    put_field(b" acked ", u64::from(entry.acked), line)
+    put_field(" length ", u64::from(entry.length), line)?;
+    put_bit(" fin ", entry.fin, line)?;
+    put_field(" acked ", u64::from(entry.acked), line)
 }
 
 /// Writes the last line, with the number of events. After `NoMemory` `out` is unchanged.
@@ -134,7 +134,7 @@ fn put_end(n: u32, line: &mut LineOut) -> Result<(), NoMemory>
     ensures ok { OnOk result (line.new.words ≡ line.old.words ++ end_line n) }
     ensures before { line.new.before ≡ line.old.before }
 {
-    line.append(b"end")?;
+    line.append_text("end")?;
     put_number(u64::from(n), line)?;
     line.push(b'\n')
 }

@@ -25,7 +25,7 @@ fn put_event_line(n: u32, e: &Event, line: &mut LineOut) -> Result<(), NoMemory>
     ensures ok { OnOk result (line.new.words ≡ line.old.words ++ event_line n e.now) }
     ensures before { line.new.before ≡ line.old.before }
 {
-    line.append(b"event")?;
+    line.append_text("event")?;
     put_number(u64::from(n), line)?;
     put_event(e, line)?;
     line.push(b'\n')
@@ -38,36 +38,36 @@ fn put_event(e: &Event, line: &mut LineOut) -> Result<(), NoMemory>
     ensures before { line.new.before ≡ line.old.before }
 {
     match *e {
-        Event::Boot { boot, isn } => put_two(b" boot ", boot, u64::from(isn), line),
-        Event::Crash => put_word(b"crash", line),
-        Event::Tick => put_word(b"tick", line),
-        Event::Deliver { packet } => put_field(b" deliver ", u64::from(packet), line),
-        Event::Flip { packet, bit } => put_two(b" flip ", u64::from(packet), u64::from(bit), line),
+        Event::Boot { boot, isn } => put_two(" boot ", boot, u64::from(isn), line),
+        Event::Crash => put_word("crash", line),
+        Event::Tick => put_word("tick", line),
+        Event::Deliver { packet } => put_field(" deliver ", u64::from(packet), line),
+        Event::Flip { packet, bit } => put_two(" flip ", u64::from(packet), u64::from(bit), line),
         Event::Begin { client, window } => put_two(
-            b" open ",
+            " open ",
             u64::from(client),
             u64::from(window),
             line,
         ),
         Event::Send { client, from, len } => {
-            put_two(b" send ", u64::from(client), u64::from(from), line)?;
+            put_two(" send ", u64::from(client), u64::from(from), line)?;
             put_number(u64::from(len), line)
         }
-        Event::Fin { client } => put_field(b" fin ", u64::from(client), line),
+        Event::Fin { client } => put_field(" fin ", u64::from(client), line),
         Event::Ack { client, window } => put_two(
-            b" ack ",
+            " ack ",
             u64::from(client),
             u64::from(window),
             line,
         ),
-        Event::Reset { client } => put_field(b" reset ", u64::from(client), line),
-        Event::Stop { part } => put_field(b" stop ", u64::from(part), line),
+        Event::Reset { client } => put_field(" reset ", u64::from(client), line),
+        Event::Stop { part } => put_field(" stop ", u64::from(part), line),
     }
 }
 
 /// Appends an event's word with its spaces, and its two numbers.
 #[tactic(auto, using(std::proofs::Common::append_assoc))]
-fn put_two(word: &[u8], first: u64, second: u64, line: &mut LineOut) -> Result<(), NoMemory>
+fn put_two(word: &str, first: u64, second: u64, line: &mut LineOut) -> Result<(), NoMemory>
     ensures ok { OnOk result (line.new.words ≡ line.old.words ++ (word.now ++ (decimal first ++ 32 ∷ decimal second))) }
     ensures before { line.new.before ≡ line.old.before }
 {

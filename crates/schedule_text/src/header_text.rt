@@ -26,7 +26,7 @@ fn put_header(s: &Schedule, line: &mut LineOut) -> Result<(), NoMemory>
     ensures ok { OnOk result (line.new.words ≡ line.old.words ++ header s.now) }
     ensures before { line.new.before ≡ line.old.before }
 {
-    line.append(b"ftreplay 1\nservice")?;
+    line.append_text("ftreplay 1\nservice")?;
     put_word(service_word(s.service), line)?;
     put_server(s.server, line)?;
     put_rest(s.twin, s.marks, s.clients.as_slice(), line)
@@ -38,7 +38,7 @@ fn put_server(server: Addr, line: &mut LineOut) -> Result<(), NoMemory>
     ensures ok { OnOk result (line.new.words ≡ line.old.words ++ (codes "\nserver " ++ (address_text server.ip server.port ++ codes "\n"))) }
     ensures before { line.new.before ≡ line.old.before }
 {
-    line.append(b"\nserver")?;
+    line.append_text("\nserver")?;
     put_address(server.ip, server.port, line)?;
     line.push(b'\n')
 }
@@ -65,7 +65,7 @@ fn put_twin(twin: bool, line: &mut LineOut) -> Result<(), NoMemory>
     ensures before { line.new.before ≡ line.old.before }
 {
     if twin {
-        line.append(b"twin\n")?;
+        line.append_text("twin\n")?;
     }
     Ok(())
 }
@@ -77,7 +77,7 @@ fn put_marks(marks: Option<u32>, line: &mut LineOut) -> Result<(), NoMemory>
     ensures before { line.new.before ≡ line.old.before }
 {
     if let Some(every) = marks {
-        line.append(b"marks")?;
+        line.append_text("marks")?;
         put_number(u64::from(every), line)?;
         line.push(b'\n')?;
     }
@@ -86,14 +86,14 @@ fn put_marks(marks: Option<u32>, line: &mut LineOut) -> Result<(), NoMemory>
 
 /// Returns the name of a service.
 #[tactic(auto, unfolding(ft_model::specs::Texts::service_text))]
-fn service_word(kind: ServiceKind) -> &'static [u8]
+fn service_word(kind: ServiceKind) -> &'static str
     ensures { result.now ≡ service_text kind }
 {
     match kind {
-        ServiceKind::Echo => b"echo",
-        ServiceKind::Line => b"line",
-        ServiceKind::Transfer => b"transfer",
-        ServiceKind::Meter => b"meter",
+        ServiceKind::Echo => "echo",
+        ServiceKind::Line => "line",
+        ServiceKind::Transfer => "transfer",
+        ServiceKind::Meter => "meter",
     }
 }
 
@@ -115,7 +115,7 @@ fn put_client(n: u64, client: &ClientLine, line: &mut LineOut) -> Result<(), NoM
     ensures ok { OnOk result (line.new.words ≡ line.old.words ++ schedule_line n client.now) }
     ensures before { line.new.before ≡ line.old.before }
 {
-    line.append(b"client")?;
+    line.append_text("client")?;
     put_number(n, line)?;
     put_address(client.key.ip, client.key.port, line)?;
     put_number(u64::from(client.isn), line)?;
@@ -132,7 +132,7 @@ fn put_script(script: &Script, line: &mut LineOut) -> Result<(), NoMemory>
     match script {
         Script::Bytes(bytes) => put_bytes(bytes.as_slice(), line),
         Script::Fill { len } => {
-            put_word(b"fill:", line)?;
+            put_word("fill:", line)?;
             put_digits(u64::from(*len), line)
         }
     }
@@ -145,8 +145,8 @@ fn put_bytes(bytes: &[u8], line: &mut LineOut) -> Result<(), NoMemory>
     ensures before { line.new.before ≡ line.old.before }
 {
     if bytes.is_empty() {
-        return put_word(b"-", line);
+        return put_word("-", line);
     }
-    put_word(b"hex:", line)?;
+    put_word("hex:", line)?;
     put_hex_digits(bytes, line)
 }

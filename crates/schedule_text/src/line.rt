@@ -12,7 +12,7 @@ use crate::event_line::{
     end_of, read_client_number, read_event, read_every, read_long_number, word_of,
 };
 use crate::spelling::{NUMBER_DIGITS, read_addr, read_numeral, read_script, read_service};
-use crate::words::next_word;
+use crate::words::{is_text, next_word};
 use ft_io::{Addr, Key};
 use ft_model::{ClientLine, Draft, Keyword, Line, LineWhy, Schedule, ServiceKind, Verb};
 use std::alloc::Global;
@@ -130,27 +130,27 @@ fn read_words(alloc: Global, draft: &Draft, keyword: Keyword, words: &[u8]) -> R
 fn read_verb(word: &[u8]) -> Option<Verb>
     ensures { result ≡ verb_of word.now }
 {
-    if word == b"boot".as_slice() {
+    if is_text(word, "boot") {
         Some(Verb::Boot)
-    } else if word == b"crash".as_slice() {
+    } else if is_text(word, "crash") {
         Some(Verb::Crash)
-    } else if word == b"tick".as_slice() {
+    } else if is_text(word, "tick") {
         Some(Verb::Tick)
-    } else if word == b"deliver".as_slice() {
+    } else if is_text(word, "deliver") {
         Some(Verb::Deliver)
-    } else if word == b"flip".as_slice() {
+    } else if is_text(word, "flip") {
         Some(Verb::Flip)
-    } else if word == b"open".as_slice() {
+    } else if is_text(word, "open") {
         Some(Verb::Open)
-    } else if word == b"send".as_slice() {
+    } else if is_text(word, "send") {
         Some(Verb::Send)
-    } else if word == b"fin".as_slice() {
+    } else if is_text(word, "fin") {
         Some(Verb::Fin)
-    } else if word == b"ack".as_slice() {
+    } else if is_text(word, "ack") {
         Some(Verb::Ack)
-    } else if word == b"reset".as_slice() {
+    } else if is_text(word, "reset") {
         Some(Verb::Reset)
-    } else if word == b"stop".as_slice() {
+    } else if is_text(word, "stop") {
         Some(Verb::Stop)
     } else {
         None
@@ -162,15 +162,15 @@ fn read_verb(word: &[u8]) -> Option<Verb>
 fn read_keyword(word: &[u8]) -> Option<Keyword>
     ensures { result ≡ keyword_of word.now }
 {
-    if word == b"service".as_slice() {
+    if is_text(word, "service") {
         Some(Keyword::Service)
-    } else if word == b"server".as_slice() {
+    } else if is_text(word, "server") {
         Some(Keyword::Server)
-    } else if word == b"twin".as_slice() {
+    } else if is_text(word, "twin") {
         Some(Keyword::Twin)
-    } else if word == b"marks".as_slice() {
+    } else if is_text(word, "marks") {
         Some(Keyword::Marks)
-    } else if word == b"client".as_slice() {
+    } else if is_text(word, "client") {
         Some(Keyword::Client)
     } else {
         Some(Keyword::Event(read_verb(word)?))

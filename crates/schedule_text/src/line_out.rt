@@ -84,4 +84,12 @@ impl LineOut {
         self.bytes.extend_from_slice(bytes)?;
         Ok(())
     }
+    /// Appends a text to the line.
+    #[inline]
+    pub(crate) fn append_text(&mut self, text: &str) -> Result<(), NoMemory>
+        ensures ok { OnOk result (self.new.words ≡ self.old.words ++ text.now) }
+        ensures before { self.new.before ≡ self.old.before }
+    {
+        self.append(text.as_bytes())
+    }
 }

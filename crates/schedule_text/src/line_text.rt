@@ -30,12 +30,12 @@ pub(crate) fn put_digits(n: u64, line: &mut LineOut) -> Result<(), NoMemory>
 
 /// Appends a space and a word.
 #[inline]
-pub(crate) fn put_word(word: &[u8], line: &mut LineOut) -> Result<(), NoMemory>
+pub(crate) fn put_word(word: &str, line: &mut LineOut) -> Result<(), NoMemory>
     ensures ok { OnOk result (line.new.words ≡ line.old.words ++ 32 ∷ word.now) }
     ensures before { line.new.before ≡ line.old.before }
 {
     line.push(b' ')?;
-    line.append(word)
+    line.append_text(word)
 }
 
 /// Appends a space and a number.
@@ -50,22 +50,22 @@ pub(crate) fn put_number(n: u64, line: &mut LineOut) -> Result<(), NoMemory>
 
 /// Appends a field's name with its spaces, and then its number.
 #[inline]
-pub(crate) fn put_field(name: &[u8], n: u64, line: &mut LineOut) -> Result<(), NoMemory>
+pub(crate) fn put_field(name: &str, n: u64, line: &mut LineOut) -> Result<(), NoMemory>
     ensures ok { OnOk result (line.new.words ≡ line.old.words ++ (name.now ++ decimal n)) }
     ensures before { line.new.before ≡ line.old.before }
 {
-    line.append(name)?;
+    line.append_text(name)?;
     put_digits(n, line)
 }
 
 /// Appends a field's name with its spaces, and then 1 or 0.
 #[inline]
 #[tactic(auto, using(std::proofs::Common::append_assoc), unfolding(ft_model::specs::Texts::bit_text))]
-pub(crate) fn put_bit(name: &[u8], bit: bool, line: &mut LineOut) -> Result<(), NoMemory>
+pub(crate) fn put_bit(name: &str, bit: bool, line: &mut LineOut) -> Result<(), NoMemory>
     ensures ok { OnOk result (line.new.words ≡ line.old.words ++ (name.now ++ bit_text bit)) }
     ensures before { line.new.before ≡ line.old.before }
 {
-    line.append(name)?;
+    line.append_text(name)?;
     line.push(if bit { b'1' } else { b'0' })
 }
 
@@ -122,7 +122,7 @@ pub(crate) fn put_list(numbers: &[u16], line: &mut LineOut) -> Result<(), NoMemo
     ensures before { line.new.before ≡ line.old.before }
 {
     let Some((first, others)) = numbers.split_first() else {
-        return put_word(b"-", line);
+        return put_word("-", line);
     };
     put_number(u64::from(*first), line)?;
     put_others(others, line)
@@ -215,8 +215,8 @@ pub(crate) fn put_mss(mss: Option<u16>, line: &mut LineOut) -> Result<(), NoMemo
     ensures before { line.new.before ≡ line.old.before }
 {
     match mss {
-        None => line.append(b" mss -"),
-        Some(mss) => put_field(b" mss ", u64::from(mss), line),
+        None => line.append_text(" mss -"),
+        Some(mss) => put_field(" mss ", u64::from(mss), line),
     }
 }
 
@@ -230,15 +230,15 @@ pub(crate) fn put_way(way: Way, line: &mut LineOut) -> Result<(), NoMemory>
     match way {
         Way::ClientToServer(n) => {
             put_number(u64::from(n), line)?;
-            line.append(b">S")
+            line.append_text(">S")
         }
         Way::ServerToClient(n) => {
-            put_word(b"S>", line)?;
+            put_word("S>", line)?;
             put_digits(u64::from(n), line)
         }
-        Way::ServerToLogger => put_word(b"S>L", line),
-        Way::LoggerToServer => put_word(b"L>S", line),
-        Way::HeadToTail => put_word(b"H>T", line),
-        Way::TailToHead => put_word(b"T>H", line),
+        Way::ServerToLogger => put_word("S>L", line),
+        Way::LoggerToServer => put_word("L>S", line),
+        Way::HeadToTail => put_word("H>T", line),
+        Way::TailToHead => put_word("T>H", line),
     }
 }

@@ -18,19 +18,19 @@ pub(crate) fn put_mark_message(msg: &MarkMsg<'_>, line: &mut LineOut) -> Result<
     ensures before { line.new.before ≡ line.old.before }
 {
     put_word(name(&msg.body), line)?;
-    put_field(b" boot ", msg.boot, line)?;
+    put_field(" boot ", msg.boot, line)?;
     put_fields(&msg.body, line)
 }
 
 /// Returns the name of a kind of message.
-fn name(body: &MarkBody<'_>) -> &'static [u8]
+fn name(body: &MarkBody<'_>) -> &'static str
     ensures { result.now ≡ name_of_mark (body_of body.now) }
 {
     match body {
-        MarkBody::Mark { .. } => b"Mark",
-        MarkBody::Marked { .. } => b"Marked",
-        MarkBody::Ask { .. } => b"Ask",
-        MarkBody::Held { .. } => b"Held",
+        MarkBody::Mark { .. } => "Mark",
+        MarkBody::Marked { .. } => "Marked",
+        MarkBody::Ask { .. } => "Ask",
+        MarkBody::Held { .. } => "Held",
     }
 }
 
@@ -57,7 +57,7 @@ fn put_fields(body: &MarkBody<'_>, line: &mut LineOut) -> Result<(), NoMemory>
         } => put_mark(key, reads, length, made, state, line),
         MarkBody::Marked { key, reads } => {
             put_key(key, line)?;
-            put_field(b" reads ", u64::from(reads), line)
+            put_field(" reads ", u64::from(reads), line)
         }
         MarkBody::Ask { key } => put_key(key, line),
     }
@@ -78,9 +78,9 @@ fn put_mark(
     ensures before { line.new.before ≡ line.old.before }
 {
     put_key(key, line)?;
-    put_field(b" reads ", u64::from(reads), line)?;
-    put_field(b" length ", u64::from(length), line)?;
-    put_field(b" made ", u64::from(made), line)?;
-    line.append(b" state")?;
+    put_field(" reads ", u64::from(reads), line)?;
+    put_field(" length ", u64::from(length), line)?;
+    put_field(" made ", u64::from(made), line)?;
+    line.append_text(" state")?;
     put_hex(state, line)
 }

@@ -19,33 +19,33 @@ pub(crate) fn put_message(msg: &Msg<'_>, line: &mut LineOut) -> Result<(), NoMem
     ensures before { line.new.before ≡ line.old.before }
 {
     put_word(name(&msg.body), line)?;
-    put_field(b" boot ", msg.boot, line)?;
+    put_field(" boot ", msg.boot, line)?;
     put_fields(&msg.body, line)
 }
 
 /// Returns the name of a kind of message.
-fn name(body: &Body<'_>) -> &'static [u8]
+fn name(body: &Body<'_>) -> &'static str
     ensures { result.now ≡ name_of (body_of body.now) }
 {
     match body {
-        Body::HelloMsg => b"Hello",
-        Body::SummaryMsg { .. } => b"Summary",
-        Body::ListMsg { .. } => b"List",
-        Body::EntryMsg { .. } => b"Entry",
-        Body::BytesMsg { .. } => b"Bytes",
-        Body::PartMsg { .. } => b"Part",
-        Body::CutsMsg { .. } => b"Cuts",
-        Body::LensMsg { .. } => b"Lens",
-        Body::OpenMsg { .. } => b"Open",
-        Body::OpenedMsg { .. } => b"Opened",
-        Body::DataMsg { .. } => b"Data",
-        Body::StableMsg { .. } => b"Stable",
-        Body::ReadMsg { .. } => b"Read",
-        Body::ReadsMsg { .. } => b"Reads",
-        Body::DoneMsg { .. } => b"Done",
-        Body::EndedMsg { .. } => b"Ended",
-        Body::StaleMsg { .. } => b"Stale",
-        Body::FullMsg { .. } => b"Full",
+        Body::HelloMsg => "Hello",
+        Body::SummaryMsg { .. } => "Summary",
+        Body::ListMsg { .. } => "List",
+        Body::EntryMsg { .. } => "Entry",
+        Body::BytesMsg { .. } => "Bytes",
+        Body::PartMsg { .. } => "Part",
+        Body::CutsMsg { .. } => "Cuts",
+        Body::LensMsg { .. } => "Lens",
+        Body::OpenMsg { .. } => "Open",
+        Body::OpenedMsg { .. } => "Opened",
+        Body::DataMsg { .. } => "Data",
+        Body::StableMsg { .. } => "Stable",
+        Body::ReadMsg { .. } => "Read",
+        Body::ReadsMsg { .. } => "Reads",
+        Body::DoneMsg { .. } => "Done",
+        Body::EndedMsg { .. } => "Ended",
+        Body::StaleMsg { .. } => "Stale",
+        Body::FullMsg { .. } => "Full",
     }
 }
 
@@ -57,8 +57,8 @@ fn put_fields(body: &Body<'_>, line: &mut LineOut) -> Result<(), NoMemory>
 {
     match *body {
         Body::HelloMsg => Ok(()),
-        Body::SummaryMsg { count } => put_field(b" count ", u64::from(count), line),
-        Body::ListMsg { index } => put_field(b" index ", u64::from(index), line),
+        Body::SummaryMsg { count } => put_field(" count ", u64::from(count), line),
+        Body::ListMsg { index } => put_field(" index ", u64::from(index), line),
         Body::EntryMsg {
             index,
             key,
@@ -71,14 +71,14 @@ fn put_fields(body: &Body<'_>, line: &mut LineOut) -> Result<(), NoMemory>
             reads,
             acked,
         } => {
-            put_field(b" index ", u64::from(index), line)?;
+            put_field(" index ", u64::from(index), line)?;
             put_numbers(key, cisn, sisn, mss, line)?;
-            put_field(b" length ", u64::from(length), line)?;
+            put_field(" length ", u64::from(length), line)?;
             put_standing(fin, done, reads, acked, line)
         }
-        Body::BytesMsg { key, offset } => put_place(key, b" offset ", offset, line),
+        Body::BytesMsg { key, offset } => put_place(key, " offset ", offset, line),
         Body::PartMsg { key, offset, bytes } => put_part(key, offset, bytes, line),
-        Body::CutsMsg { key, first } => put_place(key, b" first ", first, line),
+        Body::CutsMsg { key, first } => put_place(key, " first ", first, line),
         Body::LensMsg { key, first, lens } => put_lens(key, first, lens, line),
         Body::OpenMsg {
             key,
@@ -115,7 +115,7 @@ fn put_fields(body: &Body<'_>, line: &mut LineOut) -> Result<(), NoMemory>
         Body::DoneMsg { key } | Body::EndedMsg { key } | Body::FullMsg { key } => put_key(
             key, line,
         ),
-        Body::StaleMsg { newer } => put_field(b" newer ", newer, line),
+        Body::StaleMsg { newer } => put_field(" newer ", newer, line),
     }
 }
 
@@ -125,13 +125,13 @@ pub(crate) fn put_key(key: Key, line: &mut LineOut) -> Result<(), NoMemory>
     ensures ok { OnOk result (line.new.words ≡ line.old.words ++ spaced (key_words key)) }
     ensures before { line.new.before ≡ line.old.before }
 {
-    line.append(b" key")?;
+    line.append_text(" key")?;
     put_address(key.ip, key.port, line)
 }
 
 /// Appends a key, and a place in what is logged of its connection.
 #[tactic(auto, using(crate::proofs::LineLemmas::line_rules))]
-fn put_place(key: Key, name: &[u8], place: u32, line: &mut LineOut) -> Result<(), NoMemory>
+fn put_place(key: Key, name: &str, place: u32, line: &mut LineOut) -> Result<(), NoMemory>
     ensures ok { OnOk result (line.new.words ≡ line.old.words ++ (spaced (key_words key) ++ (name.now ++ decimal place))) }
     ensures before { line.new.before ≡ line.old.before }
 {
@@ -146,9 +146,9 @@ fn put_numbers(key: Key, cisn: u32, sisn: u32, mss: u16, line: &mut LineOut) -> 
     ensures before { line.new.before ≡ line.old.before }
 {
     put_key(key, line)?;
-    put_field(b" cisn ", u64::from(cisn), line)?;
-    put_field(b" sisn ", u64::from(sisn), line)?;
-    put_field(b" mss ", u64::from(mss), line)
+    put_field(" cisn ", u64::from(cisn), line)?;
+    put_field(" sisn ", u64::from(sisn), line)?;
+    put_field(" mss ", u64::from(mss), line)
 }
 
 /// Appends how much of a connection is logged.
@@ -158,9 +158,9 @@ fn put_kept(key: Key, length: u32, fin: u8, reads: u32, line: &mut LineOut) -> R
     ensures before { line.new.before ≡ line.old.before }
 {
     put_key(key, line)?;
-    put_field(b" length ", u64::from(length), line)?;
-    put_bit(b" fin ", fin == 1, line)?;
-    put_field(b" reads ", u64::from(reads), line)
+    put_field(" length ", u64::from(length), line)?;
+    put_bit(" fin ", fin == 1, line)?;
+    put_field(" reads ", u64::from(reads), line)
 }
 
 /// Appends the state of a logged connection, which follows the number of its bytes.
@@ -177,10 +177,10 @@ fn put_standing(
         ∷ decimal acked ∷ [])) }
     ensures before { line.new.before ≡ line.old.before }
 {
-    put_bit(b" fin ", fin == 1, line)?;
-    put_bit(b" done ", done == 1, line)?;
-    put_field(b" reads ", u64::from(reads), line)?;
-    put_field(b" acked ", u64::from(acked), line)
+    put_bit(" fin ", fin == 1, line)?;
+    put_bit(" done ", done == 1, line)?;
+    put_field(" reads ", u64::from(reads), line)?;
+    put_field(" acked ", u64::from(acked), line)
 }
 
 /// Appends logged bytes.
@@ -190,8 +190,8 @@ fn put_part(key: Key, offset: u32, bytes: &[u8], line: &mut LineOut) -> Result<(
         ≡ line.old.words ++ spaced (codes "key" ∷ key_text key ∷ codes "offset" ∷ decimal offset ∷ codes "bytes" ∷ hex_text bytes.now ∷ [])) }
     ensures before { line.new.before ≡ line.old.before }
 {
-    put_place(key, b" offset ", offset, line)?;
-    line.append(b" bytes")?;
+    put_place(key, " offset ", offset, line)?;
+    line.append_text(" bytes")?;
     put_hex(bytes, line)
 }
 
@@ -214,10 +214,10 @@ fn put_data(
     }))) }
     ensures before { line.new.before ≡ line.old.before }
 {
-    put_place(key, b" offset ", offset, line)?;
-    put_field(b" acked ", u64::from(acked), line)?;
-    put_bit(b" fin ", fin == 1, line)?;
-    line.append(b" bytes")?;
+    put_place(key, " offset ", offset, line)?;
+    put_field(" acked ", u64::from(acked), line)?;
+    put_bit(" fin ", fin == 1, line)?;
+    line.append_text(" bytes")?;
     put_hex(bytes, line)
 }
 
@@ -227,8 +227,8 @@ fn put_read(key: Key, index: u32, length: u16, line: &mut LineOut) -> Result<(),
     ensures ok { OnOk result (line.new.words ≡ line.old.words ++ spaced (read_words key index length)) }
     ensures before { line.new.before ≡ line.old.before }
 {
-    put_place(key, b" index ", index, line)?;
-    put_field(b" length ", u64::from(length), line)
+    put_place(key, " index ", index, line)?;
+    put_field(" length ", u64::from(length), line)
 }
 
 /// Appends the logged lengths of reads.
@@ -238,8 +238,8 @@ fn put_lens(key: Key, first: u32, lens: &[u8], line: &mut LineOut) -> Result<(),
         ≡ line.old.words ++ spaced (codes "key" ∷ key_text key ∷ codes "first" ∷ decimal first ∷ codes "lens" ∷ list_text (lens_in lens.now) ∷ [])) }
     ensures before { line.new.before ≡ line.old.before }
 {
-    put_place(key, b" first ", first, line)?;
-    line.append(b" lens")?;
+    put_place(key, " first ", first, line)?;
+    line.append_text(" lens")?;
     put_lengths(lens, line)
 }
 

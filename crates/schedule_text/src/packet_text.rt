@@ -86,7 +86,7 @@ fn put_start(n: u32, way: Way, line: &mut LineOut) -> Result<(), NoMemory>
     ensures ok { OnOk result (line.new.words ≡ line.old.words ++ (codes "packet" ++ spaced (decimal n ∷ way_text way ∷ []))) }
     ensures before { line.new.before ≡ line.old.before }
 {
-    line.append(b"packet")?;
+    line.append_text("packet")?;
     put_number(u64::from(n), line)?;
     put_way(way, line)
 }
@@ -136,10 +136,10 @@ fn put_told(bytes: &[u8], line: &mut LineOut) -> Result<(), NoMemory>
             let Ok(msg) = read_msg(message) else {
                 unreachable!()
             };
-            put_field(b" Forward number ", number, line)?;
+            put_field(" Forward number ", number, line)?;
             put_message(&msg, line)
         }
-        Ok(TwinMsg::Got { number }) => put_field(b" Got number ", number, line),
+        Ok(TwinMsg::Got { number }) => put_field(" Got number ", number, line),
         _ => unreachable!(),
     }
 }
@@ -151,10 +151,10 @@ fn put_segment(head: &Head, payload: &[u8], line: &mut LineOut) -> Result<(), No
     ensures before { line.new.before ≡ line.old.before }
 {
     put_flags(head.flags, line)?;
-    put_field(b" seq ", u64::from(head.seq.0), line)?;
-    put_field(b" ack ", u64::from(head.ack.0), line)?;
-    put_field(b" window ", u64::from(head.window), line)?;
+    put_field(" seq ", u64::from(head.seq.0), line)?;
+    put_field(" ack ", u64::from(head.ack.0), line)?;
+    put_field(" window ", u64::from(head.window), line)?;
     put_mss(head.mss, line)?;
-    line.append(b" data")?;
+    line.append_text(" data")?;
     put_hex(payload, line)
 }

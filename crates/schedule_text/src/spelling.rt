@@ -7,7 +7,7 @@ ghost use Rattle.std.specs.Char.{digit_value, is_ascii_digit, is_ascii_hexdigit}
 ghost use Rattle.std.specs.Str.Parse.{digits_value};
 ghost use Rattle.ft_model.specs.Spelling.{numeral, within, number_of, short_number_of, octet_of, host_of, addr_of, service_of, script_of, is_hex, hex_bytes};
 
-use crate::words::{last_piece, next_piece};
+use crate::words::{is_text, last_piece, next_piece};
 use ft_io::{Addr, NoMemory, Octets};
 use ft_model::{Script, ServiceKind};
 use std::alloc::Global;
@@ -130,13 +130,13 @@ pub fn read_addr(word: &[u8]) -> Option<Addr>
 pub fn read_service(word: &[u8]) -> Option<ServiceKind>
     ensures { result ≡ service_of word.now }
 {
-    if word == b"echo".as_slice() {
+    if is_text(word, "echo") {
         Some(ServiceKind::Echo)
-    } else if word == b"line".as_slice() {
+    } else if is_text(word, "line") {
         Some(ServiceKind::Line)
-    } else if word == b"transfer".as_slice() {
+    } else if is_text(word, "transfer") {
         Some(ServiceKind::Transfer)
-    } else if word == b"meter".as_slice() {
+    } else if is_text(word, "meter") {
         Some(ServiceKind::Meter)
     } else {
         None
@@ -187,7 +187,7 @@ fn bytes_of_hex(alloc: Global, digits: &[u8]) -> Result<Vec<u8>, NoMemory>
 pub fn read_script(alloc: Global, word: &[u8]) -> Result<Option<Script>, NoMemory>
     ensures { IfOk result (λ script. script ≡ script_of word.now) }
 {
-    if word == b"-".as_slice() {
+    if is_text(word, "-") {
         return Ok(Some(Script::Bytes(Octets::new(Vec::new(alloc)))));
     }
     if word.starts_with(b"hex:") {

@@ -2,6 +2,7 @@
 
 ghost use Rattle.std.specs.Prelude.{◌≡◌, ℕ, List, ◌<◌, ◌≤◌, not, [], ◌∷◌, length, IfSome, MatchOption};
 ghost use Rattle.std.specs.List.{position, position_or_len, slice_split};
+ghost use Rattle.std.specs.Str.{bytes_eq};
 ghost use Rattle.ft_model.specs.Words.{is, lines_of, words_of};
 
 /// Returns the index of the first occurrence of a byte.
@@ -74,4 +75,11 @@ pub(crate) fn next_word(line: &[u8]) -> Option<(&[u8], &[u8])>
 {
     let line = &line[find_word(line)?..];
     Some(line.split_at(position_of(line, b' ')))
+}
+
+/// Returns whether a word is this one.
+pub(crate) fn is_text(word: &[u8], name: &str) -> bool
+    ensures { result ≡ bytes_eq word.now name.now }
+{
+    word == name.as_bytes()
 }
