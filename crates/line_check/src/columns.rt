@@ -62,7 +62,7 @@ fn in_range(limits: Limits, field: Field, n: u64) -> bool
 }
 
 /// Takes a number by its name. Returns whether it fits its field.
-pub(crate) fn number_fits(limits: Limits, field: Field, name: &[u8], words: &mut Words<'_>) -> bool
+pub(crate) fn number_fits(limits: Limits, field: Field, name: &str, words: &mut Words<'_>) -> bool
     ensures value { result ≡ spelled.column_fits limits.boot limits.behind (NumberColumn name.now field) (words_left words.old.rest) }
     ensures rest { words_left words.new.rest ≡ drop 2 (words_left words.old.rest) }
 {
@@ -80,7 +80,7 @@ pub(crate) fn key_fits(words: &mut Words<'_>) -> bool
     ensures value { result ≡ spelled.key_fits (spelled.named (codes "key") (words_left words.old.rest)) }
     ensures rest { words_left words.new.rest ≡ drop 2 (words_left words.old.rest) }
 {
-    match named(b"key", words) {
+    match named("key", words) {
         Some(word) => is_address(word),
         None => false,
     }

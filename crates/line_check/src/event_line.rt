@@ -13,7 +13,7 @@ ghost use Rattle.line_check.specs.Left.{words_left};
 
 use crate::event_words::event_of_words;
 use crate::values::is_numbered;
-use crate::words::{Words, before_feed, next_word, words_of};
+use crate::words::{Words, before_feed, is_text, next_word, words_of};
 use ft_model::Event;
 use itoa::Buffer;
 
@@ -31,7 +31,7 @@ fn event_in_words(n: u32, words: Words<'_>) -> Option<Event>
     let mut words = words;
     let word = next_word(&mut words)?;
     let number = next_word(&mut words)?;
-    if word == b"event".as_slice() && is_numbered(n, number) {
+    if is_text(word, "event") && is_numbered(n, number) {
         event_of_words(words)
     } else {
         None

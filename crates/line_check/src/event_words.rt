@@ -6,7 +6,7 @@ ghost use Rattle.line_check.specs.EventWords as spelled;
 ghost use Rattle.line_check.specs.Left.{words_left};
 
 use crate::values::number_word;
-use crate::words::{Words, next_word};
+use crate::words::{Words, is_text, next_word};
 use ft_model::{Event, Verb};
 
 /// The largest number of 32 bits.
@@ -172,27 +172,27 @@ fn stop_of(words: Words<'_>) -> Option<Event>
 fn verb_named(word: &[u8]) -> Option<Verb>
     ensures { result ≡ spelled.verb_named word.now }
 {
-    if word == b"boot".as_slice() {
+    if is_text(word, "boot") {
         Some(Verb::Boot)
-    } else if word == b"crash".as_slice() {
+    } else if is_text(word, "crash") {
         Some(Verb::Crash)
-    } else if word == b"tick".as_slice() {
+    } else if is_text(word, "tick") {
         Some(Verb::Tick)
-    } else if word == b"deliver".as_slice() {
+    } else if is_text(word, "deliver") {
         Some(Verb::Deliver)
-    } else if word == b"flip".as_slice() {
+    } else if is_text(word, "flip") {
         Some(Verb::Flip)
-    } else if word == b"open".as_slice() {
+    } else if is_text(word, "open") {
         Some(Verb::Open)
-    } else if word == b"send".as_slice() {
+    } else if is_text(word, "send") {
         Some(Verb::Send)
-    } else if word == b"fin".as_slice() {
+    } else if is_text(word, "fin") {
         Some(Verb::Fin)
-    } else if word == b"ack".as_slice() {
+    } else if is_text(word, "ack") {
         Some(Verb::Ack)
-    } else if word == b"reset".as_slice() {
+    } else if is_text(word, "reset") {
         Some(Verb::Reset)
-    } else if word == b"stop".as_slice() {
+    } else if is_text(word, "stop") {
         Some(Verb::Stop)
     } else {
         None

@@ -10,6 +10,7 @@ ghost use Rattle.report_laws.specs.Transitions.Position.{InHeader};
 ghost use Rattle.report_laws.specs.Transitions.Step.{Continues, Rejects};
 ghost use Rattle.line_check.specs.HeaderText as spelled;
 
+use crate::words::is_text;
 use ft_io::NoMemory;
 use ft_model::ServiceKind;
 use schedule_text::{Schedule, ScheduleEnd, read_schedule, write_header};
@@ -32,13 +33,13 @@ pub fn read_service_line(line: &[u8]) -> Option<ServiceKind>
 fn service_in(line: &[u8]) -> Option<ServiceKind>
     ensures { result ≡ spelled.service_in line.now }
 {
-    if line == b"service echo\n".as_slice() {
+    if is_text(line, "service echo\n") {
         Some(ServiceKind::Echo)
-    } else if line == b"service line\n".as_slice() {
+    } else if is_text(line, "service line\n") {
         Some(ServiceKind::Line)
-    } else if line == b"service transfer\n".as_slice() {
+    } else if is_text(line, "service transfer\n") {
         Some(ServiceKind::Transfer)
-    } else if line == b"service meter\n".as_slice() {
+    } else if is_text(line, "service meter\n") {
         Some(ServiceKind::Meter)
     } else {
         None

@@ -9,7 +9,7 @@ ghost use Rattle.line_check.specs.Words.Column.{KeyColumn, NumberColumn};
 
 use crate::columns::{Limits, key_fits, number_fits};
 use crate::values::{byte_count, lens_count, number_word};
-use crate::words::{Words, last_named, next_word, skip};
+use crate::words::{Words, is_text, last_named, next_word, skip};
 use seq_arith::{Field, Kind};
 
 /// Returns the kind that a word names.
@@ -17,41 +17,41 @@ use seq_arith::{Field, Kind};
 fn kind_named(word: &[u8]) -> Option<Kind>
     ensures { result ≡ spelled.kind_named word.now }
 {
-    if word == b"Hello".as_slice() {
+    if is_text(word, "Hello") {
         Some(Kind::Hello)
-    } else if word == b"Summary".as_slice() {
+    } else if is_text(word, "Summary") {
         Some(Kind::Summary)
-    } else if word == b"List".as_slice() {
+    } else if is_text(word, "List") {
         Some(Kind::List)
-    } else if word == b"Entry".as_slice() {
+    } else if is_text(word, "Entry") {
         Some(Kind::Entry)
-    } else if word == b"Bytes".as_slice() {
+    } else if is_text(word, "Bytes") {
         Some(Kind::Bytes)
-    } else if word == b"Part".as_slice() {
+    } else if is_text(word, "Part") {
         Some(Kind::Part)
-    } else if word == b"Cuts".as_slice() {
+    } else if is_text(word, "Cuts") {
         Some(Kind::Cuts)
-    } else if word == b"Lens".as_slice() {
+    } else if is_text(word, "Lens") {
         Some(Kind::Lens)
-    } else if word == b"Open".as_slice() {
+    } else if is_text(word, "Open") {
         Some(Kind::Open)
-    } else if word == b"Opened".as_slice() {
+    } else if is_text(word, "Opened") {
         Some(Kind::Opened)
-    } else if word == b"Data".as_slice() {
+    } else if is_text(word, "Data") {
         Some(Kind::Data)
-    } else if word == b"Stable".as_slice() {
+    } else if is_text(word, "Stable") {
         Some(Kind::Stable)
-    } else if word == b"Read".as_slice() {
+    } else if is_text(word, "Read") {
         Some(Kind::Read)
-    } else if word == b"Reads".as_slice() {
+    } else if is_text(word, "Reads") {
         Some(Kind::Reads)
-    } else if word == b"Done".as_slice() {
+    } else if is_text(word, "Done") {
         Some(Kind::Done)
-    } else if word == b"Ended".as_slice() {
+    } else if is_text(word, "Ended") {
         Some(Kind::Ended)
-    } else if word == b"Stale".as_slice() {
+    } else if is_text(word, "Stale") {
         Some(Kind::Stale)
-    } else if word == b"Full".as_slice() {
+    } else if is_text(word, "Full") {
         Some(Kind::Full)
     } else {
         None
@@ -137,8 +137,8 @@ fn behind_in(kind: Kind, words: Words<'_>) -> Option<usize>
     ensures most { IfSome result (λ n. n < 2 ^ 63) }
 {
     match kind {
-        Kind::Part | Kind::Data => byte_count(last_named(b"bytes", words)?),
-        Kind::Lens => Some(2 * lens_count(last_named(b"lens", words)?)?),
+        Kind::Part | Kind::Data => byte_count(last_named("bytes", words)?),
+        Kind::Lens => Some(2 * lens_count(last_named("lens", words)?)?),
         _ => nothing_more(words),
     }
 }
@@ -157,7 +157,7 @@ fn nothing_more(words: Words<'_>) -> Option<usize>
 
 /// Returns whether the words begin with this name and a number that fits its field.
 #[tactic(auto, using(ft_io::proofs::Booleans::and_true))]
-fn one_fits(limits: Limits, field: Field, name: &[u8], words: Words<'_>) -> bool
+fn one_fits(limits: Limits, field: Field, name: &str, words: Words<'_>) -> bool
     ensures { result ≡ spelled.columns_fit limits.boot limits.behind (NumberColumn name.now field ∷ []) (words_left words.entry.rest) }
 {
     let mut words = words;
@@ -175,7 +175,7 @@ fn key_alone_fits(limits: Limits, words: Words<'_>) -> bool
 
 /// Returns whether the words begin with a key, and then this name and a number that fits its field.
 #[tactic(auto, using(ft_io::proofs::Booleans::and_true))]
-fn key_and_one_fit(limits: Limits, field: Field, name: &[u8], words: Words<'_>) -> bool
+fn key_and_one_fit(limits: Limits, field: Field, name: &str, words: Words<'_>) -> bool
     ensures { result ≡ spelled.columns_fit limits.boot limits.behind (KeyColumn ∷ NumberColumn name.now field ∷ []) (words_left words.entry.rest) }
 {
     let mut words = words;
@@ -189,9 +189,9 @@ fn opening_fits(limits: Limits, words: Words<'_>) -> bool
 {
     let mut words = words;
     key_fits(&mut words)
-        && number_fits(limits, Field::Initial, b"cisn", &mut words)
-        && number_fits(limits, Field::Initial, b"sisn", &mut words)
-        && number_fits(limits, Field::Mss, b"mss", &mut words)
+        && number_fits(limits, Field::Initial, "cisn", &mut words)
+        && number_fits(limits, Field::Initial, "sisn", &mut words)
+        && number_fits(limits, Field::Mss, "mss", &mut words)
 }
 
 /// Returns whether the words begin with how much of a connection is logged.
@@ -201,9 +201,9 @@ fn kept_fits(limits: Limits, words: Words<'_>) -> bool
 {
     let mut words = words;
     key_fits(&mut words)
-        && number_fits(limits, Field::Length, b"length", &mut words)
-        && number_fits(limits, Field::Flag, b"fin", &mut words)
-        && number_fits(limits, Field::Units, b"reads", &mut words)
+        && number_fits(limits, Field::Length, "length", &mut words)
+        && number_fits(limits, Field::Flag, "fin", &mut words)
+        && number_fits(limits, Field::Units, "reads", &mut words)
 }
 
 /// Returns whether the words begin with the fields of a read.
@@ -213,8 +213,8 @@ fn read_fits(limits: Limits, words: Words<'_>) -> bool
 {
     let mut words = words;
     key_fits(&mut words)
-        && number_fits(limits, Field::Units, b"index", &mut words)
-        && number_fits(limits, Field::ReadLength, b"length", &mut words)
+        && number_fits(limits, Field::Units, "index", &mut words)
+        && number_fits(limits, Field::ReadLength, "length", &mut words)
 }
 
 /// Returns whether the words begin with the fields of a Data.
@@ -224,9 +224,9 @@ fn data_fits(limits: Limits, words: Words<'_>) -> bool
 {
     let mut words = words;
     key_fits(&mut words)
-        && number_fits(limits, Field::Offset, b"offset", &mut words)
-        && number_fits(limits, Field::Units, b"acked", &mut words)
-        && number_fits(limits, Field::Flag, b"fin", &mut words)
+        && number_fits(limits, Field::Offset, "offset", &mut words)
+        && number_fits(limits, Field::Units, "acked", &mut words)
+        && number_fits(limits, Field::Flag, "fin", &mut words)
 }
 
 /// Returns whether the words begin with the fields of an entry after the numbers of its connection.
@@ -235,11 +235,11 @@ fn state_fits(limits: Limits, words: Words<'_>) -> bool
     ensures { result ≡ spelled.columns_fit limits.boot limits.behind spelled.state_columns (words_left words.entry.rest) }
 {
     let mut words = words;
-    number_fits(limits, Field::Length, b"length", &mut words)
-        && number_fits(limits, Field::Flag, b"fin", &mut words)
-        && number_fits(limits, Field::Flag, b"done", &mut words)
-        && number_fits(limits, Field::Units, b"reads", &mut words)
-        && number_fits(limits, Field::Units, b"acked", &mut words)
+    number_fits(limits, Field::Length, "length", &mut words)
+        && number_fits(limits, Field::Flag, "fin", &mut words)
+        && number_fits(limits, Field::Flag, "done", &mut words)
+        && number_fits(limits, Field::Units, "reads", &mut words)
+        && number_fits(limits, Field::Units, "acked", &mut words)
 }
 
 /// Returns whether the words begin with the fields of an entry of the log.
@@ -247,11 +247,11 @@ fn entry_fits(limits: Limits, words: Words<'_>) -> bool
     ensures { result ≡ spelled.columns_fit limits.boot limits.behind (spelled.columns_of kinds.Entry) (words_left words.entry.rest) }
 {
     let mut words = words;
-    number_fits(limits, Field::Place, b"index", &mut words)
+    number_fits(limits, Field::Place, "index", &mut words)
         && key_fits(&mut words)
-        && number_fits(limits, Field::Initial, b"cisn", &mut words)
-        && number_fits(limits, Field::Initial, b"sisn", &mut words)
-        && number_fits(limits, Field::Mss, b"mss", &mut words)
+        && number_fits(limits, Field::Initial, "cisn", &mut words)
+        && number_fits(limits, Field::Initial, "sisn", &mut words)
+        && number_fits(limits, Field::Mss, "mss", &mut words)
         && state_fits(limits, words)
 }
 
@@ -261,17 +261,17 @@ fn columns_fit(kind: Kind, limits: Limits, words: Words<'_>) -> bool
 {
     match kind {
         Kind::Hello => true,
-        Kind::Summary => one_fits(limits, Field::Count, b"count", words),
-        Kind::List => one_fits(limits, Field::Place, b"index", words),
+        Kind::Summary => one_fits(limits, Field::Count, "count", words),
+        Kind::List => one_fits(limits, Field::Place, "index", words),
         Kind::Entry => entry_fits(limits, words),
-        Kind::Bytes | Kind::Part => key_and_one_fit(limits, Field::Offset, b"offset", words),
-        Kind::Cuts | Kind::Lens => key_and_one_fit(limits, Field::Units, b"first", words),
+        Kind::Bytes | Kind::Part => key_and_one_fit(limits, Field::Offset, "offset", words),
+        Kind::Cuts | Kind::Lens => key_and_one_fit(limits, Field::Units, "first", words),
         Kind::Open | Kind::Opened => opening_fits(limits, words),
         Kind::Data => data_fits(limits, words),
         Kind::Stable | Kind::Reads => kept_fits(limits, words),
         Kind::Read => read_fits(limits, words),
         Kind::Done | Kind::Ended | Kind::Full => key_alone_fits(limits, words),
-        Kind::Stale => one_fits(limits, Field::Newer, b"newer", words),
+        Kind::Stale => one_fits(limits, Field::Newer, "newer", words),
     }
 }
 
@@ -314,7 +314,7 @@ pub(crate) fn is_message(words: Words<'_>) -> bool
     let Some(number) = next_word(&mut words) else {
         return false;
     };
-    if label != b"boot".as_slice() {
+    if !is_text(label, "boot") {
         return false;
     }
     let Some(kind) = kind_named(name) else {

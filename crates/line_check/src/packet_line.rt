@@ -12,7 +12,7 @@ use crate::direction::Direction;
 use crate::message::is_message;
 use crate::segment::is_segment;
 use crate::values::{is_numbered, number_word};
-use crate::words::{Words, before_feed, next_word, words_of};
+use crate::words::{Words, before_feed, is_text, next_word, words_of};
 use schedule_text::Schedule;
 
 /// The largest number of packets in a report.
@@ -26,14 +26,14 @@ const TO_SERVER_BYTES: usize = 2;
 fn direction_of(word: &[u8]) -> Option<Direction>
     ensures { result ≡ spelled.direction_of word.now }
 {
-    if word == b"S>L".as_slice() || word == b"L>S".as_slice() {
+    if is_text(word, "S>L") || is_text(word, "L>S") {
         return Some(Direction::WithLogger);
     }
     if word.starts_with(b"S>") {
         return Some(Direction::ToClient(number_word(u64::MAX, &word[2..])?));
     }
     let (front, end) = word.split_at(word.len().saturating_sub(TO_SERVER_BYTES));
-    if end != b">S".as_slice() {
+    if !is_text(end, ">S") {
         return None;
     }
     Some(Direction::FromClient(number_word(u64::MAX, front)?))
@@ -73,7 +73,7 @@ fn packet_words_fit(clients: usize, n: u32, words: Words<'_>) -> bool
     let Some(direction) = next_word(&mut words) else {
         return false;
     };
-    if packet != b"packet".as_slice() {
+    if !is_text(packet, "packet") {
         return false;
     }
     is_numbered(n, number) && content_fits(clients, direction_of(direction), words)

@@ -36,10 +36,10 @@ fn text_fits(words: Words<'_>) -> bool
     ensures { result ≡ spelled.text_fits (words_left words.entry.rest) }
 {
     let mut words = words;
-    let Some(size) = named(b"mss", &mut words) else {
+    let Some(size) = named("mss", &mut words) else {
         return false;
     };
-    let Some(bytes) = last_named(b"data", words) else {
+    let Some(bytes) = last_named("data", words) else {
         return false;
     };
     sizes_fit(option_size(size), byte_count(bytes))
@@ -58,8 +58,8 @@ pub(crate) fn is_segment(words: Words<'_>) -> bool
         return false;
     }
     let free = Limits { boot: 0, behind: 0 };
-    number_fits(free, Field::Initial, b"seq", &mut words)
-        && number_fits(free, Field::Initial, b"ack", &mut words)
-        && number_fits(free, Field::Port, b"window", &mut words)
+    number_fits(free, Field::Initial, "seq", &mut words)
+        && number_fits(free, Field::Initial, "ack", &mut words)
+        && number_fits(free, Field::Port, "window", &mut words)
         && text_fits(words)
 }

@@ -5,7 +5,7 @@ ghost use Rattle.std.specs.List.{list_all, slice_split};
 ghost use Rattle.ft_model.specs.Words.{is};
 ghost use Rattle.line_check.specs.Words as spelled;
 
-use crate::words::{last_piece, next_piece};
+use crate::words::{is_text, last_piece, next_piece};
 use itoa::Buffer;
 use schedule_text::read_number;
 
@@ -82,7 +82,7 @@ pub(crate) fn byte_count(word: &[u8]) -> Option<usize>
     ensures value { result ≡ spelled.byte_count word.now }
     ensures most { IfSome result (λ n. n ≤ length word.now) }
 {
-    if word == b"-".as_slice() {
+    if is_text(word, "-") {
         return Some(0);
     }
     if is_hex_word(word) {
@@ -198,7 +198,7 @@ fn are_letters(word: &[u8]) -> bool
 pub(crate) fn are_flags(word: &[u8]) -> bool
     ensures { result ≡ spelled.are_flags word.now }
 {
-    if word == b"-".as_slice() {
+    if is_text(word, "-") {
         return true;
     }
     if word.is_empty() {
@@ -213,7 +213,7 @@ pub(crate) fn option_size(word: &[u8]) -> Option<usize>
     ensures value { result ≡ spelled.option_size word.now }
     ensures most { IfSome result (λ n. n ≤ 4) }
 {
-    if word == b"-".as_slice() {
+    if is_text(word, "-") {
         return Some(0);
     }
     if is_number(65_535, word) {

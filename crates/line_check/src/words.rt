@@ -2,6 +2,7 @@
 
 ghost use Rattle.std.specs.Prelude.{◌≡◌, ℕ, ◌<◌, ◌≤◌, ◌-◌, true, false, None, Some, List, [], ◌∷◌, drop, take, length, IfSome, MatchOption};
 ghost use Rattle.std.specs.List.{position, position_or_len, slice_split};
+ghost use Rattle.std.specs.Str.{bytes_eq};
 ghost use Rattle.ft_model.specs.Words.{is};
 ghost use Rattle.line_check.specs.Words.{ends_with_feed, last_named as last_named_in, named as named_in};
 ghost use Rattle.line_check.specs.Left.{words_left};
@@ -90,7 +91,7 @@ pub(crate) fn before_feed(line: &[u8]) -> Option<&[u8]>
         return None;
     }
     let (front, feed) = line.split_at(line.len() - 1);
-    if feed == b"\n".as_slice() {
+    if is_text(feed, "\n") {
         Some(front)
     } else {
         None
@@ -124,17 +125,21 @@ pub(crate) fn next_word<'a>(words: &mut Words<'a>) -> Option<&'a [u8]>
 
 /// Takes a name and the word after it. Returns the word if the name is this one.
 #[tactic(auto, using(crate::proofs::Taken::dropped))]
-pub(crate) fn named<'a>(name: &[u8], words: &mut Words<'a>) -> Option<&'a [u8]>
+pub(crate) fn named<'a>(name: &str, words: &mut Words<'a>) -> Option<&'a [u8]>
     ensures word { MatchOption result (named_in name.now (words_left words.old.rest) ≡ None) (λ word. named_in name.now (words_left words.old.rest) ≡ Some word.now) }
     ensures rest { words_left words.new.rest ≡ drop 2 (words_left words.old.rest) }
 {
     let label = next_word(words)?;
     let word = next_word(words)?;
-    if label == name { Some(word) } else { None }
+    if is_text(label, name) {
+        Some(word)
+    } else {
+        None
+    }
 }
 
 /// Returns the last of two words, if the first one is this name.
-pub(crate) fn last_named<'a>(name: &[u8], words: Words<'a>) -> Option<&'a [u8]>
+pub(crate) fn last_named<'a>(name: &str, words: Words<'a>) -> Option<&'a [u8]>
     ensures { MatchOption result (last_named_in name.now (words_left words.entry.rest) ≡ None) (λ word. last_named_in name.now (words_left words.entry.rest) ≡ Some word.now) }
 {
     let mut words = words;
@@ -143,5 +148,16 @@ pub(crate) fn last_named<'a>(name: &[u8], words: Words<'a>) -> Option<&'a [u8]>
     if next_word(&mut words).is_some() {
         return None;
     }
-    if label == name { Some(word) } else { None }
+    if is_text(label, name) {
+        Some(word)
+    } else {
+        None
+    }
+}
+
+/// Returns whether a word is this one.
+pub(crate) fn is_text(word: &[u8], name: &str) -> bool
+    ensures { result ≡ bytes_eq word.now name.now }
+{
+    word == name.as_bytes()
 }

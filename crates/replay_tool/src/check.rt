@@ -21,13 +21,13 @@ const REPORT_LIMIT: usize = 268_435_456;
 
 /// Writes a name followed by its number.
 #[tactic(auto, unfolding(crate::specs::Checks::counted))]
-fn write_counted<O: Sink>(out: &mut O, name: &[u8], n: u32) -> Result<(), Failed>
+fn write_counted<O: Sink>(out: &mut O, name: &str, n: u32) -> Result<(), Failed>
     ensures whole { OnOk result (Appends (O.taken out.old) (O.taken out.new) (counted name.now n)) }
     ensures front { OnErr result (WroteFront (O.taken out.old) (O.taken out.new) (counted name.now n)) }
     ensures fault { CountsFailed (O.fault_count out.old) (O.fault_count out.new) result }
 {
     let mut number = Buffer::new();
-    write_both(out, name, number.format(n).as_bytes())
+    write_both(out, name, number.format(n))
 }
 
 /// Writes the number of packets and the end of the line.
@@ -37,8 +37,8 @@ fn write_packets<O: Sink>(out: &mut O, packets: u32) -> Result<(), Failed>
     ensures front { OnErr result (WroteFront (O.taken out.old) (O.taken out.new) (counted (codes " packets ") packets ++ 10 ∷ [])) }
     ensures fault { CountsFailed (O.fault_count out.old) (O.fault_count out.new) result }
 {
-    write_counted(out, b" packets ", packets)?;
-    write_text(out, b"\n")?;
+    write_counted(out, " packets ", packets)?;
+    write_text(out, "\n")?;
     Ok(())
 }
 
@@ -49,7 +49,7 @@ fn write_legal<O: Sink>(out: &mut O, yes: Yes) -> Result<(), Failed>
     ensures front { OnErr result (WroteFront (O.taken out.old) (O.taken out.new) (legal_line yes.events yes.packets)) }
     ensures fault { CountsFailed (O.fault_count out.old) (O.fault_count out.new) result }
 {
-    write_counted(out, b"legal events ", yes.events)?;
+    write_counted(out, "legal events ", yes.events)?;
     write_packets(out, yes.packets)?;
     Ok(())
 }

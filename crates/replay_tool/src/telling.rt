@@ -13,75 +13,75 @@ use ft_model::{EventWhy, LineWhy};
 use itoa::Buffer;
 use report_laws::Law;
 
-fn line_word(why: LineWhy) -> &'static [u8]
+fn line_word(why: LineWhy) -> &'static str
     ensures { result.now ≡ line_lem why }
 {
     match why {
-        LineWhy::Character => b"character",
-        LineWhy::Word => b"word",
-        LineWhy::Place => b"place",
-        LineWhy::Count => b"count",
-        LineWhy::Number => b"number",
-        LineWhy::Address => b"address",
-        LineWhy::Script => b"script",
-        LineWhy::Built => b"built",
+        LineWhy::Character => "character",
+        LineWhy::Word => "word",
+        LineWhy::Place => "place",
+        LineWhy::Count => "count",
+        LineWhy::Number => "number",
+        LineWhy::Address => "address",
+        LineWhy::Script => "script",
+        LineWhy::Built => "built",
     }
 }
 
-fn event_word(why: EventWhy) -> &'static [u8]
+fn event_word(why: EventWhy) -> &'static str
     ensures { result.now ≡ event_lem why }
 {
     match why {
-        EventWhy::Up => b"up",
-        EventWhy::Boot => b"boot",
-        EventWhy::Down => b"down",
-        EventWhy::Packet => b"packet",
-        EventWhy::Bit => b"bit",
-        EventWhy::Stop => b"stop",
-        EventWhy::Client => b"client",
-        EventWhy::State => b"state",
-        EventWhy::Range => b"range",
+        EventWhy::Up => "up",
+        EventWhy::Boot => "boot",
+        EventWhy::Down => "down",
+        EventWhy::Packet => "packet",
+        EventWhy::Bit => "bit",
+        EventWhy::Stop => "stop",
+        EventWhy::Client => "client",
+        EventWhy::State => "state",
+        EventWhy::Range => "range",
     }
 }
 
-fn limit_word(what: TooMuch) -> &'static [u8]
+fn limit_word(what: TooMuch) -> &'static str
     ensures { result.now ≡ limit_lem what }
 {
     match what {
-        TooMuch::Text => b"text",
-        TooMuch::Events => b"events",
-        TooMuch::Packets => b"packets",
+        TooMuch::Text => "text",
+        TooMuch::Events => "events",
+        TooMuch::Packets => "packets",
     }
 }
 
-fn law_word(law: Law) -> &'static [u8]
+fn law_word(law: Law) -> &'static str
     ensures { result.now ≡ law_lem law }
 {
     match law {
-        Law::Client => b"client",
-        Law::Log => b"log",
-        Law::Server => b"server",
-        Law::Packet => b"packet",
-        Law::Text => b"text",
-        Law::Event => b"event",
-        Law::End => b"end",
+        Law::Client => "client",
+        Law::Log => "log",
+        Law::Server => "server",
+        Law::Packet => "packet",
+        Law::Text => "text",
+        Law::Event => "event",
+        Law::End => "end",
     }
 }
 
 /// Writes a text.
 #[tactic(auto, using(crate::proofs::Fronts::front_taken))]
-pub(crate) fn write_text<E: Sink>(err: &mut E, text: &[u8]) -> Result<(), Failed>
+pub(crate) fn write_text<E: Sink>(err: &mut E, text: &str) -> Result<(), Failed>
     ensures whole { OnOk result (Appends (E.taken err.old) (E.taken err.new) text.now) }
     ensures front { OnErr result (WroteFront (E.taken err.old) (E.taken err.new) text.now) }
     ensures fault { CountsFailed (E.fault_count err.old) (E.fault_count err.new) result }
 {
-    write_all(err, text)?;
+    write_all(err, text.as_bytes())?;
     Ok(())
 }
 
 /// Writes two texts, one after the other.
 #[tactic(auto, using(crate::proofs::Fronts::then_whole, crate::proofs::Fronts::then_front, crate::proofs::Fronts::front_then))]
-pub(crate) fn write_both<E: Sink>(err: &mut E, first: &[u8], second: &[u8]) -> Result<(), Failed>
+pub(crate) fn write_both<E: Sink>(err: &mut E, first: &str, second: &str) -> Result<(), Failed>
     ensures whole { OnOk result (Appends (E.taken err.old) (E.taken err.new) (first.now ++ second.now)) }
     ensures front { OnErr result (WroteFront (E.taken err.old) (E.taken err.new) (first.now ++ second.now)) }
     ensures fault { CountsFailed (E.fault_count err.old) (E.fault_count err.new) result }
@@ -93,14 +93,14 @@ pub(crate) fn write_both<E: Sink>(err: &mut E, first: &[u8], second: &[u8]) -> R
 
 /// Writes a name followed by its number, and a word.
 #[tactic(auto, using(crate::proofs::Fronts::then_whole, crate::proofs::Fronts::then_front, crate::proofs::Fronts::front_then), unfolding(crate::specs::ErrText::numbered))]
-fn write_numbered<E: Sink>(err: &mut E, name: &[u8], n: u32, word: &[u8]) -> Result<(), Failed>
+fn write_numbered<E: Sink>(err: &mut E, name: &str, n: u32, word: &str) -> Result<(), Failed>
     ensures whole { OnOk result (Appends (E.taken err.old) (E.taken err.new) (numbered name.now n word.now)) }
     ensures front { OnErr result (WroteFront (E.taken err.old) (E.taken err.new) (numbered name.now n word.now)) }
     ensures fault { CountsFailed (E.fault_count err.old) (E.fault_count err.new) result }
 {
     let mut number = Buffer::new();
-    write_both(err, name, number.format(n).as_bytes())?;
-    write_both(err, b": ", word)?;
+    write_both(err, name, number.format(n))?;
+    write_both(err, ": ", word)?;
     Ok(())
 }
 
@@ -111,14 +111,14 @@ fn write_cause<E: Sink>(err: &mut E, end: RunEnd) -> Result<(), Failed>
     ensures fault { CountsFailed (E.fault_count err.old) (E.fault_count err.new) result }
 {
     match end {
-        RunEnd::Usage => write_text(err, b"usage"),
-        RunEnd::NoMemory => write_text(err, b"no memory"),
-        RunEnd::ReadFault => write_text(err, b"read fault"),
-        RunEnd::WriteFault => write_text(err, b""),
-        RunEnd::BadLine { line, why } => write_numbered(err, b"line ", line, line_word(why)),
-        RunEnd::BadEvent { event, why } => write_numbered(err, b"event ", event, event_word(why)),
-        RunEnd::TooLong(what) => write_both(err, b"too long: ", limit_word(what)),
-        RunEnd::Rejected { line, law } => write_numbered(err, b"line ", line, law_word(law)),
+        RunEnd::Usage => write_text(err, "usage"),
+        RunEnd::NoMemory => write_text(err, "no memory"),
+        RunEnd::ReadFault => write_text(err, "read fault"),
+        RunEnd::WriteFault => write_text(err, ""),
+        RunEnd::BadLine { line, why } => write_numbered(err, "line ", line, line_word(why)),
+        RunEnd::BadEvent { event, why } => write_numbered(err, "event ", event, event_word(why)),
+        RunEnd::TooLong(what) => write_both(err, "too long: ", limit_word(what)),
+        RunEnd::Rejected { line, law } => write_numbered(err, "line ", line, law_word(law)),
     }
 }
 
@@ -130,7 +130,7 @@ fn write_line<E: Sink>(err: &mut E, end: RunEnd) -> Result<(), Failed>
     ensures fault { CountsFailed (E.fault_count err.old) (E.fault_count err.new) result }
 {
     write_cause(err, end)?;
-    write_text(err, b"\n")?;
+    write_text(err, "\n")?;
     Ok(())
 }
 
@@ -141,7 +141,7 @@ fn write_end<E: Sink>(err: &mut E, end: RunEnd) -> Result<(), Failed>
     ensures front { OnErr result (WroteFront (E.taken err.old) (E.taken err.new) (error_line (cause_text end))) }
     ensures fault { CountsFailed (E.fault_count err.old) (E.fault_count err.new) result }
 {
-    write_text(err, b"ftreplay: ")?;
+    write_text(err, "ftreplay: ")?;
     write_line(err, end)?;
     Ok(())
 }

@@ -17,11 +17,11 @@ use schedule_text::phase_word;
 use std::alloc::Global;
 
 /// Appends a text, and a number after it.
-fn put_field(name: &[u8], n: u64, lines: &mut Vec<u8>) -> Result<(), NoMemory>
+fn put_field(name: &str, n: u64, lines: &mut Vec<u8>) -> Result<(), NoMemory>
     ensures { OnOk result (lines.new.items ≡ lines.old.items ++ name.now ++ decimal n) }
 {
     let mut number = Buffer::new();
-    lines.extend_from_slice(name)?;
+    lines.extend_from_slice(name.as_bytes())?;
     lines.extend_from_slice(number.format(n).as_bytes())?;
     Ok(())
 }
@@ -32,12 +32,12 @@ fn put_first(asked: Asked, progress: &Progress, lines: &mut Vec<u8>) -> Result<(
     ensures { OnOk result (lines.new.items
         ≡ lines.old.items ++ first_lem asked.seed asked.clients asked.events progress.now.packets progress.now.boots progress.now.crashes) }
 {
-    put_field(b"seed ", asked.seed, lines)?;
-    put_field(b" clients ", u64::from(asked.clients), lines)?;
-    put_field(b" events ", u64::from(asked.events), lines)?;
-    put_field(b" packets ", u64::from(progress.packets), lines)?;
-    put_field(b" boots ", progress.boots, lines)?;
-    put_field(b" crashes ", progress.crashes, lines)?;
+    put_field("seed ", asked.seed, lines)?;
+    put_field(" clients ", u64::from(asked.clients), lines)?;
+    put_field(" events ", u64::from(asked.events), lines)?;
+    put_field(" packets ", u64::from(progress.packets), lines)?;
+    put_field(" boots ", progress.boots, lines)?;
+    put_field(" crashes ", progress.crashes, lines)?;
     lines.push(b'\n')?;
     Ok(())
 }
@@ -48,11 +48,11 @@ fn put_client(n: u8, client: &Client, total: u32, lines: &mut Vec<u8>) -> Result
     requires { total ≡ length client.now.script }
     ensures { OnOk result (lines.new.items ≡ lines.old.items ++ client_result n client.now) }
 {
-    put_field(b"client ", u64::from(n), lines)?;
+    put_field("client ", u64::from(n), lines)?;
     lines.push(b' ')?;
-    lines.extend_from_slice(phase_word(client.phase()))?;
-    put_field(b" accepted ", client.accepted().len() as u64, lines)?;
-    put_field(b" of ", u64::from(total), lines)?;
+    lines.extend_from_slice(phase_word(client.phase()).as_bytes())?;
+    put_field(" accepted ", client.accepted().len() as u64, lines)?;
+    put_field(" of ", u64::from(total), lines)?;
     lines.push(b'\n')?;
     Ok(())
 }

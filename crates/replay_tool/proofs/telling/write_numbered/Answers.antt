@@ -1,4 +1,4 @@
-use Rattle.std.proofs.Common.{◌∙◌, ◌++◌, subst, codes}
+use Rattle.std.proofs.Common.{◌++◌, subst, codes}
 use Rattle.replay_tool.specs.ErrText.{numbered}
 use Rattle.replay_tool.specs.PartialWrite.{WroteFront}
 use Rattle.replay_tool.proofs.RunEnds.{when_err}
@@ -10,6 +10,6 @@ unfolding numbered
 returns-in_err-write_both-2-clause-front g c =
     when_err c.from_residual-in_err-write_both-2.result c.from_residual-in_err-write_both-2.ensures.1
     (λ end is. (subst (λ digits. WroteFront (g.E.Sink.taken c.args.err.now) (g.E.Sink.taken c.write_both-2.new.err) ((c.args.name.now ++ digits) ++ (codes ": " ++ c.args.word.now)))
-    (c.as_bytes.ensures.value ∙ c.format.ensures.text)
-    (then_front (g.E.Sink.taken c.args.err.now) (g.E.Sink.taken c.write_both.new.err) (g.E.Sink.taken c.write_both-2.new.err) (c.args.name.now ++ c.as_bytes.result.now) (codes ": " ++ c.args.word.now)
+    c.format.ensures.text
+    (then_front (g.E.Sink.taken c.args.err.now) (g.E.Sink.taken c.write_both.new.err) (g.E.Sink.taken c.write_both-2.new.err) (c.args.name.now ++ c.format.result.now) (codes ": " ++ c.args.word.now)
     c.in_ok-write_both.ensures.whole c.in_err-write_both-2.ensures.front)))
