@@ -17,7 +17,7 @@ use kept_log::OpenEnd;
 use node_link::{NodeEnd, Status};
 
 /// How a logger with a journal ends before its turns are done.
-#[derive(Clone, Copy, PartialEq, Eq)]
+#[derive(Clone, Copy)]
 pub enum JournalEnd {
     /// An end that any role may have.
     Node(NodeEnd),

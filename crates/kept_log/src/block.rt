@@ -8,7 +8,7 @@ use journal::{CLOSED, OPEN};
 pub const MOST_BODY: usize = 381_696;
 
 /// What bytes begin with.
-#[derive(Clone, Copy, PartialEq, Eq)]
+#[derive(Clone, Copy)]
 pub enum Start {
     /// A closed gate.
     Closed,

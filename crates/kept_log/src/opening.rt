@@ -19,7 +19,7 @@ use logger_store::LogStore;
 use std::alloc::Global;
 
 /// Why a journal wasn't opened.
-#[derive(Clone, Copy, PartialEq, Eq)]
+#[derive(Clone, Copy)]
 pub enum OpenEnd {
     /// An allocation failed, or the blocks of the file reach beyond 2^62 bytes.
     NoMemory,

@@ -27,7 +27,7 @@ pub const MOST_TORN: usize = 381_701;
 pub const BEYOND: u64 = 1 << 62;
 
 /// What a step took from the beginning of the bytes read.
-#[derive(Clone, Copy, PartialEq, Eq)]
+#[derive(Clone, Copy)]
 pub enum Taken {
     /// A block whose body has this many bytes.
     Block(usize),
@@ -40,7 +40,7 @@ pub enum Taken {
 }
 
 /// Where the blocks end.
-#[derive(Clone, Copy, PartialEq, Eq)]
+#[derive(Clone, Copy)]
 pub enum Reached {
     /// The place of the closed gate.
     Closed(u64),
@@ -49,7 +49,7 @@ pub enum Reached {
 }
 
 /// What was found in a file.
-#[derive(Clone, Copy, PartialEq, Eq)]
+#[derive(Clone, Copy)]
 pub enum Found {
     /// A prefix of the magic, of this many bytes: the creation of the file wasn't completed.
     New(usize),

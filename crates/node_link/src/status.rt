@@ -13,7 +13,7 @@ pub struct Status {
 }
 
 /// How a process ends early.
-#[derive(Clone, Copy, PartialEq, Eq)]
+#[derive(Clone, Copy)]
 pub enum NodeEnd {
     /// The words aren't allowed.
     Usage,

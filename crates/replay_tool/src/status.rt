@@ -29,7 +29,7 @@ pub(crate) enum TooMuch {
 }
 
 /// Why a run or a check ends early.
-#[derive(Clone, Copy, PartialEq, Eq)]
+#[derive(Clone, Copy)]
 pub(crate) enum RunEnd {
     Usage,
     NoMemory,

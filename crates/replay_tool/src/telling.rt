@@ -169,7 +169,7 @@ pub(crate) fn tell<E: Sink>(err: &mut E, end: RunEnd) -> Status
         × WroteFront (E.taken err.old) (E.taken err.new) (text_of end)) }
     ensures untold { end ≡ RunEnd.WriteFault → (err.new ≡ err.old) × (result.code ≡ 5) }
 {
-    if end == RunEnd::WriteFault {
+    if matches!(end, RunEnd::WriteFault) {
         return Status { code: 5 };
     }
     match write_end(err, end) {

@@ -6,7 +6,7 @@ ghost use Rattle.seed_run.specs.Words.{asked as asked_lem};
 use schedule_text::read_number;
 
 /// What a generated run is asked for.
-#[derive(Clone, Copy, PartialEq, Eq)]
+#[derive(Clone, Copy)]
 pub struct Asked {
     /// The initial state of the generator.
     pub seed: u64,

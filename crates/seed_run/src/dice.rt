@@ -22,7 +22,7 @@ const TEXT: u32 = 536;
 pub(crate) const STEP: u32 = 1_000;
 
 /// The server's state, as far as a drawn event depends on it.
-#[derive(Clone, Copy, PartialEq, Eq)]
+#[derive(Clone, Copy)]
 pub struct ServerNow {
     pub is_up: bool,
     /// How many times it has booted, which is also its last boot number.

@@ -17,7 +17,7 @@ pub enum Input<'a> {
 }
 
 /// Why a turn ended the node. It may only be dropped then.
-#[derive(Clone, Copy, Debug, PartialEq, Eq, Error)]
+#[derive(Clone, Copy, Debug, Error)]
 pub enum TurnEnd {
     #[error("out of memory")]
     NoMemory,

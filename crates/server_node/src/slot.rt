@@ -21,7 +21,7 @@ use server_trait::Service;
 use wrapped_conn::Conn;
 
 /// A pending opening: the numbers that the log is asked to keep.
-#[derive(Clone, Copy, PartialEq, Eq)]
+#[derive(Clone, Copy)]
 pub struct Opening {
     /// The client's initial sequence number.
     pub cisn: Seq,

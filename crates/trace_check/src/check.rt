@@ -24,7 +24,7 @@ use server_trait::Service;
 use std::alloc::Global;
 
 /// The counts that a check returns for the report of a legal trace.
-#[derive(Clone, Copy, PartialEq, Eq)]
+#[derive(Clone, Copy)]
 pub struct Yes {
     /// The trace's events.
     pub events: u32,

@@ -3,7 +3,7 @@
 use report_laws::Law;
 
 /// Why a check doesn't accept a text.
-#[derive(Clone, Copy, PartialEq, Eq)]
+#[derive(Clone, Copy)]
 pub enum CheckEnd {
     NoMemory,
     /// The first line that is rejected, counted from 1, and the law that it breaks. The end of the text counts as a line.

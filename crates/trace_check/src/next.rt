@@ -19,7 +19,7 @@ use report_laws::Law;
 use server_trait::Service;
 
 /// An event whose line is read.
-#[derive(Clone, Copy, PartialEq, Eq)]
+#[derive(Clone, Copy)]
 pub struct EventRead {
     pub event: Event,
     /// Where its line ends in the text.

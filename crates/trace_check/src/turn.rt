@@ -24,7 +24,7 @@ use std::alloc::Global;
 const PACKET_LIMIT: usize = 200_000;
 
 /// The packet lines of an event.
-#[derive(Clone, Copy, PartialEq, Eq)]
+#[derive(Clone, Copy)]
 pub struct PacketLines {
     /// Where they end in the text.
     pub end: usize,

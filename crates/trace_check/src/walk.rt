@@ -32,7 +32,7 @@ use std::alloc::Global;
 const EVENT_LIMIT: u32 = 100_000;
 
 /// A place in a report's text.
-#[derive(Clone, Copy, PartialEq, Eq)]
+#[derive(Clone, Copy)]
 pub(crate) struct Place {
     /// How many bytes of the text come before it.
     pub at: usize,

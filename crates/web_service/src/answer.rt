@@ -30,7 +30,7 @@ pub enum Status {
 }
 
 /// A reply that is due.
-#[derive(Clone, Copy, PartialEq, Eq)]
+#[derive(Clone, Copy)]
 pub enum Reply {
     /// The answer to a request.
     Answer(Request),

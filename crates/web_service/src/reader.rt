@@ -13,7 +13,7 @@ use std::marker::Model;
 const HEAD_LIMIT: usize = 8_192;
 
 /// What is being read.
-#[derive(Clone, Copy, PartialEq, Eq)]
+#[derive(Clone, Copy)]
 pub enum Stage {
     /// A request line.
     RequestLine,
@@ -24,7 +24,7 @@ pub enum Stage {
 }
 
 /// What the end of a line does.
-#[derive(Clone, Copy, PartialEq, Eq)]
+#[derive(Clone, Copy)]
 pub struct LineEnd {
     /// What is read next.
     pub stage: Stage,

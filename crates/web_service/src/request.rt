@@ -25,7 +25,7 @@ pub enum Method {
 }
 
 /// What a request asks for.
-#[derive(Clone, Copy, PartialEq, Eq)]
+#[derive(Clone, Copy)]
 pub enum Page {
     /// The page that describes the server.
     Home,
@@ -45,7 +45,7 @@ pub enum Version {
 }
 
 /// A request, as far as its fields have been read.
-#[derive(Clone, Copy, PartialEq, Eq)]
+#[derive(Clone, Copy)]
 pub struct Request {
     /// What it asks to do.
     pub method: Method,

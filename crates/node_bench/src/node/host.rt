@@ -200,7 +200,7 @@ impl Host {
 /// Counts what is sent, and keeps the messages to the log.
 fn count_and_queue(sent: &[OutPacket], letters: &mut Outbox, counts: &mut Counts) {
     for packet in sent {
-        if packet.to() == To::Logger {
+        if matches!(packet.to(), To::Logger) {
             letters.push(packet.bytes());
             counts.messages = counts.messages.saturating_add(1);
         } else {
