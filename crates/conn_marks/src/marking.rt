@@ -6,15 +6,15 @@ ghost use Rattle.seq_arith.specs.MarkGrammar.{IsSpellable};
 ghost use Rattle.server_trait.specs.Service.{machine, AreBytes};
 ghost use Rattle.server_trait.specs.Saved.{writing};
 ghost use Rattle.ft_model.specs.Point.{Point};
-ghost use Rattle.checkpoint.specs.Value.{message_of};
+ghost use Rattle.logger_wire.specs.MarkValue.{message_of};
 ghost use Rattle.mark_laws.specs.Marking.{is_due, with_new, marking_answered};
 ghost use Rattle.wrapped_conn.specs.Sound.{IsSound};
 ghost use Rattle.wrapped_conn.specs.Refinement.{Stands};
 ghost use Rattle.wrapped_conn.proofs.Sendable.{FitsKey};
 ghost use Rattle.conn_marks.specs.Marks.{due_in, is_made, with_due, mark_with, IsTellableMark};
 
-use checkpoint::{MarkBody, MarkMsg};
 use ft_io::{Key, NoMemory};
+use logger_wire::{MarkBody, MarkMsg};
 use mark_laws::marking::quiet_points_are_found;
 use server_trait::{Saved, Service};
 use std::alloc::Global;

@@ -6,16 +6,16 @@ ghost use Rattle.seq_arith.specs.MarkGrammar.{IsSpellable};
 ghost use Rattle.server_trait.specs.Service.{machine, AreBytes};
 ghost use Rattle.server_trait.specs.Saved.{writing};
 ghost use Rattle.ft_model.specs.Point.{Point};
-ghost use Rattle.checkpoint.specs.Value.{message_of};
+ghost use Rattle.logger_wire.specs.MarkValue.{message_of};
 ghost use Rattle.mark_laws.specs.Marking.{with_new, marking_answered};
 ghost use Rattle.wrapped_conn.specs.Sound.{IsSound};
 ghost use Rattle.wrapped_conn.specs.Refinement.{Stands};
 ghost use Rattle.conn_marks.specs.KeyMarks.{marking_in, every_for, Changes};
 
 use crate::marking::Marking;
-use checkpoint::MarkMsg;
 use ft_io::{Key, NoMemory};
 use indexmap::IndexMap;
+use logger_wire::MarkMsg;
 use server_trait::Saved;
 use std::alloc::Global;
 use std::marker::Model;

@@ -60,7 +60,7 @@ impl Tally {
 /// The peer's stream.
 const PEERS: Pattern = Pattern::Letters;
 
-/// The most datagrams that come to one endpoint, and how many of them may find it or leave it CLOSED.
+/// The most datagrams that come to one endpoint. Another replaces it earlier if it is CLOSED after more than `MOST_CLOSED` of them.
 const MOST: u32 = 41;
 
 const MOST_CLOSED: u32 = 3;
@@ -81,8 +81,10 @@ pub(crate) struct Attack {
 /// What is seen of an endpoint.
 fn seen(scene: &Scene) -> Seen {
     let endpoint = &scene.endpoint;
+    let state = endpoint.state();
     Seen {
-        state: endpoint.state(),
+        state: state.name,
+        reset: state.reset,
         sent: endpoint.sent(),
         acked: endpoint.acked(),
         readable: endpoint.readable(),
@@ -93,6 +95,15 @@ fn seen(scene: &Scene) -> Seen {
 /// What is left of the 65,535 bytes from the first unread one on.
 fn window(scene: &Scene) -> u16 {
     65_535 - (scene.endpoint.readable() % 65_536) as u16
+}
+
+/// The flags of a packet.
+pub(crate) fn flags(draws: &mut Draws) -> u8 {
+    match draws.below(6) {
+        0 | 1 => draws.byte(),
+        2 => FIN | ACK,
+        _ => ACK,
+    }
 }
 
 /// Changes one byte.
@@ -167,14 +178,6 @@ impl Attack {
         }
     }
 
-    fn flags(&mut self) -> u8 {
-        match self.draws.below(6) {
-            0 | 1 => self.draws.byte(),
-            2 => FIN | ACK,
-            _ => ACK,
-        }
-    }
-
     fn head(&mut self, scene: &Scene) -> Head {
         let sides = if self.draws.below(2) == 0 { 20 } else { 65_536 };
         let (from, to) = (scene.peer, scene.local);
@@ -185,7 +188,7 @@ impl Attack {
             dport: to.port,
             seq: self.seq(scene),
             ack: self.ack(seen(scene)),
-            flags: self.flags(),
+            flags: flags(&mut self.draws),
             window: self.draws.below(sides) as u16,
             mss: if self.draws.below(2) == 0 {
                 Some(self.draws.below(65_536) as u16)
@@ -262,8 +265,8 @@ impl Attack {
         let resets = resets(before, scene.isn.add(1), self.next(scene), p.head);
         scene.endpoint.on_packet(p);
         let after = seen(scene);
-        let begins = matches!(before.state.name, StateName::Listen | StateName::SynSent);
-        if begins && after.state.name != before.state.name {
+        let begins = matches!(before.state, StateName::Listen | StateName::SynSent);
+        if begins && after.state != before.state {
             scene.peer_isn = p.head.seq;
         }
         check_reset(before, after, resets)?;
@@ -301,7 +304,7 @@ impl Attack {
     fn note_end(&mut self, scene: &Scene) {
         let seen = seen(scene);
         let tally = &mut self.tally;
-        tally.resets = tally.resets.wrapping_add(u32::from(seen.state.reset));
+        tally.resets = tally.resets.wrapping_add(u32::from(seen.reset));
         tally.read = tally.read.wrapping_add(self.read);
         tally.acked = tally.acked.wrapping_add(seen.acked.minus(scene.isn));
     }

@@ -6,28 +6,22 @@ use ft_io::{Addr, NoMemory};
 use segment_codec::read_packet;
 use socket_layer::Socket;
 use std::alloc::{AllocError, Global};
-use tcp_endpoint::{State, StateName};
+use tcp_endpoint::StateName;
 use test_data::{Draws, Pattern};
 
-const CLIENT: Addr = Addr {
+pub(crate) const CLIENT: Addr = Addr {
     ip: 0xC000_0201,
     port: 40_000,
 };
 
-const SERVER: Addr = Addr {
+pub(crate) const SERVER: Addr = Addr {
     ip: 0xC000_0264,
     port: 7,
 };
 
-const LIMIT: u32 = 1 << 24;
+pub(crate) const LIMIT: u32 = 1 << 24;
 
-/// The state in which both must end.
-const CLOSED: State = State {
-    name: StateName::Closed,
-    reset: false,
-};
-
-/// What both users write is part of this stream. The client's text begins at place 0, the server's here.
+/// What both users write is part of this stream. The client's text begins at place 0, the server's at `SERVER_PLACE`.
 const STREAM: Pattern = Pattern::Numbers;
 
 const SERVER_PLACE: u32 = 100;
@@ -92,7 +86,7 @@ impl Side {
         }
     }
 
-    /// The user reads what came. The text that it is to be begins at a place of the stream.
+    /// The user reads what came. It must be the text that begins at this place of the stream.
     fn hear(&mut self, place: u32) {
         let mut buf = [0u8; 300];
         let count = self.scene.endpoint.read(&mut buf).min(300);
@@ -136,7 +130,8 @@ impl Side {
     /// All of the peer's text must have come, and nothing else, and the endpoint must be CLOSED without a reset.
     fn meets(&self, who: &str, peer: &Side, said: &mut String) -> Met {
         let (some, all, state) = (self.read, peer.bytes, self.scene.endpoint.state());
-        if self.is_true && some == all && state == CLOSED {
+        let is_closed = state.name == StateName::Closed && !state.reset;
+        if self.is_true && some == all && is_closed {
             return Ok(());
         }
         let name = state.name;

@@ -2,7 +2,7 @@
 
 use segment_codec::{Head, PacketRef};
 use seq_arith::{ACK, FIN, RST, SYN, Seq, has};
-use tcp_endpoint::{State, StateName};
+use tcp_endpoint::StateName;
 use test_data::Pattern;
 
 /// A SYN with ACK.
@@ -69,14 +69,17 @@ impl Rule {
 /// A rule is kept, or this one is broken.
 pub(crate) type Kept = Result<(), Rule>;
 
-pub(crate) fn require(kept: bool, rule: Rule) -> Kept {
+/// A rule is kept, or this one is broken: one of the rules on endpoints, or of those on clients.
+pub(crate) fn require<R: Copy>(kept: bool, rule: R) -> Result<(), R> {
     if kept { Ok(()) } else { Err(rule) }
 }
 
 /// What is seen of an endpoint from outside.
 #[derive(Clone, Copy, PartialEq, Eq)]
 pub(crate) struct Seen {
-    pub(crate) state: State,
+    pub(crate) state: StateName,
+    /// Whether the peer has reset the connection.
+    pub(crate) reset: bool,
     pub(crate) sent: Seq,
     pub(crate) acked: Seq,
     pub(crate) readable: usize,
@@ -88,9 +91,9 @@ pub(crate) struct Seen {
 pub(crate) struct Known {
     pub(crate) name: StateName,
     pub(crate) sent: Seq,
-    /// The endpoint's initial number.
+    /// The endpoint's initial sequence number.
     pub(crate) isn: Seq,
-    /// The peer's next number, and the receive window.
+    /// The peer's next sequence number, and the receive window.
     pub(crate) next: Seq,
     pub(crate) window: u16,
     /// How many bytes the user has written.
@@ -99,19 +102,19 @@ pub(crate) struct Known {
     pub(crate) count: usize,
 }
 
-/// Whether the peer's FIN is taken in a state that isn't CLOSED.
+/// Whether this is a state other than CLOSED in which the peer's FIN is taken.
 pub(crate) fn is_behind_fin(name: StateName) -> bool {
     use StateName::*;
     matches!(name, CloseWait | Closing | LastAck | TimeWait)
 }
 
-/// The own stream.
+/// The endpoint's own stream.
 pub(crate) const OWN: Pattern = Pattern::Capitals;
 
-/// Whether a segment resets, by RFC 9293, 3.10.7.3 and 3.10.7.4. `first` is the number after the own SYN, `next` the peer's next one.
+/// Whether a segment resets, by RFC 9293, 3.10.7.3 and 3.10.7.4. `first` is the number after the endpoint's SYN, `next` the peer's next one.
 pub(crate) fn resets(before: Seen, first: Seq, next: Seq, head: Head) -> bool {
     let is_rst = has(head.flags, RST);
-    match before.state.name {
+    match before.state {
         StateName::Closed | StateName::Listen => false,
         StateName::SynSent => is_rst && has(head.flags, ACK) && head.ack == first,
         _ => is_rst && head.seq == next,
@@ -120,21 +123,18 @@ pub(crate) fn resets(before: Seen, first: Seq, next: Seq, head: Head) -> bool {
 
 /// A connection is reset where a segment resets, and then it is CLOSED.
 pub(crate) fn check_reset(before: Seen, after: Seen, resets: bool) -> Kept {
-    require(
-        after.state.reset == (before.state.reset || resets),
-        Rule::Reset,
-    )?;
-    let is_closed = after.state.name == StateName::Closed && after.room == 0;
-    require(!after.state.reset || is_closed, Rule::Room)
+    require(after.reset == (before.reset || resets), Rule::Reset)?;
+    let is_closed = after.state == StateName::Closed && after.room == 0;
+    require(!after.reset || is_closed, Rule::Room)
 }
 
-/// Of a segment without ACK, or with SYN or RST, no text is taken, nor after the peer's FIN; and no acknowledgement is used, but of the
-/// SYN that answers the own.
+/// No text is taken from a segment without ACK, or with SYN or RST, or once the peer's FIN is taken. The acknowledgement of a segment without ACK,
+/// or with SYN or RST, isn't used, except in SYN-SENT.
 pub(crate) fn check_used(before: Seen, after: Seen, flags: u8) -> Kept {
     let is_used = flags & (SYN | RST | ACK) == ACK;
-    let may_take = is_used && !is_behind_fin(before.state.name);
+    let may_take = is_used && !is_behind_fin(before.state);
     require(may_take || after.readable == before.readable, Rule::Text)?;
-    let may_use = is_used || before.state.name == StateName::SynSent;
+    let may_use = is_used || before.state == StateName::SynSent;
     require(
         may_use || after.acked == before.acked,
         Rule::Acknowledgement,
@@ -148,7 +148,7 @@ pub(crate) fn check_numbers(before: Seen, after: Seen, ack: Seq) -> Kept {
     let is_sent = after.acked.le(after.sent);
     require(grows && is_told && is_sent, Rule::Numbers)?;
     require(after.readable <= 65_535, Rule::Text)?;
-    if before.state.name != StateName::Closed {
+    if before.state != StateName::Closed {
         return Ok(());
     }
     let readable = after.readable;

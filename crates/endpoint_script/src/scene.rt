@@ -17,7 +17,7 @@ const PEER: Addr = Addr {
     port: 40_000,
 };
 
-/// The peer's initial number where no SYN came.
+/// The peer's initial sequence number where no SYN came.
 const PEER_ISN: Seq = Seq(1_000);
 
 /// Why a step fails.
@@ -51,7 +51,7 @@ pub(crate) struct Scene {
     pub(crate) out: Outbox,
     pub(crate) local: Addr,
     pub(crate) peer: Addr,
-    /// The endpoint's initial number, and the peer's.
+    /// The endpoint's initial sequence number, and the peer's.
     pub(crate) isn: Seq,
     pub(crate) peer_isn: Seq,
     /// How many of the last turn's segments the script has named.
@@ -74,13 +74,23 @@ pub(crate) fn meets(found: u64, wanted: u64, said: &mut String) -> Met {
 
 /// A state must be this one.
 fn meets_state(found: State, wanted: State, said: &mut String) -> Met {
-    if found == wanted {
+    if found.name == wanted.name && found.reset == wanted.reset {
         return Ok(());
     }
     let reset = if found.reset { ", reset" } else { "" };
     let name = found.name;
     write!(said, "{name:?}{reset}")?;
     Err(Miss::Differs)
+}
+
+/// Whether two packets have the same headers.
+fn is_same_head(a: Head, b: Head) -> bool {
+    let same_addresses = a.src == b.src
+        && a.dst == b.dst
+        && a.sport == b.sport
+        && a.dport == b.dport;
+    let same_numbers = a.seq == b.seq && a.ack == b.ack && a.window == b.window;
+    same_addresses && same_numbers && a.flags == b.flags && a.mss == b.mss
 }
 
 impl Segment<'_> {
@@ -254,7 +264,7 @@ impl Scene {
             return false;
         }
         match read_packet(self.out.packet(self.told)) {
-            Ok(p) => p.head == wanted && p.payload == self.text.as_slice(),
+            Ok(p) => is_same_head(p.head, wanted) && p.payload == self.text.as_slice(),
             Err(_) => false,
         }
     }

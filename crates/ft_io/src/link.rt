@@ -10,7 +10,7 @@ ghost use Rattle.ft_io.specs.Link.{bind_told, send_told, recv_told, HasAtMost};
 use crate::{Addr, Failed};
 
 /// What a receive returned.
-#[derive(Clone, Copy, PartialEq, Eq)]
+#[derive(Clone, Copy)]
 pub enum Heard {
     /// The first `len` bytes of a datagram from `from`.
     Got { len: usize, from: Addr },

@@ -1,7 +1,7 @@
 //! The events of a schedule, and why one may not happen.
 
 /// One turn of one actor. Clients are numbered from 1 in the schedule's order, and packets from 1 over the whole run.
-#[derive(Clone, Copy, PartialEq, Eq)]
+#[derive(Clone, Copy)]
 pub enum Event {
     /// The server starts, with its boot number and the initial number of its first connection.
     Boot { boot: u64, isn: u32 },

@@ -22,7 +22,7 @@ pub enum Verb {
 }
 
 /// The first word of a line, which names the kind of line.
-#[derive(Clone, Copy, PartialEq, Eq)]
+#[derive(Clone, Copy)]
 pub enum Keyword {
     Service,
     Server,

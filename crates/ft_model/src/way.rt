@@ -1,7 +1,7 @@
 //! The direction of a packet.
 
 /// A packet's sender and receiver. Clients are numbered from 1.
-#[derive(Clone, Copy, PartialEq, Eq)]
+#[derive(Clone, Copy)]
 pub enum Way {
     ClientToServer(u8),
     ServerToClient(u8),

@@ -23,7 +23,7 @@ pub fn bind_somewhere<L: Link>(link: &mut L) -> Option<Addr> {
 fn await_datagram<L: Link>(link: &mut L, buf: &mut [u8; 2048]) -> Result<Heard, Failed> {
     for _ in 0..8 {
         let heard = link.recv(buf);
-        if heard != Ok(Heard::Nothing) {
+        if !matches!(heard, Ok(Heard::Nothing)) {
             return heard;
         }
     }
@@ -47,14 +47,14 @@ fn send_round<L: Link>(link: &mut L, here: Addr, text: &[u8], said: &mut Said) {
 }
 
 /// Datagrams of 5, 0, 2,048 and 3,000 bytes to itself, and a receive in silence; then another link asks for the same address, and sends. Says what each
-/// answered, and how many faults there were besides binds to other ports.
+/// returned, and how many faults there were besides binds to other ports.
 fn say_rounds<L: Link>(link: &mut L, second: &mut L, here: Addr, said: &mut Said) {
     let others = link.bind_faults();
     for text in [b"hello".as_slice(), b"", &[7; 2048], &[9; 3000]] {
         send_round(link, here, text, said);
     }
     let mut buf = [0u8; 2048];
-    let silent = link.recv(&mut buf) == Ok(Heard::Nothing);
+    let silent = matches!(link.recv(&mut buf), Ok(Heard::Nothing));
     said.word(if silent { b"silent" } else { b"not silent" });
     said.count(link.faults().saturating_sub(others));
     said.outcome(second.bind(here));

@@ -38,7 +38,7 @@ fn say_at_times<L: Link, M: Link>(link: &mut L, stranger: &mut M, times: &str, s
 
 /// A bind at the first of the listed times, in milliseconds, and a receive at each later one, `-` for a clock that can't be read.
 /// Before each receive a datagram is sent to the link, so that something always comes: by the link itself where `+` follows the time,
-/// and else by a stranger. Says what each receive answered, and the count of faults.
+/// and else by a stranger. Says what each receive returned, and the count of faults.
 pub fn by_the_list<R: Net + Clock>(
     system: &R,
     alloc: Global,
@@ -93,7 +93,7 @@ fn silent_millis<C: Clock, L: Link>(clock: &C, link: &mut L) -> io::Result<Optio
     let begun = Instant::now(clock)?;
     let heard = link.recv(&mut buf);
     let millis = begun.elapsed(clock)?.as_millis();
-    Ok(if heard == Ok(Heard::Nothing) {
+    Ok(if matches!(heard, Ok(Heard::Nothing)) {
         Some(millis)
     } else {
         None

@@ -5,10 +5,9 @@ ghost use Rattle.logger_wire.specs.Value.{IsSendable};
 
 use crate::KEY;
 use anyhow::{Context, Result, bail, ensure};
-use checkpoint::{MarkBody, MarkMsg, write_mark};
 use ft_io::NoMemory;
 use logger_store::MsgOut;
-use logger_wire::{Body, Msg, write_msg};
+use logger_wire::{Body, MarkBody, MarkMsg, Msg, write_mark, write_msg};
 use mark_store::MarkStore;
 use std::alloc::Global;
 use std::time::{Clock, Instant};

@@ -1,9 +1,9 @@
 //! The lines that play a log with marks.
 
 use crate::{tell, tell_answer};
-use checkpoint::{MarkBody, MarkMsg, write_mark};
 use ft_io::{Key, NoMemory};
 use logger_store::MsgOut;
+use logger_wire::{MarkBody, MarkMsg, write_mark};
 use mark_store::MarkStore;
 use std::alloc::Global;
 use test_data::bytes_of_word;

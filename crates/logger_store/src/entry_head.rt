@@ -3,7 +3,7 @@
 use ft_io::Key;
 
 /// An entry without its bytes and lengths.
-#[derive(Clone, Copy, PartialEq, Eq)]
+#[derive(Clone, Copy)]
 pub struct EntryHead {
     /// The client's address and port.
     pub key: Key,

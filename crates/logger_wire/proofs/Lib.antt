@@ -5,3 +5,6 @@ pub mod Sendable
 pub mod Placing
 pub mod Putting
 pub mod OneSpelling
+pub mod MarkRead
+pub mod MarkSpelled
+pub mod TwinSpelled

@@ -2,3 +2,7 @@ pub mod Value
 pub mod Places
 pub mod Records
 pub mod Spelling
+pub mod MarkSpelling
+pub mod MarkValue
+pub mod TwinHeader
+pub mod TwinValue

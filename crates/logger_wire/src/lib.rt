@@ -1,5 +1,5 @@
-//! Reading and writing messages between server and logger as bytes. The message grammar of `seq_arith` defines what a string of bytes says, or with which
-//! error it is refused. Nothing here allocates.
+//! Reading and writing messages between server and logger as bytes; in `mark` the messages about marks, and in `twin` the datagrams between two loggers. The
+//! grammars of `seq_arith` define what a string of bytes says, or with which error it is refused. Nothing here allocates.
 #![tactic(auto)]
 
 ghost use Rattle.std.specs.Prelude.{◌≡◌, ◌+◌, ◌*◌, ◌<◌, length, slice_index};
@@ -7,15 +7,19 @@ ghost use Rattle.seq_arith.specs.MessageGrammar.{lens_in};
 
 use byteorder::{BigEndian, ByteOrder};
 use ft_io::Key;
+pub use mark::{MarkBody, MarkMsg, read_mark, write_mark};
 pub use reading::{checksum_of, read_msg, word_at};
-pub use seq_arith::BadMsg;
+pub use seq_arith::{BadMark, BadMsg, BadTwin};
+pub use twin::{TwinMsg, read_twin, write_twin};
 pub use writing::{checksum_of_both, put_msg, write_msg};
 
 mod fields;
 mod layout;
+mod mark;
 mod places;
 mod reading;
 mod records;
+mod twin;
 mod writing;
 
 /// A message, with the boot number of the server that sends it or that it answers.

@@ -3,8 +3,8 @@
 ghost use Rattle.std.specs.Prelude.{◌≤◌, ◌<◌};
 
 use crate::{count_and_seed, tell, tell_bytes};
-use checkpoint::{BadMark, MarkBody, MarkMsg, read_mark, write_mark};
 use ft_io::{Key, NoMemory};
+use logger_wire::{BadMark, MarkBody, MarkMsg, read_mark, write_mark};
 use seq_arith::{Sum16, flip};
 use std::alloc::Global;
 use test_data::{Draws, bytes_of_word, hashed};

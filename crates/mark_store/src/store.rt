@@ -4,7 +4,7 @@ ghost use Rattle.std.specs.Prelude.{[], ◌≡◌, ◌≤◌, ◌<◌, ◌+◌, 
 ghost use Rattle.std.specs.Option.{option_map_or};
 ghost use Rattle.seq_arith.specs.Mark.MarkBody.{MarkMsg as Marking, AskMsg};
 ghost use Rattle.seq_arith.specs.MarkGrammar.{IsSpellable};
-ghost use Rattle.checkpoint.specs.Value.{body_of, message_of};
+ghost use Rattle.logger_wire.specs.MarkValue.{body_of, message_of};
 ghost use Rattle.ft_model.specs.Log.{head_of};
 ghost use Rattle.logger_store.specs.StoreState.{bytes_of, head_value};
 ghost use Rattle.logger_store.specs.Trim.{trim_at, MayTrim};
@@ -18,10 +18,9 @@ ghost use Rattle.mark_store.specs.Refinement.{IsLeftOfMarked, mark_at};
 
 use crate::kept_mark::{KeptMark, NewMark};
 use crate::telling::{tell_held, tell_marked, tell_stale};
-use checkpoint::{MarkBody, MarkMsg, read_mark};
 use ft_io::{Key, NoMemory};
 use logger_store::{EntryHead, MsgOut, TrimStore};
-use logger_wire::read_msg;
+use logger_wire::{MarkBody, MarkMsg, read_mark, read_msg};
 use std::alloc::Global;
 use std::marker::Model;
 

@@ -4,17 +4,16 @@ ghost use Rattle.std.specs.Prelude.{◌≡◌, ◌≤◌, ◌<◌, ◌+◌, ◌^
 ghost use Rattle.seq_arith.specs.Mark.MarkBody.{MarkedMsg, HeldMsg};
 ghost use Rattle.seq_arith.specs.Message.Body.{StaleMsg};
 ghost use Rattle.seq_arith.specs.MarkGrammar.{IsSpellable, spelling};
-ghost use Rattle.checkpoint.specs.Value.{message_of};
+ghost use Rattle.logger_wire.specs.MarkValue.{message_of};
 ghost use Rattle.logger_store.specs.StoreState.{answer_bytes};
 ghost use Rattle.mark_laws.specs.MarkedLog.{about_mark};
 ghost use Rattle.mark_store.specs.Bytes.{reply_bytes};
 ghost use Rattle.mark_store.specs.New.{mark_value};
 
 use crate::kept_mark::NewMark;
-use checkpoint::{MarkBody, MarkMsg, write_mark};
 use ft_io::Key;
 use logger_store::MsgOut;
-use logger_wire::{Body, Msg};
+use logger_wire::{Body, MarkBody, MarkMsg, Msg, write_mark};
 
 /// Replaces the content by a message about marks.
 fn put_mark(m: &MarkMsg<'_>, out: &mut MsgOut)

@@ -10,9 +10,9 @@ use Rattle.seq_arith.specs.Mark.{Mark, MarkBody, MarkMessage}
 use Rattle.seq_arith.specs.Mark.MarkBody.{MarkMsg, MarkedMsg, AskMsg, HeldMsg}
 use Rattle.seq_arith.specs.Message.Body.{DataMsg}
 use Rattle.std.specs.Borrow.{Bor}
-use Rattle.checkpoint.specs.Value.{body_of}
-use Rattle.checkpoint.specs.declared.mark_msg.MarkBody.{MarkBody as Told}
-use Rattle.checkpoint.specs.declared.mark_msg.MarkBody.TheVariants as told
+use Rattle.logger_wire.specs.MarkValue.{body_of}
+use Rattle.logger_wire.specs.declared.mark.mark_msg.MarkBody.{MarkBody as Told}
+use Rattle.logger_wire.specs.declared.mark.mark_msg.MarkBody.TheVariants as told
 use Rattle.ft_model.specs.Log.{Log, Entry, entry_of, with_entry, with_part, log_after}
 use Rattle.ft_model.specs.Keys.{AreDistinct, has_key}
 use Rattle.ft_model.proofs.Lists.{none_is_some, some_is, same_key}

@@ -7,7 +7,7 @@ ghost use Rattle.logger_wire.specs.Value.{message_of, IsSendable};
 ghost use Rattle.mark_laws.specs.MarkedLog.{MarkedLog as LogWithMarks, nothing_logged};
 ghost use Rattle.mark_store.specs.Refinement.{IsLeftOfMarked};
 ghost use Rattle.seq_arith.specs.MarkGrammar.{IsSpellable};
-ghost use Rattle.checkpoint.specs.Value.{message_of as mark_message_of};
+ghost use Rattle.logger_wire.specs.MarkValue.{message_of as mark_message_of};
 ghost use Rattle.ft_model.specs.declared.way.Way.TheVariants.{ServerToLogger};
 ghost use Rattle.mark_laws.specs.MarkedLog.{after_mark};
 ghost use Rattle.mark_store.specs.Bytes.{after_bytes};
@@ -15,11 +15,10 @@ ghost use Rattle.net_schedule.specs.Journal.{AreAt, MarksHear, Notes, no_bytes};
 
 use crate::packets::Packets;
 use crate::sending::keep_answer;
-use checkpoint::{MarkBody, MarkMsg, read_mark};
 use ft_io::{Key, NoMemory};
 use ft_model::Way;
 use logger_store::{LogStore, MsgOut};
-use logger_wire::{Body, Msg, read_msg};
+use logger_wire::{Body, MarkBody, MarkMsg, Msg, read_mark, read_msg};
 use mark_store::MarkStore;
 use std::alloc::Global;
 use std::marker::Model;
@@ -157,7 +156,7 @@ impl MarkedLog {
     ) -> Result<(), NoMemory>
         ensures { OnOk result (MarksHear way bytes.now (self.old, packets.old) (self.new, packets.new)) }
     {
-        if way == Way::ServerToLogger {
+        if matches!(way, Way::ServerToLogger) {
             return self.read(alloc, bytes, packets);
         }
         Ok(())

@@ -83,7 +83,7 @@ impl OnlyLogger {
     ) -> Result<(), NoMemory>
         ensures { OnOk result ((self.new, packets.new) ≡ log_hears way bytes.now (self.old, packets.old)) }
     {
-        if way == Way::ServerToLogger {
+        if matches!(way, Way::ServerToLogger) {
             return self.read(alloc, bytes, packets);
         }
         Ok(())

@@ -1,14 +1,13 @@
 //! The log, which takes and gives datagrams.
 
 ghost use Rattle.seq_arith.specs.MarkGrammar.{IsSpellable};
-ghost use Rattle.checkpoint.specs.Value.{message_of};
+ghost use Rattle.logger_wire.specs.MarkValue.{message_of};
 ghost use Rattle.logger_wire.specs.Value.{IsSendable};
 ghost use Rattle.reincarnate.specs.Marking.{IsAnySendable};
 
-use checkpoint::{MarkMsg, write_mark};
 use ft_io::{Key, NoMemory};
 use logger_store::{LogStore, MsgOut};
-use logger_wire::{Body, Msg, read_msg, write_msg};
+use logger_wire::{Body, MarkMsg, Msg, read_msg, write_mark, write_msg};
 use mark_store::MarkStore;
 use reincarnate::AnyMsg;
 use seq_arith::Seq;

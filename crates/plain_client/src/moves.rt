@@ -8,7 +8,7 @@ use ft_model::Event;
 use seq_arith::{ACK, FIN, RST, SYN};
 
 /// A move of a scripted client. Text has an offset in the script and a length, in bytes.
-#[derive(Clone, Copy, PartialEq, Eq)]
+#[derive(Clone, Copy)]
 pub enum Move {
     /// The SYN.
     Syn,

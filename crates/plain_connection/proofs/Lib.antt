@@ -1,4 +1,5 @@
 pub mod Copies
+pub mod Ends
 pub mod Noting
 pub mod OneRead
 pub mod Opened

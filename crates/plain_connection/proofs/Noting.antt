@@ -1,7 +1,7 @@
 -- A connection is served as before once the news are noted: more bytes change nothing of what was read.
 use Rattle.std.proofs.Common.{◌≡◌, ◌∙◌, ℕ, ◌≤◌, sym, ap, subst, le_trans, sum, List, length}
 use Rattle.server_trait.specs.Service.{Machine, cut}
-use Rattle.made_output.specs.Made.{nothing_made, after_reads, made_of}
+use Rattle.plain_connection.specs.Made.{nothing_made, after_reads, made_of}
 use Rattle.ft_model.specs.News.{News}
 use Rattle.ft_model.specs.Growth.{IsPrefix}
 use Rattle.ft_model.specs.Taken.{taken_after}

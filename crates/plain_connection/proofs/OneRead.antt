@@ -1,8 +1,8 @@
 -- One more read of a connection.
 use Rattle.std.proofs.Common.{◌≡◌, ◌∙◌, ℕ, ◌+◌, ◌-◌, ◌≤◌, ◌<◌, ◌^◌, ◌&&◌, nat_lt, nat_le, min, sum, refl, sym, ap, subst, Some, None, [], ◌∷◌, ◌++◌, length, take, drop, arith, append-nil, append_assoc, length-append, ltb-true}
 use Rattle.server_trait.specs.Service.{Machine}
-use Rattle.made_output.specs.Made.{Made, after_read}
-use Rattle.made_output.proofs.Ends.{one_more}
+use Rattle.plain_connection.specs.Made.{Made, after_read}
+use Rattle.plain_connection.proofs.Ends.{one_more}
 use Rattle.std.proofs.lemmas.Bool.{and_parts}
 use Rattle.ft_model.specs.Point.{Point, made, released}
 use Rattle.ft_model.specs.Reads.{next_length, may_read, next_read, with_read, Makes}

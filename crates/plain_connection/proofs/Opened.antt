@@ -1,7 +1,7 @@
 -- A new connection is served, and so is one of a fetched entry, whose reads are made again.
 use Rattle.std.proofs.Common.{◌≡◌, ℕ, Bool, sym, subst, List, arith}
 use Rattle.server_trait.specs.Service.{Machine}
-use Rattle.made_output.specs.Made.{nothing_made, made_of}
+use Rattle.plain_connection.specs.Made.{nothing_made, made_of}
 use Rattle.seq_arith.specs.Message.{Numbers}
 use Rattle.ft_model.specs.Opening.{point_opened}
 use Rattle.ft_model.specs.Point.{made}

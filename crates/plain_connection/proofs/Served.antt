@@ -2,8 +2,8 @@
 use Rattle.std.proofs.Common.{◌≡◌, ◌∙◌, ap, Some, length, take}
 use Rattle.std.specs.Prelude.{slice_get}
 use Rattle.server_trait.specs.Service.{Machine}
-use Rattle.made_output.specs.Made.{end_of}
-use Rattle.made_output.proofs.Ends.{ends_are_the_references, prefixes, whole}
+use Rattle.plain_connection.specs.Made.{end_of}
+use Rattle.plain_connection.proofs.Ends.{ends_are_the_references, prefixes, whole}
 use Rattle.ft_model.specs.Point.{answered_run, made}
 use Rattle.plain_connection.specs.State.{ConnectionState, IsServed}
 

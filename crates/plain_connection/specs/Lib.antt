@@ -1,5 +1,6 @@
 pub mod State
 pub mod News
+pub mod Made
 pub mod Before
 pub mod Since
 pub mod Copying

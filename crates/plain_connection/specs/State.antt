@@ -1,7 +1,7 @@
 -- A connection as its contracts see it.
 use Rattle.std.specs.Prelude.{◌≡◌, ◌≤◌, ℕ, ◌+◌, List, ◌++◌, length, sum}
 use Rattle.server_trait.specs.Service.{Machine}
-use Rattle.made_output.specs.Made.{Made, made_of}
+use Rattle.plain_connection.specs.Made.{Made, made_of}
 use Rattle.ft_model.specs.Point.{Point}
 use Rattle.ft_model.specs.Reads.{Makes}
 

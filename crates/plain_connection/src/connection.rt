@@ -2,10 +2,10 @@
 
 ghost use Rattle.std.specs.Prelude.{◌≡◌, ◌≤◌, ◌^◌, length};
 ghost use Rattle.server_trait.specs.Service.{machine};
-ghost use Rattle.made_output.specs.Made.{end_of};
+ghost use Rattle.plain_connection.specs.Made.{end_of};
 ghost use Rattle.plain_connection.specs.State.{IsServed};
 
-use made_output::{End, Made};
+use crate::made_output::{End, Made};
 use plain_point::PlainPoint;
 use plain_segment::part;
 use server_trait::Service;

@@ -3,12 +3,14 @@
 #![tactic(auto)]
 
 pub use connection::PlainConnection;
+pub use made_output::{End, Made, ends_are_the_references};
 pub use news::News;
 
 mod before;
 mod connection;
 pub mod laws;
 mod logging;
+mod made_output;
 mod news;
 mod opening;
 mod reading;

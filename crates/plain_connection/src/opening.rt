@@ -9,8 +9,8 @@ ghost use Rattle.plain_point.specs.Values.{numbers_in};
 ghost use Rattle.plain_connection.specs.State.{IsServed};
 
 use crate::connection::PlainConnection;
+use crate::made_output::Made;
 use ft_io::NoMemory;
-use made_output::Made;
 use plain_fetch::{EntryParts, PlainFetched};
 use plain_point::{Numbers, PlainPoint};
 use server_trait::Service;

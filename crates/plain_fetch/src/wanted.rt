@@ -9,7 +9,7 @@ use ft_io::Key;
 use logger_wire::Body;
 
 /// What is requested: an entry of the log, bytes of one, or lengths of one.
-#[derive(Clone, Copy, PartialEq, Eq)]
+#[derive(Clone, Copy)]
 pub enum Wanted {
     /// The entry at this index.
     Entry { index: u16 },

@@ -3,7 +3,7 @@
 use ft_io::Key;
 
 /// The sender and the receiver of a packet. A client is named by its address and port.
-#[derive(Clone, Copy, PartialEq, Eq)]
+#[derive(Clone, Copy)]
 pub enum Path {
     /// From this client to the server.
     ToServer(Key),

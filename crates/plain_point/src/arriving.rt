@@ -5,10 +5,9 @@ ghost use Rattle.segment_codec.specs.Value.{segment_of};
 
 use crate::point::PlainPoint;
 use ft_io::NoMemory;
-use plain_held::{Coming, Held, Stream};
 use plain_segment::{
-    accepts, ack, counted_text, counts_fin, first, has_ack, has_rst, has_syn, is_at, is_usable,
-    segment_len,
+    Coming, Held, Stream, accepts, ack, counted_text, counts_fin, first, has_ack, has_rst, has_syn,
+    is_at, is_usable, segment_len,
 };
 use segment_codec::PacketRef;
 use std::alloc::Global;

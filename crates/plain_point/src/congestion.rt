@@ -8,7 +8,7 @@ ghost use Rattle.plain_point.specs.Values.{congestion_in};
 const MOST_WINDOW: u64 = 1 << 20;
 
 /// The congestion window, the slow start threshold, and the number of duplicate acknowledgements, up to four.
-#[derive(Clone, Copy, PartialEq, Eq)]
+#[derive(Clone, Copy)]
 pub struct Window {
     pub cwnd: u64,
     pub ssthresh: u64,

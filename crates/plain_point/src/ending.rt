@@ -11,7 +11,7 @@ const LONGEST_INTERVAL: u64 = 64;
 const END_TICKS: u64 = 4;
 
 /// The timer before a turn, and the fields that show whether it is restarted.
-#[derive(Clone, Copy, PartialEq, Eq)]
+#[derive(Clone, Copy)]
 pub struct Timer {
     una: u64,
     syn_acked: bool,

@@ -5,7 +5,7 @@ ghost use Rattle.plain_point.specs.Values.{numbers_in};
 
 use crate::congestion::Window;
 use ft_io::Key;
-use plain_held::Held;
+use plain_segment::Held;
 use std::alloc::Global;
 use std::marker::Model;
 

@@ -12,7 +12,7 @@ use segment_codec::PacketRef;
 use std::alloc::Global;
 
 /// What the sender knows after a turn's news: SND.UNA, the right edge with SND.WL1 and SND.WL2, congestion control, and whether the SYN is acknowledged.
-#[derive(Clone, Copy, PartialEq, Eq)]
+#[derive(Clone, Copy)]
 pub struct Sending {
     pub una: u64,
     pub edge: u64,

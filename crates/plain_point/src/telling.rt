@@ -7,7 +7,7 @@ use crate::point::PlainPoint;
 use ft_io::Key;
 
 /// How much of a connection is logged, as a Stable or a Reads reports.
-#[derive(Clone, Copy, PartialEq, Eq)]
+#[derive(Clone, Copy)]
 pub struct Kept {
     /// The client's address and port.
     pub key: Key,

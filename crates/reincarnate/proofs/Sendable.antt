@@ -11,10 +11,10 @@ use Rattle.logger_wire.specs.declared.Body.{Body}
 use Rattle.logger_wire.specs.declared.Body.TheVariants as body
 use Rattle.logger_wire.specs.Value.{body_of, IsSendable}
 use Rattle.seq_arith.specs.MarkGrammar as marks
-use Rattle.checkpoint.specs.declared.mark_msg.MarkMsg.{MarkMsg}
-use Rattle.checkpoint.specs.declared.mark_msg.MarkBody.{MarkBody}
-use Rattle.checkpoint.specs.declared.mark_msg.MarkBody.TheVariants as mark_body
-use Rattle.checkpoint.specs.Value as checkpoint
+use Rattle.logger_wire.specs.declared.mark.mark_msg.MarkMsg.{MarkMsg}
+use Rattle.logger_wire.specs.declared.mark.mark_msg.MarkBody.{MarkBody}
+use Rattle.logger_wire.specs.declared.mark.mark_msg.MarkBody.TheVariants as mark_body
+use Rattle.logger_wire.specs.MarkValue as checkpoint
 
 sound_of : (m : Msg) (b : Body) → IsSendable m → m.body ≡ b
     → is_sound (kind_of (body_of b)) m.boot (length (behind_of (body_of b))) (numbers_of (body_of b)) (lens_of (body_of b)) ≡ true

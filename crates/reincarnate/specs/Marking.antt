@@ -6,7 +6,7 @@ use Rattle.seq_arith.specs.Mark.{Mark}
 use Rattle.seq_arith.specs.Message.{EntryHead, Body}
 use Rattle.logger_wire.specs.Value as log
 use Rattle.logger_wire.specs.Value.{IsSendable}
-use Rattle.checkpoint.specs.Value as checkpoint
+use Rattle.logger_wire.specs.MarkValue as checkpoint
 use Rattle.seq_arith.specs.MarkGrammar.{IsSpellable}
 use Rattle.mark_laws.specs.MarkedLog.{AnyMessage}
 use Rattle.mark_laws.specs.MarkedLog.AnyMessage.{About_mark, Of_log}

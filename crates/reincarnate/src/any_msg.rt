@@ -1,7 +1,6 @@
 //! A message between a server and its log, of either kind.
 
-use checkpoint::MarkMsg;
-use logger_wire::Msg;
+use logger_wire::{MarkMsg, Msg};
 
 /// A message to the logger or from it: one about marks, or any other.
 #[derive(Clone, Copy)]

@@ -10,7 +10,7 @@ pub enum Stage {
 }
 
 /// An allocation failed, and the state of this step was dropped.
-#[derive(Clone, Copy, PartialEq, Eq)]
+#[derive(Clone, Copy)]
 pub struct LostIn {
     /// The step whose state was dropped.
     pub stage: Stage,

@@ -35,7 +35,7 @@ impl Model for Line {
 }
 
 /// What the bytes of a chunk do to the held line.
-#[derive(Clone, Copy, PartialEq, Eq)]
+#[derive(Clone, Copy)]
 enum Piece {
     /// The line ends with `len` more bytes, and `used` bytes of the chunk are used up.
     Ends { len: usize, used: usize },

@@ -16,7 +16,7 @@ const SIZE_LIMIT: u32 = 2_047;
 const PERIOD: u8 = 251;
 
 /// The bytes of an incomplete request.
-#[derive(Clone, Copy, PartialEq, Eq)]
+#[derive(Clone, Copy)]
 enum Held {
     Nothing,
     One(u8),

@@ -11,7 +11,7 @@ use ft_model::Phase;
 use std::alloc::Global;
 
 /// What a report says of a connection in the log.
-#[derive(Clone, Copy, PartialEq, Eq)]
+#[derive(Clone, Copy)]
 pub struct LogLine<'a> {
     /// The client's address and port.
     pub key: Key,

@@ -8,7 +8,7 @@ use ft_model::{Limit, LineWhy};
 use thiserror::Error;
 
 /// Why a text isn't read as a schedule.
-#[derive(Clone, Copy, Debug, PartialEq, Eq, Error)]
+#[derive(Clone, Copy, Debug, Error)]
 pub enum ScheduleEnd {
     /// An allocation failed.
     #[error("no memory")]
@@ -22,7 +22,7 @@ pub enum ScheduleEnd {
 }
 
 /// Why a line isn't read.
-#[derive(Clone, Copy, PartialEq, Eq)]
+#[derive(Clone, Copy)]
 pub(crate) enum LineEnd {
     NoMemory,
     Refused(LineWhy),

@@ -3,13 +3,13 @@
 ghost use Rattle.std.specs.Prelude.{◌≡◌, ◌++◌, OnOk};
 ghost use Rattle.ft_model.specs.Texts.{spaced};
 ghost use Rattle.mark_reports.specs.MarkedReport.{fields_of_mark, mark_words, name_of_mark, words_of_mark};
-ghost use Rattle.checkpoint.specs.Value.{body_of, message_of};
+ghost use Rattle.logger_wire.specs.MarkValue.{body_of, message_of};
 
 use crate::line_out::LineOut;
 use crate::line_text::{put_field, put_hex, put_word};
 use crate::message_text::put_key;
-use checkpoint::{MarkBody, MarkMsg};
 use ft_io::{Key, NoMemory};
+use logger_wire::{MarkBody, MarkMsg};
 
 /// Appends a message about marks: its name, its boot number, then the fields of its body.
 #[tactic(auto, using(crate::proofs::LineLemmas::line_rules), unfolding(mark_reports::specs::MarkedReport::mark_words))]

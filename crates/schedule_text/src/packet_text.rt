@@ -13,14 +13,12 @@ use crate::line_out::LineOut;
 use crate::line_text::{put_field, put_flags, put_hex, put_mss, put_number, put_way};
 use crate::mark_text::put_mark_message;
 use crate::message_text::put_message;
-use checkpoint::read_mark;
 use ft_io::NoMemory;
 use ft_model::Way;
-use logger_wire::read_msg;
+use logger_wire::{TwinMsg, read_mark, read_msg, read_twin};
 use segment_codec::{read_accepted, read_packet};
 use seq_arith::Head;
 use std::alloc::Global;
-use twin_wire::{TwinMsg, read_twin};
 
 /// Returns whether bytes are a packet of this direction: whether the codec of its kind accepts them.
 pub fn is_packet(way: Way, bytes: &[u8]) -> bool

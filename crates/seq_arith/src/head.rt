@@ -9,7 +9,7 @@ use crate::flags::{ACK, RST};
 use ft_io::{Addr, Key};
 
 /// The fields of the two headers that are kept (RFC 791, 3.1; RFC 9293, 3.1). A packet has no option except, where `mss` is given, the segment size in bytes.
-#[derive(Clone, Copy, PartialEq, Eq)]
+#[derive(Clone, Copy)]
 pub struct Head {
     /// The source address, the first octet the highest.
     pub src: u32,

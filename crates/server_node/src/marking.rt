@@ -14,9 +14,9 @@ ghost use Rattle.server_node.specs.Markers.{saving, marker_of};
 use crate::identity::Identity;
 use crate::out_packet::To;
 use crate::turn::Turn;
-use checkpoint::write_mark;
 use conn_marks::Marks;
 use ft_io::{Key, NoMemory};
+use logger_wire::write_mark;
 use server_trait::Saved;
 use wrapped_conn::Conn;
 

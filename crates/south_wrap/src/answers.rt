@@ -13,7 +13,7 @@ pub enum Inward {
 
 /// The part of a segment that is sent to the logger: text from `offset` of the client's stream on, which is `packet[from..to]`, and whether the client's FIN is
 /// sent with it.
-#[derive(Clone, Copy, PartialEq, Eq)]
+#[derive(Clone, Copy)]
 pub struct CopyPart {
     /// Where the text begins in the client's stream, in bytes.
     pub offset: u32,
@@ -26,7 +26,7 @@ pub struct CopyPart {
 }
 
 /// SEG.ACK and SEG.WND of a segment to the client.
-#[derive(Clone, Copy, PartialEq, Eq)]
+#[derive(Clone, Copy)]
 pub struct AckOut {
     /// SEG.ACK: a sequence number of the client's stream.
     pub ack: Seq,

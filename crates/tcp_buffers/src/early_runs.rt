@@ -8,7 +8,7 @@ use arrayvec::ArrayVec;
 use std::marker::Model;
 
 /// Places from `start` up to `end`, counted from the end of the bytes in order.
-#[derive(Clone, Copy, PartialEq, Eq, Default)]
+#[derive(Clone, Copy, Default)]
 pub(crate) struct Run {
     pub(crate) start: usize,
     pub(crate) end: usize,

@@ -9,7 +9,7 @@ ghost use Rattle.tcp_buffers.specs.SendNumbers.{congestion_of, segment_of, fligh
 use seq_arith::Seq;
 
 /// How an acknowledgement counts for the sender.
-#[derive(Clone, Copy, PartialEq, Eq)]
+#[derive(Clone, Copy)]
 pub enum AckKind {
     /// It acknowledges `units` numbers for the first time: SND.UNA < SEG.ACK =< SND.NXT.
     New { units: u32 },
@@ -20,7 +20,7 @@ pub enum AckKind {
 }
 
 /// The sender's variables.
-#[derive(Clone, Copy, PartialEq, Eq)]
+#[derive(Clone, Copy)]
 pub struct SendState {
     /// SND.UNA: the first number that isn't acknowledged.
     pub una: Seq,

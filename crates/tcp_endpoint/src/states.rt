@@ -20,7 +20,7 @@ pub enum StateName {
 }
 
 /// An endpoint's state, as `Endpoint::state` reports it.
-#[derive(Clone, Copy, PartialEq, Eq)]
+#[derive(Clone, Copy)]
 pub struct State {
     /// The state's name (RFC 9293, 3.3.2).
     pub name: StateName,

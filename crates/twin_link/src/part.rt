@@ -18,10 +18,10 @@ ghost use Rattle.twin_link.specs.PartSteps.{standing_of, HasTurned, HasServed, I
 use crate::role::PartRole;
 use crate::sending::send_all;
 use ft_io::{Addr, Failed, Link, NoMemory, Sink};
+use logger_wire::{TwinMsg, read_twin};
 use node_link::{Counts, DATAGRAM_ROOM, NodeEnd, receive, tell_counts};
 use std::alloc::Global;
 use twin_log::{Part, Side, TwinLog, TwinOut};
-use twin_wire::{TwinMsg, read_twin};
 
 /// A logger of a pair, with what it sends in a turn.
 #[derive(Drop)]

@@ -12,8 +12,8 @@ ghost use Rattle.twin_link.specs.StopNotice.{IsTeller, TellerStops, line_of as l
 
 use crate::role::AloneRole;
 use ft_io::{Addr, Failed, Link, Sink, write_all};
+use logger_wire::{TwinMsg, write_twin};
 use node_link::NodeEnd;
-use twin_wire::{TwinMsg, write_twin};
 
 /// The length of the buffer for a datagram between two loggers.
 const ROOM: usize = 2_048;

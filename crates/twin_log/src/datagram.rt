@@ -3,11 +3,11 @@
 ghost use Rattle.std.specs.Prelude.{[], ◌≡◌, ◌≤◌, length};
 ghost use Rattle.seq_arith.specs.TwinGrammar.{spelling, IsSpellable};
 ghost use Rattle.twin_laws.specs.declared.part.Side.TheVariants as sides;
-ghost use Rattle.twin_wire.specs.Value.{said_by};
+ghost use Rattle.logger_wire.specs.TwinValue.{said_by};
 
+use logger_wire::{TwinMsg, write_twin};
 use std::marker::Model;
 use twin_laws::Side;
-use twin_wire::{TwinMsg, write_twin};
 
 /// A datagram's bytes and their addressee, in room for 2,048 bytes.
 #[derive(Drop)]
@@ -67,7 +67,7 @@ impl Datagram {
     }
 
     /// Replaces the content by a datagram for the other logger.
-    #[tactic(auto, using(twin_wire::proofs::OneSpelling::datagram_whole, twin_wire::proofs::OneSpelling::datagram_fits))]
+    #[tactic(auto, using(logger_wire::proofs::TwinSpelled::datagram_whole, logger_wire::proofs::TwinSpelled::datagram_fits))]
     pub(crate) fn tell(&mut self, m: &TwinMsg<'_>)
         requires { IsSpellable (said_by m.now) }
         ensures { self.new ≡ (sides.Other, spelling (said_by m.now)) }

@@ -3,14 +3,14 @@
 ghost use Rattle.std.specs.Prelude.{[], ◌≡◌, ◌≤◌, ◌<◌, ◌++◌, ◌∷◌, Some, length, option_map, slice_get, slice_set, IfOk};
 ghost use Rattle.seq_arith.specs.TwinGrammar.{spelling, IsSpellable};
 ghost use Rattle.twin_laws.specs.declared.part.Side.TheVariants as sides;
-ghost use Rattle.twin_wire.specs.Value.{said_by};
+ghost use Rattle.logger_wire.specs.TwinValue.{said_by};
 
 use crate::datagram::Datagram;
 use ft_io::NoMemory;
+use logger_wire::TwinMsg;
 use std::alloc::Global;
 use std::marker::Model;
 use twin_laws::Side;
-use twin_wire::TwinMsg;
 
 /// The most datagrams that one turn sends.
 const ROOM: usize = 64;

@@ -15,11 +15,10 @@ use crate::twin_out::TwinOut;
 use crate::waiting::{WAITING, Waiting};
 use ft_io::NoMemory;
 use logger_store::{LogStore, MsgOut, is_answer};
-use logger_wire::{Msg, read_msg};
+use logger_wire::{Msg, TwinMsg, read_msg, read_twin};
 use std::alloc::Global;
 use std::marker::Model;
 use twin_laws::{Part, Side};
-use twin_wire::{TwinMsg, read_twin};
 
 /// A head or a tail: its log, and how many messages it has taken or applied. A head also stores the messages that the tail hasn't confirmed, at most 64.
 #[derive(Drop)]

@@ -8,10 +8,10 @@ ghost use Rattle.twin_log.specs.Outbox.{AreAsking, texts_of};
 
 use crate::twin_out::TwinOut;
 use ft_io::NoMemory;
+use logger_wire::TwinMsg;
 use std::alloc::Global;
 use std::collections::VecDeque;
 use std::marker::Model;
-use twin_wire::TwinMsg;
 
 /// The most unconfirmed messages.
 pub(crate) const WAITING: usize = 64;

@@ -8,7 +8,7 @@ use crate::conn::Conn;
 use server_trait::Service;
 
 /// Delta, and the numbers of a connection's point. Units count bytes, and one more for a FIN.
-#[derive(Clone, Copy, PartialEq, Eq)]
+#[derive(Clone, Copy)]
 pub struct Inside {
     /// The client's sequence number for output less TCP's, modulo 2^32.
     pub delta: u32,

@@ -11,7 +11,7 @@ use crate::conn::Conn;
 use server_trait::Service;
 
 /// The numbers of a quiet connection.
-#[derive(Clone, Copy, PartialEq, Eq)]
+#[derive(Clone, Copy)]
 pub struct Quiet {
     /// How many reads there are.
     pub reads: u32,

@@ -1,9 +1,8 @@
 //! A log in memory, as far as a restart asks for it.
 
 use crate::restarts::letters::Fields;
-use checkpoint::{MarkBody, MarkMsg};
 use ft_io::{Key, NoMemory};
-use logger_wire::{Body, Msg};
+use logger_wire::{Body, MarkBody, MarkMsg, Msg};
 use reincarnate::AnyMsg;
 use std::alloc::Global;
 

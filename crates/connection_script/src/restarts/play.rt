@@ -2,9 +2,8 @@
 
 use crate::restarts::logged::{Logged, any_answer};
 use crate::restarts::text::tell_question;
-use checkpoint::read_mark;
 use ft_io::{Addr, NoMemory};
-use logger_wire::read_msg;
+use logger_wire::{read_mark, read_msg};
 use reincarnate::{AnyMsg, Asked, Entries, Fetching, LostIn, Replayed, Spliced};
 use sample_servers::AnyService;
 use seq_arith::Seq;

@@ -1,8 +1,7 @@
 //! The lines that are printed.
 
-use checkpoint::{MarkBody, MarkMsg};
 use ft_io::NoMemory;
-use logger_wire::Body;
+use logger_wire::{Body, MarkBody, MarkMsg};
 use reincarnate::AnyMsg;
 
 /// Appends the line of a question of either kind.

@@ -30,8 +30,8 @@ impl Exchange {
         Ok(Exchange { client, server })
     }
 
-    /// Turns in turn until the client sends no segment, and then the ticks of the end. What both sides did is added to the totals. `packets` is room for what
-    /// the client sends, and the log has an entry.
+    /// Client and server take turns alternately until the client sends no segment; then come the ticks of the end. What both sides did is added to the totals.
+    /// `packets` is room for what the client sends, and the log has an entry.
     pub(crate) fn run(
         &mut self,
         alloc: Global,

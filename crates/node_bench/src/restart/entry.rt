@@ -4,9 +4,8 @@ ghost use Rattle.std.specs.Prelude.{◌≤◌, ◌+◌, ◌^◌, length};
 
 use crate::STREAM;
 use crate::logger::{BOOT, Logger};
-use checkpoint::{MarkBody, MarkMsg};
 use ft_io::{Key, NoMemory};
-use logger_wire::{Body, Msg};
+use logger_wire::{Body, MarkBody, MarkMsg, Msg};
 use sample_servers::AnyService;
 use server_trait::Service;
 use std::alloc::Global;

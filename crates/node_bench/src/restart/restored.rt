@@ -4,9 +4,8 @@ ghost use Rattle.std.specs.Prelude.{◌≤◌, IfSome};
 ghost use Rattle.reincarnate.specs.Marking.{IsAnySendable};
 
 use crate::logger::Logger;
-use checkpoint::read_mark;
 use ft_io::{Addr, NoMemory};
-use logger_wire::{Body, Msg, read_msg};
+use logger_wire::{Body, Msg, read_mark, read_msg};
 use reincarnate::{AnyMsg, Asked, Entries, Fetching, LostIn, Replayed};
 use sample_servers::AnyService;
 use seq_arith::Seq;

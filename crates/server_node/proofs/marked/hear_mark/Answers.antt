@@ -1,6 +1,6 @@
 use Rattle.std.proofs.Common.{sym, subst, List}
 use Rattle.ft_io.proofs.Outcomes.{if_ok}
-use Rattle.checkpoint.specs.Value.{message_of as mark_message_of}
+use Rattle.logger_wire.specs.MarkValue.{message_of as mark_message_of}
 use Rattle.ft_model.specs.Wire.{Wire}
 use Rattle.mark_traces.specs.MarkedNode.{InputTurn}
 use Rattle.mark_traces.specs.MarkedNode.MarkedInput.{Mark_comes}

@@ -1,7 +1,7 @@
 use Rattle.std.proofs.Common.{◌≡◌, ◌∙◌, ◌∷◌, [], take, rules}
 use Rattle.std.proofs.lemmas.Result.{on_ok_weaker}
 use Rattle.seq_arith.specs.MarkGrammar.{spelling}
-use Rattle.checkpoint.specs.Value.{message_of}
+use Rattle.logger_wire.specs.MarkValue.{message_of}
 use Rattle.conn_marks.specs.KeyMarks.{marking_in}
 use Rattle.conn_marks.specs.MarkSends.{put_before}
 use Rattle.server_node.specs.SentBytes.{message_to_logger}

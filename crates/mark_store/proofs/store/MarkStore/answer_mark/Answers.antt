@@ -1,6 +1,6 @@
 use Rattle.std.proofs.Common.{◌≡◌, ◌∙◌, ◌==◌, ◌&&◌, not, nat_lt, false, sym, ap, subst, arith, Some, None, if◌then◌else◌}
 use Rattle.seq_arith.specs.Message.Body.{StaleMsg}
-use Rattle.checkpoint.specs.Value.{body_of, message_of}
+use Rattle.logger_wire.specs.MarkValue.{body_of, message_of}
 use Rattle.mark_laws.specs.MarkedLog.{with_mark_body, is_mark_answer}
 use Rattle.mark_laws.specs.MarkedLog.AnyMessage.{Of_log}
 use Rattle.mark_store.specs.Bytes.{reply_bytes}

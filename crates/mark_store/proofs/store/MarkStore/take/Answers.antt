@@ -1,7 +1,7 @@
 use Rattle.std.proofs.Common.{subst}
 use Rattle.seq_arith.specs.Mark.{Mark}
 use Rattle.seq_arith.specs.MarkGrammar.{IsSpellable}
-use Rattle.checkpoint.specs.Value.{body_of}
+use Rattle.logger_wire.specs.MarkValue.{body_of}
 use Rattle.mark_store.proofs.Steps.{mark_ranges, IsInRange}
 use Rattle.mark_store.proofs.store.MarkStore.take.Goals as goal
 

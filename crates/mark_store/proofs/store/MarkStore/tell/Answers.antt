@@ -1,4 +1,4 @@
-use Rattle.checkpoint.specs.Value.{message_of}
+use Rattle.logger_wire.specs.MarkValue.{message_of}
 use Rattle.mark_store.proofs.Steps.{some_boot}
 use Rattle.mark_store.proofs.store.MarkStore.tell.Goals as goal
 

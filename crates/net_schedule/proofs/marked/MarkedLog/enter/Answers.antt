@@ -2,7 +2,7 @@ use Rattle.std.proofs.Common.{◌≡◌, sym, ap, subst, Some, None}
 use Rattle.std.proofs.lemmas.Result.{on_ok_weaker}
 use Rattle.seq_arith.specs.Mark.{Mark}
 use Rattle.seq_arith.specs.MarkGrammar.{IsSpellable}
-use Rattle.checkpoint.specs.Value.{body_of, message_of}
+use Rattle.logger_wire.specs.MarkValue.{body_of, message_of}
 use Rattle.mark_laws.specs.MarkedLog.{after_mark}
 use Rattle.mark_store.proofs.Steps.{mark_ranges, IsInRange, some_boot}
 use Rattle.mark_store.specs.Refinement.{IsLeftOfMarked}

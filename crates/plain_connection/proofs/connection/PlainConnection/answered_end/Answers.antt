@@ -1,7 +1,7 @@
 use Rattle.std.proofs.Common.{◌∙◌, ap}
 use Rattle.std.specs.Prelude.{slice_get}
 use Rattle.server_trait.specs.Service.{machine}
-use Rattle.made_output.specs.Made.{end_of}
+use Rattle.plain_connection.specs.Made.{end_of}
 use Rattle.ft_model.specs.Point.{answered_run}
 use Rattle.plain_connection.proofs.Served.{answered}
 use Rattle.plain_connection.proofs.connection.PlainConnection.answered_end.Goals as goal

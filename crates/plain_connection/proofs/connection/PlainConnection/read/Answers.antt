@@ -1,7 +1,7 @@
 use Rattle.std.proofs.Common.{arith, ◌∙◌, ◌+◌, ◌≤◌, sym, ap, subst, sum, max, length, take, drop}
 use Rattle.std.proofs.lemmas.Result.{on_ok_weaker}
 use Rattle.server_trait.specs.Service.{machine}
-use Rattle.made_output.specs.Made.{after_read}
+use Rattle.plain_connection.specs.Made.{after_read}
 use Rattle.ft_model.specs.Reads.{with_read}
 use Rattle.plain_connection.specs.State.{IsServed}
 use Rattle.plain_connection.proofs.OneRead.{served_on}

@@ -1,0 +1,89 @@
+//! The kinds of datagrams between two loggers as the code reads them: their numbers, lengths and ranges.
+
+ghost use Rattle.std.specs.Prelude.{◌≡◌, not};
+ghost use Rattle.seq_arith.specs.Message.{is_answer};
+ghost use Rattle.seq_arith.specs.TwinGrammar.{kind_number, kind_numbered, has_length as has_length_lem, is_asking as is_asking_lem, is_sound as is_sound_lem};
+ghost use Rattle.logger_wire.specs.Value.{body_of};
+
+use crate::Body;
+use crate::reading::read_msg;
+use seq_arith::TwinKind;
+
+/// The length of every header, in bytes.
+pub(crate) const HEADER: usize = 16;
+
+/// The first two bytes of every datagram, "FU". The version follows.
+pub(crate) const MAGIC: u16 = 0x4655;
+
+pub(crate) const VERSION: u8 = 1;
+
+const KINDS: [TwinKind; 3] = [TwinKind::Forward, TwinKind::Got, TwinKind::Alone];
+
+/// A kind's number on the wire.
+pub(crate) fn number_of(kind: TwinKind) -> u8
+    ensures { result ≡ kind_number kind }
+{
+    kind as u8
+}
+
+/// The kind with a number on the wire, if there is one.
+#[tactic(auto, unfolding(seq_arith::specs::TwinGrammar::kind_numbered))]
+pub(crate) fn kind_of_number(number: u8) -> Option<TwinKind>
+    ensures { result ≡ kind_numbered number }
+{
+    KINDS
+        .iter()
+        .copied()
+        .find(|kind| number_of(*kind) == number)
+}
+
+/// Whether a datagram of a kind may have `len` bytes.
+#[tactic(auto, unfolding(seq_arith::specs::TwinGrammar::has_length))]
+pub(crate) fn has_length(kind: TwinKind, len: usize) -> bool
+    ensures { result ≡ has_length_lem kind len }
+{
+    match kind {
+        TwinKind::Forward => (32..=1_507).contains(&len),
+        TwinKind::Got | TwinKind::Alone => len == HEADER,
+    }
+}
+
+/// Whether a server sends such a body to a logger.
+fn asks(body: &Body<'_>) -> bool
+    ensures { result ≡ not (is_answer (body_of body.now)) }
+{
+    match body {
+        Body::HelloMsg
+        | Body::ListMsg { .. }
+        | Body::BytesMsg { .. }
+        | Body::CutsMsg { .. }
+        | Body::OpenMsg { .. }
+        | Body::DataMsg { .. }
+        | Body::ReadMsg { .. }
+        | Body::DoneMsg { .. } => true,
+        _ => false,
+    }
+}
+
+/// Whether bytes are a message that a server may send to a logger.
+#[tactic(auto, unfolding(seq_arith::specs::TwinGrammar::is_asking))]
+fn is_asking(bytes: &[u8]) -> bool
+    ensures { result ≡ is_asking_lem bytes.now }
+{
+    match read_msg(bytes) {
+        Ok(msg) => asks(&msg.body),
+        Err(_) => false,
+    }
+}
+
+/// Whether a datagram of a kind may have this number, and these bytes after its header.
+#[tactic(auto, unfolding(seq_arith::specs::TwinGrammar::is_sound))]
+pub(crate) fn is_sound(kind: TwinKind, number: u64, behind: &[u8]) -> bool
+    ensures { result ≡ is_sound_lem kind number behind.now }
+{
+    match kind {
+        TwinKind::Forward => number >= 1 && is_asking(behind),
+        TwinKind::Got => number >= 1,
+        TwinKind::Alone => number == 0,
+    }
+}
