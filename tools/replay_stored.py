@@ -3,7 +3,8 @@
 
     tools/replay_stored.py [FOLDER]   writes FOLDER/stdout (crates/replay_script) again, with the model's result of each order that the model can play
 
-The model plays whole schedules, seeds, crashes and deltas, and check_model.py judges reports. The lines about failed calls and refused words stay as they are.
+The model plays whole schedules, seeds, crashes and deltas, and check_model.py judges reports. The lines about failed calls and refused words stay as they are,
+and so does what the script for `sh` prints, the last order.
 """
 import pathlib
 import re
@@ -104,10 +105,15 @@ def go_on(world, client):
     happen("ack", 1, 65535)
 
 
+# The last order, and the first line that it prints.
+SHELL, SHELL_TOLD = "= shell\n", "# 0: all was done\n"
+
+
 def printed(stored, told):
-    """What is printed of each order, in the script's order: as it stands, `None` where nothing does, and as the model makes it or `None`."""
+    """What is printed of each order but the last, in the script's order: as it stands, `None` where nothing does, and as the model makes it or `None`."""
     marks = []
-    for words, text in orders(stored):
+    told = told.partition(SHELL_TOLD)[0]
+    for words, text in orders(stored.partition(SHELL)[0]):
         mark = words[1] + {"play": ": status ", "checked": ": status ", "deltas": ": delta ", "crash": ", crash after 1: "}[words[0]]
         at = told.find(mark, marks[-1][0] if marks and marks[-1][0] is not None else 0)
         marks.append((at if at >= 0 else None, words, text))
@@ -119,14 +125,15 @@ def printed(stored, told):
 
 def main():
     folder = pathlib.Path(sys.argv[1]) if sys.argv[1:] else FOLDER
+    told = (folder / "stdout").read_text()
     written = ""
-    for name, stands, wanted in printed((folder / "stdin").read_text(), (folder / "stdout").read_text()):
+    for name, stands, wanted in printed((folder / "stdin").read_text(), told):
         if stands is None and wanted is None:
             sys.exit(f"{name}: the model can't tell, and nothing stands")
         if wanted not in (None, stands):
             print(f"{name}: {'written' if stands else 'new'}")
         written += stands if wanted is None else wanted
-    (folder / "stdout").write_text(written)
+    (folder / "stdout").write_text(written + "".join(told.partition(SHELL_TOLD)[1:]))
 
 
 if __name__ == "__main__":

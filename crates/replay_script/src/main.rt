@@ -8,20 +8,25 @@
 //! - `= crash NAME` plays, for each n, the first n of the events in a new world; then the server crashes and restarts, all is delivered that is sent, and the
 //!   client continues. Printed is what it has accepted at the end, and the lengths of the reads in the log;
 //! - `= crash NAME PART` does so, and one of two loggers stops as the server crashes: 1 is the head, 2 the tail;
-//! - `= deltas NAME` plays all events, and prints of each connection that the server has live at the end by how much its numbers outside are above those inside.
+//! - `= deltas NAME` plays all events, and prints of each connection that the server has live at the end by how much its numbers outside are above those inside;
+//! - `= shell`, which comes last, hands them to `sh` as a script, which can run `ftreplay` as a process ([`shell`]).
 //!
 //! Among the lines of a schedule, `*COUNT LINE` means this line COUNT times.
 #![tactic(auto)]
 
 use ft_io::NoMemory;
 use playing::{play, play_checked};
+use replay_tool::run_ftreplay;
+use shell::{is_ftreplay, run_script};
 use std::alloc::Global;
 use std::io;
+use std::process::ExitCode;
 use worlds::{play_crashes, play_deltas};
 
 mod crashes;
 mod deltas;
 mod playing;
+mod shell;
 mod worlds;
 
 /// What a script says up to here: what is to be done next, and with which text.
@@ -94,7 +99,16 @@ fn many(line: &str) -> Option<(u32, &str)> {
     Some((count, repeated))
 }
 
-fn main(rt: HostRuntime) -> io::Result<()> {
+fn main(rt: HostRuntime) -> io::Result<ExitCode> {
+    if is_ftreplay(&rt) {
+        return run_ftreplay(&rt, rt.stdin(), rt.stdout(), rt.stderr());
+    }
+    play_script(&rt)?;
+    Ok(ExitCode::SUCCESS)
+}
+
+/// Plays the script of the standard input.
+fn play_script(rt: &HostRuntime) -> io::Result<()> {
     let alloc = rt.alloc();
     let mut script = Script {
         order: String::new(alloc),
@@ -106,13 +120,32 @@ fn main(rt: HostRuntime) -> io::Result<()> {
         if script.take(alloc, line?.as_str(), &mut out).is_err() {
             return println!(rt; "no memory");
         }
-        tell(&rt, &out)?;
+        tell(rt, &out)?;
     }
-    let mut out = Vec::new(alloc);
-    if script.follow(alloc, &mut out).is_err() {
+    play_last(rt, &script)
+}
+
+/// Does what the last order says: only that may be `= shell`.
+fn play_last(rt: &HostRuntime, script: &Script) -> io::Result<()> {
+    if script.order.as_str() == "= shell" {
+        return play_shell(rt, &script.text);
+    }
+    let mut out = Vec::new(rt.alloc());
+    if script.follow(rt.alloc(), &mut out).is_err() {
         return println!(rt; "no memory");
     }
-    tell(&rt, &out)
+    tell(rt, &out)
+}
+
+/// Runs these lines as a script for `sh`.
+fn play_shell(rt: &HostRuntime, lines: &[u8]) -> io::Result<()> {
+    let Ok(script) = str::from_utf8(lines) else {
+        return println!(rt; "no text");
+    };
+    if !run_script(rt, script)? {
+        println!(rt; "the script fails")?;
+    }
+    Ok(())
 }
 
 /// Prints what an order has printed.
