@@ -1,21 +1,21 @@
 #!/usr/bin/env bash
-# Segments a second of two endpoints in memory that echo 64 MiB, by endpoint_bench, compared with packets a second of a plain C loop of a packet's checks (gcc
+# Segments a second of two endpoints in memory that echo 64 MiB, by `node_bench echo`, compared with packets a second of a plain C loop of a packet's checks (gcc
 # -O2), in one run: segments of 1,460 bytes with packets of 1,500 bytes, and of 64 with 40. Printed is the minimum CPU time of 7 runs each, which alternate. A
 # segment counts once: it is written, handed over, read, and its text echoed or compared. Then the same echo in segments of 1,460 bytes with a whole window in
 # flight: in order, with every two segments swapped, and with one packet of 100 lost; each compared with the first of these.
 #     bench/endpoint.sh [OLDER]
-# With OLDER, an older endpoint_bench or a checkout that has one, both programs echo 1 GiB (minus one byte, in segments of 1,460 bytes) 21 times alternately (or
-# ROUNDS times), and the minimum times are compared. Status 1 if the new one takes over 5 % longer.
+# With OLDER, a program with the same words, or a checkout whose node_bench has them, both programs echo 1 GiB (minus one byte, in segments of 1,460 bytes) 21 times
+# alternately (or ROUNDS times), and the minimum times are compared. Status 1 if the new one takes over 5 % longer.
 set -eu
 before=${1:+$(realpath "$1")}
 . "$(dirname "$0")/common.sh"
-build endpoint_bench echo 1460 1460
-program="$PWD/crates/endpoint_bench/out/endpoint_bench"
+build node_bench echo 1460 1460
+program="$PWD/crates/node_bench/out/node_bench"
 is_echoed() { grep -q "^echoed $all bytes\$" "$work/out" || { echo "not echoed"; exit 1; }; }
 
 if [ -n "$before" ]; then
     all=1073741823
-    before=$(older endpoint_bench "$before" echo 1460 1460)
+    before=$(older node_bench "$before" echo 1460 1460)
     machine
     compare_least spent_in_user is_echoed "$before" "$program" echo "$all" 1460
     exit

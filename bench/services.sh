@@ -3,8 +3,8 @@
 # read 256 MiB of lines of 64 bytes, and Transfer reads 1 MiB of requests for 2,047 bytes each.
 set -eu
 . "$(dirname "$0")/common.sh"
-build endpoint_bench service echo <crates/endpoint_bench/stdin
-program=$PWD/crates/endpoint_bench/out/endpoint_bench
+build node_bench service echo <crates/node_bench/stdin
+program=$PWD/crates/node_bench/out/node_bench
 inputs=$work
 
 yes 'a line of sixty-three bytes, and with its line feed sixty-four.' | head -c 268435456 >"$inputs/lines"

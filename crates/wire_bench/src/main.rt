@@ -1,9 +1,11 @@
-//! What passes on the wire, read and written many times. The first word says what:
+//! What passes on the wire, read and written many times, and a log that takes it. The first word says what:
 //!
 //! - `wire_bench packets BYTES ROUNDS [set]`, for `bench/packets.sh`: packets ([`packets`]);
 //! - `wire_bench messages WHAT KIND ROUNDS`, for `bench/packets.sh`: messages ([`messages`]);
 //! - `wire_bench lines write CYCLES ROUNDS`, `wire_bench lines read ROUNDS`, for `bench/replay.sh`: the lines of a report, and a schedule ([`lines`]);
-//! - `wire_bench link BYTES ROUNDS`, for `bench/link.sh`: datagrams of a UDP socket ([`link`]).
+//! - `wire_bench link BYTES ROUNDS`, for `bench/link.sh`: datagrams of a UDP socket ([`link`]);
+//! - `wire_bench log READS BYTES ROUNDS [marked]`, `wire_bench log marks READS ROUNDS`, for `bench/log.sh`, and `wire_bench log twin WHO COUNT BURST`, for
+//!   `bench/twin.sh`: a log, or two that act as one ([`log`]).
 //!
 //! Several such commands may follow one another, with the word `then` between them.
 #![tactic(auto)]
@@ -17,6 +19,7 @@ use std::{env, io};
 mod cycle;
 mod lines;
 mod link;
+mod log;
 mod messages;
 mod packets;
 
@@ -40,8 +43,9 @@ fn play<R: AllocGlobal + Input + Print + Net + Clock>(rt: &R, command: &[&str]) 
         ["packets", words @ ..] => print(rt, packets::total(rt.alloc(), words), ""),
         ["messages", words @ ..] => print(rt, messages::total(rt.alloc(), words), ""),
         ["lines", words @ ..] => play_lines(rt, words),
+        ["log", words @ ..] => log::run(rt, words),
         ["link", words @ ..] => print(rt, link::came(rt, words), " bytes"),
-        _ => bail!("wire_bench packets|messages|lines|link WORD.."),
+        _ => bail!("wire_bench packets|messages|lines|link|log WORD.."),
     }
 }
 
@@ -55,7 +59,7 @@ fn play_lines<R: AllocGlobal + Input + Print>(rt: &R, words: &[&str]) -> Result<
             let events = lines::read(rt.alloc(), words, &mut ReadSource::new(rt.reader()));
             print(rt, events, "")
         }
-        _ => bail!("wire_bench packets|messages|lines|link WORD.."),
+        _ => bail!("wire_bench packets|messages|lines|link|log WORD.."),
     }
 }
 

@@ -3,9 +3,12 @@
 //! swapped (`swapped`), or with one packet of 100 lost (`lossy`). It prints the segments that each side sent and the bytes that came back, and the ticks, if
 //! there were any. It fails if the echo differs or isn't completed.
 
-use crate::exchange::{Exchange, Way};
+use crate::without_memory;
+use exchange::{Exchange, Way};
 use ft_io::NoMemory;
 use std::io;
+
+mod exchange;
 
 /// What the words ask for.
 #[derive(Clone, Copy, Debug)]
@@ -47,10 +50,7 @@ pub(crate) fn play<R: AllocGlobal + Print + Eprint>(rt: &R, words: &[&str]) -> i
     };
     match Exchange::new(rt.alloc(), work.bytes, work.write, work.way) {
         Ok(mut exchange) => run(rt, &mut exchange),
-        Err(NoMemory) => {
-            eprintln!(rt; "no memory is left")?;
-            Ok(3)
-        }
+        Err(NoMemory) => without_memory(rt),
     }
 }
 

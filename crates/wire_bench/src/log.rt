@@ -1,18 +1,15 @@
-//! Fills a log and fetches it again, for `bench/log.sh`: `log_bench READS BYTES ROUNDS`. In each of ROUNDS rounds one entry of a new log takes BYTES bytes, at
+//! Fills a log and fetches it again, for `bench/log.sh`: `log READS BYTES ROUNDS`. In each of ROUNDS rounds one entry of a new log takes BYTES bytes, at
 //! most 2^24, in Data of 1,460 bytes, and after each Data a Read, and is then fetched completely in Parts and Lens. READS is `equal`, for reads of 1,460 bytes,
 //! or `other`, for reads of 1,459 and 1,461 bytes in turn; or it is `made`, and the messages for `equal` are made and not given to a log. Each message is
 //! spelled, read and answered. It prints how many messages there were, and what the lengths and checksums of all answers add up to. A fourth
 //! word, `marked`, gives the messages to a log with marks, of which none is used.
 //!
-//! `log_bench marks READS ROUNDS` fills a log with marks with READS reads, at most 2^20, of 15 and 17 bytes in turn, and a mark after each 64. It prints the most
+//! `log marks READS ROUNDS` fills a log with marks with READS reads, at most 2^20, of 15 and 17 bytes in turn, and a mark after each 64. It prints the most
 //! bytes that were kept, and the minimum time that one of the first 16 and one of the last 16 marks took in nanoseconds, over all rounds.
 //!
-//! `log_bench twin WHO COUNT BURST`, for `bench/twin.sh`, gives messages to one log or to a head and a tail: WHO is `one` or `pair`. COUNT messages, at most
+//! `log twin WHO COUNT BURST`, for `bench/twin.sh`, gives messages to one log or to a head and a tail: WHO is `one` or `pair`. COUNT messages, at most
 //! 100,000, are Data of 100 bytes, one after another in one entry. After each BURST of them a pair's tail is given all that the head has forwarded, in order, and
 //! the head all that the tail has confirmed. It prints how many messages there were, how many Forwards, and how many answers.
-//!
-//! Several such commands may follow one another, with the word `then` between them.
-#![tactic(auto)]
 
 ghost use Rattle.std.specs.Prelude.{◌≡◌, ◌≤◌, ◌<◌, ◌+◌, ◌^◌, length};
 ghost use Rattle.logger_wire.specs.Value.{IsSendable};
@@ -24,7 +21,6 @@ use logger_wire::{Body, Msg, read_msg, write_msg};
 use mark_store::MarkStore;
 use marking::{Seen, run_marks};
 use std::alloc::Global;
-use std::env;
 use std::time::Clock;
 use twins::run_twins;
 
@@ -47,22 +43,8 @@ const LENS: u32 = 512;
 /// The most bytes of a stream.
 const STREAM: u32 = 1 << 24;
 
-fn main(rt: HostRuntime) -> Result<()> {
-    let words: Vec<String> = env::args(&rt)?.skip(1).collect(rt.alloc())?;
-    let words: Vec<&str> = words.iter().map(|word| word.as_str()).collect(rt.alloc())?;
-    run_all(&rt, &words)
-}
-
-/// Does what the words of each command ask for, until one fails.
-fn run_all<R: AllocGlobal + Print + Clock>(rt: &R, words: &[&str]) -> Result<()> {
-    for command in words.split(|word| *word == "then") {
-        run(rt, command)?;
-    }
-    Ok(())
-}
-
-/// Does what the words of one command ask for.
-fn run<R: AllocGlobal + Print + Clock>(rt: &R, command: &[&str]) -> Result<()> {
+/// Does what the words after `log` ask for.
+pub(crate) fn run<R: AllocGlobal + Print + Clock>(rt: &R, command: &[&str]) -> Result<()> {
     match command {
         ["marks", words @ ..] => print_seen(rt, run_marks(rt, rt.alloc(), words)),
         ["twin", words @ ..] => print_sent(rt, run_twins(rt.alloc(), words)),
@@ -70,7 +52,7 @@ fn run<R: AllocGlobal + Print + Clock>(rt: &R, command: &[&str]) -> Result<()> {
             let tally = run_plain(rt.alloc(), reads, bytes, rounds, !rest.is_empty());
             print_tally(rt, tally)
         }
-        _ => bail!("log_bench marks|twin|READS WORD.."),
+        _ => bail!("wire_bench log marks|twin|READS WORD.."),
     }
 }
 

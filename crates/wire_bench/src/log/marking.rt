@@ -3,7 +3,7 @@
 ghost use Rattle.std.specs.Prelude.{◌≤◌, ◌+◌, ◌^◌, length};
 ghost use Rattle.logger_wire.specs.Value.{IsSendable};
 
-use crate::KEY;
+use crate::log::KEY;
 use anyhow::{Context, Result, bail, ensure};
 use ft_io::NoMemory;
 use logger_store::MsgOut;
@@ -125,7 +125,7 @@ pub(crate) struct Seen {
 /// Gives a new log so many reads with their marks, so many times.
 pub(crate) fn run_marks<C: Clock>(clock: &C, alloc: Global, words: &[&str]) -> Result<Seen> {
     let [reads, rounds] = words else {
-        bail!("log_bench marks READS ROUNDS");
+        bail!("wire_bench log marks READS ROUNDS");
     };
     let reads: u32 = reads.parse().context("READS")?;
     let rounds: u32 = rounds.parse().context("ROUNDS")?;

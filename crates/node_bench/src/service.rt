@@ -1,7 +1,7 @@
 //! A service, run over the standard input to its end: `service NAME`, where `web` is the web server. It prints how many bytes of output the service gave.
 
 ghost use Rattle.std.specs.Prelude.{◌≡◌, string_bytes};
-ghost use Rattle.endpoint_bench.specs.Names.{kind_named};
+ghost use Rattle.node_bench.specs.Names.{kind_named};
 
 use sample_servers::AnyService;
 use server_trait::{CHUNK_LIMIT, Next, Service};

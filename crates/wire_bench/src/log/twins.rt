@@ -3,7 +3,7 @@
 ghost use Rattle.std.specs.Prelude.{◌≤◌, ◌<◌, ◌+◌, ◌^◌, length};
 ghost use Rattle.logger_wire.specs.Value.{IsSendable};
 
-use crate::KEY;
+use crate::log::KEY;
 use anyhow::{Context, Result, bail, ensure};
 use ft_io::NoMemory;
 use logger_store::{LogStore, MsgOut};
@@ -20,7 +20,7 @@ const MESSAGES: u32 = 100_000;
 /// Gives COUNT messages to WHO, in bursts of BURST.
 pub(crate) fn run_twins(alloc: Global, words: &[&str]) -> Result<Tally> {
     let [who, count, burst] = words else {
-        bail!("log_bench twin WHO COUNT BURST");
+        bail!("wire_bench log twin WHO COUNT BURST");
     };
     let count: u32 = count.parse().context("COUNT")?;
     let burst: u32 = burst.parse().context("BURST")?;
