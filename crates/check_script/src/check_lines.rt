@@ -14,7 +14,7 @@ use std::alloc::Global;
 /// The most bytes of a schedule's own text, with its last line feed.
 const TEXT_BYTES: usize = 8_388_609;
 
-/// The fewest bytes before a line of a header behind the service's.
+/// The fewest bytes before a line of a header that comes after the service's.
 const HEADER_BYTES: usize = 12;
 
 /// The schedule that a text spells.
@@ -47,7 +47,7 @@ pub(crate) fn size_with_event(size: usize, n: u32, line: &[u8]) -> Option<usize>
     }
 }
 
-/// Whether a text's last line, which begins behind `start` bytes, continues the header before it.
+/// Whether a text's last line, which begins after `start` bytes, continues the header before it.
 pub(crate) fn ends_with_header_line(
     alloc: Global,
     text: &[u8],

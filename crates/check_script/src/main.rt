@@ -6,7 +6,7 @@
 //! - `packet N TEXT` asks whether TEXT is the line of packet N;
 //! - `event N SIZE TEXT` asks whether TEXT is the line of event N, after a schedule's own text of SIZE bytes, and for the size with it;
 //! - `service TEXT` asks whether TEXT is a service's line;
-//! - `header START TEXT` asks whether the last line of TEXT, which begins behind START bytes, continues the header before it.
+//! - `header START TEXT` asks whether the last line of TEXT, which begins after START bytes, continues the header before it.
 #![tactic(auto)]
 
 use check_lines::{ends_with_header_line, is_line_of_packet, is_service_line, size_with_event};

@@ -1,4 +1,4 @@
-//! Hostile datagrams from a seed, to both clients: half of them are any bytes, and half are packets whose numbers lie near the client's own.
+//! Hostile datagrams from a seed, to scripted and to live clients: half of them are any bytes, and half are packets whose numbers lie near the client's own.
 
 ghost use Rattle.std.specs.Prelude.{◌≤◌, ◌^◌, length, IfOk};
 
@@ -68,7 +68,7 @@ fn flags(draws: &mut Draws) -> u8 {
     }
 }
 
-/// What the server knows of a connection: its initial number there, and the numbers that the client expects next and has sent.
+/// What the server knows of a connection: its initial sequence number there, and the numbers that the client expects next and has sent.
 #[derive(Clone, Copy)]
 struct Known {
     base: Seq,
@@ -76,7 +76,7 @@ struct Known {
     sent: Seq,
 }
 
-/// Writes a packet to the client, whose text is the server's at its place, and answers its length.
+/// Writes a packet to the client, whose text is the server's at its place, and returns its length.
 fn packet(draws: &mut Draws, known: Known, out: &mut [u8; 1_500]) -> usize
     ensures { result ≤ 1500 }
 {
@@ -124,7 +124,7 @@ fn datagram(draws: &mut Draws, number: u32, known: Known, out: &mut [u8; 1_500])
     }
 }
 
-/// The server's initial number where a packet answers the SYN (RFC 9293, 3.10.7.3).
+/// The server's initial sequence number where a packet answers the SYN (RFC 9293, 3.10.7.3).
 fn opening(bytes: &[u8]) -> Option<Seq> {
     let head = read_packet(bytes).ok()?.head;
     let answers = has(head.flags, SYN) && has(head.flags, ACK) && !has(head.flags, RST);
@@ -267,7 +267,7 @@ pub(crate) fn attack_scripted(alloc: Global) -> Result<Tally, NoMemory> {
 #[derive(Drop)]
 struct Target {
     client: LiveClient,
-    /// The server's initial number, once it is known.
+    /// The server's initial sequence number, once it is known.
     base: Option<Seq>,
     handed: u32,
 }

@@ -32,7 +32,7 @@ const CLIENTS: Pattern = Pattern::Numbers;
 /// The server's text.
 const SERVERS: Pattern = Pattern::Letters;
 
-/// A turn of both is made at most so often.
+/// The most turns that each of the two takes.
 const TURNS: u32 = 1_000_000;
 
 /// A way that loses, repeats and reorders: the packets that may still arrive.
@@ -48,7 +48,7 @@ impl Way {
         }
     }
 
-    /// Puts what was sent on its path. One packet in six is lost.
+    /// Puts what was sent on the way. One packet in six is lost.
     fn carry(&mut self, alloc: Global, out: &Outbox, draws: &mut Draws) -> Result<(), NoMemory> {
         for i in 0..out.len() {
             if draws.below(6) > 0 {

@@ -1,5 +1,5 @@
 //! `client_script`: joins a live client and an endpoint by ways that lose, repeat and reorder, from three seeds, and hands hostile datagrams
-//! to both clients. It prints a line for each. Statuses: 0, 1 where something is lost or a rule is broken, 3 without memory.
+//! to scripted and to live clients. It prints a line for each. Statuses: 0, 1 where something is lost or a rule is broken, 3 without memory.
 #![tactic(auto)]
 
 use ft_io::NoMemory;
@@ -58,7 +58,7 @@ fn play_all(alloc: Global, said: &mut String) -> Result<bool, NoMemory> {
     play(alloc, &mut out, said)
 }
 
-/// Prints what was written, and answers the status.
+/// Prints what was written, and returns the status.
 fn end(rt: &HostRuntime, played: Result<bool, NoMemory>, said: &str) -> io::Result<ExitCode> {
     let Ok(whole) = played else {
         eprintln!(rt; "client_script: no memory")?;

@@ -41,7 +41,7 @@ pub(crate) fn may_follow(before: Phase, after: Phase) -> bool {
     }
 }
 
-/// Fills a datagram of 0 to 100 bytes with anything, and answers its length.
+/// Fills a datagram of 0 to 100 bytes with anything, and returns its length.
 pub(crate) fn anything(draws: &mut Draws, out: &mut [u8; 1_500]) -> usize {
     let len = draws.below(101) as usize;
     draws.fill(&mut out[..len]);

@@ -22,7 +22,7 @@ pub record IsTellableMark (m : Mark) : Type 0 where
 abbrev pub due_in : {S : Type 0} → (every : ℕ) → Marking → ConnState S → Option Quiet
 due_in every m c = if nat_lt 0 every && is_none m.outstanding && nat_le (m.last + every) c.north.count then quiet_in c else None
 
--- its mark, if the form of its state isn't longer than a message can hold
+-- whether its mark is made: one is due, and the form of its state isn't longer than a message can hold
 abbrev pub is_made : Option Quiet → List ℕ → Bool
 is_made None state = false
 is_made (Some quiet) state = nat_le (length state) 1100

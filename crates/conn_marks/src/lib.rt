@@ -1,4 +1,4 @@
-//! The marks of one connection: when its service's state is saved as a mark, and until when the mark is sent again.
+//! The marks of one connection: when its service's state is saved as a mark, and how long the mark is sent again.
 #![tactic(auto)]
 
 pub use marking::Marking;

@@ -45,7 +45,7 @@ pub record StandsClosed {State : Type 0} (service : Machine State) (u i delta : 
   pub all_sent : p.sent ≡ target service p
   pub still : p.rest ≡ 0
 
--- what is sent is a segment without data, if an ACK is pending by the law, and nothing else
+-- what is sent is a pure ACK, if an ACK is pending by the law, and nothing else
 abbrev pub SendsAlone : {State : Type 0} → Machine State → Addr → News → (before after : Point) → Type 0
 SendsAlone service server news before after =
     segments_of service server news before after ≡ or_bare (is_ack_pending service news before after) (bare_segment server after) []

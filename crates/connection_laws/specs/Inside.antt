@@ -6,7 +6,7 @@ use Rattle.server_trait.specs.Service.{Machine, Served, Run}
 use Rattle.seq_arith.specs.Coming.{nothing_early}
 use Rattle.ft_model.specs.Point.{Point, taken_units}
 
--- a service's answer to a chunk, where `left` bytes of output are still to be swallowed
+-- a service's answer to a chunk, where the next `left` bytes of output are swallowed: they were acknowledged before, and TCP doesn't get them
 abbrev pub swallowed : {State : Type 0} → (left : ℕ) → Served State → Served (State × ℕ)
 swallowed left served = record { next = (served.next, left - length served.output); output = drop left served.output; closed = served.closed }
 

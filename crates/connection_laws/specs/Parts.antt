@@ -55,11 +55,11 @@ abbrev pub repeats : News → Point → Bool
 repeats (Comes segment) before = repeats_syn before segment
 repeats _ before = false
 
--- the connection adds a segment without data if an ACK is pending for a reason that TCP doesn't know, or if one is pending and TCP is CLOSED
+-- the connection adds a pure ACK if an ACK is pending for a reason that TCP doesn't know, or if one is pending and TCP is CLOSED
 abbrev pub adds : {S : Type 0} → Machine S → News → (before after : Point) → Tcb → Bool
 adds service news before after t = needs_ack_besides service news before after || (is_closed t.name && is_ack_pending service news before after)
 
--- all that is sent, where TCP is t before its flush: what TCP sends, as the client receives it, and the logged SYN-ACK; or else that segment
+-- all that is sent, where TCP is t before its flush: what TCP sends, as the client receives it, and the SYN-ACK with the logged numbers; or else that ACK
 abbrev pub leaves_with : {S : Type 0} → Machine S → Addr → (delta : ℕ) → News → (before after : Point) → Tcb → List Segment
 leaves_with service server delta news before after t =
     or_bare (adds service news before after t) (bare_segment server after)

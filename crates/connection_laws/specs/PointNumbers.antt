@@ -13,7 +13,7 @@ use Rattle.tcp_endpoint.specs.UserCalls.{sent_number, acked_number}
 use Rattle.endpoint_laws.specs.ConnectionEnd.{has_taken_fin}
 use Rattle.north_wrap.specs.NorthState.{NorthState}
 
--- a TCP that isn't reset shows by its state whether the client's FIN is taken, and whether both FINs are done
+-- a TCP that isn't reset shows by its state whether the client's FIN is taken, and whether the connection is over
 abbrev pub tells_fin : Tcb → Bool
 tells_fin e = has_taken_fin e.name || is_closed e.name
 

@@ -11,7 +11,7 @@ use Rattle.ft_model.specs.Segments.{syn_acks, bare_segment, or_bare}
 use Rattle.south_wrap.specs.Translation.{inward, outward, repeats_syn}
 use Rattle.south_wrap.specs.SouthPoint.{south_at}
 
--- a segment is passed in as the south wrapper changes it. A SYN that the logged SYN-ACK answers isn't passed in. TCP gets all other news as it is
+-- a segment is passed in as the south wrapper changes it. A SYN for which `repeats_syn` holds isn't passed in. TCP gets all other news as it is
 abbrev pub news_inside : (delta : ℕ) → Point → News → News
 news_inside delta before (Comes segment) = if repeats_syn (south_at delta before) segment then Begins else Comes (inward (south_at delta before) segment)
 news_inside delta before news = news
@@ -30,7 +30,7 @@ asks_besides service _ before = false
 abbrev pub needs_ack_besides : {State : Type 0} → Machine State → News → (before after : Point) → Bool
 needs_ack_besides service news before after = asks_besides service news before || nat_lt before.answered after.answered
 
--- what is sent: the logged SYN-ACK, then what comes out of TCP, or else a segment without data for such an ACK
+-- what is sent: the SYN-ACK with the logged numbers, then what comes out of TCP; or else a pure ACK, if such an ACK is pending
 abbrev pub leaves : {State : Type 0} → Machine State → Addr → News → (before after : Point) → List Segment → List Segment
 leaves service server news before after passed_on =
     or_bare (needs_ack_besides service news before after) (bare_segment server after) (syn_acks server news before after ++ passed_on)

@@ -34,8 +34,9 @@ ghost use Rattle.connection_laws.specs.Splice.{GoesOnFrom, delta_from, StandsAtE
 
 use server_trait::Service;
 
-/// A lawful turn of a connection is also one of its inner TCP: if TCP is at the point inside before the turn, and its user is the service without the swallowed
-/// output, TCP is at the point inside after the turn. TCP's segments, as the client receives them and with what the connection adds, are the law's.
+/// A lawful turn of a connection is also one of its inner TCP: if TCP is at the point inside before it, and its user is the service without the output that was
+/// acknowledged before TCP began, TCP is at the point inside after it. TCP's segments, as the client receives them and with what the connection adds, are the
+/// law's.
 pub fn connections_turn_by_their_tcp<S: Service>()
     ensures { (fresh : S) (boot u i delta : ℕ) (news : News) (before after : Point) (calls : List Call) (e : Tcb) (sent : List Packet)
         → StandsInside u i delta before e → Turns (machine fresh S.after) e.local boot news before after sent u i delta
@@ -63,7 +64,7 @@ pub fn new_connections_begin_by_their_syn<S: Service>()
 {}
 
 /// In the turn in which TCP becomes CLOSED, since it has taken the client's FIN and its own is acknowledged, TCP sends nothing, and the connection is over. A
-/// segment without data is sent if an ACK is pending, and nothing else.
+/// pure ACK is sent if an ACK is pending, and nothing else.
 pub fn connections_end_with_their_tcp<S: Service>()
     ensures { (fresh : S) (boot u i delta : ℕ) (news : News) (before after : Point) (calls : List Call) (e : Tcb) (sent : List Packet)
         → StandsInside u i delta before e → IsNamedRightly e → before.reset ≡ false → reset_after news before ≡ false → e.reset ≡ false

@@ -22,7 +22,7 @@ pub(crate) const CLIENT: Key = Key {
     port: 40_000,
 };
 
-/// The initial numbers of the client and of the server.
+/// The initial sequence numbers of the client and of the server.
 pub(crate) const CISN: Seq = Seq(1_000);
 
 pub(crate) const SISN: Seq = Seq(5_000);

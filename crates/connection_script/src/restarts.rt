@@ -1,4 +1,5 @@
-//! Restarts of connections from a log in memory, by messages as bytes: what is asked, how much is held after each answer, and where each connection continues.
+//! Restarts of connections from a log in memory, by messages as bytes: what is asked, how many bytes are fetched and not yet replayed after each answer,
+//! and where each connection continues.
 
 pub(crate) use cases::play_all;
 

@@ -40,7 +40,7 @@ pub(crate) const SITUATIONS: [Situation; 7] = [
 ];
 
 impl Situation {
-    /// The kind of the service: Quit where the server closes first, and else Echo.
+    /// The kind of the service: Line where the server closes first, and else Echo.
     pub(crate) fn kind(self) -> u8 {
         if self == Situation::ServerFirst { 2 } else { 1 }
     }

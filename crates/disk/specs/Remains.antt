@@ -1,4 +1,4 @@
--- What a death may leave of a file: of a process that dies, or of a machine that loses its power, at any moment.
+-- What a death may leave of a file: a process dies, or a machine loses its power, at any moment.
 use Rattle.std.specs.Prelude.{◌≡◌, ◌⊎◌, ℕ, ◌+◌, true, false, List, [], ◌∷◌, ◌++◌, length, take, drop}
 use Rattle.disk.specs.declared.calls.DiskCall.{DiskCall}
 use Rattle.disk.specs.declared.calls.DiskCall.TheVariants.{Appended, Put, Cut, Synced}

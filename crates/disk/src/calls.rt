@@ -2,7 +2,7 @@
 
 use ft_io::{LinkCall, Octets};
 
-/// A recorded call that changes a file. The flag is true if the call failed: then it may be done in part.
+/// A recorded call that changes a file. The flag is true if the call failed: then it may have been done in part.
 #[derive(Drop)]
 pub enum DiskCall {
     /// These bytes are appended at the end.

@@ -13,7 +13,7 @@ use std::alloc::Global;
 pub struct Death {
     /// How many calls came before it.
     pub calls: usize,
-    /// How many bytes of an unsynced append are on the disk.
+    /// How many of the first bytes of an unsynced append are on the disk; all if it has fewer.
     pub kept: usize,
     /// Whether an unsynced byte that was put is on the disk.
     pub is_put: bool,
@@ -39,7 +39,7 @@ fn cut_off(bytes: &mut Vec<u8>, at: u64)
     bytes.truncate(at as usize);
 }
 
-/// What is on the disk after a call, where a read gave `file` before it.
+/// Makes `held`, which is on the disk before a call, into what is there after it. A read before the call gave `file`.
 fn hold(
     alloc: Global,
     death: Death,
@@ -68,7 +68,7 @@ fn hold(
     Ok(())
 }
 
-/// What a read gives after a call.
+/// Makes `file`, which a read gives before a call, into what one gives after it.
 fn see(file: &mut Vec<u8>, call: &DiskCall) -> Result<(), NoMemory>
     ensures { OnOk result (file.new.items ≡ seen_after file.old.items call.now) }
 {

@@ -31,7 +31,7 @@ pub trait Disk {
     fn faults(&self) -> u64
         ensures { result ≡ fault_count self.now };
 
-    /// Moves the next bytes that the file had when it was opened to the beginning of `buf`, and returns how many: 0 only at the end.
+    /// Moves bytes to the beginning of `buf`, the next of those that the file had when it was opened, and returns how many: 0 only at the end.
     fn read(&mut self, buf: &mut [u8]) -> Result<usize, Failed>
         requires { 0 < length buf.old }
         ensures within { IfOk result (λ n. n ≤ length buf.new) }

@@ -1,5 +1,5 @@
-//! Std's file as a disk. Its content isn't specified: what it writes, and whether a sync that returns `Ok` is true, depends on the system. Contracts know how
-//! many calls failed.
+//! Std's file as a disk. Its content isn't specified: what is written, and whether it is on the disk after a sync that returns `Ok`, depends on the system.
+//! Contracts know how many calls failed.
 
 ghost use Rattle.std.specs.Prelude.{◌≡◌, ◌≤◌, None, IfOk, OnOk, OnErr, length};
 ghost use Rattle.ft_io.specs.Faults.{Rose};
@@ -35,7 +35,7 @@ impl Model for FileDisk {
 impl FileDisk {
     /// Opens the file at `path`, or creates it, for this process only. It is synced before its first read: a process that died may have written more than it
     /// had synced, and what is read and answered from then on must survive a loss of power. A symbolic link, a directory and a device are refused, and so is a
-    /// file with a second name (hard link), since the lock is looked for under the first.
+    /// file with a second name (hard link).
     pub fn open<R: Files<File = File>>(files: &R, path: &str) -> Result<FileDisk, ShelfEnd>
         ensures { IfOk result (λ disk. disk ≡ 0) }
     {
@@ -64,7 +64,7 @@ impl FileDisk {
     }
 }
 
-/// The regular file of this name, created if it is missing. The name is no symbolic link, and the file has no second name.
+/// Opens the regular file of this name, or creates it. Refuses a symbolic link, and a file with a second name.
 fn open_named<R: Files<File = File>>(files: &R, path: &str) -> io::Result<File> {
     let mut file = open_or_make(files, path)?;
     // If a standard stream is closed, its descriptor is free: what is written to that stream must not end up in the file.
@@ -80,8 +80,8 @@ fn open_named<R: Files<File = File>>(files: &R, path: &str) -> io::Result<File> 
     Ok(file)
 }
 
-/// A symbolic link or a device of this name isn't opened. The file isn't opened in append mode: Linux would then write each byte at the end, whatever its
-/// place.
+/// Opens the file of this name, or creates it. Refuses a symbolic link, a directory and a device. The file isn't opened in append mode: Linux would then write
+/// each byte at the end, whatever its place.
 fn open_or_make<R: Files<File = File>>(files: &R, path: &str) -> io::Result<File> {
     let made = OpenOptions::new()
         .read(true)
@@ -99,8 +99,8 @@ fn open_or_make<R: Files<File = File>>(files: &R, path: &str) -> io::Result<File
     OpenOptions::new().read(true).write(true).open(files, path)
 }
 
-/// Syncs the file and its directory, so that a new name stays, and returns the file's length in bytes. The kernel's cached pages of the file are dropped, which
-/// a failed sync of an earlier process may have left different from the disk.
+/// Syncs the file and its directory, so that a new name stays, and returns the file's length in bytes. Drops the kernel's cached pages of the file, since a
+/// failed sync of an earlier process may have left them different from the disk.
 fn settle<R: Files<File = File>>(files: &R, file: &File, path: &str) -> io::Result<u64> {
     file.sync_all()?;
     let advised = libc::posix_fadvise(file.as_raw_fd(), 0, 0, libc::POSIX_FADV_DONTNEED);

@@ -225,7 +225,8 @@ impl Bound {
         }
     }
 
-    /// Whether the socket took the complete datagram. The send waits for room in the socket, so that no answer is lost because its buffer is full.
+    /// Sends a datagram, and returns whether the socket took all of it. The send waits for room in the socket's buffer, so that no answer is lost because that
+    /// is full.
     fn send(&mut self, to: Addr, bytes: &[u8]) -> bool {
         self.set_waits(true).is_ok()
             && matches!(self.socket.send_to(bytes, socket_addr(to)), Ok(sent) if sent == bytes.len())

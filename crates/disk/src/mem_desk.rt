@@ -53,7 +53,7 @@ impl Model for MemDesk {
 }
 
 impl MemDesk {
-    /// A desk with this network, and with this file under this name. The opens fail whose numbers, counted from 1, are in `open_fails`, and if `is_in_use`,
+    /// A desk with this network, and with this file under this name. The opens whose numbers, counted from 1, are in `open_fails` fail, and if `is_in_use`,
     /// every open is refused. Nothing is allocated yet.
     pub fn new(
         alloc: Global,
@@ -102,7 +102,7 @@ impl MemDesk {
         self.disk.note(DeskCall::OnLink(call))
     }
 
-    /// Records a datagram that was handed to send.
+    /// Records a datagram that was handed to `send`. Returns false if an allocation for that fails.
     fn note_handed(&mut self, to: Addr, bytes: &[u8], fails: bool) -> bool
         ensures noted { OnTrue result (self.new ≡ noted self.old (Handed to bytes.now fails)) }
         ensures starved { OnFalse result (self.new ≡ starved self.old) }
@@ -114,7 +114,7 @@ impl MemDesk {
         self.note(LinkCall::Handed(to, Octets::new(copy), fails))
     }
 
-    /// Records what was received.
+    /// Records what was received. Returns false if an allocation for that fails.
     fn note_heard(&mut self, heard: Heard, buf: &[u8]) -> bool
         requires { HasAtMost heard (length buf.now) }
         ensures noted { OnTrue result (self.new ≡ noted self.old (heard_as heard buf.now)) }
@@ -192,7 +192,7 @@ impl Desk for MemDesk {
     }
 
     fn open(&mut self, name: &str) -> Result<(), ShelfEnd>
-        // It fails exactly where its call is listed so, and is refused exactly where another process has the file.
+        // It fails exactly where its call is listed as failing, and is refused exactly where another process has the file.
         ensures opened { OnOk result ((self.old.is_in_use ≡ false) × (IsNextListed self.old.opens → ⊥)) }
         ensures failed { IsErrOf result ShelfEnd.Failed → IsNextListed self.old.opens }
         ensures refused { IsErrOf result ShelfEnd.InUse → self.old.is_in_use ≡ true }
@@ -246,7 +246,7 @@ impl Desk for MemDesk {
     }
 
     fn send(&mut self, to: Addr, bytes: &[u8]) -> Result<(), Failed>
-        // It fails only where its call is listed so, or where an allocation fails.
+        // It fails only where its call is listed as failing, or where an allocation fails.
         ensures fails { OnErr result (IsNextListed self.old.link.sends ⊎ IsStarved self.new) }
 
         // What every desk promises.
@@ -269,7 +269,7 @@ impl Desk for MemDesk {
     fn recv(&mut self, buf: &mut [u8]) -> Result<Heard, Failed>
         requires { 2048 ≤ length buf.old }
 
-        // It fails only where its call is listed so, or where an allocation fails, and gives the next arrival.
+        // It fails only where its call is listed as failing, or where an allocation fails, and gives the next arrival.
         ensures heard { IfOk result (λ heard. heard_as heard buf.new ≡ arriving (length buf.new) self.old.link.arrivals) }
         ensures fails { OnErr result (IsNextListed self.old.link.recvs ⊎ IsStarved self.new) }
 
@@ -294,11 +294,11 @@ impl Desk for MemDesk {
         Err(self.fail_on_link())
     }
 
-    /// Its calls share the numbering of `recv`.
+    /// Its calls and those of `recv` are numbered together.
     fn recv_waiting(&mut self, buf: &mut [u8]) -> Result<Heard, Failed>
         requires { 2048 ≤ length buf.old }
 
-        // It fails only where its call is listed so, or where an allocation fails, and gives the next arrival.
+        // It fails only where its call is listed as failing, or where an allocation fails, and gives the next arrival.
         ensures heard { IfOk result (λ heard. heard_as heard buf.new ≡ arriving (length buf.new) self.old.link.arrivals) }
         ensures fails { OnErr result (IsNextListed self.old.link.recvs ⊎ IsStarved self.new) }
 

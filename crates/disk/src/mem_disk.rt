@@ -1,5 +1,5 @@
-//! A file in memory, for tests. It records its calls. It fails where it was made to fail, and where an allocation fails; from then on `told` returns `None`. It
-//! can be asked what a death at any moment leaves of it.
+//! A file in memory, for tests. It records its calls. It fails where it was made to fail, and where an allocation fails; once an allocation has failed, `told`
+//! returns `None`. It can be asked what a death at any moment leaves of it.
 
 ghost use Rattle.std.specs.Prelude.{◌≡◌, ◌≤◌, ◌<◌, ◌↔◌, ◌⊎◌, length, min, take, false, true, None, Some, [], ◌∷◌, is_err, IfSome, IfOk, OnOk, OnErr, IsErr};
 ghost use Rattle.std.specs.Bool.{OnTrue, OnFalse};
@@ -54,8 +54,8 @@ impl Model for MemDisk {
 }
 
 impl MemDisk {
-    /// A file that had these bytes when it was opened. The reads fail whose numbers, counted from 1, are in `read_fails`, and likewise in `fails` those of the
-    /// calls that change it. Nothing is allocated yet.
+    /// A file that had these bytes when it was opened. The reads whose numbers, counted from 1, are in `read_fails` fail, and so do the calls that change it
+    /// whose numbers are in `fails`. Nothing is allocated yet.
     pub fn new(alloc: Global, first: Vec<u8>, read_fails: Vec<u32>, fails: Vec<u32>) -> MemDisk
         ensures { result ≡ fresh_disk first.items read_fails.items fails.items }
     {
@@ -71,7 +71,7 @@ impl MemDisk {
         }
     }
 
-    /// The calls so far, the oldest first, or `None` once an allocation has failed in one.
+    /// The calls so far, the oldest first, or `None` once an allocation has failed in a call.
     pub fn told(&self) -> Option<&[DeskCall]>
         ensures some { IfSome result (λ calls. told_of self.now ≡ Some calls.now) }
         ensures none { result ≡ None → told_of self.now ≡ None }
@@ -99,7 +99,7 @@ impl MemDisk {
         left_behind(self.alloc, death, &self.first, &self.calls[..count])
     }
 
-    /// Records a call. False if an allocation for that fails.
+    /// Records a call. Returns false if an allocation for that fails.
     pub(crate) fn note(&mut self, call: DeskCall) -> bool
         ensures noted { OnTrue result (self.new ≡ noted self.old call) }
         ensures starved { OnFalse result (self.new ≡ starved self.old) }
@@ -111,7 +111,7 @@ impl MemDisk {
         is_noted
     }
 
-    /// What wasn't read.
+    /// The bytes that aren't read yet.
     fn rest(&self) -> &[u8]
         ensures { result.now ≡ self.now.left }
     {
@@ -125,7 +125,7 @@ impl MemDisk {
         self.is_starved = true;
     }
 
-    /// A file of another name, which is created.
+    /// Becomes a file of another name, which is created empty.
     pub(crate) fn make_anew(&mut self)
         ensures { self.new ≡ made_anew self.old }
     {
@@ -167,11 +167,11 @@ impl Disk for MemDisk {
         self.faults
     }
 
-    /// Moves as many bytes as are left and fit.
+    /// Moves as many bytes as aren't read yet and fit.
     fn read(&mut self, buf: &mut [u8]) -> Result<usize, Failed>
         requires { 0 < length buf.old }
 
-        // It fails exactly where its call is listed so, and moves all that is left and fits.
+        // It fails exactly where its call is listed as failing, and moves all that is left and fits.
         ensures fails { IsErr result ↔ IsNextListed self.old.reads }
         ensures moved { IfOk result (λ n. n ≡ min (length self.old.left) (length buf.new)) }
         ensures same { self.new.calls ≡ self.old.calls }
@@ -193,7 +193,7 @@ impl Disk for MemDisk {
     }
 
     fn append(&mut self, bytes: &[u8]) -> Result<(), Failed>
-        // It fails exactly where its call is listed so, or where an allocation fails. So do the other calls that change the file.
+        // It fails exactly where its call is listed as failing, or where an allocation fails. So do the other calls that change the file.
         ensures done { OnOk result ((IsNextListed self.old.changes → ⊥)
             × (self.new ≡ noted (changing self.old) (OnDisk (Appended bytes.now false)))) }
         ensures failed { OnErr result ((IsNextListed self.old.changes

@@ -6,7 +6,7 @@ use std::io;
 /// Why a file couldn't be opened.
 #[derive(Clone, Copy, PartialEq, Eq)]
 pub enum ShelfEnd {
-    /// A system call failed, or the name is that of no regular file with one name.
+    /// A system call failed, or the name isn't that of a regular file, or the file has a second name.
     Failed,
     /// Another process has it open.
     InUse,

@@ -112,7 +112,7 @@ abbrev pub refusals : Addr → News → Point → List Segment
 refusals server (Comes segment) before = if refuses before segment then rst_at_ack server segment ∷ [] else []
 refusals server _ before = []
 
--- what is sent in a turn: that RST; retransmissions and probes; text and FIN; else a segment without data if an ACK is pending. The model's wrapped
+-- what is sent in a turn: that RST; retransmissions and probes; text and FIN; else a pure ACK if an ACK is pending. The model's wrapped
 -- connection sends the same, except that it drops TCP's RST, answers a repeated SYN with the logged SYN-ACK, and also has an ACK pending where more is known
 -- to be logged, where it has become live, and where a segment arrives after it is over
 abbrev pub segments_by_laws : {State : Type 0} → Machine State → Addr → News → (before after : Point) → List Segment
@@ -124,7 +124,7 @@ segments_by_laws service server news before after =
 abbrev pub point_begun : (fetched : List ℕ) → Numbers → Point
 point_begun fetched numbers = record (point_opened numbers) { fetched = length fetched; taken = fetched; answered = length fetched; rest = 1 }
 
--- the numbers of a connection whose peer has this initial number, once its SYN has arrived
+-- the numbers of a connection whose peer has this initial sequence number, once its SYN has arrived
 abbrev pub numbers_with : (cisn sisn : ℕ) → Segment → Numbers
 numbers_with cisn sisn syn = record { key = source_of syn; cisn = cisn; sisn = sisn; mss = segment_size syn.head.mss }
 

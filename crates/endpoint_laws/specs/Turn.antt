@@ -1,5 +1,5 @@
 -- A turn of an endpoint, from one flush to the next: a segment arrives, a tick passes, or neither; the user makes calls, and one flush ends the turn. In a turn
--- without either only the user's calls and the flush change the endpoint.
+-- without either, only the user's calls and the flush change the endpoint.
 use Rattle.std.specs.Prelude.{◌≡◌, ℕ, true, false, ◌+◌, ◌-◌, ◌≤◌, ◌^◌, List, [], ◌∷◌, length, None}
 use Rattle.seq_arith.specs.Packet.{Segment}
 use Rattle.ft_model.specs.News.{News}

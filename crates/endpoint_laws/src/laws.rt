@@ -133,7 +133,7 @@ pub fn turns_send_up_to_the_edge()
     ensures { (e : Tcb) → has_begun e.name ≡ true → IsBounded e → ProbesRightly e → (flushed e).sending.sent ≡ sent_by_law e }
 {}
 
-/// The law on pending ACKs: when a segment makes an ACK pending. The ACK is sent if no other segment is.
+/// The law on pending ACKs: which segments require an ACK. A pure ACK is sent if no other segment is.
 #[tactic(auto, using(crate::proofs::OwedLaw::ack_pending_law))]
 pub fn segments_are_owed_answers_by_law()
     ensures { (e : Tcb) (p : Segment) → has_begun e.name ≡ true → IsBounded e → IsUsual e p → e.ack_pending ≡ false → is_refused e p ≡ false
@@ -198,7 +198,7 @@ pub fn turns_have_points()
 
 /// The same over a complete run: from its SYN on an endpoint of `listen` follows the laws Taken and Sending of `ft_model`, with the law of the timer, turn by
 /// turn, until a RST at exactly the next number arrives, or until the peer's FIN is taken, its own is acknowledged and it is CLOSED. This holds for every
-/// initial number of both sides, every limit up to 2^24, and every user.
+/// initial sequence number of both sides, every limit up to 2^24, and every user.
 pub fn endpoints_run_by_the_laws()
     ensures { (e : Tcb) (iss limit cisn : ℕ) (fetched : List ℕ) (syn : Segment) (calls : List Call) (steps : List Step)
         → IsListening iss limit e → limit + length fetched ≡ 2 ^ 24 → is_syn syn ≡ true → syn.head.seq ≡ (cisn + length fetched) % 2 ^ 32
@@ -222,7 +222,7 @@ pub fn states_tell_the_peers_fin()
     ensures { (e : Tcb) → has_begun e.name ≡ true → IsNamedRightly e → e.receiving.fin ≡ has_taken_fin e.name }
 {}
 
-/// The law on segments without data, at the end of a turn with a segment: one is sent exactly where an ACK is pending and no other segment is sent.
+/// The law on pure ACKs, at the end of a turn with a segment: one is sent exactly where an ACK is pending and no other segment is sent.
 pub fn bare_segments_go_out_where_owed()
     ensures { (e u : Tcb) (p : Segment) → has_begun e.name ≡ true → has_begun u.name ≡ true → IsBounded e → IsUsual e p → e.ack_pending ≡ false
         → is_refused e p ≡ false → u.ack_pending ≡ (received e p).ack_pending
@@ -311,7 +311,7 @@ pub fn segments_acknowledge_all_that_is_taken()
 {}
 
 /// All that is taken is acknowledged at once: if more is taken in a turn, a segment is sent that isn't a RST, and so acknowledges it. The same holds if the
-/// right edge moves, unless a RST is sent in answer.
+/// right edge moves, unless a RST is sent in reply.
 pub fn what_is_taken_is_told()
     ensures { (news : News) (calls : List Call) (e : Tcb) → has_begun e.name ≡ true → e.reset_reply ≡ None
         → last_advertised e ≡ (next e.receiving, advertised_edge e.receiving) → ReadsOnlyTaken calls (arrived news e)

@@ -52,7 +52,7 @@ pub fn syns_are_acknowledged()
         × (is_told (sent_in (Comes syn) calls e) ≡ true) }
 {}
 
-/// While an active open waits, it sends a RST in answer to an acknowledgement of anything but the SYN, retransmits the SYN when the timer expires, and sends
+/// While an active open waits, it sends a RST in reply to an acknowledgement of anything but the SYN, retransmits the SYN when the timer expires, and sends
 /// nothing else.
 pub fn active_opens_send_their_syn_again()
     ensures { (iss limit : ℕ) (news : News) (calls : List Call) (e : Tcb) → IsConnecting iss limit e → MayUse calls (arrived news e)

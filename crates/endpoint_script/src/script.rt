@@ -70,7 +70,7 @@ pub(crate) enum Deed<'a> {
     Shows(Quantity, u32),
 }
 
-/// One of two endpoints that are joined: its initial number, and how many bytes its user writes.
+/// One of two endpoints that are joined: its initial sequence number, and how many bytes its user writes.
 #[derive(Clone, Copy)]
 pub(crate) struct Joiner {
     pub(crate) isn: u32,
@@ -107,7 +107,7 @@ pub(crate) enum Counted {
     Resets,
     /// Bytes that were read.
     Read,
-    /// Units of the own streams that were acknowledged.
+    /// Units of the endpoints' own streams that were acknowledged.
     Acked,
 }
 
@@ -161,7 +161,7 @@ impl<'a> Script<'a> {
         }
     }
 
-    /// Where the steps of a part begin, which are behind those of the parts before it.
+    /// Where the steps of a part begin. They come after those of the parts before it.
     pub(crate) fn start(&self, number: usize) -> usize {
         match self.parts.get(number) {
             Some(part) => part.start,

@@ -61,6 +61,6 @@ pub struct Key {
     pub port: u16,
 }
 
-/// An input or output call failed. It moved no bytes.
+/// An input or output call failed. It moved no bytes, where the content is specified.
 #[derive(Clone, Copy, PartialEq, Eq)]
 pub struct Failed;

@@ -29,11 +29,11 @@ pub trait Link {
     /// What `bind_faults` returns.
     ghost bind_fault_count: { Self → ℕ };
 
-    /// How many calls have failed. The count never falls, rises only by a call that fails, and stops at `u64::MAX`.
+    /// Returns how many calls have failed. The count never falls, rises only by a call that fails, and stops at `u64::MAX`.
     fn faults(&self) -> u64
         ensures { result ≡ fault_count self.now };
 
-    /// How many binds have failed. They count among the faults too.
+    /// Returns how many binds have failed. They count among the faults too.
     fn bind_faults(&self) -> u64
         ensures { result ≡ bind_fault_count self.now };
 

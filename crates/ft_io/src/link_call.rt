@@ -13,6 +13,6 @@ pub enum LinkCall {
     Silent,
     /// A receive failed.
     Missed,
-    /// These bytes were handed to a send to this address. True where it failed.
+    /// These bytes were handed to a send to this address. The flag is true where the send failed.
     Handed(Addr, Octets, bool),
 }

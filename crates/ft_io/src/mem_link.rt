@@ -63,8 +63,8 @@ impl Model for MemLink {
 }
 
 impl MemLink {
-    /// A link at which these datagrams arrive, one at each receive, and none after them. The sends and the receives fail whose numbers, each counted from 1,
-    /// are in `send_fails` and `recv_fails`, and every bind where `bind_fails`. A receive that fails uses up no arrival. Nothing is allocated yet.
+    /// Makes a link at which these datagrams arrive, one at each receive, and none after them. The sends and the receives fail whose numbers, each counted
+    /// from 1, are in `send_fails` and `recv_fails`, and every bind where `bind_fails`. A receive that fails uses up no arrival. Nothing is allocated yet.
     pub fn new(
         alloc: Global,
         arrivals: Vec<Arrival>,
@@ -89,7 +89,7 @@ impl MemLink {
         }
     }
 
-    /// The same, but those binds fail whose numbers, counted from 1, are in `bind_fails`, for a test of retried binds.
+    /// Makes the same link, but those binds fail whose numbers, counted from 1, are in `bind_fails`, for a test of retried binds.
     pub fn with_bind_fails(
         alloc: Global,
         arrivals: Vec<Arrival>,
@@ -105,7 +105,7 @@ impl MemLink {
         link
     }
 
-    /// How many calls failed because an allocation failed. The count never falls, and each of them counts among the faults too.
+    /// Returns how many calls failed because an allocation failed. The count never falls, and each of them counts among the faults too.
     pub fn starved(&self) -> u64
         ensures count { result ≡ self.now.starved }
         ensures among_faults { result ≤ self.now.faults }
@@ -113,7 +113,7 @@ impl MemLink {
         self.starved
     }
 
-    /// The calls so far, the oldest first, or `None` once an allocation has failed in a call.
+    /// Returns the calls so far, the oldest first, or `None` once an allocation has failed in a call.
     pub fn told(&self) -> Option<&[LinkCall]>
         ensures some { IfSome result (λ calls. told_of self.now ≡ Some calls.now) }
         ensures none { result ≡ None → told_of self.now ≡ None }

@@ -38,7 +38,7 @@ impl Model for MemSink {
 }
 
 impl MemSink {
-    /// An empty sink. The writes fail whose numbers, counted from 1, are in `fails`. Nothing is allocated yet.
+    /// Makes an empty sink. The writes fail whose numbers, counted from 1, are in `fails`. Nothing is allocated yet.
     pub fn new(alloc: Global, fails: Vec<u32>) -> MemSink
         ensures { result ≡ fresh_sink fails.items }
     {
@@ -50,7 +50,7 @@ impl MemSink {
         }
     }
 
-    /// How many writes failed because an allocation failed. The count never falls, and each of them counts among the faults too.
+    /// Returns how many writes failed because an allocation failed. The count never falls, and each of them counts among the faults too.
     pub fn starved(&self) -> u64
         ensures count { result ≡ self.now.starved }
         ensures among_faults { result ≤ self.now.faults }
@@ -58,7 +58,7 @@ impl MemSink {
         self.starved
     }
 
-    /// All bytes that the sink took.
+    /// Returns all bytes that the sink took.
     pub fn written(&self) -> &[u8]
         ensures { result.now ≡ self.now.taken }
     {

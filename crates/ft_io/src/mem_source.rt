@@ -35,7 +35,7 @@ impl Model for MemSource {
 }
 
 impl MemSource {
-    /// A source of `bytes`. The reads fail whose numbers, counted from 1, are in `fails`.
+    /// Makes a source of `bytes`. The reads fail whose numbers, counted from 1, are in `fails`.
     pub fn new(bytes: Vec<u8>, fails: Vec<u32>) -> MemSource
         ensures { result ≡ fresh_source bytes.items fails.items }
     {
@@ -47,7 +47,7 @@ impl MemSource {
         }
     }
 
-    /// The bytes that are left.
+    /// Returns the bytes that are left.
     pub fn rest(&self) -> &[u8]
         ensures { result.now ≡ self.now.left }
     {

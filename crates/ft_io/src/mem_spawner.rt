@@ -45,8 +45,8 @@ impl Model for MemSpawner {
 }
 
 impl MemSpawner {
-    /// A spawner whose children end with `statuses`, in the order of their starts, and with 0 past that list. The starts and waits fail whose numbers, counted
-    /// from 1 and in one numbering, are in `fails`. Nothing is allocated yet.
+    /// Makes a spawner whose children end with `statuses`, in the order of their starts, and with 0 past that list. The starts and waits fail whose numbers,
+    /// counted from 1 and in one numbering, are in `fails`. Nothing is allocated yet.
     pub fn new(alloc: Global, statuses: Vec<i32>, fails: Vec<u32>) -> MemSpawner
         ensures { result ≡ fresh_spawner statuses.items fails.items }
     {
@@ -61,8 +61,8 @@ impl MemSpawner {
         }
     }
 
-    /// How many calls failed because an allocation failed, or because the numbers for children ran out. The count never falls, and each of them counts among
-    /// the faults too.
+    /// Returns how many calls failed because an allocation failed, or because the numbers for children ran out. The count never falls, and each of them counts
+    /// among the faults too.
     pub fn starved(&self) -> u64
         ensures count { result ≡ self.now.starved }
         ensures among_faults { result ≤ self.now.faults }
@@ -70,7 +70,7 @@ impl MemSpawner {
         self.starved
     }
 
-    /// The calls so far, the oldest first, or `None` once `starved` has risen.
+    /// Returns the calls so far, the oldest first, or `None` once `starved` has risen.
     pub fn told(&self) -> Option<&[SpawnCall]>
         ensures some { IfSome result (λ calls. told_of self.now ≡ Some calls.now) }
         ensures none { result ≡ None → told_of self.now ≡ None }
@@ -175,7 +175,7 @@ impl Spawner for MemSpawner {
     }
 }
 
-/// The status at this place, or 0 past the list.
+/// Returns the status at this place, or 0 past the list.
 fn status_at(statuses: &[i32], at: usize) -> i32
     ensures { result ≡ or_zero (slice_get statuses.now at) }
 {

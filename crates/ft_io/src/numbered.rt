@@ -21,7 +21,7 @@ impl Model for NumberedCalls {
 }
 
 impl NumberedCalls {
-    /// No call yet. `fails` has the numbers, counted from 1, of those that fail.
+    /// Makes the numbering before the first call. `fails` has the numbers, counted from 1, of those that fail.
     pub fn new(fails: Vec<u32>) -> NumberedCalls
         ensures { result ≡ no_call fails.items }
     {

@@ -28,7 +28,7 @@ impl<'a, R: Processes> Model for ProcessSpawner<'a, R> {
 }
 
 impl<'a, R: Processes> ProcessSpawner<'a, R> {
-    /// A spawner that has started nothing yet. It allocates nothing before its first start.
+    /// Makes a spawner that has started nothing yet. It allocates nothing before its first start.
     pub fn new(processes: &'a R, alloc: Global) -> ProcessSpawner<'a, R>
         ensures { result ≡ fresh_spawner }
     {
@@ -92,7 +92,7 @@ fn started_child<R: Processes>(
     command.spawn(processes)
 }
 
-/// The status with which the child ended, or `None` where it has none or can't be waited for.
+/// Returns the status with which the child ended, or `None` where it has none or can't be waited for.
 fn exit_status<P: OpenProcess>(child: &mut Child<P>) -> Option<i32> {
     match child.wait() {
         Ok(status) => status.code(),

@@ -74,7 +74,7 @@ pub fn read_to_limit<I: Source>(
     Err(ReadEnd::TooLong)
 }
 
-/// One read of at most `room` bytes, which passes through `chunk` and is appended to `bytes`. Returns how many they were.
+/// Reads at most `room` bytes once, through `chunk`, and appends them to `bytes`. Returns how many they were.
 fn read_more<I: Source>(
     input: &mut I,
     room: usize,

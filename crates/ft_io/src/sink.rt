@@ -15,12 +15,12 @@ pub trait Sink {
     /// What `faults` returns.
     ghost fault_count: { Self → ℕ };
 
-    /// How many calls have failed. The count never falls, and stops at `u64::MAX`.
+    /// Returns how many calls have failed. The count never falls, and stops at `u64::MAX`.
     fn faults(&self) -> u64
         ensures { result ≡ fault_count self.now };
 
-    /// Takes a prefix of `buf`, and returns its length. To take nothing of a nonempty `buf` is a fault. After `Failed` nothing was taken, and the call may be
-    /// tried again. The count of faults rises only at `Failed`.
+    /// Takes a prefix of `buf`, and returns its length. To take nothing of a nonempty `buf` is a fault. After `Failed` nothing was taken, where the
+    /// content is specified, and the call may be tried again. The count of faults rises only at `Failed`.
     fn write(&mut self, buf: &[u8]) -> Result<usize, Failed>
         ensures within { IfOk result (λ n. n ≤ length buf.now) }
         ensures some { IfOk result (λ n. 0 < length buf.now → 0 < n) }

@@ -15,7 +15,7 @@ pub trait Source {
     /// What `faults` returns.
     ghost fault_count: { Self → ℕ };
 
-    /// How many calls have failed. The count never falls, and stops at `u64::MAX`.
+    /// Returns how many calls have failed. The count never falls, and stops at `u64::MAX`.
     fn faults(&self) -> u64
         ensures { result ≡ fault_count self.now };
 

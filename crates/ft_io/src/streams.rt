@@ -24,7 +24,7 @@ impl<R: Read> Model for ReadSource<R> {
 }
 
 impl<R: Read> ReadSource<R> {
-    /// A source of what `reader` gives, with no fault yet.
+    /// Makes a source of what `reader` gives, with no fault yet.
     pub fn new(reader: R) -> ReadSource<R>
         ensures { result ≡ 0 }
     {
@@ -69,7 +69,7 @@ impl<W: Write> Model for WriteSink<W> {
 }
 
 impl<W: Write> WriteSink<W> {
-    /// A sink that hands everything to `writer`, with no fault yet.
+    /// Makes a sink that hands everything to `writer`, with no fault yet.
     pub fn new(writer: W) -> WriteSink<W>
         ensures { result ≡ 0 }
     {
@@ -97,7 +97,7 @@ impl<W: Write> Sink for WriteSink<W> {
     }
 }
 
-/// One write and one flush, and how many bytes the write took.
+/// Makes one write and one flush. Returns how many bytes the write took.
 fn write_through<W: Write>(writer: &mut W, buf: &[u8]) -> io::Result<usize>
     ensures { IfOk result (λ n. n ≤ length buf.now) }
 {

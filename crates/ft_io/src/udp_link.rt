@@ -47,7 +47,7 @@ impl<'a, R: Net + Clock> Model for UdpLink<'a, R> {
 }
 
 impl<'a, R: Net + Clock> UdpLink<'a, R> {
-    /// A link that isn't bound, with no fault yet.
+    /// Makes a link that isn't bound, with no fault yet.
     pub fn new(system: &'a R) -> UdpLink<'a, R>
         ensures { result ≡ fresh_link }
     {

@@ -21,7 +21,7 @@ impl Model for Words {
 }
 
 impl Words {
-    /// A copy of these words.
+    /// Copies these words.
     #[tactic(auto, using(crate::proofs::Copies::same_bytes))]
     pub fn copy(alloc: Global, words: &[String]) -> Result<Words, NoMemory>
         ensures { IfOk result (λ copy. copy ≡ map string_bytes words.now) }
@@ -30,7 +30,7 @@ impl Words {
         Ok(Words { words })
     }
 
-    /// The words, in order.
+    /// Returns the words, in order.
     pub fn as_slice(&self) -> &[String]
         ensures { map string_bytes result.now ≡ self.now }
     {

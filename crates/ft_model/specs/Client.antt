@@ -27,7 +27,7 @@ pub record Client : Type 0 where
   pub isn : ℕ
   pub script : List ℕ
   pub phase : Phase
-  pub sisn : ℕ  -- the server's initial number; 0 until it is known
+  pub sisn : ℕ  -- the server's initial sequence number; 0 until it is known
   pub sent : ℕ  -- units sent, from the first on
   pub acknowledged : ℕ  -- how many of these units the server has acknowledged
   pub accepted : List ℕ  -- the server's bytes

@@ -13,7 +13,7 @@ use Rattle.ft_model.specs.News.{News}
 use Rattle.ft_model.specs.News.News.{Comes, Logged, Ticks, Begins}
 use Rattle.ft_model.specs.Taken.{end_of}
 
--- an offset of the stream. A segment that begins before the stream's first byte, as a retransmission may, counts from that byte
+-- an offset of the stream. A segment that begins before the stream's first byte, as a keep-alive may, counts from that byte
 abbrev pub from_start : ℤ → ℕ
 from_start (pos offset) = offset
 from_start (negsuc before) = 0
@@ -22,7 +22,7 @@ from_start (negsuc before) = 0
 abbrev pub copy_start : Point → Segment → ℕ
 copy_start p segment = max p.answered (from_start (first_of p.cisn segment))
 
--- the text from there up to the bytes taken
+-- the text from there up to the end of the bytes taken
 abbrev pub copied_text : Point → Segment → List ℕ
 copied_text p segment = take (length p.taken - copy_start p segment) (drop (below p.answered (first_of p.cisn segment)) (text_of segment))
 
@@ -53,7 +53,7 @@ further_text before after segment = drop (further_start before after segment) af
 abbrev pub takes_held_fin : (before after : Point) → Segment → Bool
 takes_held_fin before after segment = after.fin && not before.fin && not (copies_fin after segment) && nat_le after.answered (length after.taken)
 
--- these bytes, from an offset on, as at most k Data: 1,460 bytes each except the last, which has the FIN
+-- these bytes, from an offset on, as at most k Data: 1,460 bytes each except the last, which has the FIN if there is one
 unfoldable pub datas : (k : ℕ) → Key → (acked offset : ℕ) → List ℕ → Bool → List Body
 datas zero key acked offset bytes fin = []
 datas (suc k) key acked offset bytes fin =

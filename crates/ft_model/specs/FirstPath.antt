@@ -1,5 +1,5 @@
--- Packets of a worked run: a client at 192.0.2.1:40000 with initial number 1000 says hello to an echo service at 192.0.2.100:7, whose first boot has initial
--- number 5000. A second boot then fetches the log.
+-- Packets of a worked run: a client at 192.0.2.1:40000 with initial sequence number 1000 says hello to an echo service at 192.0.2.100:7. The first boot
+-- has initial sequence number 5000. A second boot then fetches the log.
 use Rattle.std.specs.Prelude.{ℕ, codes, false, Option, None, List, [], ◌∷◌}
 use Rattle.ft_io.specs.declared.Key.{Key}
 use Rattle.seq_arith.specs.Message.Body.{HelloMsg, EntryMsg, PartMsg, CutsMsg, LensMsg, OpenMsg, DataMsg, StableMsg, ReadMsg, ReadsMsg}

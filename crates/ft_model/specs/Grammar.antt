@@ -63,7 +63,7 @@ part_number word = number 1 2 word
 abbrev pub every_number : List ℕ → Result ℕ LineWhy
 every_number word = number 1 1000 word
 
--- a number of 32 bits: an initial number, a bit, an offset or a length
+-- a number of 32 bits: an initial sequence number, a bit, an offset or a length
 abbrev pub long_number : List ℕ → Result ℕ LineWhy
 long_number word = number 0 (2 ^ 32 - 1) word
 
@@ -315,7 +315,7 @@ after_line objection n draft text =
     else (if is_too_much draft text then Err (TooLong limit.Events)
     else at_line n (line_of draft text >>= λ l. unless_objected (objection draft l) (with_line draft l)))
 
--- a text that ends before its server line is refused because that is missing, at the number after its last line
+-- a text that ends before its server line is refused by the test `place`, at the number after its last line
 abbrev pub schedule_of : ℕ → Draft → Result Schedule Refusal
 schedule_of n (Begun schedule) = Ok schedule
 schedule_of n _ = Err (BadLine n why.Place)

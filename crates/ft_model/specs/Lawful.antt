@@ -41,7 +41,7 @@ abbrev pub all_restored : {State : Type 0} → Machine State → List Fetched �
 all_restored service [] = []
 all_restored service (f ∷ earlier) = all_restored service earlier ++ restored service f ∷ []
 
--- each restarted connection uses up an initial number
+-- each restarted connection uses up an initial sequence number
 abbrev pub restored_count : List Fetched → ℕ
 restored_count fetched = length (filter (λ f. not f.head.done) fetched)
 
@@ -123,7 +123,7 @@ pub record LawfulTurn {State : Type 0} (service : Machine State) (before : Node)
   pub live : is_fenced before.stage ≡ false
   pub stage : NodeTurn service before input (fence before input) after.stage sent
 
--- a turn of a process on its own, with the server after it
+-- a turn of a process on its own, with the server's state after it
 pub record Turn : Type 0 where
   pub input : Input
   pub sent : List Packet

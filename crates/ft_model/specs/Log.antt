@@ -75,11 +75,11 @@ abbrev pub is_hello : Body → Bool
 is_hello HelloMsg = true
 is_hello _ = false
 
--- a Hello makes its boot the log's. Any other kind counts only if it has the log's own boot
+-- a Hello makes its boot the log's. Any other message counts only if it has the log's own boot
 abbrev pub with_message : Message → Log → Log
 with_message message log = if is_hello message.body then record log { boot = message.boot } else (if message.boot == log.boot then with_body message.body log else log)
 
--- The log after a message. A kind that only the logger sends changes nothing, nor does a smaller boot.
+-- The log after a message. A message of a kind that only the logger sends changes nothing, nor does one of a smaller boot.
 unfoldable pub log_after : Log → Message → Log
 log_after log message = if is_answer message.body || nat_lt message.boot log.boot then log else with_message message log
 

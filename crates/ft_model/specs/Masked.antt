@@ -25,8 +25,8 @@ use Rattle.ft_model.specs.World.{World, Moment, world_after}
 abbrev pub unfailing : {State : Type 0} → Machine State → Log → Client → Run State
 unfailing service log client = reference service client.script (logged_lengths client.key log)
 
--- a client has accepted a prefix of the uncrashed server's output, and where the server's FIN has ended the stream that run has closed and all of it is
--- accepted
+-- a client has accepted a prefix of the uncrashed server's output, and where the server's FIN has ended the stream, that run has closed and all its output
+-- is accepted
 pub record SeesFront {State : Type 0} (service : Machine State) (log : Log) (client : Client) : Type 0 where
   pub accepted : IsPrefix client.accepted (unfailing service log client).output
   pub ended : is_ended client.phase ≡ true → ((unfailing service log client).closed ≡ true) × (client.accepted ≡ (unfailing service log client).output)

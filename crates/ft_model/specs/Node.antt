@@ -13,7 +13,7 @@ use Rattle.ft_model.specs.Restart.{Fetched}
 pub data Place : Type 0 where
   Opens : Numbers → Place  -- its opening is pending: these numbers are asked for
   Lives : Point → Place  -- its connection is live
-  Ended : Key → Place  -- it is done: Ended was answered, or it was fetched as done
+  Ended : Key → Place  -- it is done: the log has answered Ended, or it was fetched as done
 
 abbrev pub key_of : Place → Key
 key_of (Opens numbers) = numbers.key
@@ -23,7 +23,7 @@ key_of (Ended key) = key
 pub data Stage : Type 0 where
   Asking : Stage  -- Hello is unanswered
   Fetching : (count : ℕ) → List Fetched → Stage  -- of so many entries these have been fetched, at least in part, the newest first
-  Serving : (opened : ℕ) → List Place → Stage  -- so many initial numbers are used up; the places are in the log's order, then in that of the SYNs
+  Serving : (opened : ℕ) → List Place → Stage  -- so many initial sequence numbers are used up; the places are in the log's order, then in that of the SYNs
   Fenced : (newer : ℕ) → Stage  -- a newer incarnation has said Hello to the log: this one has ended
 
 pub record Node : Type 0 where

@@ -1,4 +1,4 @@
--- The law Opening: how a connection is opened (RFC 9293, 3.10.7.2; FT-TCP, INFOCOM 2001: the initial numbers are logged before the SYN-ACK is sent).
+-- The law Opening: how a connection is opened (RFC 9293, 3.10.7.2; FT-TCP, INFOCOM 2001: the initial sequence numbers are logged before the SYN-ACK is sent).
 use Rattle.std.specs.Prelude.{ℕ, Bool, ◌+◌, ◌*◌, ◌%◌, ◌^◌, ◌&&◌, not}
 use Rattle.seq_arith.specs.Packet.{Segment, has_syn, has_rst, has_ack}
 use Rattle.seq_arith.specs.Message.{Numbers}
@@ -10,7 +10,7 @@ use Rattle.ft_model.specs.Point.{Point, blank_point}
 abbrev pub is_syn : Segment → Bool
 is_syn segment = has_syn segment && not (has_ack segment) && not (has_rst segment)
 
--- the initial number of the nth connection, from 0, that an incarnation restarts or opens
+-- the server's initial sequence number of the nth connection, from 0, that an incarnation restarts or opens
 abbrev pub initial_number : (isn n : ℕ) → ℕ
 initial_number isn n = (isn + 65536 * n) % 2 ^ 32
 
@@ -18,6 +18,6 @@ initial_number isn n = (isn + 65536 * n) % 2 ^ 32
 abbrev pub numbers_for : (isn n : ℕ) → Segment → Numbers
 numbers_for isn n syn = record { key = source_of syn; cisn = syn.head.seq; sisn = initial_number isn n; mss = segment_size syn.head.mss }
 
--- the point of a new connection, with the numbers that the log keeps: nothing is taken, and nothing may be sent yet
+-- the point of a new connection, with the numbers that the log has: nothing is taken, and no output may be sent yet
 abbrev pub point_opened : Numbers → Point
 point_opened numbers = blank_point numbers.key numbers.cisn numbers.sisn numbers.mss

@@ -1,4 +1,4 @@
--- When an ACK is pending, so that a segment without data is due (RFC 9293, 3.10.7.4, in the offsets of the point before the turn).
+-- When an ACK is pending, so that a pure ACK is sent where no other segment is (RFC 9293, 3.10.7.4, in the offsets of the point before the turn).
 use Rattle.std.specs.Prelude.{Bool, true, false, pos, ◌==◌, ◌&&◌, ◌||◌, not, nat_lt, int_lt, if◌then◌else◌}
 use Rattle.seq_arith.specs.Arrival.{int_eq}
 use Rattle.seq_arith.specs.Packet.{Segment, has_syn, has_rst, has_ack}
@@ -9,7 +9,7 @@ use Rattle.ft_model.specs.News.{News}
 use Rattle.ft_model.specs.News.News.{Comes, Logged, Ticks, Begins}
 use Rattle.ft_model.specs.Taken.{accepts}
 
--- while the SYN is unacknowledged, TCP answers an acknowledgement of less than the SYN with a RST only, and that RST isn't passed on
+-- while the SYN is unacknowledged, TCP answers an acknowledgement of less than the SYN by a RST and no ACK. The server doesn't send that RST either
 abbrev pub is_refused : Point → Segment → Bool
 is_refused p segment = not p.syn_acked && has_ack segment && int_lt (ack_of p.sisn segment) (pos 0)
 
@@ -32,7 +32,7 @@ asks service (Logged kept) before = false
 asks service Ticks before = false
 asks service Begins before = true
 
--- an ACK is pending: the news requires a segment, more is known to be logged, or what TCP advertises has changed
+-- an ACK is pending: the news requires a segment, more is known to be logged, or the units taken or the advertised right edge have changed
 unfoldable pub is_ack_pending : {State : Type 0} → Machine State → News → Point → Point → Bool
 is_ack_pending service news before after =
     asks service news before || nat_lt before.answered after.answered || not (taken_units before == taken_units after)

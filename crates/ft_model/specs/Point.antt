@@ -10,8 +10,8 @@ use Rattle.ft_model.specs.Offset.{one_if}
 
 pub record Point : Type 0 where
   pub key : Key
-  pub cisn : ℕ  -- the client's initial number
-  pub sisn : ℕ  -- the server's initial number, as the client knows it
+  pub cisn : ℕ  -- the client's initial sequence number
+  pub sisn : ℕ  -- the server's initial sequence number, as the client knows it
   pub mss : ℕ  -- the segment size
   pub fetched : ℕ  -- the client's bytes that a restart fetched from the log; else 0
   pub taken : List ℕ  -- the client's bytes that are taken, the fetched ones first
@@ -22,7 +22,7 @@ pub record Point : Type 0 where
   pub reads_answered : ℕ  -- how many of these, from the first on, are known to be logged
   pub una : ℕ  -- SND.UNA: the units of output that are acknowledged
   pub sent : ℕ  -- SND.NXT: the units of output that are sent
-  pub edge : ℕ  -- the client's right edge, from which on nothing may be sent. It is absolute: SND.UNA + SND.WND when a segment sets it, and it stays where only SND.UNA moves
+  pub edge : ℕ  -- the client's right edge: nothing new is sent past it but a probe. A segment sets it to SND.UNA + SND.WND; it stays where only SND.UNA moves
   pub wl1 : ℤ  -- SND.WL1: where the segment begins that last set the edge
   pub wl2 : ℕ  -- SND.WL2: what that segment acknowledged
   pub congestion : Congestion  -- the congestion window, the slow start threshold, and the duplicate acknowledgements

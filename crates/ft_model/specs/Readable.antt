@@ -19,7 +19,7 @@ use Rattle.ft_model.specs.declared.schedule.Schedule.{Schedule}
 use Rattle.ft_model.specs.declared.way.Way.{Way}
 use Rattle.ft_model.specs.declared.way.Way.TheVariants.{ClientToServer, ServerToClient, ServerToLogger, LoggerToServer, HeadToTail, TailToHead}
 
--- no byte of the word is a space, a line feed or another control character
+-- each byte of the word is above 32: it is neither a space nor a line feed
 abbrev pub IsWord : List ℕ → Type 0
 IsWord word = AllByRecursion (λ c. 32 < c) word
 

@@ -10,7 +10,7 @@ use Rattle.ft_model.specs.Point.{Point, bytes_read, made, released}
 use Rattle.ft_model.specs.News.{News}
 use Rattle.ft_model.specs.News.News.{Comes, Logged, Ticks, Begins}
 
--- how much there is to read: of the fetched bytes while any is left, and otherwise of all bytes taken. A read has at most 2,048 bytes. When all are read and
+-- how much there is to read: of the fetched bytes while some are unread, and then of all bytes taken. A read has at most 2,048 bytes. When all are read and
 -- the FIN is taken, one read of length 0 follows
 unfoldable pub next_length : Point → Option ℕ
 next_length p =
@@ -48,13 +48,13 @@ abbrev pub read_messages : Key → ℕ → List ℕ → List Body
 read_messages key index [] = []
 read_messages key index (n ∷ lengths) = ReadMsg key index n ∷ read_messages key (index + 1) lengths
 
--- the first read that is reported in this turn: a new one, or at a tick the first unanswered one
+-- the index of the first read that is reported in this turn: a new one, or at a tick the first unanswered one
 abbrev pub first_told : News → Point → Point → ℕ
 first_told Ticks before after = after.reads_answered
 first_told (Comes segment) before after = length before.lengths
 first_told (Logged kept) before after = length before.lengths
 first_told Begins before after = length before.lengths
 
--- Reads: a Read is sent in the turn that makes it, and all unanswered ones are retransmitted at each tick, by index
+-- Reads: a Read is sent in the turn in which the read is made, and all unanswered ones are sent again at each tick, by index
 unfoldable pub reads_told : News → Point → Point → List Body
 reads_told news before after = read_messages after.key (first_told news before after) (drop (first_told news before after) after.lengths)

@@ -144,7 +144,7 @@ content_words (To_client segment) = segment_words segment
 content_words (To_logger message) = message_words message
 content_words (From_logger message) = message_words message
 
--- What is sent between two loggers: a message that the head forwards, with its number; and up to which number the tail has applied them
+-- What is sent between two loggers: a message that the head forwards, with its number; and the number up to which the tail has applied such messages
 unfoldable pub forward_words : ℕ → Message → List (List ℕ)
 forward_words number message = codes "Forward" ∷ codes "number" ∷ decimal number ∷ message_words message
 

@@ -35,7 +35,7 @@ lacks_read_bytes f = not f.head.done && nat_lt (length f.bytes) (sum f.lengths)
 abbrev pub lacks_lengths : Fetched → Bool
 lacks_lengths f = not f.head.done && nat_lt (length f.lengths) f.head.reads
 
--- any bytes are missing
+-- some of its bytes are missing
 abbrev pub lacks_bytes : Fetched → Bool
 lacks_bytes f = not f.head.done && nat_lt (length f.bytes) f.head.length
 
@@ -48,7 +48,7 @@ next_entry count index = if nat_lt index count then Some (An_entry index) else N
 
 -- What is asked for next, of `count` entries. The list has the newest fetched one first, and that is completed before the next is asked for: first the bytes
 -- of its fetched reads, then further lengths, and at last the bytes after all reads. So a read can be replayed as soon as it is complete, and its bytes
--- needn't be kept
+-- needn't be stored
 abbrev pub wanted : (count : ℕ) → List Fetched → Option Wanted
 wanted count [] = next_entry count 0
 wanted count (f ∷ earlier) =
@@ -56,7 +56,7 @@ wanted count (f ∷ earlier) =
     else (if lacks_lengths f then Some (Its_lengths f.head.key (length f.lengths))
     else (if lacks_bytes f then Some (Its_bytes f.head.key (length f.bytes)) else next_entry count (length (f ∷ earlier))))
 
--- the question that asks for it
+-- the question that asks for what is wanted
 abbrev pub question : Wanted → Body
 question (An_entry index) = ListMsg index
 question (Its_bytes key offset) = BytesMsg key offset

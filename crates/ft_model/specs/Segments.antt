@@ -14,7 +14,7 @@ use Rattle.ft_model.specs.Sending.{is_third_duplicate, sent_at_once}
 use Rattle.ft_model.specs.Timer.{expires}
 use Rattle.ft_model.specs.PendingAck.{is_ack_pending}
 
--- Window: from what is acknowledged up to the edge that TCP advertises
+-- Window: from what is acknowledged up to the advertised right edge, but at most 65,535
 abbrev pub window : Point → ℕ
 window p = min 65535 (advertised_edge p - acknowledgement p)
 
@@ -52,7 +52,7 @@ fin_segment service server p = segment_at server p (released service p) (FIN + A
 abbrev pub fin_if_closed : {State : Type 0} → Machine State → Addr → Point → List Segment
 fin_if_closed service server p = if (answered_run service p).closed then fin_segment service server p ∷ [] else []
 
--- the segment without data, at SND.NXT
+-- the pure ACK, at SND.NXT
 abbrev pub bare_segment : Addr → Point → Segment
 bare_segment server p = segment_at server p p.sent ACK []
 
@@ -133,12 +133,12 @@ sends_fin service before after = nat_lt (released service after) (sent_at_once s
 unfoldable pub new_fin : {State : Type 0} → Machine State → Addr → Point → Point → List Segment
 new_fin service server before after = if sends_fin service before after then fin_if_closed service server after else []
 
--- all segments except the bare one, in order
+-- all segments except the pure ACK, in order
 unfoldable pub full_segments : {State : Type 0} → Machine State → Addr → News → Point → Point → List Segment
 full_segments service server news before after =
     syn_acks server news before after ++ (resent service server news before after ++ (new_texts service server before after ++ new_fin service server before after))
 
--- Acknowledgement: one bare segment, exactly where an ACK is pending and no other segment is sent
+-- Acknowledgement: one pure ACK, exactly where an ACK is pending and no other segment is sent
 abbrev pub or_bare : Bool → Segment → List Segment → List Segment
 or_bare ack_pending bare [] = if ack_pending then bare ∷ [] else []
 or_bare ack_pending bare (segment ∷ segments) = segment ∷ segments

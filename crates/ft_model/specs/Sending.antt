@@ -24,7 +24,7 @@ acknowledged_by p segment = min (nat_abs (ack_of p.sisn segment)) p.sent
 abbrev pub window_by : Point → Segment → ℕ
 window_by p segment = min 65535 (segment.head.window + nat_abs (ack_of p.sisn segment) - acknowledged_by p segment)
 
--- whether the window is used: by TCP's test for older segments, and always where no acknowledgement has counted yet
+-- whether the window is used: by TCP's test that the segment isn't an older one, and always where no acknowledgement has counted yet
 abbrev pub moves_edge : Point → Segment → Bool
 moves_edge p segment =
     acknowledges p segment
@@ -83,7 +83,7 @@ is_duplicate p segment =
     && nat_lt p.una p.sent
     && acknowledged_by p segment + window_by p segment == p.edge
 
--- the third duplicate in a row: a segment is lost
+-- the third duplicate in a row: a segment counts as lost
 unfoldable pub is_third_duplicate : News → Point → Bool
 is_third_duplicate (Comes segment) p = is_duplicate p segment && is_third p.congestion
 is_third_duplicate (Logged kept) p = false
@@ -103,7 +103,7 @@ congestion_after (Logged kept) p = p.congestion
 congestion_after Ticks p = if is_lost p then with_expiry p.mss (flight p) (p.interval == 1) p.congestion else p.congestion
 congestion_after Begins p = p.congestion
 
--- nothing new is sent from this offset on: it is the right edge or the end of the congestion window, whichever comes first
+-- nothing new is sent from this offset on, except a probe: it is the right edge or the end of the congestion window, whichever comes first
 abbrev pub send_edge : Point → ℕ
 send_edge p = min p.edge (p.una + p.congestion.cwnd)
 

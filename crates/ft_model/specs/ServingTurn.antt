@@ -29,7 +29,7 @@ abbrev pub LivesOn : {State : Type 0} → Machine State → Node → News → Po
 LivesOn service node news p now sent = (after : Point) × (now ≡ Lives after ∷ []) × ConnectionTurn service node.server node.boot news p after sent
 
 -- what a message of this boot does at the place of its key. Ended ends a live connection, whether or not Done was sent. Opened with the client's number makes
--- the connection, by the numbers that the log keeps; with another number it drops the opening. Full drops an opening and refuses its SYN
+-- the connection, with the numbers that the log has; with another number it drops the opening. Full drops an opening and refuses its SYN
 abbrev pub Hears : {State : Type 0} → Machine State → Node → Body → Place → List Place → List Packet → Type 0
 Hears service node (StableMsg kept) (Lives p) now sent = LivesOn service node (Logged kept) p now sent
 Hears service node (ReadsMsg kept) (Lives p) now sent = LivesOn service node (Logged kept) p now sent
@@ -50,7 +50,7 @@ Meets service node Tick_comes (Opens numbers) now sent = Stays (Opens numbers) n
 Meets service node Tick_comes (Ended key) now sent = Stays (Ended key) now sent
 Meets service node Noise_comes place now sent = Stays place now sent
 
--- whether a message to a known connection names this key
+-- whether an answer about a known or a pending connection names this key
 abbrev pub names : Body → Key → Bool
 names (OpenedMsg numbers) key = key_eq numbers.key key
 names (StableMsg kept) key = key_eq kept.key key
@@ -81,7 +81,7 @@ AllGo Goes (place ∷ places) after sent =
 abbrev pub is_strange : Node → Segment → List Place → Bool
 is_strange node segment places = is_for node.server segment && not (is_known (source_of segment) places)
 
--- Opening: a SYN of an unknown key makes a pending opening with the next initial number, while fewer than 64 are pending
+-- Opening: a SYN of an unknown key makes a pending opening with the next initial sequence number, while fewer than 64 are pending
 abbrev pub newcomers : Node → Input → (opened : ℕ) → List Place → List Place
 newcomers node (Packet_comes segment) opened places =
     if is_strange node segment places && is_syn segment && nat_lt (pending_count places) 64 then Opens (numbers_for node.isn opened segment) ∷ [] else []

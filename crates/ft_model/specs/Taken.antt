@@ -13,7 +13,7 @@ use Rattle.ft_model.specs.News.News.{Comes, Logged, Ticks, Begins}
 unfoldable pub accepts : Point → Segment → Bool
 accepts p segment = is_acceptable_or_at_edge (taken_units p) (room p) (first_of p.cisn segment) (length_of segment)
 
--- the segment's acknowledgement is used: the segment is acceptable, or begins at the next number while the window is zero
+-- the segment is used: it is acceptable, or begins at the next number while the window is zero
 unfoldable pub uses : Point → Segment → Bool
 uses p segment = is_usable (taken_units p) (room p) (first_of p.cisn segment) (length_of segment)
 

@@ -41,7 +41,7 @@ client_at clients (suc n) = slice_get clients n
 abbrev pub with_client : Key → (Client → Client) → List Client → List Client
 with_client key change clients = map (λ c. if key_eq c.key key then change c else c) clients
 
--- a server that is down sends nothing; one that is up makes a lawful turn
+-- a server that is down sends nothing; one that is up takes a lawful turn
 abbrev pub ServerTurn : {State : Type 0} → Machine State → Input → Option Node → List Packet → Option Node → Type 0
 ServerTurn service input None sent after = (sent ≡ []) × (after ≡ None)
 ServerTurn service input (Some node) sent after = (later : Node) × (after ≡ Some later) × LawfulTurn service node input sent later
@@ -127,8 +127,8 @@ pub record Moves (before : World) (number : ℕ) (sent : List Packet) (after : W
 abbrev pub IsNextBoot : World → ℕ → Type 0
 IsNextBoot w boot = (w.boot < boot) × (boot < 2 ^ 64)
 
--- what may happen: from the world before, by this event, with these packets sent, to the world after. Boot numbers rise, one server is up at a time, and a
--- server that crashes loses all its state. The only log never stops
+-- what may happen: from the world before, by this event, with these packets sent, to the world after. Boot numbers rise, at most one server is up at a time,
+-- and a server that crashes loses all its state. There is one log, and it never stops
 abbrev pub Happens : {State : Type 0} → Machine State → World → Event → List Packet → World → Type 0
 Happens service before (Boot boot isn) sent after =
     (before.node ≡ None) × IsNextBoot before boot × (sent ≡ hello (booted before.server boot isn))
@@ -157,7 +157,7 @@ abbrev pub world_after : World → List Moment → World
 world_after start [] = start
 world_after start (moment ∷ earlier) = moment.world
 
--- a client's key differs from the server's address and from the keys of these
+-- a client's key differs from the server's address and from the keys of these clients
 abbrev pub is_apart : Addr → Key → List Client → Bool
 is_apart server key clients = not (key.ip == server.ip && key.port == server.port) && not (list_any (λ c. key_eq c.key key) clients)
 

@@ -6,8 +6,8 @@ ghost use Rattle.ft_model.specs.Client.ClientKind.{Live};
 ghost use Rattle.ft_model.specs.WorkedRuns.Common.{client_segment, client_with, hello_text};
 ghost use Rattle.ft_model.specs.WorkedRuns.FirstPath;
 
-/// A scripted client that has sent its SYN never answers an acknowledgement by a RST with that number, and its SYN offers no segment size. A live client may
-/// send such a RST, and its state stays the same.
+/// By an example: a scripted client that has sent its SYN doesn't answer an acknowledgement by a RST with that number, and a scripted client's SYN offers no
+/// segment size. A live client may send such a RST, and its state stays the same.
 pub fn scripted_clients_refuse_nothing()
     ensures refusal { (later : Client) → IsMove FirstPath.opening (client_segment 4 5 0 0 []) later → ⊥ }
     ensures offer { (later : Client)

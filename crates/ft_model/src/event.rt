@@ -3,7 +3,7 @@
 /// One turn of one actor. Clients are numbered from 1 in the schedule's order, and packets from 1 over the whole run.
 #[derive(Clone, Copy)]
 pub enum Event {
-    /// The server starts, with its boot number and the initial number of its first connection.
+    /// The server starts, with its boot number and the initial sequence number of its first connection.
     Boot { boot: u64, isn: u32 },
     /// The server crashes, and all its state is lost.
     Crash,
@@ -19,7 +19,7 @@ pub enum Event {
     Send { client: u8, from: u32, len: u32 },
     /// A client sends its FIN.
     Fin { client: u8 },
-    /// A client sends a segment without data.
+    /// A client sends a pure ACK.
     Ack { client: u8, window: u16 },
     /// A client resets its connection.
     Reset { client: u8 },

@@ -78,14 +78,14 @@ pub fn worked_texts()
     ensures third_logger { read_text (codes "service echo\nserver 192.0.2.100:7\nstop 3\n") ≡ Err (BadLine 3 why.Number) }
 {}
 
-/// A schedule that a text spells has at most 16 clients and 100,000 events, its scripts have at most 2^24 bytes, and no two of its machines have the same
-/// address.
+/// A schedule that a text spells has at most 16 clients and 100,000 events, its scripts have at most 2^24 bytes, and the addresses of clients and server
+/// all differ.
 pub fn accepted_schedules_keep_the_limits()
     ensures { (text : List ℕ) (schedule : Schedule) → read_text text ≡ Ok schedule → IsAccepted schedule }
 {}
 
-/// A schedule that a text spells can be played: its clients' addresses differ from one another and from the server's, their initial numbers are modulo 2^32,
-/// their scripts have at most 2^24 bytes, and the numbers of its events fit their types.
+/// A schedule that a text spells can be played: its clients' addresses differ from one another and from the server's, their initial sequence numbers are
+/// modulo 2^32, their scripts have at most 2^24 bytes, and the numbers of its events fit their types.
 pub fn accepted_schedules_can_be_played()
     ensures { (text : List ℕ) (schedule : Schedule) → read_text text ≡ Ok schedule → IsPlayable schedule }
 {}

@@ -31,7 +31,7 @@ pub fn clients_see_an_unfailing_server<S: Service>()
         → AllByRecursion (SeesFront (machine (S.started kind) S.after) (world_after start trace).log) (world_after start trace).clients }
 {}
 
-/// The log only grows over a trace: entries keep their places and numbers, bytes, FIN, reads, acknowledgement and end are never taken back,
+/// The log only grows over a trace: entries keep their places and numbers. Bytes, FIN, reads, acknowledgement and Done are never taken back,
 /// and the boot number never falls.
 pub fn the_log_only_grows<S: Service>()
     ensures { (kind : ℕ) (start : World) (later earlier : List Moment) → Joint (machine (S.started kind) S.after) start (later ++ earlier)
@@ -73,14 +73,14 @@ pub fn restarts_are_exact<S: Service>()
         → RestartIsExact (machine (S.started kind) S.after) moment.world.log (world_after start earlier).node moment.world.node }
 {}
 
-/// After each moment, the last acknowledgement sent to each live client that hasn't reset its connection is the smaller of what is taken and what
-/// is known to be logged.
+/// After each moment, the last acknowledgement sent to the client of each live connection that it hasn't reset is the smaller of what is taken
+/// and what is known to be logged.
 pub fn clients_are_told_what_is_logged<S: Service>()
     ensures { (kind : ℕ) (start : World) (trace : List Moment) → Joint (machine (S.started kind) S.after) start trace
         → AllAreTold (world_after start trace).packets (world_after start trace).node }
 {}
 
-/// The output that a client has acknowledged, as an entry of the log records it, is at most the uncrashed server's output over the logged reads, and one more
+/// The output that a client has acknowledged, as an entry of the log records it, is at most the uncrashed server's output over the logged reads, plus one unit
 /// where that run has closed.
 pub fn acknowledged_output_was_made<S: Service>()
     ensures { (kind : ℕ) (start : World) (trace : List Moment) → Joint (machine (S.started kind) S.after) start trace
@@ -89,8 +89,8 @@ pub fn acknowledged_output_was_made<S: Service>()
         (world_after start trace).log.entries }
 {}
 
-/// No false reset: of all RSTs that were sent so far, none was sent to a client whose entry is in the log and not done. So whenever one of them is delivered,
-/// it ends no connection that the log keeps. A client that has reset its connection itself is no exception.
+/// No false reset: of all RSTs that were sent so far, none was sent to a client whose entry is now in the log and not done. So whenever one of them is
+/// delivered, it ends no connection that the log keeps. A client that has reset its connection itself is no exception.
 pub fn no_logged_connection_is_reset<S: Service>()
     ensures { (kind : ℕ) (start : World) (trace : List Moment) → Joint (machine (S.started kind) S.after) start trace
         → AllByRecursion (ResetsNoLogged (world_after start trace).log) (world_after start trace).packets }

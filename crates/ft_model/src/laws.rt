@@ -43,8 +43,8 @@ pub fn turns_exist<S: Service>()
         → (after : Node) × (sent : List Packet) × LawfulTurn (machine (S.started kind) S.after) before input sent after × AllCount after.stage }
 {}
 
-/// After each turn the last report to the client is of what is taken and logged: every segment acknowledges that and advertises the window, and a turn without
-/// a segment changes neither.
+/// After each turn the last report to the client is of what is taken and answered: every segment acknowledges that and advertises the window, and a turn
+/// without a segment changes neither.
 pub fn turns_tell_the_client<S: Service>()
     ensures { (kind boot : ℕ) (server : Addr) (news : News) (before after : Point) (sent : List Packet)
         → LiveTurn (machine (S.started kind) S.after) server boot news before after sent → IsTold before after sent }
@@ -63,8 +63,8 @@ pub fn turns_leave_no_read<S: Service>()
         → next_read (machine (S.started kind) S.after) after ≡ None }
 {}
 
-/// Where the unit after all output is sent for the first time, a logged read has closed the service. So for a new FIN the law on output follows from the laws
-/// of sending.
+/// Where the unit after all output is sent for the first time, an answered read has closed the service. So for a new FIN the law on output follows from the
+/// laws of sending.
 pub fn new_fins_are_closed<S: Service>()
     ensures { (kind : ℕ) (server : Addr) (before after : Point)
         → new_fin (machine (S.started kind) S.after) server before after
@@ -72,8 +72,8 @@ pub fn new_fins_are_closed<S: Service>()
 {}
 
 /// At a zero receive window the acknowledgement of a segment at the next number is used, whatever the segment carries. Nothing of it is taken where what is
-/// held is after a gap (`HoldsBehind`), and it is answered where it has a length. Without this rule neither side of a connection whose windows are both full
-/// could continue.
+/// held is after a gap (`HoldsBehind`), and it is answered if its length isn't 0 and it has no RST. Without this rule neither side of a connection whose
+/// windows are both zero could continue.
 pub fn shut_windows_pass_acknowledgements()
     ensures used { (p : Point) (segment : Segment) → room p ≡ 0 → first_of p.cisn segment ≡ pos (taken_units p) → uses p segment ≡ true }
     ensures not_taken { (p : Point) (segment : Segment) → HoldsBehind p → room p ≡ 0 → (taken_after (Comes segment) p ≡ p.taken) × (fin_after (Comes segment) p ≡ p.fin) }

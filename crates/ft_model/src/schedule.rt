@@ -52,7 +52,7 @@ impl Script {
     }
 }
 
-/// The letters from `a` to `z`, repeated.
+/// Returns `len` bytes: the letters from `a` to `z`, repeated.
 #[tactic(auto, using(crate::proofs::Letters::letters_none, crate::proofs::Letters::letters_more))]
 fn letters(alloc: Global, len: u32) -> Result<Vec<u8>, NoMemory>
     ensures { IfOk result (λ text. text.items ≡ letters_lem len) }
@@ -64,7 +64,7 @@ fn letters(alloc: Global, len: u32) -> Result<Vec<u8>, NoMemory>
     Ok(text)
 }
 
-/// A client: its address and port, its initial number and its script.
+/// A client: its address and port, its initial sequence number and its script.
 #[derive(Drop)]
 pub struct ClientLine {
     /// Its address and port.

@@ -13,7 +13,7 @@ ghost use Rattle.ft_model.specs.declared.schedule.Schedule.{Schedule};
 
 use server_trait::Service;
 
-/// The bytes on the wire determine the packet: of packets that have a wire, no two have the same.
+/// A wire determines its packet: no two packets have the same one. So events and wires determine the turns of a trace. The premise: all packets have wires.
 pub fn wires_tell_packets()
     ensures packet { (p q : Packet) → HasWire p → HasWire q → wire_of p ≡ wire_of q → p ≡ q }
     ensures turns { (trace also : List Moment) → AllByRecursion HasWires trace → AllByRecursion HasWires also
@@ -28,7 +28,7 @@ pub fn packets_have_wires<S: Service>()
         → AllByRecursion HasWire (world_after start trace).packets }
 {}
 
-/// The events and the bytes of a legal trace determine it: two legal traces of a schedule, or of two with the same service and start, are equal if these are.
+/// The events and the wires of a legal trace determine it: two legal traces of a schedule, or of two with the same service and start, are equal if these are.
 pub fn wires_tell_traces<S: Service>()
     ensures { (schedule other : Schedule) (trace also : List Moment) → schedule.service ≡ other.service → start_of schedule ≡ start_of other
         → Legal (machines S.started S.after) schedule trace → Legal (machines S.started S.after) other also

@@ -46,14 +46,14 @@ pub fn zero_window_is_lawful()
     ensures { Lawful echo server 1 5000 (hello (booted server 1 5000)) ZeroWindow.probe_turns }
 {}
 
-/// The acknowledgement and the window of a bare segment at the right edge are used, and it gets no answer. A RST there gets a challenge ACK. Past the edge
+/// The acknowledgement and the window of a pure ACK at the right edge are used, and it gets no answer. A RST there gets a challenge ACK. Past the edge
 /// nothing is used, and an ACK is sent.
 pub fn right_edge_is_lawful()
     ensures at_it { Lawful echo server 1 5000 (hello (booted server 1 5000)) RightEdge.edge_turns }
     ensures past_it { Lawful echo server 1 5000 (hello (booted server 1 5000)) RightEdge.beyond_turns }
 {}
 
-/// The acknowledgement and the window of a bare segment past the next number are used, and it may not be answered.
+/// The acknowledgement and the window of a pure ACK past the next number are used, and it may not be answered.
 pub fn acknowledgements_beyond_next_are_not_answered()
     ensures lawful { Lawful echo server 1 5000 (hello (booted server 1 5000)) BeyondNext.turns }
     ensures answered { IsUnlawful BeyondNext.turn_3.node BeyondNext.turn_4.input BeyondNext.answered }
@@ -74,7 +74,7 @@ pub fn wrong_copies_of_held_text_are_refused()
     ensures as_one { IsUnlawful (FirstPath.node_live HeldSegments.held_point) HeldSegments.gap_filled HeldSegments.as_one }
 {}
 
-/// Of the 4,094 bytes that a client asks for four segments are sent at once, two more when the first is acknowledged, and none at two duplicates of that. At
+/// Of the 4,094 bytes that a client asks for, four segments are sent at once, two more when the first is acknowledged, and none at two duplicates of that. At
 /// the third the missing one is retransmitted, and as much more is sent as the window has room for. The complete run is a legal trace of its schedule, and its
 /// report has these lines.
 pub fn congestion_window_is_legal()

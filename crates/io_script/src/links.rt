@@ -30,7 +30,7 @@ fn come(bytes: Vec<u8>) -> Arrival {
     }
 }
 
-/// Says what a receive answered: the length of a datagram and its first five bytes, `silent` or `failed`; `elsewhere` where the
+/// Says what a receive returned: the length of a datagram and its first five bytes, `silent` or `failed`; `elsewhere` where the
 /// datagram isn't from the peer.
 fn say_heard(heard: Result<Heard, Failed>, buf: &[u8], said: &mut Said) {
     match heard {
@@ -58,7 +58,7 @@ pub fn receive_five(alloc: Global, fails: &str, said: &mut Said) -> Result<(), N
     Ok(())
 }
 
-/// A bind, which fails where all do, and two sends: what each answered, and the counts.
+/// A bind, which fails where all do, and two sends: what each returned, and the counts.
 pub fn send_two(
     alloc: Global,
     fails: &str,
@@ -74,7 +74,7 @@ pub fn send_two(
     Ok(())
 }
 
-/// Three binds, some of which are listed to fail: what each answered, and the counts.
+/// Three binds, some of which are listed to fail: what each returned, and the counts.
 pub fn bind_three(alloc: Global, fails: &str, said: &mut Said) -> Result<(), NoMemory> {
     let fails = numbers(alloc, fails)?;
     let arrivals = four_arrivals(alloc)?;

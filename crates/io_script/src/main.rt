@@ -1,5 +1,5 @@
 //! `io_script`: calls each form of the outside, in memory and over the system, by the lines of a script from standard input, and
-//! prints what the calls answered. docs/FORMATS.md has the lines.
+//! prints what the calls returned. docs/FORMATS.md has the lines.
 #![tactic(auto)]
 
 use ft_io::{NoMemory, WriteSink, write_all};

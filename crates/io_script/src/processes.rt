@@ -15,7 +15,7 @@ fn words_of(alloc: Global, program: &str, script: &str) -> Result<Vec<String>, N
 }
 
 /// Starts without a word and with a program that isn't there, and a start and a wait of one that ends with 7 and of one that is
-/// killed: what each answered, and the count of faults.
+/// killed: what each returned, and the count of faults.
 pub fn run_three<R: Processes>(system: &R, alloc: Global, said: &mut Said) -> Result<(), NoMemory> {
     let missing = words_of(alloc, "/no/such/program", "")?;
     let ends = words_of(alloc, "/bin/sh", "cat; echo seen; exit 7")?;

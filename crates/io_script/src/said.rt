@@ -4,7 +4,7 @@ use ft_io::{Failed, NoMemory};
 use itoa::Buffer;
 use std::alloc::Global;
 
-/// Lines, the last of which may not be finished. Where memory is refused, that is kept, and what is said from then on is lost: `end_line` reports it. So what
+/// Lines, the last of which may not be finished. Where memory is refused, that is noted, and what is said from then on is lost: `end_line` reports it. So what
 /// speaks has no error of its own to return.
 #[derive(Drop)]
 pub struct Said {

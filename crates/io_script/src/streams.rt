@@ -58,7 +58,7 @@ pub fn read_four(said: &mut Said) {
     }
 }
 
-/// Four writes into four bytes: after each what it answered and the count of faults; and the bytes in the end.
+/// Four writes into four bytes: after each what it returned and the count of faults; and the bytes in the end.
 pub fn write_four(said: &mut Said) {
     let mut room = [b'.'; 4];
     let mut sink = WriteSink::new(failing_once(room.as_mut_slice()));

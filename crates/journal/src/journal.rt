@@ -17,7 +17,7 @@ use std::alloc::{AllocError, AllocFailed, Global};
 #[derive(Clone, Copy, PartialEq, Eq)]
 pub enum KeepEnd {
     NoMemory,
-    /// A call on the disk failed; it may be full.
+    /// A call on the disk failed; the disk may be full.
     Failed,
 }
 

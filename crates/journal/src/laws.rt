@@ -1,4 +1,4 @@
-//! What a death leaves of a journal at any moment. Nothing here runs; each function is a theorem.
+//! What a death at any moment leaves of a journal. Nothing here runs; each function is a theorem.
 
 ghost use Rattle.std.specs.Prelude.{◌≡◌, ◌⊎◌, ℕ, List, [], ◌∷◌, ◌++◌, length};
 ghost use Rattle.std.specs.List.{AllByRecursion};
@@ -20,7 +20,8 @@ pub fn what_is_kept_stays()
         → left ≡ at_rest (bodies ++ body ∷ []) }
 {}
 
-/// What a death has left after the closed gate is cut off. A death at any moment while it is cut off leaves the same blocks, and afterwards nothing is there.
+/// Cutting off the bytes that a death has left after the closed gate keeps the blocks. A death at any moment of it leaves the same blocks, and one afterwards
+/// leaves nothing after the gate.
 pub fn mending_keeps_the_blocks()
     ensures any_moment { (file left : List ℕ) (bodies : List (List ℕ)) (done : List DiskCall) → HasBlocks bodies file
         → IsFrontOf (mending (length (front bodies))) done → LeftBy file (λ c. c ≡ file) done left → HasBlocks bodies left }

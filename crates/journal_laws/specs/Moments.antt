@@ -63,9 +63,9 @@ abbrev pub answers_to : Log → List Message → List Message
 answers_to log [] = []
 answers_to log (message ∷ messages) = option_to_list (answer_to log message) ++ answers_to (log_after log message) messages
 
--- The log after a process that made these calls has died. Of the messages that it received, in their order, the first are those up to the last answer that it
--- sent; to each of them it sent exactly the answer of the log at its place. The log has them all, and then those that the file had already. The log doesn't
--- have the last ones: they count as never delivered
+-- The log after a process that made these calls has died. The messages that it received are three lists, one after the other. To those in `answered` it sent
+-- exactly the answers of the log, each at its message's place. Those in `kept` are in the file, but it sent no answer to them. The log has both. It doesn't
+-- have those in `lost`: they count as never delivered
 pub record ComesBack (before after : Log) (calls : List DeskCall) : Type 0 where
   pub answered : List Message
   pub kept : List Message

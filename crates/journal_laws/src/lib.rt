@@ -32,8 +32,8 @@ ghost use Rattle.journal_laws.specs.Moments.{IsFront, ComesBack, Outlives, AreUn
 
 use server_trait::Service;
 
-/// Once its file is open, a death at any moment leaves a file that has all that was ever answered: the received messages up to the last answer, and maybe more,
-/// in their order.
+/// Once a logger's file is open, a death at any moment leaves a file that has all that was ever answered: the received messages up to the last answer, and
+/// maybe more, in their order.
 pub fn what_was_answered_is_there()
     ensures { (file : List ℕ) (opening : List DiskCall) (start : Place) (local : Addr) (rounds : List Round) (done : List DeskCall) (left : List ℕ)
         → Starts (Some file) opening start → AllByRecursion (λ round. IsRound (received_in round)) rounds
@@ -41,7 +41,7 @@ pub fn what_was_answered_is_there()
         → Outlives start.log done left }
 {}
 
-/// A logger that stopped in a round, or after its last one, has made the calls of some moment of a run. So the law before this one holds for every end.
+/// A logger that stopped in a round, or after its last one, has made the calls of some moment of a run. So the law before this one holds however it stops.
 pub fn an_unanswered_round_is_a_moment()
     ensures { (start : Place) (local : Addr) (rounds : List Round) (received : List Received) (cut : List DeskCall) → AllByRecursion (λ round. IsRound (received_in round)) rounds
         → IsUnanswered (place_after start rounds) received cut
@@ -62,7 +62,8 @@ pub fn an_answer_is_a_delivery<S: Service>()
         (record world { log = log_after world.log message; packets = world.packets ++ option_to_list (option_map From_logger (answer_to world.log message)) }) }
 {}
 
-/// If a process has died, and its log after the restart has messages that it hadn't answered, this is a death of the world's logger with that log.
+/// A process has died, and after the restart its log may have messages that it hadn't answered. In a world this is a death of the logger, which then has this
+/// log.
 pub fn a_death_is_a_step<S: Service>()
     ensures { (kind : ℕ) (world : World) (numbers : List ℕ) (before after : Log) (calls : List DeskCall) (back : ComesBack before after calls)
         → world.log ≡ log_after_all before back.answered → AreUnderWay world.packets numbers back.kept

@@ -1,4 +1,4 @@
--- What the parts of such a logger do in a round, and in the rounds so far.
+-- What the parts of a logger with a journal do in a round, and in the rounds so far.
 use Rattle.std.specs.Prelude.{◌≡◌, ◌⊎◌, ◌≤◌, ◌+◌, ℕ, Bool, true, Option, List, [], ◌∷◌, ◌++◌, length}
 use Rattle.std.specs.List.{AllByRecursion}
 use Rattle.ft_io.specs.Sink.{AppendsFront}

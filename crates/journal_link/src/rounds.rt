@@ -55,7 +55,7 @@ fn receive<K: Desk>(
     }
 }
 
-/// Applies the message that the bytes spell to the log and returns the answer, or no bytes if there is none or the bytes are no message.
+/// Applies to the log the message that the bytes spell, and returns the answer. Returns no bytes if there is no answer or the bytes are no message.
 fn answer(alloc: Global, kept: &mut KeptLog, bytes: &[u8]) -> Result<MsgOut, NoMemory>
     requires { is_full kept.old ≡ false }
     ensures next { OnOk result (kept.new ≡ with_bytes kept.old bytes.now) }

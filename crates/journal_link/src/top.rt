@@ -50,9 +50,10 @@ fn keep<K: Desk, O: Sink, E: Sink>(
     }
 }
 
-/// Runs `ftnode` with these arguments, as [`node`] does, but a logger with the option `--journal FILE` keeps its log in this file, so that a restart has all
-/// that was answered. `desk` is its network and file; `link` is for all other roles. Its status is 0 if all turns were taken, 3 if an allocation failed, 4 if
-/// the bind failed, 5 if a write failed, 11 if a call on the file failed, 12 if the file is no journal or is damaged, and 13 if another process has it open.
+/// Runs `ftnode` with these words, as [`node`] does, but a logger with the option `--journal FILE` keeps its log in this file. So when it is started
+/// again it has all that it answered. `desk` is its network and file; all other roles use `link`. Its status is 0 if all turns were taken, 3 if an allocation
+/// failed, 4 if the bind failed, 5 if a write failed, 11 if a call on the file failed, 12 if the file is no journal or is damaged, and 13 if another process
+/// has it open.
 pub fn node_with<L: Link, I: Source, O: Sink, E: Sink, P: Spawner, K: Desk>(
     alloc: Global,
     words: &[String],

@@ -25,7 +25,7 @@ HasMagic bytes magics.Part = (length bytes ≤ 8) × ((rest : List ℕ) × (byte
 HasMagic bytes magics.Whole = (8 < length bytes) × ((rest : List ℕ) × (bytes ≡ magic ++ rest))
 HasMagic bytes magics.Missing = (more : List ℕ) → (8 < length bytes) ⊎ (more ≡ []) → HasNoMagic (bytes ++ more)
 
--- what bytes begin with. `Short` where it is no block if nothing follows
+-- what bytes begin with. `Short`: they begin with no block if nothing follows
 abbrev pub StartsWith : List ℕ → Start → Type 0
 StartsWith bytes starts.Closed = (tail : List ℕ) × (bytes ≡ 46 ∷ tail)
 StartsWith bytes (starts.Block len) = (body : List ℕ) × (rest : List ℕ) × (bytes ≡ 209 ∷ (counted body ++ rest)) × (length body ≡ len) × (len ≤ 381696)

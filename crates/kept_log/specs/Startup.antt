@@ -33,7 +33,7 @@ pub record IsBegun (file : List ℕ) (bodies : List (List ℕ)) (calls : List Di
   pub none : bodies ≡ []
   pub calls_are : calls ≡ making (length file)
 
--- blocks, the closed gate, and after it no more than the longest block that a death may have left there
+-- blocks, the closed gate, and after it what a death has left there: no more bytes than the longest block has
 pub record IsWhole (file : List ℕ) (bodies : List (List ℕ)) (calls : List DiskCall) : Type 0 where
   pub tail : List ℕ
   pub is : file ≡ front bodies ++ 46 ∷ tail
@@ -65,7 +65,7 @@ pub record IsBroken (at : ℕ) (file : List ℕ) : Type 0 where
   pub none : HasNoBlock rest
   pub longer : length magic < length file
 
--- the place is that of the first byte that is neither a block nor the closed gate, and 0 if the magic is missing
+-- the place is where neither a block follows nor a closed gate with so few bytes after it, and 0 if the magic is missing
 abbrev pub IsDamaged : ℕ → List ℕ → Type 0
 IsDamaged at file = ((at ≡ 0) × HasNoMagic file) ⊎ IsBroken at file
 
@@ -77,7 +77,7 @@ pub record IsOpened (left : Option (List ℕ)) (old new : Option (List DeskCall)
   pub tells : Tells old new (on_disk calls)
   pub finds : (file : List ℕ) → left ≡ Some file → Finds file bodies calls
 
--- a prefix of such calls, whose last call failed
+-- a prefix of such calls, whose last call may have failed
 pub record IsCutShort (left : Option (List ℕ)) (old new : Option (List DeskCall)) : Type 0 where
   pub bodies : List (List ℕ)
   pub messages : List Message

@@ -10,13 +10,13 @@ pub const MOST_BODY: usize = 381_696;
 /// What bytes begin with.
 #[derive(Clone, Copy)]
 pub enum Start {
-    /// A closed gate.
+    /// A closed gate: no block follows.
     Closed,
     /// A block whose body has this many bytes.
     Block(usize),
     /// A prefix of a block, or nothing.
     Short,
-    /// Neither gate, or a body that is too long.
+    /// Neither an open nor a closed gate, or a block whose body is too long.
     Wrong,
 }
 

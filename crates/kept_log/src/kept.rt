@@ -50,8 +50,8 @@ impl Model for KeptLog {
 }
 
 impl KeptLog {
-    /// Reads the journal in a file that was opened just now into a log. A file of at most 8 bytes that is a prefix of the magic becomes a new journal. What a
-    /// death has left after the closed gate is cut off. A file that is damaged stays as it is.
+    /// Reads the journal in a file that was opened just now into a log. A file of at most 8 bytes that is a prefix of the magic becomes a new journal. The
+    /// bytes that a death has left after the closed gate are cut off. A file that is damaged stays as it is.
     pub fn open<D: Disk>(alloc: Global, disk: &mut D) -> Result<KeptLog, OpenEnd>
         ensures opened { IfOk result (λ k. IsOpened (D.left disk.old) (D.told disk.old) (D.told disk.new) k.end k.log) }
         ensures none_waits { IfOk result (λ k. k.round ≡ []) }
@@ -84,7 +84,7 @@ impl KeptLog {
         self.journal.end
     }
 
-    /// Whether the round has no room for another message. It has room for 256 of the longest.
+    /// Whether the round has no room for one more message of the greatest length. It has room for 256 of these.
     pub fn is_full(&self) -> bool
         ensures { result ≡ is_full self.now }
     {
@@ -92,7 +92,7 @@ impl KeptLog {
     }
 
     /// Applies a message to the log, and replaces the content of `out` by the answer, or by nothing if there is none. If the message changes the log, its bytes
-    /// join the uncommitted round. The answer may be sent only once the round is committed. An allocation fails only where one of `LogStore::answer` does.
+    /// join the uncommitted round. The answer may be sent only once the round is committed. Only `LogStore::answer` allocates here.
     pub fn take(
         &mut self,
         alloc: Global,

@@ -1,4 +1,4 @@
-//! Opening a journal: it is read, and then what a death has left after its closed gate is cut off.
+//! Opening a journal: it is read, and then the bytes that a death has left after its closed gate are cut off.
 
 ghost use Rattle.std.specs.Prelude.{[], ◌≡◌, ◌≤◌, ◌^◌, List, ℕ, length, IfOk, IfErr, OnOk, OnErr, IsErrOf};
 ghost use Rattle.ft_io.specs.Faults.{Rose};
@@ -23,9 +23,10 @@ use std::alloc::Global;
 pub enum OpenEnd {
     /// An allocation failed, or the blocks of the file reach beyond 2^62 bytes.
     NoMemory,
-    /// A call on the disk failed; it may be full.
+    /// A call on the disk failed; the disk may be full.
     Failed,
-    /// The file is damaged, or is no journal: the place, in bytes, of the first byte that is neither a block nor the closed gate. No call has changed the file.
+    /// The file is damaged, or is no journal: the place, in bytes, where neither a block follows nor a closed gate with at most the longest block after it. No
+    /// call has changed the file.
     Wrong(u64),
 }
 

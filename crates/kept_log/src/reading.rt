@@ -33,7 +33,7 @@ pub enum Taken {
     Block(usize),
     /// Nothing: the closed gate is there.
     Closed,
-    /// Nothing: the bytes are no complete block, unless more follow. A step then reads more.
+    /// Nothing: the bytes are only a prefix of a block, or there are none. A step then reads more.
     Short,
     /// Nothing: the bytes are no block, whatever follows.
     Wrong,
@@ -44,7 +44,7 @@ pub enum Taken {
 pub enum Reached {
     /// The place of the closed gate.
     Closed(u64),
-    /// The place of the first byte that is neither a block nor the closed gate.
+    /// The place at which neither a block nor a closed gate follows.
     Wrong(u64),
 }
 
@@ -55,7 +55,7 @@ pub enum Found {
     New(usize),
     /// The place of the closed gate, and how many bytes come after it.
     Whole(u64, usize),
-    /// The place of the first byte that is neither a block nor the closed gate.
+    /// The place where neither a block follows nor a closed gate with at most the longest block after it; 0 if the magic is missing.
     Wrong(u64),
 }
 
@@ -182,7 +182,7 @@ fn read_front<D: Disk>(disk: &mut D, window: &mut Window, chunk: &mut [u8]) -> R
     Ok(())
 }
 
-/// Reads what comes after the magic. The window has the first bytes of it.
+/// Reads what comes after the magic. The window has its first bytes.
 #[tactic(auto, using(crate::proofs::Files::quiet_on, crate::proofs::Files::rose_later, ft_io::proofs::Tellings::none_told))]
 fn read_rest<D: Disk>(
     alloc: Global,

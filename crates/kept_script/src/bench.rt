@@ -22,7 +22,7 @@ struct Fails {
 
 #[derive(Drop)]
 pub(crate) struct Bench {
-    /// What the next file has that is opened.
+    /// The bytes of the next file that is opened.
     file: Vec<u8>,
     fails: Fails,
     disk: MemDisk,

@@ -132,7 +132,7 @@ abbrev pub event_of_words : List (List ℕ) → Option Event
 event_of_words [] = None
 event_of_words (verb ∷ words) = event_for (verb_named verb) words
 
--- the words of an event's line: `event`, its number, and its own
+-- the words of an event's line: `event`, the event's number, and the event's own words
 abbrev pub if_true : Bool → Option Event → Option Event
 if_true test event = if test then event else None
 

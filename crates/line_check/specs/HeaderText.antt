@@ -1,4 +1,4 @@
--- A report's header up to one of its lines. A text is that of a schedule if the grammar reads it as that schedule and the schedule is written so.
+-- A report's header up to one of its lines. A text is one if the grammar reads a schedule in it, and the header of that schedule is this text.
 use Rattle.std.specs.Prelude.{◌≡◌, ℕ, Bool, ◌-◌, ◌&&◌, not, is_none, Option, Some, None, Result, Ok, Err, codes, List, [], ◌∷◌, ◌++◌, length, take, drop, if◌then◌else◌}
 use Rattle.std.specs.Str.{bytes_eq}
 use Rattle.ft_model.specs.Grammar.{Refusal, read_text}

@@ -106,7 +106,7 @@ abbrev pub columns_fit : (boot behind : ℕ) → List Column → List (List ℕ)
 columns_fit boot behind [] words = true
 columns_fit boot behind (column ∷ columns) words = column_fits boot behind column words && columns_fit boot behind columns (drop 2 words)
 
--- the columns of a segment between its flags and its option
+-- the fields of a segment between its flags and its option
 abbrev pub segment_columns : List Column
 segment_columns =
     NumberColumn (codes "seq") fields.Initial ∷ NumberColumn (codes "ack") fields.Initial ∷ NumberColumn (codes "window") fields.Port ∷ []
@@ -116,7 +116,7 @@ abbrev pub sizes_fit : Option ℕ → Option ℕ → Bool
 sizes_fit (Some option) (Some payload) = nat_le (40 + option + payload) 1500
 sizes_fit _ _ = false
 
--- the last of two words, after a name
+-- the second of exactly two words, if the first is this name
 abbrev pub last_named : List ℕ → List (List ℕ) → Option (List ℕ)
 last_named name (label ∷ word ∷ []) = if bytes_eq label name then Some word else None
 last_named name _ = None
@@ -161,7 +161,7 @@ kind_among (kind ∷ more) word = if bytes_eq word (kind_name kind) then Some ki
 unfoldable pub kind_named : List ℕ → Option Kind
 kind_named word = kind_among all_kinds word
 
--- the columns of a kind
+-- the fields of a kind of message
 abbrev pub with_key : List Column → List Column
 with_key columns = KeyColumn ∷ columns
 

@@ -63,7 +63,7 @@ fn size_with(size: usize, n: u32, line: &[u8]) -> usize
     (size + line.len()).saturating_sub(EVENT_BYTES + digit_count(n))
 }
 
-/// Returns the event if a text is the line of an event with number `n`, and the size of the schedule's own text with it; `size` is that before it. Returns
+/// Returns the event if a text is the line of an event with number `n`, and the size of the schedule's own text with it; `size` is the size before. Returns
 /// `None` if the text is the line of no event, or if the schedule's text would exceed its limit.
 #[tactic(auto, using(crate::proofs::EventLines::event_line_too_long))]
 pub fn read_event_line(size: usize, n: u32, line: &[u8]) -> Option<(Event, usize)>

@@ -46,7 +46,7 @@ fn packet_in(word: &[u8]) -> Option<u32>
     Some(ranged(1, LONG_MOST, word)? as u32)
 }
 
-/// Returns the word, if there is only one.
+/// Returns the word, if there is exactly one.
 fn one_of<'a>(words: Words<'a>) -> Option<&'a [u8]>
     ensures { MatchOption result (spelled.one_of (words_left words.entry.rest) ≡ None) (λ word. spelled.one_of (words_left words.entry.rest) ≡ Some word.now) }
 {
@@ -58,7 +58,7 @@ fn one_of<'a>(words: Words<'a>) -> Option<&'a [u8]>
     Some(word)
 }
 
-/// Returns the words, if there are only two.
+/// Returns the words, if there are exactly two.
 fn two_of<'a>(words: Words<'a>) -> Option<(&'a [u8], &'a [u8])>
     ensures { MatchOption result (spelled.two_of (words_left words.entry.rest) ≡ None) (λ pair. spelled.two_of (words_left words.entry.rest) ≡ Some (pair.0.now, pair.1.now)) }
 {
@@ -71,7 +71,7 @@ fn two_of<'a>(words: Words<'a>) -> Option<(&'a [u8], &'a [u8])>
     Some((first, second))
 }
 
-/// Returns the words, if there are only three.
+/// Returns the words, if there are exactly three.
 fn three_of<'a>(words: Words<'a>) -> Option<(&'a [u8], &'a [u8], &'a [u8])>
     ensures { MatchOption result (spelled.three_of (words_left words.entry.rest) ≡ None)
         (λ three. spelled.three_of (words_left words.entry.rest) ≡ Some (three.0.now, three.1.now, three.2.now)) }

@@ -19,7 +19,7 @@ use std::alloc::Global;
 /// The length of a report's first line, in bytes.
 const NAME_BYTES: usize = 11;
 
-/// The smallest length in bytes of a report's header up to the service's line.
+/// A report's header up to the service's line has at least this many bytes.
 const START_BYTES: usize = 12;
 
 /// Returns the service, if a text is the line of one.

@@ -62,7 +62,7 @@ fn all_lower_digits(word: &[u8]) -> bool
     word.iter().all(|byte| is_lower_digit(*byte))
 }
 
-/// Returns whether a word consists of pairs of hexadecimal digits.
+/// Returns whether a word consists of pairs of lower-case hexadecimal digits, at least one.
 #[tactic(auto, unfolding(crate::specs::Words::is_hex_word))]
 fn is_hex_word(word: &[u8]) -> bool
     ensures { result ≡ spelled.is_hex_word word.now }
@@ -76,7 +76,7 @@ fn is_hex_word(word: &[u8]) -> bool
     all_lower_digits(word)
 }
 
-/// Returns how many bytes a word spells in hexadecimal.
+/// Returns how many bytes a word spells in lower-case hexadecimal: 0 for a dash.
 #[tactic(auto, unfolding(crate::specs::Words::byte_count))]
 pub(crate) fn byte_count(word: &[u8]) -> Option<usize>
     ensures value { result ≡ spelled.byte_count word.now }

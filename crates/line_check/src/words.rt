@@ -29,7 +29,7 @@ fn position_of(bytes: &[u8], mark: u8) -> usize
     find(bytes, mark).unwrap_or(bytes.len())
 }
 
-/// Returns the piece before the first `mark` and what follows the mark, or `None` if there is no mark.
+/// Returns the bytes before the first `mark` and those after it, or `None` if no byte is `mark`.
 #[tactic(auto, using(schedule_text::proofs::Pieces::slice_split_whole, schedule_text::proofs::Pieces::slice_split_at_mark, std::proofs::lemmas::List::take_rest))]
 pub(crate) fn next_piece(bytes: &[u8], mark: u8) -> Option<(&[u8], &[u8])>
     ensures pieces { MatchOption result (slice_split (is mark) bytes.now ≡ bytes.now ∷ [])
@@ -43,7 +43,7 @@ pub(crate) fn next_piece(bytes: &[u8], mark: u8) -> Option<(&[u8], &[u8])>
     Some((&bytes[..end], &bytes[end + 1..]))
 }
 
-/// Returns all bytes, if there is no mark among them.
+/// Returns all bytes, if none of them is `mark`.
 #[tactic(auto, using(schedule_text::proofs::Pieces::two_pieces))]
 pub(crate) fn last_piece(bytes: &[u8], mark: u8) -> Option<&[u8]>
     ensures { MatchOption result
@@ -138,7 +138,7 @@ pub(crate) fn named<'a>(name: &str, words: &mut Words<'a>) -> Option<&'a [u8]>
     }
 }
 
-/// Returns the last of two words, if the first one is this name.
+/// Returns the second word, if there are exactly two and the first is this name.
 pub(crate) fn last_named<'a>(name: &str, words: Words<'a>) -> Option<&'a [u8]>
     ensures { MatchOption result (last_named_in name.now (words_left words.entry.rest) ≡ None) (λ word. last_named_in name.now (words_left words.entry.rest) ≡ Some word.now) }
 {

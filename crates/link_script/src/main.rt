@@ -71,7 +71,7 @@ fn without_memory(rt: &impl Print) -> io::Result<ExitCode> {
     Ok(ExitCode::FAILURE)
 }
 
-/// What arrives at the next run and is its input, how its children end, and which of its calls fail; what the next process finds; and what was printed so far.
+/// What arrives at the next run, its input, how its children end, and which of its calls fail; what the next process finds; and what was printed so far.
 #[derive(Drop)]
 struct Script {
     arrivals: Vec<Arrival>,

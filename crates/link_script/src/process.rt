@@ -17,13 +17,13 @@ const PEER: Addr = Addr {
     port: 7461,
 };
 
-/// How often the peer receives at most, 20 ms each at most in silence.
+/// How often the peer receives at most. In silence a receive takes at most 20 ms.
 const PATIENCE: u32 = 1_000;
 
 /// What a process meets.
 #[derive(Drop)]
 pub struct Meeting {
-    /// The shell's command that starts it: `$0` is the program, and `$@` are its words. Empty where no more is to be done than that.
+    /// The shell's command that starts it: `$0` is the program, and `$@` are its words. If it is empty, the program is only started.
     pub shell: String,
     /// What the peer answers to the datagrams that it receives, one after another.
     pub answers: Vec<Vec<u8>>,

@@ -5,7 +5,7 @@ use itoa::Buffer;
 use std::alloc::Global;
 use test_data::word_of_bytes;
 
-/// What was said so far. Where memory is refused, that is kept, and what is said from then on is lost: `bytes` reports it. So what speaks has no error of its
+/// What was said so far. Where memory is refused, that is noted, and what is said from then on is lost: `bytes` reports it. So what speaks has no error of its
 /// own to return.
 #[derive(Drop)]
 pub struct Said {

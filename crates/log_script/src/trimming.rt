@@ -5,7 +5,8 @@ use crate::tell;
 use ft_io::NoMemory;
 use logger_store::TrimStore;
 
-/// Trims an entry by its first reads, and writes how many bytes they took. It refuses what was trimmed before, and what isn't logged or has a closing read.
+/// Trims an entry by its first reads, and writes how many bytes they took. It refuses fewer reads than were trimmed before, and reads
+/// that aren't logged or include a closing read.
 pub(crate) fn trim_at(log: &mut TrimStore, text: &str, said: &mut String) -> Result<(), NoMemory> {
     if let Some((place, reads)) = numbers(text)
         && let Some(entry) = log.entry(place)

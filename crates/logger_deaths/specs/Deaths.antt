@@ -53,7 +53,7 @@ abbrev pub IsWithin : List Packet → List Packet → Type 0
 IsWithin packets [] = packets ≡ []
 IsWithin packets (one ∷ others) = ((rest : List Packet) × (packets ≡ one ∷ rest) × IsWithin rest others) ⊎ (IsAnswer one × IsWithin packets others)
 
--- a world and the one after a joint trace differ only in answers of the logger, which were never delivered
+-- a world is the one after a joint trace, except that the latter may have further answers of the logger among its packets
 pub record IsShown {State : Type 0} (service : Machine State) (start world : World) : Type 0 where
   pub trace : List Moment
   pub joint : Joint service start trace

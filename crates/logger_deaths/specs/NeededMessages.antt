@@ -8,7 +8,7 @@ abbrev pub log_after_all : Log → List Message → Log
 log_after_all log [] = log
 log_after_all log (message ∷ messages) = log_after_all (log_after log message) messages
 
--- these messages are kept of all: each one that changes the log, and maybe others
+-- of all messages these are kept: each one that changes the log, and maybe others
 abbrev pub IsKeptOf : Log → List Message → List Message → Type 0
 IsKeptOf log [] kept = kept ≡ []
 IsKeptOf log (message ∷ messages) kept =

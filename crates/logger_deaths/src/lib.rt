@@ -14,7 +14,7 @@ ghost use Rattle.logger_deaths.specs.Deaths.{MortalMoment, mortal_after, MortalJ
 
 use server_trait::Service;
 
-/// Each world that such a trace leads to is the world after a joint trace from the same start, except for answers of the logger that were never delivered.
+/// Each world that such a trace leads to is the world after a joint trace from the same start, except that the latter may have further answers of the logger.
 pub fn mortal_traces_refine_joint_traces<S: Service>()
     ensures { (kind : ℕ) (start : World) (trace : List MortalMoment) → MortalJoint (machine (S.started kind) S.after) start trace
         → IsShown (machine (S.started kind) S.after) start (mortal_after start trace) }

@@ -15,8 +15,8 @@ part_changes part e =
     in nat_lt e.acknowledged part.acked
     || (not e.fin && nat_le part.offset (length e.bytes) && (nat_lt (length e.bytes) end || (part.fin && end == length e.bytes)))
 
--- a body of the log's own boot changes the log if it opens an entry for a new key while there is room, or has such a part, the next read, or an end that
--- isn't noted yet
+-- the body of a message with the log's boot number changes the log if it opens an entry for a new key while there is room, or has such a part, the next read,
+-- or an end that isn't noted yet
 abbrev pub body_changes : Body → Log → Bool
 body_changes (OpenMsg n) log = not (list_any (λ e. key_eq e.key n.key) log.entries || nat_le 64 (length log.entries))
 body_changes (DataMsg part) log = option_map_or (part_changes part) (entry_of part.key log) false
@@ -24,7 +24,7 @@ body_changes (ReadMsg key index n) log = option_map_or (λ e. is_next_read e ind
 body_changes (DoneMsg key) log = option_map_or (λ e. not e.done) (entry_of key log) false
 body_changes _ log = false
 
--- .. and a message changes it if it is a Hello of a larger boot, or has the log's own boot and such a body
+-- .. and a message changes it if it is a Hello of a larger boot, or has the log's boot number and such a body
 unfoldable pub changes : Log → Message → Bool
 changes log message =
     not (is_answer message.body)

@@ -29,7 +29,7 @@ room_after len = (4096 - len % 4096) % 4096
 abbrev pub page_of : List ℕ → ℕ → List ℕ
 page_of bytes i = take 4096 (drop (4096 * i) bytes)
 
--- bytes whose first `n` are dropped: zeros are in their place
+-- bytes whose first `n` are discarded: zeros are in their place
 abbrev pub zeroed : ℕ → List ℕ → List ℕ
 zeroed n bytes = replicate n 0 ++ drop n bytes
 
@@ -41,7 +41,7 @@ pages bytes = 4096 * (bytes / 4096)
 abbrev pub level : (reads bytes : ℕ) → List ℕ
 level reads bytes = replicate (reads - bytes % reads) (bytes / reads) ++ replicate (bytes % reads) (bytes / reads + 1)
 
--- lengths whose first `reads` are dropped: level ones are in their place, as many and with the same sum
+-- lengths whose first `reads` are discarded: level ones are in their place, as many and with the same sum
 abbrev pub levelled : ℕ → List ℕ → List ℕ
 levelled reads lengths = level reads (sum (take reads lengths)) ++ drop reads lengths
 

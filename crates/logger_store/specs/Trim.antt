@@ -1,4 +1,4 @@
--- A trimmed log store, which has dropped the beginnings of some entries: which bytes and lengths it still reports, and which logs it represents.
+-- A trimmed log store, which has discarded the beginnings of some entries: which bytes and lengths it still reports, and which logs it represents.
 use Rattle.std.specs.Prelude.{◌≡◌, ℕ, ◌≤◌, ◌<◌, ◌==◌, Bool, true, false, ◌&&◌, nat_lt, sum, Option, None, List, [], ◌∷◌, length, take, replicate, slice_get, slice_index_or, slice_set, if◌then◌else◌}
 use Rattle.std.specs.Option.{option_map_or}
 use Rattle.std.specs.List.{AllByRecursion}
@@ -13,8 +13,8 @@ use Rattle.logger_store.specs.declared.trimming.Trim.{Trim}
 abbrev pub no_trim : Trim
 no_trim = record { bytes = 0; reads = 0 }
 
--- a log, and how much of each entry is trimmed, in the order of the entries. The log has zeros in place of the dropped bytes, and level lengths in place of
--- the dropped ones
+-- a log, and how much of each entry is trimmed, in the order of the entries. The log has zeros in place of the discarded bytes, and level lengths in place of
+-- the discarded ones
 pub record TrimmedLog : Type 0 where
   pub log : Log
   pub trims : List Trim

@@ -9,8 +9,8 @@ ghost use Rattle.ft_model.specs.Log.{Log, log_after, answer_to, empty_log, is_he
 ghost use Rattle.ft_model.specs.Growth.{LogGrows};
 ghost use Rattle.logger_store.specs.Trim.{TrimmedLog, IsLeftOf, MayTrim, answer_left, is_trimmed, untrimmed, with_trim};
 
-/// After a Hello, a message with a smaller boot number changes nothing, however far the log has grown since. It gets Stale, unless only the logger sends its
-/// kind.
+/// After a Hello, a message with a smaller boot number changes nothing, however far the log has grown since. It gets Stale, unless it is of a kind that only
+/// the logger sends.
 pub fn older_boots_get_stale()
     ensures unchanged { (log later : Log) (hello message : Message) → is_hello hello.body ≡ true → LogGrows (log_after log hello) later
         → message.boot < hello.boot
@@ -19,7 +19,8 @@ pub fn older_boots_get_stale()
         → is_answer message.body ≡ false → answer_to later message ≡ Some (record { boot = message.boot; body = StaleMsg later.boot }) }
 {}
 
-/// A log's answer that can be read, as a message of the log or as one about marks, can be read as a message of the log. No answer is no bytes.
+/// A log's answer that can be read, as a message of the log or as one about marks, can be read as a message of the log. The absence of an answer is written as
+/// no bytes.
 pub fn answers_are_messages()
     ensures { (answer : Option Message) (bytes : List ℕ) → bytes ≡ answer_bytes answer → IsReply bytes → IsAnswer bytes }
 {}
@@ -33,7 +34,7 @@ pub fn trimmed_logs_follow()
         → IsLeftOf (record t { log = log_after t.log message }) (log_after log message) }
 {}
 
-/// A trimmed store answers as the log that it represents does, except to questions of the log's own boot about what is trimmed. It doesn't answer these.
+/// A trimmed store answers as the log that it represents does, except to questions with the log's boot number about what is trimmed. It doesn't answer these.
 pub fn trimmed_logs_answer_alike()
     ensures { (t : TrimmedLog) (log : Log) (message : Message) → IsLeftOf t log
         → answer_left t message ≡ (if message.boot == log.boot && is_trimmed t message.body then None else answer_to log message) }

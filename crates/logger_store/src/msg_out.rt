@@ -50,7 +50,7 @@ impl MsgOut {
         &self.bytes[..self.len]
     }
 
-    /// Drops the message.
+    /// Removes the message.
     pub fn clear(&mut self)
         ensures { self.new ≡ [] }
     {

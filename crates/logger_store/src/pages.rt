@@ -15,13 +15,13 @@ use std::mem;
 /// The most bytes in one answer.
 pub const PART: usize = 1_024;
 
-/// What a dropped page reads as.
+/// What a discarded page reads as.
 static ZEROS: [u8; PAGE] = [0; PAGE];
 
-/// The bytes of an entry: full pages, and then the page of the last bytes, once there is one. The first pages may be dropped: their bytes then read as zeros.
+/// The bytes of an entry: full pages, and then the page of the last bytes, once there is one. The first pages may be discarded: their bytes then read as zeros.
 #[derive(Drop)]
 pub struct Pages {
-    /// How many pages are dropped.
+    /// How many pages are discarded.
     given_up: usize,
     /// The full pages, of 4,096 bytes each, that are still stored, in order.
     full: VecDeque<Page>,
@@ -81,7 +81,7 @@ fn page_with(alloc: Global, bytes: &[u8]) -> Result<Page, NoMemory>
     Ok(page)
 }
 
-/// Drops the first page, which is full.
+/// Discards the first page, which is full.
 #[tactic(auto, using(crate::proofs::GivenUp::first_dropped, crate::proofs::GivenUp::last_dropped))]
 fn drop_page(full: &mut VecDeque<Page>, last: &mut Option<Page>)
     requires full { All IsFull full.old.items }
@@ -96,7 +96,7 @@ fn drop_page(full: &mut VecDeque<Page>, last: &mut Option<Page>)
     }
 }
 
-/// Drops the first `count` pages, which are full.
+/// Discards the first `count` pages, which are full.
 #[tactic(auto, using(crate::proofs::GivenUp::drops_on, crate::proofs::GivenUp::one_more_dropped))]
 fn drop_pages(full: &mut VecDeque<Page>, last: &mut Option<Page>, count: usize)
     requires full { All IsFull full.old.items }
@@ -177,7 +177,7 @@ impl Pages {
         &[]
     }
 
-    /// Drops the first `pages` pages, counting those dropped before. Nothing is allocated.
+    /// Discards the first `pages` pages, counting those discarded before. Nothing is allocated.
     #[tactic(auto, using(crate::proofs::GivenUp::zeroed_is))]
     pub fn give_up(&mut self, pages: usize)
         requires { 4096 * pages ≤ length self.old }

@@ -1,4 +1,4 @@
-//! The lengths of an entry's reads. The first of them may be dropped.
+//! The lengths of an entry's reads. The first of them may be discarded.
 
 ghost use Rattle.std.specs.Prelude.{[], ◌≡◌, ◌≤◌, ◌<◌, ◌+◌, ◌-◌, ◌*◌, ◌^◌, ◌++◌, ◌∷◌, true, IsOk, OnOk, OnErr, length, take, drop, slice_index, sum, nat_le};
 ghost use Rattle.std.specs.List.{list_all};
@@ -11,10 +11,11 @@ use ft_io::NoMemory;
 use std::alloc::Global;
 use std::marker::Model;
 
-/// The lengths of reads. Those of the first reads may be dropped: they then read as level ones, which differ by at most one, as many and with the same sum.
+/// The lengths of reads. Those of the first reads may be discarded: in their place stand as many *level* lengths with the same sum, any two differing by at
+/// most one.
 #[derive(Drop)]
 pub struct ReadLengths {
-    /// The smaller of the level lengths in place of the dropped ones, ..
+    /// The smaller of the level lengths in place of the discarded ones, ..
     low: Run,
     /// .. and those that are larger by one.
     high: Run,
@@ -118,7 +119,7 @@ impl ReadLengths {
         Some(in_low + in_high + in_rest)
     }
 
-    /// Drops the lengths of the first `reads` reads, counting those dropped before. Nothing is allocated.
+    /// Discards the lengths of the first `reads` reads, counting those discarded before. Nothing is allocated.
     pub fn give_up(&mut self, reads: u32)
         requires there { reads ≤ length self.old }
         requires few { sum self.old ≤ 2 ^ 24 }

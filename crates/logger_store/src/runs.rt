@@ -18,7 +18,7 @@ pub struct Run {
     pub count: u32,
 }
 
-/// The lengths of reads: complete runs, and the run of the last length. That run has the count 0 before the first read.
+/// The lengths of reads: complete runs, and the run of the last length. The last run has the count 0 before the first read, and when all reads are discarded.
 #[derive(Drop)]
 pub struct Runs {
     /// The runs before the last, the first first.
@@ -106,7 +106,7 @@ fn front_of(runs: &[Run], reads: u32) -> Front
     front
 }
 
-/// Drops the first `reads` reads of a run, and returns how many bytes they took.
+/// Discards the first `reads` reads of a run, and returns how many bytes they took.
 #[tactic(auto, using(crate::proofs::Cutting::cut_rest, crate::proofs::Cutting::cut_took, crate::proofs::Cutting::cut_few))]
 fn cut(run: &mut Run, reads: u32) -> u32
     requires there { reads ≤ run.old.count }
@@ -118,7 +118,7 @@ fn cut(run: &mut Run, reads: u32) -> u32
     reads * u32::from(run.length)
 }
 
-/// Drops the first `count` runs.
+/// Discards the first `count` runs.
 #[tactic(auto, using(crate::proofs::Cutting::turned))]
 fn drop_runs(runs: &mut Vec<Run>, count: usize)
     requires { count ≤ length runs.old.items }
@@ -129,7 +129,7 @@ fn drop_runs(runs: &mut Vec<Run>, count: usize)
     runs.truncate(kept);
 }
 
-/// Drops the first `reads` reads of the first run, which is `last` if `runs` is empty, and returns how many bytes they took.
+/// Discards the first `reads` reads of the first run, which is `last` if `runs` is empty, and returns how many bytes they took.
 #[tactic(auto, using(crate::proofs::Cutting::first_rest, crate::proofs::Cutting::first_took))]
 fn cut_first(runs: &mut Vec<Run>, last: &mut Run, reads: u32) -> u32
     requires in_run { (run : Run) → (rest : List Run) → runs.old.items ≡ run ∷ rest → reads ≤ run.count }
@@ -222,7 +222,7 @@ impl Runs {
         Some(total + took_of(self.last, left)?)
     }
 
-    /// Drops the first `reads` lengths, and returns how many bytes these reads took. Nothing is allocated.
+    /// Discards the first `reads` lengths, and returns how many bytes these reads took. Nothing is allocated.
     #[tactic(auto, using(crate::proofs::Cutting::all_rest, crate::proofs::Cutting::all_took, crate::proofs::Cutting::behind_few, crate::proofs::Cutting::last_enough))]
     pub fn drop_first(&mut self, reads: u32) -> u32
         requires there { reads ≤ length self.old }

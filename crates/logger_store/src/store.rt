@@ -215,7 +215,7 @@ impl LogStore {
         entry.take_read(index, len)
     }
 
-    /// Drops the lengths of the first `reads` reads of the entry at place `i`, and the complete pages of the `bytes` bytes that they took. Nothing is
+    /// Discards the lengths of the first `reads` reads of the entry at place `i`, and the complete pages of the `bytes` bytes that they took. Nothing is
     /// allocated.
     pub(crate) fn give_up(&mut self, i: u16, bytes: u32, reads: u32)
         requires there { reads ≤ length (lengths_of (slice_get self.old.entries i)) }
@@ -303,7 +303,7 @@ impl LogStore {
         }
     }
 
-    /// Whether a body in the log's own boot changes anything.
+    /// Whether the body of a message with the log's boot number changes anything.
     #[tactic(auto, using(crate::proofs::Sending::data_ranges))]
     fn body_changes(&self, m: &Msg<'_>) -> bool
         requires { IsSendable m.now }
@@ -331,7 +331,7 @@ impl LogStore {
         }
     }
 
-    /// Whether a message changes the log. Those messages alone determine the log.
+    /// Whether a message changes the log. The log depends on the messages that do, and on no others.
     #[tactic(auto, unfolding(ft_model::specs::Log::log_after, crate::specs::Changes::changes))]
     pub fn changes(&self, m: &Msg<'_>) -> bool
         requires { IsSendable m.now }
@@ -348,7 +348,7 @@ impl LogStore {
         m.boot == self.boot && self.body_changes(m)
     }
 
-    /// Keeps what a message of the log's own boot says.
+    /// Keeps what a message with the log's boot number says.
     #[tactic(auto, using(crate::proofs::Sending::open_ranges, crate::proofs::Sending::data_ranges, crate::proofs::Sending::data_few, crate::proofs::Sending::read_range))]
     fn take(&mut self, alloc: Global, m: &Msg<'_>) -> Result<(), NoMemory>
         requires { IsSendable m.now }
@@ -396,7 +396,7 @@ impl LogStore {
         }
     }
 
-    /// Puts the log's answer to a message of its own boot into the empty `out`, after the log has taken the message.
+    /// Writes the log's answer to a message with its boot number into the empty `out`, after the log has taken the message.
     #[tactic(auto, using(crate::proofs::Sending::some_boot, crate::proofs::Sending::list_range), unfolding(seq_arith::specs::MessageGrammar::has_length, seq_arith::specs::MessageGrammar::is_sound))]
     fn tell(&self, m: &Msg<'_>, out: &mut MsgOut)
         requires sendable { IsSendable m.now }

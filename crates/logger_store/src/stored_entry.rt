@@ -273,7 +273,7 @@ impl StoredEntry {
         self.lengths.took(reads as usize)
     }
 
-    /// Drops the lengths of the first `reads` reads, and the complete pages of the `bytes` bytes that they took. Nothing is allocated.
+    /// Discards the lengths of the first `reads` reads, and the complete pages of the `bytes` bytes that they took. Nothing is allocated.
     #[tactic(auto, using(crate::proofs::Without::kept_without, crate::proofs::Without::below_there))]
     pub fn give_up(&mut self, bytes: u32, reads: u32)
         requires there { reads ≤ length self.old.lengths }

@@ -1,4 +1,4 @@
-//! The answers of the log, each put as a message into the room for one answer.
+//! The answers of the log, each written as a message into the room for one answer.
 
 ghost use Rattle.std.specs.Prelude.{[], ◌≡◌, ◌≤◌, ◌<◌, Some, option_copied};
 ghost use Rattle.seq_arith.specs.Message.Body.{EntryMsg, OpenedMsg, StableMsg, ReadsMsg, EndedMsg, StaleMsg};
@@ -13,7 +13,7 @@ use arrayvec::ArrayVec;
 use ft_io::Key;
 use logger_wire::{Body, Msg};
 
-/// Puts the entry at place `index`, without its bytes and lengths. Puts nothing if there is no entry.
+/// Writes the entry at place `index`, without its bytes and lengths, into `out`. Writes nothing if there is no entry.
 #[tactic(auto, unfolding(seq_arith::specs::MessageGrammar::has_length, seq_arith::specs::MessageGrammar::is_sound))]
 pub fn tell_head(stored: Option<&StoredEntry>, boot: u64, index: u16, out: &mut MsgOut)
     requires boot { 1 ≤ boot }
@@ -50,7 +50,7 @@ pub fn tell_head(stored: Option<&StoredEntry>, boot: u64, index: u16, out: &mut 
     out.put(&Msg { boot, body });
 }
 
-/// Puts the entry's bytes from `offset` on, at most 1,024. Puts nothing if there are none, or no entry.
+/// Writes the entry's bytes from `offset` on, at most 1,024, into `out`. Writes nothing if there are none, or no entry.
 #[tactic(auto, unfolding(seq_arith::specs::MessageGrammar::has_length, seq_arith::specs::MessageGrammar::is_sound))]
 pub fn tell_part(stored: Option<&StoredEntry>, boot: u64, offset: u32, out: &mut MsgOut)
     requires boot { 1 ≤ boot }
@@ -74,7 +74,7 @@ pub fn tell_part(stored: Option<&StoredEntry>, boot: u64, offset: u32, out: &mut
     out.put(&Msg { boot, body });
 }
 
-/// Puts the lengths of the entry's reads from index `first` on, at most 512. Puts nothing if there are none, or no entry.
+/// Writes the lengths of the entry's reads from index `first` on, at most 512, into `out`. Writes nothing if there are none, or no entry.
 #[tactic(auto, unfolding(seq_arith::specs::MessageGrammar::has_length, seq_arith::specs::MessageGrammar::is_sound))]
 pub fn tell_lengths(stored: Option<&StoredEntry>, boot: u64, first: u32, out: &mut MsgOut)
     requires boot { 1 ≤ boot }
@@ -98,7 +98,7 @@ pub fn tell_lengths(stored: Option<&StoredEntry>, boot: u64, first: u32, out: &m
     out.put(&Msg { boot, body });
 }
 
-/// Puts the numbers with which a key was opened, or, if it has no entry, that the log is full.
+/// Writes into `out` the numbers with which a key was opened, or, if it has no entry, that the log is full.
 #[tactic(auto, unfolding(seq_arith::specs::MessageGrammar::has_length, seq_arith::specs::MessageGrammar::is_sound))]
 pub fn tell_opened(stored: Option<&StoredEntry>, boot: u64, key: Key, out: &mut MsgOut)
     requires { 1 ≤ boot }
@@ -119,7 +119,7 @@ pub fn tell_opened(stored: Option<&StoredEntry>, boot: u64, key: Key, out: &mut 
     out.put(&Msg { boot, body });
 }
 
-/// Puts how much of the entry is logged, as the answer to Data. Puts nothing if there is no entry.
+/// Writes how much of the entry is logged into `out`, as the answer to Data. Writes nothing if there is no entry.
 #[tactic(auto, unfolding(seq_arith::specs::MessageGrammar::has_length, seq_arith::specs::MessageGrammar::is_sound))]
 pub fn tell_stable(stored: Option<&StoredEntry>, boot: u64, out: &mut MsgOut)
     requires boot { 1 ≤ boot }
@@ -145,7 +145,7 @@ pub fn tell_stable(stored: Option<&StoredEntry>, boot: u64, out: &mut MsgOut)
     out.put(&Msg { boot, body });
 }
 
-/// Puts how much of the entry is logged, as the answer to Read. Puts nothing if there is no entry.
+/// Writes how much of the entry is logged into `out`, as the answer to Read. Writes nothing if there is no entry.
 #[tactic(auto, unfolding(seq_arith::specs::MessageGrammar::has_length, seq_arith::specs::MessageGrammar::is_sound))]
 pub fn tell_reads(stored: Option<&StoredEntry>, boot: u64, out: &mut MsgOut)
     requires boot { 1 ≤ boot }
@@ -171,7 +171,7 @@ pub fn tell_reads(stored: Option<&StoredEntry>, boot: u64, out: &mut MsgOut)
     out.put(&Msg { boot, body });
 }
 
-/// Puts that the connection's end is logged. Puts nothing if there is no entry.
+/// Writes into `out` that the connection's end is logged. Writes nothing if there is no entry.
 #[tactic(auto, unfolding(seq_arith::specs::MessageGrammar::has_length, seq_arith::specs::MessageGrammar::is_sound))]
 pub fn tell_ended(stored: Option<&StoredEntry>, boot: u64, key: Key, out: &mut MsgOut)
     requires boot { 1 ≤ boot }
@@ -184,7 +184,7 @@ pub fn tell_ended(stored: Option<&StoredEntry>, boot: u64, key: Key, out: &mut M
     }
 }
 
-/// Puts Stale, the answer to a message of boot `boot`: a server with the larger boot number `newer` has started.
+/// Writes Stale into `out`, the answer to a message of boot `boot`: a server with the larger boot number `newer` has started.
 #[tactic(auto, unfolding(seq_arith::specs::MessageGrammar::has_length, seq_arith::specs::MessageGrammar::is_sound))]
 pub fn tell_stale(boot: u64, newer: u64, out: &mut MsgOut)
     requires boot { 1 ≤ boot }

@@ -1,4 +1,4 @@
-//! A log store that can drop the first bytes and reads of its entries.
+//! A log store that can be trimmed. No answer reports what is *trimmed*. Of it, the lengths and the complete pages are *discarded*: they are no longer stored.
 
 ghost use Rattle.std.specs.Prelude.{[], ◌≡◌, ◌≤◌, ◌<◌, ◌+◌, ◌-◌, ◌^◌, ◌&&◌, ◌==◌, true, false, None, option_map, option_copied, IfSome, OnOk, OnErr, IsOk, length, sum, take, slice_get, slice_index, slice_index_or, slice_set, if◌then◌else◌};
 ghost use Rattle.ft_model.specs.Log.{head_of, with_entry, log_after, answer_to};
@@ -27,11 +27,11 @@ pub struct Trim {
 /// Nothing is trimmed.
 const UNTRIMMED: Trim = Trim { bytes: 0, reads: 0 };
 
-/// A log store that can be trimmed: no answer reports an entry's trimmed first reads and their bytes any more, and the complete pages of these bytes are
-/// dropped.
+/// A log store that can be trimmed: no answer reports an entry's trimmed first reads and their bytes any more, and their lengths and the complete pages of the
+/// bytes are discarded.
 #[derive(Drop)]
 pub struct TrimStore {
-    /// It has zeros in place of the dropped bytes.
+    /// It has zeros in place of the discarded bytes.
     log: LogStore,
     /// How much of the entry at each place is trimmed.
     trims: [Trim; 64],
@@ -130,7 +130,7 @@ impl TrimStore {
         }
     }
 
-    /// Whether a message has the log's own boot and asks for trimmed bytes or lengths. Such a message changes nothing.
+    /// Whether a message has the log's boot number and asks for trimmed bytes or lengths. Such a message changes nothing.
     #[tactic(auto, using(crate::proofs::Asking::question_stays))]
     fn hides(&self, m: &Msg<'_>) -> bool
         ensures value { result ≡ (m.now.boot == self.now.log.boot && is_trimmed self.now (body_of m.now.body)) }
@@ -139,8 +139,8 @@ impl TrimStore {
         m.boot == self.boot() && self.is_trimmed(&m.body)
     }
 
-    /// Takes a message, and replaces the content of `out` by the answer to it, or by nothing, as `LogStore::answer` does; but it doesn't answer questions of
-    /// the log's own boot about what is trimmed. After `NoMemory` the log is unchanged, `out` empty.
+    /// Takes a message, and replaces the content of `out` by the answer to it, or by nothing, as `LogStore::answer` does; but it doesn't answer questions with
+    /// the log's boot number about what is trimmed. After `NoMemory` the log is unchanged, `out` empty.
     #[tactic(auto, unfolding(crate::specs::Trim::answer_left))]
     pub fn answer(&mut self, alloc: Global, m: &Msg<'_>, out: &mut MsgOut) -> Result<(), NoMemory>
         requires { IsSendable m.now }
@@ -198,7 +198,7 @@ impl TrimStore {
         self.trims[usize::from(i)] = Trim { bytes, reads };
     }
 
-    /// How many bytes of the entry at place `i` are stored: those past the complete pages that are dropped.
+    /// How many bytes of the entry at place `i` are stored: those past the complete pages that are discarded.
     pub fn kept(&self, i: u16) -> u32
         requires { i < length self.now.log.entries }
         ensures { result ≡ length (bytes_of (slice_get self.now.log.entries i)) - pages (trim_at self.now.trims i).bytes }

@@ -25,7 +25,7 @@ numbers_at (field ∷ rest) at bytes = number_at (width field) at bytes ∷ numb
 abbrev pub checked : {X : Type 0} → Bool → X → Result X BadMsg
 checked is_good read = if is_good then Ok read else Err bad.Field
 
--- the boot number of a message, if its length is within these bounds and as it says, and its checksum is right
+-- the boot number of a message, if its length is the one in its header and within these bounds, and its checksum is right
 unfoldable pub opened : (least most : ℕ) → List ℕ → Result ℕ BadMsg
 opened least most bytes =
     if not (word_at bytes 4 == length bytes) || not (nat_le least (length bytes) && nat_le (length bytes) most) then Err bad.Length

@@ -14,14 +14,14 @@ put at new bytes = take at bytes ++ new ++ drop (at + length new) bytes
 unfoldable pub body_bytes : Body → List ℕ
 body_bytes body = numbers_bytes (fields_of (kind_of body)) (numbers_of body) ++ behind_of body
 
--- a message of a kind with this checksum, and with its own
+-- a message of a kind with this checksum, and then with the right one
 unfoldable pub text : Kind → (boot : ℕ) → (behind : List ℕ) → (check : ℕ) → List ℕ
 text kind boot behind check = header kind (16 + length behind) check boot ++ behind
 
 unfoldable pub sealed : Kind → (boot : ℕ) → (behind : List ℕ) → List ℕ
 sealed kind boot behind = text kind boot behind (checksum (text kind boot behind 0))
 
--- bytes after a message's header is written before the body that is already in place
+-- what bytes become when a message's header is written before the body that is already in place
 unfoldable pub framed : Kind → (boot len : ℕ) → List ℕ → List ℕ
 framed kind boot len bytes = put 0 (sealed kind boot (drop 16 (take len bytes))) bytes
 

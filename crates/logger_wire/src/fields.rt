@@ -150,7 +150,7 @@ pub(crate) fn units(bytes: &[u8], at: usize) -> Result<u32, BadMsg>
     }
 }
 
-/// Reads the offset in a stream of the bytes that follow from `start` on. They are within the stream.
+/// Reads the offset, in a stream, of the bytes from `start` to the message's end. These must end within the longest stream.
 pub(crate) fn offset(bytes: &[u8], at: usize, start: usize) -> Result<u32, BadMsg>
     requires room { at + 4 ≤ length bytes.now }
     requires start { start ≤ length bytes.now }
@@ -165,7 +165,7 @@ pub(crate) fn offset(bytes: &[u8], at: usize, start: usize) -> Result<u32, BadMs
     }
 }
 
-/// Reads a boot number above this one.
+/// Reads a boot number, which must be larger than `boot`.
 pub(crate) fn newer(bytes: &[u8], at: usize, boot: u64) -> Result<u64, BadMsg>
     requires { at + 8 ≤ length bytes.now }
     ensures { result ≡ checked (is_in_range boot 0 Field.Newer (number_at 8 at bytes.now)) (number_at 8 at bytes.now) }

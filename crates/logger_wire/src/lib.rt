@@ -32,8 +32,8 @@ pub struct Msg<'a> {
 }
 
 /// The content of a message. It borrows the bytes of `PartMsg` and `DataMsg` and the lengths of `LensMsg` from the buffer that was read. An index of a log
-/// entry is at most 63, and a count of entries at most 64. A segment size is 64 to 1,460 bytes. A length, and an offset with its bytes, is at most 2^24
-/// bytes. Counts of reads and of acknowledged units are at most 2^24 + 1. The length of a read is at most 2,048 bytes. Flags are 0 or 1.
+/// entry is at most 63, and a count of entries at most 64. A segment size is 64 to 1,460 bytes. A length, and an offset plus the number of its bytes, is at
+/// most 2^24 bytes. Counts of reads and of acknowledged units are at most 2^24 + 1. The length of a read is at most 2,048 bytes. Flags are 0 or 1.
 #[derive(Clone, Copy)]
 pub enum Body<'a> {
     /// A server has started.

@@ -132,7 +132,7 @@ fn open(bytes: &[u8], len: usize) -> Result<u64, BadMsg>
     open_within(bytes, len, len)
 }
 
-/// Returns the boot number of a message, after testing its checksum and that its length is within these bounds and as it says.
+/// Returns the boot number of a message, after testing that its length is the one in its header and within these bounds, and that its checksum is right.
 #[tactic(auto, unfolding(crate::specs::Places::opened))]
 fn open_within(bytes: &[u8], least: usize, most: usize) -> Result<u64, BadMsg>
     requires { HEADER ≤ length bytes.now }

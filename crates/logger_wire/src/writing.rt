@@ -115,7 +115,7 @@ fn put_entry(m: &Msg<'_>, out: &mut [u8]) -> usize
     finish(Kind::Entry, m.boot, EntryHead::END, out)
 }
 
-/// Writes a message of a kind that has a key, the start of its bytes or lengths, and these.
+/// Writes a message of a kind that has a key, the offset or index at which its bytes or lengths start, and these.
 fn put_from(kind: Kind, boot: u64, key: Key, start: u32, behind: &[u8], out: &mut [u8]) -> usize
     requires short { message_length (PartMsg key start behind.now) < 2 ^ 16 }
     requires room { message_length (PartMsg key start behind.now) ≤ length out.old }

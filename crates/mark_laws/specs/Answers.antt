@@ -19,7 +19,7 @@ abbrev pub IsQuestion : MarkedLog → AnyMessage → Type 0
 IsQuestion l (Of_log message) = log_after l.log message ≡ l.log
 IsQuestion l (About_mark message) = after_mark l message ≡ l
 
--- a log of bytes in which each entry has another key, and a true mark or none
+-- a log of bytes in which no two entries have the same key, and each has a true mark or none
 pub record HasTrueMarks {State : Type 0} (service : Machine State) (writing : Writing State) (l : MarkedLog) : Type 0 where
   pub distinct : AreDistinct (map (λ e. e.key) l.log.entries)
   pub bytes : AllByRecursion (λ e. AreBytes e.bytes) l.log.entries

@@ -89,7 +89,7 @@ told_of_mark _ l = None
 abbrev pub about_mark : ℕ → MarkBody → AnyMessage
 about_mark boot body = About_mark (record { boot = boot; body = body })
 
--- The answer to a message about marks, once the log has taken it. An older boot gets Stale, a newer one nothing.
+-- The answer to a message about marks, once the log has taken it. A message of an older boot gets Stale, one of a newer boot nothing.
 unfoldable pub answer_to_mark : MarkedLog → MarkMessage → Option AnyMessage
 answer_to_mark l message =
     if is_mark_answer message.body then None

@@ -70,8 +70,8 @@ pub fn restarts_end_at_the_points<S: Service>()
         → slice_get (all_restored (machine (S.started kind) S.after) fetched) i ≡ Some (Lives (point_of (machine (S.started kind) S.after) e)) }
 {}
 
-/// A mark of two reads is kept. A mark of fewer reads and one whose length isn't the sum of its reads get the same answer, and change nothing. Nor does a
-/// mark of more reads than are logged.
+/// A mark of two reads is kept. A mark of fewer reads and one whose length isn't the sum of its reads get the same answer, and change nothing. A mark of
+/// more reads than are logged changes nothing either.
 pub fn worked_marks_are_kept()
     ensures kept { after_mark before (marking 2 4096 10) ≡ kept }
     ensures answer { answer_to_mark before (marking 2 4096 10) ≡ Some two_are_marked }

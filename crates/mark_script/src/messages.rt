@@ -230,7 +230,8 @@ fn put_state(draws: &mut Draws, bytes: &mut Vec<u8>) -> Result<(), NoMemory> {
     Ok(())
 }
 
-/// Changes a byte of the header, or cuts or lengthens the message, before its length and checksum are put in their places; or changes a bit or cuts it after that.
+/// Puts the length and the checksum of a message in their places. In five of eight cases it damages the message: before that it changes a byte of the
+/// header, or cuts or lengthens the message; or after that it changes a bit or cuts it.
 fn damage(draws: &mut Draws, bytes: &mut Vec<u8>) -> Result<(), NoMemory> {
     let way = draws.below(8);
     let place = draws.below(16) as usize;

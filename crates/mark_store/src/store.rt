@@ -24,11 +24,11 @@ use logger_wire::{MarkBody, MarkMsg, read_mark, read_msg};
 use std::alloc::Global;
 use std::marker::Model;
 
-/// The bytes of a page: only complete pages are dropped.
+/// The bytes of a page: only complete pages are discarded.
 const PAGE: u32 = 4_096;
 
-/// The log with marks: a log, and for each of its entries at most one mark. It answers as if it dropped nothing, since no answer reports what is below a
-/// mark. But of an entry it stores only the lengths of the reads after its mark, and the pages from the one that the mark lies in on.
+/// The log with marks: a log, and for each of its entries at most one mark. It answers as if it discarded nothing, since no answer reports what is below a
+/// mark. But of an entry it stores only the lengths of the reads after its mark, and the bytes from the beginning of the page in which the mark lies.
 #[derive(Drop)]
 pub struct MarkStore {
     /// The log, trimmed at the marks.
@@ -55,7 +55,7 @@ fn is_answer(body: &MarkBody<'_>) -> bool
     }
 }
 
-/// Puts Stale, the answer to a message of an older boot, unless only the logger sends its kind. Puts nothing otherwise.
+/// Writes Stale into `out`, the answer to a message of an older boot, unless the message is of a kind that only the logger sends. Writes nothing otherwise.
 fn tell_newer(newer: u64, m: &MarkMsg<'_>, out: &mut MsgOut)
     requires boot { 1 ≤ m.now.boot }
     requires empty { out.old ≡ [] }
@@ -140,7 +140,7 @@ impl MarkStore {
         }
     }
 
-    /// Keeps a mark, if it may replace the one before it, and drops what is below it. The output that it counts is then acknowledged.
+    /// Keeps a mark, if it may replace the one before it, and discards what is below it. The output that it counts is then acknowledged.
     fn take_mark(&mut self, alloc: Global, key: Key, mark: &NewMark<'_>) -> Result<(), NoMemory>
         requires reads { mark.now.reads ≤ 2 ^ 24 + 1 }
         requires length { mark.now.length ≤ 2 ^ 24 }
@@ -162,7 +162,7 @@ impl MarkStore {
         Ok(())
     }
 
-    /// Keeps what a message about marks of the log's own boot says.
+    /// Takes a message about marks that has the log's boot number, and keeps what it says.
     fn take(&mut self, alloc: Global, m: &MarkMsg<'_>) -> Result<(), NoMemory>
         requires { IsSpellable (message_of m.now) }
         ensures ok { OnOk result ((l : MarkedLog) → IsLeftOfMarked self.old l → IsLeftOfMarked self.new (with_mark_body (body_of m.now.body) l)) }
@@ -208,7 +208,7 @@ impl MarkStore {
         }
     }
 
-    /// Puts after how many reads a key's mark lies. Puts nothing if the key has no entry.
+    /// Writes into `out` after how many reads a key's mark lies. Writes nothing if the key has no entry.
     fn tell_marked(&self, boot: u64, key: Key, out: &mut MsgOut)
         requires boot { 1 ≤ boot }
         requires empty { out.old ≡ [] }
@@ -219,7 +219,7 @@ impl MarkStore {
         }
     }
 
-    /// Puts a key's mark. Puts nothing if the key has no entry.
+    /// Writes a key's mark into `out`. Writes nothing if the key has no entry.
     fn tell_held(&self, boot: u64, key: Key, out: &mut MsgOut)
         requires boot { 1 ≤ boot }
         requires empty { out.old ≡ [] }
@@ -230,7 +230,7 @@ impl MarkStore {
         }
     }
 
-    /// Puts the answer to a message about marks of the log's own boot into the empty `out`, after the log has taken the message.
+    /// Writes into the empty `out` the answer to a message about marks that has the log's boot number, after the log has taken the message.
     fn tell(&self, m: &MarkMsg<'_>, out: &mut MsgOut)
         requires spellable { IsSpellable (message_of m.now) }
         requires empty { out.old ≡ [] }
@@ -243,7 +243,7 @@ impl MarkStore {
         }
     }
 
-    /// Takes a message about marks, and puts the answer to it, or nothing, into the empty `out`.
+    /// Takes a message about marks, and writes the answer to it, or nothing, into the empty `out`.
     fn answer_mark(
         &mut self,
         alloc: Global,

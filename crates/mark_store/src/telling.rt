@@ -1,4 +1,4 @@
-//! The answers about a mark, each put as a message into the room for one answer.
+//! The answers about a mark, each written as a message into the room for one answer.
 
 ghost use Rattle.std.specs.Prelude.{◌≡◌, ◌≤◌, ◌<◌, ◌+◌, ◌^◌, length, Some};
 ghost use Rattle.seq_arith.specs.Mark.MarkBody.{MarkedMsg, HeldMsg};
@@ -15,7 +15,7 @@ use ft_io::Key;
 use logger_store::MsgOut;
 use logger_wire::{Body, MarkBody, MarkMsg, Msg, write_mark};
 
-/// Replaces the content by a message about marks.
+/// Replaces the content of `out` by a message about marks.
 fn put_mark(m: &MarkMsg<'_>, out: &mut MsgOut)
     requires { IsSpellable (message_of m.now) }
     ensures { out.new ≡ spelling (message_of m.now) }
@@ -25,7 +25,7 @@ fn put_mark(m: &MarkMsg<'_>, out: &mut MsgOut)
     out.put_mark(&bytes[..len]);
 }
 
-/// Puts Marked: the key's mark lies after `reads` reads.
+/// Writes Marked into `out`: the key's mark lies after `reads` reads.
 #[tactic(auto, unfolding(seq_arith::specs::MarkGrammar::has_length, seq_arith::specs::MarkGrammar::is_sound))]
 pub(crate) fn tell_marked(boot: u64, key: Key, reads: u32, out: &mut MsgOut)
     requires boot { 1 ≤ boot }
@@ -36,7 +36,7 @@ pub(crate) fn tell_marked(boot: u64, key: Key, reads: u32, out: &mut MsgOut)
     put_mark(&MarkMsg { boot, body }, out);
 }
 
-/// Puts Held: the key's mark itself.
+/// Writes Held into `out`: the key's mark itself.
 #[tactic(auto, unfolding(seq_arith::specs::MarkGrammar::has_length, seq_arith::specs::MarkGrammar::is_sound))]
 pub(crate) fn tell_held(boot: u64, key: Key, mark: &NewMark<'_>, out: &mut MsgOut)
     requires boot { 1 ≤ boot }
@@ -62,7 +62,7 @@ pub(crate) fn tell_held(boot: u64, key: Key, mark: &NewMark<'_>, out: &mut MsgOu
     put_mark(&MarkMsg { boot, body }, out);
 }
 
-/// Puts Stale, the answer to a message of boot `boot`: a server with the larger boot number `newer` has started.
+/// Writes Stale into `out`, the answer to a message of boot `boot`: a server with the larger boot number `newer` has started.
 #[tactic(auto, unfolding(seq_arith::specs::MessageGrammar::has_length, seq_arith::specs::MessageGrammar::is_sound))]
 pub(crate) fn tell_stale(boot: u64, newer: u64, out: &mut MsgOut)
     requires boot { 1 ≤ boot }

@@ -82,7 +82,7 @@ abbrev pub is_done : Packet → Bool
 is_done (To_logger message) = says_done message.body
 is_done _ = false
 
--- one place in a turn: as without marks, with the marks of what it becomes before its Done
+-- one place in a turn: as without marks, with the marks of what it becomes, which are sent before its Done
 pub record GoesMarked (Goes : Place → List Place → List Packet → Type 0) (marks : Place → List Outgoing) (place : Place) (now : List Place) (sent : List Outgoing) : Type 0 where
   pub packets : List Packet
   pub goes : Goes place now packets

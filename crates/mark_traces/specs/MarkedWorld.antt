@@ -69,7 +69,7 @@ abbrev pub answered_as : AnyMessage → Parcel
 answered_as (Of_log message) = Usual (From_logger message)
 answered_as (About_mark message) = Mark_answered message
 
--- what happens to clients only happens as without marks
+-- what happens only to clients happens as without marks
 abbrev pub Elsewhere : (World → List Packet → World → Type 0) → MarkedWorld → List Parcel → MarkedWorld → Type 0
 Elsewhere Goes before sent after =
     (packets : List Packet) × (sent ≡ map Usual packets) × Goes (seen before) packets (seen after)

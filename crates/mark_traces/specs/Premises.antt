@@ -13,7 +13,7 @@ use Rattle.trace_laws.specs.Premises.{IsSoundFront}
 use Rattle.mark_traces.specs.MarkedNode.{Marker, MarkedNode, so_far}
 use Rattle.mark_traces.specs.MarkedWorld.{bytes_held, lengths_held}
 
--- once a mark has come: these bytes and lengths are below it, the entries that are whole are sound, and all are prefixes of sound ones
+-- once a mark has come: these bytes and lengths are below it, the entries that are whole and not done are sound, and all are prefixes of sound ones
 pub record LeadsToSound {State : Type 0} (by : Marker State) (log : Log) (body : MarkBody) (before : FetchedSoFar) (m : Mark) : Type 0 where
   pub front : IsFront by.service by.writing m (bytes_held log body) (lengths_held log body)
   pub bytes : AreBytes (bytes_held log body)

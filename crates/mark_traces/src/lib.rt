@@ -125,8 +125,8 @@ pub fn marked_schedules_have_one_outcome<S: Saved>()
         → IsMarkedPastPackets (markers (machines S.started S.after) S.form S.state_of every) schedule → ⊥ }
 {}
 
-/// A worked run: an echo service with a mark after every read crashes once its mark is kept, and the next incarnation begins at the mark. It asks for one entry and
-/// its mark, and continues the connection, though the Data that reported the acknowledgement was lost.
+/// A worked run: an echo service with a mark after every read crashes once its mark is kept, and the next incarnation begins at the mark. It asks for one
+/// entry and its mark, and continues the connection, though the Data that reported the acknowledgement was lost.
 pub fn worked_restart_from_a_mark()
     ensures joint { MarkedJoint marker start trace }
     ensures legal { MarkedLegal (λ kind. marker) schedule trace }

@@ -32,7 +32,7 @@ pub record ActorsGoOn {State : Type 0} (service : Machine State) (Goes : List Pa
   pub same_log : after.log ≡ before.log
   pub same_keepers : after.keepers ≡ before.keepers
 
--- An event of the server or a client is allowed and happens, and the clients follow the script.
+-- An event of the server or a client is allowed and happens, and the clients are scripted.
 pub record ActorsAdvance {State : Type 0} (service : Machine State) (v : Seen) (event : Event) (before after : Kept State) : Type 0 where
   pub happens : ActorsGoOn service (Happens service v event) v before after
   pub allowed : refusal v event ≡ None

@@ -15,7 +15,7 @@ pub record StoreAndJournal : Type 0 where
   pub store : TrimmedAtMarks
   pub journal : Log
 
--- both are what is stored of a log with marks
+-- the store has what is left of a log with marks, and the journal is that log without the marks
 pub record AreAt (both : StoreAndJournal) (l : MarkedLog) : Type 0 where
   pub left : IsLeftOfMarked both.store l
   pub journal : both.journal ≡ l.log

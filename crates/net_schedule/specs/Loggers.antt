@@ -1,4 +1,4 @@
--- A head and a tail as the code holds them, what each of them does with bytes that arrive, and what it sends, as the network stores it.
+-- A head and a tail as the code stores them, what each of them does with bytes that arrive, and what it sends, as the network stores it.
 use Rattle.std.specs.Prelude.{ℕ, ◌==◌, Option, None, Some, List, ◌++◌, map, if◌then◌else◌}
 use Rattle.ft_model.specs.Log.{Log}
 use Rattle.ft_model.specs.declared.way.Way.{Way}

@@ -83,7 +83,7 @@ pub record MarkedGoesOn {State : Type 0} (by : Marker State) (Goes : List Parcel
   pub stands : MarkedWorldStands by w world
   pub grew : world.parcels ≡ v.parcels ++ sent
 
--- An event is allowed and happens, and the clients follow the script.
+-- An event is allowed and happens, and the clients are scripted.
 pub record MarkedAdvances {State : Type 0} (by : Marker State) (v : MarkedWorld) (event : Event) (w : Kept State) : Type 0 where
   pub happens : MarkedGoesOn by (MarkedHappens by v event) v w
   pub allowed : marked_refusal v event ≡ None

@@ -21,7 +21,7 @@ use Rattle.net_schedule.specs.Logs.Keepers.{Single}
 use Rattle.net_schedule.specs.declared.end.StepEnd.{StepEnd}
 use Rattle.net_schedule.specs.declared.end.StepEnd.TheVariants.{BadEvent}
 
--- a server that is up: its identity, which never changes, and what it holds
+-- a server that is up: its identity, which never changes, and its state
 pub record Server (State : Type 0) : Type 0 where
   pub who : Identity
   pub stage : Holds State
@@ -72,7 +72,7 @@ pub record ReachesNext {State : Type 0} (service : Machine State) (Goes : List P
   pub stands : WorldStands service w world
   pub grew : world.packets ≡ v.packets ++ sent
 
--- An event is allowed and happens, and the clients follow the script.
+-- An event is allowed and happens, and the clients are scripted.
 pub record Advances {State : Type 0} (service : Machine State) (v : Seen) (event : Event) (w : Kept State) : Type 0 where
   pub happens : ReachesNext service (Happens service v event) v w
   pub allowed : refusal v event ≡ None

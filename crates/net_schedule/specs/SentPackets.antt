@@ -43,7 +43,7 @@ pub record WasSentAs (schedule : Schedule) (trace : List Moment) (number : ℕ) 
   pub goes : way ≡ reported_way schedule packet
   pub spells : bytes ≡ (wire_of packet).bytes
 
--- With two loggers: all parcels that were sent up to the end of a trace
+-- With two loggers: all parcels that were sent up to the end of a trace: packets, and datagrams between the loggers
 abbrev pub parcels_of : Schedule → List TwinMoment → List Parcel
 parcels_of schedule trace = (twin_after (twin_start schedule) trace).parcels
 
@@ -61,7 +61,7 @@ pub record ParcelSentAs (schedule : Schedule) (trace : List TwinMoment) (number 
   pub goes : way ≡ way_of_parcel (clients_of schedule.server schedule.clients) parcel
   pub spells : bytes ≡ bytes_of_parcel parcel
 
--- With marks: all parcels that were sent up to the end of a trace
+-- With marks: all parcels that were sent up to the end of a trace: packets, and messages about marks
 abbrev pub marked_parcels_of : Schedule → List MarkedMoment → List marked.Parcel
 marked_parcels_of schedule trace = (marked_after (marked_start schedule) trace).parcels
 

@@ -37,7 +37,7 @@ stored_way keys (Inside between) = way_of_between between
 abbrev pub carried_parcels : List Key → List Parcel → Carried
 carried_parcels keys parcels = record { ways = map (stored_way keys) parcels; bytes = map bytes_of_parcel parcels }
 
--- each logger stores what is stored of its history
+-- each logger has the stored state of its counterpart in the definitions
 pub record LoggersStand (l : Loggers) (p : Pair) : Type 0 where
   pub head : l.head ≡ kept_head p.head
   pub tail : l.tail ≡ kept_tail p.tail
@@ -59,7 +59,7 @@ pub record TwinGoesOn {State : Type 0} (service : Machine State) (Goes : List Pa
   pub stands : TwinWorldStands service w world
   pub grew : world.parcels ≡ v.parcels ++ sent
 
--- An event is allowed and happens, and the clients follow the script.
+-- An event is allowed and happens, and the clients are scripted.
 pub record TwinAdvances {State : Type 0} (service : Machine State) (v : TwinWorld) (event : Event) (w : Kept State) : Type 0 where
   pub turn : TwinEvent
   pub is : event_of turn ≡ event
@@ -76,7 +76,7 @@ pub record TwinPremises {State : Type 0} (service : Machine State) (v : TwinWorl
   pub written : AllByRecursion IsWritten v.parcels
   pub paired : IsPaired v.pair
 
--- these bytes reach the addressee of a parcel in place of its own
+-- these bytes reach the addressee of a parcel in place of the parcel's own
 abbrev pub ParcelComesAs : {State : Type 0} → Machine State → Parcel → List ℕ → TwinWorld → List Parcel → TwinWorld → Type 0
 ParcelComesAs service (Outside (To_logger message)) bytes before sent after =
     LoggerHas before.pair.head_stopped (comes_from sides.Server bytes) before sent after
@@ -84,7 +84,7 @@ ParcelComesAs service (Outside packet) bytes before sent after = Elsewhere (λ w
 ParcelComesAs service (Inside (Forward number request)) bytes before sent after = TailHas (comes_from sides.Other bytes) before sent after
 ParcelComesAs service (Inside (Got number)) bytes before sent after = HeadHas (comes_from sides.Other bytes) before sent after
 
--- what these bytes say to the server may arrive there
+-- what these bytes say may arrive at the addressee of a parcel; between the two loggers anything may arrive
 abbrev pub MayComeAs : Seen → Parcel → List ℕ → Type 0
 MayComeAs v (Outside packet) bytes = ComesAs v packet bytes
 MayComeAs v (Inside between) bytes = Unit {0}

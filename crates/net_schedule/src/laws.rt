@@ -74,8 +74,8 @@ pub fn marked_logs_have_distinct_keys<S: Saved>()
     marks_that_go_out_are_true::<S>();
 }
 
-/// With marks, too, the world's keys are those of the schedule's clients, and it stores the parcels of its trace, each in its one spelling and with its
-/// direction. The service is one that can be saved: with any other, no schedule is played with marks.
+/// With marks, too, the world's keys are those of the schedule's clients, and the world stores the parcels of its trace (packets, and messages about
+/// marks), each in its one spelling and with its direction. The service is one that can be saved: with any other, no schedule is played with marks.
 pub fn marked_worlds_keep_what_was_sent<S: Saved>()
     ensures keys { (every : ℕ) (schedule : Schedule) (events : List Event) (trace : List MarkedMoment) (w : Kept S)
         → MarkedStandsAfter (markers (machines S.started S.after) S.form S.state_of every) schedule events trace w

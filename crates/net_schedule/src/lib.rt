@@ -1,5 +1,5 @@
-//! The world of a schedule: clients that follow the script; a network that stores each packet as bytes and delivers the one that the schedule names; one
-//! logger, two, or one that keeps marks; and a server that crashes and restarts.
+//! The world of a schedule: scripted clients; a network that stores each packet as bytes and delivers the one that the schedule names; one logger,
+//! two, or one that keeps marks; and a server that crashes and restarts.
 #![tactic(auto)]
 
 pub use end::StepEnd;

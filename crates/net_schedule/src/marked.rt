@@ -102,7 +102,7 @@ impl MarkedLog {
             .answer(alloc, &Msg { boot, body }, &mut self.answer)
     }
 
-    /// Enters in the journal a message about marks that the store has taken: its mark, if the store keeps it, as the store's acknowledged output then shows.
+    /// Enters in the journal the mark of a message that the store has read, if the store's acknowledged output of its key is at least the output made.
     fn enter(&mut self, alloc: Global, message: &MarkMsg<'_>) -> Result<(), NoMemory>
         requires { IsSpellable (mark_message_of message.now) }
         ensures { OnOk result (Notes (λ l. after_mark l (mark_message_of message.now)) self.old self.new) }
@@ -124,7 +124,7 @@ impl MarkedLog {
         }
     }
 
-    /// Enters in the journal the message in these bytes, which the store has taken.
+    /// Enters in the journal the message in these bytes, which the store has read.
     fn note(&mut self, alloc: Global, bytes: &[u8]) -> Result<(), NoMemory>
         ensures { OnOk result (Notes (after_bytes bytes.now) self.old self.new) }
     {

@@ -168,7 +168,7 @@ impl<S: Saved> World<S> {
         self.clients.get(usize::from(n) - 1)
     }
 
-    /// Returns the log that serves.
+    /// Returns the log that serves; with marks, the journal.
     pub fn log(&self) -> &LogStore
         ensures { result.now ≡ (kept self.now).log }
     {
@@ -200,7 +200,7 @@ impl<S: Saved> World<S> {
         Ok(())
     }
 
-    /// Crashes the server. All that it held is lost.
+    /// Crashes the server. Its whole state is lost.
     fn crash(&mut self) -> Result<(), StepEnd>
         ensures done { OnOk result (ActorsDo (saving S.form S.state_of S.is_savable) Crash self.old self.new) }
         ensures ends { IfErr result (ActorsDecline (saving S.form S.state_of S.is_savable) Crash self.old self.new) }

@@ -18,7 +18,7 @@ use wrapped_conn::TurnOut;
 /// The number of the server's first start.
 pub(crate) const BOOT: u64 = 1;
 
-/// The initial numbers of each connection, and the segment size that its client offers.
+/// The initial sequence numbers of each connection, and the segment size that its client offers.
 pub(crate) const CLIENT_ISN: Seq = Seq(1_000);
 
 pub(crate) const SERVER_ISN: Seq = Seq(5_000);
@@ -42,7 +42,7 @@ impl Log {
         }
     }
 
-    /// Takes a datagram, and puts the answer, or nothing, in the place of what `answer` held.
+    /// Takes a datagram, and puts the answer, or nothing, in place of what was in `answer`.
     fn take(
         &mut self,
         alloc: Global,

@@ -1,6 +1,6 @@
 //! A server with live connections and its log: `node KIND CLIENTS SIZE ROUNDS TICKS`. It opens 1 to 64 connections to a service of this kind (1 is Echo, 4 is
-//! Meter). In each of ROUNDS rounds every client sends a segment of SIZE bytes, at most 1,460, which the log keeps; with Echo it acknowledges all that came
-//! back before. With SIZE 0 each segment lies before what is taken, so that it is answered by an acknowledgement alone. Then TICKS ticks pass. Packets and
+//! Meter). In each of ROUNDS rounds every client sends a segment of SIZE bytes, at most 1,460, which is logged; with Echo it acknowledges all that came
+//! back before. With SIZE 0 each segment lies before what is taken, so that it is answered by a pure ACK. Then TICKS ticks pass. Packets and
 //! messages pass as bytes. It prints how many turns the server had after the openings, what it sent to the clients, how many messages to the log, and the
 //! numbers of the first connection.
 

@@ -43,8 +43,8 @@ pub record HasTurned (server : Addr) (before after : LiveState) (old new : Optio
   pub beside : (c : Client) → IsBetween before c → before.outcome ≡ None → IsNear c turn.received
       → IsDue (after_receive before turn.received) (machine_then before c turn.received)
 
--- with so many bytes written and read: what was sent or is held for sending is within the bytes written and a FIN, what waits to be read fits the receive
--- buffer, and what came out of order comes after it
+-- with so many bytes written and read: what was sent or waits to be sent is within the bytes written and a FIN, what waits to be read fits the receive
+-- buffer, and the text that came out of order lies after what waits to be read
 pub record Limits (isn written read own una sent wl2 held : ℕ) (fin_sent : Bool) (done waiting limit : ℕ) (fin : Bool) (early : Early) : Type 0 where
   pub isn_is : own ≡ isn
   pub order : una ≤ sent

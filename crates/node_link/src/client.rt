@@ -69,7 +69,7 @@ fn script_of<I: Source>(
     }
 }
 
-/// Allocates a buffer for all bytes of a client's receive buffer.
+/// Allocates a buffer that has room for all bytes of a client's receive buffer.
 fn accept_room(alloc: Global) -> Result<Vec<u8>, NoMemory>
     ensures { IfOk result (λ room. vec_len room ≡ ACCEPT_ROOM) }
 {
@@ -110,7 +110,7 @@ fn receive<L: Link>(link: &mut L, client: &mut LiveClient)
     }
 }
 
-/// One turn: receives, sends, writes what was accepted.
+/// Takes one turn: receives, sends, and writes what was accepted.
 fn take_turn<L: Link, O: Sink>(
     link: &mut L,
     role: &ClientRole,
@@ -206,7 +206,7 @@ fn run_script<L: Link, O: Sink>(
     }
 }
 
-/// Runs a client: reads its script, binds, and takes turns until both ends are closed.
+/// Runs a client: reads its script, binds, and takes turns until its connection is closed or reset, or no turn is left.
 pub(crate) fn run_client<L: Link, I: Source, O: Sink>(
     alloc: Global,
     role: &ClientRole,

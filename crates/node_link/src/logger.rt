@@ -23,7 +23,7 @@ use logger_store::{LogStore, MsgOut};
 use logger_wire::read_msg;
 use std::alloc::Global;
 
-/// Applies the message that the bytes spell to the log and returns the answer, or no bytes if there is none or the bytes are no message.
+/// Applies to the log the message that the bytes spell, and returns the answer. Returns no bytes if there is no answer or the bytes are no message.
 fn answer(alloc: Global, store: &mut LogStore, bytes: &[u8]) -> Result<MsgOut, NoMemory>
     ensures next { OnOk result (store.new ≡ log_with store.old (reading bytes.now)) }
     ensures answer { IfOk result (λ out. out ≡ answer_bytes (answer_for store.old (reading bytes.now))) }
@@ -70,7 +70,7 @@ fn take_turn<L: Link>(
     Ok(())
 }
 
-/// Takes so many turns, from the empty log on, and returns the counts of their calls.
+/// Takes this many turns, beginning with an empty log, and returns the counts of their calls.
 fn serve<L: Link>(alloc: Global, link: &mut L, turns: u32) -> Result<Counts, NoMemory>
     requires { turns ≤ 1000000 }
     ensures served { IfOk result (λ counts. HasCounted turns (L.told link.old) (L.told link.new) counts) }

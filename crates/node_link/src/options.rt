@@ -19,7 +19,7 @@ use std::alloc::{AllocError, Global};
 pub enum OptionName {
     Local,
     Logger,
-    /// The second of two loggers that act as one. Also spelled `--second`.
+    /// The second of two loggers that act as one. It is spelled `--second`, as `Second` is.
     SecondLogger,
     Server,
     Service,
@@ -87,7 +87,7 @@ impl OptionName {
     }
 }
 
-/// A command of these options.
+/// Returns a `clap` command with these options.
 fn command<'a>(alloc: Global, options: &[OptionName]) -> Result<Command<'a>, AllocError>
     ensures { IfOk result (λ c. app_of c ≡ options_app options.now) }
 {

@@ -53,7 +53,7 @@ impl ChildName {
 /// A step of a pair.
 #[derive(Drop)]
 pub(crate) enum PairStep {
-    /// Starts a program by these words.
+    /// Starts a child by these words: its program's name, and then its arguments.
     Start(Words),
     /// Waits for the Nth child started, from 1, and reports its status under this name.
     Wait(u32, ChildName),
@@ -267,7 +267,7 @@ fn wait<P: Spawner, O: Sink>(
     }
 }
 
-/// Takes one step. Where it is a wait, the child is one of those that were started.
+/// Takes one step. If it is a wait, its child must have been started.
 fn take_step<P: Spawner, O: Sink>(
     step: &PairStep,
     children: &mut Children,
@@ -299,7 +299,7 @@ fn take_step<P: Spawner, O: Sink>(
     }
 }
 
-/// Takes all steps of a pair, in order, as far as none fails.
+/// Takes the steps of a pair in order, until all are taken or one fails.
 fn take_steps<P: Spawner, O: Sink>(
     steps: &[PairStep],
     kids: &mut P,

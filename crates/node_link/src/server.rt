@@ -28,7 +28,7 @@ use server_node::{Input, Node, OutPacket, To, TurnEnd};
 use server_trait::Saved;
 use std::alloc::Global;
 
-/// Where a packet is sent: to its client's own address, or to the logger's; of two loggers, to the first one's.
+/// Returns the address to which a packet is sent: its client's, or the logger's. Of two loggers it is the first one's.
 fn address_of(logger: Addr, to: To) -> Addr
     ensures { result ≡ address_lem logger (party_of to) }
 {
@@ -41,7 +41,7 @@ fn address_of(logger: Addr, to: To) -> Addr
     }
 }
 
-/// The second logger's address, if there is one and the packet is a message.
+/// Returns the second logger's address, if there is a second logger and the packet is a message.
 fn second_for(loggers: Loggers, to: To) -> Option<Addr>
     ensures { result ≡ second_lem loggers (party_of to) }
 {
@@ -143,7 +143,7 @@ fn take_turn<S: Saved, L: Link>(
     Ok(())
 }
 
-/// Boots, and sends what the boot sends.
+/// Boots a node, and sends the packets of its boot.
 fn boot<S: Saved, L: Link>(
     alloc: Global,
     role: &ServerRole,

@@ -60,10 +60,10 @@ fn run<L: Link, I: Source, O: Sink, P: Spawner>(
 }
 
 /// Runs `ftnode` with these words: as a server, a logger or a client of FT-TCP over the link, or as a pair, which starts these as processes. If it stops early,
-/// it writes the reason to `err`, unless a write failed. The status is 0 if a server or a logger took all its turns, both ends of a client's connection are
-/// closed, or a pair's children have ended; 2 if the words aren't allowed or the client's input is longer than 2^24 bytes, 3 if an allocation failed, 4 if the
-/// bind failed, 5 if a write failed, 6 if a newer server fenced this one, 7 if the client's connection was reset, 8 if the client's turns ended before its
-/// connection, 9 if a read failed, and 10 if a start or a wait of a pair failed.
+/// it writes the reason to `err`, unless a write failed. The status is 0 if a server or a logger took all its turns, a client's connection is closed in both
+/// directions, or a pair's children have ended; 2 if the words aren't allowed or the client's input is longer than 2^24 bytes, 3 if an allocation failed, 4
+/// if the bind failed, 5 if a write failed, 6 if a newer server fenced this one, 7 if the client's connection was reset, 8 if the client's turns ended before
+/// its connection, 9 if a read failed, and 10 if a start or a wait of a pair failed.
 pub fn node<L: Link, I: Source, O: Sink, E: Sink, P: Spawner>(
     alloc: Global,
     words: &[String],
@@ -95,7 +95,8 @@ pub fn node<L: Link, I: Source, O: Sink, E: Sink, P: Spawner>(
     ensures no_err_fault { is_fault_status result.code ≡ false → E.fault_count err.new ≡ E.fault_count err.old }
     ensures no_child_fault { is_fault_status result.code ≡ false → P.fault_count kids.new ≡ P.fault_count kids.old }
 
-    // Where the words are allowed, the bind succeeded and no sink failed, only a fence or a failed allocation ends a role early.
+    // Where the words are allowed, a client has its script, the bind succeeded and no sink failed, a role ends early only if an allocation failed, a newer
+    // server fenced it, or it is a client whose connection was reset or whose turns ended.
     ensures server { (role : ServerRole) → role_of (map string_bytes words.now) ≡ Some (roles.Server role)
         → IsStill (L.bind_fault_count link.old) (L.bind_fault_count link.new) → IsStill (O.fault_count out.old) (O.fault_count out.new)
         → IsStill (E.fault_count err.old) (E.fault_count err.new) → (result.code ≡ 0) ⊎ ((result.code ≡ 6) ⊎ (result.code ≡ 3)) }

@@ -27,7 +27,7 @@ fn number(draws: &mut Draws, near: u32) -> Seq {
     }
 }
 
-/// Of a segment of one of the clients: mostly an acknowledgement, else with any flags.
+/// The header of a segment of one of the clients: mostly with ACK as its only flag, else with any flags.
 fn head(draws: &mut Draws) -> Head
     ensures { result.mss ≡ None }
 {
@@ -71,7 +71,7 @@ pub(crate) struct Tally {
     pub wrong: u64,
 }
 
-/// Whether a packet is sent to a client with a live connection, and is a RST or doesn't acknowledge exactly what is taken and logged.
+/// Whether a packet to a client can't be read, or is for a live connection and is a RST or doesn't acknowledge exactly what is taken and answered.
 fn is_wrong(node: &Node<AnyService>, packet: &OutPacket) -> bool {
     let To::Client(key) = packet.to() else {
         return false;

@@ -1,12 +1,12 @@
 //! `node_script`: plays a script of turns on a server, line by line from standard input, and prints what it sends. The lines:
 //!
 //! - `# ..` is printed as it is;
-//! - `boot KIND BOOT ISN` boots a server at 192.0.2.100:7 with this service (1 for Echo, 2 for Line, 3 for Transfer, 4 for Meter); the one that was
-//!   up has crashed;
+//! - `boot KIND BOOT ISN EVERY` boots a server at 192.0.2.100:7 with this service (1 for Echo, 2 for Line, 3 for Transfer, 4 for Meter), which marks a
+//!   connection after EVERY reads, or never without EVERY; a server that was up crashes first;
 //! - `packet HEX` and `message HEX` are datagrams from a client and from the logger, and a line of one word, `tick`, is a tick;
 //! - `conn IP PORT` prints the numbers of a client's connection, or `none`; IP is a number;
 //! - `attack COUNT SEED` gives COUNT datagrams that are drawn from SEED, and prints whether the server sent nothing, or else how many of its segments to live
-//!   connections didn't acknowledge exactly what is taken and logged, or were RSTs;
+//!   connections didn't acknowledge exactly what is taken and answered, or were RSTs;
 //! - `strike COUNT SEED KINDS SEQ ACK` gives COUNT hostile segments of one client that are drawn from SEED, of the first KINDS kinds of six, around the
 //!   client's next number and the server's, and prints how many packets were sent and a digest of them.
 //!

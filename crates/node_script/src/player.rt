@@ -56,7 +56,7 @@ impl Player {
         }
     }
 
-    /// A server of this kind, boot number and initial number, which makes a mark after every so many reads.
+    /// Boots a server of this kind and boot number, which counts its initial sequence numbers from `isn` and marks a connection after `every` reads.
     fn boot(
         &mut self,
         alloc: Global,

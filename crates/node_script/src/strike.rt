@@ -60,7 +60,7 @@ fn wrong_edge(draws: &mut Draws, strikes: Strikes) -> Blow
     }
 }
 
-/// A RST near the next number, but past any value that the other segments of the same line can give it.
+/// A RST just before the next number, or past any value that the other segments of the same line can give that number.
 fn wrong_reset(draws: &mut Draws, strikes: Strikes) -> Blow
     ensures { (0 < result.room) × (result.room < 21) }
 {
@@ -79,7 +79,7 @@ fn wrong_reset(draws: &mut Draws, strikes: Strikes) -> Blow
     }
 }
 
-/// Text that begins up to twelve bytes before the number, and acknowledges less.
+/// Text that begins one to twelve bytes before the next number, and acknowledges less than the client could.
 fn overlap(draws: &mut Draws, strikes: Strikes) -> Blow
     ensures { (0 < result.room) × (result.room < 21) }
 {
@@ -91,7 +91,7 @@ fn overlap(draws: &mut Draws, strikes: Strikes) -> Blow
     }
 }
 
-/// Text past the number, with any acknowledgement and odd flags.
+/// Text past the next number, with any acknowledgement and mostly odd flags.
 fn odd_flags(draws: &mut Draws, strikes: Strikes) -> Blow
     ensures { (0 < result.room) × (result.room < 21) }
 {
@@ -110,7 +110,7 @@ fn odd_flags(draws: &mut Draws, strikes: Strikes) -> Blow
     }
 }
 
-/// A SYN with the client's initial number, or one next to it.
+/// A SYN just before the client's next number, at it, or far past it.
 fn opening(draws: &mut Draws, strikes: Strikes) -> Blow
     ensures { (0 < result.room) × (result.room < 21) }
 {

@@ -87,7 +87,7 @@ given_north w n s = record n { run = given_to (w.room s) (unreleased n) n.run }
 abbrev pub given_socket : {S K : Type 0} → Writer K → NorthState S → K → K
 given_socket w n s = w.after_write s (gives (w.room s) (unreleased n) n.run)
 
--- the socket is closed where the closing read is known to be logged and all output is given
+-- the socket is closed where the read that closed the service is known to be logged and all output is given
 abbrev pub closes : {S : Type 0} → NorthState S → Bool
 closes n = not n.shut && n.last.closed && length n.run.pending == 0
 

@@ -1,5 +1,5 @@
 -- What it means that the north wrapper of a connection is at the connection's point, and what a turn of it does there: the laws Reads and Output (FT-TCP,
--- INFOCOM 2001: the north side wrapper logs the length of each read, and holds output until those lengths are logged).
+-- INFOCOM 2001: the north side wrapper logs the length of each read, and holds output back until those lengths are logged).
 use Rattle.std.specs.Prelude.{◌≡◌, ◌⊎◌, ℕ, ◌+◌, ◌<◌, ◌≤◌, ◌==◌, Bool, true, false, not, ◌&&◌, ◌||◌, nat_lt, ◌-◌, [], map, min, if◌then◌else◌, max, sum, List, ◌∷◌, ◌++◌, length, take, drop, get_or}
 use Rattle.std.specs.List.{list_any}
 use Rattle.ft_io.specs.declared.Key.{Key}

@@ -28,7 +28,7 @@ pub fn taking_leaves_it<S: Service>()
         → NorthStands (machine fresh S.after) (with_taken more p) given n }
 {}
 
-/// A send buffer that its turns fill, and acknowledgements empty, holds the output from what is acknowledged up to what is given.
+/// A send buffer that the wrapper's turns fill, and acknowledgements empty, holds the output from what is acknowledged up to what is given.
 pub fn a_buffer_holds_output()
     ensures { (output : List ℕ) (una given : ℕ) (held : List ℕ) → HoldsUpTo output una given held → HoldingLaws output una given held }
 {}

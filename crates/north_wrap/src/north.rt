@@ -353,7 +353,7 @@ impl<S: Service> North<S> {
         &self.reads
     }
 
-    /// The service, in its state after all reads: that of the uncrashed server after them.
+    /// Returns the service. Its state is that of an uncrashed server after the same reads.
     pub fn service(&self) -> &S
         ensures value { result.now ≡ self.now.run.service }
         ensures law { (fresh : S) (p : Point) (given : ℕ) → NorthStands (machine fresh S.after) p given self.now

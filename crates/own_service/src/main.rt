@@ -1,5 +1,5 @@
-//! `own_service`: a service of your own in the world of a schedule. It plays the schedule of its standard input, in which the server crashes, and prints what
-//! each client has accepted, next to what a server that never failed would have answered.
+//! `own_service`: a service of your own in the world of a schedule. It plays the schedule on its standard input, with its crashes, and prints what each
+//! client has accepted, next to what a server that never failed would have answered.
 #![tactic(auto)]
 
 ghost use Rattle.std.specs.Prelude.{◌≡◌, ◌≤◌, [], length, IfOk, IfSome, OnOk};
@@ -106,8 +106,8 @@ fn read(alloc: Global, text: &[u8]) -> Option<Schedule>
     }
 }
 
-/// Plays all events of a schedule in the world in which it starts. Whatever the events lose or repeat, and whenever the server crashes, what a client has accepted
-/// is a prefix of the answers to its script.
+/// Plays all events of a schedule in the world in which it starts. Whatever the events lose or repeat, and whenever the server crashes, what a client has
+/// accepted is a prefix of the answers to its script.
 fn play(alloc: Global, schedule: &Schedule, world: &mut World<Counter>) -> Result<(), StepEnd>
     requires { IsPlayed schedule.now [] (kept world.old) }
     ensures played { OnOk result (IsPlayed schedule.now schedule.now.events (kept world.new)) }
@@ -135,7 +135,7 @@ fn unfailing(alloc: Global, script: &[u8]) -> Result<Vec<u8>, NoMemory>
     Ok(out)
 }
 
-/// Writes what a client has accepted, and next to it what its script is answered without a crash.
+/// Writes what a client has accepted, and below it the answers to its script without a crash.
 fn tell_client(
     alloc: Global,
     n: u8,
@@ -151,7 +151,7 @@ fn tell_client(
     Ok(())
 }
 
-/// Writes two lines for each client whose script is written out.
+/// Writes two lines for each client whose script is given as bytes.
 fn tell(
     alloc: Global,
     schedule: &Schedule,

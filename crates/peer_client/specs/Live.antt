@@ -18,7 +18,7 @@ pub record LiveState : Type 0 where
   pub tcb : Tcb  -- the client's TCP
   pub script : List ℕ
   pub written : ℕ  -- how many bytes of the script were given to TCP
-  pub seen : ℕ  -- how many of the bytes that TCP holds unread were handed to the caller
+  pub seen : ℕ  -- how many of TCP's unread bytes were handed to the caller
   pub outcome : Option ClientEnd
 
 -- a new client, before its first flush
@@ -66,7 +66,7 @@ ticked l = record l { tcb = after_tick l.tcb }
 abbrev pub unread : LiveState → List ℕ
 unread l = drop l.seen l.tcb.receiving.unread
 
--- some of them are handed out. TCP holds them until the turn ends, so that no window opens within it
+-- some of them are handed out. They stay unread in TCP until the turn ends, so that no window opens within it
 abbrev pub handed : LiveState → ℕ → LiveState
 handed l n = record l { seen = l.seen + n }
 

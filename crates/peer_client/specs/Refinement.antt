@@ -80,7 +80,7 @@ pub record Agrees (l : LiveState) (c : Client) : Type 0 where
   pub hears : Hears l.tcb.receiving c
   pub sends : Sends l.tcb.sending l.written c
 
--- the RST in answer is the refusal of a wrong acknowledgement of the SYN, and has that number
+-- the RST sent in reply is the refusal of a wrong acknowledgement of the SYN, and has that number
 pub record Refuses (l : LiveState) (c : Client) (head : Head) : Type 0 where
   pub src : head.src ≡ l.local.ip
   pub dst : head.dst ≡ l.server.ip
@@ -123,7 +123,7 @@ pub record Told (e : Tcb) (c : Client) : Type 0 where
   pub bytes_taken : bytes ≤ taken e.receiving
   pub fin_taken : fin ≡ true → e.receiving.fin ≡ true
 
--- the connection is established, or both sides have closed it
+-- the client's SYN is acknowledged: the connection has begun, or both sides have closed it
 pub record IsConnected (l : LiveState) (c : Client) : Type 0 where
   pub agrees : Agrees l c
   pub syn_acked : l.tcb.sending.syn_acked ≡ true

@@ -102,7 +102,7 @@ impl Client {
         self.sent
     }
 
-    /// Returns how many of the units sent the server has acknowledged.
+    /// Returns how many units of the client's stream the server has acknowledged.
     pub fn acked(&self) -> u32
         ensures { result ≡ self.now.acknowledged }
     {
@@ -255,7 +255,7 @@ impl Client {
             .max(self.accepted.len() as u64 + u64::from(window));
     }
 
-    /// Makes the move that an event asks for: one of the five moves of a client. The client's number in the event is ignored. Writes the move's packet at the
+    /// Makes the move that an event asks for: one of the five moves of a client. Which client the event names is ignored. Writes the move's packet at the
     /// beginning of `out`, which has room for at least 1,500 bytes, and returns the packet's length. A refused move changes nothing.
     pub fn step(&mut self, event: &Event, out: &mut [u8]) -> Result<usize, Refused>
         requires asks { IsSome (move_of event.now) }

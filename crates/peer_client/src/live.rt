@@ -22,7 +22,7 @@ use std::alloc::Global;
 use std::marker::Model;
 use tcp_endpoint::{Endpoint, Outbox, StateName};
 
-/// The most bytes that the server's stream has.
+/// The most bytes of the server's stream that the client takes.
 const LIMIT: u32 = 1 << 24;
 
 /// How a live client's connection ended.
@@ -34,7 +34,7 @@ pub enum ClientEnd {
     Reset,
 }
 
-/// A client that is a TCP of its own. It opens a connection to the server, writes its script as there is room, closes after it, and holds the server's bytes
+/// A client that is a TCP of its own. It opens a connection to the server, writes its script as there is room, closes after it, and stores the server's bytes
 /// until `accept` hands them out. `on_packet` and `on_tick` begin a turn and `flush` ends it, so call `flush` once between any two of them.
 #[derive(Drop)]
 pub struct LiveClient {
@@ -264,7 +264,7 @@ impl LiveClient {
     }
 }
 
-/// Whether both initial numbers are known.
+/// Whether both initial sequence numbers are known.
 fn has_begun(name: StateName) -> bool
     ensures { result ≡ begun_lem name }
 {

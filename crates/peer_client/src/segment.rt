@@ -52,7 +52,7 @@ pub fn counts_fin(segment: &PacketRef<'_>) -> bool
     has_fin(segment) && !(has_syn(segment) || has_rst(segment))
 }
 
-/// SEG.LEN: the text and the FIN, or only the SYN; 0 of a RST (RFC 9293, 3.4).
+/// SEG.LEN (RFC 9293, 3.4): the text and the FIN; 1 for a SYN, whose text and FIN aren't counted; 0 for a RST.
 pub fn segment_len(segment: &PacketRef<'_>) -> u64
     ensures value { result ≡ length_of (segment_of segment.now) }
     ensures within { result ≤ 2 ^ 63 }

@@ -16,7 +16,7 @@ pub enum Move {
     Text { from: u32, len: u32 },
     /// The FIN.
     Fin,
-    /// A segment without data.
+    /// A pure ACK.
     Acknowledge,
     /// A RST.
     Rst,

@@ -1,4 +1,4 @@
-//! What a client does with an arriving segment (RFC 9293, 3.10.7.3 and 3.10.7.4, for a client that never answers).
+//! What a client does with an arriving segment (RFC 9293, 3.10.7.3 and 3.10.7.4, for a client that sends nothing in reply).
 
 ghost use Rattle.std.specs.Prelude.{◌≡◌, ◌+◌, ◌<◌, ◌^◌, pos, ◌+ℤ◌, ◌≤ℤ◌, OnOk, length};
 ghost use Rattle.segment_codec.specs.Value.{segment_of as value_of};

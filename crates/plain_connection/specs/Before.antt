@@ -11,7 +11,7 @@ use Rattle.ft_model.specs.ResetAndEnd.{reset_after}
 use Rattle.plain_point.specs.Turn.{timer_of}
 use Rattle.plain_connection.specs.declared.before.Before.{Before}
 
--- the values of this point, in a turn with these news
+-- the values of this point, in a turn with this news
 pub record IsBefore {State : Type 0} (service : Machine State) (news : News) (p : Point) (before : Before) : Type 0 where
   pub answered : before.answered ≡ p.answered
   pub units : before.units ≡ taken_units p

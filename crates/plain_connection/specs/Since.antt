@@ -19,7 +19,7 @@ having_sent n p = record p { sent = n }
 abbrev pub syn_acks_since : Addr → Before → Point → List Segment
 syn_acks_since server before p = if before.opens then syn_ack server p ∷ [] else []
 
--- one more segment if the timer expires, and at the third duplicate: a retransmission or a probe
+-- one more segment if the timer expires, and at the third duplicate acknowledgement: a retransmission or a probe
 abbrev pub resent_since : {State : Type 0} → Machine State → Addr → Before → Point → List Segment
 resent_since service server before p =
     if before.resends
@@ -27,18 +27,18 @@ resent_since service server before p =
     else probe service server (having_sent before.sent p) p)
     else []
 
--- all segments except the one without data, in order
+-- all segments except a pure ACK, in order
 unfoldable pub full_segments_since : {State : Type 0} → Machine State → Addr → Before → Point → List Segment
 full_segments_since service server before p =
     syn_acks_since server before p
     ++ (resent_since service server before p ++ (new_texts service server (having_sent before.sent p) p ++ new_fin service server (having_sent before.sent p) p))
 
--- an ACK is pending: the news require a segment, more is known to be logged, or what TCP advertises has changed
+-- an ACK is pending: the news requires a segment, more is known to be logged, or RCV.NXT or the advertised right edge has changed
 abbrev pub is_ack_pending_since : Before → Point → Bool
 is_ack_pending_since before p =
     before.asks || nat_lt before.answered p.answered || not (before.units == taken_units p) || not (before.edge == advertised_edge p)
 
--- all segments: one without data exactly if an ACK is pending and there is no other
+-- all segments: a pure ACK exactly if an ACK is pending and there is no other segment
 unfoldable pub segments_since : {State : Type 0} → Machine State → Addr → Before → Point → List Segment
 segments_since service server before p = or_bare (is_ack_pending_since before p) (bare_segment server p) (full_segments_since service server before p)
 

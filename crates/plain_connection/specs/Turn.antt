@@ -19,7 +19,7 @@ pub record TakesTurn {State : Type 0} (service : Machine State) (server : Addr) 
   pub lawful : ConnectionTurn service server boot news before after sent
   pub packets : Appends old new sent
 
--- what is settled at the end of a turn, after the news are noted and the reads are made: how much is sent, the timer, and the end ticks
+-- what is settled at the end of a turn, after the news is noted and the reads are made: how much is sent, the timer, and the end ticks
 abbrev pub settled_since : {State : Type 0} → Machine State → News → (before noted : Point) → Point
 settled_since service news before noted = record noted {
   sent = sent_after service news before noted;

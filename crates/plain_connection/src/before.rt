@@ -1,4 +1,4 @@
-//! What a turn compares with the connection before it, and what its news require.
+//! What a turn compares with the connection before it, and what its news requires.
 
 ghost use Rattle.std.specs.Prelude.{◌≡◌, ◌≤◌, ◌^◌, ◌||◌};
 ghost use Rattle.server_trait.specs.Service.{machine};
@@ -35,11 +35,11 @@ pub(crate) struct Before {
     pub(crate) timer: Timer,
     /// Whether the SYN was acknowledged.
     pub(crate) syn_acked: bool,
-    /// Whether the news require a segment.
+    /// Whether the news requires a segment.
     pub(crate) asks: bool,
     /// Whether the SYN-ACK answers the news.
     pub(crate) opens: bool,
-    /// Whether something is retransmitted: the timer expires, or a duplicate acknowledgement is the third.
+    /// Whether a retransmission or a probe is due: the timer expires, or a duplicate acknowledgement is the third in a row.
     pub(crate) resends: bool,
     /// Whether a probe is sent past the edge.
     pub(crate) probes: bool,
@@ -55,7 +55,7 @@ impl<S: Service> PlainConnection<S> {
     ghost use Rattle.ft_model.specs.Segments.{opens_with};
     ghost use Rattle.ft_model.specs.ResetAndEnd.{reset_after};
 
-    /// Returns whether both FINs are done: the client's is taken, and the server's is acknowledged.
+    /// Returns whether the connection is over: the client's FIN is taken, and the server's is acknowledged.
     pub fn is_over(&self) -> bool
         requires { IsServed (machine (S.started self.now.kind) S.after) self.now }
         ensures { result ≡ over_lem (machine (S.started self.now.kind) S.after) self.now.point }
@@ -63,7 +63,7 @@ impl<S: Service> PlainConnection<S> {
         self.point.fin() && self.released() < self.point.una()
     }
 
-    /// Returns whether the news require a segment.
+    /// Returns whether the news requires a segment.
     fn asks(&self, news: &News<'_>) -> bool
         requires { IsServed (machine (S.started self.now.kind) S.after) self.now }
         ensures { result ≡ asks_lem (machine (S.started self.now.kind) S.after) (news_in news.now) self.now.point }
@@ -88,7 +88,7 @@ impl<S: Service> PlainConnection<S> {
         }
     }
 
-    /// Returns whether the news cause a retransmission: the timer expires, or a duplicate acknowledgement is the third in a row.
+    /// Returns whether a retransmission or a probe is due: the timer expires, or a duplicate acknowledgement is the third in a row.
     #[tactic(auto, unfolding(ft_model::specs::Sending::is_third_duplicate))]
     fn resends(&self, news: &News<'_>) -> bool
         ensures { result ≡ (expires (news_in news.now) self.now.point || is_third_duplicate (news_in news.now) self.now.point) }
@@ -100,7 +100,7 @@ impl<S: Service> PlainConnection<S> {
         }
     }
 
-    /// Returns whether the news cause a probe past the edge.
+    /// Returns whether the news causes a probe past the edge.
     fn probes(&self, news: &News<'_>) -> bool
         ensures { result ≡ probes_lem (news_in news.now) self.now.point }
     {
@@ -121,7 +121,7 @@ impl<S: Service> PlainConnection<S> {
         }
     }
 
-    /// Returns what a turn with these news compares with the connection before it, which is this one.
+    /// Returns what a turn with this news compares with the connection before it, which is this one.
     pub(crate) fn before(&self, news: &News<'_>) -> Before
         requires { IsServed (machine (S.started self.now.kind) S.after) self.now }
         ensures value { IsBefore (machine (S.started self.now.kind) S.after) (news_in news.now) self.now.point result }

@@ -1,5 +1,5 @@
 //! What a turn sends to the logger: copies of the client's text, the lengths of reads, and that the connection is done. A message that has no spelling isn't
-//! sent: one with an offset past the longest stream, or with the index of a read past the most reads.
+//! sent: one whose offset, acknowledged units or read index is past its field's range.
 
 ghost use Rattle.std.specs.Prelude.{◌≡◌, ◌≤◌, ◌+◌, ◌^◌, ◌||◌, nat_lt, [], ◌∷◌, length, map, drop, OnOk};
 ghost use Rattle.server_trait.specs.Service.{machine};
@@ -245,7 +245,7 @@ impl<S: Service> PlainConnection<S> {
         (is_reset && !was_reset) || (news.is_tick() && (is_reset || self.point.end_ticks() == 4))
     }
 
-    /// Sends that the connection is done, if the turn reports it. After `NoMemory` the packets may only be dropped.
+    /// Sends a Done, if the turn reports that the connection is done. After `NoMemory` the packets may only be dropped.
     #[tactic(auto, unfolding(ft_model::specs::ResetAndEnd::dones), using(plain_packets::proofs::Sent::appends_none))]
     pub(crate) fn send_dones(
         &self,

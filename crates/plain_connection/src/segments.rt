@@ -43,7 +43,7 @@ impl<S: Service> PlainConnection<S> {
         self.output().len() as u64 + u64::from(self.answered_end().closed)
     }
 
-    /// Returns how many units are sent after the turn, not counting a probe.
+    /// Returns SND.NXT after the turn, not counting a probe.
     #[tactic(auto, using(crate::proofs::Sends::at_once_since), unfolding(ft_model::specs::Sending::sent_at_once))]
     pub(crate) fn sent_at_once(&self, before: &Before) -> u64
         requires { IsServed (machine (S.started self.now.kind) S.after) self.now }
@@ -109,8 +109,8 @@ impl<S: Service> PlainConnection<S> {
         u64::from(self.point.mss()).min(unacknowledged.min(room))
     }
 
-    /// Retransmits the first unacknowledged segment: the SYN-ACK, else the FIN if all output is acknowledged, else text from SND.UNA on. Returns whether it
-    /// sends one.
+    /// Retransmits the first unacknowledged segment: the SYN-ACK, else the FIN if all released output is acknowledged, else text from SND.UNA on. Returns
+    /// whether it sends one.
     fn send_first_unacknowledged(
         &self,
         alloc: Global,
@@ -246,7 +246,7 @@ impl<S: Service> PlainConnection<S> {
         self.send_fin_if_closed(alloc, server, sent)
     }
 
-    /// Returns whether an ACK is pending: the news require a segment, more is known to be logged, or what TCP advertises has changed.
+    /// Returns whether an ACK is pending: the news requires a segment, more is known to be logged, or RCV.NXT or the advertised right edge has changed.
     fn is_ack_pending(&self, before: &Before) -> bool
         ensures { result ≡ is_ack_pending_since before.now self.now.point }
     {
@@ -256,14 +256,14 @@ impl<S: Service> PlainConnection<S> {
             || before.edge != self.point.advertised_edge()
     }
 
-    /// Returns whether a segment without data is due: an ACK is pending, and no other segment is sent.
+    /// Returns whether a pure ACK is due: an ACK is pending, and no other segment is sent.
     fn is_bare_due(&self, any: bool, before: &Before) -> bool
         ensures { result ≡ (not any && is_ack_pending_since before.now self.now.point) }
     {
         !any && self.is_ack_pending(before)
     }
 
-    /// Sends all segments except the one without data, in order. Returns whether there are any.
+    /// Sends all segments except a pure ACK, in order. Returns whether there are any.
     fn send_full_segments(
         &self,
         alloc: Global,
@@ -281,7 +281,7 @@ impl<S: Service> PlainConnection<S> {
         Ok(opens | resends | goes_on | ends)
     }
 
-    /// Sends the segments of a turn, given the connection after it: one without data exactly if an ACK is pending and no other segment is sent.
+    /// Sends the segments of a turn, given the connection after it: a pure ACK exactly if an ACK is pending and no other segment is sent.
     pub(crate) fn send_segments(
         &self,
         alloc: Global,

@@ -25,7 +25,7 @@ impl<S: Service> PlainConnection<S> {
     ghost use Rattle.ft_model.specs.ResetAndEnd.{is_end_tick as end_lem};
     ghost use Rattle.ft_model.specs.Sending.{sent_after as sent_lem};
 
-    /// Notes what the news bring, before the service reads. After `NoMemory` the connection may only be dropped.
+    /// Notes what the news brings, before the service reads. After `NoMemory` the connection may only be dropped.
     #[tactic(auto, unfolding(ft_model::specs::Taken::taken_after, ft_model::specs::Taken::early_after, ft_model::specs::Taken::fin_after, ft_model::specs::Answered::answered_after, ft_model::specs::Answered::reads_answered_after, ft_model::specs::Sending::syn_acked_after, ft_model::specs::Sending::acknowledged_after, ft_model::specs::Sending::edge_after, ft_model::specs::Sending::wl1_after, ft_model::specs::Sending::wl2_after, ft_model::specs::Sending::congestion_after))]
     fn note(&mut self, alloc: Global, news: &News<'_>) -> Result<(), NoMemory>
         ensures kind { self.new.kind ≡ self.old.kind }
@@ -56,7 +56,7 @@ impl<S: Service> PlainConnection<S> {
         }
     }
 
-    /// Returns how many units are sent after the turn. A count that doesn't fit its type is `NoMemory`: no memory could hold so many.
+    /// Returns SND.NXT after the turn. If it doesn't fit its type, the result is `NoMemory`: no memory could hold so many units.
     fn sent_after(&self, before: &Before) -> Result<u64, NoMemory>
         requires { IsServed (machine (S.started self.now.kind) S.after) self.now }
         ensures { (news : model) (p : Point) → IsBefore (machine (S.started self.now.kind) S.after) news p before.now

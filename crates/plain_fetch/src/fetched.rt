@@ -27,7 +27,7 @@ pub struct EntryHead {
     pub length: u32,
     /// Whether the client's FIN is logged.
     pub fin: bool,
-    /// Whether the connection has ended.
+    /// Whether the connection is done.
     pub done: bool,
     /// How many reads are logged.
     pub reads: u32,
@@ -156,7 +156,7 @@ impl PlainFetched {
         (self.lengths.len() as u64).min(u64::from(self.head.reads)) as u32
     }
 
-    /// Returns what is requested next, if anything: the bytes of its fetched reads, then further lengths, and at last the bytes after all reads.
+    /// Returns what is requested next, if anything: bytes of reads whose lengths are fetched, else further lengths, else the bytes after all reads.
     pub(crate) fn wanted(&self) -> Option<Wanted>
         ensures { option_map wanted_in result ≡ wanted_of self.now }
     {

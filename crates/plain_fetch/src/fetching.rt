@@ -67,7 +67,7 @@ impl PlainFetching {
         None
     }
 
-    /// Takes the entry at this index, if the answer is one and its key is new. Returns whether it fits. After `NoMemory` the list may only be dropped.
+    /// Takes an answer that is the entry at this index, if the entry's key is new. Returns whether it fits. After `NoMemory` the list may only be dropped.
     fn take_entry(&mut self, alloc: Global, index: u16, body: &Body<'_>) -> Result<bool, NoMemory>
         ensures { IfOk result (λ fits. IsTakenAs (fetched_by (An_entry index) (body_of body.now) self.old) self.old self.new fits) }
     {

@@ -13,13 +13,13 @@ use logger_wire::Body;
 pub enum Wanted {
     /// The entry at this index.
     Entry { index: u16 },
-    /// Its bytes from this offset on.
+    /// Bytes of the key's entry, from this offset on.
     Bytes { key: Key, offset: u32 },
-    /// The lengths of its reads from this one on.
+    /// Lengths of the reads in the key's entry, from this read on.
     Lengths { key: Key, first: u32 },
 }
 
-/// Returns the message that requests it.
+/// Returns the body of the message that requests what is wanted.
 pub fn question<'a>(wanted: Wanted) -> Body<'a>
     ensures { body_of result ≡ question (wanted_in wanted) }
 {

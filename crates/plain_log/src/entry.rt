@@ -63,7 +63,7 @@ pub struct PlainEntry {
     closed: bool,
     /// The units of output that the client has acknowledged.
     acknowledged: u32,
-    /// Whether the connection has ended.
+    /// Whether the connection is done.
     done: bool,
 }
 
@@ -151,14 +151,14 @@ impl PlainEntry {
         self.acknowledged
     }
 
-    /// Returns whether the connection has ended.
+    /// Returns whether the connection is done.
     pub fn is_done(&self) -> bool
         ensures { result ≡ self.now.done }
     {
         self.done
     }
 
-    /// Records that the connection has ended.
+    /// Records that the connection is done.
     pub(crate) fn end(&mut self)
         ensures { self.new ≡ record self.old { done = true } }
     {
@@ -292,7 +292,7 @@ impl PlainEntry {
         }
     }
 
-    /// Returns at most 1,024 of the bytes, from an offset below their number on.
+    /// Returns at most 1,024 of the bytes, from this offset on, or `None` if there are none.
     pub(crate) fn part(&self, offset: u32) -> Option<Body<'_>>
         ensures { option_map body_of result ≡ part_of self.now offset }
     {
@@ -306,7 +306,7 @@ impl PlainEntry {
         })
     }
 
-    /// Returns at most 512 lengths of reads, from an index below their number on. `lens` spells them.
+    /// Returns at most 512 lengths of reads, from this index on, or `None` if there are none. `lens` spells them.
     pub(crate) fn lens<'a>(&self, first: u32, lens: &'a [u8]) -> Option<Body<'a>>
         requires { lens_in lens.now ≡ take 512 (drop first self.now.lengths) }
         ensures { option_map body_of result ≡ lens_of self.now first }
@@ -321,7 +321,7 @@ impl PlainEntry {
         })
     }
 
-    /// Appends these lengths, at most 512, with two bytes each. After `NoMemory` `out` may only be dropped.
+    /// Writes at most 512 lengths of reads, from this index on, in two bytes each, to an empty list. After `NoMemory` `out` may only be dropped.
     pub(crate) fn spell_lengths(&self, first: u32, out: &mut Vec<u8>) -> Result<(), NoMemory>
         requires { length out.old.items ≡ 0 }
         ensures { OnOk result (lens_in out.new.items ≡ take 512 (drop first self.now.lengths)) }

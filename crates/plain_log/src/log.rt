@@ -172,7 +172,7 @@ impl PlainLog {
         Ok(())
     }
 
-    /// Logs the content of a body whose boot number is the log's own.
+    /// Logs the body of a message whose boot number is the log's own.
     fn take_body(&mut self, alloc: Global, body: &Body<'_>) -> Result<(), NoMemory>
         requires { StaysInStream (body_of body.now) }
         ensures { OnOk result (self.new ≡ with_body (body_of body.now) self.old) }
@@ -199,7 +199,7 @@ impl PlainLog {
         }
     }
 
-    /// Takes a message. It is one that may be sent, as every message that a codec reads is. After `NoMemory` the log may only be dropped.
+    /// Takes a message that may be sent. Each message that a codec reads may. After `NoMemory` the log may only be dropped.
     #[tactic(auto, using(crate::proofs::Ranges::stays_in_stream), unfolding(ft_model::specs::Log::log_after))]
     pub fn take(&mut self, alloc: Global, msg: &Msg<'_>) -> Result<(), NoMemory>
         requires { IsSendable msg.now }
@@ -227,7 +227,7 @@ impl PlainLog {
         }
     }
 
-    /// Returns the numbers with which a key was opened, or that the log is full.
+    /// Returns the numbers with which the connection of a key was opened, or that the log is full.
     fn opened<'a>(&self, key: Key) -> Body<'a>
         ensures { Some (body_of result) ≡ opened_answer key (entry_of key self.now) }
     {
@@ -237,7 +237,7 @@ impl PlainLog {
         }
     }
 
-    /// Returns the log's answer after it has taken a body whose boot number is its own.
+    /// Returns the answer to the body of a message that the log has just taken and whose boot number is the log's own.
     fn answer_body<'a>(&'a self, body: &Body<'_>, lens: &'a [u8]) -> Option<Body<'a>>
         requires { lens_in lens.now ≡ lengths_asked (body_of body.now) self.now }
         ensures { option_map body_of result ≡ answer_from (body_of body.now) self.now }

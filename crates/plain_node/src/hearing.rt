@@ -55,7 +55,7 @@ fn begin<S: Service>(
 }
 
 impl<S: Service> PlainPlace<S> {
-    /// Takes a message on how much of a live connection is logged. After `NoMemory` the place may only be dropped.
+    /// Takes a message about how much of a live connection is logged. After `NoMemory` the place may only be dropped.
     fn hear_logged(
         &mut self,
         alloc: Global,
@@ -90,8 +90,8 @@ impl<S: Service> PlainPlace<S> {
         }
     }
 
-    /// Takes an Opened. With the client's number it makes the connection, by the numbers that the log keeps; with another number it drops the opening.
-    /// Returns whether the place remains. After `NoMemory` the place may only be dropped.
+    /// Takes an Opened. With the client's initial sequence number it makes a pending opening a connection, with the logged numbers; with another it drops
+    /// the opening. Returns whether the place remains. After `NoMemory` the place may only be dropped.
     fn hear_opened(
         &mut self,
         alloc: Global,

@@ -1,5 +1,5 @@
-//! The server of one incarnation as plain values: it asks the logger for its log, restarts every connection, and serves. Each turn is the one that the law
-//! allows. It shares no code with the server that it judges.
+//! The server of one incarnation as plain values: it asks the logger for its log, restarts each connection that isn't done, and serves. Each turn is the
+//! one that the law allows. It shares no code with the server that it judges.
 #![tactic(auto)]
 
 pub use input::Input;

@@ -60,7 +60,7 @@ impl<S: Service> PlainNode<S> {
         self.who.boot
     }
 
-    /// Sends the messages of its boot. After `NoMemory` the packets may only be dropped.
+    /// Sends its Hello. After `NoMemory` the packets may only be dropped.
     pub fn send_hello(&self, alloc: Global, sent: &mut PlainPackets) -> Result<(), NoMemory>
         ensures { OnOk result (Appends sent.old sent.new (hello (node_in self.now))) }
     {

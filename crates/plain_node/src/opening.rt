@@ -200,7 +200,7 @@ pub(crate) fn newcomer<S: Service>(
     }
 }
 
-/// Returns the RST that refuses an acknowledgement of an unknown client.
+/// Returns the RST that refuses an acknowledgement from an unknown client, if the input is one.
 pub(crate) fn refusal<S: Service>(
     who: Incarnation,
     input: &Input<'_>,

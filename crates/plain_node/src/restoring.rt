@@ -20,8 +20,8 @@ use plain_packets::PlainPackets;
 use server_trait::Service;
 use std::alloc::Global;
 
-/// Returns the place of a fetched entry after its first turn. Unless the entry is done, it is a connection at its point. After `NoMemory` the packets may
-/// only be dropped.
+/// Returns the place of a fetched entry. Unless the entry is done, it is a live connection, after its first turn from the entry's point. After `NoMemory`
+/// the packets may only be dropped.
 fn restored_place<S: Service>(
     alloc: Global,
     who: Incarnation,

@@ -79,7 +79,7 @@ fn go_all<S: Service>(
     Ok(())
 }
 
-/// Asks the log for each pending opening for which the input calls, in order. After `NoMemory` the packets may only be dropped.
+/// Sends the log an Open for each pending opening that the input calls for, in order. After `NoMemory` the packets may only be dropped.
 fn ask_all<S: Service>(
     alloc: Global,
     who: Incarnation,

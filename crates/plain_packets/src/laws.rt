@@ -5,7 +5,7 @@ ghost use Rattle.ft_model.specs.Network.{Packet, packet_at};
 ghost use Rattle.ft_model.specs.Wire.{Wire, wire_of};
 ghost use Rattle.plain_packets.specs.Sent.{Appends, wire_at};
 
-/// If nothing changes, nothing was sent; and what is sent in two steps can be sent in one.
+/// Sending nothing changes nothing; and what is sent in two steps can be sent in one.
 #[tactic(auto, using(crate::proofs::Sent::appends_none, crate::proofs::Sent::appends_both))]
 pub fn packets_follow_one_another()
     ensures none { (wires : List Wire) → Appends wires wires [] }

@@ -229,7 +229,7 @@ fn numbers_fit(boot: u64, body: &Body<'_>, behind: usize) -> bool
     }
 }
 
-/// Returns whether no length is longer than a read.
+/// Returns whether each length is at most that of the longest read.
 #[tactic(auto, using(std::proofs::lemmas::List::take_rest, crate::proofs::Lengths::first_length, logger_wire::proofs::Lens::lens_end))]
 fn are_reads(lens: &[u8]) -> bool
     ensures { result ≡ list_all (λ len. nat_le len 2048) (lens_in lens.now) }
@@ -244,7 +244,7 @@ fn are_reads(lens: &[u8]) -> bool
     true
 }
 
-/// Returns whether each length of a message is that of a read.
+/// Returns whether each length in a message is at most that of the longest read.
 fn lens_fit(body: &Body<'_>) -> bool
     ensures { result ≡ list_all (λ len. nat_le len 2048) (lens_of (body_of body.now)) }
 {

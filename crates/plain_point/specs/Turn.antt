@@ -1,4 +1,4 @@
--- What the news of a turn change at once, before the service reads, and what a turn compares with the point before it.
+-- What the news of a turn changes at once, before the service reads, and what a turn compares with the point before it.
 use Rattle.std.specs.Prelude.{◌≡◌, ℕ, Bool, ◌+◌, ◌-◌, ◌*◌, ◌^◌, ◌==◌, ◌&&◌, ◌||◌, not, nat_lt, nat_le, min, length, if◌then◌else◌}
 use Rattle.ft_model.specs.News.{News}
 use Rattle.ft_model.specs.Point.{Point}

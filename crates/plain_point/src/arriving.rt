@@ -35,7 +35,7 @@ impl PlainPoint {
         ack(self.numbers.sisn, segment)
     }
 
-    /// Returns whether a segment is acceptable, or at the right edge.
+    /// Returns whether a segment is acceptable, or of length 0 at exactly the right edge of an open window.
     #[tactic(auto, unfolding(ft_model::specs::Taken::accepts))]
     fn accepts(&self, segment: &PacketRef<'_>) -> bool
         ensures { result ≡ accepts_lem self.now (segment_of segment.now) }
@@ -44,7 +44,7 @@ impl PlainPoint {
         accepts(next, room, self.first(segment), segment_len(segment))
     }
 
-    /// Returns whether the acknowledgement of a segment is used.
+    /// Returns whether a segment is used: it is acceptable, of length 0 at exactly the right edge of an open window, or at the next number of a zero window.
     #[tactic(auto, unfolding(ft_model::specs::Taken::uses))]
     fn uses(&self, segment: &PacketRef<'_>) -> bool
         ensures { result ≡ uses_lem self.now (segment_of segment.now) }
@@ -53,7 +53,7 @@ impl PlainPoint {
         is_usable(next, room, self.first(segment), segment_len(segment))
     }
 
-    /// Returns whether a segment counts.
+    /// Returns whether a segment counts: it has ACK but neither SYN nor RST, it is used, and it acknowledges the SYN or the SYN is already acknowledged.
     #[tactic(auto, unfolding(ft_model::specs::Taken::counts))]
     pub(crate) fn counts(&self, segment: &PacketRef<'_>) -> bool
         ensures { result ≡ counts_lem self.now (segment_of segment.now) }

@@ -30,7 +30,7 @@ pub struct Data<'a> {
 impl PlainPoint {
     ghost use Rattle.ft_model.specs.Copy.{copy_start as start_lem, copied_text as text_lem, copies_fin as fin_lem, una_part as una_lem, own_data as own_lem, further_start};
 
-    /// Returns where the part of a segment's text begins that isn't known to be logged.
+    /// Returns where the part of a segment's text that isn't known to be logged begins.
     fn copy_start(&self, segment: &PacketRef<'_>) -> u64
         ensures { result ≡ start_lem self.now (segment_of segment.now) }
     {
@@ -42,7 +42,7 @@ impl PlainPoint {
         }
     }
 
-    /// Returns the segment's text from there up to the end of the bytes taken.
+    /// Returns a segment's text from `copy_start` up to the end of the bytes taken.
     fn copied_text<'a>(&self, segment: &PacketRef<'a>) -> &'a [u8]
         ensures { result.now ≡ text_lem self.now (segment_of segment.now) }
     {

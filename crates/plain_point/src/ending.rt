@@ -34,7 +34,7 @@ impl PlainPoint {
         }
     }
 
-    /// Returns whether the timer starts anew: it didn't run, or something new has been acknowledged since.
+    /// Returns whether the timer is restarted: it didn't run, or something new has been acknowledged since.
     fn is_set_anew(&self, timer: Timer) -> bool
         ensures { result ≡ is_set_anew_since timer self.now }
     {
@@ -54,7 +54,7 @@ impl PlainPoint {
         }
     }
 
-    /// Returns the ticks that remain after a turn: a full interval if the timer is restarted or has expired; one less at each other tick; none if it needn't
+    /// Returns the ticks that remain after a turn: a full interval if the timer is restarted or has expired; one less at any other tick; none if it needn't
     /// run.
     fn rest_after(&self, timer: Timer, ticks: bool, must_run: bool) -> u64
         ensures { result ≡ rest_since must_run ticks timer self.now }

@@ -1,5 +1,5 @@
-//! The point of a live connection as plain values: everything that one incarnation of the server knows about it (RFC 9293, 3.3.1). Each law of a turn that
-//! doesn't concern the service is one method here, over the point before the turn. It shares no code with the server that it judges.
+//! The point of a live connection as plain values: everything that one incarnation of the server knows about it (RFC 9293, 3.3.1). The laws of a turn that
+//! don't concern the service are methods here. It shares no code with the server that it judges.
 #![tactic(auto)]
 
 pub use congestion::Window;

@@ -182,7 +182,7 @@ impl PlainPoint {
         self.advertised_edge().saturating_sub(self.taken_units())
     }
 
-    /// Returns the window that a segment advertises: from what is acknowledged up to the edge.
+    /// Returns the window that a segment advertises: from what is acknowledged up to the advertised right edge, but at most 65,535.
     pub fn window(&self) -> u16
         ensures { result ≡ window_lem self.now }
     {

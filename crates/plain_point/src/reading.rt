@@ -26,7 +26,7 @@ impl PlainPoint {
         self.reads_answered
     }
 
-    /// Returns the length of the next read, if there is anything to read; 0 for the read that closes.
+    /// Returns the length of the next read, if there is anything to read; 0 for the closing read.
     #[tactic(auto, unfolding(ft_model::specs::Reads::next_length))]
     pub fn next_length(&self) -> Option<u16>
         ensures value { result ≡ length_lem self.now }
@@ -59,7 +59,7 @@ impl PlainPoint {
         part(&self.taken, self.read, u64::from(len))
     }
 
-    /// Adds a read of this length, which is there to be read. After `NoMemory` the point may only be dropped.
+    /// Adds a read of `len` bytes, which are there to be read. After `NoMemory` the point may only be dropped.
     pub fn add_read(&mut self, len: u16) -> Result<(), NoMemory>
         requires { sum self.old.lengths + len ≤ max self.old.fetched (length self.old.taken) }
         ensures { OnOk result (self.new ≡ with_read len self.old) }

@@ -26,7 +26,7 @@ impl PlainPoint {
         }
     }
 
-    /// Sets the reads that were made as known to be logged, and the output to continue from this offset.
+    /// Records that all reads made are known to be logged, and that the output continues from this offset on.
     pub fn resume_at(&mut self, at: u64)
         ensures { self.new ≡ with_output_from at self.old }
     {

@@ -60,7 +60,7 @@ impl PlainPoint {
         }
     }
 
-    /// Returns the segment without data, at SND.NXT.
+    /// Returns the pure ACK, at SND.NXT.
     pub fn bare_segment<'a>(&self, server: Addr) -> PacketRef<'a>
         ensures { segment_of result ≡ bare_lem server self.now }
     {

@@ -22,8 +22,8 @@ pub struct Sending {
     pub syn_acked: bool,
 }
 
-/// An acknowledgement that is used: the offset that it names, at most what was sent, and the window, raised so that the right edge is where the client put
-/// it.
+/// An acknowledgement that is used: where its segment begins; the offset that it names, lowered to SND.NXT if it is above; and its window, then raised by
+/// the difference, up to 65,535.
 #[derive(Clone, Copy)]
 pub(crate) struct Acknowledged {
     pub(crate) first: i64,

@@ -6,7 +6,7 @@ ghost use Rattle.plain_point.specs.Values.{kept_in};
 use crate::point::PlainPoint;
 use ft_io::Key;
 
-/// How much of a connection is logged, as a Stable or a Reads reports.
+/// How much of a connection is logged, as a Stable or a Reads reports it.
 #[derive(Clone, Copy)]
 pub struct Kept {
     /// The client's address and port.
@@ -23,7 +23,7 @@ impl PlainPoint {
     ghost use Rattle.ft_model.specs.News.News.{Logged, Ticks};
     ghost use Rattle.plain_point.specs.Turn.{noted};
 
-    /// Records how much is logged. Of the reads, an answer counts only for those that were made.
+    /// Records how much is logged. Reads that this incarnation hasn't made don't count.
     #[tactic(auto, unfolding(ft_model::specs::Taken::taken_after, ft_model::specs::Taken::early_after, ft_model::specs::Taken::fin_after, ft_model::specs::Answered::answered_after, ft_model::specs::Answered::reads_answered_after, ft_model::specs::Sending::syn_acked_after, ft_model::specs::Sending::acknowledged_after, ft_model::specs::Sending::edge_after, ft_model::specs::Sending::wl1_after, ft_model::specs::Sending::wl2_after, ft_model::specs::Sending::congestion_after))]
     pub fn note_logged(&mut self, kept: Kept)
         ensures { self.new ≡ noted (Logged (kept_in kept)) self.old }
@@ -34,7 +34,7 @@ impl PlainPoint {
         self.reads_answered = self.reads_answered.max(reads);
     }
 
-    /// Records a tick: if the timer expires while something is in flight, that counts as lost.
+    /// Records a tick: if the timer expires while something is in flight and the client has room for it, that counts as lost.
     #[tactic(auto, unfolding(ft_model::specs::Taken::taken_after, ft_model::specs::Taken::early_after, ft_model::specs::Taken::fin_after, ft_model::specs::Answered::answered_after, ft_model::specs::Answered::reads_answered_after, ft_model::specs::Sending::syn_acked_after, ft_model::specs::Sending::acknowledged_after, ft_model::specs::Sending::edge_after, ft_model::specs::Sending::wl1_after, ft_model::specs::Sending::wl2_after))]
     pub fn note_tick(&mut self)
         ensures { self.new ≡ noted Ticks self.old }

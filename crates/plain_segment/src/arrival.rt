@@ -80,7 +80,7 @@ fn is_at_right_edge(next: u64, window: u64, first: i64, len: u64) -> bool
     len == 0 && window > 0 && is_at(next + window, first, 0)
 }
 
-/// Returns whether a segment is acceptable, or at the right edge.
+/// Returns whether a segment is acceptable, or of length 0 at exactly the right edge of an open window.
 pub fn accepts(next: u64, window: u64, first: i64, len: u64) -> bool
     requires next { next ≤ 2 ^ 63 }
     requires window { window < 2 ^ 62 }
@@ -98,7 +98,7 @@ fn is_allowed_at_zero(next: u64, window: u64, first: i64) -> bool
     window == 0 && is_at(next, first, 0)
 }
 
-/// Returns whether the acknowledgement of a segment is used: it is acceptable, at the right edge, or at the next number of a zero window.
+/// Returns whether a segment is used: it is acceptable, of length 0 at exactly the right edge of an open window, or at the next number of a zero window.
 pub fn is_usable(next: u64, window: u64, first: i64, len: u64) -> bool
     requires next { next ≤ 2 ^ 63 }
     requires window { window < 2 ^ 62 }

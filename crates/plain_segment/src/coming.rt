@@ -64,7 +64,7 @@ impl Coming {
         part(text, below(n, first), room)
     }
 
-    /// Adds new text that begins at the end of the bytes taken to them; it is no longer held. Holds other new text.
+    /// Takes new text that begins where the bytes taken end, and no longer holds anything in its places. Holds other new text.
     #[tactic(auto, unfolding(seq_arith::specs::Coming::with_text))]
     fn take_text(
         &mut self,
@@ -88,8 +88,8 @@ impl Coming {
         Ok(())
     }
 
-    /// Returns whether a FIN at this place is held: it is from the end of the bytes taken to below the receive edge, no text at or past it is held, and no
-    /// FIN is held or taken.
+    /// Returns whether a FIN at this place may be held: it isn't before the end of the bytes taken, it is below the receive edge, no text at or past it is
+    /// held, and no FIN is held or taken.
     #[tactic(auto, unfolding(seq_arith::specs::Coming::holds_fin))]
     fn holds_fin(&self, n: u64, edge: u64, place: u64) -> bool
         requires { n < 2 ^ 63 }
@@ -121,7 +121,7 @@ impl Coming {
         }
     }
 
-    /// Adds the held bytes that continue those taken to them.
+    /// Takes the held bytes that follow the bytes taken without a gap.
     #[tactic(auto, unfolding(seq_arith::specs::Coming::continued))]
     fn take_held(&mut self, alloc: Global) -> Result<(), NoMemory>
         ensures { OnOk result (self.new ≡ continued self.old) }

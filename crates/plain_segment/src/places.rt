@@ -103,7 +103,7 @@ pub(crate) fn lay(text: &mut Vec<Option<u8>>, at: usize, bytes: &[u8]) -> Result
     lay_within(text, at, bytes)
 }
 
-/// Lays bytes over the places from this one on, which is within them or directly after them. After `NoMemory` `text` may only be dropped.
+/// Lays bytes over the places from this one on. This one is among the places, or directly after them. After `NoMemory` `text` may only be dropped.
 #[tactic(auto, using(crate::proofs::Laying::laid_one_first, crate::proofs::Laying::nothing_laid))]
 fn lay_within(text: &mut Vec<Option<u8>>, at: usize, bytes: &[u8]) -> Result<(), NoMemory>
     requires { at ≤ length text.old.items }

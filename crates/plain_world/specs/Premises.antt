@@ -10,7 +10,7 @@ use Rattle.ft_model.specs.Wire.{HasWire}
 use Rattle.ft_model.specs.World.{World, MayCome}
 use Rattle.ft_model.specs.Keys.{AreDistinct}
 
--- each packet has its bytes, no two clients have the same key, and nothing that may arrive at the server fences it
+-- each packet has a wire, no two clients have the same key, and nothing that may arrive at the server fences it
 pub record Premises (w : World) : Type 0 where
   pub wires : AllByRecursion HasWire w.packets
   pub distinct : AreDistinct (map (λ c. c.key) w.clients)
@@ -20,7 +20,7 @@ pub record Premises (w : World) : Type 0 where
 abbrev pub IsFree : Input → Option Node → Type 0
 IsFree input up = (node : Node) → up ≡ Some node → fence node input ≡ None
 
--- this packet doesn't fence it either
+-- this packet, when it arrives, doesn't fence the server that is up
 abbrev pub PassesBy : Packet → Option Node → Type 0
 PassesBy (To_server segment) up = IsFree (Packet_comes segment) up
 PassesBy (From_logger message) up = IsFree (Message_comes message) up

@@ -49,7 +49,7 @@ impl<S: Service> Actors<S> {
         serve(&mut self.node, alloc, &Input::Tick, sent)
     }
 
-    /// Makes a client's move that an event asks for. After `NoMemory` the actors and the packets may only be dropped.
+    /// Makes the move that an event asks for, by the client with this number. After `NoMemory` the actors and the packets may only be dropped.
     pub(crate) fn make(
         &mut self,
         alloc: Global,
@@ -94,8 +94,8 @@ impl<S: Service> Actors<S> {
         }
     }
 
-    /// Delivers a packet with a changed bit, which can't be read: the server takes a turn on noise. After `NoMemory` the actors and the packets may only be
-    /// dropped.
+    /// Delivers a packet with a changed bit, which can't be read: the server takes a turn on noise; a client or the log ignores it. After `NoMemory`
+    /// the actors and the packets may only be dropped.
     pub(crate) fn bring_flipped(
         &mut self,
         alloc: Global,

@@ -32,7 +32,7 @@ impl<S: Service> PlainWorld<S> {
         Ok(())
     }
 
-    /// Crashes the server. All that it held is lost.
+    /// Crashes the server. Its whole state is lost.
     fn crash(&mut self)
         ensures { Does (machines S.started S.after) Crash self.old self.new }
     {
@@ -76,7 +76,7 @@ impl<S: Service> PlainWorld<S> {
         self.packets.append(sent)
     }
 
-    /// Makes a client's move that an event asks for.
+    /// Makes the move that an event asks for, by the client with this number.
     fn move_client(&mut self, alloc: Global, number: u8, event: &Event) -> Result<(), NoMemory>
         requires mover { mover_of event.now ≡ Some number }
         requires served { IsServedUp (machines S.started S.after) self.old.node }
@@ -85,7 +85,7 @@ impl<S: Service> PlainWorld<S> {
         self.actors.make(alloc, number, event, &mut self.packets)
     }
 
-    /// Does an event that is allowed.
+    /// Performs an event that is allowed.
     fn act(&mut self, alloc: Global, event: &Event) -> Result<(), NoMemory>
         requires served { IsServedUp (machines S.started S.after) self.old.node }
         requires few { opened_of self.old.node ≤ 2 ^ 32 }
@@ -109,7 +109,7 @@ impl<S: Service> PlainWorld<S> {
         }
     }
 
-    /// Does an event that `refusal` allows. After `NoMemory` the world may only be dropped.
+    /// Performs an event that `refusal` allows. After `NoMemory` the world may only be dropped.
     pub fn step(&mut self, alloc: Global, event: &Event) -> Result<(), NoMemory>
         requires room { self.old.turns < 2 ^ 31 }
         requires ready { IsReady (machines S.started S.after) self.old }

@@ -107,7 +107,7 @@ impl<S: Service> PlainWorld<S> {
         self.turns
     }
 
-    /// Returns why a client may not make the move that an event asks for.
+    /// Returns why a client may not make the move that an event asks for, or `None` if it may.
     fn move_refusal(&self, number: u8, event: &Event) -> Option<EventWhy>
         requires { mover_of event.now ≡ Some number }
         ensures { result ≡ refusal_of_asked self.now.clients (move_asked event.now) }
@@ -118,7 +118,7 @@ impl<S: Service> PlainWorld<S> {
         client.refusal(move_of(event)?)
     }
 
-    /// Returns why a bit of a packet may not be changed.
+    /// Returns why a bit of a packet may not be changed, or `None` if it may.
     fn flip_refusal(&self, number: u32, bit: u32) -> Option<EventWhy>
         ensures { (packets : List Packet) → self.now.packets ≡ map wire_of packets → result ≡ refusal_lem (world_of self.now packets) (Flip number bit) }
     {

@@ -28,7 +28,7 @@ pub record SplicedState (S : Type 0) : Type 0 where
 abbrev pub conn_of : {S : Type 0} → SplicedState S → ConnState S
 conn_of s = joined_conn s.boot s.key s.local s.south s.endpoint s.north
 
--- output continues after what the client has acknowledged of it. A FIN is retransmitted even where it was acknowledged
+-- output continues after what the client has acknowledged of it. A FIN is retransmitted even if it was acknowledged
 abbrev pub goes_on_at : {S : Type 0} → ReplayedState S → ℕ
 goes_on_at r = min r.head.acked r.replay.made
 

@@ -6,12 +6,12 @@ use ft_io::NoMemory;
 use std::alloc::Global;
 use std::marker::Model;
 
-/// Bytes that are taken from the beginning and added at the end. Those taken are dropped when more are added.
+/// Bytes that are replayed from the beginning and added at the end. Those replayed are removed from the buffer when more are added.
 #[derive(Drop)]
 pub(crate) struct Held {
-    /// Those that are taken, and after them those that wait.
+    /// Those that are replayed, as far as they aren't removed yet, and after them those that wait.
     bytes: Vec<u8>,
-    /// How many of them are taken.
+    /// How many of them are replayed.
     at: usize,
 }
 

@@ -1,6 +1,6 @@
 //! The restart of a server, in steps that are types: it asks the logger what is logged, replays each connection's reads through a fresh service, and brings a
-//! fresh TCP to where the log ends. Where an entry has a mark, the restart begins there and fetches nothing below it. Each step consumes the one before it, so none
-//! can be skipped. Of a connection's input no more is held than is still needed.
+//! fresh TCP to where the log ends. Where an entry has a mark, the restart begins there and fetches nothing below it. Each step consumes the one before it, so
+//! none can be skipped. Of a connection's input no more is stored than is still needed. *Held* bytes are here those that are fetched and not replayed.
 #![tactic(auto)]
 
 pub use any_msg::AnyMsg;

@@ -10,7 +10,7 @@ use std::alloc::Global;
 /// The most packets of a run.
 const PACKET_LIMIT: u32 = 200_000;
 
-/// A number of the client whose accepted bytes are printed.
+/// The number of the client whose accepted bytes are printed.
 const CLIENT: u8 = 1;
 
 /// The window that the client advertises, in bytes.

@@ -1,4 +1,4 @@
-//! By how much the numbers outside are above those inside, of each connection that the server has live at the end of a schedule.
+//! The delta of each connection that the server has live at the end of a schedule: the client's number of a unit of output less the inner TCP's.
 
 use ft_io::NoMemory;
 use net_schedule::World;
@@ -6,7 +6,7 @@ use sample_servers::AnyService;
 use schedule_text::Schedule;
 use std::alloc::Global;
 
-/// Plays a schedule's events in its world, and appends a line of each client whose connection is live at the end: by how much its numbers differ, modulo 2^32.
+/// Plays a schedule's events in its world, and appends a line for each client whose connection is live at the end: its delta.
 pub(crate) fn tell_deltas(
     alloc: Global,
     name: &str,

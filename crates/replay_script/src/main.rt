@@ -8,7 +8,7 @@
 //! - `= crash NAME` plays, for each n, the first n of the events in a new world; then the server crashes and restarts, all is delivered that is sent, and the
 //!   client continues. Printed is what it has accepted at the end, and the lengths of the reads in the log;
 //! - `= crash NAME PART` does so, and one of two loggers stops as the server crashes: 1 is the head, 2 the tail;
-//! - `= deltas NAME` plays all events, and prints of each connection that the server has live at the end by how much its numbers outside are above those inside;
+//! - `= deltas NAME` plays all events, and prints the delta of each connection that the server has live at the end: the client's numbers less the inner TCP's;
 //! - `= shell`, which comes last, hands them to `sh` as a script, which can run `ftreplay` as a process ([`shell`]).
 //!
 //! Among the lines of a schedule, `*COUNT LINE` means this line COUNT times.

@@ -17,7 +17,7 @@ use std::alloc::Global;
 enum Task {
     /// A crash after this number of events, with the stop of a logger if one is named.
     Crash { count: usize, stops: Option<u8> },
-    /// The differences of numbers at the end.
+    /// The deltas at the end.
     Deltas,
 }
 
@@ -97,7 +97,7 @@ pub(crate) fn play_crashes(
     }
 }
 
-/// Plays the schedule that a text spells, and appends by how much numbers differ at the end.
+/// Plays the schedule that a text spells, and appends the deltas at the end.
 pub(crate) fn play_deltas(
     alloc: Global,
     name: &str,

@@ -1,4 +1,4 @@
--- A text that is being written to a sink: the sink has taken a prefix of it, and the rest is held.
+-- A text that is being written to a sink: the sink has taken a prefix of it, and the rest is held back.
 use Rattle.std.specs.Prelude.{◌≡◌, ℕ, List, ◌++◌, Option, Result, Ok, Err}
 use Rattle.std.specs.Io.KnownBytes.{Appends}
 use Rattle.ft_io.specs.Faults.{Rose}

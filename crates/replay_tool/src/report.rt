@@ -7,7 +7,7 @@ ghost use Rattle.replay_tool.specs.Playback.{piece};
 use ft_io::{Failed, Sink, write_all};
 use std::alloc::Global;
 
-/// The size of a piece in bytes: once at least this many are held, they are written.
+/// The size of a piece in bytes: once at least this many are buffered, they are written.
 const PIECE: usize = 65_536;
 
 /// The part of a report that isn't written yet, and the lines of one event, or of the end, until they are complete.
@@ -31,7 +31,7 @@ impl Report {
     }
 }
 
-/// Writes all that is held.
+/// Writes all that is buffered.
 pub(crate) fn flush<O: Sink>(report: &mut Report, out: &mut O) -> Result<(), Failed>
     ensures ok { OnOk result ((old : Option (List ℕ)) (text : List ℕ) → IsOnItsWay old (O.taken out.old) report.old.held.items text
         → IsOnItsWay old (O.taken out.new) report.new.held.items text) }
@@ -45,7 +45,7 @@ pub(crate) fn flush<O: Sink>(report: &mut Report, out: &mut O) -> Result<(), Fai
     Ok(())
 }
 
-/// Writes the held bytes if they are at least a piece, so that fewer are held afterwards.
+/// Writes the buffered bytes if they are at least a piece, so that fewer are buffered afterwards.
 pub(crate) fn flush_piece<O: Sink>(report: &mut Report, out: &mut O) -> Result<(), Failed>
     ensures held_back { OnOk result (length report.new.held.items < piece) }
     ensures ok { OnOk result ((old : Option (List ℕ)) (text : List ℕ) → IsOnItsWay old (O.taken out.old) report.old.held.items text

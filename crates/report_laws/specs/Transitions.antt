@@ -4,10 +4,10 @@
 -- | law | at this line |
 -- |---|---|
 -- | client, log, server | the packet lines of the last event end, and no legal trace has them; the law names the party whose turn the event is |
--- | packet | they are complete, and another packet line follows |
--- | text | a line of the header isn't in its one spelling, nor is the line of the next event |
+-- | packet | the packet lines of the last event are complete, and another packet line follows |
+-- | text | a line of the header, or the line of the next event, isn't in its one spelling |
 -- | event | the next event isn't allowed, or is the 100,001st |
--- | end | a closing line is expected and another follows, the text ends early, or it continues after the last line |
+-- | end | a closing line is expected and another line follows, the text ends early, or it continues after the last line |
 use Rattle.std.specs.Prelude.{◌≡◌, ℕ, Bool, false, ◌+◌, ◌≤◌, ◌&&◌, nat_eq, nat_le, ◌||◌, ◌⊎◌, codes, decimal, Option, Some, None, is_some, List, [], ◌∷◌, ◌++◌, length, if◌then◌else◌}
 use Rattle.std.specs.Bool.{MatchBool}
 use Rattle.std.specs.List.{starts_with, slice_split}
@@ -50,7 +50,7 @@ pub record IsReport {State : Type 0} (service : ℕ → Machine State) (text : L
 pub data Position : Type 0 where
   AtStart : Position  -- no line is read
   InHeader : Draft → Position  -- lines of the header are read, which spell this draft
-  InTurn : Schedule → List Moment → Event → List Packet → Position  -- read are a schedule's legal trace, then the line of an event, and these packets of it
+  InTurn : Schedule → List Moment → Event → List Packet → Position  -- a schedule's legal trace is read, then the line of an event, and these packets of it
   InClosing : List (List ℕ) → Position  -- all is read but these closing lines
 
 -- the effect of the next line on the verdict. The end of the text counts as a line

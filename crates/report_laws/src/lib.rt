@@ -29,7 +29,7 @@ pub enum Law {
     Packet,
     /// A line of the header or of an event that isn't in its one spelling.
     Text,
-    /// An event that isn't allowed.
+    /// An event that isn't allowed, or the 100,001st.
     Event,
     /// The lines that close the report.
     End,
@@ -41,7 +41,7 @@ pub fn a_line_has_one_outcome<S: Service>()
         → LineGives (machines S.started S.after) position text one → LineGives (machines S.started S.after) position text other → one ≡ other }
 {}
 
-/// A text is rejected at most at one line, and by one law.
+/// A text is rejected at one line at most, and by one law.
 pub fn a_rejection_is_unique<S: Service>()
     ensures { (text : List ℕ) (line other : ℕ) (law also : Law)
         → IsRejected (machines S.started S.after) text line law → IsRejected (machines S.started S.after) text other also → (line ≡ other) × (law ≡ also) }
@@ -59,7 +59,7 @@ pub fn accepted_texts_are_reports<S: Service>()
     ensures accepted { (text : List ℕ) → IsReport (machines S.started S.after) text → AcceptedFrom (machines S.started S.after) AtStart (lines_in text) }
 {}
 
-/// The text of a schedule within the limits spells that schedule.
+/// The text of a schedule within the limits, without its last line feed, spells that schedule.
 pub fn schedules_within_limits_are_read()
     ensures { (schedule : Schedule) → IsWithinLimits schedule
         → read_text (take (length (schedule_bytes (Begun schedule)) - 1) (schedule_bytes (Begun schedule))) ≡ Ok schedule }

@@ -17,7 +17,7 @@ any_started kind =
     else (if kind == 3 then Transfer transfer_started
     else (if kind == 4 then Meter meter_started else Echo echo_started))
 
--- the same, with its state as one of another type
+-- the result of a step, with its state as one of another type
 abbrev pub mapped : {A B : Type 0} → (A → B) → Served A → Served B
 mapped f served = record { next = f served.next; output = served.output; closed = served.closed }
 

@@ -76,12 +76,12 @@ length-line_finished-le finished line =
     let digits : length (decimal (number_after finished)) ≤ 20 = length-decimal-le 20 (number_after finished) (omega arith) (omega arith) (omega arith) in
     grind (arith, length-append {A = ℕ}, length-take {A = ℕ})
 
--- the state after a finished line holds nothing
+-- after a finished line the next one has no bytes yet
 pub held-line_finished : (finished : ℕ) (line : List ℕ) → (line_finished finished line).next.held ≡ []
 unfolding line_finished
 held-line_finished finished line = grind arith
 
--- one byte adds at most 23 bytes to what is written and held
+-- one byte adds at most 23 bytes to the output and the unfinished line together
 pub length-line_byte-le : (s : LineState) (byte : ℕ) → length (line_byte s byte).output + min 1024 (length (line_byte s byte).next.held) ≤ min 1024 (length s.held) + 23
 length-line_byte-le s byte =
     let line = s.held ++ byte ∷ [] in

@@ -80,7 +80,7 @@ line_state_of bytes =
 abbrev pub NoFeed : List ℕ → Type 0
 NoFeed = All (λ byte. (byte == 10) ≡ false)
 
--- the held line ends with `len` more bytes, which uses up `used` bytes
+-- the unfinished line ends with `len` more bytes, which uses up `used` bytes
 pub record EndsAt (state : LineState) (bytes : List ℕ) (len used : ℕ) : Type 0 where
   pub fits : length state.held + len ≤ 1024
   pub within : len ≤ used
@@ -88,13 +88,13 @@ pub record EndsAt (state : LineState) (bytes : List ℕ) (len used : ℕ) : Type
   pub enough : used ≤ length bytes
   pub served : each_byte line_byte state bytes ≡ and_then (line_finished state.finished (state.held ++ take len bytes)) (λ next. each_byte line_byte next (drop used bytes))
 
--- the held line continues through all the bytes
+-- the unfinished line continues through all the bytes
 pub record StaysOpen (state : LineState) (bytes : List ℕ) : Type 0 where
   pub fits : length state.held + length bytes < 1024
   pub no_feed : NoFeed bytes
   pub served : each_byte line_byte state bytes ≡ waiting (record { finished = state.finished; held = state.held ++ bytes })
 
--- where the held line ends in the bytes that follow it
+-- where the unfinished line ends in the bytes that follow it
 abbrev pub Splits : LineState → List ℕ → Piece → Type 0
 Splits state bytes (Ends len used) = EndsAt state bytes len used
 Splits state bytes GoesOn = StaysOpen state bytes

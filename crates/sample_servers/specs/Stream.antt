@@ -6,7 +6,7 @@ use Rattle.server_trait.specs.Service.{Served}
 abbrev pub waiting : {State : Type 0} → State → Served State
 waiting state = record { next = state; output = []; closed = false }
 
--- the same, with its output after what was written before
+-- the result of a step, with its output after what was written before
 abbrev pub written : {State : Type 0} → List ℕ → Served State → Served State
 written before served =
     record { next = served.next; output = before ++ served.output; closed = served.closed }

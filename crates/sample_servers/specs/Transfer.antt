@@ -8,16 +8,16 @@ use Rattle.sample_servers.specs.Stream.{waiting, and_then}
 use Rattle.sample_servers.specs.declared.transfer.Held.{Held}
 use Rattle.sample_servers.specs.declared.transfer.Held.TheVariants.{Nothing, One, Two, Three}
 
--- how many bytes are written, modulo 251, and the bytes that are held
+-- how many bytes are written, modulo 251, and the bytes of an incomplete request
 pub record TransferState : Type 0 where
   pub place : ℕ
   pub held : Held
 
--- nothing is written or held yet
+-- nothing is written or read yet
 abbrev pub transfer_started : TransferState
 transfer_started = record { place = 0; held = Nothing }
 
--- the held bytes, which are less than a request
+-- the bytes of an incomplete request: at most three
 abbrev pub held_bytes : Held → List ℕ
 held_bytes Nothing = []
 held_bytes (One a) = a ∷ []
@@ -37,7 +37,7 @@ unfoldable pub pattern : ℕ → ℕ → List ℕ
 pattern place zero = []
 pattern place (suc size) = place % 251 ∷ pattern (place + 1) size
 
--- the place and the held bytes from which the service continues
+-- the service continues from this place, with these bytes of an incomplete request
 abbrev pub holding : ℕ → Held → Served TransferState
 holding place held = waiting (record { place = place; held = held })
 
@@ -52,7 +52,7 @@ request_served place request =
       closed = false;
     }
 
--- what bytes do from a place of the pattern on: request after request, and an incomplete one is held
+-- what bytes do from a place of the pattern on: request after request, and an incomplete one waits for its other bytes
 abbrev pub requests_served : ℕ → List ℕ → Served TransferState
 requests_served place [] = holding place Nothing
 requests_served place (a ∷ []) = holding place (One a)
@@ -61,11 +61,11 @@ requests_served place (a ∷ b ∷ c ∷ []) = holding place (Three a b c)
 requests_served place (a ∷ b ∷ c ∷ d ∷ bytes) =
     and_then (request_served place (request_of a b c d)) (λ next. requests_served next.place bytes)
 
--- what bytes do after those that are held
+-- what bytes do after those of an incomplete request
 unfoldable pub bytes_served : TransferState → List ℕ → Served TransferState
 bytes_served transfer bytes = requests_served transfer.place (held_bytes transfer.held ++ bytes)
 
--- what a chunk does. An empty one is the end of input, which closes. A held rest is ignored
+-- what a chunk does. An empty one is the end of input, which closes. An incomplete request is ignored there
 abbrev pub transfer_after : TransferState → List ℕ → Served TransferState
 transfer_after transfer chunk =
     if length chunk == 0
@@ -76,11 +76,11 @@ transfer_after transfer chunk =
 abbrev pub transfer_machine : Machine TransferState
 transfer_machine = machine transfer_started transfer_after
 
--- its saved form: how many bytes are written, modulo 251, in one byte, and then the bytes that are held
+-- its saved form: how many bytes are written, modulo 251, in one byte, and then the bytes of an incomplete request
 abbrev pub transfer_form : TransferState → List ℕ
 transfer_form state = state.place ∷ held_bytes state.held
 
--- fewer bytes than a request has, as they are held
+-- these bytes as an incomplete request, if they are fewer than four
 abbrev pub held_of : List ℕ → Option Held
 held_of [] = Some Nothing
 held_of (a ∷ []) = Some (One a)

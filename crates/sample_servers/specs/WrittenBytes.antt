@@ -99,7 +99,7 @@ unfolding pattern
 bytes_pattern place zero = tt
 bytes_pattern place (suc size) = (omega arith, bytes_pattern (place + 1) size)
 
--- the place is one of the pattern's 251, and what is held is bytes
+-- the place is one of the pattern's 251, and an incomplete request is bytes
 pub record IsTransfer (s : transfer.TransferState) : Type 0 where
   pub place : s.place < 251
   pub bytes : AreBytes (held_bytes s.held)
@@ -131,7 +131,7 @@ served_transfer s chunk kept given = served_if IsTransfer (length chunk == 0) (r
 pub fresh_transfer : IsTransfer transfer_started
 fresh_transfer = record { place = omega arith; bytes = tt }
 
--- the number of lines fits in 64 bits, and what is held is the bytes of an unfinished line
+-- the number of lines fits in 64 bits, and the line so far is unfinished and is bytes
 pub record IsLine (s : LineState) : Type 0 where
   pub number : s.finished < 2 ^ 64
   pub bytes : AreBytes s.held

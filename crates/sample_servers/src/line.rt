@@ -1,4 +1,4 @@
-//! Line returns each line of its input with the line's number. A line is held until it ends, over any number of chunks.
+//! Line returns each line of its input with the line's number. A line may extend over any number of chunks.
 
 ghost use Rattle.std.specs.Prelude.{◌≡◌, ℕ, ◌^◌, ◌≤◌, ◌<◌, ◌+◌, ◌-◌, List, [], ◌++◌, length, take, drop, true, codes, bytes_eq, IfOk, OnOk};
 ghost use Rattle.server_trait.specs.Service.{next_of};
@@ -34,7 +34,7 @@ impl Model for Line {
     ghost invariant = { λ line. (length line.held.items < 1024) × NoFeed line.held.items };
 }
 
-/// What the bytes of a chunk do to the held line.
+/// What the bytes of a chunk do to the unfinished line.
 #[derive(Clone, Copy)]
 enum Piece {
     /// The line ends with `len` more bytes, and `used` bytes of the chunk are used up.
@@ -44,7 +44,7 @@ enum Piece {
 }
 
 impl Line {
-    // Takes bytes line by line, up to the one that closes, and holds what is left of them.
+    // Takes bytes line by line, up to the line that closes. The bytes after the last line begin the next one.
     fn take_bytes(&mut self, bytes: &[u8], out: &mut Vec<u8>) -> Result<Next, NoMemory>
         ensures state { IfOk result (λ _. self.new ≡ (each_byte line_byte self.old bytes.now).next) }
         ensures output { IfOk result (λ _. out.new.items ≡ out.old.items ++ (each_byte line_byte self.old bytes.now).output) }
@@ -61,7 +61,7 @@ impl Line {
         Ok(Next::Go)
     }
 
-    // Continues the held line.
+    // Continues the unfinished line.
     #[tactic(auto, using(crate::proofs::Lines::no_feed_joined))]
     fn hold(&mut self, bytes: &[u8]) -> Result<(), NoMemory>
         requires room { length self.old.held + length bytes.now < 1024 }
@@ -72,7 +72,7 @@ impl Line {
         Ok(())
     }
 
-    // Ends the held line, with these bytes added.
+    // Ends the unfinished line, with these bytes added.
     #[tactic(auto, unfolding(crate::specs::Line::line_finished))]
     fn finish(&mut self, piece: &[u8], out: &mut Vec<u8>) -> Result<Next, NoMemory>
         requires { length self.old.held + length piece.now ≤ 1024 }
@@ -91,7 +91,7 @@ impl Line {
         Ok(Next::Go)
     }
 
-    // Where the held line ends in these bytes.
+    // Where the unfinished line ends in these bytes.
     fn split(&self, bytes: &[u8]) -> Piece
         ensures { Splits self.now bytes.now result }
     {

@@ -25,12 +25,12 @@ enum Held {
 }
 
 /// The transfer service. Its input is requests of four bytes, a big-endian number each, and a request gives as many bytes as it says, at most 2,047: byte i of
-/// the whole output is i modulo 251. Request 0 closes. The bytes of an incomplete request are held, and ignored at the end of input.
+/// the whole output is i modulo 251. Request 0 closes. An incomplete request waits for its other bytes, and is ignored at the end of input.
 #[derive(Drop)]
 pub struct Transfer {
-    // How many bytes are written, modulo 251, and so below it.
+    // How many bytes are written, modulo 251, and so less than 251.
     place: u8,
-    // The held bytes, which are less than a request.
+    // The bytes of an incomplete request.
     held: Held,
 }
 
@@ -43,7 +43,7 @@ impl Model for Transfer {
 }
 
 impl Held {
-    // The bytes of an incomplete request, if they are so few.
+    // These bytes as an incomplete request, if they are fewer than four.
     fn of(bytes: &[u8]) -> Option<Held>
         ensures { result ≡ held_of bytes.now }
     {
@@ -103,7 +103,7 @@ impl Transfer {
         Ok(Next::Go)
     }
 
-    // Serves one request, after which nothing is held.
+    // Serves one request, after which none is incomplete.
     #[tactic(auto, unfolding(crate::specs::Transfer::request_served))]
     fn serve(&mut self, request: u32, out: &mut Vec<u8>) -> Result<Next, NoMemory>
         ensures state { IfOk result (λ _. self.new ≡ (request_served self.old.place request).next) }

@@ -19,9 +19,9 @@ pub struct LogLine<'a> {
     pub length: u32,
     /// Whether the client's FIN is logged.
     pub fin: bool,
-    /// The units of output that the client has acknowledged: bytes, and one more for the server's FIN.
+    /// The units of output that the log has as acknowledged: bytes, and one more for the server's FIN.
     pub acked: u32,
-    /// Whether the connection is over.
+    /// Whether the log has a Done of the connection.
     pub done: bool,
     /// The lengths of the server's reads, in order.
     pub reads: &'a [u16],
@@ -94,7 +94,7 @@ fn put_log(entry: &LogLine<'_>, line: &mut LineOut) -> Result<(), NoMemory>
     line.push(b'\n')
 }
 
-/// Appends whether a connection is over, and the lengths of its reads.
+/// Appends whether a connection is done, and the lengths of its reads.
 #[tactic(auto, using(crate::proofs::LineLemmas::line_rules))]
 fn put_standing(entry: &LogLine<'_>, line: &mut LineOut) -> Result<(), NoMemory>
     ensures ok { OnOk result (line.new.words

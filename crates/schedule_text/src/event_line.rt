@@ -58,7 +58,7 @@ pub(crate) fn read_client_number(word: &[u8]) -> Result<u8, LineWhy>
     Ok(number_in(word, 1, 16)? as u8)
 }
 
-/// Reads one of two loggers: 1 is the head, 2 the tail.
+/// Reads the number of one of two loggers: 1 is the head, 2 the tail.
 fn read_part(word: &[u8]) -> Result<u8, LineWhy>
     ensures { result ≡ part_number word.now }
 {

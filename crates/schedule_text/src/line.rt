@@ -251,7 +251,7 @@ fn takes_line(draft: &Draft, keyword: Keyword, words: &[u8]) -> bool
     }
 }
 
-/// Reads a line from the words after its keyword: the name of a service, the line's place, and its meaning.
+/// Reads a line from the words after its keyword. It first tests the name of a service, and then the line's place.
 #[tactic(auto, unfolding(ft_model::specs::Grammar::line_behind))]
 fn read_behind(
     alloc: Global,

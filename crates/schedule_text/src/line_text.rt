@@ -1,4 +1,4 @@
-//! The words of a report's line, appended one by one: each value in its one spelling. After `NoMemory` the line must be dropped.
+//! The words of a report's line, appended one by one: each value in its one spelling. After `NoMemory` the line may be incomplete; `close` cuts it off.
 
 ghost use Rattle.std.specs.Prelude.{◌≡◌, ◌<◌, ◌≤◌, ◌∷◌, [], ◌++◌, codes, decimal, length, take, drop, OnOk};
 ghost use Rattle.hex.specs.Hex.{encode_lower};
@@ -155,7 +155,7 @@ pub(crate) fn put_address(ip: u32, port: u16, line: &mut LineOut) -> Result<(), 
     put_digits(u64::from(port), line)
 }
 
-/// Appends a number, and a mark after it.
+/// Appends a number, and the byte `mark` after it.
 #[inline]
 #[tactic(auto, using(std::proofs::Common::append_assoc))]
 fn put_part(n: u32, mark: u8, line: &mut LineOut) -> Result<(), NoMemory>

@@ -155,7 +155,7 @@ fn all_hex_digits(digits: &[u8]) -> bool
     digits.iter().all(|byte| is_hex_byte(*byte))
 }
 
-/// Returns whether these are pairs of hexadecimal digits, and no more of them than a script may have.
+/// Returns whether these are pairs of hexadecimal digits: at least one pair, and no more pairs than a script may have bytes.
 #[tactic(auto, unfolding(ft_model::specs::Spelling::is_hex))]
 fn is_hex_text(digits: &[u8]) -> bool
     ensures value { result ≡ is_hex digits.now }

@@ -21,7 +21,7 @@ fn position_of(bytes: &[u8], mark: u8) -> usize
     find(bytes, mark).unwrap_or(bytes.len())
 }
 
-/// Returns the piece before the first `mark` and what follows the mark, or `None` if there is no mark.
+/// Returns the bytes before the first `mark` and those after it, or `None` if no byte is `mark`.
 #[tactic(auto, using(crate::proofs::Pieces::slice_split_whole, crate::proofs::Pieces::slice_split_at_mark, std::proofs::lemmas::List::take_rest))]
 pub(crate) fn next_piece(bytes: &[u8], mark: u8) -> Option<(&[u8], &[u8])>
     ensures pieces { MatchOption result (slice_split (is mark) bytes.now ≡ bytes.now ∷ [])
@@ -35,7 +35,7 @@ pub(crate) fn next_piece(bytes: &[u8], mark: u8) -> Option<(&[u8], &[u8])>
     Some((&bytes[..end], &bytes[end + 1..]))
 }
 
-/// Returns all bytes, if there is no mark among them.
+/// Returns all bytes, if none of them is `mark`.
 #[tactic(auto, using(crate::proofs::Pieces::two_pieces))]
 pub(crate) fn last_piece(bytes: &[u8], mark: u8) -> Option<&[u8]>
     ensures { MatchOption result

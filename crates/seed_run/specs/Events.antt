@@ -19,7 +19,7 @@ server_event state server =
     if server.is_up then record { event = Tick; state = state }
     else record { event = Boot (server.boots + 1) (draw state); state = stepped state }
 
--- the same, but if the server is up, it crashes once in 64 times
+-- the same, but if the server is up, it crashes in one of 64 cases
 abbrev pub risky_event : ℕ → ServerNow → Drawn
 risky_event state server =
     if server.is_up then record { event = if draw state % 64 == 0 then Crash else Tick; state = stepped state }
@@ -53,7 +53,7 @@ abbrev pub acknowledgement : ℕ → ℕ → Client → ServerNow → Drawn
 acknowledgement state number client server =
     if is_open client.phase then record { event = Ack number 65535; state = state } else server_event state server
 
--- the event of a client: two of its four sides of the die advance it, and all four if it isn't open yet; the others acknowledge
+-- an event of a client. Four sides of the die select it: two advance the client, or all four if it isn't open yet; at the others it acknowledges
 abbrev pub client_event : (die : ℕ) → ℕ → ℕ → Option Client → ServerNow → Drawn
 client_event die state number None server = server_event state server
 client_event die state number (Some client) server =

@@ -7,7 +7,7 @@ use Rattle.ft_model.specs.Masked.{Masked}
 use Rattle.ft_model.specs.Resets.{ResetsNoLogged}
 use Rattle.ft_model.specs.World.{World, Moment, world_after}
 
--- Crashes can't be seen from outside, and restarts are exact; no RST was sent to a connection that the log keeps; no server is fenced; and the lengths of
+-- Crashes can't be seen from outside, and restarts are exact; no RST was sent to a client whose entry isn't done; no server is fenced; and the lengths of
 -- each entry's reads cut its logged bytes.
 pub record IsSafe {State : Type 0} (service : Machine State) (start : World) (trace : List Moment) : Type 0 where
   pub masked : Masked service start trace

@@ -44,7 +44,7 @@ first_line seed clients events packets boots crashes =
     codes "seed " ++ decimal seed ++ codes " clients " ++ decimal clients ++ codes " events " ++ decimal events ++ codes " packets " ++ decimal packets
     ++ codes " boots " ++ decimal boots ++ codes " crashes " ++ decimal crashes ++ 10 ∷ []
 
--- a client's number and phase, and how many bytes of its script it has received back
+-- a client's number and phase, how many bytes it has accepted, and how many its script has
 unfoldable pub client_result : ℕ → Client → List ℕ
 client_result n client =
     codes "client " ++ decimal n ++ codes " " ++ phase_text client.phase ++ codes " accepted " ++ decimal (length client.accepted)

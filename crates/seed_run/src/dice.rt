@@ -49,7 +49,7 @@ impl Dice {
         self.draws.draw()
     }
 
-    /// Returns a tick of the server's clock. If the server is down, it returns a boot with the next boot number.
+    /// Returns a tick of the server's clock, or, if the server is down, a boot with the next boot number.
     pub fn server_event(&mut self, server: ServerNow) -> Event
         requires { server.boots < 2 ^ 32 }
         ensures { record { event = result; state = self.new.draws.state } ≡ server_lem self.old.draws.state server }
@@ -64,7 +64,7 @@ impl Dice {
         }
     }
 
-    /// Returns the same, but once in 64 times a crash if the server is up.
+    /// Returns the same as `server_event`, but if the server is up, in one of 64 cases a crash.
     fn risky_event(&mut self, server: ServerNow) -> Event
         requires { server.boots < 2 ^ 32 }
         ensures { record { event = result; state = self.new.draws.state } ≡ risky_lem self.old.draws.state server }
@@ -144,7 +144,7 @@ impl Dice {
         }
     }
 
-    /// Returns the event of a client. Two of its four sides of the die advance it, and all four if it isn't open yet; the others acknowledge.
+    /// Returns an event of a client. Four sides of the die select it: two advance the client, or all four if it isn't open yet; at the others it acknowledges.
     fn client_event(
         &mut self,
         die: u32,

@@ -11,8 +11,8 @@ use ft_model::headline::{
 };
 use sample_servers::AnyService;
 
-/// In every joint trace, crashes can't be seen from outside, no connection that the log keeps is reset, no server is fenced, and the lengths of the logged
-/// reads cut the logged bytes.
+/// In every joint trace, crashes can't be seen from outside, no RST is sent to a client whose entry isn't done, no server is fenced, and the lengths of the
+/// logged reads cut the logged bytes.
 pub fn joint_traces_are_safe()
     ensures { (kind : ℕ) (start : World) (trace : List Moment) → Joint (any_machine kind) start trace → IsSafe (any_machine kind) start trace }
 {

@@ -29,7 +29,7 @@ pub fn set_seq(head: &mut [u8], seq: Seq)
     requires { length head.old ≡ 40 }
     // Whatever follows the head, if the packet was accepted with it: the packet is read as before, with that field changed.
     ensures read { (rest : List ℕ) → IsOk (reading (head.old ++ rest)) → reading (head.new ++ rest) ≡ changed (with_seq seq.0) (reading (head.old ++ rest)) }
-    // Where the checksum was the computed one, it is so again.
+    // If the TCP checksum was the one that is computed from the packet, it is so again.
     ensures summed { (rest : List ℕ) → sealed (head.old ++ rest) ≡ head.old ++ rest → head.new ++ rest ≡ sealed (put 24 (four seq.0) (head.old ++ rest)) }
     // The spelling of a segment becomes the spelling of the changed one.
     ensures canonical { (segment : Segment) (rest : List ℕ) → head.old ++ rest ≡ spelling segment → head.new ++ rest ≡ spelling (with_seq seq.0 segment) }

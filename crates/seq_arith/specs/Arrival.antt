@@ -18,7 +18,7 @@ is_acceptable next window first len =
     else (if window == 0 then false else (lies_in next window first || lies_in next window (first +ℤ pos (len - 1))))
 
 -- a segment of length 0 at exactly the right edge, RCV.NXT + RCV.WND, of an open window. After a sender has filled the window and a segment was lost, its
--- acknowledgements have this number. The four cases leave it out
+-- ACKs have this sequence number. The four cases leave it out
 unfoldable pub is_at_right_edge : ℕ → ℕ → ℤ → ℕ → Bool
 is_at_right_edge next window first len = len == 0 && nat_lt 0 window && int_eq first (pos (next + window))
 
@@ -31,7 +31,7 @@ is_acceptable_or_at_edge next window first len = is_acceptable next window first
 unfoldable pub is_allowed_at_zero : ℕ → ℕ → ℤ → Bool
 is_allowed_at_zero next window first = window == 0 && int_eq first (pos next)
 
--- the acknowledgement of a segment is used: the segment is acceptable, at the right edge, or allowed at a zero window
+-- a segment is used: it is acceptable, at the right edge, or allowed at a zero window
 abbrev pub is_usable : ℕ → ℕ → ℤ → ℕ → Bool
 is_usable next window first len = is_acceptable_or_at_edge next window first len || is_allowed_at_zero next window first
 

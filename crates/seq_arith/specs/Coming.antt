@@ -13,7 +13,7 @@ pub record Early : Type 0 where
 abbrev pub nothing_early : Early
 nothing_early = record { text = []; fin = None }
 
--- the same, with all offsets k larger
+-- the same, k further on in the stream: places stay, and the FIN's offset is k larger
 abbrev pub early_from : ℕ → Early → Early
 early_from k early = record early { fin = option_map (λ offset. offset + k) early.fin }
 
@@ -43,7 +43,7 @@ abbrev pub ahead : ℕ → ℤ → ℕ
 ahead n (pos first) = first - n
 ahead n (negsuc before) = 0
 
--- the new text of a segment: the part between the end of the bytes taken and that offset
+-- the new text of a segment: the part between the end of the bytes taken and `text_edge`
 unfoldable pub new_text : (n edge : ℕ) → Bool → Early → ℤ → List ℕ → List ℕ
 new_text n edge fin early first text = take (text_edge n edge fin early - (n + ahead n first)) (drop (below n first) text)
 

@@ -32,7 +32,7 @@ with_new_data mss units c =
 abbrev pub lowered_threshold : (mss flight : ℕ) → ℕ
 lowered_threshold mss flight = max (flight / 2) (2 * mss)
 
--- the third duplicate in a row: a segment is lost, and is retransmitted at once
+-- the third duplicate in a row: a segment counts as lost, and is retransmitted at once
 unfoldable pub is_third : Congestion → Bool
 is_third c = c.dups == 2
 

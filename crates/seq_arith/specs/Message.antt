@@ -2,7 +2,7 @@
 use Rattle.std.specs.Prelude.{ℕ, Bool, true, false, List}
 use Rattle.ft_io.specs.declared.Key.{Key}
 
--- the numbers of a connection: the client's and the server's initial numbers as the client knows them, and the segment size
+-- the numbers of a connection: the client's and the server's initial sequence numbers as the client knows them, and the segment size
 pub record Numbers : Type 0 where
   pub key : Key
   pub cisn : ℕ
@@ -28,7 +28,7 @@ pub record EntryHead : Type 0 where
   pub reads : ℕ
   pub acked : ℕ
 
--- a part of a client's stream, with the server's output that the client has acknowledged
+-- a part of a client's stream, with the count of units of output that the client has acknowledged
 pub record Part : Type 0 where
   pub key : Key
   pub offset : ℕ

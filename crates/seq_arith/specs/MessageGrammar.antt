@@ -119,7 +119,7 @@ width fields.Units = 4
 width fields.Newer = 8
 
 -- The range of a field, in a message with this boot number and this many bytes after its fields. An offset and those bytes stay within a stream, which has at
--- most 2^24 bytes. A count of units may also count the FIN, or a last read of length 0. Keys and initial numbers are unrestricted
+-- most 2^24 bytes. A count of units may also count the FIN, or a last read of length 0. Keys and initial sequence numbers are unrestricted
 abbrev pub is_in_range : (boot behind : ℕ) → Field → ℕ → Bool
 is_in_range boot behind fields.Count n = nat_le n 64
 is_in_range boot behind fields.Place n = nat_le n 63

@@ -1,6 +1,6 @@
 -- A packet in stream offsets (RFC 9293, 3.4): where its text is in the sender's stream and what it acknowledges of the receiver's. The SYN is at offset -1 and
--- byte k at offset k. For a packet of the client, `own` is the client's initial number and `peer` the server's. For a packet of the server it is the other way
--- round.
+-- byte k at offset k. For a packet of the client, `own` is the client's initial sequence number and `peer` the server's. For a packet of the server it is
+-- the other way round.
 use Rattle.std.specs.Prelude.{ℕ, ℤ, Bool, ◌+◌, ◌&&◌, ◌||◌, not, List, [], length, if◌then◌else◌}
 use Rattle.seq_arith.specs.Number.{offset_of}
 use Rattle.seq_arith.specs.Packet.{Segment, has_fin, has_syn, has_rst}
@@ -23,6 +23,6 @@ fin_of segment = has_fin segment && not (has_syn segment || has_rst segment)
 abbrev pub one_if : Bool → ℕ
 one_if b = if b then 1 else 0
 
--- SEG.LEN: the text and the FIN, or only the SYN; 0 of a RST
+-- SEG.LEN: the text's length, and one more for a FIN; 1 for a SYN, 0 for a RST
 abbrev pub length_of : Segment → ℕ
 length_of segment = if has_rst segment then 0 else (if has_syn segment then 1 else length segment.payload + one_if (has_fin segment))

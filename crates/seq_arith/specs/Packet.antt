@@ -2,7 +2,7 @@
 use Rattle.std.specs.Prelude.{ℕ, Bool, Option, None, Some, List, ◌/◌, ◌%◌, ◌==◌, max, min}
 use Rattle.seq_arith.specs.declared.flags.TheConstants.{FIN, SYN, RST, ACK}
 
--- the fields of the two headers that this project keeps. Numbers are modulo 2^32
+-- the fields of the two headers that this project uses. Numbers are modulo 2^32
 pub record Head : Type 0 where
   pub src : ℕ
   pub dst : ℕ
@@ -39,7 +39,7 @@ has_rst segment = has segment.head.flags RST
 abbrev pub has_ack : Segment → Bool
 has_ack segment = has segment.head.flags ACK
 
--- RFC 9293, 3.7.1: the segment size for a peer whose SYN offers this one: it is limited to the range from 64 to 1,460, and it is 536 where none is offered
+-- RFC 9293, 3.7.1: the segment size for a peer whose SYN offers this one. It is limited to the range from 64 to 1,460, and is 536 where none is offered
 abbrev pub segment_size : Option ℕ → ℕ
 segment_size (Some mss) = max 64 (min 1460 mss)
 segment_size None = 536

@@ -12,6 +12,6 @@ reset local peer seq ack flags = record { src = local.ip; dst = peer.ip; sport =
 abbrev pub reset_at_ack : Addr → Head → Head
 reset_at_ack local head = reset local (record { ip = head.src; port = head.sport }) head.ack 0 RST
 
--- <SEQ=0><ACK=SEG.SEQ+SEG.LEN><CTL=RST,ACK>, of a segment of length len
+-- <SEQ=0><ACK=SEG.SEQ+SEG.LEN><CTL=RST,ACK>, for a segment of length len
 abbrev pub reset_behind : Addr → (len : ℕ) → Head → Head
 reset_behind local len head = reset local (record { ip = head.src; port = head.sport }) 0 ((head.seq + len) % 2 ^ 32) (RST + ACK)

@@ -51,7 +51,7 @@ impl Sum16 {
     }
 }
 
-/// The sum of the words of a string, which begins inside a word if `odd`.
+/// Returns the sum of the words of a string, which begins inside a word if `odd`.
 fn sum_behind(odd: bool, bytes: &[u8]) -> u32
     requires { length bytes.now ≤ 65535 }
     ensures sum { result ≡ word_sum odd bytes.now }
@@ -63,7 +63,7 @@ fn sum_behind(odd: bool, bytes: &[u8]) -> u32
     }
 }
 
-/// Whether a string ends inside a word. It begins inside one if `odd`.
+/// Returns whether a string ends inside a word. It begins inside one if `odd`.
 #[tactic(auto, using(crate::proofs::Sums::odd_after_parity))]
 fn ends_inside(odd: bool, bytes: &[u8]) -> bool
     ensures { result ≡ odd_after odd bytes.now }
@@ -71,7 +71,7 @@ fn ends_inside(odd: bool, bytes: &[u8]) -> bool
     odd != (bytes.len() % 2 == 1)
 }
 
-/// The sum of the words of a string that begins with a word.
+/// Returns the sum of the words of a string that begins with a word.
 fn sum_of(bytes: &[u8]) -> u32
     requires { length bytes.now ≤ 65535 }
     ensures sum { result ≡ word_sum false bytes.now }
@@ -89,7 +89,7 @@ fn sum_of(bytes: &[u8]) -> u32
     total
 }
 
-/// The one's complement of a sum whose carries are added back in.
+/// Returns the one's complement of a sum whose carries are added back in.
 #[tactic(auto, unfolding(crate::specs::Checksum::check_of, crate::specs::Checksum::folded))]
 fn complement(total: u32) -> u16
     ensures { result ≡ check_of total }

@@ -8,7 +8,7 @@ use crate::Seq;
 use crate::flags::{ACK, RST};
 use ft_io::{Addr, Key};
 
-/// The fields of the two headers that are kept (RFC 791, 3.1; RFC 9293, 3.1). A packet has no option except, where `mss` is given, the segment size in bytes.
+/// The fields of the two headers that this project uses (RFC 791, 3.1; RFC 9293, 3.1). A packet is written with no option but `mss`, if there is one.
 #[derive(Clone, Copy)]
 pub struct Head {
     /// The source address, the first octet the highest.

@@ -40,7 +40,7 @@ pub fn number_names_its_offset()
     ensures { (isn k : ℕ) → k < 2 ^ 31 → offset_of isn (number_at isn k) ≡ pos k }
 {}
 
-/// A number names the same offset if the number and the initial number move by the same distance.
+/// A number names the same offset if the number and the initial sequence number move by the same distance.
 pub fn offset_shifts()
     ensures { (isn number d : ℕ) → number < 2 ^ 32
         → offset_of ((isn + d) % 2 ^ 32) ((number + d) % 2 ^ 32) ≡ offset_of isn number }
@@ -52,7 +52,7 @@ pub fn acceptable_shifts()
         → is_acceptable (next + k) window (first +ℤ pos k) len ≡ is_acceptable next window first len }
 {}
 
-/// Whether a segment's acknowledgement is used stays the same if RCV.NXT and the segment's offset move by the same number.
+/// Whether a segment is used stays the same if RCV.NXT and the segment's offset move by the same number.
 pub fn usable_shifts()
     ensures { (next window k : ℕ) (first : ℤ) (len : ℕ) → is_usable (next + k) window (first +ℤ pos k) len ≡ is_usable next window first len }
 {}
@@ -100,7 +100,7 @@ pub fn coming_keeps_to_the_edge()
         → (comes n edge false early first text has_fin).fin ≡ true → n + length (comes n edge false early first text has_fin).added < edge }
 {}
 
-/// A segment changes nothing once the bytes taken reach the right edge, once the FIN is taken, and where it has neither text nor FIN. What is held stays held.
+/// A segment changes nothing once the bytes taken reach the right edge, once the FIN is taken, or if it has neither text nor FIN. What is held stays held.
 pub fn nothing_comes()
     ensures shut { (n : ℕ) (fin : Bool) (early : Early) (first : ℤ) (text : List ℕ) (has_fin : Bool) → StandsBehind n n fin early
         → comes n n fin early first text has_fin ≡ nothing_came early fin }

@@ -18,7 +18,7 @@ pub record BeginsBehind (p : Point) (delta : ℕ) (e : Tcb) : Type 0 where
   pub una : e.sending.una ≡ p.una - behind
   pub shift : (e.sending.iss + delta) % 2 ^ 32 ≡ (p.sisn + behind) % 2 ^ 32
 
--- its numbers are the point's, each minus delta
+-- its SND.NXT is the point's minus delta, and once the SYN is acknowledged so is its SND.UNA
 pub record TcpTells (p : Point) (delta : ℕ) (e : Tcb) : Type 0 where
   pub unclosed : is_closed e.name ≡ false
   pub unreset : e.reset ≡ false

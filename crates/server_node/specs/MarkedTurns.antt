@@ -170,7 +170,7 @@ abbrev pub HasSlotsApart : {S : Type 0} → Stage S → Type 0
 HasSlotsApart (stage.Marked at) = AreApart at.stage
 HasSlotsApart _ = Unit {0}
 
--- The node's
+-- how a node that marks corresponds to the law's: its stage, and the whole node
 
 abbrev pub NodeStandsAt : {S : Type 0} → Marker S → MarkedNode → Stage S → Type 0
 NodeStandsAt by node (stage.Marked at) = MarkedStands by node at

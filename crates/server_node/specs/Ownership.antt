@@ -18,7 +18,7 @@ tells_of (ReadMsg named index length) key = key_eq named key
 tells_of (DoneMsg named) key = key_eq named key
 tells_of _ key = false
 
--- whether the message that the logger reads in a datagram is
+-- whether the message that the logger reads in a datagram is about it
 abbrev pub is_told_of : Key → Result Message BadMsg → Bool
 is_told_of key (Ok message) = tells_of message.body key
 is_told_of key (Err bad) = false

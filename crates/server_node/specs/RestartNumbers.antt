@@ -45,7 +45,7 @@ abbrev pub fetched_by : Node → law_stage → Input → List Fetched
 fetched_by node (Fetching count fetched) input = fetched_in node count fetched input
 fetched_by node _ input = []
 
--- of a node that serves after it has restored these entries
+-- the same of a node that serves after it has restored these entries
 abbrev pub AllNumbered : {S : Type 0} → Machine S → (isn : ℕ) → List Fetched → Stage S → Type 0
 AllNumbered service isn fetched (stage.Serving s) = AreNumbered service isn fetched s.slots.entries
 AllNumbered service isn fetched _ = Unit {0}

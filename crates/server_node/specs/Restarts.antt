@@ -59,7 +59,7 @@ RestartGoes service node count fetched (stage.Fetching f) old new = StillAsks se
 RestartGoes service node count fetched (stage.Serving s) old new = (wanted count fetched ≡ None) × RestoredAlone service node fetched s old new
 RestartGoes service node count fetched _ old new = ⊥
 
--- a message that fits no question changes nothing
+-- a message that doesn't fit the question changes nothing
 abbrev pub AnswerGoes : {S : Type 0} → Machine S → Node → Message → (count : ℕ) → List Fetched → FetchingState S → Stage S → (old new : List Wire) → Type 0
 AnswerGoes service node message count fetched f now old new =
     MatchOption (fetched_then node message count fetched) ((now ≡ stage.Fetching f) × (new ≡ old)) (λ more. RestartGoes service node count more now old new)

@@ -129,7 +129,7 @@ fn drop_slot<S: Service>(key: Key, slots: &mut IndexMap<Key, Slot<S>>)
 }
 
 /// Handles the message that the log has an entry for a key, with these numbers: a pending opening with the same initial sequence number of the client becomes
-/// a connection, and one with another is dropped.
+/// a connection, and one with another is removed.
 pub(crate) fn open_known<S: Service>(
     who: Identity,
     key: Key,
@@ -159,7 +159,7 @@ pub(crate) fn open_known<S: Service>(
     Ok(())
 }
 
-/// Handles the message that the log is full: drops a pending opening, and refuses its SYN.
+/// Handles the message that the log is full: refuses the SYN of a pending opening, and removes the opening.
 pub(crate) fn refuse_known<S: Service>(
     who: Identity,
     key: Key,

@@ -21,7 +21,7 @@ pub enum Input<'a> {
 pub enum TurnEnd {
     #[error("out of memory")]
     NoMemory,
-    /// A server with this larger boot number has spoken to the logger.
+    /// A server with this larger boot number has sent Hello to the logger.
     #[error("fenced by boot {newer}")]
     Fenced { newer: u64 },
 }

@@ -20,8 +20,8 @@ ghost use Rattle.server_node.specs.Stages.{StageStands};
 use server_trait::Service;
 
 /// The connection that `Node::conn` returns shows its point. `inside` returns the point's numbers, and the south wrapper's delta and stable number and the
-/// north wrapper's counts agree with it. Until the connection is over or reset, its TCP is neither CLOSED nor reset, and has the point's numbers, each minus
-/// delta.
+/// north wrapper's counts agree with it. Until the connection is over or reset, its TCP is neither CLOSED nor reset, and its SND.NXT and SND.UNA are the
+/// point's, each minus delta.
 pub fn lent_connections_tell_their_point<S: Service>()
     ensures { (fresh : S) (server : Addr) (boot : ℕ) (p : Point) (c : ConnState S) → IsSound c → IsOursAt (machine fresh S.after) server boot c p
         → TellsItsPoint (machine fresh S.after) p c }

@@ -210,7 +210,7 @@ pub(crate) fn apart_in<S: Saved>(stage: &MarkedStage<S>)
     }
 }
 
-/// Takes the turn on a message about marks of this boot.
+/// Takes the turn on a message of this boot about marks.
 fn hear_mark<S: Saved>(
     who: Identity,
     node: Marked<S>,
@@ -250,7 +250,7 @@ pub(crate) fn lend<S: Service>(node: &Marked<S>, key: Key) -> Option<&Conn<S>>
     }
 }
 
-/// Takes the turn on a message while the logger is asked how many entries it has. If the message says it, the first entry is asked for.
+/// Takes the turn on a message while the logger is asked how many entries it has. If the message says how many, the first entry is asked for.
 fn begin<S: Saved>(
     who: Identity,
     m: &Msg<'_>,

@@ -183,7 +183,7 @@ pub(crate) fn serve_message_marked<S: Saved>(
     }
 }
 
-/// Handles a message about marks of this boot. A message that is no answer to a mark changes nothing.
+/// Handles a message of this boot about marks. One that is no answer to a mark changes nothing.
 pub(crate) fn serve_mark<S: Saved>(
     who: Identity,
     m: &MarkMsg<'_>,

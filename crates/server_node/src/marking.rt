@@ -20,8 +20,8 @@ use logger_wire::write_mark;
 use server_trait::Saved;
 use wrapped_conn::Conn;
 
-/// Sends the outstanding mark of a key, if there is one: before the last packets of the turn, as many as say, from the `from`th packet on, that a connection
-/// is done.
+/// Sends the outstanding mark of a key, if there is one. If n of the packets after the first `from` say that a connection is done, the mark is inserted before
+/// the last n packets of the turn.
 pub(crate) fn send_outstanding(
     who: Identity,
     key: Key,

@@ -59,9 +59,9 @@ impl<S: Saved> Node<S> {
         Node::boot_marked(alloc, boot, isn, kind, local, 0)
     }
 
-    /// Boots a server with marks. Whenever a connection is quiet, has no unanswered mark, and has made at least `every` reads since its last mark, its
-    /// service's state is sent to the logger; a restart begins each connection at its mark, if it has one. If `every` is 0, or the service isn't savable, no
-    /// marks are made.
+    /// Boots a server with marks. Whenever a connection is quiet (`Conn::quiet`), has no unanswered mark, and has made at least `every` reads since its last
+    /// mark, the form of its service's state is sent to the logger, if it has at most 1,100 bytes. A restart begins each connection at its mark, if it has
+    /// one. If `every` is 0, or the service isn't savable, no marks are made.
     pub fn boot_marked(
         alloc: Global,
         boot: u64,
@@ -126,8 +126,8 @@ impl<S: Saved> Node<S> {
 
     /// Takes one turn, and returns the packets that it sends. Without marks: whatever the input is, keys that it isn't about stay unchanged; the turn of each
     /// key whose own packets are near is lawful, and at the end of a restart so is that of each key whose own entry is sound. With marks the turn is lawful
-    /// under the premises `IsFairTo`. After an error the node may only be dropped. A Stale of its boot that names a larger one ends it by `Fenced`, even if
-    /// no memory is left, and nothing else ends it so.
+    /// under the premises `IsFairTo`. After an error the node may only be dropped. A Stale of the node's boot that names a larger boot number ends it by
+    /// `Fenced`, even if no memory is left, and nothing else ends it so.
     pub fn turn(&mut self, alloc: Global, input: Input<'_>) -> Result<&[OutPacket], TurnEnd>
         ensures* after { sem 𝓛 (Leaves S.row S.Service self.entry
             (λ node. IfOk result (λ sent. NodeTurns (input_of input.entry) self.old node sent.now

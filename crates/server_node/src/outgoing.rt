@@ -62,7 +62,7 @@ impl Outgoing {
         self.count
     }
 
-    /// How many of the packets from the `from`th on say that a connection is done.
+    /// How many of the packets after the first `from` say that a connection is done.
     pub(crate) fn dones_from(&self, from: usize) -> usize
         requires { from ≤ length self.now.items }
         ensures value { result ≡ length (filter is_done_wire (drop from self.now.items)) }

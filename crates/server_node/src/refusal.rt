@@ -29,7 +29,7 @@ pub(crate) fn send_bare(head: Head, turn: &mut Turn) -> Result<(), NoMemory>
     turn.sent.send(turn.alloc, to, &text[..len])
 }
 
-/// The length of a segment in units of its stream: data and FIN, or the SYN alone; 0 with a RST.
+/// SEG.LEN: the text and the FIN, or only the SYN; 0 for a RST.
 fn length_of(segment: &PacketRef<'_>) -> u32
     requires { length segment.now.payload.now ≤ 1460 }
     ensures { result ≡ length_of (segment_of segment.now) }

@@ -195,7 +195,7 @@ fn newer_in(who: Identity, m: &Msg<'_>) -> Option<u64>
     newer_than(who.boot, &m.body)
 }
 
-/// Handles a message that the codec has read. A Stale of this boot that names a larger one ends the node.
+/// Handles a message that the codec has read. A Stale of this boot that names a larger boot number ends the node.
 fn hear<S: Saved>(
     who: Identity,
     stage: Stage<S>,

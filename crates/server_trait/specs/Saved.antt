@@ -5,7 +5,7 @@ use Rattle.std.proofs.Common.{arith}
 use Rattle.std.proofs.lemmas.Option.{none-some}
 use Rattle.server_trait.specs.Service.{Machine, fold, AreBytes}
 
--- how states are written: the form of each, and the state whose form some bytes are, if they are the form of one
+-- how states are written: the bytes of each, its form; and back, the state whose form some bytes are, if there is one
 pub record Writing (State : Type 0) : Type 0 where
   pub form : State → List ℕ
   pub state_of : List ℕ → Option State
@@ -13,7 +13,7 @@ pub record Writing (State : Type 0) : Type 0 where
 abbrev pub writing : {State : Type 0} → (State → List ℕ) → (List ℕ → Option State) → Writing State
 writing form state_of = record { form = form; state_of = state_of }
 
--- a state's form is at most 1,100 bytes, and the state is read back from them
+-- a state's form has at most 1,100 bytes, and the state is read back from it
 pub record IsReadBack {State : Type 0} (written : Writing State) (state : State) : Type 0 where
   pub same : written.state_of (written.form state) ≡ Some state
   pub short : length (written.form state) ≤ 1100

@@ -33,7 +33,7 @@ begun service = record { state = service.fresh; output = []; closed = false }
 abbrev pub with_served : {State : Type 0} → Run State → Served State → Run State
 with_served run served = record { state = served.next; output = run.output ++ served.output; closed = served.closed }
 
--- once closed, a chunk changes nothing
+-- once the run has closed, a chunk changes nothing
 abbrev pub fed : {State : Type 0} → Machine State → Run State → List ℕ → Run State
 fed service run chunk = if run.closed then run else with_served run (service.after run.state chunk)
 
@@ -73,6 +73,6 @@ pub record CanCut (bytes lengths : List ℕ) : Type 0 where
 unfoldable pub reference : {State : Type 0} → Machine State → List ℕ → List ℕ → Run State
 reference service bytes lengths = fold service (cut bytes lengths)
 
--- the answer of `take`
+-- what `take` returns
 abbrev pub next_of : Bool → Next
 next_of closed = if closed then Close else Go

@@ -29,7 +29,7 @@ pub trait Service: Drop {
     /// What a chunk does: the next state, the output, and whether the service closes.
     ghost after: { Self → List ℕ → Served Self };
 
-    /// A service of this kind in its first state. It allocates nothing.
+    /// Returns a service of this kind in its first state. Allocates nothing.
     fn fresh(alloc: Global, kind: u8) -> Self
         ensures { result ≡ started kind };
 
@@ -40,7 +40,7 @@ pub trait Service: Drop {
         ensures output { IfOk result (λ _. out.new.items ≡ out.old.items ++ (after self.old chunk.now).output) }
         ensures closed { IfOk result (λ next. next ≡ next_of (after self.old chunk.now).closed) };
 
-    /// The end of input closes.
+    /// An empty chunk, the end of input, closes the service.
     ghost closes: { (s : Self) → (after s []).closed ≡ true };
 
     /// The output of one chunk is at most a mebibyte.
@@ -65,7 +65,7 @@ pub trait Saved: Service {
     /// The state of a service of this kind whose form these bytes are, if there is one.
     ghost state_of: { ℕ → List ℕ → Option Self };
 
-    /// Whether its states can be saved.
+    /// Returns whether its states can be saved.
     fn savable() -> bool
         ensures { result ≡ is_savable };
 

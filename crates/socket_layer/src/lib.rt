@@ -43,7 +43,7 @@ pub trait Socket {
         ensures bytes { buf.new ≡ take result (unread self.old) ++ drop result buf.old }
         ensures state { self.new ≡ after_read self.old result };
 
-    /// How many bytes a write takes at most: 0 once it is closed.
+    /// How many bytes a write takes at most: 0 once this side has ended its stream.
     fn room(&self) -> usize
         ensures { result ≡ write_room self.now };
 

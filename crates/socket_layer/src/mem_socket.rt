@@ -1,4 +1,4 @@
-//! A socket in memory, for tests of what calls a socket: what the peer sent is given, and what is written to it is stored.
+//! A socket in memory, for tests of code that uses a socket: what the peer sent is given, and what is written to the peer is stored.
 
 ghost use Rattle.std.specs.Prelude.{◌≡◌, ◌-◌, ◌==◌, ◌&&◌, ◌++◌, [], false, length, min, take, drop, IfOk};
 
@@ -33,7 +33,7 @@ impl Model for MemSocket {
 }
 
 impl MemSocket {
-    /// Returns an open socket with these bytes unread, the peer's last ones if `has_end`. The error is that an allocation failed.
+    /// Returns an open socket with these bytes unread, the peer's last ones if `has_end`. Fails where an allocation fails.
     pub fn new(alloc: Global, came: Vec<u8>, has_end: bool) -> Result<MemSocket, AllocError>
         ensures { IfOk result (λ s. s ≡ record { unread = came.items; has_end = has_end; written = []; closed = false }) }
     {

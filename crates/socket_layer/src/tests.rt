@@ -5,7 +5,7 @@ ghost use Rattle.std.specs.Prelude.{◌≡◌};
 use super::*;
 use std::test::Fail;
 
-/// Answers what came with as much of it as there is room for, and closes after the peer's end.
+/// Reads up to four bytes, writes as many of them back as there is room for, and closes once the peer's stream is read to its end.
 fn echo<S: Socket>(socket: &mut S) -> usize
     ensures { S.has_end socket.new ≡ S.has_end socket.old }
 {

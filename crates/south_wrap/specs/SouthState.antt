@@ -28,7 +28,7 @@ acknowledged s = min (taken_units s) s.answered
 abbrev pub receive_edge : SouthState → ℕ
 receive_edge s = min (max s.fetched s.read + 65535) (2 ^ 24)
 
--- Window: from what is acknowledged up to the edge, at which a FIN that is taken has used up one number
+-- Window: from what is acknowledged up to the edge, and one number more once the FIN is taken; at most 65,535
 abbrev pub window : SouthState → ℕ
 window s = min 65535 (receive_edge s + one_if s.fin - acknowledged s)
 
@@ -39,7 +39,7 @@ lowered s number = distance number s.delta
 abbrev pub raised : SouthState → ℕ → ℕ
 raised s number = (number + s.delta) % 2 ^ 32
 
--- the client acknowledges what an earlier incarnation sent, and this one hasn't sent yet ..
+-- the client acknowledges more than this incarnation has sent: an earlier one may have sent it ..
 abbrev pub is_high : SouthState → (ack : ℕ) → Bool
 is_high s ack = int_lt (pos s.sent) (offset_of s.sisn ack)
 

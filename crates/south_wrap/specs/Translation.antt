@@ -19,7 +19,7 @@ outward s segment = record segment { head = record segment.head { seq = raised s
 abbrev pub inward : SouthState → Segment → Segment
 inward s segment = record segment { head = record segment.head { ack = inner_ack s segment.head.ack; window = inner_window s segment.head.ack segment.head.window } }
 
--- the client repeats its SYN, and neither its stream nor the output has progressed: the logged SYN-ACK answers it, and TCP doesn't see it
+-- the client repeats its SYN, and neither its stream nor the output has progressed: the SYN-ACK with the logged numbers answers it, and TCP doesn't see it
 abbrev pub repeats_syn : SouthState → Segment → Bool
 repeats_syn s segment = is_syn segment && segment.head.seq == s.cisn && taken_units s == 0 && s.una == 0
 

@@ -295,7 +295,7 @@ impl South {
         Seq(known.minus(Seq(self.delta)))
     }
 
-    /// The window that TCP sees with it.
+    /// The window that TCP sees, given the client's acknowledgement and window.
     pub(crate) fn inner_window(&self, ack: Seq, window: u16) -> u16
         ensures { result ≡ inner_window self.now ack.0 window }
     {

@@ -28,7 +28,7 @@ pub struct SendState {
     pub nxt: Seq,
     /// SND.WND: the distance from `una` to the right edge, modulo 2^32. It is 2^31 or more if the peer's right edge is before `una`.
     pub wnd: u32,
-    /// SND.WL1: the number of the segment that last moved the edge.
+    /// SND.WL1: the sequence number of the segment that last moved the edge.
     pub wl1: Seq,
     /// SND.WL2: what that segment acknowledged.
     pub wl2: Seq,
@@ -47,7 +47,7 @@ pub struct SendState {
 }
 
 impl SendState {
-    /// Uses the acknowledgement and the window of a segment whose number is `seq` (RFC 9293, 3.10.7.4, fifth check). The right edge moves if SND.UNA =<
+    /// Uses the acknowledgement and the window of a segment with sequence number `seq` (RFC 9293, 3.10.7.4, fifth check). The right edge moves if SND.UNA =<
     /// SEG.ACK =< SND.NXT and the segment isn't older than the segment that last moved it. It stays where only `una` moves. An acknowledgement of something
     /// new sets the interval back to one tick. It restarts the timer or, where nothing is left in flight, stops it (RFC 6298, 5.2 and 5.3). It also lets the
     /// congestion window grow, or ends fast recovery (RFC 5681, 3.1 and 3.2).

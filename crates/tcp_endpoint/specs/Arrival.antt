@@ -1,4 +1,5 @@
--- What an arriving segment does to an endpoint: the checks of RFC 9293, 3.10.7, in their order, one definition for each check.
+-- What an arriving segment does to an endpoint: the checks of RFC 9293, 3.10.7, in their order. Of those in 3.10.7.4, the third (security) and the sixth
+-- (URG) aren't made, and a repeated FIN restarts TIME-WAIT before the first.
 use Rattle.std.specs.Prelude.{ℕ, ℤ, Bool, true, pos, ◌+◌, ◌%◌, ◌^◌, ◌==◌, ◌&&◌, ◌||◌, not, nat_lt, None, Some, if◌then◌else◌, ◌+ℤ◌, length, take}
 use Rattle.seq_arith.specs.Arrival.{int_eq, is_acceptable_or_at_edge, is_allowed_at_zero}
 use Rattle.seq_arith.specs.Packet.{Segment, has_fin, has_syn, has_rst, has_ack}
@@ -24,7 +25,7 @@ ack_at e p = ack_of e.sending.iss p
 abbrev pub source : Segment → Addr
 source p = record { ip = p.head.src; port = p.head.sport }
 
--- a RST in answer to a segment, with window 0
+-- a RST in reply to a segment, with window 0
 abbrev pub rst : Tcb → Segment → (seq ack flags : ℕ) → Head
 rst e p seq ack flags = record {
   src = e.local.ip;
@@ -46,7 +47,7 @@ with_reset_reply e p = record e { reset_reply = Some (rst e p p.head.ack 0 4) }
 unfoldable pub with_reset_reply_without_ack : Tcb → Segment → Tcb
 with_reset_reply_without_ack e p = record e { reset_reply = Some (rst e p 0 ((p.head.seq + length_of p) % 2 ^ 32) 20) }
 
--- an ACK becomes pending
+-- notes that an ACK is required, if one is
 abbrev pub with_ack_pending_if : Bool → Tcb → Tcb
 with_ack_pending_if b e = record e { ack_pending = e.ack_pending || b }
 
@@ -75,7 +76,7 @@ begun e p = record e {
 unfoldable pub in_listen : Tcb → Segment → Tcb
 in_listen e p = if has_rst p then e else (if has_ack p then with_reset_reply e p else (if has_syn p then begun e p else e))
 
--- 3.10.7.3: SYN-SENT. Only the SYN has been sent, so exactly one number acknowledges it
+-- 3.10.7.3: SYN-SENT. Only the SYN has been sent, so exactly one number acknowledges it. A SYN without ACK is ignored: there is no simultaneous open
 unfoldable pub answered : Tcb → Segment → Tcb
 answered e p = record e {
   name = Established;
@@ -120,7 +121,7 @@ with_ack_used e p = record e {
   retransmission_due = e.retransmission_due || is_third_duplicate e.sending (is_bare p) (ack_at e p) p.head.window;
 }
 
--- fifth check, in the other states: an acknowledgement ahead of SND.NXT makes an ACK pending, and nothing of its segment is used
+-- fifth check, in the other states: an acknowledgement ahead of SND.NXT requires an ACK, and nothing of its segment is used
 unfoldable pub with_ack : Tcb → Segment → Tcb
 with_ack e p =
     if is_ahead e.sending.sent (ack_at e p) then with_ack_pending_if true e else with_text_and_fin (with_fin_acked (with_ack_used e p)) p
@@ -129,7 +130,7 @@ with_ack e p =
 unfoldable pub check_ack : Tcb → Segment → Tcb
 check_ack e p = if has_ack p then (if e.sending.syn_acked then with_ack e p else with_first_ack e p) else e
 
--- fourth check: a SYN gets a challenge ACK. A segment with SEG.LEN above 0 makes an ACK pending
+-- fourth check: a SYN gets a challenge ACK. A segment with SEG.LEN above 0 requires an ACK
 unfoldable pub check_syn : Tcb → Segment → Tcb
 check_syn e p = if has_syn p then with_ack_pending_if true e else check_ack (with_ack_pending_if (nat_lt 0 (length_of p)) e) p
 
@@ -154,7 +155,7 @@ accepts e p = is_acceptable_or_at_edge (next e.receiving) (window e.receiving) (
 unfoldable pub is_allowed : Tcb → Segment → Bool
 is_allowed e p = is_allowed_at_zero (next e.receiving) (window e.receiving) (first e p) && (e.sending.syn_acked || int_eq (ack_at e p) (pos 0))
 
--- first check: a segment that is neither acceptable nor allowed makes an ACK pending, unless it is a RST
+-- first check: a segment that is neither acceptable nor specially allowed requires an ACK, unless it is a RST
 unfoldable pub check_sequence : Tcb → Segment → Tcb
 check_sequence e p = if accepts e p || is_allowed e p then check_rst e p else with_ack_pending_if (not (has_rst p)) e
 

@@ -10,7 +10,7 @@ use Rattle.tcp_endpoint.specs.ReceiveHalf.{next, window, advertised_edge}
 use Rattle.tcp_endpoint.specs.SendHalf.{in_flight, is_unacknowledged, must_run, timed, sendable, sends_fin, resent_length, with_sent, with_fin_sent}
 use Rattle.tcp_endpoint.specs.Tcb.{Tcb}
 
--- the header of every segment except a RST in answer: it acknowledges all that is taken, and advertises the window
+-- the header of every segment except a RST sent in reply: it acknowledges all that is taken, and advertises the window
 unfoldable pub head_at : Tcb → (seq flags : ℕ) → Head
 head_at e seq flags = record {
   src = e.local.ip;
@@ -107,27 +107,27 @@ fin_out e = if new_fin e then fin_at e (in_flight e.sending) ∷ [] else []
 unfoldable pub with_fin_out : Tcb → Tcb
 with_fin_out e = record e { sending = if new_fin e then with_fin_sent e.sending else e.sending }
 
--- all segments that are sent, except one that is sent only because an ACK is pending
+-- all segments that are sent, except one that is sent only because an ACK is due
 unfoldable pub full_out : Tcb → List Segment
 full_out e = reset_reply_out e ++ retransmission_out e ++ probe_out e ++ text_out (with_probe e) ++ fin_out (with_text_sent (with_probe e))
 
 unfoldable pub after_full : Tcb → Tcb
 after_full e = with_fin_out (with_text_sent (with_probe e))
 
--- an ACK is pending: a check requires it, or RCV.NXT or the right edge has changed since it was last sent
+-- an ACK is due: a check requires it, or RCV.NXT or the right edge has changed since it was last sent
 unfoldable pub is_ack_pending : Tcb → Bool
 is_ack_pending e = has_begun e.name && (e.ack_pending || not (e.last_ack_sent == next e.receiving) || not (e.last_advertised_edge == advertised_edge e.receiving))
 
--- the segment without data, at SND.NXT
+-- the pure ACK, at SND.NXT
 unfoldable pub bare_segment : Tcb → Segment
 bare_segment e = segment_at e (in_flight e.sending) 16 []
 
--- the list, or only `bare` if the list is empty and an ACK is pending. It is a list of segments, or of packets
+-- the list, or only `bare` if the list is empty and an ACK is due. It is a list of segments, or of packets
 abbrev pub or_bare : {A : Type 0} → Bool → A → List A → List A
 or_bare ack_pending bare [] = if ack_pending then bare ∷ [] else []
 or_bare ack_pending bare (first ∷ others) = first ∷ others
 
--- the segments that are sent, in order: one without data only where no other is sent
+-- the segments that are sent, in order: a pure ACK only where no other is sent
 unfoldable pub leaving : Tcb → List Segment
 leaving e = or_bare (is_ack_pending (after_full e)) (bare_segment (after_full e)) (full_out e)
 

@@ -6,7 +6,7 @@ use Rattle.seq_arith.specs.Offset.{one_if}
 use Rattle.tcp_buffers.specs.Queue.{Queue}
 
 pub record Receiving : Type 0 where
-  pub irs : ℕ  -- IRS: the peer's initial number
+  pub irs : ℕ  -- IRS: the peer's initial sequence number
   pub read : ℕ  -- how many bytes the user has read
   pub unread : List ℕ  -- the bytes taken and not read
   pub fin : Bool  -- whether the peer's FIN is taken

@@ -14,11 +14,11 @@ use Rattle.tcp_endpoint.specs.declared.sender.AckUse.{AckUse}
 use Rattle.tcp_endpoint.specs.declared.sender.AckUse.TheVariants.{Ahead, Used, Third}
 
 pub record Sending : Type 0 where
-  pub iss : ℕ  -- ISS: the own initial number
+  pub iss : ℕ  -- ISS: our initial sequence number
   pub syn_acked : Bool  -- whether the SYN is acknowledged
   pub una : ℕ  -- SND.UNA: the first offset that isn't acknowledged
   pub sent : ℕ  -- SND.NXT: the next offset to be sent
-  pub edge : ℕ  -- SND.UNA + SND.WND: the peer's right edge, from which on nothing may be sent
+  pub edge : ℕ  -- SND.UNA + SND.WND: the peer's right edge. The peer has no room from there on
   pub wl1 : ℕ  -- SND.WL1: the sequence number of the segment that last set the edge
   pub wl2 : ℕ  -- SND.WL2: what that segment acknowledged, as an offset
   pub held : List ℕ  -- the bytes written and not acknowledged
@@ -62,7 +62,7 @@ abbrev pub moves_edge : Sending → ℕ → ℤ → Bool
 moves_edge s seq ack =
     int_le (pos s.una) ack && int_le ack (pos s.sent) && (precedes s.wl1 seq || (s.wl1 == seq && nat_le s.wl2 (nat_abs ack)))
 
--- what an acknowledgement does that isn't ahead of SND.NXT. Newly acknowledged bytes are dropped from the send queue. The timer then stops if nothing else is
+-- what an acknowledgement that isn't ahead of SND.NXT does. Newly acknowledged bytes are dropped from the send queue. The timer then stops if nothing else is
 -- in flight, and otherwise restarts (RFC 6298, 5.2 and 5.3). Where the window isn't used, the edge stays
 unfoldable pub acknowledged : Sending → ℕ → ℤ → ℕ → Sending
 acknowledged s seq ack window = record s {
@@ -138,7 +138,7 @@ must_run s = not s.syn_acked || nat_lt s.una (max s.sent (target s))
 abbrev pub timed : Bool → Sending → Sending
 timed runs s = if runs then (if s.rest == 0 then record s { interval = 1; rest = 1 } else s) else record s { interval = 1; rest = 0 }
 
--- nothing new is sent from this offset on: it is the right edge or the end of the congestion window, whichever comes first
+-- nothing new is sent from this offset on, except a probe: it is the right edge or the end of the congestion window, whichever comes first
 abbrev pub send_edge : Sending → ℕ
 send_edge s = min s.edge (s.una + s.congestion.cwnd)
 
@@ -183,7 +183,7 @@ sending_of iss syn_acked n held closed fin_sent = record {
   rest = n.left;
 }
 
--- the invariant of a sender's fields: no more is in flight than the held bytes and the FIN
+-- the invariant of a sender's fields: no more is in flight than the bytes written and not acknowledged, and the FIN
 pub record SenderInvariant (n : SendState) (held : List ℕ) (fin_sent : Bool) : Type 0 where
   pub flight : distance n.nxt.0 n.una.0 ≤ length held + one_if fin_sent
   pub queued : length held ≤ 65535

@@ -45,7 +45,7 @@ abbrev pub is_time_wait : StateName → Bool
 is_time_wait TimeWait = true
 is_time_wait name = false
 
--- SYN-RECEIVED and the synchronized states: both initial numbers are known
+-- SYN-RECEIVED and the synchronized states: both initial sequence numbers are known
 abbrev pub has_begun : StateName → Bool
 has_begun Closed = false
 has_begun Listen = false

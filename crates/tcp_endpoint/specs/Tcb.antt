@@ -8,19 +8,19 @@ use Rattle.tcp_endpoint.specs.ReceiveHalf.{Receiving, receiving_up_to}
 use Rattle.tcp_endpoint.specs.SendHalf.{Sending, sending_from}
 
 pub record Tcb : Type 0 where
-  pub local : Addr  -- the own address
+  pub local : Addr  -- our address
   pub remote : Addr  -- the peer's address, once it is known
   pub name : StateName  -- the state's name
   pub reset : Bool  -- whether the peer has reset the connection
   pub receiving : Receiving  -- the peer's stream: IRS, RCV.NXT, RCV.WND
-  pub sending : Sending  -- the own stream: ISS, SND.UNA, SND.NXT, SND.WND
+  pub sending : Sending  -- our stream: ISS, SND.UNA, SND.NXT, SND.WND
   pub wait : ℕ  -- the ticks that TIME-WAIT still lasts
   pub last_ack_sent : ℕ  -- the acknowledgement last sent, ..
   pub last_advertised_edge : ℕ  -- .. and the right edge last advertised
-  pub ack_pending : Bool  -- of this turn: an ACK is pending,
-  pub retransmission_due : Bool  -- the first unacknowledged segment is due: the SYN or SYN-ACK, or a retransmission,
+  pub ack_pending : Bool  -- of this turn: its input requires an ACK,
+  pub retransmission_due : Bool  -- the first unacknowledged segment is due: a first SYN or SYN-ACK, or a retransmission,
   pub probe : Bool  -- a zero-window probe is due,
-  pub reset_reply : Option Head  -- and the RST that answers a segment
+  pub reset_reply : Option Head  -- and the RST that is due in reply to a segment
 
 -- the largest right edge of an endpoint's receive window, as an offset: the smaller of the caller's limit and 2^30
 abbrev pub kept_limit : ℕ → ℕ

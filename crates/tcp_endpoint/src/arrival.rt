@@ -1,4 +1,5 @@
-//! A segment arrives: the checks of RFC 9293, 3.10.7, in their order, one function for each check.
+//! A segment arrives: the checks of RFC 9293, 3.10.7, in their order. Of those in 3.10.7.4, the third (security) and the sixth (URG) aren't made, and a
+//! repeated FIN restarts TIME-WAIT before the first.
 
 ghost use Rattle.std.specs.Prelude.{◌≡◌, ◌+◌, ◌/◌, ◌%◌, ◌^◌, ◌<◌, ◌≤◌, ◌==◌, ◌&&◌, not, nat_lt, Bool, true, false, length, if◌then◌else◌};
 ghost use Rattle.seq_arith.specs.Packet.{has_fin, has_syn, has_rst, has_ack};
@@ -45,7 +46,7 @@ fn has_ack(p: PacketRef<'_>) -> bool
     has(p.head.flags, ACK)
 }
 
-/// SEG.LEN: the text and the FIN, or only the SYN; 0 of a RST.
+/// SEG.LEN: the text and the FIN; 1 for a SYN, whose text and FIN aren't counted; 0 for a RST.
 fn length_of(p: PacketRef<'_>) -> u32
     requires { length p.payload.now ≤ 65535 }
     ensures count { result ≡ length_of (segment_of p.entry) }
@@ -82,10 +83,10 @@ fn shortened(p: PacketRef<'_>) -> PacketRef<'_>
 
 impl Endpoint {
     /// Receives a packet of the peer. Text past 65,535 bytes is ignored: it is more than IP carries. The contract says what the packet does to the endpoint
-    /// as long as our offsets are at most 2^30, so that numbers modulo 2^32 show their order.
+    /// as long as the offsets in our stream are at most 2^30, so that numbers modulo 2^32 show their order.
     pub fn on_packet(&mut self, p: PacketRef<'_>)
         ensures any { IsShort self.old.sending → self.new ≡ received self.old (within_ip (segment_of p.entry)) }
-        // All of an IP packet counts.
+        // A text of at most 65,535 bytes isn't cut.
         ensures whole { length p.entry.payload.now ≤ 65535 → IsShort self.old.sending → self.new ≡ received self.old (segment_of p.entry) }
     {
         self.receive(shortened(p));
@@ -199,7 +200,7 @@ impl Endpoint {
         self.ack_pending = true;
     }
 
-    /// SYN-SENT (RFC 9293, 3.10.7.3).
+    /// SYN-SENT (RFC 9293, 3.10.7.3), without simultaneous open: a SYN without ACK is ignored.
     #[tactic(auto, unfolding(crate::specs::Arrival::in_syn_sent))]
     fn in_syn_sent(&mut self, p: PacketRef<'_>)
         ensures { self.new ≡ in_syn_sent self.old (segment_of p.entry) }
@@ -238,14 +239,14 @@ impl Endpoint {
         self.name = name;
     }
 
-    /// Makes an ACK pending, if `is_ack_pending` says so.
+    /// Notes that this turn's input requires an ACK, if `is_ack_pending` is true.
     fn make_ack_pending(&mut self, is_ack_pending: bool)
         ensures { self.new ≡ with_ack_pending_if is_ack_pending self.old }
     {
         self.ack_pending = self.ack_pending || is_ack_pending;
     }
 
-    /// RFC 9293, 3.10.7.4, first check: a segment that is neither acceptable nor allowed makes an ACK pending, unless it is a RST.
+    /// RFC 9293, 3.10.7.4, first check: a segment that is neither acceptable nor specially allowed (`is_allowed`) requires an ACK, unless it is a RST.
     #[tactic(auto, unfolding(crate::specs::Arrival::accepts, crate::specs::Arrival::check_sequence, crate::specs::Arrival::in_others, crate::specs::Arrival::with_time_wait_restarted))]
     fn in_others(&mut self, p: PacketRef<'_>)
         requires { length p.payload.now ≤ 65535 }

@@ -36,13 +36,13 @@ pub struct Endpoint {
     pub(crate) last_ack_sent: u32,
     /// The right edge last advertised, as an offset in the peer's stream.
     pub(crate) last_advertised_edge: u32,
-    /// Whether an ACK is pending in this turn.
+    /// Whether this turn's input requires an ACK.
     pub(crate) ack_pending: bool,
-    /// Whether the first unacknowledged segment is due in this turn: the SYN or SYN-ACK, or a retransmission.
+    /// Whether the first unacknowledged segment is due in this turn: a first SYN or SYN-ACK, or a retransmission.
     pub(crate) retransmission_due: bool,
     /// Whether a probe is due in this turn.
     pub(crate) probe: bool,
-    /// The RST that is due in this turn, as the answer to a segment.
+    /// The RST that is due in this turn, in reply to a segment.
     pub(crate) reset_reply: Option<Head>,
 }
 

@@ -37,7 +37,7 @@ impl Endpoint {
         self.end_turn();
     }
 
-    /// The header of every segment except a RST in answer.
+    /// The header of every segment except a RST sent in reply.
     #[tactic(auto, unfolding(crate::specs::Output::head_at))]
     fn head(&self, seq: Seq, flags: u8) -> Head
         ensures head { said result ≡ head_at self.now seq.0 flags }
@@ -76,7 +76,7 @@ impl Endpoint {
         }
     }
 
-    /// Sends the RST in answer, where one is due.
+    /// Sends the RST in reply to a segment, where one is due.
     #[tactic(auto, using(seq_arith::proofs::Units::mss_option_short, crate::proofs::Spelled::packets_one, crate::proofs::Spelled::packets_none), unfolding(crate::specs::Output::reset_reply_out))]
     fn send_reset_reply(&self, out: &mut Outbox)
         requires { out.old ≡ [] }
@@ -200,7 +200,7 @@ impl Endpoint {
         self.sender.note_sent(n);
     }
 
-    /// Sends `left` bytes of text from `place` on, in segments of the segment size.
+    /// Sends `left` bytes of text, from `place` units after SND.UNA on, in segments of the segment size. The last may be shorter.
     fn send_texts(&self, mut place: u32, mut left: u32, out: &mut Outbox)
         requires text { 0 < left → place + left ≤ length self.now.sending.held }
         requires near { place ≤ 65536 }
@@ -237,7 +237,7 @@ impl Endpoint {
         }
     }
 
-    /// Whether an ACK is pending.
+    /// Whether an ACK is due in a connection that has begun: this turn's input requires one, or RCV.NXT or the right edge differs from the one last sent.
     #[tactic(auto, unfolding(crate::specs::Output::is_ack_pending))]
     fn is_ack_pending(&self) -> bool
         ensures { result ≡ is_ack_pending self.now }
@@ -248,14 +248,14 @@ impl Endpoint {
                 || self.last_advertised_edge != self.receiver.advertised_edge())
     }
 
-    /// Whether a segment without data is sent: an ACK is pending, and no other segment is sent.
+    /// Whether a pure ACK is sent: an ACK is due, and no other segment is sent.
     fn sends_bare(&self, out: &Outbox) -> bool
         ensures { result ≡ ((length out.now == 0) && is_ack_pending self.now) }
     {
         out.is_empty() && self.is_ack_pending()
     }
 
-    /// Sends a segment without data, if an ACK is pending and no other segment is sent.
+    /// Sends a pure ACK, if an ACK is due and no other segment is sent.
     #[tactic(auto, unfolding(crate::specs::Output::bare_segment))]
     fn send_pending_ack(&self, out: &mut Outbox)
         requires count { length out.old ≤ 1028 }

@@ -1,5 +1,5 @@
-//! The receiving half of a connection: the only place that compares the peer's numbers, modulo 2^32. Contracts speak of offsets in the peer's stream, whatever
-//! its initial number.
+//! The receiving half of a connection. It compares the peer's numbers, modulo 2^32; only SEG.SEQ and SND.WL1 are compared elsewhere, by `SendState`. Contracts
+//! speak of offsets in the peer's stream, whatever its initial sequence number.
 
 ghost use Rattle.std.specs.Prelude.{◌≡◌, ℕ, ◌+◌, ◌-◌, ◌^◌, ◌<◌, ◌≤◌, ◌==◌, ◌&&◌, ◌||◌, pos, negsuc, ◌+ℤ◌, int_lt, Bool, false, true, List, [], ◌++◌, length, min, take, drop, if◌then◌else◌};
 ghost use Rattle.std.specs.Bool.{OnTrue};
@@ -22,7 +22,7 @@ const MOST: u32 = 1 << 30;
 /// What is known of the peer's stream.
 #[derive(Drop)]
 pub(crate) struct Receiver {
-    /// IRS: the peer's initial number.
+    /// IRS: the peer's initial sequence number.
     irs: Seq,
     /// How many bytes of the peer's stream the user has read.
     read: u32,
@@ -69,7 +69,7 @@ impl Receiver {
         }
     }
 
-    /// Notes the peer's initial number.
+    /// Notes the peer's initial sequence number.
     pub(crate) fn begin(&mut self, irs: Seq)
         ensures { self.new ≡ record self.old { irs = irs.0 } }
     {
@@ -120,7 +120,7 @@ impl Receiver {
         (self.read + 65_535).min(self.limit)
     }
 
-    /// The edge that is advertised.
+    /// The right edge that is advertised, as an offset: RCV.NXT + RCV.WND.
     pub(crate) fn advertised_edge(&self) -> u32
         ensures { result ≡ advertised_edge self.now }
     {
@@ -251,7 +251,7 @@ impl Receiver {
         seq.add(len) == self.taken_number()
     }
 
-    /// Whether a text begins past the bytes taken.
+    /// Whether a text that begins at `seq` leaves a gap after the bytes taken.
     #[tactic(auto, using(crate::proofs::Places::is_later))]
     fn is_past(&self, seq: Seq) -> bool
         requires { IsNearFirst (offset_of self.now.irs seq.0) }
@@ -261,7 +261,7 @@ impl Receiver {
         self.taken_number().lt(seq)
     }
 
-    /// How far past the end of the bytes taken a text begins; 0 if it doesn't begin past it.
+    /// The length of the gap that a text leaves after the bytes taken; 0 if it leaves none.
     #[tactic(auto, using(crate::proofs::Places::not_past, crate::proofs::Places::past))]
     fn gap(&self, seq: Seq) -> u32
         requires { IsNearFirst (offset_of self.now.irs seq.0) }
@@ -302,7 +302,7 @@ impl Receiver {
         }
     }
 
-    /// Returns the new part of a text. The text begins `gap` bytes past the bytes taken, or not past them where `gap` is 0.
+    /// Returns the new part of a text. The text leaves a gap of `gap` bytes after the bytes taken, or none where `gap` is 0.
     #[tactic(auto, unfolding(seq_arith::specs::Coming::new_text))]
     fn new_part<'a>(&self, seq: Seq, gap: u32, text: &'a [u8]) -> &'a [u8]
         requires near { IsNearFirst (offset_of self.now.irs seq.0) }
@@ -326,7 +326,7 @@ impl Receiver {
         self.take_fin(seq, text.len() as u32, fin);
     }
 
-    /// Takes the new part of a text, with the held bytes that continue it, and the FIN where it is held at their end. A new part that begins past the bytes
+    /// Takes the new part of a text, with the held bytes that continue it, and a FIN that is held at their end. A new part that leaves a gap after the bytes
     /// taken is held instead.
     fn take_text(&mut self, seq: Seq, text: &[u8])
         requires { IsNearFirst (offset_of self.old.irs seq.0) }

@@ -1,5 +1,5 @@
-//! The sending half of a connection: the only place that compares numbers of our stream, modulo 2^32. Contracts speak of offsets in our stream, whatever its
-//! initial number.
+//! The sending half of a connection. It compares numbers of our stream, modulo 2^32, with the help of `SendState`. Contracts speak of offsets in our stream,
+//! whatever its initial sequence number.
 
 ghost use Rattle.std.specs.Prelude.{◌≡◌, ℕ, ◌+◌, ◌-◌, ◌%◌, ◌^◌, ◌<◌, ◌≤◌, ◌==◌, ◌&&◌, pos, int_le, Bool, false, true, not, List, [], ◌++◌, length, min, take};
 ghost use Rattle.std.specs.Prelude.{drop, if◌then◌else◌};
@@ -30,7 +30,7 @@ pub(crate) enum AckUse {
 /// What is known of our stream.
 #[derive(Drop)]
 pub(crate) struct Sender {
-    /// ISS: our initial number.
+    /// ISS: our initial sequence number.
     iss: Seq,
     /// Whether the SYN is acknowledged.
     syn_acked: bool,
@@ -38,7 +38,7 @@ pub(crate) struct Sender {
     numbers: SendState,
     /// The bytes written and not acknowledged, from SND.UNA on.
     held: SendQueue,
-    /// Whether the user has closed: a FIN follows the held bytes.
+    /// Whether the user has closed: a FIN follows the bytes written.
     closed: bool,
     /// Whether the FIN is sent.
     fin_sent: bool,
@@ -276,7 +276,7 @@ impl Sender {
         self.numbers.mss
     }
 
-    /// How many units past SND.UNA something new may be sent.
+    /// How many units from SND.UNA on the peer's window and the congestion window allow.
     fn send_room(&self) -> u32
         ensures { result ≡ send_edge self.now - self.now.una }
     {
@@ -325,7 +325,7 @@ impl Sender {
         self.held.room()
     }
 
-    /// Returns `n` held bytes, from `place` bytes after SND.UNA on, in two pieces.
+    /// Returns `n` of the bytes written and not acknowledged, from `place` bytes after SND.UNA on, in two pieces.
     pub(crate) fn text(&self, place: u32, n: u32) -> (&[u8], &[u8])
         requires { place + n ≤ length self.now.held }
         ensures { result.0.now ++ result.1.now ≡ take n (drop place self.now.held) }

@@ -100,7 +100,7 @@ impl StateName {
         matches!(self, StateName::TimeWait)
     }
 
-    /// Whether both initial numbers are known: in SYN-RECEIVED and the synchronized states.
+    /// Whether both initial sequence numbers are known: in SYN-RECEIVED and the synchronized states.
     pub(crate) fn has_begun(self) -> bool
         ensures { result ≡ has_begun self }
     {

@@ -2,7 +2,7 @@
 use Rattle.std.specs.Prelude.{ℕ, ◌+◌, ◌*◌, ◌%◌, ◌^◌, List}
 use Rattle.std.specs.List.{fold}
 
--- the hash of what a hash is the hash of, and one byte after it
+-- the hash of bytes and of one more byte after them, where `hash` is that of the bytes
 abbrev pub with_byte : ℕ → ℕ → ℕ
 with_byte hash byte = (hash * 31 + byte) % 2 ^ 32
 

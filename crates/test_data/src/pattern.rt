@@ -85,7 +85,7 @@ impl Pattern {
     }
 }
 
-/// The bytes of `Pattern::Numbers` twice and more, so that each short part is a slice of them.
+/// The first bytes of `Pattern::Numbers`: a period and 1,460 more, so that each part of at most 1,460 bytes is a slice of them.
 #[derive(Drop)]
 pub struct PatternTable {
     bytes: [u8; 1_711],

@@ -60,7 +60,7 @@ fn read(alloc: Global, escaped: &str, out: &mut Vec<u8>) -> Result<(), NoMemory>
     }
 }
 
-/// Says a schedule's head and its events.
+/// Says a schedule's header and its events.
 fn say_schedule(alloc: Global, schedule: &Schedule, out: &mut Vec<u8>) -> Result<(), NoMemory> {
     write_header(alloc, schedule, out)?;
     for event in schedule.events.as_slice() {
@@ -101,7 +101,7 @@ fn read_many(alloc: Global, rest: &str, out: &mut Vec<u8>) -> Result<(), NoMemor
     }
 }
 
-/// A head, and after it a line so often.
+/// A header, and after it this many copies of a line.
 fn many(alloc: Global, count: u32, line: &[u8]) -> Result<Vec<u8>, NoMemory> {
     let mut text = Vec::from_slice(alloc, HEAD)?;
     for _ in 0..count {

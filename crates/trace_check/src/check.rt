@@ -28,7 +28,7 @@ use std::alloc::Global;
 pub struct Yes {
     /// The trace's events.
     pub events: u32,
-    /// The packets that it sent.
+    /// The packets sent in it.
     pub packets: u32,
 }
 
@@ -101,7 +101,7 @@ fn check_after<S: Service>(alloc: Global, header: &Header, text: &[u8]) -> Resul
     check_turns(alloc, &header.schedule, text, start, &mut world)
 }
 
-/// Checks a text. Returns the counts if it is the report of a legal trace. Otherwise the error is the line at which it is rejected, and the law.
+/// Checks a text. Returns the counts if it is the report of a legal trace. Otherwise returns the rejected line and the law that it breaks, or `NoMemory`.
 pub fn check_trace<S: Service>(alloc: Global, text: &[u8]) -> Result<Yes, CheckEnd>
     requires { length text.now ≤ 268435456 }
     ensures legal { IfOk result (λ yes. (r : IsReport (machines S.started S.after) text.now) × (yes.events ≡ length r.trace) × (yes.packets ≡ packet_count r.trace)) }

@@ -118,7 +118,7 @@ fn read_line<S: Service>(
     }
 }
 
-/// Reads the lines up to the server's.
+/// Reads the header up to the server's line.
 #[tactic(auto, using(crate::proofs::HeaderLines::no_server_is_rejected))]
 fn read_server<S: Service>(alloc: Global, text: &[u8]) -> Result<Header, CheckEnd>
     requires { length text.now < 2 ^ 32 }
@@ -157,8 +157,8 @@ fn next_line_end(header: &Header, text: &[u8]) -> Option<usize>
     }
 }
 
-/// Reads a report's header. The line after it is no line of a header, but an event's or the first of the closing lines. The text is rejected at the first
-/// line that may not follow those before it.
+/// Reads a report's header. The line after it, if there is one, doesn't belong to the header. The text is rejected at the first line that may not follow
+/// those before it.
 #[tactic(auto, using(crate::proofs::HeaderLines::header_leads, crate::proofs::HeaderLines::header_size))]
 pub fn read_header<S: Service>(alloc: Global, text: &[u8]) -> Result<Header, CheckEnd>
     requires { length text.now < 2 ^ 32 }

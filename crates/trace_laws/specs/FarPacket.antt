@@ -1,4 +1,4 @@
--- A packet that no client sends: a bare acknowledgement with a number 2^31 past the stream's start, in flight to a live connection.
+-- A packet that no client sends: a pure ACK with a sequence number 2^31 past the stream's start, in flight to a live connection.
 use Rattle.std.specs.Prelude.{[], ◌∷◌}
 use Rattle.seq_arith.specs.Packet.{Segment}
 use Rattle.ft_model.specs.Network.Packet.{To_server}

@@ -30,7 +30,7 @@ ghost use Rattle.trace_laws.specs.Premises.{IsSoundFront, HasSoundFronts, is_ref
 
 use server_trait::Service;
 
-/// Every entry of the log is sound: the run over its reads has at most 2^24 bytes of output, and a FIN is below 2^24.
+/// Every entry of the log is sound: the run over its reads has at most 2^24 bytes of output, and a FIN comes after fewer than 2^24 bytes.
 pub fn logged_entries_are_sound<S: Service>()
     ensures { (kind : ℕ) (start : World) (trace : List Moment) → Joint (machine (S.started kind) S.after) start trace
         → AllByRecursion (IsSoundEntry (machine (S.started kind) S.after)) (world_after start trace).log.entries }
@@ -94,7 +94,7 @@ pub fn answered_output_is_a_front<S: Service>()
         → IsPrefix (answered_run (machine (S.started kind) S.after) p).output (whole_run (machine (S.started kind) S.after) p).output }
 {}
 
-/// A live turn sends all that may be sent, up to the client's right edge and the end of the congestion window.
+/// A turn of a connection that its client hasn't reset sends all output that may be sent, up to the client's right edge and the end of the congestion window.
 pub fn turns_send_what_may_leave<S: Service>()
     ensures { (kind boot : ℕ) (server : Addr) (news : News) (before after : Point) (sent : List Packet)
         → LiveTurn (machine (S.started kind) S.after) server boot news before after sent

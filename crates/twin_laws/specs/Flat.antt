@@ -43,7 +43,7 @@ number_at numbers place = option_map_or (λ n. n) (slice_get numbers place) 0
 abbrev pub new_number : Flat → ℕ → ℕ
 new_number f n = number_at f.numbers (n - 1)
 
--- a turn is kept, as this event
+-- a turn stays in the flat trace, as this event
 abbrev pub kept_as : Event → TwinMoment → Flat → Flat
 kept_as event moment f = record f {
   trace = record { event = event; sent = outside moment.sent; world = seen moment.world (f.packets ++ outside moment.sent) } ∷ f.trace;
@@ -69,7 +69,7 @@ both [] bs = []
 both (a ∷ as_) [] = []
 both (a ∷ as_) (b ∷ bs) = (a, b) ∷ both as_ bs
 
--- a turn of a logger that serves alone is kept. That of a paired logger becomes `paired`
+-- a turn of a logger that serves alone stays. That of a paired logger becomes `paired`
 abbrev pub kept_alone : TwinWorld → Event → TwinMoment → Flat → Flat → Flat
 kept_alone w event moment paired f =
     if w.pair.head_stopped then kept_as event moment f else (if w.pair.tail_stopped then kept_as event moment f else paired)
@@ -94,7 +94,7 @@ delivered_flat w n (Some (Outside packet)) moment f = kept_as (Deliver (new_numb
 delivered_flat w n (Some (Inside (Forward number request))) moment f = forwarded_flat w number moment f
 delivered_flat w n (Some (Inside (Got number))) moment f = left_out moment f
 
--- a flip of a packet is kept, unless the packet is for a paired logger. A flip of a datagram between the loggers is left out
+-- a flip of a packet stays, unless the packet is for a paired logger. A flip of a datagram between the loggers is left out
 abbrev pub flipped_flat : TwinWorld → ℕ → ℕ → Option Parcel → TwinMoment → Flat → Flat
 flipped_flat w n bit None moment f = f
 flipped_flat w n bit (Some (Outside (To_logger message))) moment f = kept_alone w (Flip (new_number f n) bit) moment (left_out moment f) f
@@ -113,7 +113,7 @@ flat_step w moment (Usual (Flip n bit)) f = flipped_flat w n bit (parcel_at w.pa
 flat_step w moment (Usual event) f = kept_as event moment f
 flat_step w moment (Stop part) f = stopped_flat w part moment f
 
--- the complete trace
+-- the complete trace, made flat
 abbrev pub flat : TwinWorld → List TwinMoment → Flat
 flat start [] = flat_start
 flat start (moment ∷ earlier) = flat_step (twin_after start earlier) moment moment.event (flat start earlier)

@@ -20,7 +20,7 @@ pub record Kept : Type 0 where
   pub alone : Bool
   pub log : Log
   pub number : ℕ  -- a head: how many requests it took; a tail: how many it applied
-  pub waiting : List (List ℕ)  -- a head's unconfirmed requests, in order; none of a tail
+  pub waiting : List (List ℕ)  -- a head's unconfirmed requests, in order; none for a tail
 
 abbrev pub new_kept : Part → Kept
 new_kept part = record { part = part; alone = false; log = empty_log; number = 0; waiting = [] }

@@ -35,7 +35,7 @@ first_sent = Outside (To_logger hello) ∷ []
 abbrev pub booted_world : TwinWorld
 booted_world = record at_first { boot = 1; node = Some (booted server 1 5000); parcels = first_sent }
 
--- the head takes its message and forwards it
+-- the head takes the Hello and forwards it
 abbrev pub second_sent : List Parcel
 second_sent = Inside (Forward 1 (request_of hello)) ∷ []
 
@@ -62,6 +62,6 @@ worked =
 abbrev pub events_in : List Moment → List Event
 events_in trace = map (λ m. m.event) trace
 
--- flat, it is the boot and one delivery
+-- made flat, the trace is the boot and one delivery
 abbrev pub flat_events : List Event
 flat_events = Deliver 1 ∷ Boot 1 5000 ∷ []

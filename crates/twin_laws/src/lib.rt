@@ -85,7 +85,8 @@ pub fn flipped_datagrams_are_noise()
         → from_other_logger (reading (flipped bit bytes)) ≡ Is_noise }
 {}
 
-/// The stored state of a head or a tail does, given any bytes from either side, what the definition does.
+/// From its stored state, a head or a tail does with any bytes from either side what its definition does. The premise: a head counts no more requests as
+/// confirmed than it took.
 pub fn kept_loggers_do_as_defined()
     ensures head { (side : Side) (bytes : List ℕ) (head : Head) → head.confirmed ≤ length head.taken
         → kept_does side bytes (kept_head head) ≡ in_bytes kept_head (head_does (comes_from side bytes) head) }

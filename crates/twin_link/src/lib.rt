@@ -1,5 +1,5 @@
-//! `node_in_pair` is the entry point of `ftnode`. By the words of a logger with `--part` and `--other` it is one of two loggers that act as one. By those of
-//! `alone` it informs one of them that the other has stopped. All other words are those of `node_with`.
+//! `run_ftnode` is the program `ftnode`, and `node_in_pair` is what it does by its words. By those of a logger with `--part` and `--other` it is one of two
+//! loggers that act as one. By those of `alone` it informs one of them that the other has stopped. All other words are those of `node_with`.
 #![tactic(auto)]
 
 pub use program::run_ftnode;

@@ -48,7 +48,7 @@ fn serve_alone(log: &mut TwinLog)
     }
 }
 
-/// Which side sends from this address.
+/// Returns the side that sends from this address.
 fn side_of(other: Addr, from: Addr) -> Side
     ensures { result ≡ side_of_lem other from }
 {

@@ -44,7 +44,7 @@ pub enum TwinRole {
     Alone(AloneRole),
 }
 
-/// The part of this name.
+/// Returns the part with this name.
 fn read_part(name: &str) -> Option<Part>
     ensures { result ≡ part_named name.now }
 {
@@ -103,7 +103,7 @@ fn read_alone(alloc: Global, words: &[String]) -> Result<Option<TwinRole>, NoMem
     }
 }
 
-/// Reads such a role from the words. Returns `None` where they ask for no such role.
+/// Reads a role that this crate adds. Returns `None` where the words ask for no such role.
 #[tactic(auto, unfolding(crate::specs::Words::twin_of))]
 pub fn read_twin_role(alloc: Global, words: &[String]) -> Result<Option<TwinRole>, NoMemory>
     ensures role { IfOk result (λ role. role ≡ twin_of (map string_bytes words.now)) }

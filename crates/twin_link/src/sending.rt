@@ -9,7 +9,7 @@ use ft_io::{Addr, Link};
 use node_link::Counts;
 use twin_log::{Side, TwinOut};
 
-/// The address of a side. `None` for the server while its address isn't known.
+/// Returns the address of a side, or `None` for the server while its address isn't known.
 fn address_for(server: Option<Addr>, other: Addr, side: Side) -> Option<Addr>
     ensures { result ≡ address_for_lem server other side }
 {

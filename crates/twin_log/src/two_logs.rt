@@ -29,7 +29,7 @@ pub struct TwinLog {
     log: LogStore,
     /// A head: how many messages it took. A tail: how many it applied.
     number: u64,
-    /// Of a head: the last of these, which the tail hasn't confirmed. Of a tail: none.
+    /// Of a head: the messages that it took and that the tail hasn't confirmed, in order. Of a tail: none.
     waiting: Waiting,
     /// Room for the log's answer in a turn.
     answer: MsgOut,
@@ -264,7 +264,7 @@ impl TwinLog {
         self.waiting.len() < WAITING && self.number < u64::MAX
     }
 
-    /// Adds a message to those that a head took. The answer of the head's log is dropped.
+    /// Adds a message to those that a head took. The answer of the head's log isn't sent.
     #[tactic(auto, unfolding(seq_arith::specs::TwinGrammar::is_asking))]
     fn add(&mut self, alloc: Global, msg: &Msg<'_>, bytes: &[u8]) -> Result<(), NoMemory>
         requires sendable { IsSendable msg.now }
@@ -300,8 +300,8 @@ impl TwinLog {
         }
     }
 
-    /// Takes a forwarded message as the tail of a pair. The next one is applied. For an earlier one all that is applied is confirmed again, and one after a
-    /// gap is ignored.
+    /// Takes a forwarded message as the tail of a pair. It applies the one with the next number. For an earlier one it confirms again all that it has applied,
+    /// and it ignores one after a gap.
     fn apply(
         &mut self,
         alloc: Global,

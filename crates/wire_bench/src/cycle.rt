@@ -42,7 +42,7 @@ pub(crate) fn push_cycles(alloc: Global, cycles: u32, sent: &mut Vec<Sent>) -> R
     Ok(())
 }
 
-/// The packets of a cycle: the byte, a bare segment, Data, Read, Stable, an acknowledgement, Reads, the echo, the client's acknowledgement of it, and
+/// The packets of a cycle: the byte, a duplicate ACK, Data, Read, Stable, an acknowledgement, Reads, the echo, the client's acknowledgement of it, and
 /// Data and Stable for that.
 fn push_cycle(alloc: Global, i: u32, sent: &mut Vec<Sent>) -> Result<(), NoMemory>
     requires { i < 100000 }

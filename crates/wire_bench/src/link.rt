@@ -23,7 +23,7 @@ pub(crate) fn came<R: Net + Clock>(rt: &R, words: &[&str]) -> Result<u64> {
     exchange(&mut UdpLink::new(rt), &text[..bytes], rounds)
 }
 
-/// Binds the link to a port of this machine, and answers its address: `None` where all that were tried are taken.
+/// Binds the link to a port of this machine, and returns its address: `None` where all that were tried are taken.
 fn bind_somewhere<L: Link>(link: &mut L) -> Option<Addr> {
     for port in PORT..PORT + PORTS {
         let here = Addr {
@@ -37,8 +37,8 @@ fn bind_somewhere<L: Link>(link: &mut L) -> Option<Addr> {
     None
 }
 
-/// Binds the link, then sends to it and receives so many times, and returns how many bytes came back. Where 20 milliseconds are over the receive gives
-/// nothing, and the datagram is asked for once more.
+/// Binds the link, then sends to it and receives so many times, and returns how many bytes came back. If none comes for 20 milliseconds, the receive
+/// gives nothing, and is made once more.
 fn exchange<L: Link>(link: &mut L, text: &[u8], rounds: u32) -> Result<u64> {
     let Some(here) = bind_somewhere(link) else {
         bail!("no port is free");

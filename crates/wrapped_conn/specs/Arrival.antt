@@ -18,7 +18,7 @@ before_segment c segment = record {
   needs_ack = needs_ack c segment;
 }
 
--- what is known before a turn without a segment. `asks` says whether the connection has an ACK pending
+-- what is known before a turn without a segment. `asks` says whether an ACK is pending for a reason that TCP doesn't know
 abbrev pub before_other : {S : Type 0} → Bool → ConnState S → Before
 before_other asks c = record { taken = bytes_taken c; fin = has_fin c.endpoint.name; una = una_units c; edge = advertised c; asks = asks; needs_ack = Bool.false }
 

@@ -75,7 +75,7 @@ pub record IsTellable (read : ReadRecord) : Type 0 where
 abbrev pub AreTellable : List ReadRecord → Type 0
 AreTellable reads = AllByRecursion IsTellable reads
 
--- Done is sent until Ended arrives
+-- Done is sent, unless Ended has arrived
 abbrev pub is_done : ConnStage → Bool
 is_done Done = true
 is_done stage = false

@@ -39,14 +39,14 @@ own_segment c seq flags mss = record {
   payload = [];
 }
 
--- the SYN-ACK with the logged numbers, and a segment without data, which comes after all that is sent
+-- the SYN-ACK with the logged numbers, and a pure ACK, whose sequence number is the one after all that is sent
 unfoldable pub syn_ack : {S : Type 0} → ConnState S → Segment
 syn_ack c = own_segment c c.south.sisn 18 (Some 1460)
 
 unfoldable pub bare : {S : Type 0} → ConnState S → Segment
 bare c = own_segment c (outer_sent c) 16 None
 
--- an ACK is pending that TCP doesn't send: TCP can't know that more is logged, or that the connection was over or just became live; and a TCP that is CLOSED
+-- an ACK is pending that TCP doesn't send: TCP can't know that more is answered, or that the connection was over or just became live; and a TCP that is CLOSED
 -- sends none
 abbrev pub is_ack_pending : {S : Type 0} → Before → ConnState S → Bool
 is_ack_pending before c = before.asks || (is_closed c.endpoint.name && (before.needs_ack || not (before.edge == advertised c)))

@@ -50,7 +50,7 @@ pub record Tells {S : Type 0} (p : Point) (c : ConnState S) : Type 0 where
   pub read : c.north.read ≡ bytes_read p
   pub reads : c.north.count ≡ length p.lengths
 
--- once its client has reset it, TCP stays as it is, and plays no part any more
+-- once the client has reset the connection, its TCP stays as it is, and plays no part any more
 pub record StandsReset {S : Type 0} (service : Machine S) (p : Point) (c : ConnState S) : Type 0 where
   pub given : ℕ
   pub north : NorthStands service p given c.north

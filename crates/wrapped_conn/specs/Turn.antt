@@ -92,7 +92,7 @@ IsTold after other old new segments messages = Rests old new segments messages
 abbrev pub ticked : {S : Type 0} → ConnState S → ConnState S
 ticked c = turn_ended (record c { endpoint = after_tick c.endpoint })
 
--- .. and is an end tick if both FINs are done and all that is taken is known to be logged
+-- .. and is an end tick if the connection is over and all that is taken is known to be logged
 abbrev pub is_end_tick : {S : Type 0} → ConnState S → Bool
 is_end_tick c = is_over c.endpoint.name && nat_le (units_taken c) (logged_units c)
 

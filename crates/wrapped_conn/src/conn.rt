@@ -146,7 +146,7 @@ impl<S: Service> Conn<S> {
         &self.north
     }
 
-    /// Its service, in its state after all reads: that of the uncrashed server after them.
+    /// Returns its service. The service's state is that of an uncrashed server after the same reads.
     pub fn service(&self) -> &S
         ensures value { result.now ≡ self.now.north.run.service }
         ensures law { (fresh : S) (p : Point) → Stands (machine fresh S.after) self.now p → result.now ≡ (whole_run (machine fresh S.after) p).state }
@@ -200,7 +200,7 @@ pub(crate) fn has_fin(name: StateName) -> bool
     )
 }
 
-/// Whether both FINs are done (the client's is taken, the server's acknowledged), in a TCP that its client hasn't reset.
+/// Whether the connection is over (the client's FIN is taken, the server's acknowledged), in a TCP that its client hasn't reset.
 pub(crate) fn is_over(name: StateName) -> bool
     ensures { result ≡ is_over_lem name }
 {

@@ -21,8 +21,8 @@ use tcp_endpoint::Outbox;
 const DATA: u32 = 1_460;
 
 impl<S: Service> Conn<S> {
-    /// Sends the copied part of a segment, and after it the text and the FIN that were held and are taken now. If there is none, it reports to the logger that
-    /// the client has acknowledged more, if that is so.
+    /// Sends the copied part of a segment, and after it the text and the FIN that were held and are taken now. If there is nothing to send, reports to the
+    /// logger that the client has acknowledged more, if it has.
     pub(crate) fn tell_copy(&self, packet: &[u8], before: Before, out: &mut Outbox)
         requires sound { IsSound self.now }
         requires accepted { IsOk (reading packet.now) }
@@ -95,7 +95,7 @@ impl<S: Service> Conn<S> {
         }
     }
 
-    /// Sends the `count` unread bytes from place `from` on, leaving at most 1,460, in Data of 1,460 bytes. Returns how many bytes it has sent.
+    /// Sends the `count` unread bytes from place `from` on, except the last 1,460 at most, in Data of 1,460 bytes each. Returns how many bytes it has sent.
     fn tell_full(&self, start: u32, from: u32, count: u32, out: &mut Outbox) -> u32
         requires sound { IsSound self.now }
         requires start { start ≤ fetched_or_read self.now + from }

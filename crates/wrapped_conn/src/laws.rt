@@ -84,7 +84,7 @@ pub fn connections_tick_as_the_law_says<S: Service>()
         → TicksOn old new segments messages → Leads (machine fresh S.after) old.local old.boot Ticks p new segments messages }
 {}
 
-/// Between two turns what `inside` returns are the point's numbers, also for a connection that its client has reset.
+/// Between two turns the numbers that `inside` returns are the point's, also for a connection that its client has reset.
 pub fn connections_tell_their_point<S: Service>()
     ensures { (fresh : S) (p : Point) (c : ConnState S) → IsSound c → Stands (machine fresh S.after) c p → Tells p c }
 {}

@@ -18,7 +18,7 @@ use server_trait::Service;
 use south_wrap::South;
 use tcp_endpoint::Outbox;
 
-/// The length of a packet without data, and of one with the segment size.
+/// The length of a packet that is only a header, and of one whose header has the segment size.
 const BARE: usize = 40;
 
 const WITH_MSS: usize = 44;
@@ -79,7 +79,7 @@ impl<S: Service> Conn<S> {
         out.push(&packet);
     }
 
-    /// Sends a segment without data, if an ACK is pending and no other segment is sent.
+    /// Sends a pure ACK, if an ACK is pending and no other segment is sent.
     #[tactic(auto, unfolding(crate::specs::Output::bare))]
     pub(crate) fn send_bare(&self, ack_pending: bool, out: &mut Outbox)
         ensures { out.new ≡ or_bare ack_pending (spelling (bare self.now)) out.old }
@@ -92,8 +92,8 @@ impl<S: Service> Conn<S> {
         out.push(&packet);
     }
 
-    /// Whether an ACK is pending that TCP doesn't send: TCP can't know that more is logged, or that the connection was over or just became live; and a TCP that
-    /// is CLOSED sends none.
+    /// Whether an ACK is pending that TCP doesn't send: TCP can't know that more is answered, or that the connection was over or just became live; and a TCP
+    /// that is CLOSED sends none.
     pub(crate) fn is_ack_pending(&self, before: Before) -> bool
         requires { IsSound self.now }
         ensures { result ≡ is_ack_pending before self.now }

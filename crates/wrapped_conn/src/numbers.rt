@@ -40,7 +40,7 @@ impl<S: Service> Conn<S> {
         has_fin(self.endpoint.state().name)
     }
 
-    /// Whether both FINs are done: the client's is taken, and the server's is acknowledged.
+    /// Whether the connection is over: the client's FIN is taken, and the server's is acknowledged.
     pub(crate) fn is_over(&self) -> bool
         ensures { result ≡ is_over_lem self.now.endpoint.name }
     {
@@ -212,7 +212,7 @@ fn is_acceptable(next: u32, room: u32, first: i64, len: u32) -> bool
     lies_in(next, room, first) || (0 < len && lies_in(next, room, first + i64::from(len - 1)))
 }
 
-/// Whether a segment is empty and at an open window's right edge.
+/// Whether a segment's SEG.LEN is 0 and it is at the right edge of an open window.
 #[tactic(auto, unfolding(seq_arith::specs::Arrival::is_at_right_edge))]
 fn is_at_right_edge(next: u32, room: u32, first: i64, len: u32) -> bool
     ensures { result ≡ is_at_right_edge next room first len }

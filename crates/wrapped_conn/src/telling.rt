@@ -73,7 +73,7 @@ impl<S: Service> Conn<S> {
         tell_reads(self.boot, self.key, reads, out);
     }
 
-    /// Reports that the connection has ended, until Ended arrives.
+    /// Reports that the connection has ended, unless Ended has arrived.
     pub(crate) fn tell_done(&mut self, out: &mut Outbox)
         requires boot { 1 ≤ self.old.boot }
         requires few { length out.old ≤ 79 }
@@ -109,7 +109,7 @@ fn tell(boot: u64, body: Body<'_>, room: &mut [u8], out: &mut Outbox)
     out.push(&room[..len]);
 }
 
-/// Sends a Read for each of these reads, by index.
+/// Sends a Read for each of these reads, in order.
 fn tell_reads(boot: u64, key: Key, reads: &ReadRecords, out: &mut Outbox)
     requires boot { 1 ≤ boot }
     requires tellable { AreTellable reads.now }

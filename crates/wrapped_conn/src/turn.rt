@@ -33,8 +33,8 @@ use std::alloc::Global;
 use tcp_endpoint::Outbox;
 
 impl<S: Service> Conn<S> {
-    /// The turn in which the connection becomes live. A new one sends its SYN-ACK. One at the end of a restart sends the acknowledgement with the true window,
-    /// and makes the reads that are due.
+    /// The turn in which the connection becomes live. A new one sends its SYN-ACK. One at the end of a restart sends at least an ACK, which advertises its
+    /// window (the answers during the restart had window 0), and makes the reads that are due.
     pub fn start(&mut self, alloc: Global, out: &mut TurnOut) -> Result<(), NoMemory>
         requires sound { IsSound self.old }
         requires no_segment { out.old.segments ≡ [] }
@@ -110,7 +110,7 @@ impl<S: Service> Conn<S> {
         }
     }
 
-    /// What a turn without a segment has to know. `asks` says whether the connection has an ACK pending.
+    /// What a turn without a segment has to know. `asks` says whether an ACK is pending for a reason that TCP doesn't know.
     fn before(&self, asks: bool) -> Before
         requires sound { IsSound self.now }
         ensures { result ≡ before_other asks self.now }
@@ -125,7 +125,7 @@ impl<S: Service> Conn<S> {
         }
     }
 
-    /// Passes a segment to TCP, and sends the logger what is newly received and not known to be logged. Returns whether the segment repeats the client's SYN.
+    /// Passes a segment to TCP, and sends the logger the Data of `tell_copy`. Returns whether the segment repeats the client's SYN.
     fn arrive(&mut self, packet: &mut [u8], before: Before, messages: &mut Outbox) -> bool
         requires sound { IsSound self.old }
         requires accepted { IsOk (reading packet.old) }
@@ -330,7 +330,7 @@ impl<S: Service> Conn<S> {
         self.count_end_tick();
     }
 
-    /// Counts an end tick, up to four, if both FINs are done and all that is taken is known to be logged.
+    /// Counts an end tick, up to four, if the connection is over and all that is taken is known to be logged.
     fn count_end_tick(&mut self)
         requires sound { IsSound self.old }
         ensures state { self.new ≡ counted self.old }

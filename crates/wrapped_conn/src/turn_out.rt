@@ -6,8 +6,8 @@ use ft_io::NoMemory;
 use std::alloc::Global;
 use tcp_endpoint::Outbox;
 
-/// The segments and the messages that a connection sends in one turn, each list in order, in buffers that are allocated once. A turn has at most 79 messages,
-/// and there is room for 80: one about a mark may be sent before Done.
+/// The segments and the messages that a connection sends in one turn, each list in order, in buffers that are allocated once. A turn has at most 79
+/// messages.
 #[derive(Drop)]
 pub struct TurnOut {
     /// To the client, in order.

@@ -67,7 +67,7 @@ pub(crate) fn logged<'a>(bytes: &'a [u8], fin: u8, reads: &'a [u16], acked: u32)
     }
 }
 
-/// 64 entries of one byte each; of every second one the connection has ended.
+/// 64 entries of one byte each, of which every second one is done.
 fn many_entries(alloc: Global) -> Result<Vec<Logged<'static>>, NoMemory> {
     let mut entries = Vec::new(alloc);
     for i in 0..64u16 {
@@ -84,7 +84,7 @@ fn many_entries(alloc: Global) -> Result<Vec<Logged<'static>>, NoMemory> {
     Ok(entries)
 }
 
-/// Restores what a log of these entries holds, and says how many connections that is.
+/// Restores the connections of a log with these entries, and returns how many they are.
 fn restored(alloc: Global, entries: &[Logged<'_>], passed: &mut String) -> Result<u32, NoMemory> {
     let mut fetching = begin(alloc, ECHO, 64, false)?;
     fetch(alloc, &mut fetching, entries, passed)?;

@@ -93,7 +93,7 @@ fn entry_of<'a, 'b>(entries: &'a [Logged<'b>], key: Key) -> Option<&'a Logged<'b
     entries.iter().find(|entry| entry.key == key)
 }
 
-/// The entry's head. Initial numbers are those of the worked runs.
+/// The entry's head. The initial sequence numbers are those of the worked runs.
 pub(crate) fn head_of(
     alloc: Global,
     boot: u8,

@@ -12,7 +12,7 @@ const LINE: u8 = 2;
 
 const TRANSFER: u8 = 3;
 
-/// A request of 300 bytes and one of 5, which the first read cuts in two: its mark has 300 modulo 251, and the two bytes that are held.
+/// A request of 300 bytes and one of 5, which the first read cuts in two. Its mark has 300 modulo 251 and the second request's first two bytes.
 const REQUESTS: &[u8] = &[0, 0, 1, 44, 0, 0, 0, 5];
 
 const CUT_IN_TWO: Marked<'static> = Marked {

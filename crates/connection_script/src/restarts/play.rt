@@ -10,7 +10,7 @@ use seq_arith::Seq;
 use std::alloc::Global;
 use tcp_endpoint::StateName;
 
-/// The boot number of the server that restarts, and its initial number.
+/// The boot number of the server that restarts, and its initial sequence number.
 pub(crate) const BOOT: u8 = 2;
 
 const ISN: Seq = Seq(900_000);
@@ -122,7 +122,7 @@ fn join(alloc: Global, replayed: Replayed<AnyService>, out: &mut String) -> Resu
     }
 }
 
-/// Joins each connection that is replayed, and says how many that is.
+/// Joins each connection that is replayed, and returns how many they are.
 fn join_all(
     alloc: Global,
     entries: &mut Entries<AnyService>,
@@ -139,7 +139,7 @@ fn join_all(
     Ok(count)
 }
 
-/// Restores what is fetched, and says how many connections that is.
+/// Restores what is fetched, and returns how many connections that is.
 pub(crate) fn restore(
     alloc: Global,
     fetching: Fetching<AnyService>,

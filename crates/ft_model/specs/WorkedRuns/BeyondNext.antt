@@ -1,4 +1,4 @@
--- A FIN is lost, and the acknowledgement that the client sends after it arrives. It begins past the next number, takes up no number, and gets no answer:
+-- A FIN is lost, and the ACK that the client sends next arrives. It begins past the next number, takes up no number, and gets no answer:
 -- otherwise two ends that each miss a segment would answer each other forever.
 use Rattle.std.specs.Prelude.{pos, true, None, List, [], ◌∷◌}
 use Rattle.seq_arith.specs.Packet.{Segment}
@@ -36,6 +36,6 @@ turn_4 = on_segment bare [] (serving_at 1 5000 opened)
 abbrev pub turns : List Turn
 turns = turn_4 ∷ turn_3 ∷ turn_2 ∷ turn_1 ∷ []
 
--- a wrong turn: it is answered
+-- a wrong turn: the ACK is answered
 abbrev pub answered : List Packet
 answered = to_client 16 5001 1001 65535 None [] ∷ []

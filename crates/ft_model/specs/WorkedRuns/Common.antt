@@ -39,7 +39,7 @@ echo = record { fresh = false; after = echoed }
 abbrev pub hello_text : List ℕ
 hello_text = 104 ∷ 101 ∷ 108 ∷ 108 ∷ 111 ∷ []
 
--- client 1, with initial number 1000
+-- client 1, with initial sequence number 1000
 abbrev pub client_with : List ℕ → Client
 client_with script = new_client Scripted server key 1000 script
 

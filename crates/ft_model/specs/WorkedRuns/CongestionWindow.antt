@@ -188,7 +188,7 @@ moment_17 = moment (Deliver 15) [] (record moment_16.world { clients = served_cl
 abbrev pub moment_18 : Moment
 moment_18 = moment (Ack 1 65535) (acknowledgement ∷ []) (record moment_17.world { clients = acknowledging_client ∷ [] })
 
--- so it has left the network and the window is a segment longer: two more are sent
+-- so it has left the network and the window is a segment larger: two more are sent
 abbrev pub moment_19 : Moment
 moment_19 = moment (Deliver 19) (text 2144 536 ∷ text 2680 536 ∷ to_log 1 (DataMsg (part_with 8 536 false [])) ∷ []) (record moment_18.world { node = Some (node_live grown_point) })
 
@@ -248,7 +248,7 @@ IsUnlawful before input sent = (after : Node) → LawfulTurn transfer before inp
 abbrev pub with_pattern : List ℕ → (place size : ℕ) → List ℕ
 with_pattern words place size = words ++ (hex_text (pattern place size) ++ codes "\n")
 
--- the report of it, line by line
+-- the report of the trace, line by line
 abbrev pub report_lines : List (List ℕ)
 report_lines =
     codes "ftreplay 1\n"

@@ -18,11 +18,11 @@ earlier = moment_11 ∷ opening_trace
 abbrev pub wrong : Moment
 wrong = moment (Deliver 8) passed_on (record moment_11.world { node = Some (node_live taken_point) })
 
--- the message that carries them to the log
+-- the Data that carries the text to the log
 abbrev pub data_message : Message
 data_message = record { boot = 1; body = DataMsg (part_with 0 0 false hello_text) }
 
--- the client receives that, ..
+-- the client receives the acknowledgement, ..
 abbrev pub fooled_client : Client
 fooled_client = record told_client { acknowledged = 5 }
 

@@ -94,7 +94,7 @@ as_one = bare_ack ∷ packet_10 ∷ packet_11 ∷ []
 abbrev pub gap_filled : Input
 gap_filled = Packet_comes (client_segment 16 1001 5001 65535 first_text)
 
--- the report of it, line by line
+-- the report of the trace, line by line
 abbrev pub report_lines : List (List ℕ)
 report_lines =
     codes "ftreplay 1\n"

@@ -18,7 +18,7 @@ reset = client_segment 4 66536 0 0 []
 abbrev pub beyond : Segment
 beyond = client_segment 16 66537 5001 5 []
 
--- the connection when it has received the window
+-- the connection when the segment's window is used
 abbrev pub given : Point
 given = record opened { edge = 5; wl1 = pos 65535 }
 

@@ -24,7 +24,7 @@ meter = record { fresh = false; after = metered }
 abbrev pub first_text : List ℕ
 first_text = 104 ∷ 101 ∷ 108 ∷ []
 
--- what the first incarnation sends the client when they arrive: a bare acknowledgement, or the output of its read
+-- what the first incarnation sends the client when they arrive: a pure ACK, or the output of its read
 abbrev pub bare : Packet
 bare = to_client 16 5001 1001 65535 None []
 

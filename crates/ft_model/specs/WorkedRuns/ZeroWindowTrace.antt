@@ -129,7 +129,7 @@ trace =
     moment_25 ∷ moment_24 ∷ moment_23 ∷ moment_22 ∷ moment_21 ∷ moment_20 ∷ moment_19 ∷ moment_18 ∷ moment_17 ∷ moment_16 ∷ moment_15 ∷ moment_14 ∷ moment_13
     ∷ moment_12 ∷ moment_11 ∷ moment_10 ∷ moment_9 ∷ moment_8 ∷ moment_7 ∷ moment_6 ∷ moment_5 ∷ moment_4 ∷ moment_3 ∷ moment_2 ∷ moment_1 ∷ []
 
--- the report of it, line by line
+-- the report of the trace, line by line
 abbrev pub report_lines : List (List ℕ)
 report_lines =
     codes "ftreplay 1\n"

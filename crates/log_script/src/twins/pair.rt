@@ -11,7 +11,7 @@ pub(crate) struct Pair {
     from_head: Vec<Vec<u8>>,
     from_tail: Vec<Vec<u8>>,
     stopped: Option<Part>,
-    /// How much of what was sent to the head has come in order, and to the tail.
+    /// The place of the next datagram in order among those sent to the head, and among those sent to the tail.
     passed: (usize, usize),
 }
 

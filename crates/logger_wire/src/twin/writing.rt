@@ -1,4 +1,4 @@
-//! Writing a datagram between two loggers in its one spelling. The checksum is computed over what will be there, with zero in its own place.
+//! Writing a datagram between two loggers in its one spelling. The checksum is computed over the bytes to be written, with zero in its own field.
 
 ghost use Rattle.std.specs.Prelude.{◌≡◌, ◌≤◌, ◌+◌, ◌++◌, length, take, drop, Ok};
 ghost use Rattle.seq_arith.specs.TwinGrammar.{kind_of as kind_lem, number_of as number_lem, behind_of as behind_lem, spelling, reading, IsSpellable};

@@ -9,7 +9,7 @@ use std::alloc::Global;
 use tcp_endpoint::{Endpoint, Outbox, StateName};
 use test_data::PatternTable;
 
-/// A connection's receive edge never passes this.
+/// The right edge of a connection's receive window never passes this many bytes.
 const LIMIT: u32 = 1 << 24;
 
 /// What each client does.

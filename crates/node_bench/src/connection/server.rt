@@ -21,7 +21,7 @@ pub(crate) const SERVER: Addr = Addr {
 /// The kind of the echo service.
 const ECHO: u8 = 1;
 
-/// More answers don't wait in a turn.
+/// No more answers than this wait in a turn.
 const ANSWERS: usize = 1_100;
 
 /// What lies behind the connections: the log. With it what a connection sends in a turn, and the log's answers that wait for it.

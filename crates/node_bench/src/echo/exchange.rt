@@ -19,7 +19,7 @@ const SERVER: Addr = Addr {
     port: 7,
 };
 
-/// A connection's receive edge never passes this.
+/// The right edge of a connection's receive window never passes this many bytes.
 const LIMIT: u32 = 1 << 30;
 
 /// The most bytes in flight if a full window may be in flight: 44 full segments.
@@ -128,7 +128,7 @@ pub(crate) struct Exchange {
     pattern: PatternTable,
     buf: [u8; 1_460],
     way: Way,
-    /// The ticks that passed since nothing else came.
+    /// The ticks that passed because nothing else came.
     pub(crate) ticks: u32,
     /// The bytes of a write.
     write: usize,
@@ -162,7 +162,7 @@ impl Exchange {
         })
     }
 
-    /// Turns in turn until neither side sends a segment, and then the four ticks of TIME-WAIT. Where packets are lost, ticks pass until all is over.
+    /// The sides take turns until neither sends a segment, and then the four ticks of TIME-WAIT. Where packets are lost, ticks pass until all is over.
     pub(crate) fn run(&mut self) {
         for _ in 0..u64::MAX {
             self.client_turn();

@@ -25,12 +25,12 @@ const CLIENTS: Key = Key {
     port: 40_000,
 };
 
-/// The clients' initial number, and that from which the server's are counted.
+/// The clients' initial sequence number, and that from which the server's are counted.
 const CLIENT_ISN: Seq = Seq(1_000);
 
 const SERVER_ISN: u32 = 5_000;
 
-/// What each of the server's initial numbers is above the one before.
+/// By how much each of the server's initial sequence numbers is above the one before.
 const STRIDE: u32 = 65_536;
 
 /// The kind of Echo, whose clients acknowledge what comes back.
@@ -42,7 +42,7 @@ pub(crate) const MOST: u16 = 1_460;
 /// The bytes of a packet's headers.
 const HEADERS: usize = 40;
 
-/// More messages to the log don't follow from an input.
+/// No input leads to more messages to the log than this.
 const LETTERS: usize = 1_100;
 
 /// What the server did.
@@ -130,7 +130,7 @@ impl Host {
         Ok(())
     }
 
-    /// A segment of the ith client, this far after its initial number, which acknowledges this far after the server's.
+    /// A segment of the ith client, this far after its initial sequence number, which acknowledges this far after the server's.
     fn send(
         &mut self,
         alloc: Global,

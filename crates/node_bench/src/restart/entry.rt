@@ -1,4 +1,4 @@
-//! The entry that the log holds before the restarts.
+//! The entry that the log has before the restarts.
 
 ghost use Rattle.std.specs.Prelude.{◌≤◌, ◌+◌, ◌^◌, length};
 

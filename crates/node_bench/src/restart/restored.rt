@@ -11,7 +11,7 @@ use sample_servers::AnyService;
 use seq_arith::Seq;
 use std::alloc::Global;
 
-/// The server's initial number, and its address.
+/// The server's initial sequence number, and its address.
 const ISN: Seq = Seq(900_000);
 
 const LOCAL: Addr = Addr {
