@@ -383,7 +383,8 @@ class StoredRuns(unittest.TestCase):
         script = (folder / "stdin").read_text(errors="replace").partition("\nscript\n")[0]
         self.assertEqual(play_script(script)[1], [])
         names = re.findall(r"(?m)^case (.*)$", script)
-        self.assertEqual(re.findall(r"(?m)^ok (.*)$", (folder / "stdout").read_text()), names)
+        printed_first = (folder / "stdout").read_text().splitlines()[: len(names)]
+        self.assertEqual(printed_first, [f"ok {name}" for name in names])
 
     def test_replay_script(self):
         stored = [(FOLDER / name).read_text() for name in ("stdin", "stdout")]

@@ -1,8 +1,10 @@
 //! `endpoint_script`: plays the cases of scripts, which come from standard input, on endpoints, and prints a line for each case: `ok`, or the
-//! first line at which something else is seen; and the line at which a script is refused. Statuses: 0 where nothing differs, 1 where
-//! something does, 2 where a script is refused, 3 without memory, 4 where the input can't be read or is longer than 8 MiB.
+//! first line at which something else is seen; and the line at which a script is refused. A script whose only word is `clients` plays the
+//! cases of clients, which are in the code, and prints two lines for each. Statuses: 0 where nothing differs, 1 where something does, 2 where
+//! a script is refused, 3 without memory, 4 where the input can't be read or is longer than 8 MiB.
 #![tactic(auto)]
 
+use clients::play_clients;
 use ft_io::{NoMemory, ReadSource, read_to_limit};
 use memchr::memmem;
 use play::Play;
@@ -14,6 +16,7 @@ use std::io;
 use std::process::ExitCode;
 use words::Why;
 
+mod clients;
 mod hostile;
 mod joined;
 mod line;
@@ -31,7 +34,10 @@ const LIMIT: usize = 8_388_608;
 /// The line between two scripts, with the line feed before it.
 const SEAM: &[u8] = b"\nscript\n";
 
-/// How many cases were played, and how many of them differ; how many scripts are refused.
+/// The word of the script that plays the cases of clients.
+const CLIENT_CASES: &[u8] = b"clients";
+
+/// How many cases of scripts were played, and how many cases differ; how many scripts are refused.
 #[derive(Clone, Copy)]
 struct Outcome {
     cases: usize,
@@ -124,6 +130,22 @@ fn play_script(
     read_and_play(alloc, text, &mut script, &mut play, outcome, told)
 }
 
+/// Plays a script, or the cases of clients, and tells what came of it. It counts once if anything of clients differs.
+fn play_text(
+    alloc: Global,
+    text: &[u8],
+    outcome: &mut Outcome,
+    told: &mut String,
+) -> Result<(), NoMemory> {
+    if text.trim_ascii() != CLIENT_CASES {
+        return play_script(alloc, text, outcome, told);
+    }
+    if !play_clients(alloc, told)? {
+        outcome.differ = outcome.differ.saturating_add(1);
+    }
+    Ok(())
+}
+
 /// Plays all scripts of a text, and prints what came of each. The status of the program.
 fn run<R: Print + Eprint + AllocGlobal>(
     rt: &R,
@@ -141,7 +163,7 @@ fn run<R: Print + Eprint + AllocGlobal>(
         let Some(scripts) = rest else { break };
         let (script, behind) = first_script(scripts);
         told.clear();
-        let played = play_script(rt.alloc(), script, &mut outcome, told);
+        let played = play_text(rt.alloc(), script, &mut outcome, told);
         print!(rt; "{told}")?;
         if played.is_err() {
             eprintln!(rt; "endpoint_script: no memory")?;

@@ -2,13 +2,15 @@
 
 ghost use Rattle.std.specs.Prelude.{◌≤◌, ◌^◌, length, IfOk};
 
+use crate::clients::rules::{Kept, Rule, SERVERS, anything, may_follow};
+use crate::hostile::flags;
 use crate::joined::{CLIENT, SERVER};
-use crate::rules::{Kept, Rule, SERVERS, anything, may_follow, require};
+use crate::rules::require;
 use ft_io::{Key, NoMemory};
 use ft_model::Event;
 use peer_client::{Client, LiveClient, Phase};
 use segment_codec::{Head, read_packet, write_packet};
-use seq_arith::{ACK, FIN, RST, SYN, Seq, has};
+use seq_arith::{ACK, RST, SYN, Seq, has};
 use std::alloc::Global;
 use tcp_endpoint::Outbox;
 use test_data::Draws;
@@ -57,14 +59,6 @@ impl Tally {
     /// Whether all datagrams have come.
     fn is_complete(&self) -> bool {
         self.datagrams >= DATAGRAMS
-    }
-}
-
-fn flags(draws: &mut Draws) -> u8 {
-    match draws.below(6) {
-        0 | 1 => draws.byte(),
-        2 => FIN | ACK,
-        _ => ACK,
     }
 }
 

@@ -4,7 +4,7 @@ use peer_client::Phase;
 use test_data::{Draws, Pattern};
 
 /// A rule that a hostile datagram broke.
-#[derive(Clone, Copy, Debug, PartialEq, Eq)]
+#[derive(Clone, Copy, Debug)]
 pub(crate) enum Rule {
     /// Bytes that are no packet change nothing.
     Silence,
@@ -22,11 +22,8 @@ pub(crate) enum Rule {
     Script,
 }
 
+/// A rule is kept, or this one is broken.
 pub(crate) type Kept = Result<(), Rule>;
-
-pub(crate) fn require(holds: bool, rule: Rule) -> Kept {
-    if holds { Ok(()) } else { Err(rule) }
-}
 
 /// The server's stream.
 pub(crate) const SERVERS: Pattern = Pattern::Letters;

@@ -1,13 +1,10 @@
-//! `client_script`: joins a live client and an endpoint by ways that lose, repeat and reorder, from three seeds, and hands hostile datagrams
-//! to scripted and to live clients. It prints a line for each. Statuses: 0, 1 where something is lost or a rule is broken, 3 without memory.
-#![tactic(auto)]
+//! The cases of clients: a live client and an endpoint are joined by ways that lose, repeat and reorder, from three seeds, and hostile datagrams are
+//! handed to scripted and to live clients.
 
 use ft_io::NoMemory;
 use hostile::{Tally, attack_live, attack_scripted};
 use joined::{Joined, join};
 use std::alloc::Global;
-use std::io;
-use std::process::ExitCode;
 use tcp_endpoint::Outbox;
 
 mod hostile;
@@ -38,7 +35,7 @@ fn tell_tally(who: &str, tally: Tally, said: &mut String) -> Result<(), NoMemory
     Ok(())
 }
 
-/// Plays everything, and writes what came of it. What is sent is put into `out`. Whether nothing is lost and no rule is broken.
+/// Plays everything, with this outbox for what is sent.
 fn play(alloc: Global, out: &mut Outbox, said: &mut String) -> Result<bool, NoMemory> {
     let mut whole = true;
     for seed in 1..4u64 {
@@ -53,23 +50,8 @@ fn play(alloc: Global, out: &mut Outbox, said: &mut String) -> Result<bool, NoMe
     Ok(whole && scripted.broken.is_none() && live.broken.is_none())
 }
 
-fn play_all(alloc: Global, said: &mut String) -> Result<bool, NoMemory> {
+/// Plays everything, and writes two lines for each of the five. Whether nothing is lost and no rule is broken.
+pub(crate) fn play_clients(alloc: Global, said: &mut String) -> Result<bool, NoMemory> {
     let mut out = Outbox::new(alloc)?;
     play(alloc, &mut out, said)
-}
-
-/// Prints what was written, and returns the status.
-fn end(rt: &HostRuntime, played: Result<bool, NoMemory>, said: &str) -> io::Result<ExitCode> {
-    let Ok(whole) = played else {
-        eprintln!(rt; "client_script: no memory")?;
-        return Ok(ExitCode::from(3));
-    };
-    print!(rt; "{said}")?;
-    Ok(ExitCode::from(if whole { 0 } else { 1 }))
-}
-
-fn main(rt: HostRuntime) -> io::Result<ExitCode> {
-    let mut said = String::new(rt.alloc());
-    let played = play_all(rt.alloc(), &mut said);
-    end(&rt, played, said.as_str())
 }

@@ -2,7 +2,9 @@
 
 ghost use Rattle.std.specs.Prelude.{◌≤◌, length};
 
-use ft_io::{Addr, NoMemory};
+use crate::clients::rules::SERVERS;
+use crate::joined::{CLIENT, LIMIT, SERVER};
+use ft_io::NoMemory;
 use peer_client::{ClientEnd, LiveClient};
 use segment_codec::read_packet;
 use seq_arith::Seq;
@@ -11,26 +13,11 @@ use std::alloc::Global;
 use tcp_endpoint::{Endpoint, Outbox};
 use test_data::{Draws, Pattern};
 
-pub(crate) const CLIENT: Addr = Addr {
-    ip: 0xC000_0201,
-    port: 40_000,
-};
-
-pub(crate) const SERVER: Addr = Addr {
-    ip: 0xC000_0264,
-    port: 7,
-};
-
-const LIMIT: u32 = 1 << 24;
-
 /// How many bytes each sends.
 const LENGTH: u32 = 100_000;
 
 /// The client's text.
 const CLIENTS: Pattern = Pattern::Numbers;
-
-/// The server's text.
-const SERVERS: Pattern = Pattern::Letters;
 
 /// The most turns that each of the two takes.
 const TURNS: u32 = 1_000_000;
