@@ -1,7 +1,7 @@
 #!/usr/bin/env bash
-# Runs `log_script` on its cases, without the random ones, and lets one allocation of each run fail: the first, the second and so on. The program plays a line whose
-# allocation failed once more, so each run must print what it prints when no allocation fails: the log was as before. Or, where the allocation was for reading a
-# line, it ends with status 1 and std's own error, having printed a prefix of that.
+# Runs `log_script` on its cases, without the random ones and those on a journal's file, and lets one allocation of each run fail: the first, the second and so
+# on. The program plays a line whose allocation failed once more, so each run must print what it prints when no allocation fails: the log was as before. Or,
+# where the allocation was for reading a line, it ends with status 1 and std's own error, having printed a prefix of that.
 set -eu
 . "$(dirname "$0")/common.sh"
 build log_script <crates/log_script/stdin

@@ -1,8 +1,8 @@
 #!/usr/bin/env python3
 """A log in a journal's file, in plain Python, written from the rules and not from the program.
 
-journal_model.py lines      reads a script of `kept_script` from standard input, and writes what it must print
-journal_model.py cases      writes the script that is stored beside the program
+journal_model.py lines      reads lines of `log_script` on a journal's file from standard input, and writes what it must print
+journal_model.py cases      writes the lines on a journal's file that are stored beside the program
 
 A file is read as a whole, from its beginning; whether a message changes the log is found by comparing the whole log before and after. The log is that of model.py,
 the messages are those of twin_model.py.
@@ -273,7 +273,7 @@ class Bench:
 def lines():
     bench = Bench()
     for line in sys.stdin.read().split("\n")[:-1]:
-        print(line if line.startswith("#") else bench.play(line))
+        print(line if line.startswith("#") else bench.play(line.removeprefix("journal ")))
 
 
 KEY = pack(">IH", 0xC0000201, 40000)
@@ -312,14 +312,20 @@ def file_of(*bodies, tail=b""):
     return MAGIC + blocks(*bodies) + bytes([CLOSED]) + tail
 
 
+def order(text):
+    """Writes lines of the script. All but comments begin with the word `journal`."""
+    for line in text.split("\n"):
+        print(line if line.startswith("#") else f"journal {line}")
+
+
 def given(*messages):
     for message in messages:
-        print(f"in {message.hex()}")
+        order(f"in {message.hex()}")
 
 
 def changes():
     """Each kind of message, those that change the log and those that don't, with a commit behind each."""
-    print("# What changes the log is kept, and nothing else: a commit behind each message.\nfile \nopen")
+    order("# What changes the log is kept, and nothing else: a commit behind each message.\nfile \nopen")
     steps = [opening(5), hello(5), hello(5), hello(4), opening(4), opening(6), opening(5), opening(5), data(5, 0, b"abc"), data(5, 0, b"abc"), data(5, 0, b"ab"), data(5, 1, b"bcd")]
     steps += [data(5, 9, b"z"), data(5, 4, b""), data(5, 0, b"", acked=3), data(5, 0, b"", acked=3), data(5, 0, b"", acked=2), data(5, 9, b"z", acked=4), data(5, 0, b"abcde", acked=5)]
     steps += [read(5, 0, 2), read(5, 0, 2), read(5, 2, 1), read(5, 1, 9), read(5, 1, 0), read(5, 1, 3), read(5, 2, 0), data(5, 2, b"c", fin=1), data(5, 9, b"", fin=1), data(5, 5, b"", fin=1)]
@@ -328,18 +334,18 @@ def changes():
     steps += [said(12, 5, KEY + pack(">IBI", 9, 0, 9)), said(16, 5, KEY), said(17, 5, pack(">Q", 9)), hello(7), opening(5, pack(">IH", 1, 1)), opening(7, pack(">IH", 1, 1)), data(7, 6, b"g")]
     for message in steps:
         given(message)
-        print("commit")
+        order("commit")
     for i in range(64):
         given(opening(7, pack(">IH", 7, i)))
-    print("state\ncommit")
+    order("state\ncommit")
     given(opening(7, pack(">IH", 8, 8)))
-    print("commit\nentry 0\nentry 1\nentry 2\ndeath 9999 0 0\nopen\nentry 0\nentry 1\nentry 2\nentry 63\nentry 64")
+    order("commit\nentry 0\nentry 1\nentry 2\ndeath 9999 0 0\nopen\nentry 0\nentry 1\nentry 2\nentry 63\nentry 64")
 
 
 def drawn():
     """Messages that are drawn: numbers are small, so that many repeat, meet or miss."""
     draw = random.Random(50)
-    print("# Messages that are drawn, in rounds of 1 to 12, and an opening behind every 20 rounds.\nfile \nopen")
+    order("# Messages that are drawn, in rounds of 1 to 12, and an opening behind every 20 rounds.\nfile \nopen")
     given(hello(1))
     boot = 1
     for turn in range(200):
@@ -358,19 +364,19 @@ def drawn():
                 given(read(own, draw.randint(0, 6), draw.choice([0, 1, 2, 3, 5]), key))
             elif draw.randint(0, 15) == 0:
                 given(done(own, key))
-        print("commit")
+        order("commit")
         if turn % 20 == 19:
-            print("death 9999 0 0\nopen\nstate\nentry 0\nentry 1\nentry 2")
+            order("death 9999 0 0\nopen\nstate\nentry 0\nentry 1\nentry 2")
 
 
 SMALL = [hello(5) + opening(5), data(5, 0, b"abc") + read(5, 0, 2)]
 
 
 def damage():
-    print("# No file, each front of the magic, and a file that is cut at each byte or has one bit changed.")
+    order("# No file, each front of the magic, and a file that is cut at each byte or has one bit changed.")
     whole = file_of(*SMALL, tail=b"\x03\xd1.")
-    print(f"file \ncuts\nfile {whole.hex()}\nopen\nentry 0\nentry 1\ncuts\nflips")
-    print("# Bytes that are no journal, or have a block that is none.")
+    order(f"file \ncuts\nfile {whole.hex()}\nopen\nentry 0\nentry 1\ncuts\nflips")
+    order("# Bytes that are no journal, or have a block that is none.")
     draw = random.Random(51)
     files = [bytes(draw.randrange(256) for _ in range(draw.randint(1, 40))) for _ in range(20)]
     files += [MAGIC + bytes(draw.randrange(256) for _ in range(draw.randint(1, 40))) for _ in range(20)]
@@ -381,35 +387,35 @@ def damage():
     files += [file_of(good, good[:-1] + b"\6"), file_of(good)[:-1], file_of(good)[:-1] + bytes([OPEN]), file_of(good)[:-1] + bytes([OPEN, 0, 0, 0, 16]) + good]
     files += [file_of(hello(4), hello(9), hello(6)), file_of(tail=bytes([OPEN]) + pack(">I", 16) + good + b".")]
     for content in files:
-        print(f"file {content.hex()}\nopen\nstate")
-    print("# Behind the closed gate stands at most the longest block, and a body is no longer than that.")
+        order(f"file {content.hex()}\nopen\nstate")
+    order("# Behind the closed gate stands at most the longest block, and a body is no longer than that.")
     for base in (file_of(), file_of(*SMALL)):
         for count in (1, 381700, 381701, 381702, 400000):
-            print(f"file {base.hex()}\nmore {count} 7\nopen")
+            order(f"file {base.hex()}\nmore {count} 7\nopen")
     for size in (381696, 381697, 2**32 - 1):
-        print(f"file {(MAGIC + bytes([OPEN]) + pack('>I', size)).hex()}\nopen\nmore 381697 0\nopen")
+        order(f"file {(MAGIC + bytes([OPEN]) + pack('>I', size)).hex()}\nopen\nmore 381697 0\nopen")
 
 
 def deaths():
-    print("# A death at each call of an opening and of a commit, with none, some or all of what was appended there.")
+    order("# A death at each call of an opening and of a commit, with none, some or all of what was appended there.")
     for start in (b"", MAGIC[:5], file_of(SMALL[0]), file_of(SMALL[0], tail=b"\0\0\0")):
         calls = 2 if len(start) <= 8 or start[-1] == 0 else 0
         for count in range(calls + 5):
             for kept in (0, 1, 5, 9999):
                 for put in (0, 1):
-                    print(f"file {start.hex()}\nopen")
+                    order(f"file {start.hex()}\nopen")
                     given(hello(5), opening(5), data(5, 0, b"abc"))
-                    print(f"commit\ndeath {count} {kept} {put}\nopen\nentry 0")
-    print("# Each call fails in turn: what a death then leaves is opened.")
+                    order(f"commit\ndeath {count} {kept} {put}\nopen\nentry 0")
+    order("# Each call fails in turn: what a death then leaves is opened.")
     for start in (b"", MAGIC, file_of(SMALL[0]), file_of(SMALL[0], tail=b".")):
         for call in range(1, 8):
-            print(f"file {start.hex()}\nfail 0 {call}\nopen")
+            order(f"file {start.hex()}\nfail 0 {call}\nopen")
             given(hello(6), opening(6, OTHER))
-            print("commit\nstate\nfail 0 0\ndeath 9999 3 0\nopen\ndeath 9999 9999 1\nopen")
-    print("# Each read fails in turn.")
+            order("commit\nstate\nfail 0 0\ndeath 9999 3 0\nopen\ndeath 9999 9999 1\nopen")
+    order("# Each read fails in turn.")
     for start in (b"", MAGIC, file_of(SMALL[0]), file_of(SMALL[0], tail=b"."), b"none at all", MAGIC + b"x", MAGIC + bytes([OPEN, 0]), file_of(good_after())):
         for call in (1, 2, 3):
-            print(f"file {start.hex()}\nfail {call} 0\nopen\nfail 0 0")
+            order(f"file {start.hex()}\nfail {call} 0\nopen\nfail 0 0")
 
 
 def good_after():
@@ -417,13 +423,13 @@ def good_after():
 
 
 def rounds():
-    print("# A round takes 256 of the longest messages, and no more; it is one block.\nfile \nopen")
+    order("# A round takes 256 of the longest messages, and no more; it is one block.\nfile \nopen")
     given(hello(5), opening(5))
-    print("commit\nlong 300\nin " + data(5, 0, b"", acked=1).hex() + "\ncommit\nstate\nentry 0\nlong 300\ncommit\ndeath 9999 0 0\nopen\nentry 0\nmore 381701 1\nopen\nentry 0")
-    print("# A round that isn't committed is gone.")
-    print(f"file {file_of(SMALL[0]).hex()}\nopen")
+    order("commit\nlong 300\nin " + data(5, 0, b"", acked=1).hex() + "\ncommit\nstate\nentry 0\nlong 300\ncommit\ndeath 9999 0 0\nopen\nentry 0\nmore 381701 1\nopen\nentry 0")
+    order("# A round that isn't committed is gone.")
+    order(f"file {file_of(SMALL[0]).hex()}\nopen")
     given(data(5, 0, b"abc"))
-    print("entry 0\ndeath 9999 0 0\nopen\nentry 0\nin 00\ndeath 0 0 0\nin 00\ncommit\nstate")
+    order("entry 0\ndeath 9999 0 0\nopen\nentry 0\nin 00\ndeath 0 0 0\nin 00\ncommit\nstate")
 
 
 def cases():

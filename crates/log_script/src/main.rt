@@ -1,5 +1,5 @@
-//! `log_script`: gives a log, or two that act as one, the datagrams of a script, which comes from standard input, and prints what they answer. The lines of a
-//! script:
+//! `log_script`: gives a log, two that act as one, or one in a journal's file the datagrams of a script, which comes from standard input, and prints what they
+//! answer. The lines of a script:
 //!
 //! - `log` begins with an empty log, and `# ..` is printed as it is;
 //! - `in HEX` gives a datagram; the answer is printed as `out HEX`, or `out -` where there is none;
@@ -21,9 +21,21 @@
 //! - `stop 1` stops the head and `stop 2` the tail, and the other is informed, unless one has stopped before;
 //! - `lists COUNT LENGTH SEED` plays COUNT lists of LENGTH deliveries that are drawn from SEED, each with a new pair, and prints how many datagrams were sent to
 //!   the server and to the other, the sum of all numbers at the ends, and a number that depends on all bytes.
+//!
+//! Of a log that is kept in a journal's file, which is in memory; each of these lines begins with the word `journal`:
+//!
+//! - `file HEX` sets the file's bytes, and `more COUNT BYTE` appends COUNT bytes of this number;
+//! - `fail READ CALL` makes the READth read fail of each file that is opened from then on, and the CALLth call that changes it; 0 for none;
+//! - `open` opens the journal in the file; `cuts` opens each prefix of the file, and `flips` the file with each of its bits changed in turn. The result of an
+//!   opening is the log's boot number, its count of entries and the place of the closed gate, or why it wasn't opened, and the calls on the file;
+//! - `in HEX` gives a datagram, and prints the answer; `long COUNT` gives at most COUNT Data messages of 1,460 bytes each, until the round is full;
+//! - `commit` commits the round, and prints the calls on the file; `state` prints the same of the log as an opening; `entry I` the entry at place I;
+//! - `death CALLS KEPT PUT` sets the file's bytes to what a death after CALLS calls leaves, with KEPT bytes of an append that no sync followed, and with a byte
+//!   that was put if PUT is 1.
 #![tactic(auto)]
 
 use ft_io::NoMemory;
+use kept::{Bench, play_kept};
 use logger_store::{MsgOut, TrimStore};
 use logger_wire::read_msg;
 use mark_store::MarkStore;
@@ -37,6 +49,7 @@ use trimming::trim_at;
 use twin_log::TwinOut;
 use twins::{Pair, play_pair};
 
+mod kept;
 mod marking;
 mod random;
 mod readers;
@@ -99,13 +112,19 @@ fn tell(said: &mut String, text: &str) -> Result<(), NoMemory> {
     Ok(())
 }
 
-/// The logs of a script: one that is trimmed by lines, one with marks, and a pair, with what it has sent.
+/// Writes bytes in hexadecimal.
+fn tell_hex(alloc: Global, bytes: &[u8], said: &mut String) -> Result<(), NoMemory> {
+    tell(said, hex::encode(alloc, bytes)?.as_str())
+}
+
+/// The logs of a script: one that is trimmed by lines, one with marks, a pair, with what it has sent, and one in a journal's file.
 #[derive(Drop)]
 struct Logs {
     trimmed: TrimStore,
     marked: MarkStore,
     pair: Pair,
     sent: TwinOut,
+    bench: Bench,
 }
 
 impl Logs {
@@ -117,6 +136,7 @@ impl Logs {
             marked: MarkStore::new(alloc),
             pair,
             sent,
+            bench: Bench::new(alloc),
         })
     }
 }
@@ -195,13 +215,18 @@ fn play(alloc: Global, logs: &mut Logs, line: &str, said: &mut String) -> Result
     play_trimmed(alloc, &mut logs.trimmed, line, said)
 }
 
-/// Plays a line. Where memory is refused it is played once more, since the logs are then as they were before.
+/// Plays a line. Where memory is refused it is played once more, since the logs are then as they were before. A line on a journal's file isn't, since it may
+/// have changed the file.
 fn play_again(
     alloc: Global,
     logs: &mut Logs,
     line: &str,
     said: &mut String,
 ) -> Result<(), NoMemory> {
+    if let Some(line) = line.strip_prefix("journal ") {
+        said.clear();
+        return play_kept(alloc, &mut logs.bench, line, said);
+    }
     match play(alloc, logs, line, said) {
         Ok(()) => Ok(()),
         Err(NoMemory) => play(alloc, logs, line, said),

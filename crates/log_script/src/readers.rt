@@ -5,9 +5,15 @@ use ft_io::NoMemory;
 use logger_store::{EntryHead, TrimStore};
 
 /// Two numbers, separated by a space.
-pub(crate) fn numbers(text: &str) -> Option<(u16, u32)> {
-    let (place, at) = text.split_once(' ')?;
-    Some((place.parse().ok()?, at.parse().ok()?))
+pub(crate) fn two_numbers(text: &str) -> Option<(u32, u32)> {
+    let (first, second) = text.split_once(' ')?;
+    Some((first.parse().ok()?, second.parse().ok()?))
+}
+
+/// The place of an entry and a number, separated by a space.
+pub(crate) fn place_and_number(text: &str) -> Option<(u16, u32)> {
+    let (place, number) = two_numbers(text)?;
+    Some((u16::try_from(place).ok()?, number))
 }
 
 /// The entry at a place, as a line.
@@ -17,31 +23,46 @@ pub(crate) fn entry_at(log: &TrimStore, text: &str, said: &mut String) -> Result
     };
     match log.entry(place) {
         Some(entry) => tell_entry(place, &entry, said),
-        None => {
-            write!(said, "entry {place} none")?;
-            Ok(())
-        }
+        None => tell_no_entry(place, said),
     }
+}
+
+/// Writes that there is no entry at a place.
+pub(crate) fn tell_no_entry(place: u16, said: &mut String) -> Result<(), NoMemory> {
+    write!(said, "entry {place} none")?;
+    Ok(())
 }
 
 /// An entry's numbers, as a line.
 fn tell_entry(place: u16, entry: &EntryHead, said: &mut String) -> Result<(), NoMemory> {
     let EntryHead {
-        key,
         cisn,
         sisn,
         mss,
+        ..
+    } = *entry;
+    tell_key(place, entry, said)?;
+    write!(said, "cisn {cisn} sisn {sisn} mss {mss} ")?;
+    tell_extent(entry, said)
+}
+
+/// Writes an entry's place and its key, and a space.
+pub(crate) fn tell_key(place: u16, entry: &EntryHead, said: &mut String) -> Result<(), NoMemory> {
+    let key = entry.key;
+    write!(said, "entry {place} ip {} port {} ", key.ip, key.port)?;
+    Ok(())
+}
+
+/// Writes what is logged of an entry behind its Open.
+pub(crate) fn tell_extent(entry: &EntryHead, said: &mut String) -> Result<(), NoMemory> {
+    let EntryHead {
         length,
         fin,
         done,
         reads,
         acked,
+        ..
     } = *entry;
-    write!(
-        said,
-        "entry {place} ip {} port {} cisn {cisn} sisn {sisn} mss {mss} ",
-        key.ip, key.port
-    )?;
     write!(
         said,
         "length {length} fin {fin} done {done} reads {reads} acked {acked}"
@@ -51,7 +72,7 @@ fn tell_entry(place: u16, entry: &EntryHead, said: &mut String) -> Result<(), No
 
 /// The byte at a place of an entry, as a line.
 pub(crate) fn byte_at(log: &TrimStore, text: &str, said: &mut String) -> Result<(), NoMemory> {
-    if let Some((place, at)) = numbers(text)
+    if let Some((place, at)) = place_and_number(text)
         && let Some(entry) = log.entry(place)
         && at < entry.length
         && log.trim_at(place).bytes <= at
@@ -65,7 +86,7 @@ pub(crate) fn byte_at(log: &TrimStore, text: &str, said: &mut String) -> Result<
 
 /// The length of a read of an entry, as a line.
 pub(crate) fn length_at(log: &TrimStore, text: &str, said: &mut String) -> Result<(), NoMemory> {
-    if let Some((place, at)) = numbers(text)
+    if let Some((place, at)) = place_and_number(text)
         && let Some(entry) = log.entry(place)
         && at < entry.reads
         && log.trim_at(place).reads <= at

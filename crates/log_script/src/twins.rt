@@ -1,6 +1,6 @@
 //! Two loggers that act as one, and the lines of a script on them.
 
-use crate::tell;
+use crate::{tell, tell_hex};
 use ft_io::NoMemory;
 pub(crate) use pair::Pair;
 use random::play_random;
@@ -32,7 +32,7 @@ fn tell_sent(alloc: Global, name: &str, out: &TwinOut, said: &mut String) -> Res
             Side::Server => " server ",
             Side::Other => " other ",
         })?;
-        said.push_str(hex::encode(alloc, out.bytes(i))?.as_str())?;
+        tell_hex(alloc, out.bytes(i), said)?;
     }
     Ok(())
 }

@@ -1,25 +1,16 @@
 //! What is written of calls on a file, and of a log.
 
+use crate::readers::{tell_extent, tell_key, tell_no_entry};
+use crate::{tell, tell_hex};
 use disk::{DeskCall, DiskCall, MemDisk};
 use ft_io::NoMemory;
 use kept_log::{KeptLog, OpenEnd};
-use logger_store::{EntryHead, LogStore};
+use logger_store::LogStore;
 use std::alloc::Global;
 use test_data::hashed;
 
 /// Up to how many bytes are printed in full.
 const SHOWN: usize = 256;
-
-/// Writes a text that is printed as it is.
-pub(crate) fn tell(said: &mut String, text: &str) -> Result<(), NoMemory> {
-    said.push_str(text)?;
-    Ok(())
-}
-
-/// Writes bytes in hexadecimal.
-pub(crate) fn tell_hex(alloc: Global, bytes: &[u8], said: &mut String) -> Result<(), NoMemory> {
-    tell(said, hex::encode(alloc, bytes)?.as_str())
-}
 
 /// Writes bytes in hexadecimal, or how many they are and their hash.
 pub(crate) fn tell_bytes(alloc: Global, bytes: &[u8], said: &mut String) -> Result<(), NoMemory> {
@@ -101,25 +92,15 @@ pub(crate) fn tell_opening(
     tell_calls(alloc, disk, 0, said)
 }
 
-/// Writes the entry at a place of a log.
-pub(crate) fn tell_entry(log: &LogStore, place: u16, said: &mut String) -> Result<(), NoMemory> {
+/// Writes the entry at a place of a log, without the numbers of its Open.
+pub(crate) fn tell_kept_entry(
+    log: &LogStore,
+    place: u16,
+    said: &mut String,
+) -> Result<(), NoMemory> {
     let Some(entry) = log.entry(place) else {
-        write!(said, "entry {place} none")?;
-        return Ok(());
+        return tell_no_entry(place, said);
     };
-    let EntryHead {
-        key,
-        length,
-        fin,
-        done,
-        reads,
-        acked,
-        ..
-    } = entry;
-    write!(
-        said,
-        "entry {place} ip {} port {} length {length} fin {fin} done {done} reads {reads} acked {acked}",
-        key.ip, key.port
-    )?;
-    Ok(())
+    tell_key(place, &entry, said)?;
+    tell_extent(&entry, said)
 }

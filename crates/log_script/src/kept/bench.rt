@@ -1,9 +1,11 @@
 //! A file in memory, and the log that is kept in it.
 
-use crate::datagrams::long_data;
-use crate::text::{
-    call_count, tell, tell_bytes, tell_calls, tell_entry, tell_hex, tell_log, tell_opening,
+use crate::kept::datagrams::long_data;
+use crate::kept::text::{
+    call_count, tell_bytes, tell_calls, tell_kept_entry, tell_log, tell_opening,
 };
+use crate::readers::two_numbers;
+use crate::{tell, tell_hex};
 use disk::{Death, MemDisk};
 use ft_io::NoMemory;
 use journal::KeepEnd;
@@ -29,12 +31,6 @@ pub(crate) struct Bench {
     log: Option<KeptLog>,
     /// How many calls of the disk were printed.
     shown: usize,
-}
-
-/// Two numbers, separated by a space.
-fn two_numbers(text: &str) -> Option<(u32, u32)> {
-    let (first, second) = text.split_once(' ')?;
-    Some((first.parse().ok()?, second.parse().ok()?))
 }
 
 /// The death of a line.
@@ -279,7 +275,7 @@ impl Bench {
 
     pub(crate) fn entry(&self, text: &str, said: &mut String) -> Result<(), NoMemory> {
         match (&self.log, text.parse::<u16>()) {
-            (Some(log), Ok(place)) => tell_entry(log.log(), place, said),
+            (Some(log), Ok(place)) => tell_kept_entry(log.log(), place, said),
             _ => tell(said, "no log"),
         }
     }
