@@ -1,16 +1,18 @@
 #!/usr/bin/env python3
 """Saved states of services, and messages about marks, in plain Python, written from the rules and not from the program.
 
-mark_model.py lines      reads a script of `mark_script` from standard input, and writes what it must print
-mark_model.py cases      writes the script that is stored beside the program
+mark_model.py lines      reads a script of `service_script` from standard input, and writes what it must print
+mark_model.py cases      writes the script that is stored beside the program, up to the lines about the web server
 
-A saved state is made here from all input that the service was ever given; the program makes it from the service's state.
+A saved state is made here from all input that the service was ever given; the program makes it from the service's state. Lines about the web server are
+played by web_model.py.
 """
 import re
 import sys
 from struct import iter_unpack, pack, unpack
 
 from twin_model import Draws, folded, spelled
+from web_model import Connections
 
 SERVICES = ["counter", "echo", "line", "transfer", "meter"]
 MESSAGES = ["Mark", "Marked", "Ask", "Held"]
@@ -252,7 +254,8 @@ def random(count, seed):
 
 # scripts
 
-def played(line):
+def played(line, connections):
+    """What the program prints for a line, or None where it prints nothing."""
     word, *rest = line.split(" ")
     if word == "#":
         return line
@@ -267,12 +270,16 @@ def played(line):
         return runs(rest[0], int(rest[1]), int(rest[2]))
     if word == "mark":
         return said_by(bytes.fromhex(rest[0].replace("-", "")))
-    return random(int(rest[0]), int(rest[1]))
+    if word == "random":
+        return random(int(rest[0]), int(rest[1]))
+    return connections.played(line)
 
 
 def lines():
+    connections = Connections()
     for line in sys.stdin.read().split("\n")[:-1]:
-        print(played(line))
+        if (said := played(line, connections)) is not None:
+            print(said)
 
 
 def forms():

@@ -1,10 +1,10 @@
 #!/usr/bin/env python3
-"""What a server of HTTP/1.0 and 1.1 answers to the bytes of one connection, written from RFC 9112 and RFC 9110, and the runs of crates/web_script.
+"""What a server of HTTP/1.0 and 1.1 answers to the bytes of one connection, written from RFC 9112 and RFC 9110, and to the lines of `service_script` about it.
 
-    tools/web_model.py wanted <SCRIPT       writes what the program has to print for a script, such as crates/web_script/stdin
     tools/web_model.py bytes N              writes the N bytes of /bytes/N, made without any server
 
-The lines of a script are described at the beginning of crates/web_script/src/main.rt. It needs only Python's standard library and twin_model.py.
+`mark_model.py lines` writes what `service_script` must print, and uses this model for the lines about the web server. They are described at the beginning of
+crates/service_script/src/main.rt. It needs only Python's standard library and twin_model.py.
 """
 import hashlib
 import re
@@ -199,39 +199,37 @@ class Tally:
         return f"{self.answers} answers, {self.bytes} bytes, {self.closed} closed, {self.digest.hexdigest()}"
 
 
-def wanted(lines):
-    """What the program prints for a script."""
-    parts, last = [], 0
-    for line in lines:
-        word, _, rest = line.rstrip("\n").partition(" ")
-        tally = Tally()
-        if word == "#":
-            yield line.rstrip("\n")
-        elif word == "part":
-            last = int(rest)
-            parts[last : last + 1] = [[]]
-        elif word == "piece":
+class Connections:
+    """The lines of a script about the web server. It keeps the pieces of each part of a request."""
+
+    def __init__(self):
+        self.parts, self.last = [], 0
+
+    def played(self, line):
+        """What the program prints for a line, or None where it prints nothing."""
+        word, _, rest = line.partition(" ")
+        if word == "part":
+            self.last = int(rest)
+            self.parts[self.last : self.last + 1] = [[]]
+            return None
+        if word == "piece":
             weight, times, text = rest.split(" ", 2)
-            parts[last] += [unquote_to_bytes(text) * int(times)] * int(weight)
-        elif word == "say":
+            self.parts[self.last] += [unquote_to_bytes(text) * int(times)] * int(weight)
+            return None
+        tally = Tally()
+        if word == "say":
             tally.play([unquote_to_bytes(rest)])
-            yield tally.said()
         else:
             count, seed = map(int, rest.split(" "))
             draws = Draws(seed)
             for _ in range(count):
-                tally.play(drawn_chunks(draws, drawn_text(draws, parts)))
-            yield tally.said()
+                tally.play(drawn_chunks(draws, drawn_text(draws, self.parts)))
+        return tally.said()
 
 
-def main():
-    verb, *words = sys.argv[1:]
-    if verb == "bytes":
-        sys.stdout.buffer.write(bytes(i % 251 for i in range(int(words[0]))))
-    else:
-        for line in wanted(sys.stdin):
-            print(line)
+def write_bytes(count):
+    sys.stdout.buffer.write(bytes(i % 251 for i in range(count)))
 
 
 if __name__ == "__main__":
-    main()
+    {"bytes": write_bytes}[sys.argv[1]](int(sys.argv[2]))

@@ -1,4 +1,4 @@
-use Rattle.check_script.proofs.check_lines.schedule_in.Goals as goal
+use Rattle.text_script.proofs.check_lines.schedule_in.Goals as goal
 
 pub returns-in-Ok-clause-fits : goal.returns-in-Ok-clause-fits
 returns-in-Ok-clause-fits c = c.accepted_schedules_fit.ensures c.args.text.now c.in-Ok.schedule c.in-Ok.ensures

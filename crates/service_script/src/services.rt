@@ -147,7 +147,11 @@ fn give<S: Service>(
 }
 
 /// Gives a service a chunk, of which it is given at most 2,048 bytes, and appends what it writes.
-fn take<S: Service>(service: &mut S, chunk: &[u8], out: &mut Vec<u8>) -> Result<Next, NoMemory> {
+pub(crate) fn take<S: Service>(
+    service: &mut S,
+    chunk: &[u8],
+    out: &mut Vec<u8>,
+) -> Result<Next, NoMemory> {
     service.take(&chunk[..chunk.len().min(CHUNK_LIMIT)], out)
 }
 

@@ -1,4 +1,4 @@
-//! Connections that follow from a seed.
+//! Connections to the web server that follow from a seed.
 
 ghost use Rattle.std.specs.Prelude.{◌<◌};
 

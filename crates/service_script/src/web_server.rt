@@ -1,0 +1,169 @@
+//! Connections to the web server, and what it answers.
+
+use crate::connections::{Parts, draw_connection};
+use crate::services::take;
+use crate::{count_and_seed, tell, tell_bytes};
+use ft_io::NoMemory;
+use md5::{Digest, Md5};
+use percent_encoding::percent_decode;
+use server_trait::{Next, Service};
+use std::alloc::Global;
+use test_data::Draws;
+use web_service::Web;
+
+/// A number, or 0 where there is none.
+fn number(word: &str) -> u32 {
+    word.parse::<u32>().unwrap_or(0)
+}
+
+/// Begins a part of a request.
+pub(crate) fn part_line(text: &str, parts: &mut Parts) -> Result<(), NoMemory> {
+    parts.begin(number(text))
+}
+
+/// Adds a piece to the last part.
+pub(crate) fn piece_line(alloc: Global, text: &str, parts: &mut Parts) -> Result<(), NoMemory> {
+    let (weight, rest) = text.split_once(' ').unwrap_or((text, ""));
+    let (times, escaped) = rest.split_once(' ').unwrap_or((rest, ""));
+    let mut piece = Vec::new(alloc);
+    for _ in 0..number(times) {
+        percent_decode(escaped.as_bytes()).append_to(&mut piece)?;
+    }
+    parts.add(number(weight), piece.as_slice())
+}
+
+/// What came of connections.
+#[derive(Drop)]
+struct Tally {
+    answers: u64,
+    bytes: u64,
+    closed: u64,
+    digest: Md5,
+}
+
+impl Tally {
+    fn new() -> Tally {
+        Tally {
+            answers: 0,
+            bytes: 0,
+            closed: 0,
+            digest: Md5::new(),
+        }
+    }
+
+    /// Counts the answer to the chunk with this number.
+    fn count(&mut self, at: u32, answer: &[u8]) {
+        self.answers = self.answers.saturating_add(1);
+        self.bytes = self.bytes.saturating_add(answer.len() as u64);
+        self.digest.update(at.to_be_bytes().as_slice());
+        self.digest.update(answer);
+    }
+
+    /// Writes what was counted.
+    fn tell(self, alloc: Global, said: &mut String) -> Result<(), NoMemory> {
+        let Tally {
+            answers,
+            bytes,
+            closed,
+            digest,
+        } = self;
+        write!(said, "{answers} answers, {bytes} bytes, {closed} closed, ")?;
+        tell_bytes(alloc, digest.finalize().as_slice(), said)
+    }
+}
+
+/// Gives the server a chunk, and counts its answer.
+fn give(
+    alloc: Global,
+    web: &mut Web,
+    at: u32,
+    chunk: &[u8],
+    tally: &mut Tally,
+) -> Result<Next, NoMemory> {
+    let mut answer = Vec::new(alloc);
+    let next = take(web, chunk, &mut answer)?;
+    if !answer.is_empty() {
+        tally.count(at, answer.as_slice());
+    }
+    if next == Next::Close {
+        tally.closed = tally.closed.saturating_add(1);
+    }
+    Ok(next)
+}
+
+/// Plays one connection with a text as its chunk, and writes what came of it.
+pub(crate) fn say_line(alloc: Global, escaped: &str, said: &mut String) -> Result<(), NoMemory> {
+    let mut chunk = Vec::new(alloc);
+    percent_decode(escaped.as_bytes()).append_to(&mut chunk)?;
+    let mut tally = Tally::new();
+    play_whole(alloc, chunk.as_slice(), &mut tally)?;
+    tally.tell(alloc, said)
+}
+
+/// Plays a connection with one chunk.
+fn play_whole(alloc: Global, chunk: &[u8], tally: &mut Tally) -> Result<(), NoMemory> {
+    let mut web = Web::fresh(alloc, 0);
+    give(alloc, &mut web, 0, chunk, tally)?;
+    Ok(())
+}
+
+/// Plays the connections that a line asks for, and writes what came of them.
+pub(crate) fn connections_line(
+    alloc: Global,
+    text: &str,
+    parts: &Parts,
+    said: &mut String,
+) -> Result<(), NoMemory> {
+    let Some((count, seed)) = count_and_seed(text) else {
+        return tell(said, "no such line");
+    };
+    let mut draws = Draws::new(seed);
+    let mut tally = Tally::new();
+    for _connection in 0..count {
+        let drawn = draw_connection(alloc, &mut draws, parts)?;
+        play_cut(alloc, &mut draws, drawn.as_slice(), &mut tally)?;
+    }
+    tally.tell(alloc, said)
+}
+
+/// Plays a connection in chunks that are drawn.
+fn play_cut(
+    alloc: Global,
+    draws: &mut Draws,
+    text: &[u8],
+    tally: &mut Tally,
+) -> Result<(), NoMemory> {
+    let mut web = Web::fresh(alloc, 0);
+    give_cut(alloc, &mut web, draws, text, tally)
+}
+
+/// The longest chunks of a connection, each drawn as often as it is listed here.
+const LONGEST: [u32; 8] = [1, 5, 20, 100, 500, 2_048, 2_048, 2_048];
+
+/// Gives the server a text in chunks that are drawn, in some cases with the end of input.
+fn give_cut(
+    alloc: Global,
+    web: &mut Web,
+    draws: &mut Draws,
+    text: &[u8],
+    tally: &mut Tally,
+) -> Result<(), NoMemory> {
+    let longest = LONGEST[draws.below(8) as usize];
+    let ends = draws.below(8) == 0;
+    let mut rest = text;
+    for at in 0..u32::MAX {
+        if rest.is_empty() {
+            if ends {
+                give(alloc, web, at, b"", tally)?;
+            }
+            return Ok(());
+        }
+        let size = 1 + draws.below(longest.max(1)) as usize;
+        let (chunk, more) = rest.split_at(size.min(rest.len()));
+        if give(alloc, web, at, chunk, tally)? == Next::Close {
+            return Ok(());
+        }
+        rest = more;
+    }
+    Ok(())
+}
