@@ -1,7 +1,7 @@
 //! `endpoint_script`: plays the cases of scripts, which come from standard input, on endpoints, and prints a line for each case: `ok`, or the
 //! first line at which something else is seen; and the line at which a script is refused. A script whose only word is `clients` plays the
 //! cases of clients, which are in the code, and prints two lines for each. Statuses: 0 where nothing differs, 1 where something does, 2 where
-//! a script is refused, 3 without memory, 4 where the input can't be read or is longer than 8 MiB.
+//! a script is refused, 3 where an allocation fails, 4 where the input can't be read (or an allocation fails while it is read) or is longer than 8 MiB.
 #![tactic(auto)]
 
 use clients::play_clients;

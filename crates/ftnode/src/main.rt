@@ -2,9 +2,9 @@
 //! keep its log in a journal file, or two loggers may act as one. `main` passes the system and the standard streams to `run_ftnode`, which does the rest.
 #![tactic(auto)]
 
+use journal_link::run_ftnode;
 use std::io;
 use std::process::ExitCode;
-use twin_link::run_ftnode;
 
 fn main(rt: HostRuntime) -> io::Result<ExitCode> {
     run_ftnode(&rt, rt.stdin(), rt.stdout(), rt.stderr())

@@ -15,8 +15,8 @@ use Rattle.disk.specs.declared.calls.DiskCall.{DiskCall}
 use Rattle.disk.specs.declared.calls.DeskCall.{DeskCall}
 use Rattle.disk.specs.declared.calls.DeskCall.TheVariants.{OnLink}
 use Rattle.disk.proofs.Telling.{disk_calls_of_disk}
-use Rattle.journal.specs.Format.{front, HasBlocks, seen_by}
-use Rattle.journal.proofs.Deaths.{before_or_after, mended, left_append}
+use Rattle.kept_log.specs.Format.{front, HasBlocks, seen_by}
+use Rattle.kept_log.proofs.Deaths.{before_or_after, mended, left_append}
 use Rattle.kept_log.specs.JournaledLog.{committing, end_after, with_round, HasLog}
 use Rattle.kept_log.specs.Startup.{Finds, IsWhole, cutting}
 use Rattle.node_link.specs.LoggerTurns.{handing, answer_for, answering}

@@ -6,8 +6,8 @@ use Rattle.ft_model.specs.Log.{Log, empty_log}
 use Rattle.ft_model.proofs.Lists.{all_weaker}
 use Rattle.logger_deaths.specs.NeededMessages.{log_after_all}
 use Rattle.disk.specs.declared.calls.DiskCall.{DiskCall}
-use Rattle.journal.specs.Format.{magic, blocks, front, HasBlocks, IsSmall}
-use Rattle.journal.proofs.OneReading.{reads_once}
+use Rattle.kept_log.specs.Format.{magic, blocks, front, HasBlocks, IsSmall}
+use Rattle.kept_log.proofs.OneReading.{reads_once}
 use Rattle.kept_log.specs.MessageList.{AllSay, AreKept, IsRound}
 use Rattle.kept_log.specs.JournaledLog.{HasLog}
 use Rattle.kept_log.specs.Startup.{Finds}

@@ -13,8 +13,8 @@ use Rattle.disk.specs.Remains.{LeftBy, seen_after}
 use Rattle.disk.specs.CallRecord.{on_link, on_disk, disk_calls}
 use Rattle.disk.specs.declared.calls.DiskCall.{DiskCall}
 use Rattle.disk.proofs.Telling.{disk_calls_of_disk}
-use Rattle.journal.specs.Format.{front, at_rest, IsAtRest, keeping, seen_by}
-use Rattle.journal.proofs.Deaths.{stays, left_append}
+use Rattle.kept_log.specs.Format.{front, at_rest, IsAtRest, keeping, seen_by}
+use Rattle.kept_log.proofs.Deaths.{stays, left_append}
 use Rattle.kept_log.specs.JournaledLog.{kept_of, committing, end_after, with_round, HasLog, Waits}
 use Rattle.kept_log.specs.Startup.{Finds}
 use Rattle.kept_log.proofs.Logs.{waits_more, kept_none, kept_round}

@@ -14,7 +14,7 @@ use Rattle.disk.specs.Remains.{failed}
 use Rattle.disk.specs.declared.calls.DiskCall.{DiskCall}
 use Rattle.disk.specs.declared.calls.DeskCall.{DeskCall}
 use Rattle.disk.specs.declared.calls.DeskCall.TheVariants.{OnLink, OnDisk}
-use Rattle.journal.specs.Format.{HasBlocks}
+use Rattle.kept_log.specs.Format.{HasBlocks}
 use Rattle.kept_log.specs.JournaledLog.{HasLog}
 use Rattle.kept_log.specs.Startup.{Finds}
 

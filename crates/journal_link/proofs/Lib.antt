@@ -4,3 +4,6 @@ pub mod Gathering
 pub mod Living
 pub mod Rounding
 pub mod Unread
+pub mod Handing
+pub mod PairRun
+pub mod PairUnread

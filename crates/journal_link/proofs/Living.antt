@@ -11,7 +11,7 @@ use Rattle.disk.specs.CallRecord.{on_disk}
 use Rattle.disk.specs.declared.calls.DiskCall.{DiskCall}
 use Rattle.disk.specs.declared.calls.DeskCall.{DeskCall}
 use Rattle.disk.specs.declared.calls.DeskCall.TheVariants.{OnLink}
-use Rattle.journal.specs.Format.{front}
+use Rattle.kept_log.specs.Format.{front}
 use Rattle.kept_log.specs.Startup.{HasStopped}
 use Rattle.kept_log.specs.declared.opening.OpenEnd.{OpenEnd}
 use Rattle.kept_log.specs.declared.opening.OpenEnd.TheVariants as open_end

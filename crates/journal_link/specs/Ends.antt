@@ -6,8 +6,8 @@ use Rattle.ft_io.specs.Faults.{Rose}
 use Rattle.ft_io.specs.Sink.{AppendsFront}
 use Rattle.disk.specs.declared.shelf_end.ShelfEnd.{ShelfEnd}
 use Rattle.disk.specs.declared.shelf_end.ShelfEnd.TheVariants as shelf
-use Rattle.journal.specs.declared.journal.KeepEnd.{KeepEnd}
-use Rattle.journal.specs.declared.journal.KeepEnd.TheVariants as keep
+use Rattle.kept_log.specs.declared.journal.KeepEnd.{KeepEnd}
+use Rattle.kept_log.specs.declared.journal.KeepEnd.TheVariants as keep
 use Rattle.kept_log.specs.declared.opening.OpenEnd.{OpenEnd}
 use Rattle.kept_log.specs.declared.opening.OpenEnd.TheVariants as open_end
 use Rattle.node_link.specs.Ends as node

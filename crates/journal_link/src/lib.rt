@@ -1,14 +1,24 @@
-//! `node_with` is `ftnode` without the roles that `twin_link` adds. With the option `--journal FILE` it is a logger that keeps its log in a file, so that the
-//! log survives the death of its process. All other words are those of `node`.
+//! `run_ftnode` is the program `ftnode`. `node_with` adds to `node` a logger with the option `--journal FILE`, which keeps its log in a file, so that the log
+//! survives the death of its process. `node_in_pair` adds to it one of two loggers that act as one (`--part` and `--other`), and `alone`, which informs one of
+//! them that the other has stopped. All other words are those of `node`.
 #![tactic(auto)]
 
+pub use pair_role::{AloneRole, PartRole, TwinRole, read_twin_role};
+pub use pair_top::node_in_pair;
+pub use program::run_ftnode;
 pub use role::{FileName, JournalRole};
 pub use status::JournalEnd;
 pub use top::node_with;
 
 mod answers;
 mod keeper;
+mod pair_role;
+mod pair_top;
+mod part;
+mod program;
 mod role;
 mod rounds;
+mod sending;
 mod status;
+mod teller;
 mod top;

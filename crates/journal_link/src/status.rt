@@ -12,8 +12,7 @@ ghost use Rattle.journal_link.specs.Ends.{place_text, from_shelf, from_open, fro
 use disk::ShelfEnd;
 use ft_io::{Failed, NoMemory, Sink, write_all};
 use itoa::Buffer;
-use journal::KeepEnd;
-use kept_log::OpenEnd;
+use kept_log::{KeepEnd, OpenEnd};
 use node_link::{NodeEnd, Status};
 
 /// How a logger with a journal ends before its turns are done.

@@ -8,3 +8,5 @@ pub mod Once
 mod Onward
 mod Settled
 mod Whole
+pub mod Deaths
+pub mod OneReading

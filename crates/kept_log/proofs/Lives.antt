@@ -3,8 +3,8 @@ use Rattle.std.proofs.Common.{◌≡◌, ◌∙◌, ◌⊎◌, inl, inr, ℕ, �
 use Rattle.std.proofs.lemmas.List.{drop_at}
 use Rattle.disk.specs.declared.calls.DiskCall.{DiskCall}
 use Rattle.disk.specs.Remains.{LeftBy, IsFrontOf}
-use Rattle.journal.specs.Format.{magic, front, HasBlocks, at_rest, IsAtRest, keeping, seen_by}
-use Rattle.journal.proofs.Deaths.{before_or_after, stays, mended, mended_rests, done_all, left_append}
+use Rattle.kept_log.specs.Format.{magic, front, HasBlocks, at_rest, IsAtRest, keeping, seen_by}
+use Rattle.kept_log.proofs.Deaths.{before_or_after, stays, mended, mended_rests, done_all, left_append}
 use Rattle.kept_log.specs.JournaledLog.{committing, with_round}
 use Rattle.kept_log.specs.Startup.{making, cutting, IsBegun, IsWhole, Finds}
 use Rattle.kept_log.specs.Life.{with_rounds, committed}

@@ -6,8 +6,8 @@ use Rattle.seq_arith.specs.Message.{Message}
 use Rattle.seq_arith.specs.MessageGrammar.{reading}
 use Rattle.ft_model.specs.Log.{Log, log_after, empty_log}
 use Rattle.logger_deaths.specs.NeededMessages.{log_after_all}
-use Rattle.journal.specs.Format.{counted, front}
-use Rattle.journal.proofs.Deaths.{front_push}
+use Rattle.kept_log.specs.Format.{counted, front}
+use Rattle.kept_log.proofs.Deaths.{front_push}
 use Rattle.kept_log.specs.MessageList.{Says, AllSay, IsRound}
 use Rattle.kept_log.specs.JournaledLog.{HasLog, Waits, with_round}
 use Rattle.kept_log.proofs.Messages.{whole}

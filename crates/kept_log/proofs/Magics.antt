@@ -4,7 +4,7 @@ use Rattle.std.specs.List.{starts_with}
 use Rattle.std.proofs.lemmas.Bool.{both_ways}
 use Rattle.std.proofs.lemmas.List.{take_at, take-append-drop}
 use Rattle.std.proofs.lemmas.Slice.Eq.{bytes_eq-Decides}
-use Rattle.journal.specs.Format.{magic}
+use Rattle.kept_log.specs.Format.{magic}
 use Rattle.kept_log.specs.Startup.{HasNoMagic}
 
 pub front_of_magic : (bytes : List ℕ) → starts_with nat_eq magic bytes ≡ true → (rest : List ℕ) × (bytes ++ rest ≡ magic)

@@ -8,8 +8,8 @@ use Rattle.seq_arith.specs.declared.kinds.BadMsg.{BadMsg}
 use Rattle.seq_arith.specs.Message.{Message}
 use Rattle.seq_arith.specs.MessageGrammar.{reading}
 use Rattle.disk.specs.declared.calls.DiskCall.{DiskCall}
-use Rattle.journal.specs.Format.{magic, counted, blocks, front, IsSmall}
-use Rattle.journal.proofs.OneReading.{reads_once}
+use Rattle.kept_log.specs.Format.{magic, counted, blocks, front, IsSmall}
+use Rattle.kept_log.proofs.OneReading.{reads_once}
 use Rattle.kept_log.specs.MessageList.{Says, AllSay, IsRound, AreKept}
 use Rattle.kept_log.specs.Startup.{Finds, IsDamaged, HasNoBlock}
 use Rattle.kept_log.proofs.Messages.{first_is}

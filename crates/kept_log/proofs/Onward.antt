@@ -2,8 +2,8 @@
 use Rattle.std.proofs.Common.{◌≡◌, ◌∙◌, ℕ, ◌+◌, ◌≤◌, Option, Some, None, List, [], ◌∷◌, ◌++◌, length, refl, sym, ap, subst, append_assoc, arith}
 use Rattle.std.specs.Io.KnownBytes.{Consumes}
 use Rattle.ft_model.specs.Log.{Log, empty_log}
-use Rattle.journal.specs.Format.{counted, blocks}
-use Rattle.journal.proofs.Deaths.{blocks_push}
+use Rattle.kept_log.specs.Format.{counted, blocks}
+use Rattle.kept_log.proofs.Deaths.{blocks_push}
 use Rattle.kept_log.specs.JournaledLog.{Waits}
 use Rattle.kept_log.specs.Startup.{HasNoBlock}
 use Rattle.kept_log.specs.ReadSteps.{IsAt, IsBrokenAt, Steps}

@@ -5,7 +5,7 @@ use Rattle.std.proofs.lemmas.Bool.{cases_lt}
 use Rattle.std.proofs.lemmas.List.{drop_at}
 use Rattle.ft_io.proofs.Choices.{same_some}
 use Rattle.ft_model.specs.Log.{Log, empty_log}
-use Rattle.journal.specs.Format.{magic, blocks}
+use Rattle.kept_log.specs.Format.{magic, blocks}
 use Rattle.kept_log.specs.JournaledLog.{HasLog}
 use Rattle.kept_log.specs.Startup.{IsDamaged}
 use Rattle.kept_log.specs.ReadSteps.{HasMagic, FindsBehind, FindsAs}

@@ -5,7 +5,7 @@ use Rattle.ft_model.specs.Log.{Log, empty_log}
 use Rattle.logger_deaths.specs.NeededMessages.{log_after_all}
 use Rattle.logger_store.specs.Changes.{changes}
 use Rattle.disk.specs.declared.calls.DiskCall.{DiskCall}
-use Rattle.journal.specs.Format.{front, keeping}
+use Rattle.kept_log.specs.Format.{front, keeping}
 use Rattle.kept_log.specs.MessageList.{Says, AreKept}
 
 pub record KeptState : Type 0 where

@@ -3,3 +3,4 @@ pub mod Life
 pub mod Startup
 pub mod ReadSteps
 pub mod MessageList
+pub mod Format

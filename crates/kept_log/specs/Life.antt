@@ -1,7 +1,7 @@
 -- What a logger does to its file from one opening to its death: it cuts off what an earlier death has left, commits rounds, and dies at any moment.
 use Rattle.std.specs.Prelude.{List, [], ◌∷◌, ◌++◌, ℕ, length}
 use Rattle.disk.specs.declared.calls.DiskCall.{DiskCall}
-use Rattle.journal.specs.Format.{front}
+use Rattle.kept_log.specs.Format.{front}
 use Rattle.kept_log.specs.JournaledLog.{committing, with_round}
 
 -- the blocks after rounds, the oldest first

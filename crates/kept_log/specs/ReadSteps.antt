@@ -4,7 +4,7 @@ use Rattle.std.specs.declared.option.Option.{Option}
 use Rattle.std.specs.Io.KnownBytes.{Consumes}
 use Rattle.seq_arith.specs.Message.{Message}
 use Rattle.ft_model.specs.Log.{Log}
-use Rattle.journal.specs.Format.{magic, counted, blocks, front}
+use Rattle.kept_log.specs.Format.{magic, counted, blocks, front}
 use Rattle.kept_log.specs.MessageList.{AreKept}
 use Rattle.kept_log.specs.JournaledLog.{HasLog, Waits}
 use Rattle.kept_log.specs.Startup.{HasNoBlock, HasNoMagic, IsDamaged}

@@ -9,9 +9,9 @@ use Rattle.disk.specs.declared.calls.DiskCall.TheVariants.{Appended, Synced}
 use Rattle.disk.specs.declared.calls.DeskCall.{DeskCall}
 use Rattle.disk.specs.Remains.{IsFrontOf}
 use Rattle.disk.specs.CallRecord.{on_disk}
-use Rattle.journal.specs.Format.{magic, counted, front, at_rest, mending}
-use Rattle.journal.specs.declared.journal.KeepEnd.{KeepEnd}
-use Rattle.journal.specs.declared.journal.KeepEnd.TheVariants as reads
+use Rattle.kept_log.specs.Format.{magic, counted, front, at_rest, mending}
+use Rattle.kept_log.specs.declared.journal.KeepEnd.{KeepEnd}
+use Rattle.kept_log.specs.declared.journal.KeepEnd.TheVariants as reads
 use Rattle.kept_log.specs.MessageList.{Says, AreKept}
 use Rattle.kept_log.specs.JournaledLog.{HasLog}
 use Rattle.kept_log.specs.declared.opening.OpenEnd.{OpenEnd}

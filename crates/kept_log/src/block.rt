@@ -2,7 +2,7 @@
 
 ghost use Rattle.kept_log.specs.ReadSteps.{StartsWith};
 
-use journal::{CLOSED, OPEN};
+use crate::journal::{CLOSED, OPEN};
 
 /// The longest body of a block, in bytes: 256 of the longest messages.
 pub const MOST_BODY: usize = 381_696;

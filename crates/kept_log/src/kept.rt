@@ -15,11 +15,11 @@ ghost use Rattle.kept_log.specs.Startup.{IsOpened, HasStopped};
 ghost use Rattle.std.specs.Prelude.{◌++◌};
 
 use crate::block::MOST_BODY;
+use crate::journal::{Journal, KeepEnd};
 use crate::opening::{OpenEnd, open_file};
 use crate::reading::BEYOND;
 use disk::Disk;
 use ft_io::NoMemory;
-use journal::{Journal, KeepEnd};
 use logger_store::{LogStore, MsgOut};
 use logger_wire::Msg;
 use std::alloc::Global;

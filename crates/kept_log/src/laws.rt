@@ -4,7 +4,7 @@ ghost use Rattle.std.specs.Prelude.{◌≡◌, ◌⊎◌, ◌≤◌, ◌+◌, �
 ghost use Rattle.seq_arith.specs.Message.{Message};
 ghost use Rattle.disk.specs.declared.calls.DiskCall.{DiskCall};
 ghost use Rattle.disk.specs.Remains.{IsFrontOf, LeftBy};
-ghost use Rattle.journal.specs.Format.{HasBlocks, front, at_rest};
+ghost use Rattle.kept_log.specs.Format.{HasBlocks, front, at_rest};
 ghost use Rattle.kept_log.specs.MessageList.{AreKept};
 ghost use Rattle.kept_log.specs.JournaledLog.{committing, with_round};
 ghost use Rattle.kept_log.specs.Startup.{Finds, IsWhole, IsDamaged};

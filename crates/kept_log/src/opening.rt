@@ -10,11 +10,11 @@ ghost use Rattle.ft_model.specs.Log.{empty_log};
 ghost use Rattle.kept_log.specs.Startup.{making, cutting, IsOpened, HasStopped};
 ghost use Rattle.kept_log.specs.declared.opening.OpenEnd.TheVariants as ends;
 
+use crate::journal::KeepEnd;
 use crate::magic::MAGIC;
 use crate::reading::{Found, read_file};
 use disk::Disk;
 use ft_io::Failed;
-use journal::KeepEnd;
 use logger_store::LogStore;
 use std::alloc::Global;
 

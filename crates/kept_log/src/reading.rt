@@ -9,11 +9,11 @@ ghost use Rattle.kept_log.specs.ReadSteps.{Takes, Steps, Reaches, FindsBehind, F
 
 use crate::block::{Start, start_of};
 use crate::body::take_body;
+use crate::journal::KeepEnd;
 use crate::magic::{MAGIC, Magic, magic_of};
 use crate::window::{Window, fill};
 use disk::Disk;
 use ft_io::NoMemory;
-use journal::KeepEnd;
 use logger_store::LogStore;
 use std::alloc::Global;
 

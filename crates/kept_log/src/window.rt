@@ -5,8 +5,8 @@ ghost use Rattle.std.specs.Io.KnownBytes.{Consumes, IsAtEnd};
 ghost use Rattle.ft_io.specs.Faults.{Rose};
 ghost use Rattle.ft_io.specs.Told.{Tells};
 
+use crate::journal::KeepEnd;
 use disk::Disk;
-use journal::KeepEnd;
 use std::alloc::{AllocError, Global};
 use std::marker::Model;
 

@@ -20,6 +20,7 @@
 
 use faults::Faults;
 use ft_io::{Addr, Arrival, NoMemory, Octets, WriteSink, write_all};
+use journal_link::{TwinRole, read_twin_role, run_ftnode};
 use node_link::{Role, read_role};
 use process::Meeting;
 use run::{Setting, Way};
@@ -33,7 +34,6 @@ use std::rt::Env;
 use std::time::Clock;
 use std::{env, io, mem};
 use test_data::bytes_of_hex;
-use twin_link::{TwinRole, read_twin_role, run_ftnode};
 use twin_log::Part;
 
 mod children;

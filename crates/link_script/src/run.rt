@@ -6,9 +6,9 @@ use crate::said::Said;
 use counter_service::Counter;
 use disk::{MemDesk, MemDisk};
 use ft_io::{Addr, Arrival, LinkCall, MemLink, MemSink, MemSource, MemSpawner, SpawnCall};
+use journal_link::node_in_pair;
 use node_link::node_of;
 use std::alloc::Global;
-use twin_link::node_in_pair;
 
 /// What is run, and how its calls on the link are printed.
 #[derive(Clone, Copy, Debug, PartialEq, Eq)]

@@ -42,7 +42,7 @@ pub record IsInRange (mss bytes output : ℕ) : Type 0 where
   pub acked : output ≤ 2 ^ 24 + 1
 
 -- the lengths of reads from a stream with so many logged bytes: their sum is at most that; there are at most as many as their sum, and one more if one of
--- them, the closing one, is 0; and each is at most 2,048
+-- them is 0; and each is at most 2,048
 pub record AreRead (bytes : ℕ) (lengths : List ℕ) : Type 0 where
   pub within : sum lengths ≤ bytes
   pub count : length lengths ≤ sum lengths + flag (list_any (λ k. k == 0) lengths)

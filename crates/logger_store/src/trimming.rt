@@ -176,7 +176,7 @@ impl TrimStore {
         self.log.acknowledge(key, units);
     }
 
-    /// How many bytes the first `reads` reads of the entry at place `i` took; `None` if there is no such entry, or a closing read is among them.
+    /// How many bytes the first `reads` reads of the entry at place `i` took; `None` if a closing read is among them.
     pub fn took(&self, i: u16, reads: u32) -> Option<u32>
         ensures value { IfSome result (λ n. n ≡ sum (take reads (lengths_of (slice_get self.now.log.entries i)))) }
         ensures within { IfSome result (λ n. n ≤ length (bytes_of (slice_get self.now.log.entries i))) }

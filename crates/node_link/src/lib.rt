@@ -1,4 +1,4 @@
-//! `node` is `ftnode` without the roles that `journal_link` and `twin_link` add. By its arguments it is a server, a logger or a client of FT-TCP (INFOCOM 2001)
+//! `node` is `ftnode` without the roles that `journal_link` adds. By its arguments it is a server, a logger or a client of FT-TCP (INFOCOM 2001)
 //! over a network of datagrams, or it starts a pair of servers with a logger and a client, each as a process. `node_of` is the same for a service of your own,
 //! as a server or its logger.
 //!

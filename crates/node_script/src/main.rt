@@ -5,8 +5,8 @@
 //!   connection after EVERY reads, or never without EVERY; a server that was up crashes first;
 //! - `packet HEX` and `message HEX` are datagrams from a client and from the logger, and a line of one word, `tick`, is a tick;
 //! - `conn IP PORT` prints the numbers of a client's connection, or `none`; IP is a number;
-//! - `attack COUNT SEED` gives COUNT datagrams that are drawn from SEED, and prints whether the server sent nothing, or else how many of its segments to live
-//!   connections didn't acknowledge exactly what is taken and answered, or were RSTs;
+//! - `attack COUNT SEED` gives COUNT datagrams that are drawn from SEED, and prints whether the server sent nothing, or else how many of its packets to
+//!   clients couldn't be read, or went to a live connection and were RSTs or didn't acknowledge exactly what is taken and answered;
 //! - `strike COUNT SEED KINDS SEQ ACK` gives COUNT hostile segments of one client that are drawn from SEED, of the first KINDS kinds of six, around the
 //!   client's next number and the server's, and prints how many packets were sent and a digest of them.
 //!

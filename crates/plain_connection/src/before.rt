@@ -8,8 +8,8 @@ ghost use Rattle.plain_connection.specs.Before.{IsBefore};
 
 use crate::connection::PlainConnection;
 use crate::news::News;
+use plain_packets::has_rst;
 use plain_point::Timer;
-use plain_segment::has_rst;
 use server_trait::Service;
 
 /// What a turn compares with the connection before it.

@@ -6,8 +6,8 @@ ghost use Rattle.plain_connection.specs.Made.{end_of};
 ghost use Rattle.plain_connection.specs.State.{IsServed};
 
 use crate::made_output::{End, Made};
+use plain_packets::part;
 use plain_point::PlainPoint;
-use plain_segment::part;
 use server_trait::Service;
 use std::marker::Model;
 

@@ -11,7 +11,7 @@ ghost use Rattle.plain_connection.specs.State.{IsServed};
 use crate::connection::PlainConnection;
 use crate::made_output::Made;
 use ft_io::NoMemory;
-use plain_fetch::{EntryParts, PlainFetched};
+use plain_log::{EntryParts, PlainFetched};
 use plain_point::{Numbers, PlainPoint};
 use server_trait::Service;
 use std::alloc::Global;

@@ -15,8 +15,7 @@ ghost use Rattle.plain_connection.specs.Since.{Sends, having_sent, syn_acks_sinc
 use crate::before::Before;
 use crate::connection::PlainConnection;
 use ft_io::{Addr, NoMemory};
-use plain_packets::PlainPackets;
-use plain_segment::part;
+use plain_packets::{PlainPackets, part};
 use segment_codec::PacketRef;
 use seq_arith::{ACK, FIN};
 use server_trait::Service;

@@ -1,4 +1,5 @@
-pub mod Lengths
+pub mod ReadLengths
 pub mod Mapped
 pub mod Ranges
 pub mod Replies
+pub mod Following

@@ -1,2 +1,4 @@
 pub mod Parts
 pub mod Reply
+pub mod Following
+pub mod Values

@@ -347,7 +347,7 @@ fn front<T>(elements: &[T], most: usize) -> &[T]
 }
 
 /// Appends each length in two bytes, the high one first. After `NoMemory` `out` may only be dropped.
-#[tactic(auto, using(crate::proofs::Lengths::none_spelled, crate::proofs::Lengths::one_more_spelled, std::proofs::lemmas::List::take_more))]
+#[tactic(auto, using(crate::proofs::ReadLengths::none_spelled, crate::proofs::ReadLengths::one_more_spelled, std::proofs::lemmas::List::take_more))]
 fn spell(lengths: &[u16], out: &mut Vec<u8>) -> Result<(), NoMemory>
     requires { length out.old.items ≡ 0 }
     ensures { OnOk result (lens_in out.new.items ≡ lengths.now) }

@@ -1,3 +1,6 @@
 pub mod Lengths
 pub mod Ranges
 pub mod Sent
+pub mod Fins
+pub mod FirstPlace
+pub mod Laying

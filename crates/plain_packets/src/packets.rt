@@ -11,7 +11,7 @@ ghost use Rattle.plain_packets.specs.Sent.{Appends, wire_at};
 
 use crate::message::spelled;
 use crate::path::Path;
-use crate::segment::{fits_packet, segment_bytes};
+use crate::segment_bytes::{fits_packet, segment_bytes};
 use crate::wire::PlainWire;
 use ft_io::{Key, NoMemory};
 use logger_wire::Msg;

@@ -5,7 +5,7 @@ ghost use Rattle.segment_codec.specs.Value.{segment_of};
 
 use crate::point::PlainPoint;
 use ft_io::NoMemory;
-use plain_segment::{
+use plain_packets::{
     Coming, Held, Stream, accepts, ack, counted_text, counts_fin, first, has_ack, has_rst, has_syn,
     is_at, is_usable, segment_len,
 };

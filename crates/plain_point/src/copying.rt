@@ -8,7 +8,7 @@ ghost use Rattle.plain_point.specs.Copying.{further_part};
 
 use crate::point::PlainPoint;
 use ft_io::Key;
-use plain_segment::{counted_text, counts_fin, is_at, part, place_of, rest};
+use plain_packets::{counted_text, counts_fin, is_at, part, place_of, rest};
 use segment_codec::PacketRef;
 use seq_arith::below;
 

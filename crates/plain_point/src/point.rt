@@ -5,7 +5,7 @@ ghost use Rattle.plain_point.specs.Values.{numbers_in};
 
 use crate::congestion::Window;
 use ft_io::Key;
-use plain_segment::Held;
+use plain_packets::Held;
 use std::alloc::Global;
 use std::marker::Model;
 

@@ -4,7 +4,7 @@ ghost use Rattle.std.specs.Prelude.{◌≡◌, ◌≤◌, ◌+◌, OnOk, IfSome,
 
 use crate::point::PlainPoint;
 use ft_io::NoMemory;
-use plain_segment::part;
+use plain_packets::part;
 
 /// The longest read, in bytes.
 const LONGEST_READ: u64 = 2_048;

@@ -6,7 +6,7 @@ ghost use Rattle.segment_codec.specs.Value.{segment_of};
 
 use crate::point::PlainPoint;
 use ft_io::Addr;
-use plain_segment::number_of;
+use plain_packets::number_of;
 use segment_codec::{Head, PacketRef};
 use seq_arith::{ACK, SYN, Seq};
 

@@ -7,7 +7,7 @@ ghost use Rattle.plain_point.specs.Values.{congestion_in};
 use crate::congestion::Window;
 use crate::point::PlainPoint;
 use ft_io::NoMemory;
-use plain_segment::{counted_text, counts_fin};
+use plain_packets::{counted_text, counts_fin};
 use segment_codec::PacketRef;
 use std::alloc::Global;
 

@@ -22,9 +22,9 @@ use Rattle.ft_model.proofs.Lists.{none_is_some, some_is}
 use Rattle.ft_model.proofs.SomeOutcome.{move_may, is_none, asks, asks_for, is_up, mover_there, named, named_with_bit, window_fits}
 use Rattle.plain_packets.specs.Sent.{Appends, wire_at}
 use Rattle.plain_packets.proofs.Sent.{wire_numbered, appends_same}
-use Rattle.plain_node.specs.Served.{IsServedNode}
-use Rattle.plain_node.specs.Turns.{SendsBy}
-use Rattle.plain_node.specs.Values.{NodeState, node_in, opened_in}
+use Rattle.plain_world.specs.Served.{IsServedNode}
+use Rattle.plain_world.specs.NodeTurns.{SendsBy}
+use Rattle.plain_world.specs.Values.{NodeState, node_in, opened_in}
 use Rattle.plain_world.specs.Premises.{Premises, PassesBy}
 use Rattle.plain_world.specs.Turns.{Serves, MovesClient, Brings, BringsFlipped, Advances, Does}
 use Rattle.plain_world.specs.WorldState.{WorldState, node_of, world_with, actors_of, world_of, OfKind, IsServedUp, opened_of}

@@ -2,3 +2,11 @@ pub mod Distinct
 pub mod Reaching
 pub mod Events
 pub mod Trace
+pub mod Alone
+pub mod AllPlaces
+pub mod Entries
+pub mod Fetched
+pub mod Fetches
+pub mod NodeTurns
+pub mod Openings
+pub mod Places

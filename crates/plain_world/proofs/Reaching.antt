@@ -25,8 +25,8 @@ use Rattle.ft_model.specs.Wire.Party.{A_client, The_server, The_logger}
 use Rattle.ft_model.specs.World.{World, ServerTurn, ServerMoves, ClientReads, LogReads, Delivered, DeliveredAs, Flipped, segment_or_noise, message_or_noise, with_client}
 use Rattle.plain_packets.specs.Sent.{Appends}
 use Rattle.plain_packets.proofs.Sent.{appends_same}
-use Rattle.plain_node.specs.Turns.{SendsBy}
-use Rattle.plain_node.specs.Values.{NodeState, node_in}
+use Rattle.plain_world.specs.NodeTurns.{SendsBy}
+use Rattle.plain_world.specs.Values.{NodeState, node_in}
 use Rattle.plain_world.specs.Premises.{IsFree, PassesBy}
 use Rattle.plain_world.specs.Turns.{StaysReady, Serves, Brings, BringsFlipped}
 use Rattle.plain_world.specs.WorldState.{ActorsState, node_of, world_with, OfKind, IsServedUp}

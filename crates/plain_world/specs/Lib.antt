@@ -1,3 +1,9 @@
 pub mod Premises
 pub mod Turns
 pub mod WorldState
+pub mod Accepting
+pub mod Moves
+pub mod Restored
+pub mod Served
+pub mod NodeTurns
+pub mod Values

@@ -12,8 +12,8 @@ use Rattle.ft_model.specs.Wire.{Wire, wire_of, HasWire}
 use Rattle.ft_model.specs.World.{World, ServerTurn, client_at, Delivered, Flipped, Happens}
 use Rattle.ft_model.specs.declared.event.Event.{Event}
 use Rattle.plain_packets.specs.Sent.{Appends}
-use Rattle.plain_node.specs.Turns.{SendsBy}
-use Rattle.plain_node.specs.Values.{NodeState}
+use Rattle.plain_world.specs.NodeTurns.{SendsBy}
+use Rattle.plain_world.specs.Values.{NodeState}
 use Rattle.plain_world.specs.Premises.{Premises, IsFree, PassesBy}
 use Rattle.plain_world.specs.WorldState.{ActorsState, WorldState, node_of, world_with, world_of, OfKind, IsServedUp, opened_of}
 

@@ -12,8 +12,8 @@ use Rattle.ft_model.specs.Wire.{Wire, wire_of}
 use Rattle.ft_model.specs.World.{World, Moment, world_after, events_of}
 use Rattle.ft_model.specs.declared.event.Event.{Event}
 use Rattle.ft_model.specs.declared.schedule.Schedule.{Schedule}
-use Rattle.plain_node.specs.Served.{IsServedNode}
-use Rattle.plain_node.specs.Values.{NodeState, node_in, opened_in}
+use Rattle.plain_world.specs.Served.{IsServedNode}
+use Rattle.plain_world.specs.Values.{NodeState, node_in, opened_in}
 
 -- the clients, the log, and the server, if it is up
 pub record ActorsState (State : Type 0) : Type 0 where

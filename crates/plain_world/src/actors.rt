@@ -6,15 +6,16 @@ ghost use Rattle.ft_model.specs.Node.Input.{Tick_comes};
 ghost use Rattle.plain_world.specs.Turns.{Serves, MovesClient, Brings, BringsFlipped};
 ghost use Rattle.plain_world.specs.WorldState.{IsServedUp, opened_of};
 
+use crate::client::PlainClient;
 use crate::clients::{make, receive};
+use crate::input::Input;
 use crate::log::hear;
+use crate::node::PlainNode;
 use crate::server::serve;
 use ft_io::NoMemory;
 use ft_model::Event;
 use logger_wire::read_msg;
-use plain_client::PlainClient;
 use plain_log::PlainLog;
-use plain_node::{Input, PlainNode};
 use plain_packets::{Path, PlainPackets, PlainWire};
 use segment_codec::read_packet;
 use server_trait::Service;

@@ -8,9 +8,10 @@ ghost use Rattle.ft_model.specs.Schedule.{bytes_of, client_of, clients_of};
 ghost use Rattle.ft_model.specs.World.{client_at, with_client};
 ghost use Rattle.plain_world.specs.Turns.{MakesMove, MovesOne};
 
+use crate::client::PlainClient;
+use crate::moves::move_of;
 use ft_io::{Addr, Key, NoMemory};
 use ft_model::{ClientLine, Event};
-use plain_client::{PlainClient, move_of};
 use plain_packets::PlainPackets;
 use segment_codec::PacketRef;
 use std::alloc::Global;

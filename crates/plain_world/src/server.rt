@@ -4,13 +4,14 @@ ghost use Rattle.std.specs.Prelude.{◌≡◌, ◌≤◌, ◌^◌, OnOk, IsTrue,
 ghost use Rattle.ft_model.specs.Lawful.{fence};
 ghost use Rattle.ft_model.specs.Legal.{machines};
 ghost use Rattle.ft_model.specs.Node.{Node};
-ghost use Rattle.plain_node.specs.Values.{input_in, IsReadInput};
+ghost use Rattle.plain_world.specs.Values.{input_in, IsReadInput};
 ghost use Rattle.plain_world.specs.Turns.{Serves};
 ghost use Rattle.plain_world.specs.WorldState.{IsServedUp, opened_of};
 
+use crate::input::Input;
+use crate::node::PlainNode;
 use ft_io::NoMemory;
 use logger_wire::Body;
-use plain_node::{Input, PlainNode};
 use plain_packets::PlainPackets;
 use server_trait::Service;
 use std::alloc::Global;

@@ -10,12 +10,12 @@ ghost use Rattle.ft_model.specs.declared.schedule.Schedule.{Schedule as Written}
 ghost use Rattle.plain_world.specs.Turns.{Does};
 ghost use Rattle.plain_world.specs.WorldState.{IsAt, IsReady, Steps, IsServedUp, opened_of};
 
+use crate::node::PlainNode;
 use crate::world::PlainWorld;
 use ft_io::NoMemory;
 use ft_model::Event;
 use ft_model::headline::no_server_is_fenced;
 use ft_model::wire::packets_have_wires;
-use plain_node::PlainNode;
 use plain_packets::PlainPackets;
 use server_trait::Service;
 use std::alloc::Global;

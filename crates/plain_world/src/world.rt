@@ -13,11 +13,12 @@ ghost use Rattle.ft_model.specs.declared.schedule.Schedule.{Schedule as Written}
 ghost use Rattle.plain_world.specs.WorldState.{IsAt, world_of};
 
 use crate::actors::Actors;
+use crate::client::PlainClient;
 use crate::clients::{new_clients, numbered};
+use crate::moves::move_of;
 use ft_io::{Addr, NoMemory};
 use ft_model::grammar::playable_schedules_start;
 use ft_model::{Event, EventWhy, Schedule};
-use plain_client::{PlainClient, move_of};
 use plain_log::PlainLog;
 use plain_packets::PlainPackets;
 use server_trait::Service;

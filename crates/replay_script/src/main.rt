@@ -5,8 +5,8 @@
 //!   source, of the sink of the report and of that of the errors that fails, 0 for none. Printed are the status, what was written to the sink of the errors,
 //!   and the report: its last LAST lines, or all of it for 0. Without lines of its own, it plays those of the one before it;
 //! - `= checked NAME` plays them by `run`, and then the report by `check`;
-//! - `= crash NAME` plays, for each n, the first n of the events in a new world; then the server crashes and restarts, all is delivered that is sent, and the
-//!   client continues. Printed is what it has accepted at the end, and the lengths of the reads in the log;
+//! - `= crash NAME` plays, for each n, the first n of the events in a new world; then the server crashes and restarts, all that is sent from the restart on is
+//!   delivered, and client 1 continues. Printed is what it has accepted at the end, and how many bytes and reads the log's first entry has;
 //! - `= crash NAME PART` does so, and one of two loggers stops as the server crashes: 1 is the head, 2 the tail;
 //! - `= deltas NAME` plays all events, and prints the delta of each connection that the server has live at the end: the client's numbers less the inner TCP's;
 //! - `= shell`, which comes last, hands them to `sh` as a script, which can run `ftreplay` as a process ([`shell`]).

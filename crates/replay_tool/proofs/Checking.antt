@@ -12,7 +12,7 @@ use Rattle.report_laws.specs.Transitions.{IsReport}
 use Rattle.report_laws.specs.Verdict.{IsRejected, SameLines}
 use Rattle.report_laws.specs.declared.Law.{Law}
 use Rattle.sample_servers.specs.AnyService.{any_machine}
-use Rattle.seed_run.specs.Safe.{IsSafe}
+use Rattle.replay_tool.specs.Safe.{IsSafe}
 use Rattle.trace_check.specs.Leads.{IsRejection}
 use Rattle.trace_check.specs.declared.end.CheckEnd.{CheckEnd}
 use Rattle.trace_check.specs.declared.end.CheckEnd.TheVariants as checks

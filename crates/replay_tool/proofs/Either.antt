@@ -15,7 +15,7 @@ use Rattle.ft_model.specs.Masked.{Masked}
 use Rattle.mark_traces.specs.MarkedLegal.{IsMarkedLegalFor, marked_start}
 use Rattle.mark_traces.specs.MarkedWorld.{MarkedMoment, MarkedWorld, MarkedJoint, marked_after, plain_trace}
 use Rattle.mark_traces.specs.TrueMarks.{MarksAreTrue}
-use Rattle.seed_run.specs.Safe.{IsSafe}
+use Rattle.replay_tool.specs.Safe.{IsSafe}
 use Rattle.twin_laws.specs.Flat.{flat}
 use Rattle.twin_laws.specs.TwinLegal.{twin_start, IsTwinLegalFor}
 use Rattle.twin_laws.specs.TwinWorld.{TwinMoment}

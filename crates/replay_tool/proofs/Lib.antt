@@ -10,3 +10,10 @@ pub mod RunEnds
 pub mod Settling
 pub mod Seeding
 pub mod Checking
+pub mod Clients
+pub mod Boots
+pub mod Allowed
+pub mod FirstSchedule
+pub mod Stepping
+pub mod Facts
+pub mod Summing

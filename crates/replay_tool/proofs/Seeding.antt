@@ -3,11 +3,11 @@ use Rattle.std.proofs.Common.{◌≡◌, ℕ, true, false, Option, None, Some, I
 use Rattle.std.specs.Str.{bytes_eq}
 use Rattle.std.proofs.lemmas.Slice.Eq.{bytes_eq-Decides}
 use Rattle.ft_io.specs.Source.{ConsumesAtMost}
-use Rattle.seed_run.specs.Runs.{EndsRun}
-use Rattle.seed_run.specs.Words.{asked}
-use Rattle.seed_run.specs.declared.asked.Asked.{Asked}
-use Rattle.seed_run.specs.declared.run.SeedEnd.{SeedEnd}
-use Rattle.seed_run.specs.declared.run.SeedEnd.TheVariants as seeds
+use Rattle.replay_tool.specs.SeedSummaries.{EndsRun}
+use Rattle.replay_tool.specs.SeedWords.{asked}
+use Rattle.replay_tool.specs.declared.asked.Asked.{Asked}
+use Rattle.replay_tool.specs.declared.seed_run.SeedEnd.{SeedEnd}
+use Rattle.replay_tool.specs.declared.seed_run.SeedEnd.TheVariants as seeds
 use Rattle.replay_tool.specs.Ends.{end_of_seed}
 use Rattle.replay_tool.specs.SeedRuns.{SeedStops}
 use Rattle.replay_tool.specs.Stream.{Stream, HasFailed}

@@ -8,7 +8,7 @@ use Rattle.ft_model.specs.Schedule.{kind_of}
 use Rattle.report_laws.specs.Transitions.{IsReport}
 use Rattle.report_laws.specs.Verdict.{IsRejected}
 use Rattle.report_laws.specs.declared.Law.{Law}
-use Rattle.seed_run.specs.Safe.{IsSafe}
+use Rattle.replay_tool.specs.Safe.{IsSafe}
 use Rattle.replay_tool.specs.PartialWrite.{IsFrontOf, Wrote}
 use Rattle.replay_tool.specs.Stream.{Stream, HasFailed, HasNotFailed}
 use Rattle.replay_tool.specs.declared.status.TooMuch.TheVariants.{Text}

@@ -10,8 +10,8 @@ use Rattle.net_schedule.specs.declared.end.StepEnd.{StepEnd}
 use Rattle.net_schedule.specs.declared.end.StepEnd.TheVariants as steps
 use Rattle.trace_check.specs.declared.end.CheckEnd.{CheckEnd}
 use Rattle.trace_check.specs.declared.end.CheckEnd.TheVariants as checks
-use Rattle.seed_run.specs.declared.run.SeedEnd.{SeedEnd}
-use Rattle.seed_run.specs.declared.run.SeedEnd.TheVariants as seeds
+use Rattle.replay_tool.specs.declared.seed_run.SeedEnd.{SeedEnd}
+use Rattle.replay_tool.specs.declared.seed_run.SeedEnd.TheVariants as seeds
 use Rattle.replay_tool.specs.declared.status.TooMuch.TheVariants.{Text, Events, Packets}
 use Rattle.replay_tool.specs.declared.status.RunEnd.{RunEnd}
 use Rattle.replay_tool.specs.declared.status.RunEnd.TheVariants.{Usage, NoMemory, ReadFault, WriteFault, BadLine, BadEvent, TooLong, Rejected}

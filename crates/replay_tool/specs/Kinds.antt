@@ -1,6 +1,6 @@
 -- The promises for each kind of arguments: how the call ended, what was read, what was written to out and to err, and the status.
 use Rattle.std.specs.Prelude.{◌≡◌, ◌⊎◌, ℕ, true, Err, IfSome}
-use Rattle.seed_run.specs.declared.asked.Asked.{Asked}
+use Rattle.replay_tool.specs.declared.asked.Asked.{Asked}
 use Rattle.replay_tool.specs.Causes.{IsStill, IsSettled}
 use Rattle.replay_tool.specs.Checks.{CheckDoes, IsCheckSettled}
 use Rattle.replay_tool.specs.Ends.{is_run_code, is_check_code, is_seed_code}

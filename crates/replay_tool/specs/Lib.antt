@@ -14,3 +14,10 @@ pub mod Checks
 pub mod Outcome
 pub mod Causes
 pub mod Kinds
+pub mod Draws
+pub mod SeedEvents
+pub mod Generated
+pub mod Safe
+pub mod SeedWords
+pub mod SummaryText
+pub mod SeedSummaries

@@ -1,7 +1,7 @@
 -- How a generated run ends: what was written of its summary.
 use Rattle.std.specs.Prelude.{Result, Ok, Err}
-use Rattle.seed_run.specs.Runs.{IsSummarized, IsSummarizedInPart, IsPastLimit}
-use Rattle.seed_run.specs.declared.asked.Asked.{Asked}
+use Rattle.replay_tool.specs.SeedSummaries.{IsSummarized, IsSummarizedInPart, IsPastLimit}
+use Rattle.replay_tool.specs.declared.asked.Asked.{Asked}
 use Rattle.replay_tool.specs.Stream.{Stream, HasFailed, HasNotFailed}
 use Rattle.replay_tool.specs.declared.status.TooMuch.TheVariants.{Packets}
 use Rattle.replay_tool.specs.declared.status.RunEnd.{RunEnd}

@@ -12,7 +12,7 @@ use Rattle.ft_model.specs.World.{Moment, world_after, events_of}
 use Rattle.ft_model.specs.declared.event.Event.{Event}
 use Rattle.ft_model.specs.declared.event.EventWhy.{EventWhy}
 use Rattle.ft_model.specs.declared.schedule.Schedule.{Schedule}
-use Rattle.seed_run.specs.Safe.{IsSafe}
+use Rattle.replay_tool.specs.Safe.{IsSafe}
 use Rattle.mark_traces.specs.MarkedLegal.{markers, marked_start, marked_refusal, IsMarkedLegalFor, marked_packets_sent}
 use Rattle.mark_traces.specs.MarkedNode.{Marker}
 use Rattle.mark_traces.specs.MarkedWorld.{MarkedMoment, marked_after, plain_trace}

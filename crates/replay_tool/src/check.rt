@@ -7,12 +7,12 @@ ghost use Rattle.replay_tool.specs.Checks.{counted, legal_line, FindsLegal, Chec
 ghost use Rattle.replay_tool.specs.PartialWrite.{WroteFront, CountsFailed};
 ghost use Rattle.replay_tool.specs.Stream.{stream};
 
+use crate::laws::joint_traces_are_safe;
 use crate::status::RunEnd;
 use crate::telling::{write_both, write_text};
 use ft_io::{Failed, Sink, Source, read_to_limit};
 use itoa::Buffer;
 use sample_servers::AnyService;
-use seed_run::laws::joint_traces_are_safe;
 use std::alloc::Global;
 use trace_check::{Yes, check_trace};
 

@@ -1,17 +1,17 @@
 //! The `seed` command, from its arguments to the exit status.
 
 ghost use Rattle.std.specs.Prelude.{◌≡◌, ◌⊎◌, true, map, string_bytes, None, IfSome};
-ghost use Rattle.seed_run.specs.Words.{asked};
+ghost use Rattle.replay_tool.specs.SeedWords.{asked};
 ghost use Rattle.replay_tool.specs.Causes.{IsStill};
 ghost use Rattle.replay_tool.specs.Ends.{is_seed_code};
 ghost use Rattle.replay_tool.specs.Outcome.{HasEnded};
 ghost use Rattle.replay_tool.specs.SeedRuns.{SeedDoes};
 ghost use Rattle.replay_tool.specs.Stream.{stream};
 
+use crate::seed_run::seed;
 use crate::status::{Status, end_of_seed};
 use crate::telling::tell;
 use ft_io::Sink;
-use seed_run::seed;
 use std::alloc::Global;
 
 /// Plays the schedule generated from the arguments and writes its summary to `out`. If the run ended early, it then writes the reason to `err`.

@@ -4,12 +4,12 @@ ghost use Rattle.std.specs.Prelude.{◌≡◌};
 ghost use Rattle.replay_tool.specs.declared.status.RunEnd.TheVariants as ends;
 ghost use Rattle.replay_tool.specs.Ends.{end_of_step as end_lem, end_of_seed as seed_end_lem};
 
+use crate::seed_run::SeedEnd;
 use ft_io::{Failed, NoMemory, ReadEnd};
 use ft_model::{EventWhy, Limit, LineWhy};
 use net_schedule::StepEnd;
 use report_laws::Law;
 use schedule_text::ScheduleEnd;
-use seed_run::SeedEnd;
 use std::alloc::AllocError;
 use trace_check::CheckEnd;
 

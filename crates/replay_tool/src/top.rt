@@ -2,7 +2,7 @@
 
 ghost use Rattle.std.specs.Prelude.{◌≡◌, true, map, string_bytes, IfSome};
 ghost use Rattle.ft_io.specs.Source.{ConsumesAtMost};
-ghost use Rattle.seed_run.specs.Words.{asked};
+ghost use Rattle.replay_tool.specs.SeedWords.{asked};
 ghost use Rattle.replay_tool.specs.Words.{is_run, is_check, most_read, AreOther};
 ghost use Rattle.replay_tool.specs.PartialWrite.{Wrote};
 ghost use Rattle.replay_tool.specs.PlayedRun.{Spells, ReportsAll};
@@ -11,13 +11,13 @@ ghost use Rattle.replay_tool.specs.Kinds.{HasRun, HasChecked, HasSeeded, IsUsage
 ghost use Rattle.replay_tool.specs.Stream.{stream};
 ghost use Rattle.replay_tool.specs.Ends.{is_code};
 
+use crate::asked::Asked;
 use crate::reports::check_report;
 use crate::schedules::replay_schedule;
 use crate::seeds::replay_seed;
 use crate::status::{RunEnd, Status};
 use crate::telling::tell;
 use ft_io::{Sink, Source};
-use seed_run::Asked;
 use std::alloc::Global;
 
 /// Returns whether the arguments are the one word `run`.

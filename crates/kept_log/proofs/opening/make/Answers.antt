@@ -3,7 +3,7 @@ use Rattle.std.proofs.lemmas.List.{take_rest}
 use Rattle.ft_io.specs.Told.{Tells}
 use Rattle.disk.specs.declared.calls.DiskCall.TheVariants.{Appended, Synced}
 use Rattle.disk.specs.declared.calls.DeskCall.TheVariants.{OnDisk}
-use Rattle.journal.specs.Format.{at_rest}
+use Rattle.kept_log.specs.Format.{at_rest}
 use Rattle.ft_io.proofs.Outcomes.{at_err}
 use Rattle.kept_log.proofs.Settled.{first_failed, sync_failed}
 use Rattle.kept_log.proofs.opening.make.Goals as goal

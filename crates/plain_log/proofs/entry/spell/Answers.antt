@@ -1,6 +1,6 @@
 use Rattle.std.proofs.Common.{◌≡◌, ℕ, ◌+◌, ◌<◌, ◌^◌, ◌++◌, ◌∷◌, [], take, arith, get_or}
 use Rattle.std.proofs.lemmas.List.{take_more}
-use Rattle.plain_log.proofs.Lengths.{one_more_spelled}
+use Rattle.plain_log.proofs.ReadLengths.{one_more_spelled}
 use Rattle.plain_log.proofs.entry.spell.Goals as goal
 
 pub loop-length-preserved : goal.loop-length-preserved

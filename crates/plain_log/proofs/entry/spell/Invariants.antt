@@ -1,5 +1,5 @@
 use Rattle.std.specs.Prelude.{take}
-use Rattle.plain_log.proofs.Lengths.{IsSpelled}
+use Rattle.plain_log.proofs.ReadLengths.{IsSpelled}
 use Rattle.plain_log.proofs.entry.spell.Given as goal
 
 abbrev pub invariant-loop-length : goal.invariant-loop-length

@@ -1,6 +1,6 @@
 use Rattle.std.proofs.Common.{◌∙◌, sym}
 use Rattle.ft_model.specs.Legal.{machines}
-use Rattle.plain_node.specs.Values.{input_in, node_in}
+use Rattle.plain_world.specs.Values.{input_in, node_in}
 use Rattle.plain_world.proofs.Reaching.{passed_over}
 use Rattle.plain_world.proofs.server.serve.Goals as goal
 

@@ -1,5 +1,5 @@
 use Rattle.std.proofs.Common.{refl, sym, ap, subst, map, string_bytes, Ok, Err}
-use Rattle.seed_run.specs.Words.{asked}
+use Rattle.replay_tool.specs.SeedWords.{asked}
 use Rattle.replay_tool.specs.SeedRuns.{SeedStops}
 use Rattle.replay_tool.specs.Stream.{stream}
 use Rattle.replay_tool.proofs.Seeding.{of_asked, seed_stops}

@@ -1,6 +1,6 @@
 use Rattle.std.proofs.Common.{◌≡◌, ◌∙◌, ap, sym, Some}
 use Rattle.ft_model.specs.World.{client_at}
-use Rattle.plain_client.specs.Moves.{move_value}
+use Rattle.plain_world.specs.Moves.{move_value}
 use Rattle.plain_world.proofs.Events.{asked_refusal}
 use Rattle.plain_world.proofs.world.PlainWorld.move_refusal.Goals as goal
 

@@ -1,2 +1,0 @@
-pub mod Deaths
-pub mod OneReading

@@ -1,0 +1,29 @@
+use Rattle.std.proofs.Common.{map}
+use Rattle.std.specs.Prelude.{string_bytes}
+use Rattle.ft_model.specs.Legal.{machines}
+use Rattle.sample_servers.specs.AnyService.{any_started, any_after}
+use Rattle.node_link.specs.Roles.{role_of}
+use Rattle.journal_link.proofs.PairUnread.{unread, unread_kept, unread_twin}
+use Rattle.journal_link.proofs.pair_top.node_in_pair.Goals as goal
+
+pub returns-in-Err-clause-ended : goal.returns-in-Err-clause-ended
+returns-in-Err-clause-ended g c = λ words journal.
+    unread (g.E.Sink.taken c.args.err.now) (g.E.Sink.taken c.tell.new.err) (g.E.Sink.fault_count c.args.err.now) (g.E.Sink.fault_count c.tell.new.err) c.tell.result.code
+    (machines any_started any_after) (role_of (map string_bytes c.args.words.now))
+    (record {
+      left = g.I.Source.left c.args.input.now;
+      calls = g.L.Link.told c.args.link.now;
+      started = g.P.Spawner.started c.args.kids.now;
+      spawned = g.P.Spawner.told c.args.kids.now;
+      out = g.O.Sink.taken c.args.out.now;
+    }) c.tell.ensures.told
+
+pub returns-in-Err-clause-kept : goal.returns-in-Err-clause-kept
+returns-in-Err-clause-kept g c = λ role words journal.
+    unread_kept (g.E.Sink.taken c.args.err.now) (g.E.Sink.taken c.tell.new.err) (g.E.Sink.fault_count c.args.err.now) (g.E.Sink.fault_count c.tell.new.err) c.tell.result.code
+    role (g.K.Desk.file_of c.args.desk.now role.journal) (g.K.Disk.told c.args.desk.now) (g.O.Sink.taken c.args.out.now) c.tell.ensures.told
+
+pub returns-in-Err-clause-lived : goal.returns-in-Err-clause-lived
+returns-in-Err-clause-lived g c = λ role words.
+    unread_twin (g.E.Sink.taken c.args.err.now) (g.E.Sink.taken c.tell.new.err) (g.E.Sink.fault_count c.args.err.now) (g.E.Sink.fault_count c.tell.new.err) c.tell.result.code
+    role (g.L.Link.told c.args.link.now) (g.O.Sink.taken c.args.out.now) c.tell.ensures.told

@@ -1,0 +1,5 @@
+use Rattle.kept_log.proofs.journal_laws.an_incarnation_keeps_all.Goals as goal
+use Rattle.kept_log.proofs.Deaths.{keeps_all}
+
+pub returns : goal.returns
+returns c = λ file left bodies kept last done stands f l. keeps_all file left bodies kept last done stands f l

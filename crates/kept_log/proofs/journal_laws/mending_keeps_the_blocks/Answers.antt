@@ -1,0 +1,11 @@
+use Rattle.std.proofs.Common.{◌≡◌, ◌∙◌}
+use Rattle.kept_log.proofs.journal_laws.mending_keeps_the_blocks.Goals as goal
+use Rattle.kept_log.proofs.Deaths.{mended, mended_rests}
+
+pub returns-clause-any_moment : goal.returns-clause-any_moment
+returns-clause-any_moment c = λ file left bodies done stands f l. mended file (λ c. c ≡ file) bodies stands (λ c is. is) done left f l
+
+pub returns-clause-rests : goal.returns-clause-rests
+returns-clause-rests c = λ file left bodies stands l.
+    let rest = mended_rests file (λ c. c ≡ file) bodies stands (λ c is. is) in
+    rest.1 left l ∙ rest.0

@@ -1,5 +1,0 @@
-use Rattle.plain_node.proofs.Openings.{IsPendingCount}
-use Rattle.plain_node.proofs.opening.pending_count.Given as goal
-
-abbrev pub invariant-loop-place : goal.invariant-loop-place
-invariant-loop-place g l = IsPendingCount l.place-index l.count l.places

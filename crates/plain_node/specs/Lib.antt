@@ -1,4 +1,0 @@
-pub mod Restored
-pub mod Served
-pub mod Turns
-pub mod Values

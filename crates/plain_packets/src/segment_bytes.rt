@@ -1,0 +1,32 @@
+//! A segment as its bytes.
+
+ghost use Rattle.std.specs.Prelude.{◌≡◌, ◌≤◌, IfOk, IsTrue, ◌↔◌};
+ghost use Rattle.seq_arith.specs.PacketGrammar.{packet_length, spelling};
+ghost use Rattle.segment_codec.specs.Value.{segment_of};
+
+use ft_io::NoMemory;
+use segment_codec::{PacketRef, payload_start, write_header};
+use std::alloc::Global;
+
+/// The largest size of a packet, in bytes.
+const LONGEST_PACKET: usize = 1_500;
+
+/// Returns whether a segment fits a packet.
+pub(crate) fn fits_packet(segment: &PacketRef<'_>) -> bool
+    ensures { IsTrue result ↔ (packet_length (segment_of segment.now) ≤ 1500) }
+{
+    payload_start(segment.head.mss) + segment.payload.len() <= LONGEST_PACKET
+}
+
+/// Returns the bytes of a segment that fits a packet.
+pub(crate) fn segment_bytes(alloc: Global, segment: &PacketRef<'_>) -> Result<Vec<u8>, NoMemory>
+    requires { packet_length (segment_of segment.now) ≤ 1500 }
+    ensures { IfOk result (λ bytes. bytes.items ≡ spelling (segment_of segment.now)) }
+{
+    let start = payload_start(segment.head.mss);
+    let mut bytes = Vec::with_capacity(alloc, start + segment.payload.len())?;
+    bytes.resize(start, 0)?;
+    bytes.extend_from_slice(segment.payload)?;
+    write_header(&segment.head, &mut bytes);
+    Ok(bytes)
+}

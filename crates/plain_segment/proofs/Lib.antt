@@ -1,3 +1,0 @@
-pub mod Fins
-pub mod FirstPlace
-pub mod Laying

@@ -1,9 +1,0 @@
-use Rattle.std.specs.Prelude.{◌≡◌, ◌≤◌, length}
-use Rattle.seq_arith.specs.Early.{laid}
-use Rattle.plain_segment.proofs.places.lay_within.Given as goal
-
-abbrev pub invariant-loop-byte : goal.invariant-loop-byte
-invariant-loop-byte l = (laid l.place l.rest l.text.items ≡ laid l.fn.at l.fn.bytes l.initial.text.items) × (l.place ≤ length l.text.items)
-
-abbrev pub decreases-loop-byte : goal.decreases-loop-byte
-decreases-loop-byte l = length l.rest

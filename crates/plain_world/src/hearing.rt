@@ -1,0 +1,187 @@
+//! The effect of a message of this boot on the place of its key.
+
+ghost use Rattle.std.specs.Prelude.{◌≡◌, ◌∷◌, [], ℕ, IfOk, OnOk};
+ghost use Rattle.server_trait.specs.Service.{Machine, machine};
+ghost use Rattle.seq_arith.specs.Message.Body.{OpenedMsg, StableMsg, ReadsMsg, EndedMsg, FullMsg};
+ghost use Rattle.logger_wire.specs.Value.{body_of, is_set};
+ghost use Rattle.ft_io.specs.declared.Key.{Key as key_type};
+ghost use Rattle.ft_model.specs.Node as law;
+ghost use Rattle.ft_model.specs.News.News.{Begins};
+ghost use Rattle.ft_model.specs.Node.Place.{Lives};
+ghost use Rattle.ft_model.specs.Opening.{point_opened};
+ghost use Rattle.ft_model.specs.ServingTurn.{Hears, LivesOn};
+ghost use Rattle.plain_world.specs.Served.{IsServedLive, IsServedPlace};
+ghost use Rattle.plain_world.specs.NodeTurns.{SendsBy};
+ghost use Rattle.plain_world.specs.Values.{place_in, left_in, node_of};
+ghost use Rattle.plain_point.specs.Values.{kept_in, numbers_in};
+
+use crate::incarnation::Incarnation;
+use crate::place::{PlainPlace, turn_live};
+use crate::refusal::refuse_full;
+use ft_io::{Key, NoMemory};
+use logger_wire::Body;
+use plain_connection::{News, PlainConnection};
+use plain_packets::PlainPackets;
+use plain_point::{Kept, Numbers};
+use server_trait::Service;
+use std::alloc::Global;
+
+/// Returns how much of a connection is logged, from the fields of a message.
+fn kept(key: Key, length: u32, fin: u8, reads: u32) -> Kept
+    ensures { kept_in result ≡ record { key = key; length = length; fin = is_set fin; reads = reads } }
+{
+    Kept {
+        key,
+        length,
+        fin: fin == 1,
+        reads,
+    }
+}
+
+/// Creates a connection and takes its first turn. After `NoMemory` the packets may only be dropped.
+fn begin<S: Service>(
+    alloc: Global,
+    who: Incarnation,
+    numbers: &Numbers,
+    sent: &mut PlainPackets,
+) -> Result<PlainConnection<S>, NoMemory>
+    ensures turn { IfOk result (λ c. (stage : law.Stage) → SendsBy (LivesOn (machine (S.started who.kind) S.after) (node_of who stage) Begins
+        (point_opened (numbers_in numbers.now)) (Lives c.point ∷ [])) sent.old sent.new) }
+    ensures served { IfOk result (λ c. IsServedLive who.kind (machine (S.started who.kind) S.after) c) }
+{
+    let mut connection = PlainConnection::opened(alloc, who.kind, numbers)?;
+    turn_live(alloc, who, &mut connection, &News::Begins, sent)?;
+    Ok(connection)
+}
+
+impl<S: Service> PlainPlace<S> {
+    /// Takes a message about how much of a live connection is logged. After `NoMemory` the place may only be dropped.
+    fn hear_logged(
+        &mut self,
+        alloc: Global,
+        who: Incarnation,
+        kept: Kept,
+        sent: &mut PlainPackets,
+    ) -> Result<(), NoMemory>
+        requires { IsServedPlace who.kind (machine (S.started who.kind) S.after) self.old }
+        ensures stable { OnOk result ((stage : law.Stage) → SendsBy (Hears (machine (S.started who.kind) S.after) (node_of who stage)
+            (StableMsg (kept_in kept)) (place_in self.old) (place_in self.new ∷ [])) sent.old sent.new) }
+        ensures reads { OnOk result ((stage : law.Stage) → SendsBy (Hears (machine (S.started who.kind) S.after) (node_of who stage)
+            (ReadsMsg (kept_in kept)) (place_in self.old) (place_in self.new ∷ [])) sent.old sent.new) }
+        ensures served { OnOk result (IsServedPlace who.kind (machine (S.started who.kind) S.after) self.new) }
+    {
+        match self {
+            PlainPlace::Lives(connection) => {
+                turn_live(alloc, who, connection, &News::Logged(kept), sent)
+            }
+            PlainPlace::Opens(_) | PlainPlace::Ended(_) => Ok(()),
+        }
+    }
+
+    /// Takes an Ended: it ends a live connection.
+    fn hear_ended(&mut self)
+        ensures turn { (service : Machine S) (node : law.Node) (key : key_type)
+            → Hears service node (EndedMsg key) (place_in self.old) (place_in self.new ∷ []) [] }
+        ensures served { (kind : ℕ) (service : Machine S) → IsServedPlace kind service self.new }
+    {
+        if let PlainPlace::Lives(connection) = self {
+            let key = connection.point().key();
+            *self = PlainPlace::Ended(key);
+        }
+    }
+
+    /// Takes an Opened. With the client's initial sequence number it makes a pending opening a connection, with the logged numbers; with another it drops
+    /// the opening. Returns whether the place remains. After `NoMemory` the place may only be dropped.
+    fn hear_opened(
+        &mut self,
+        alloc: Global,
+        who: Incarnation,
+        numbers: &Numbers,
+        sent: &mut PlainPackets,
+    ) -> Result<bool, NoMemory>
+        requires { IsServedPlace who.kind (machine (S.started who.kind) S.after) self.old }
+        ensures turn { IfOk result (λ stays. (stage : law.Stage) → SendsBy (Hears (machine (S.started who.kind) S.after) (node_of who stage)
+            (OpenedMsg (numbers_in numbers.now)) (place_in self.old) (left_in stays self.new)) sent.old sent.new) }
+        ensures served { OnOk result (IsServedPlace who.kind (machine (S.started who.kind) S.after) self.new) }
+    {
+        let PlainPlace::Opens(asked) = self else {
+            return Ok(true);
+        };
+        if numbers.cisn != asked.cisn {
+            return Ok(false);
+        }
+        let connection = begin(alloc, who, numbers, sent)?;
+        *self = PlainPlace::Lives(connection);
+        Ok(true)
+    }
+
+    /// Takes a Full: it drops an opening and refuses its SYN. Returns whether the place remains. After `NoMemory` the place may only be dropped.
+    fn hear_full(
+        &self,
+        alloc: Global,
+        who: Incarnation,
+        sent: &mut PlainPackets,
+    ) -> Result<bool, NoMemory>
+        ensures { IfOk result (λ stays. (service : Machine S) (stage : law.Stage) (key : key_type)
+            → SendsBy (Hears service (node_of who stage) (FullMsg key) (place_in self.now) (left_in stays self.now)) sent.old sent.new) }
+    {
+        let PlainPlace::Opens(asked) = self else {
+            return Ok(true);
+        };
+        refuse_full(alloc, who.server, asked, sent)?;
+        Ok(false)
+    }
+
+    /// Takes a message of this boot that names the key. Returns whether the place remains. After `NoMemory` the place may only be dropped.
+    pub(crate) fn hear(
+        &mut self,
+        alloc: Global,
+        who: Incarnation,
+        body: &Body<'_>,
+        sent: &mut PlainPackets,
+    ) -> Result<bool, NoMemory>
+        requires { IsServedPlace who.kind (machine (S.started who.kind) S.after) self.old }
+        ensures turn { IfOk result (λ stays. (stage : law.Stage) → SendsBy (Hears (machine (S.started who.kind) S.after) (node_of who stage)
+            (body_of body.now) (place_in self.old) (left_in stays self.new)) sent.old sent.new) }
+        ensures served { OnOk result (IsServedPlace who.kind (machine (S.started who.kind) S.after) self.new) }
+    {
+        match *body {
+            Body::StableMsg {
+                key,
+                length,
+                fin,
+                reads,
+            } => {
+                let kept = kept(key, length, fin, reads);
+                self.hear_logged(alloc, who, kept, sent)?;
+            }
+            Body::ReadsMsg {
+                key,
+                length,
+                fin,
+                reads,
+            } => {
+                let kept = kept(key, length, fin, reads);
+                self.hear_logged(alloc, who, kept, sent)?;
+            }
+            Body::OpenedMsg {
+                key,
+                cisn,
+                sisn,
+                mss,
+            } => {
+                let numbers = Numbers {
+                    key,
+                    cisn,
+                    sisn,
+                    mss,
+                };
+                return self.hear_opened(alloc, who, &numbers, sent);
+            }
+            Body::EndedMsg { .. } => self.hear_ended(),
+            Body::FullMsg { .. } => return self.hear_full(alloc, who, sent),
+            _ => {}
+        }
+        Ok(true)
+    }
+}

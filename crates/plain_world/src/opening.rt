@@ -1,0 +1,219 @@
+//! The law Opening: which segments open a connection, and which numbers the log is asked to keep.
+
+ghost use Rattle.std.specs.Prelude.{◌≡◌, ◌≤◌, ◌^◌, ◌&&◌, ◌∷◌, [], OnOk, map, nat_lt};
+ghost use Rattle.std.specs.List.{list_any};
+ghost use Rattle.ft_io.specs.Key.{key_eq};
+ghost use Rattle.std.specs.Option.{option_to_list};
+ghost use Rattle.segment_codec.specs.Value.{segment_of};
+ghost use Rattle.ft_model.specs.Node as law;
+ghost use Rattle.ft_model.specs.Node.Place.{Opens};
+ghost use Rattle.ft_model.specs.Opening.{is_syn as syn_lem, initial_number as initial_lem, numbers_for as numbers_lem};
+ghost use Rattle.ft_model.specs.ServingTurn.{is_asked as asked_lem, opens_at, is_strange as strange_lem, newcomers, refusals};
+ghost use Rattle.ft_model.specs.Network.Packet.{To_client};
+ghost use Rattle.ft_model.specs.Connection.{told_by};
+ghost use Rattle.seq_arith.specs.Message.Body.{OpenMsg};
+ghost use Rattle.seq_arith.specs.Value.{said};
+ghost use Rattle.plain_packets.specs.Sent.{Appends};
+ghost use Rattle.plain_point.specs.Values.{numbers_in};
+ghost use Rattle.plain_world.specs.Values.{input_in, place_in, places_in, node_of};
+
+use crate::incarnation::Incarnation;
+use crate::input::Input;
+use crate::place::{PlainPlace, is_for};
+use crate::refusal::as_listen;
+use ft_io::{Key, NoMemory};
+use logger_wire::{Body, Msg};
+use plain_packets::{PlainPackets, has_ack, has_rst, has_syn};
+use plain_point::Numbers;
+use segment_codec::{Head, PacketRef};
+use seq_arith::segment_size;
+use server_trait::Service;
+use std::alloc::Global;
+
+/// The largest number of pending openings.
+const MOST_PENDING: usize = 64;
+
+/// Returns whether a segment opens a connection: a SYN without ACK and RST.
+fn is_syn(segment: &PacketRef<'_>) -> bool
+    ensures { result ≡ syn_lem (segment_of segment.now) }
+{
+    has_syn(segment) && !has_ack(segment) && !has_rst(segment)
+}
+
+/// Returns the initial sequence number of an incarnation's nth connection, counted from 0.
+fn initial_number(isn: u32, n: u64) -> u32
+    requires { n ≤ 2 ^ 32 }
+    ensures { result ≡ initial_lem isn n }
+{
+    ((u64::from(isn) + 65_536 * n) % (1 << 32)) as u32
+}
+
+/// Returns the numbers of the nth connection, which a SYN requests.
+fn numbers_for(isn: u32, n: u64, syn: &PacketRef<'_>) -> Numbers
+    requires { n ≤ 2 ^ 32 }
+    ensures { numbers_in result ≡ numbers_lem isn n (segment_of syn.now) }
+{
+    Numbers {
+        key: syn.head.sender(),
+        cisn: syn.head.seq.0,
+        sisn: initial_number(isn, n),
+        mss: segment_size(syn.head.mss),
+    }
+}
+
+/// Returns whether the log is asked for a pending opening: at its SYN, at each retransmission of the SYN, and at each tick.
+fn is_asked(who: Incarnation, input: &Input<'_>, numbers: &Numbers) -> bool
+    ensures { (stage : law.Stage) → result ≡ asked_lem (node_of who stage) (input_in input.now) (numbers_in numbers.now) }
+{
+    match input {
+        Input::Packet(segment) => {
+            is_for(who.server, segment)
+                && is_syn(segment)
+                && segment.head.sender() == numbers.key
+                && segment.head.seq.0 == numbers.cisn
+        }
+        Input::Tick => true,
+        Input::Message(_) | Input::Noise => false,
+    }
+}
+
+/// Asks the log to keep the numbers of an opening. After `NoMemory` the packets may only be dropped.
+fn send_open(
+    alloc: Global,
+    who: Incarnation,
+    numbers: &Numbers,
+    sent: &mut PlainPackets,
+) -> Result<(), NoMemory>
+    ensures { OnOk result (Appends sent.old sent.new (told_by who.boot (OpenMsg (numbers_in numbers.now)) ∷ [])) }
+{
+    let Numbers {
+        key,
+        cisn,
+        sisn,
+        mss,
+    } = *numbers;
+    let body = Body::OpenMsg {
+        key,
+        cisn,
+        sisn,
+        mss,
+    };
+    sent.send_to_logger(
+        alloc,
+        &Msg {
+            boot: who.boot,
+            body,
+        },
+    )
+}
+
+impl<S: Service> PlainPlace<S> {
+    /// Asks the log to keep the numbers of a pending opening, if the input calls for it. After `NoMemory` the packets may only be dropped.
+    pub(crate) fn ask(
+        &self,
+        alloc: Global,
+        who: Incarnation,
+        input: &Input<'_>,
+        sent: &mut PlainPackets,
+    ) -> Result<(), NoMemory>
+        ensures { OnOk result ((stage : law.Stage) → Appends sent.old sent.new (opens_at (node_of who stage) (input_in input.now) (place_in self.now))) }
+    {
+        let PlainPlace::Opens(numbers) = self else {
+            return Ok(());
+        };
+        if !is_asked(who, input, numbers) {
+            return Ok(());
+        }
+        send_open(alloc, who, numbers, sent)
+    }
+}
+
+/// Returns whether a place has a key.
+fn has_key<S: Service>(places: &[PlainPlace<S>], key: Key) -> bool
+    ensures { result ≡ list_any (λ place. key_eq (law.key_of (place_in place)) key) places.now }
+{
+    places.iter().any(|place| place.key() == key)
+}
+
+/// Returns whether there is a place for a key.
+fn is_known<S: Service>(places: &[PlainPlace<S>], key: Key) -> bool
+    ensures { result ≡ law.is_known key (places_in places.now) }
+{
+    has_key(places, key)
+}
+
+/// Returns how many openings are pending.
+fn pending_count<S: Service>(places: &[PlainPlace<S>]) -> usize
+    ensures { result ≡ law.pending_count (places_in places.now) }
+{
+    let mut count = 0;
+    for place in places {
+        count += usize::from(place.is_pending());
+    }
+    count
+}
+
+/// Returns whether a segment is for this server, and from an unknown client.
+fn is_strange<S: Service>(
+    who: Incarnation,
+    segment: &PacketRef<'_>,
+    places: &[PlainPlace<S>],
+) -> bool
+    ensures { (stage : law.Stage) → result ≡ strange_lem (node_of who stage) (segment_of segment.now) (places_in places.now) }
+{
+    is_for(who.server, segment) && !is_known(places, segment.head.sender())
+}
+
+/// Returns whether a segment makes an opening: a SYN of an unknown client, while fewer than 64 are pending.
+fn may_open<S: Service>(who: Incarnation, segment: &PacketRef<'_>, places: &[PlainPlace<S>]) -> bool
+    ensures { (stage : law.Stage) → result ≡ (strange_lem (node_of who stage) (segment_of segment.now) (places_in places.now)
+        && syn_lem (segment_of segment.now) && nat_lt (law.pending_count (places_in places.now)) 64) }
+{
+    if !is_syn(segment) {
+        return false;
+    }
+    if !is_strange(who, segment, places) {
+        return false;
+    }
+    pending_count(places) < MOST_PENDING
+}
+
+/// Returns the opening that a SYN of an unknown client makes, while fewer than 64 are pending.
+pub(crate) fn newcomer<S: Service>(
+    who: Incarnation,
+    input: &Input<'_>,
+    opened: u64,
+    places: &[PlainPlace<S>],
+) -> Option<Numbers>
+    requires { opened ≤ 2 ^ 32 }
+    ensures { (stage : law.Stage) → map (λ n. Opens (numbers_in n)) (option_to_list result)
+        ≡ newcomers (node_of who stage) (input_in input.now) opened (places_in places.now) }
+{
+    let Input::Packet(segment) = input else {
+        return None;
+    };
+    if may_open(who, segment, places) {
+        Some(numbers_for(who.isn, opened, segment))
+    } else {
+        None
+    }
+}
+
+/// Returns the RST that refuses an acknowledgement from an unknown client, if the input is one.
+pub(crate) fn refusal<S: Service>(
+    who: Incarnation,
+    input: &Input<'_>,
+    places: &[PlainPlace<S>],
+) -> Option<Head>
+    ensures { (stage : law.Stage) → map (λ head. To_client (record { head = said head; payload = [] })) (option_to_list result)
+        ≡ refusals (node_of who stage) (input_in input.now) (places_in places.now) }
+{
+    let Input::Packet(segment) = input else {
+        return None;
+    };
+    if is_strange(who, segment, places) {
+        as_listen(who.server, segment)
+    } else {
+        None
+    }
+}

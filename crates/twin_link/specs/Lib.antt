@@ -1,6 +1,0 @@
-pub mod Outcome
-pub mod PartLife
-pub mod PartTurns
-pub mod StopNotice
-pub mod PartSteps
-pub mod Words
