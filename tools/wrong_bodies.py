@@ -5,7 +5,7 @@
     tools/wrong_bodies.py --list       prints how many there are, by crate, and does nothing else
 
 The crates' files at HEAD are checked out in a temporary folder, where these edits take the place of those that the gate tries. Then `rt must-fail` tries
-them. The status is that of `rt must-fail`: 0 if all are refused. Each takes 20 to 60 processor seconds, after the crate and those below it are built.
+them. The status is that of `rt must-fail`: 0 if all are refused. Each takes 15 to 80 processor seconds, after the crate and those below it are built.
 """
 import argparse
 import pathlib
