@@ -3,8 +3,8 @@ use Rattle.std.specs.Prelude.{◌≡◌, ◌⊎◌, ◌<◌, ℕ, Bool, true, Li
 use Rattle.std.specs.declared.option.Option.{Option}
 use Rattle.std.specs.Str.{bytes_eq}
 use Rattle.ft_io.specs.declared.link_call.LinkCall.{LinkCall}
-use Rattle.ft_io.specs.MemLink.{LinkState}
-use Rattle.ft_io.specs.NumberedCalls.{Calls, no_call}
+use Rattle.ft_system.specs.MemLink.{LinkState}
+use Rattle.ft_system.specs.NumberedCalls.{Calls, no_call}
 use Rattle.disk.specs.declared.calls.DeskCall.{DeskCall}
 use Rattle.disk.specs.declared.calls.DeskCall.TheVariants.{OnLink}
 use Rattle.disk.specs.MemDisk as disks

@@ -2,7 +2,7 @@
 use Rattle.std.specs.Prelude.{ℕ, Bool, true, false, List, [], ◌∷◌, ◌++◌}
 use Rattle.std.specs.declared.option.Option.{Option}
 use Rattle.ft_io.specs.Faults.{raised}
-use Rattle.ft_io.specs.NumberedCalls.{Calls, no_call, after_call}
+use Rattle.ft_system.specs.NumberedCalls.{Calls, no_call, after_call}
 use Rattle.disk.specs.declared.calls.DeskCall.{DeskCall}
 use Rattle.disk.specs.CallRecord.{told_if}
 

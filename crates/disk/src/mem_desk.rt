@@ -4,11 +4,11 @@
 ghost use Rattle.std.specs.Prelude.{◌≡◌, ◌≤◌, ◌<◌, ◌⊎◌, length, take, false, true, None, Some, [], string_bytes, IfSome, IfOk, OnOk, OnErr, IsErrOf};
 ghost use Rattle.std.specs.Bool.{OnTrue, OnFalse};
 ghost use Rattle.ft_io.specs.declared.link_call.LinkCall.TheVariants.{Handed};
-ghost use Rattle.ft_io.specs.Arrival.{arriving};
+ghost use Rattle.ft_system.specs.Arrival.{arriving};
 ghost use Rattle.ft_io.specs.Faults.{Rose};
 ghost use Rattle.ft_io.specs.Link.{bind_told, send_told, recv_told, heard_as, HasAtMost};
-ghost use Rattle.ft_io.specs.MemLink.{BindFails};
-ghost use Rattle.ft_io.specs.NumberedCalls.{IsNextListed};
+ghost use Rattle.ft_system.specs.MemLink.{BindFails};
+ghost use Rattle.ft_system.specs.NumberedCalls.{IsNextListed};
 ghost use Rattle.ft_io.specs.Told.{Tells};
 ghost use Rattle.disk.specs.Death.{left_of};
 ghost use Rattle.disk.specs.Remains.{LeftBy};
@@ -16,7 +16,8 @@ ghost use Rattle.disk.specs.CallRecord.{on_link, disk_calls};
 ghost use Rattle.disk.specs.MemDesk.{fresh_desk, told_of, file_of, noted, starved, IsStarved};
 
 use crate::{Death, Desk, DeskCall, Disk, MemDisk, ShelfEnd};
-use ft_io::{Addr, Failed, Heard, Link, LinkCall, MemLink, NoMemory, NumberedCalls, Octets};
+use ft_io::{Addr, Failed, Heard, Link, LinkCall, NoMemory, Octets};
+use ft_system::{MemLink, NumberedCalls};
 use std::alloc::Global;
 use std::marker::Model;
 

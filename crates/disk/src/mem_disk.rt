@@ -5,7 +5,7 @@ ghost use Rattle.std.specs.Prelude.{◌≡◌, ◌≤◌, ◌<◌, ◌↔◌, �
 ghost use Rattle.std.specs.Bool.{OnTrue, OnFalse};
 ghost use Rattle.std.specs.Io.KnownBytes.{ReadConsumes, IsAtEnd};
 ghost use Rattle.ft_io.specs.Faults.{Rose};
-ghost use Rattle.ft_io.specs.NumberedCalls.{IsNextListed};
+ghost use Rattle.ft_system.specs.NumberedCalls.{IsNextListed};
 ghost use Rattle.ft_io.specs.Told.{Tells};
 ghost use Rattle.disk.specs.Counts.{nothing};
 ghost use Rattle.disk.specs.declared.calls.DeskCall.TheVariants.{OnDisk};
@@ -17,7 +17,8 @@ ghost use Rattle.disk.specs.MemDisk.{fresh_disk, told_of, noted, starved, failed
 
 use crate::death::left_behind;
 use crate::{Death, DeskCall, Disk, DiskCall};
-use ft_io::{Failed, NoMemory, NumberedCalls, Octets};
+use ft_io::{Failed, NoMemory, Octets};
+use ft_system::NumberedCalls;
 use std::alloc::Global;
 use std::marker::Model;
 

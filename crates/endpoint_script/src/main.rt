@@ -5,7 +5,8 @@
 #![tactic(auto)]
 
 use clients::play_clients;
-use ft_io::{NoMemory, ReadSource, read_to_limit};
+use ft_io::{NoMemory, read_to_limit};
+use ft_system::ReadSource;
 use memchr::memmem;
 use play::Play;
 use read::ScriptEnd;

@@ -1,4 +1,3 @@
-pub mod Arrivals
 pub mod Booleans
 pub mod Choices
 pub mod Copies

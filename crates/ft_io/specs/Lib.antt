@@ -1,15 +1,7 @@
-pub mod Arrival
 pub mod Faults
 pub mod Key
 pub mod Link
-pub mod MemLink
-pub mod MemSink
-pub mod MemSource
-pub mod MemSpawner
-pub mod NumberedCalls
-pub mod ProcessSpawner
 pub mod Sink
 pub mod Source
 pub mod Spawner
 pub mod Told
-pub mod UdpLink

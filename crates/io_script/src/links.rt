@@ -2,7 +2,8 @@
 
 use crate::numbers;
 use crate::said::Said;
-use ft_io::{Addr, Arrival, Failed, Heard, Link, MemLink, NoMemory, Octets};
+use ft_io::{Addr, Failed, Heard, Link, NoMemory, Octets};
+use ft_system::{Arrival, MemLink};
 use std::alloc::Global;
 
 const HOME: Addr = Addr {

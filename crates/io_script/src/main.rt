@@ -2,7 +2,8 @@
 //! prints what the calls returned. docs/FORMATS.md has the lines.
 #![tactic(auto)]
 
-use ft_io::{NoMemory, WriteSink, write_all};
+use ft_io::{NoMemory, write_all};
+use ft_system::WriteSink;
 use said::Said;
 use std::alloc::Global;
 use std::fs::{File, Files};

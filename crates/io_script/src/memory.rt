@@ -2,7 +2,8 @@
 
 use crate::numbers;
 use crate::said::Said;
-use ft_io::{Failed, MemSink, MemSource, MemSpawner, NoMemory, Sink, Source, Spawner};
+use ft_io::{Failed, NoMemory, Sink, Source, Spawner};
+use ft_system::{MemSink, MemSource, MemSpawner};
 use std::alloc::Global;
 
 /// Five reads of `hello` of at most two bytes: what they gave, `!` for each that failed, and the count of faults.

@@ -1,7 +1,8 @@
 //! Std's processes as a spawner.
 
 use crate::said::Said;
-use ft_io::{NoMemory, ProcessSpawner, Spawner};
+use ft_io::{NoMemory, Spawner};
+use ft_system::ProcessSpawner;
 use std::alloc::Global;
 use std::process::Processes;
 

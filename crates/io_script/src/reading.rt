@@ -2,7 +2,8 @@
 
 use crate::numbers;
 use crate::said::Said;
-use ft_io::{Failed, MemSink, MemSource, NoMemory, ReadEnd, Sink, read_to_limit, write_all};
+use ft_io::{Failed, NoMemory, ReadEnd, Sink, read_to_limit, write_all};
+use ft_system::{MemSink, MemSource};
 use std::alloc::Global;
 
 /// Reads TEXT, `-` for none, under LIMIT; the read with number FAILS fails. Says how many bytes came or why not, and what is left.

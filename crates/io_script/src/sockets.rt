@@ -1,7 +1,8 @@
 //! Std's UDP socket as a link.
 
 use crate::said::Said;
-use ft_io::{Addr, Failed, Heard, Link, UdpLink};
+use ft_io::{Addr, Failed, Heard, Link};
+use ft_system::UdpLink;
 use std::net::Net;
 use std::time::Clock;
 

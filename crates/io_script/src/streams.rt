@@ -1,7 +1,8 @@
 //! Std's readers and writers as a source and a sink, where the first call of a reader and the first flush of a writer fail.
 
 use crate::said::Said;
-use ft_io::{ReadSource, Sink, Source, WriteSink};
+use ft_io::{Sink, Source};
+use ft_system::{ReadSource, WriteSink};
 use std::io;
 use std::io::{Read, Write};
 

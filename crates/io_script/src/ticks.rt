@@ -3,7 +3,8 @@
 use crate::said::Said;
 use crate::sockets::bind_somewhere;
 use crate::watch::Watch;
-use ft_io::{Addr, Heard, Link, NoMemory, UdpLink};
+use ft_io::{Addr, Heard, Link, NoMemory};
+use ft_system::UdpLink;
 use std::alloc::Global;
 use std::net::Net;
 use std::time::{Clock, Duration, Instant};

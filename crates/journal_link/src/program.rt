@@ -2,7 +2,7 @@
 
 use crate::pair_top::node_in_pair;
 use disk::HostDesk;
-use ft_io::{ProcessSpawner, ReadSource, UdpLink, WriteSink};
+use ft_system::{ProcessSpawner, ReadSource, UdpLink, WriteSink};
 use std::fs::{File, Files};
 use std::io::{Read, Write};
 use std::net::Net;

@@ -19,7 +19,8 @@
 #![tactic(auto)]
 
 use faults::Faults;
-use ft_io::{Addr, Arrival, NoMemory, Octets, WriteSink, write_all};
+use ft_io::{Addr, NoMemory, Octets, write_all};
+use ft_system::{Arrival, WriteSink};
 use journal_link::{TwinRole, read_twin_role, run_ftnode};
 use node_link::{Role, read_role};
 use process::Meeting;

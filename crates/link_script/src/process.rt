@@ -2,7 +2,8 @@
 
 use crate::said::Said;
 use disk::FileDisk;
-use ft_io::{Addr, Heard, Link, UdpLink};
+use ft_io::{Addr, Heard, Link};
+use ft_system::UdpLink;
 use std::alloc::Global;
 use std::fs::{File, Files};
 use std::net::Net;

@@ -3,7 +3,7 @@
 #![tactic(auto)]
 
 use counter_service::Counter;
-use ft_io::{UdpLink, WriteSink};
+use ft_system::{UdpLink, WriteSink};
 use node_link::node_of;
 use std::process::ExitCode;
 use std::{env, io};

@@ -1,6 +1,7 @@
 //! The playing of one schedule by `replay`, over sources and sinks in memory.
 
-use ft_io::{MemSink, MemSource, NoMemory};
+use ft_io::NoMemory;
+use ft_system::{MemSink, MemSource};
 use replay_tool::replay;
 use std::alloc::Global;
 

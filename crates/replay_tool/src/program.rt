@@ -1,7 +1,7 @@
 //! The whole program `ftreplay`, for the system that is passed to it.
 
 use crate::top::replay;
-use ft_io::{ReadSource, WriteSink};
+use ft_system::{ReadSource, WriteSink};
 use std::io::{Read, Write};
 use std::process::ExitCode;
 use std::rt::Env;

@@ -15,7 +15,8 @@
 //! - `header START TEXT` asks whether the last line of TEXT, which begins after START bytes, continues the header before it.
 #![tactic(auto)]
 
-use ft_io::{NoMemory, WriteSink, write_all};
+use ft_io::{NoMemory, write_all};
+use ft_system::WriteSink;
 use logger_wire::read_msg;
 use percent_encoding::percent_decode;
 use report_lines::{ask_event, ask_header, ask_packet, ask_service};

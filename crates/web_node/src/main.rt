@@ -2,7 +2,7 @@
 //! to `node_of`, which does the rest.
 #![tactic(auto)]
 
-use ft_io::{UdpLink, WriteSink};
+use ft_system::{UdpLink, WriteSink};
 use node_link::node_of;
 use std::process::ExitCode;
 use std::{env, io};

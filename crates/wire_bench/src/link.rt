@@ -2,7 +2,8 @@
 //! after each send, and gives how many bytes came back.
 
 use anyhow::{Context, Result, bail, ensure};
-use ft_io::{Addr, Heard, Link, UdpLink};
+use ft_io::{Addr, Heard, Link};
+use ft_system::UdpLink;
 use std::net::Net;
 use std::time::Clock;
 

@@ -11,7 +11,7 @@
 #![tactic(auto)]
 
 use anyhow::{Result, bail};
-use ft_io::{ReadSource, WriteSink};
+use ft_system::{ReadSource, WriteSink};
 use std::net::Net;
 use std::time::Clock;
 use std::{env, io};

@@ -1,7 +1,7 @@
 //! Calls numbered from 1, some of which fail because a list names them: so the forms in memory fail on purpose.
 
 ghost use Rattle.std.specs.Prelude.{◌≡◌, ◌↔◌, IsTrue, Contains};
-ghost use Rattle.ft_io.specs.NumberedCalls.{no_call, after_call, IsNextListed};
+ghost use Rattle.ft_system.specs.NumberedCalls.{no_call, after_call, IsNextListed};
 
 use std::marker::Model;
 
@@ -13,7 +13,7 @@ pub struct NumberedCalls {
 }
 
 impl Model for NumberedCalls {
-    ghost use Rattle.ft_io.specs.NumberedCalls.{Calls};
+    ghost use Rattle.ft_system.specs.NumberedCalls.{Calls};
 
     ghost Value = { Calls };
 

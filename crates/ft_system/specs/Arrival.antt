@@ -1,7 +1,7 @@
 -- What arrives at a link in memory.
 use Rattle.std.specs.Prelude.{ℕ, List, [], ◌∷◌, take}
-use Rattle.ft_io.specs.declared.mem_link.Arrival.{Arrival}
-use Rattle.ft_io.specs.declared.mem_link.Arrival.TheVariants.{Datagram, Nothing}
+use Rattle.ft_system.specs.declared.mem_link.Arrival.{Arrival}
+use Rattle.ft_system.specs.declared.mem_link.Arrival.TheVariants.{Datagram, Nothing}
 use Rattle.ft_io.specs.declared.link_call.LinkCall.{LinkCall}
 use Rattle.ft_io.specs.declared.link_call.LinkCall.TheVariants.{Came, Silent}
 

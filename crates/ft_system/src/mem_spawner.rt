@@ -4,13 +4,13 @@
 ghost use Rattle.std.specs.Prelude.{◌≡◌, ◌≤◌, ◌⊎◌, map, string_bytes, slice_get, Some, None, IfSome, IfOk, OnOk, OnErr};
 ghost use Rattle.ft_io.specs.declared.spawn_call.SpawnCall.TheVariants.{Started, Ended};
 ghost use Rattle.ft_io.specs.Faults.{Rose};
-ghost use Rattle.ft_io.specs.NumberedCalls.{IsNextListed};
+ghost use Rattle.ft_system.specs.NumberedCalls.{IsNextListed};
 ghost use Rattle.ft_io.specs.Told.{Tells};
 ghost use Rattle.ft_io.specs.Spawner.{start_told, wait_told, NumbersNext};
-ghost use Rattle.ft_io.specs.MemSpawner.{fresh_spawner, told_of, status_of, or_zero, attempted, noted, with_child, failed, starved};
+ghost use Rattle.ft_system.specs.MemSpawner.{fresh_spawner, told_of, status_of, or_zero, attempted, noted, with_child, failed, starved};
 
 use crate::numbered::NumberedCalls;
-use crate::{Failed, SpawnCall, Spawner, Words};
+use ft_io::{Failed, SpawnCall, Spawner, Words};
 use std::alloc::Global;
 use std::marker::Model;
 
@@ -28,7 +28,7 @@ pub struct MemSpawner {
 
 impl Model for MemSpawner {
     ghost use Rattle.std.specs.Prelude.{◌≤◌};
-    ghost use Rattle.ft_io.specs.MemSpawner.{SpawnerState};
+    ghost use Rattle.ft_system.specs.MemSpawner.{SpawnerState};
 
     ghost Value = { SpawnerState };
 

@@ -1,6 +1,6 @@
 -- A sink in memory.
 use Rattle.std.specs.Prelude.{ℕ, List, []}
-use Rattle.ft_io.specs.NumberedCalls.{Calls, no_call}
+use Rattle.ft_system.specs.NumberedCalls.{Calls, no_call}
 
 -- a sink in memory, as its callers see it
 pub record SinkState : Type 0 where

@@ -3,11 +3,11 @@
 ghost use Rattle.std.specs.Prelude.{◌≡◌, ◌≤◌, ◌<◌, ◌↔◌, length, min, take, Some, IfOk, OnOk, OnErr, IsErr};
 ghost use Rattle.std.specs.Io.KnownBytes.{ReadConsumes, IsAtEnd};
 ghost use Rattle.ft_io.specs.Faults.{Rose, raised};
-ghost use Rattle.ft_io.specs.NumberedCalls.{after_call, IsNextListed};
-ghost use Rattle.ft_io.specs.MemSource.{fresh_source};
+ghost use Rattle.ft_system.specs.NumberedCalls.{after_call, IsNextListed};
+ghost use Rattle.ft_system.specs.MemSource.{fresh_source};
 
 use crate::numbered::NumberedCalls;
-use crate::{Failed, Source};
+use ft_io::{Failed, Source};
 use std::marker::Model;
 
 /// Bytes to be read, some of whose reads fail.
@@ -21,7 +21,7 @@ pub struct MemSource {
 
 impl Model for MemSource {
     ghost use Rattle.std.specs.Prelude.{◌≤◌, drop, vec_len};
-    ghost use Rattle.ft_io.specs.MemSource.{SourceState};
+    ghost use Rattle.ft_system.specs.MemSource.{SourceState};
 
     ghost Value = { SourceState };
 

@@ -4,11 +4,11 @@
 ghost use Rattle.std.specs.Prelude.{◌≡◌, ◌≤◌, ◌<◌, ◌⊎◌, length, Some, IfOk, OnOk, OnErr, IsErr};
 ghost use Rattle.std.specs.Io.KnownBytes.{WriteAppends};
 ghost use Rattle.ft_io.specs.Faults.{Rose, raised};
-ghost use Rattle.ft_io.specs.NumberedCalls.{after_call, IsNextListed};
-ghost use Rattle.ft_io.specs.MemSink.{fresh_sink};
+ghost use Rattle.ft_system.specs.NumberedCalls.{after_call, IsNextListed};
+ghost use Rattle.ft_system.specs.MemSink.{fresh_sink};
 
 use crate::numbered::NumberedCalls;
-use crate::{Failed, Sink};
+use ft_io::{Failed, Sink};
 use std::alloc::Global;
 use std::marker::Model;
 
@@ -23,7 +23,7 @@ pub struct MemSink {
 
 impl Model for MemSink {
     ghost use Rattle.std.specs.Prelude.{◌≤◌};
-    ghost use Rattle.ft_io.specs.MemSink.{SinkState};
+    ghost use Rattle.ft_system.specs.MemSink.{SinkState};
 
     ghost Value = { SinkState };
 

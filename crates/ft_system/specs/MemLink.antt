@@ -2,9 +2,9 @@
 use Rattle.std.specs.Prelude.{ℕ, ◌==◌, Bool, List, [], ◌∷◌, ◌++◌, drop, None, Some, IsTrue, ◌⊎◌, cond}
 use Rattle.std.specs.declared.option.Option.{Option}
 use Rattle.ft_io.specs.declared.link_call.LinkCall.{LinkCall}
-use Rattle.ft_io.specs.declared.mem_link.Arrival.{Arrival}
+use Rattle.ft_system.specs.declared.mem_link.Arrival.{Arrival}
 use Rattle.ft_io.specs.Faults.{raised}
-use Rattle.ft_io.specs.NumberedCalls.{Calls, no_call, after_call, IsNextListed}
+use Rattle.ft_system.specs.NumberedCalls.{Calls, no_call, after_call, IsNextListed}
 
 -- a link in memory, as its callers see it
 pub record LinkState : Type 0 where

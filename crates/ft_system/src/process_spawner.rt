@@ -1,9 +1,9 @@
 //! Std's processes as a spawner. It records no calls. Contracts know how many children were started, and how many calls failed.
 
 ghost use Rattle.std.specs.Prelude.{◌≡◌, ◌≤◌, None};
-ghost use Rattle.ft_io.specs.ProcessSpawner.{fresh_spawner};
+ghost use Rattle.ft_system.specs.ProcessSpawner.{fresh_spawner};
 
-use crate::{Failed, Spawner};
+use ft_io::{Failed, Spawner};
 use std::alloc::Global;
 use std::io;
 use std::marker::Model;
@@ -20,7 +20,7 @@ pub struct ProcessSpawner<'a, R: Processes> {
 
 impl<'a, R: Processes> Model for ProcessSpawner<'a, R> {
     ghost use Rattle.std.specs.Prelude.{vec_len};
-    ghost use Rattle.ft_io.specs.ProcessSpawner.{SpawnCounts};
+    ghost use Rattle.ft_system.specs.ProcessSpawner.{SpawnCounts};
 
     ghost Value = { SpawnCounts };
 

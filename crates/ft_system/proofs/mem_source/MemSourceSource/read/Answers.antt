@@ -1,7 +1,7 @@
 -- The bytes that were left are those that the read moved, and after them those that it left.
 use Rattle.std.proofs.Common.{◌≡◌, ℕ, ◌+◌, ◌<◌, min, List, [], ◌++◌, length, take, drop, sym, ap, ◌∙◌, arith, length-drop, take-append-drop, drop_of_length-le}
 use Rattle.std.proofs.lemmas.List.{drop-drop}
-use Rattle.ft_io.proofs.mem_source.MemSourceSource.read.Goals as goal
+use Rattle.ft_system.proofs.mem_source.MemSourceSource.read.Goals as goal
 
 front_moved : (all left moved : List ℕ) (at n : ℕ) → drop at all ≡ left → take n moved ≡ take n left → left ≡ take n moved ++ drop (at + n) all
 front_moved all left moved at n e copied =

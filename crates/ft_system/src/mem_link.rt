@@ -4,15 +4,15 @@
 ghost use Rattle.std.specs.Prelude.{◌≡◌, ◌≤◌, ◌<◌, ◌⊎◌, length, false, true, Some, None, IfSome, IfOk, OnOk, OnErr};
 ghost use Rattle.ft_io.specs.declared.link_call.LinkCall.TheVariants.{Bound, Missed, Handed};
 ghost use Rattle.ft_io.specs.Faults.{Rose};
-ghost use Rattle.ft_io.specs.NumberedCalls.{IsNextListed};
+ghost use Rattle.ft_system.specs.NumberedCalls.{IsNextListed};
 ghost use Rattle.ft_io.specs.Told.{Tells};
 ghost use Rattle.ft_io.specs.Link.{bind_told, send_told, recv_told, heard_as, HasAtMost};
-ghost use Rattle.ft_io.specs.Arrival.{arriving};
-ghost use Rattle.ft_io.specs.MemLink.{fresh_link, failing_binds, BindFails, told_of, noted, failed, starved, at_bind, binding, sending, receiving, without_arrival};
+ghost use Rattle.ft_system.specs.Arrival.{arriving};
+ghost use Rattle.ft_system.specs.MemLink.{fresh_link, failing_binds, BindFails, told_of, noted, failed, starved, at_bind, binding, sending, receiving, without_arrival};
 
 use crate::mem_source::copy_front;
 use crate::numbered::NumberedCalls;
-use crate::{Addr, Failed, Heard, Link, LinkCall, Octets};
+use ft_io::{Addr, Failed, Heard, Link, LinkCall, Octets};
 use std::alloc::Global;
 use std::marker::Model;
 
@@ -43,7 +43,7 @@ pub struct MemLink {
 
 impl Model for MemLink {
     ghost use Rattle.std.specs.Prelude.{◌≤◌, drop, vec_len};
-    ghost use Rattle.ft_io.specs.MemLink.{LinkState};
+    ghost use Rattle.ft_system.specs.MemLink.{LinkState};
 
     ghost Value = { LinkState };
 

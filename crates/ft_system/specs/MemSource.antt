@@ -1,6 +1,6 @@
 -- A source in memory.
 use Rattle.std.specs.Prelude.{ℕ, List}
-use Rattle.ft_io.specs.NumberedCalls.{Calls, no_call}
+use Rattle.ft_system.specs.NumberedCalls.{Calls, no_call}
 
 -- a source in memory, as its callers see it
 pub record SourceState : Type 0 where

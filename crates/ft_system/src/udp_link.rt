@@ -2,9 +2,9 @@
 
 ghost use Rattle.std.specs.Prelude.{◌≡◌, ◌≤◌, IfSome, None, length};
 ghost use Rattle.ft_io.specs.Link.{HasAtMost};
-ghost use Rattle.ft_io.specs.UdpLink.{fresh_link};
+ghost use Rattle.ft_system.specs.UdpLink.{fresh_link};
 
-use crate::{Addr, Failed, Heard, Link};
+use ft_io::{Addr, Failed, Heard, Link};
 use std::io;
 use std::marker::Model;
 use std::net::{IpAddr, Ipv4Addr, Net, SocketAddr, UdpSocket};
@@ -39,7 +39,7 @@ pub struct UdpLink<'a, R: Net + Clock> {
 }
 
 impl<'a, R: Net + Clock> Model for UdpLink<'a, R> {
-    ghost use Rattle.ft_io.specs.UdpLink.{LinkCounts};
+    ghost use Rattle.ft_system.specs.UdpLink.{LinkCounts};
 
     ghost Value = { LinkCounts };
 

@@ -3,7 +3,7 @@ use Rattle.std.specs.Prelude.{ℕ, ℤ, pos, ◌+◌, ◌-◌, ◌==◌, List, [
 use Rattle.std.specs.declared.option.Option.{Option}
 use Rattle.ft_io.specs.declared.spawn_call.SpawnCall.{SpawnCall}
 use Rattle.ft_io.specs.Faults.{raised}
-use Rattle.ft_io.specs.NumberedCalls.{Calls, no_call, after_call}
+use Rattle.ft_system.specs.NumberedCalls.{Calls, no_call, after_call}
 
 -- a spawner in memory, as its callers see it
 pub record SpawnerState : Type 0 where

@@ -3,7 +3,7 @@
 
 ghost use Rattle.std.specs.Prelude.{◌≡◌, ◌≤◌, None, IfOk, length};
 
-use crate::{Failed, Sink, Source};
+use ft_io::{Failed, Sink, Source};
 use std::io;
 use std::io::{Read, Write};
 use std::marker::Model;
