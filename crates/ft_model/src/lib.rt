@@ -16,6 +16,7 @@ pub use way::Way;
 
 pub mod clients;
 mod event;
+mod excluded;
 pub mod grammar;
 pub mod headline;
 pub mod laws;
