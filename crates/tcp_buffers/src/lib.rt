@@ -8,6 +8,7 @@ pub use send_state::{AckKind, SendState};
 
 mod copying;
 mod early_runs;
+mod excluded;
 pub mod laws;
 mod overwriting;
 mod receive_queue;

@@ -132,7 +132,7 @@ impl SendState {
     }
 
     /// Whether something is in flight, and the peer's right edge is past SND.UNA.
-    fn is_lost(&self) -> bool
+    pub(crate) fn is_lost(&self) -> bool
         ensures { result ≡ is_lost self.now }
     {
         self.una != self.nxt && self.una.lt(self.una.add(self.wnd))
@@ -188,7 +188,7 @@ impl SendState {
     }
 
     /// By how much the congestion window grows outside fast recovery.
-    fn growth(&self, units: u32) -> u64
+    pub(crate) fn growth(&self, units: u32) -> u64
         ensures count { result ≡ growth (segment_of self.now) units (congestion_of self.now) }
         ensures most { result ≤ 2 ^ 62 }
     {

@@ -1,0 +1,59 @@
+//! Wrong results that the contracts of this crate exclude. Each function calls another one of the crate, and promises of its result what a wrong body would
+//! make false. It is proved from the other's contract alone, so it is no longer proved once that contract lets the wrong body pass.
+
+ghost use Rattle.std.specs.Prelude.{◌≡◌, false};
+ghost use Rattle.tcp_buffers.specs.SendNumbers.{edge_of};
+
+use crate::SendState;
+use seq_arith::Seq;
+
+/// Nothing in flight counts as lost while the window is closed, with the right edge at SND.UNA: the contract of `SendState::is_lost`.
+fn a_closed_window_loses(state: &SendState) -> bool
+    ensures { result ≡ false }
+{
+    let state = SendState {
+        una: Seq(0),
+        nxt: Seq(1),
+        wnd: 0,
+        ..*state
+    };
+    state.is_lost()
+}
+
+/// The right edge is where the segment puts it, counted from what it acknowledges: the clause `used` of `SendState::on_ack`.
+fn edge_slides_with_una(state: &SendState) -> SendState
+    ensures { edge_of result ≡ 110 }
+{
+    let mut state = SendState {
+        una: Seq(0),
+        nxt: Seq(10),
+        wnd: 0,
+        wl1: Seq(0),
+        wl2: Seq(0),
+        ..*state
+    };
+    state.on_ack(Seq(0), Seq(10), 100);
+    state
+}
+
+/// The second duplicate in a row isn't yet the third, at which fast recovery begins: the clause `third` of `SendState::on_duplicate`.
+#[tactic(auto, unfolding(seq_arith::specs::Congestion::is_third))]
+fn third_duplicate_comes_early(state: &SendState) -> bool
+    ensures { result ≡ false }
+{
+    let mut state = SendState { dups: 1, ..*state };
+    state.on_duplicate()
+}
+
+/// Slow start adds at most a segment for an acknowledgement, here 100 bytes of 150: the clause `count` of `SendState::growth`.
+fn window_grows_by_all_units(state: &SendState) -> u64
+    ensures { result ≡ 100 }
+{
+    let state = SendState {
+        mss: 100,
+        cwnd: 1_000,
+        ssthresh: 2_000,
+        ..*state
+    };
+    state.growth(150)
+}
