@@ -10,6 +10,7 @@ pub use setting::{set_ack, set_seq, set_window};
 pub use writing::write_packet;
 
 mod accepted;
+mod excluded;
 mod fields;
 mod header;
 mod reading;

@@ -24,7 +24,7 @@ pub fn read_packet(bytes: &[u8]) -> Result<PacketRef<'_>, BadPacket>
 
 /// The first test of the IP header that refuses the packet, if one does.
 #[tactic(auto, unfolding(seq_arith::specs::PacketGrammar::ip_tests))]
-fn ip_refusal(bytes: &[u8]) -> Option<BadPacket>
+pub(crate) fn ip_refusal(bytes: &[u8]) -> Option<BadPacket>
     ensures first { result ≡ first_that_holds (ip_tests bytes.now) }
     ensures long { IfNone result (40 ≤ length bytes.now) }
     ensures short { IfNone result (length bytes.now < 2 ^ 16) }
@@ -55,7 +55,7 @@ fn ip_refusal(bytes: &[u8]) -> Option<BadPacket>
 
 /// Reads what follows an IP header that passed its tests.
 #[tactic(auto, unfolding(seq_arith::specs::PacketGrammar::tcp_tests, seq_arith::specs::PacketGrammar::segment_in, seq_arith::specs::PacketGrammar::options_in))]
-fn read_tcp(bytes: &[u8]) -> Result<PacketRef<'_>, BadPacket>
+pub(crate) fn read_tcp(bytes: &[u8]) -> Result<PacketRef<'_>, BadPacket>
     requires long { 40 ≤ length bytes.now }
     requires short { length bytes.now < 2 ^ 16 }
     ensures { seen result ≡ unless (first_that_holds (tcp_tests bytes.now)) (segment_in bytes.now) }

@@ -12,7 +12,7 @@ use seq_arith::{Seq, patch16};
 
 /// Replaces a word of the TCP header and patches the TCP checksum for it.
 #[tactic(auto, unfolding(crate::specs::Change::patched_at))]
-fn patch_word(head: &mut [u8], at: usize, word: u16)
+pub(crate) fn patch_word(head: &mut [u8], at: usize, word: u16)
     requires long { 40 ≤ length head.old }
     requires within { at + 2 ≤ 40 }
     ensures bytes { head.new ≡ patched_at at word head.old }
