@@ -10,6 +10,7 @@ pub use transfer::Transfer;
 
 mod any_service;
 mod echo;
+mod excluded;
 pub mod laws;
 mod line;
 mod meter;
