@@ -11,10 +11,10 @@ ghost use Rattle.counter_service.specs.Counter.{answers};
 
 use counter_service::Counter;
 use ft_io::{NoMemory, read_to_limit};
-use ft_system::ReadSource;
 use ft_model::Script;
 use ft_model::grammar::{accepted_schedules_can_be_played, accepted_schedules_keep_the_limits};
 use ft_model::headline::clients_see_an_unfailing_server;
+use ft_system::ReadSource;
 use net_schedule::{StepEnd, World};
 use schedule_text::{Schedule, read_schedule};
 use server_trait::{CHUNK_LIMIT, Service};
