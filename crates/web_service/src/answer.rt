@@ -153,7 +153,7 @@ fn allowed(method: Method) -> Status
 }
 
 // Appends a body, unless the method is HEAD.
-fn send_body(method: Method, body: &[u8], out: &mut Vec<u8>) -> Result<(), NoMemory>
+pub(crate) fn send_body(method: Method, body: &[u8], out: &mut Vec<u8>) -> Result<(), NoMemory>
     ensures { OnOk result (out.new.items ≡ out.old.items ++ sent_body method body.now) }
 {
     match method {

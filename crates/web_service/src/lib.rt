@@ -7,6 +7,7 @@ pub use request::{Method, Page, Request, Version};
 pub use web::Web;
 
 mod answer;
+mod excluded;
 pub mod laws;
 mod reader;
 mod request;

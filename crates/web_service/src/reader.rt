@@ -123,7 +123,7 @@ fn request_line_end(line: &[u8]) -> LineEnd
 
 // What the end of a field line does.
 #[tactic(auto, unfolding(crate::specs::Reader::field_line_end))]
-fn field_line_end(size: usize, request: Request, line: &[u8]) -> LineEnd
+pub(crate) fn field_line_end(size: usize, request: Request, line: &[u8]) -> LineEnd
     ensures { result ≡ field_line_end size request line.now }
 {
     if line.is_empty() {

@@ -64,7 +64,7 @@ impl Web {
 
     // Answers a request, if there is room.
     #[tactic(auto, unfolding(crate::specs::Web::answered, crate::specs::Web::refused))]
-    fn answer(&mut self, request: Request, out: &mut Vec<u8>) -> Result<Next, NoMemory>
+    pub(crate) fn answer(&mut self, request: Request, out: &mut Vec<u8>) -> Result<Next, NoMemory>
         ensures state { IfOk result (λ _. self.new ≡ (answered self.old request).next) }
         ensures output { IfOk result (λ _. out.new.items ≡ out.old.items ++ (answered self.old request).output) }
         ensures closed { IfOk result (λ next. next ≡ next_of (answered self.old request).closed) }
