@@ -13,6 +13,7 @@ pub use seq_arith::{BadMark, BadMsg, BadTwin};
 pub use twin::{TwinMsg, read_twin, write_twin};
 pub use writing::{checksum_of_both, put_msg, write_msg};
 
+mod excluded;
 mod fields;
 mod layout;
 mod mark;

@@ -134,7 +134,7 @@ fn open(bytes: &[u8], len: usize) -> Result<u64, BadMsg>
 
 /// Returns the boot number of a message, after testing that its length is the one in its header and within these bounds, and that its checksum is right.
 #[tactic(auto, unfolding(crate::specs::Places::opened))]
-fn open_within(bytes: &[u8], least: usize, most: usize) -> Result<u64, BadMsg>
+pub(crate) fn open_within(bytes: &[u8], least: usize, most: usize) -> Result<u64, BadMsg>
     requires { HEADER ≤ length bytes.now }
     ensures value { result ≡ opened least most bytes.now }
     ensures long { IfOk result (λ _. least ≤ length bytes.now) }

@@ -6,6 +6,6 @@ pub use twin_msg::TwinMsg;
 pub use writing::write_twin;
 
 mod reading;
-mod table;
+pub(crate) mod table;
 mod twin_msg;
 mod writing;

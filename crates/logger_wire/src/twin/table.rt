@@ -67,7 +67,7 @@ fn asks(body: &Body<'_>) -> bool
 
 /// Whether bytes are a message that a server may send to a logger.
 #[tactic(auto, unfolding(seq_arith::specs::TwinGrammar::is_asking))]
-fn is_asking(bytes: &[u8]) -> bool
+pub(crate) fn is_asking(bytes: &[u8]) -> bool
     ensures { result ≡ is_asking_lem bytes.now }
 {
     match read_msg(bytes) {
