@@ -33,7 +33,7 @@ fn put_byte(bytes: &mut Vec<u8>, at: u64, byte: u8) -> Result<(), NoMemory>
 }
 
 /// Cuts off the bytes from this place on.
-fn cut_off(bytes: &mut Vec<u8>, at: u64)
+pub(crate) fn cut_off(bytes: &mut Vec<u8>, at: u64)
     ensures { bytes.new.items ≡ take at bytes.old.items }
 {
     bytes.truncate(at as usize);

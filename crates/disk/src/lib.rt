@@ -17,6 +17,7 @@ mod calls;
 mod death;
 mod desk;
 mod disk;
+mod excluded;
 mod file_disk;
 mod host_desk;
 mod mem_desk;
