@@ -8,6 +8,7 @@ pub use store::{LogStore, is_answer};
 pub use trimming::{Trim, TrimStore};
 
 mod entry_head;
+mod excluded;
 pub mod laws;
 mod lens;
 mod msg_out;

@@ -180,7 +180,7 @@ impl StoredEntry {
     }
 
     /// Logs the part's bytes past the logged ones, unless they leave a gap or the FIN is logged.
-    fn take_bytes(&mut self, alloc: Global, part: &Part<'_>) -> Result<(), NoMemory>
+    pub(crate) fn take_bytes(&mut self, alloc: Global, part: &Part<'_>) -> Result<(), NoMemory>
         requires room { part.now.offset + length part.now.bytes.now ≤ 2 ^ 24 }
         requires few { length part.now.bytes.now ≤ 1460 }
         ensures ok { OnOk result (self.new ≡ with_bytes (part_value part.now) self.old) }
