@@ -288,7 +288,7 @@ impl Endpoint {
 
     /// Second check: RST.
     #[tactic(auto, unfolding(crate::specs::Arrival::check_rst))]
-    fn check_rst(&mut self, p: PacketRef<'_>)
+    pub(crate) fn check_rst(&mut self, p: PacketRef<'_>)
         requires short { length p.payload.now ≤ 65535 }
         requires near { IsNearFirst (first self.old (segment_of p)) }
         ensures { IsShort self.old.sending → self.new ≡ check_rst self.old (segment_of p.entry) }
@@ -367,7 +367,7 @@ impl Endpoint {
 
     /// Uses the acknowledgement and the window. Returns false, and changes nothing, where the acknowledgement is ahead of SND.NXT.
     #[tactic(auto, unfolding(crate::specs::Arrival::with_ack_used))]
-    fn note_ack(&mut self, p: PacketRef<'_>) -> bool
+    pub(crate) fn note_ack(&mut self, p: PacketRef<'_>) -> bool
         ensures used { IsShort self.old.sending → result ≡ not (is_ahead self.old.sending.sent (ack_at self.old (segment_of p.entry))) }
         ensures state { IsShort self.old.sending
             → self.new ≡ (if is_ahead self.old.sending.sent (ack_at self.old (segment_of p.entry)) then self.old else with_ack_used self.old (segment_of p.entry)) }

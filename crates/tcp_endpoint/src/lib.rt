@@ -9,6 +9,7 @@ pub use states::{State, StateName};
 
 mod arrival;
 mod endpoint;
+mod excluded;
 mod leaving;
 mod outbox;
 mod receiver;

@@ -263,7 +263,7 @@ impl Receiver {
 
     /// The length of the gap that a text leaves after the bytes taken; 0 if it leaves none.
     #[tactic(auto, using(crate::proofs::Places::not_past, crate::proofs::Places::past))]
-    fn gap(&self, seq: Seq) -> u32
+    pub(crate) fn gap(&self, seq: Seq) -> u32
         requires { IsNearFirst (offset_of self.now.irs seq.0) }
         ensures count { result ≡ ahead (taken self.now) (offset_of self.now.irs seq.0) }
         ensures most { result ≤ 2 ^ 30 + 2 ^ 24 }
@@ -304,7 +304,7 @@ impl Receiver {
 
     /// Returns the new part of a text. The text leaves a gap of `gap` bytes after the bytes taken, or none where `gap` is 0.
     #[tactic(auto, unfolding(seq_arith::specs::Coming::new_text))]
-    fn new_part<'a>(&self, seq: Seq, gap: u32, text: &'a [u8]) -> &'a [u8]
+    pub(crate) fn new_part<'a>(&self, seq: Seq, gap: u32, text: &'a [u8]) -> &'a [u8]
         requires near { IsNearFirst (offset_of self.now.irs seq.0) }
         requires gap { gap ≡ ahead (taken self.now) (offset_of self.now.irs seq.0) }
         requires most { gap ≤ 2 ^ 30 + 2 ^ 24 }

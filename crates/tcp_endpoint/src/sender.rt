@@ -277,7 +277,7 @@ impl Sender {
     }
 
     /// How many units from SND.UNA on the peer's window and the congestion window allow.
-    fn send_room(&self) -> u32
+    pub(crate) fn send_room(&self) -> u32
         ensures { result ≡ send_edge self.now - self.now.una }
     {
         self.room().min(self.numbers.cwnd)
