@@ -6,6 +6,7 @@ pub use north::North;
 pub use read_record::ReadRecord;
 pub use records::ReadRecords;
 
+mod excluded;
 pub mod laws;
 mod north;
 mod read_record;

@@ -121,7 +121,7 @@ impl<S: Service> North<S> {
 
     /// Whether a read may be made: all output so far may be sent, and at most 65,535 bytes of it are unacknowledged; one more read's output fits into the
     /// stream; and fewer than 32 reads are unanswered.
-    fn is_free_to_read(&self, una: u32) -> bool
+    pub(crate) fn is_free_to_read(&self, una: u32) -> bool
         requires { una ≤ 2 ^ 24 + 1 }
         ensures { result ≡ is_free_to_read una self.now }
     {
@@ -272,7 +272,7 @@ impl<S: Service> North<S> {
     }
 
     /// Closes the socket once the read that closed the service is known to be logged and all output is given.
-    fn close<K: Socket>(&mut self, sock: &mut K)
+    pub(crate) fn close<K: Socket>(&mut self, sock: &mut K)
         ensures state { self.new ≡ shut_north self.old }
         ensures socket { sock.new ≡ shut_socket (writer K.write_room K.is_closed K.after_write K.after_close) self.old sock.old }
         ensures unread { K.unread sock.new ≡ K.unread sock.old }
@@ -336,7 +336,7 @@ impl<S: Service> North<S> {
     }
 
     #[tactic(auto, unfolding(crate::specs::NorthState::answered_on))]
-    fn note_reads(&mut self, count: u32)
+    pub(crate) fn note_reads(&mut self, count: u32)
         ensures state { self.new ≡ answered_on count self.old }
         ensures read { self.new.read ≡ self.old.read }
         ensures rest { self.new.rest ≡ self.old.rest }
