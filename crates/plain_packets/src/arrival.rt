@@ -72,7 +72,7 @@ pub fn is_acceptable(next: u64, window: u64, first: i64, len: u64) -> bool
 
 /// Returns whether a segment of length 0 is at exactly the right edge of an open window.
 #[tactic(auto, unfolding(seq_arith::specs::Arrival::is_at_right_edge))]
-fn is_at_right_edge(next: u64, window: u64, first: i64, len: u64) -> bool
+pub(crate) fn is_at_right_edge(next: u64, window: u64, first: i64, len: u64) -> bool
     requires next { next ≤ 2 ^ 63 }
     requires window { window < 2 ^ 62 }
     ensures { result ≡ is_at_right_edge next window first len }
@@ -92,7 +92,7 @@ pub fn accepts(next: u64, window: u64, first: i64, len: u64) -> bool
 
 /// Returns whether a segment begins at exactly the next number while the window is zero.
 #[tactic(auto, unfolding(seq_arith::specs::Arrival::is_allowed_at_zero))]
-fn is_allowed_at_zero(next: u64, window: u64, first: i64) -> bool
+pub(crate) fn is_allowed_at_zero(next: u64, window: u64, first: i64) -> bool
     ensures { result ≡ is_allowed_at_zero next window first }
 {
     window == 0 && is_at(next, first, 0)

@@ -18,6 +18,7 @@ pub use wire::PlainWire;
 
 mod arrival;
 mod coming;
+mod excluded;
 mod held;
 pub mod laws;
 mod message;
