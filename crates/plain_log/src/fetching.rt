@@ -105,7 +105,12 @@ impl PlainFetching {
     }
 
     /// Takes bytes of the newest entry, if the answer has those requested. Returns whether it fits. After `NoMemory` the list may only be dropped.
-    fn take_bytes(&mut self, key: Key, offset: u32, body: &Body<'_>) -> Result<bool, NoMemory>
+    pub(crate) fn take_bytes(
+        &mut self,
+        key: Key,
+        offset: u32,
+        body: &Body<'_>,
+    ) -> Result<bool, NoMemory>
         ensures { IfOk result (λ fits. IsTakenAs (fetched_by (Its_bytes key offset) (body_of body.now) self.old) self.old self.new fits) }
     {
         let Body::PartMsg {

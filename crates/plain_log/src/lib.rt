@@ -16,6 +16,7 @@ pub use wanted::{Wanted, question};
 
 mod ending;
 mod entry;
+mod excluded;
 mod fetched;
 mod fetching;
 mod lengths;

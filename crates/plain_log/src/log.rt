@@ -156,7 +156,7 @@ impl PlainLog {
     }
 
     /// Returns whether a new entry for this key is refused: the key has one, or the log is full.
-    fn turns_away(&self, key: Key) -> bool
+    pub(crate) fn turns_away(&self, key: Key) -> bool
         ensures { result ≡ (list_any (λ e. key_eq e.key key) self.now.entries || nat_le 64 (length self.now.entries)) }
     {
         has_entry(self.entries.as_slice(), key) || self.entries.len() >= ENTRY_LIMIT
