@@ -124,7 +124,7 @@ impl Client {
         self.accepted.len() as u64 + u64::from(self.phase == Phase::Ended)
     }
 
-    fn suits_phase(&self, made: Move) -> bool
+    pub(crate) fn suits_phase(&self, made: Move) -> bool
         ensures { result ≡ suits_phase self.now (move_value made) }
     {
         let unfinished = self.acknowledged as usize <= self.script.len();

@@ -8,6 +8,7 @@ pub use live::{ClientEnd, LiveClient};
 
 mod arrival;
 mod client;
+mod excluded;
 mod live;
 mod moves;
 mod receiving;

@@ -196,7 +196,7 @@ impl LiveClient {
         self.hand_out(buf)
     }
 
-    fn hand_out(&mut self, buf: &mut [u8]) -> usize
+    pub(crate) fn hand_out(&mut self, buf: &mut [u8]) -> usize
         ensures count { result ≡ min (length (unread self.old)) (length buf.old) }
         ensures bytes { buf.new ≡ take result (unread self.old) ++ drop result buf.old }
         ensures state { self.new ≡ handed self.old result }
@@ -221,7 +221,7 @@ impl LiveClient {
         self.end_turn(out);
     }
 
-    fn end_turn(&mut self, out: &mut Outbox)
+    pub(crate) fn end_turn(&mut self, out: &mut Outbox)
         requires { out.old ≡ [] }
         ensures state { self.new ≡ turned self.old }
         ensures sent { out.new ≡ packets (sent_by self.old) }

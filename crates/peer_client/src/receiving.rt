@@ -112,7 +112,7 @@ impl Client {
 
     /// The part of a text that continues what is accepted, up to the right edge.
     #[tactic(auto, unfolding(crate::specs::Scripted::next_text))]
-    fn next_text<'a>(&self, first: i64, text: &'a [u8]) -> &'a [u8]
+    pub(crate) fn next_text<'a>(&self, first: i64, text: &'a [u8]) -> &'a [u8]
         ensures { result.now ≡ next_text (length self.now.accepted) self.now.edge (is_ended self.now.phase) first text.now }
     {
         let next = self.accepted.len() as u64;
