@@ -14,7 +14,7 @@ use Rattle.ft_model.specs.Wire.{Wire, wire_of, HasWire}
 use Rattle.ft_model.proofs.Lists.{all_append}
 use Rattle.mark_laws.specs.Marking.{Outgoing, marks_out, with_marks}
 use Rattle.mark_laws.specs.Marking.Outgoing.{Plain, Mark_to_logger}
-use Rattle.mark_traces.specs.MarkedNode.{is_done}
+use Rattle.mark_laws.specs.MarkedNode.{is_done}
 use Rattle.conn_marks.specs.MarkSends.{outgoing_wire, HasOutgoingWire, AreOut, says_done_in, is_done_wire, put_before, mark_message, mark_wires, SendsMarks}
 
 -- a packet that can be written says that a connection is done where its bytes do

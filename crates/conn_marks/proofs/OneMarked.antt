@@ -19,7 +19,7 @@ use Rattle.ft_model.specs.Keys.{AreDistinct, has_key}
 use Rattle.ft_model.proofs.Keys.{key_eq_turns}
 use Rattle.ft_model.proofs.Lists.{same_key, some_is}
 use Rattle.mark_laws.specs.Marking.{Outgoing, with_marks}
-use Rattle.mark_traces.specs.MarkedNode.{Marker, GoesMarked, AllGoMarked, is_done}
+use Rattle.mark_laws.specs.MarkedNode.{Marker, GoesMarked, AllGoMarked, is_done}
 
 pub stays_of : {State : Type 0} (by : Marker State) (node : Node) (input : Input) (place : Place) (now : List Place) (sent : List Packet)
     → PlaceTurn by.service node input place now sent → concerns node input (key_of place) ≡ false → Stays place now sent

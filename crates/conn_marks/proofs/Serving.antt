@@ -36,7 +36,7 @@ use Rattle.mark_laws.specs.Marking.{Marking, Outgoing, is_due, with_new, new_mar
 use Rattle.mark_laws.specs.Marking.Outgoing.{Plain}
 use Rattle.mark_laws.specs.Quiet.{mark_of}
 use Rattle.mark_laws.proofs.MarksSent.{plain_map}
-use Rattle.mark_traces.specs.MarkedNode.{Marker, MarkedNode, GoesMarked, AllGoMarked, ServesMarked, marks_at, marking_then, is_done, is_tick_input}
+use Rattle.mark_laws.specs.MarkedNode.{Marker, MarkedNode, GoesMarked, AllGoMarked, ServesMarked, marks_at, marking_then, is_done, is_tick_input}
 use Rattle.conn_marks.specs.KeyMarks.{KeyMarks, marking_in}
 use Rattle.conn_marks.specs.MarkSends.{AreOut, SendsMarks}
 use Rattle.conn_marks.specs.Settled.{Keeps, IsSettledPoint, IsSettledPlace, AllSettled, MarksNew, MarksPlace}

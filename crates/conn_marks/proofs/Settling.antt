@@ -14,7 +14,7 @@ use Rattle.ft_model.proofs.TurnTells.{settled_reads}
 use Rattle.mark_laws.specs.Quiet.{is_quiet, mark_of}
 use Rattle.mark_laws.specs.Marking.{Marking, IsSettled, is_due, with_new, new_marks, outstanding_in}
 use Rattle.mark_laws.proofs.MarksSent.{not_twice}
-use Rattle.mark_traces.specs.MarkedNode.{Marker}
+use Rattle.mark_laws.specs.MarkedNode.{Marker}
 
 -- where no mark is due none is made
 pub new_same : {State : Type 0} (by : Marker State) (m : Marking) (p : Point) → is_due by.service by.every m p ≡ false → with_new by.service by.writing by.every p m ≡ m

@@ -12,7 +12,7 @@ use Rattle.ft_model.specs.Wire.{Wire, Party, wire_of, HasWire}
 use Rattle.ft_model.specs.Wire.Party.{A_client, The_server, The_logger}
 use Rattle.mark_laws.specs.Marking.{Outgoing}
 use Rattle.mark_laws.specs.Marking.Outgoing.{Plain, Mark_to_logger}
-use Rattle.mark_traces.specs.MarkedNode.{says_done}
+use Rattle.mark_laws.specs.MarkedNode.{says_done}
 
 -- an outgoing packet's bytes, with the addressee
 abbrev pub outgoing_wire : Outgoing → Wire

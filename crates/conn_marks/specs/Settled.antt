@@ -9,7 +9,7 @@ use Rattle.ft_model.specs.Node.Place.{Lives}
 use Rattle.ft_model.specs.Point.{Point}
 use Rattle.ft_model.specs.Wire.{Wire}
 use Rattle.mark_laws.specs.Marking.{Marking, IsSettled, with_new, new_marks}
-use Rattle.mark_traces.specs.MarkedNode.{Marker}
+use Rattle.mark_laws.specs.MarkedNode.{Marker}
 use Rattle.conn_marks.specs.KeyMarks.{KeyMarks, marking_in, Changes}
 use Rattle.conn_marks.specs.MarkSends.{SendsMarks}
 

@@ -4,7 +4,7 @@ use Rattle.std.specs.List.{AllByRecursion}
 use Rattle.seq_arith.specs.Message.{Message}
 use Rattle.ft_model.specs.Log.{Log, empty_log}
 use Rattle.ft_model.proofs.Lists.{all_weaker}
-use Rattle.logger_deaths.specs.NeededMessages.{log_after_all}
+use Rattle.trace_laws.specs.NeededMessages.{log_after_all}
 use Rattle.disk.specs.declared.calls.DiskCall.{DiskCall}
 use Rattle.kept_log.specs.Format.{magic, blocks, front, HasBlocks, IsSmall}
 use Rattle.kept_log.proofs.OneReading.{reads_once}

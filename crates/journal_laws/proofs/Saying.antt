@@ -8,7 +8,7 @@ use Rattle.seq_arith.specs.Message.{Message}
 use Rattle.seq_arith.specs.MessageGrammar.{reading, spelling}
 use Rattle.seq_arith.specs.declared.kinds.BadMsg.{BadMsg}
 use Rattle.ft_model.specs.Log.{Log, log_after, answer_to}
-use Rattle.logger_deaths.specs.NeededMessages.{log_after_all}
+use Rattle.trace_laws.specs.NeededMessages.{log_after_all}
 use Rattle.disk.specs.CallRecord.{on_link, on_disk, disk_calls}
 use Rattle.disk.specs.declared.calls.DiskCall.{DiskCall}
 use Rattle.disk.specs.declared.calls.DeskCall.{DeskCall}

@@ -13,7 +13,7 @@ use Rattle.ft_model.specs.Keys.{AreDistinct, has_key}
 use Rattle.ft_model.proofs.Asked.{entry_keys, distinct_after}
 use Rattle.ft_model.proofs.Lists.{same_key}
 use Rattle.ft_model.proofs.LogAnswers.{log_went}
-use Rattle.logger_deaths.specs.NeededMessages.{log_after_all}
+use Rattle.trace_laws.specs.NeededMessages.{log_after_all}
 use Rattle.logger_store.specs.Changes.{part_changes, body_changes, changes}
 use Rattle.logger_store.proofs.Changed.{part_stays, read_stays, end_stays, open_stays, and_rest}
 

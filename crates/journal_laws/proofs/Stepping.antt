@@ -3,8 +3,8 @@ use Rattle.std.proofs.Common.{◌≡◌, ℕ, List, [], ◌∷◌}
 use Rattle.seq_arith.specs.Message.{Message}
 use Rattle.ft_model.specs.Log.{Log, log_after}
 use Rattle.ft_model.specs.Network.{Packet}
-use Rattle.logger_deaths.specs.Deaths.{ComesBack}
-use Rattle.logger_deaths.specs.NeededMessages.{log_after_all}
+use Rattle.trace_laws.specs.Deaths.{ComesBack}
+use Rattle.trace_laws.specs.NeededMessages.{log_after_all}
 use Rattle.journal_laws.specs.Moments.{AreUnderWay}
 
 pub comes_back : (packets : List Packet) (numbers : List ℕ) (messages : List Message) (before after : Log) → AreUnderWay packets numbers messages → after ≡ log_after_all before messages

@@ -6,7 +6,7 @@ use Rattle.ft_io.specs.Told.{Tells}
 use Rattle.ft_io.specs.declared.link_call.LinkCall.TheVariants.{Bound}
 use Rattle.ft_io.proofs.Tellings.{tells_on}
 use Rattle.ft_model.specs.Log.{empty_log}
-use Rattle.logger_deaths.specs.NeededMessages.{log_after_all}
+use Rattle.trace_laws.specs.NeededMessages.{log_after_all}
 use Rattle.disk.specs.CallRecord.{on_disk}
 use Rattle.disk.specs.declared.calls.DiskCall.{DiskCall}
 use Rattle.disk.specs.declared.calls.DeskCall.{DeskCall}

@@ -5,7 +5,7 @@ use Rattle.std.specs.List.{AllByRecursion}
 use Rattle.seq_arith.specs.Message.{Message}
 use Rattle.seq_arith.specs.MessageGrammar.{reading}
 use Rattle.ft_model.specs.Log.{Log, log_after, empty_log}
-use Rattle.logger_deaths.specs.NeededMessages.{log_after_all}
+use Rattle.trace_laws.specs.NeededMessages.{log_after_all}
 use Rattle.kept_log.specs.Format.{counted, front}
 use Rattle.kept_log.proofs.Deaths.{front_push}
 use Rattle.kept_log.specs.MessageList.{Says, AllSay, IsRound}

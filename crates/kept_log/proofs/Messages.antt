@@ -15,7 +15,7 @@ use Rattle.seq_arith.proofs.Passing.{same_from}
 use Rattle.seq_arith.proofs.Refused.{goes_on, accepted}
 use Rattle.seq_arith.proofs.MessageSpelling.{bounded, room}
 use Rattle.ft_model.specs.Log.{Log, log_after}
-use Rattle.logger_deaths.specs.NeededMessages.{log_after_all}
+use Rattle.trace_laws.specs.NeededMessages.{log_after_all}
 use Rattle.kept_log.specs.MessageList.{Says}
 use Rattle.kept_log.specs.JournaledLog.{Waits}
 

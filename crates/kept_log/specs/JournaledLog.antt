@@ -2,7 +2,7 @@
 use Rattle.std.specs.Prelude.{◌≡◌, ◌+◌, ℕ, Bool, List, [], ◌∷◌, ◌++◌, length, nat_lt, if◌then◌else◌}
 use Rattle.seq_arith.specs.Message.{Message}
 use Rattle.ft_model.specs.Log.{Log, empty_log}
-use Rattle.logger_deaths.specs.NeededMessages.{log_after_all}
+use Rattle.trace_laws.specs.NeededMessages.{log_after_all}
 use Rattle.logger_store.specs.Changes.{changes}
 use Rattle.disk.specs.declared.calls.DiskCall.{DiskCall}
 use Rattle.kept_log.specs.Format.{front, keeping}

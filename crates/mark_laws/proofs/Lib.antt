@@ -2,3 +2,25 @@ mod Runs
 pub mod Closing
 pub mod MarksSent
 mod Answered
+mod Own
+pub mod Packets
+pub mod Steps
+pub mod Strip
+pub mod Turns
+mod Fronts
+pub mod Truth
+pub mod MarkSteps
+pub mod Noise
+pub mod LogSteps
+pub mod Traces
+mod OneTurn
+mod OneWorld
+mod OneOutcome
+mod WorkedTrace
+mod WorkedLegal
+mod LawOfMarks
+mod Premises
+mod SeenTurns
+mod Formed
+mod Counted
+mod Written

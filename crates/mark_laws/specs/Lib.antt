@@ -7,3 +7,11 @@ pub mod Restart
 pub mod Answers
 pub mod WorkedLog
 pub mod WorkedRestart
+pub mod MarkedNode
+pub mod MarkedWorld
+pub mod TrueMarks
+pub mod MarkedLegal
+pub mod MarkedOutcome
+pub mod WorkedTrace
+pub mod Premises
+pub mod MarkedReport

@@ -7,9 +7,9 @@ use Rattle.ft_model.specs.World.{DeliveredAs, segment_or_noise, message_or_noise
 use Rattle.ft_model.specs.declared.way.Way.{Way}
 use Rattle.ft_model.specs.declared.way.Way.TheVariants.{ClientToServer, ServerToClient, ServerToLogger, LoggerToServer, HeadToTail, TailToHead}
 use Rattle.twin_laws.specs.TwinWorld.{seen}
-use Rattle.mark_traces.specs.MarkedNode.MarkedInput.{Plain_comes}
-use Rattle.mark_traces.specs.MarkedWorld.{said_by}
-use Rattle.mark_traces.specs.MarkedWorld.{input_of as heard_from}
+use Rattle.mark_laws.specs.MarkedNode.MarkedInput.{Plain_comes}
+use Rattle.mark_laws.specs.MarkedWorld.{said_by}
+use Rattle.mark_laws.specs.MarkedWorld.{input_of as heard_from}
 use Rattle.server_node.specs.Markers.{Saving}
 use Rattle.net_schedule.specs.Delivery.{delivered_to}
 use Rattle.net_schedule.specs.WorldView.{kept, service_of}

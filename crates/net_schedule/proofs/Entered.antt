@@ -17,7 +17,7 @@ use Rattle.ft_model.specs.Log.{Log, Entry, entry_of, with_entry, with_part, log_
 use Rattle.ft_model.specs.Keys.{AreDistinct, has_key}
 use Rattle.ft_model.proofs.Lists.{none_is_some, some_is, same_key}
 use Rattle.mark_laws.specs.MarkedLog.{MarkedLog, acknowledging, after_mark, keeps, may_follow, with_mark, with_mark_body}
-use Rattle.mark_traces.proofs.Steps.{only_acknowledges, same_changes}
+use Rattle.mark_laws.proofs.Steps.{only_acknowledges, same_changes}
 use Rattle.mark_store.specs.Refinement.{IsLeftOfMarked}
 use Rattle.net_schedule.specs.Journal.{StoreAndJournal, AreAt, HasDistinctKeys, no_bytes}
 

@@ -18,11 +18,11 @@ use Rattle.ft_model.specs.declared.event.EventWhy.{EventWhy}
 use Rattle.ft_model.specs.declared.way.Way.{Way}
 use Rattle.ft_model.specs.declared.way.Way.TheVariants.{ServerToClient}
 use Rattle.ft_model.proofs.Lists.{none_is_some}
-use Rattle.mark_traces.specs.MarkedLegal.{marked_refusal}
-use Rattle.mark_traces.specs.MarkedNode.{Marker}
-use Rattle.mark_traces.specs.MarkedWorld.{Parcel, MarkedWorld, MarkedHappens, CanBeRead, Elsewhere, ComesAs, usual, seen}
-use Rattle.mark_traces.specs.MarkedWorld.Parcel.{Usual, Mark_sent, Mark_answered}
-use Rattle.mark_traces.proofs.Strip.{usual_append, usual_of}
+use Rattle.mark_laws.specs.MarkedLegal.{marked_refusal}
+use Rattle.mark_laws.specs.MarkedNode.{Marker}
+use Rattle.mark_laws.specs.MarkedWorld.{Parcel, MarkedWorld, MarkedHappens, CanBeRead, Elsewhere, ComesAs, usual, seen}
+use Rattle.mark_laws.specs.MarkedWorld.Parcel.{Usual, Mark_sent, Mark_answered}
+use Rattle.mark_laws.proofs.Strip.{usual_append, usual_of}
 use Rattle.net_schedule.specs.Actors.{ActorsStand, ActorsGoOn, ActorsAdvance}
 use Rattle.net_schedule.specs.Delivery.{delivered_to}
 use Rattle.net_schedule.specs.Premises.{Premises}

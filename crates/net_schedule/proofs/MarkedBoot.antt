@@ -6,8 +6,8 @@ use Rattle.ft_model.specs.Legal.{machines}
 use Rattle.ft_model.specs.Node.{booted}
 use Rattle.ft_model.specs.Wire.{Wire, wire_of}
 use Rattle.ft_model.specs.declared.event.Event.TheVariants as events
-use Rattle.mark_traces.specs.MarkedNode.{MarkedInput, booted_to_mark}
-use Rattle.mark_traces.specs.MarkedWorld.{MarkedWorld, ServerMoves}
+use Rattle.mark_laws.specs.MarkedNode.{MarkedInput, booted_to_mark}
+use Rattle.mark_laws.specs.MarkedWorld.{MarkedWorld, ServerMoves}
 use Rattle.server_node.specs.declared.node.Node.{Node}
 use Rattle.server_node.specs.Markers.{Saving, marker_of}
 use Rattle.server_node.specs.MarkedTurns.{MarkedNodeStands, MarkedNodeTurns, MarkedNodeGoes, NodeStandsAt}

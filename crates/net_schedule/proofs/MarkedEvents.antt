@@ -25,13 +25,13 @@ use Rattle.ft_model.specs.declared.event.EventWhy.TheVariants as why
 use Rattle.ft_model.specs.declared.way.Way.{Way}
 use Rattle.ft_model.proofs.Happened.{segment_is_noise}
 use Rattle.mark_laws.specs.MarkedLog.AnyMessage.{About_mark, Of_log}
-use Rattle.mark_traces.specs.MarkedLegal.{marked_refusal, refusal_of_marked_flip}
-use Rattle.mark_traces.specs.MarkedNode.{Marker}
-use Rattle.mark_traces.specs.MarkedNode.MarkedInput.{Plain_comes}
-use Rattle.mark_traces.specs.MarkedWorld.{Parcel, MarkedWorld, CanBeRead, ParcelComes, ComesAs, LogReads, ServerMoves, Elsewhere, bytes_of, either_said, said_by, input_of, seen, parcel_at}
-use Rattle.mark_traces.specs.MarkedWorld.Parcel.{Usual, Mark_sent, Mark_answered}
-use Rattle.mark_traces.proofs.MarkSteps.{of_parcel, under_way}
-use Rattle.mark_traces.proofs.Noise.{message_noise, mark_noise}
+use Rattle.mark_laws.specs.MarkedLegal.{marked_refusal, refusal_of_marked_flip}
+use Rattle.mark_laws.specs.MarkedNode.{Marker}
+use Rattle.mark_laws.specs.MarkedNode.MarkedInput.{Plain_comes}
+use Rattle.mark_laws.specs.MarkedWorld.{Parcel, MarkedWorld, CanBeRead, ParcelComes, ComesAs, LogReads, ServerMoves, Elsewhere, bytes_of, either_said, said_by, input_of, seen, parcel_at}
+use Rattle.mark_laws.specs.MarkedWorld.Parcel.{Usual, Mark_sent, Mark_answered}
+use Rattle.mark_laws.proofs.MarkSteps.{of_parcel, under_way}
+use Rattle.mark_laws.proofs.Noise.{message_noise, mark_noise}
 use Rattle.net_schedule.specs.AtNumber.{at_number}
 use Rattle.net_schedule.specs.Refinement.{Kept}
 use Rattle.net_schedule.specs.MarkedRefinement.{MarkedWorldStands, MarkedGoesOn, MarkedAdvances, MarkedPremises, MayComeMarked, MarkedComesAs, way_of_parcel}

@@ -17,11 +17,11 @@ use Rattle.ft_model.proofs.Happened.{happened}
 use Rattle.ft_model.proofs.ClientKeys.{keys_in, keys_stay}
 use Rattle.mark_laws.specs.MarkedLog.{AnyMessage}
 use Rattle.mark_laws.specs.MarkedLog.AnyMessage.{About_mark, Of_log}
-use Rattle.mark_traces.specs.MarkedNode.{Marker, MarkedNode, MarkedInput}
-use Rattle.mark_traces.specs.MarkedNode.MarkedInput.{Plain_comes, Mark_comes}
+use Rattle.mark_laws.specs.MarkedNode.{Marker, MarkedNode, MarkedInput}
+use Rattle.mark_laws.specs.MarkedNode.MarkedInput.{Plain_comes, Mark_comes}
 use Rattle.ft_model.specs.Node.Input.{Packet_comes, Message_comes, Tick_comes}
-use Rattle.mark_traces.specs.MarkedWorld.{Parcel, MarkedWorld, MarkedMoment, MarkedJoint, MarkedHappens, Elsewhere, ServerTurn, LogHears, LogReads, ParcelComes, ComesAs, bytes_of, seen, said_by, input_of, marked_after}
-use Rattle.mark_traces.specs.MarkedWorld.Parcel.{Usual, Mark_sent, Mark_answered}
+use Rattle.mark_laws.specs.MarkedWorld.{Parcel, MarkedWorld, MarkedMoment, MarkedJoint, MarkedHappens, Elsewhere, ServerTurn, LogHears, LogReads, ParcelComes, ComesAs, bytes_of, seen, said_by, input_of, marked_after}
+use Rattle.mark_laws.specs.MarkedWorld.Parcel.{Usual, Mark_sent, Mark_answered}
 use Rattle.net_schedule.proofs.Trace.{step_keeps}
 
 abbrev Keeps : MarkedWorld → MarkedWorld → Type 0

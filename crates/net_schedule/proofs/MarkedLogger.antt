@@ -16,9 +16,9 @@ use Rattle.mark_laws.specs.MarkedLog.{answer_above}
 use Rattle.mark_laws.specs.MarkedLog.AnyMessage.{Of_log}
 use Rattle.mark_store.specs.Bytes.{after_bytes, after_reading, reply_to, reply_to_reading}
 use Rattle.mark_store.specs.Refinement.{TrimmedAtMarks, IsLeftOfMarked}
-use Rattle.mark_traces.specs.MarkedNode.{Marker}
-use Rattle.mark_traces.specs.MarkedWorld.{Parcel, MarkedWorld, LogReads, ComesAs, answered_as, either_said, said_by}
-use Rattle.mark_traces.specs.MarkedWorld.Parcel.{Usual, Mark_sent, Mark_answered}
+use Rattle.mark_laws.specs.MarkedNode.{Marker}
+use Rattle.mark_laws.specs.MarkedWorld.{Parcel, MarkedWorld, LogReads, ComesAs, answered_as, either_said, said_by}
+use Rattle.mark_laws.specs.MarkedWorld.Parcel.{Usual, Mark_sent, Mark_answered}
 use Rattle.net_schedule.specs.StoredPackets.{Carried, with_answer}
 use Rattle.net_schedule.specs.Delivery.{with_logs}
 use Rattle.net_schedule.specs.Loggers.{Loggers}

@@ -15,8 +15,8 @@ use Rattle.ft_model.proofs.Lists.{none_is_some}
 use Rattle.mark_laws.specs.MarkedLog.{AnyMessage}
 use Rattle.mark_laws.specs.MarkedLog.AnyMessage.{About_mark, Of_log}
 use Rattle.mark_store.specs.Bytes.{reply_bytes}
-use Rattle.mark_traces.specs.MarkedWorld.{Parcel, answered_as, bytes_of, parcel_at}
-use Rattle.mark_traces.specs.MarkedWorld.Parcel.{Usual}
+use Rattle.mark_laws.specs.MarkedWorld.{Parcel, answered_as, bytes_of, parcel_at}
+use Rattle.mark_laws.specs.MarkedWorld.Parcel.{Usual}
 use Rattle.net_schedule.specs.AtNumber.{at_number}
 use Rattle.net_schedule.specs.StoredPackets.{Carried, with_packet, with_wires, with_answer, way_along}
 use Rattle.net_schedule.specs.MarkedRefinement.{way_of_parcel, stored_parcels}

@@ -6,11 +6,11 @@ use Rattle.ft_model.specs.Schedule.{kind_of, clients_of}
 use Rattle.ft_model.specs.declared.event.Event.{Event}
 use Rattle.ft_model.specs.declared.schedule.Schedule.{Schedule}
 use Rattle.ft_model.specs.declared.way.Way.{Way}
-use Rattle.mark_traces.specs.MarkedLegal.{marked_start}
-use Rattle.mark_traces.specs.MarkedNode.{Marker}
-use Rattle.mark_traces.specs.MarkedWorld.{Parcel, MarkedWorld, MarkedMoment, MarkedJoint, CanBeRead, marked_after}
-use Rattle.mark_traces.specs.MarkedWorld.Parcel.{Usual, Mark_sent, Mark_answered}
-use Rattle.mark_traces.proofs.MarkSteps.{of_parcel}
+use Rattle.mark_laws.specs.MarkedLegal.{marked_start}
+use Rattle.mark_laws.specs.MarkedNode.{Marker}
+use Rattle.mark_laws.specs.MarkedWorld.{Parcel, MarkedWorld, MarkedMoment, MarkedJoint, CanBeRead, marked_after}
+use Rattle.mark_laws.specs.MarkedWorld.Parcel.{Usual, Mark_sent, Mark_answered}
+use Rattle.mark_laws.proofs.MarkSteps.{of_parcel}
 use Rattle.net_schedule.specs.AtNumber.{at_number}
 use Rattle.net_schedule.specs.SentPackets.{marked_parcels_of, marked_way, KeepsAllMarked, MarkedSentAs}
 use Rattle.net_schedule.specs.Refinement.{Kept}

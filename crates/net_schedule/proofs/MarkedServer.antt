@@ -26,12 +26,12 @@ use Rattle.ft_model.proofs.Lists.{none_is_some}
 use Rattle.mark_laws.specs.Marking.{Outgoing}
 use Rattle.mark_laws.specs.Marking.Outgoing.{Plain, Mark_to_logger}
 use Rattle.mark_laws.specs.Restart.{mark_reported}
-use Rattle.mark_traces.specs.MarkedLegal.{marked_refusal}
-use Rattle.mark_traces.specs.MarkedNode.{Marker, MarkedNode, MarkedInput, LawfulMarkedTurn, booted_to_mark, so_far}
-use Rattle.mark_traces.specs.MarkedNode.MarkedInput.{Plain_comes, Mark_comes}
-use Rattle.mark_traces.specs.MarkedWorld.{Parcel, MarkedWorld, MarkedHappens, ServerMoves, ServerTurn, parcel_of, bytes_of, bytes_told, lengths_told, either_said, said_by, input_of, seen, ComesAs}
-use Rattle.mark_traces.specs.MarkedWorld.Parcel.{Usual, Mark_sent, Mark_answered}
-use Rattle.mark_traces.specs.Premises.{IsSoundMark, LeadsToSound}
+use Rattle.mark_laws.specs.MarkedLegal.{marked_refusal}
+use Rattle.mark_laws.specs.MarkedNode.{Marker, MarkedNode, MarkedInput, LawfulMarkedTurn, booted_to_mark, so_far}
+use Rattle.mark_laws.specs.MarkedNode.MarkedInput.{Plain_comes, Mark_comes}
+use Rattle.mark_laws.specs.MarkedWorld.{Parcel, MarkedWorld, MarkedHappens, ServerMoves, ServerTurn, parcel_of, bytes_of, bytes_told, lengths_told, either_said, said_by, input_of, seen, ComesAs}
+use Rattle.mark_laws.specs.MarkedWorld.Parcel.{Usual, Mark_sent, Mark_answered}
+use Rattle.mark_laws.specs.Premises.{IsSoundMark, LeadsToSound}
 use Rattle.server_trait.specs.declared.Service.{Ghosts}
 use Rattle.ft_model.specs.Legal.{machines}
 use Rattle.conn_marks.specs.KeyMarks.{every_for}

@@ -11,12 +11,12 @@ use Rattle.ft_model.specs.World.{MayCome}
 use Rattle.ft_model.specs.declared.event.Event.{Event}
 use Rattle.ft_model.specs.declared.event.EventWhy.{EventWhy}
 use Rattle.ft_model.specs.declared.schedule.Schedule.{Schedule}
-use Rattle.mark_traces.specs.MarkedLegal.{IsMarkedLegalFor, marked_start, marked_refusal}
-use Rattle.mark_traces.specs.MarkedNode.{Marker, MarkedNode}
-use Rattle.mark_traces.specs.MarkedWorld.{MarkedWorld, MarkedMoment, MarkedJoint, MarkedHappens, CanBeRead, seen, parcel_at, marked_after}
-use Rattle.mark_traces.specs.MarkedWorld.Parcel.{Mark_answered}
-use Rattle.mark_traces.specs.Premises.{IsSoundMark}
-use Rattle.mark_traces.proofs.Traces.{start_of_joint}
+use Rattle.mark_laws.specs.MarkedLegal.{IsMarkedLegalFor, marked_start, marked_refusal}
+use Rattle.mark_laws.specs.MarkedNode.{Marker, MarkedNode}
+use Rattle.mark_laws.specs.MarkedWorld.{MarkedWorld, MarkedMoment, MarkedJoint, MarkedHappens, CanBeRead, seen, parcel_at, marked_after}
+use Rattle.mark_laws.specs.MarkedWorld.Parcel.{Mark_answered}
+use Rattle.mark_laws.specs.Premises.{IsSoundMark}
+use Rattle.mark_laws.proofs.Traces.{start_of_joint}
 use Rattle.server_node.specs.Markers.{Saving}
 use Rattle.net_schedule.specs.WorldView.{kept, services_of}
 use Rattle.net_schedule.specs.Journal.{HasDistinctKeys}

@@ -5,7 +5,7 @@ use Rattle.ft_model.specs.World.{Moment}
 use Rattle.ft_model.specs.declared.event.Event.{Event}
 use Rattle.ft_model.specs.declared.schedule.Schedule.{Schedule}
 use Rattle.twin_laws.specs.TwinWorld.{TwinMoment}
-use Rattle.mark_traces.specs.MarkedWorld.{MarkedMoment}
+use Rattle.mark_laws.specs.MarkedWorld.{MarkedMoment}
 use Rattle.net_schedule.specs.WorldView.{kept, services_of}
 use Rattle.net_schedule.specs.Step.{StandsAfter, Steps, EndsStep}
 use Rattle.net_schedule.specs.TwinStep.{TwinStandsAfter, TwinSteps, TwinEndsStep}

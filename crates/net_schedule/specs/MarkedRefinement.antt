@@ -15,12 +15,12 @@ use Rattle.ft_model.specs.World.{World as Seen, IsStart, MayCome, segment_or_noi
 use Rattle.ft_model.specs.declared.event.Event.{Event}
 use Rattle.ft_model.specs.declared.way.Way.{Way}
 use Rattle.ft_model.specs.declared.way.Way.TheVariants.{ServerToLogger, LoggerToServer}
-use Rattle.mark_traces.specs.MarkedLegal.{markers, marked_refusal}
-use Rattle.mark_traces.specs.MarkedNode.{Marker, MarkedNode, MarkedInput}
-use Rattle.mark_traces.specs.MarkedNode.MarkedInput.{Plain_comes, Mark_comes}
-use Rattle.mark_traces.specs.MarkedWorld.{Parcel, MarkedWorld, MarkedHappens, CanBeRead, bytes_of, usual, seen, parcel_at, said_by, input_of}
-use Rattle.mark_traces.specs.MarkedWorld.Parcel.{Usual, Mark_sent, Mark_answered}
-use Rattle.mark_traces.specs.Premises.{IsSoundMark}
+use Rattle.mark_laws.specs.MarkedLegal.{markers, marked_refusal}
+use Rattle.mark_laws.specs.MarkedNode.{Marker, MarkedNode, MarkedInput}
+use Rattle.mark_laws.specs.MarkedNode.MarkedInput.{Plain_comes, Mark_comes}
+use Rattle.mark_laws.specs.MarkedWorld.{Parcel, MarkedWorld, MarkedHappens, CanBeRead, bytes_of, usual, seen, parcel_at, said_by, input_of}
+use Rattle.mark_laws.specs.MarkedWorld.Parcel.{Usual, Mark_sent, Mark_answered}
+use Rattle.mark_laws.specs.Premises.{IsSoundMark}
 use Rattle.server_node.specs.Identity.{node_of}
 use Rattle.server_node.specs.Markers.{Saving}
 use Rattle.server_node.specs.MarkedTurns.{NodeStandsAt}

@@ -3,9 +3,9 @@ use Rattle.std.specs.Prelude.{◌≡◌, ℕ, ◌+◌, ◌<◌, ◌≤◌, Some,
 use Rattle.ft_model.specs.Schedule.{kind_of}
 use Rattle.ft_model.specs.declared.event.Event.{Event}
 use Rattle.ft_model.specs.declared.schedule.Schedule.{Schedule}
-use Rattle.mark_traces.specs.MarkedNode.{Marker}
-use Rattle.mark_traces.specs.MarkedWorld.{MarkedMoment, marked_after}
-use Rattle.mark_traces.specs.MarkedLegal.{IsMarkedLegalFor, marked_start, marked_refusal, marked_packets_sent}
+use Rattle.mark_laws.specs.MarkedNode.{Marker}
+use Rattle.mark_laws.specs.MarkedWorld.{MarkedMoment, marked_after}
+use Rattle.mark_laws.specs.MarkedLegal.{IsMarkedLegalFor, marked_start, marked_refusal, marked_packets_sent}
 use Rattle.net_schedule.specs.Refinement.{Kept}
 use Rattle.net_schedule.specs.MarkedRefinement.{MarkedWorldStands}
 use Rattle.net_schedule.specs.declared.end.StepEnd.{StepEnd}

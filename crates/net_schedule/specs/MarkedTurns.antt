@@ -5,9 +5,9 @@ use Rattle.server_trait.specs.declared.Service.{Ghosts}
 use Rattle.ft_model.specs.declared.event.Event.{Event}
 use Rattle.ft_model.specs.declared.event.EventWhy.{EventWhy}
 use Rattle.ft_model.specs.declared.way.Way.{Way}
-use Rattle.mark_traces.specs.MarkedLegal.{marked_refusal}
-use Rattle.mark_traces.specs.MarkedNode.{Marker, MarkedInput}
-use Rattle.mark_traces.specs.MarkedWorld.{Parcel, MarkedWorld, ServerMoves, ComesAs}
+use Rattle.mark_laws.specs.MarkedLegal.{marked_refusal}
+use Rattle.mark_laws.specs.MarkedNode.{Marker, MarkedInput}
+use Rattle.mark_laws.specs.MarkedWorld.{Parcel, MarkedWorld, ServerMoves, ComesAs}
 use Rattle.net_schedule.specs.WorldView.{kept, services_of}
 use Rattle.server_node.specs.Markers.{Saving}
 use Rattle.net_schedule.specs.MarkedRefinement.{MarkedWorldStands, MarkedGoesOn, MarkedAdvances, MarkedPremises, MayComeMarked, MarkedComesAs, marker_for, way_of_parcel}

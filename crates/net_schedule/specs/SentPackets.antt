@@ -15,10 +15,10 @@ use Rattle.twin_laws.specs.TwinWorld.{Parcel, TwinMoment, parcel_at, twin_after}
 use Rattle.twin_laws.specs.TwinLegal.{twin_start, bytes_of_parcel}
 use Rattle.twin_laws.specs.TwinReport.{way_of_parcel}
 use Rattle.twin_laws.specs.SentBytes.{IsWritten}
-use Rattle.mark_traces.specs.MarkedLegal.{marked_start}
-use Rattle.mark_traces.specs.MarkedWorld as marked
-use Rattle.mark_traces.specs.MarkedWorld.{MarkedMoment, CanBeRead, bytes_of, marked_after}
-use Rattle.mark_traces.specs.MarkedWorld.Parcel.{Usual, Mark_sent, Mark_answered}
+use Rattle.mark_laws.specs.MarkedLegal.{marked_start}
+use Rattle.mark_laws.specs.MarkedWorld as marked
+use Rattle.mark_laws.specs.MarkedWorld.{MarkedMoment, CanBeRead, bytes_of, marked_after}
+use Rattle.mark_laws.specs.MarkedWorld.Parcel.{Usual, Mark_sent, Mark_answered}
 use Rattle.net_schedule.specs.StoredPackets.{Carried}
 
 -- all packets that were sent up to the end of a trace

@@ -10,7 +10,7 @@ use Rattle.ft_model.specs.World.{World as Seen, MayCome, ServerMoves, DeliveredA
 use Rattle.ft_model.specs.declared.event.Event.{Event}
 use Rattle.ft_model.specs.declared.event.EventWhy.{EventWhy}
 use Rattle.ft_model.specs.declared.way.Way.{Way}
-use Rattle.mark_traces.specs.MarkedNode.{MarkedInput}
+use Rattle.mark_laws.specs.MarkedNode.{MarkedInput}
 use Rattle.twin_laws.specs.TwinLegal.{twin_refusal}
 use Rattle.twin_laws.specs.TwinWorld.{Parcel, TwinWorld, seen}
 use Rattle.net_schedule.specs.Actors.{ActorsStand, ActorsGoOn, ActorsAdvance}

@@ -9,8 +9,8 @@ ghost use Rattle.ft_model.specs.World.{Moment};
 ghost use Rattle.ft_model.specs.declared.event.Event.{Event};
 ghost use Rattle.ft_model.specs.declared.schedule.Schedule.{Schedule};
 ghost use Rattle.ft_model.specs.declared.way.Way.{Way};
-ghost use Rattle.mark_traces.specs.MarkedLegal.{markers};
-ghost use Rattle.mark_traces.specs.MarkedWorld.{MarkedWorld, MarkedMoment, MarkedJoint, marked_after};
+ghost use Rattle.mark_laws.specs.MarkedLegal.{markers};
+ghost use Rattle.mark_laws.specs.MarkedWorld.{MarkedWorld, MarkedMoment, MarkedJoint, marked_after};
 ghost use Rattle.net_schedule.specs.AtNumber.{at_number};
 ghost use Rattle.net_schedule.specs.Journal.{HasDistinctKeys};
 ghost use Rattle.net_schedule.specs.MarkedStep.{MarkedStandsAfter};
@@ -22,8 +22,7 @@ ghost use Rattle.twin_laws.specs.TwinWorld.{TwinMoment};
 
 use ft_model::wire::packets_have_wires;
 use mark_laws::marking::marks_that_go_out_are_true;
-use mark_laws::marks_stay_true;
-use mark_reports::marked_parcels_are_written;
+use mark_laws::{marked_parcels_are_written, marks_stay_true};
 use server_trait::{Saved, Service};
 use twin_laws::{flat_traces_show_all, legal_traces_are_masked, parcels_are_written};
 

@@ -12,9 +12,9 @@ use Rattle.ft_model.specs.declared.event.Event.{Event}
 use Rattle.ft_model.specs.declared.schedule.Schedule.{Schedule}
 use Rattle.ft_model.specs.declared.way.Way.{Way}
 use Rattle.ft_model.specs.Masked.{Masked}
-use Rattle.mark_traces.specs.MarkedLegal.{IsMarkedLegalFor, marked_start}
-use Rattle.mark_traces.specs.MarkedWorld.{MarkedMoment, MarkedWorld, MarkedJoint, marked_after, plain_trace}
-use Rattle.mark_traces.specs.TrueMarks.{MarksAreTrue}
+use Rattle.mark_laws.specs.MarkedLegal.{IsMarkedLegalFor, marked_start}
+use Rattle.mark_laws.specs.MarkedWorld.{MarkedMoment, MarkedWorld, MarkedJoint, marked_after, plain_trace}
+use Rattle.mark_laws.specs.TrueMarks.{MarksAreTrue}
 use Rattle.replay_tool.specs.Safe.{IsSafe}
 use Rattle.twin_laws.specs.Flat.{flat}
 use Rattle.twin_laws.specs.TwinLegal.{twin_start, IsTwinLegalFor}

@@ -17,12 +17,12 @@ use Rattle.ft_model.specs.declared.schedule.Schedule.{Schedule}
 use Rattle.ft_model.specs.declared.way.Way.{Way}
 use Rattle.mark_laws.specs.MarkedLog.{AnyMessage}
 use Rattle.mark_laws.specs.MarkedLog.AnyMessage.{About_mark, Of_log}
-use Rattle.mark_traces.specs.MarkedLegal.{IsMarkedLegalFor, marked_start, marked_events_of, marked_packets_sent}
-use Rattle.mark_traces.specs.MarkedNode.{Marker, MarkedNode, MarkedInput}
-use Rattle.mark_traces.specs.MarkedNode.MarkedInput.{Plain_comes, Mark_comes}
-use Rattle.mark_traces.specs.MarkedWorld.{Parcel, MarkedWorld, MarkedMoment, MarkedHappens, MarkedJoint, ParcelComes, ComesAs, LogHears, LogReads, ServerTurn, CanBeRead, bytes_of, input_of, marked_after, said_by}
-use Rattle.mark_traces.specs.MarkedWorld.Parcel.{Usual, Mark_sent, Mark_answered}
-use Rattle.mark_reports.specs.MarkedReport.{mark_words, way_of_marked, marked_parcel_line, marked_parcel_lines, marked_parcel_count, marked_event_lines, marked_report}
+use Rattle.mark_laws.specs.MarkedLegal.{IsMarkedLegalFor, marked_start, marked_events_of, marked_packets_sent}
+use Rattle.mark_laws.specs.MarkedNode.{Marker, MarkedNode, MarkedInput}
+use Rattle.mark_laws.specs.MarkedNode.MarkedInput.{Plain_comes, Mark_comes}
+use Rattle.mark_laws.specs.MarkedWorld.{Parcel, MarkedWorld, MarkedMoment, MarkedHappens, MarkedJoint, ParcelComes, ComesAs, LogHears, LogReads, ServerTurn, CanBeRead, bytes_of, input_of, marked_after, said_by}
+use Rattle.mark_laws.specs.MarkedWorld.Parcel.{Usual, Mark_sent, Mark_answered}
+use Rattle.mark_laws.specs.MarkedReport.{mark_words, way_of_marked, marked_parcel_line, marked_parcel_lines, marked_parcel_count, marked_event_lines, marked_report}
 use Rattle.net_schedule.specs.AtNumber.{at_number}
 use Rattle.net_schedule.specs.MarkedStep.{MarkedStandsAfter}
 use Rattle.net_schedule.specs.StoredPackets.{Carried}

@@ -12,7 +12,7 @@ use Rattle.ft_model.specs.declared.schedule.Limit.{Limit}
 use Rattle.ft_model.specs.declared.schedule.Limit.TheVariants as limits
 use Rattle.sample_servers.specs.AnyService.{any_machine}
 use Rattle.replay_tool.specs.Ends.{code_of, is_run_code}
-use Rattle.mark_traces.specs.MarkedLegal.{IsMarkedLegalFor}
+use Rattle.mark_laws.specs.MarkedLegal.{IsMarkedLegalFor}
 use Rattle.twin_laws.specs.TwinLegal.{IsTwinLegalFor}
 use Rattle.replay_tool.specs.Traces.{any_marker, traces_of}
 use Rattle.replay_tool.specs.Causes.{AllHappen, OneIsRefused, PacketsExceed, IsInOrder, HasBadLine, HasBadEvent, IsPastLimit, IsSettled}

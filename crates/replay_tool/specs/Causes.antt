@@ -8,7 +8,7 @@ use Rattle.ft_model.specs.declared.schedule.Schedule.{Schedule}
 use Rattle.ft_model.specs.declared.schedule.LineWhy.{LineWhy}
 use Rattle.ft_model.specs.declared.schedule.Limit.{Limit}
 use Rattle.sample_servers.specs.AnyService.{any_machine}
-use Rattle.mark_traces.specs.MarkedOutcome.{IsMarkedWhole, IsMarkedRefused, IsMarkedPastPackets}
+use Rattle.mark_laws.specs.MarkedOutcome.{IsMarkedWhole, IsMarkedRefused, IsMarkedPastPackets}
 use Rattle.twin_laws.specs.TwinOutcome.{IsTwinWhole, IsTwinRefused, IsTwinPastPackets}
 use Rattle.replay_tool.specs.Traces.{any_marker}
 

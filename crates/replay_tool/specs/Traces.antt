@@ -13,11 +13,11 @@ use Rattle.ft_model.specs.declared.event.Event.{Event}
 use Rattle.ft_model.specs.declared.event.EventWhy.{EventWhy}
 use Rattle.ft_model.specs.declared.schedule.Schedule.{Schedule}
 use Rattle.replay_tool.specs.Safe.{IsSafe}
-use Rattle.mark_traces.specs.MarkedLegal.{markers, marked_start, marked_refusal, IsMarkedLegalFor, marked_packets_sent}
-use Rattle.mark_traces.specs.MarkedNode.{Marker}
-use Rattle.mark_traces.specs.MarkedWorld.{MarkedMoment, marked_after, plain_trace}
-use Rattle.mark_traces.specs.TrueMarks.{MarksAreTrue}
-use Rattle.mark_reports.specs.MarkedReport.{marked_event_lines, marked_report}
+use Rattle.mark_laws.specs.MarkedLegal.{markers, marked_start, marked_refusal, IsMarkedLegalFor, marked_packets_sent}
+use Rattle.mark_laws.specs.MarkedNode.{Marker}
+use Rattle.mark_laws.specs.MarkedWorld.{MarkedMoment, marked_after, plain_trace}
+use Rattle.mark_laws.specs.TrueMarks.{MarksAreTrue}
+use Rattle.mark_laws.specs.MarkedReport.{marked_event_lines, marked_report}
 use Rattle.twin_laws.specs.Flat.{flat}
 use Rattle.twin_laws.specs.TwinLegal.{twin_start, twin_refusal, IsTwinLegalFor, twin_packets_sent}
 use Rattle.twin_laws.specs.TwinReport.{twin_event_lines, twin_report}

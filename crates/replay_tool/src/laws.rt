@@ -14,7 +14,7 @@ use ft_model::headline::{
     no_server_is_fenced,
 };
 use ft_model::laws::schedules_have_one_outcome;
-use mark_traces::{marked_schedules_are_masked, marked_schedules_have_one_outcome, marks_are_true};
+use mark_laws::{marked_schedules_are_masked, marked_schedules_have_one_outcome, marks_are_true};
 use sample_servers::AnyService;
 use twin_laws::{legal_traces_are_masked, twin_schedules_have_one_outcome};
 

@@ -17,7 +17,7 @@ use Rattle.ft_model.specs.Report.{content_words, message_words}
 use Rattle.ft_model.specs.declared.way.Way.{Way}
 use Rattle.ft_model.specs.declared.way.Way.TheVariants.{ClientToServer, ServerToClient, ServerToLogger, LoggerToServer, HeadToTail, TailToHead}
 use Rattle.ft_model.proofs.Lists.{none_is_some}
-use Rattle.mark_reports.specs.MarkedReport.{mark_words}
+use Rattle.mark_laws.specs.MarkedReport.{mark_words}
 use Rattle.schedule_text.specs.Bytes.{said_as, packet_in, logged_words, content_in}
 
 -- a message is read as itself, whatever the other grammar says of its bytes

@@ -17,7 +17,7 @@ use Rattle.ft_model.specs.Network.Packet.{To_server, To_client, To_logger, From_
 use Rattle.ft_model.specs.Report.{content_words, message_words, forward_words, got_words}
 use Rattle.ft_model.specs.declared.way.Way.{Way}
 use Rattle.ft_model.specs.declared.way.Way.TheVariants.{ClientToServer, ServerToClient, ServerToLogger, LoggerToServer, HeadToTail, TailToHead}
-use Rattle.mark_reports.specs.MarkedReport.{mark_words}
+use Rattle.mark_laws.specs.MarkedReport.{mark_words}
 
 abbrev pub said_as : {A E : Type 0} → (A → Packet) → Result A E → Option Packet
 said_as packet (Ok x) = Some (packet x)

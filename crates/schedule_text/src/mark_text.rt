@@ -2,7 +2,7 @@
 
 ghost use Rattle.std.specs.Prelude.{◌≡◌, ◌++◌, OnOk};
 ghost use Rattle.ft_model.specs.Texts.{spaced};
-ghost use Rattle.mark_reports.specs.MarkedReport.{fields_of_mark, mark_words, name_of_mark, words_of_mark};
+ghost use Rattle.mark_laws.specs.MarkedReport.{fields_of_mark, mark_words, name_of_mark, words_of_mark};
 ghost use Rattle.logger_wire.specs.MarkValue.{body_of, message_of};
 
 use crate::line_out::LineOut;
@@ -12,7 +12,7 @@ use ft_io::{Key, NoMemory};
 use logger_wire::{MarkBody, MarkMsg};
 
 /// Appends a message about marks: its name, its boot number, then the fields of its body.
-#[tactic(auto, using(crate::proofs::LineLemmas::line_rules), unfolding(mark_reports::specs::MarkedReport::mark_words))]
+#[tactic(auto, using(crate::proofs::LineLemmas::line_rules), unfolding(mark_laws::specs::MarkedReport::mark_words))]
 pub(crate) fn put_mark_message(msg: &MarkMsg<'_>, line: &mut LineOut) -> Result<(), NoMemory>
     ensures ok { OnOk result (line.new.words ≡ line.old.words ++ spaced (mark_words (message_of msg.now))) }
     ensures before { line.new.before ≡ line.old.before }

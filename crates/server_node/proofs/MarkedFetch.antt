@@ -24,9 +24,9 @@ use Rattle.mark_laws.specs.MarkedLog.{AnyMessage}
 use Rattle.mark_laws.specs.MarkedLog.AnyMessage.{About_mark, Of_log}
 use Rattle.mark_laws.specs.Marking.{Marking, Outgoing}
 use Rattle.mark_laws.specs.Marking.Outgoing.{Plain}
-use Rattle.mark_traces.specs.MarkedNode.MarkedInput.{Plain_comes}
+use Rattle.mark_laws.specs.MarkedNode.MarkedInput.{Plain_comes}
 use Rattle.mark_laws.specs.Restart.{FetchedSoFar, next_question, fetched_on, mark_reported, mark_of_newest, IsFront, begun_on, with_front, awaits_after}
-use Rattle.mark_traces.specs.MarkedNode.{Marker, MarkedNode, RestsMarked, InputTurn, UnlessFenced, PlainTurn, MarkTurn, Continues, FetchesMarked, so_far, outgoing, marking_fetched, marking_then}
+use Rattle.mark_laws.specs.MarkedNode.{Marker, MarkedNode, RestsMarked, InputTurn, UnlessFenced, PlainTurn, MarkTurn, Continues, FetchesMarked, so_far, outgoing, marking_fetched, marking_then}
 use Rattle.reincarnate.specs.Marking.{uses, used_if, awaits, marks_after, marked_on}
 use Rattle.reincarnate.specs.Progress.{EntryState}
 use Rattle.reincarnate.specs.Questions.{FetchingState, begun_fetching, after_answer, noted, log_heard, with_marked, held_heard, mark_heard, any_heard}

@@ -19,7 +19,7 @@ use Rattle.ft_model.specs.Wire.{Wire}
 use Rattle.ft_model.proofs.Lists.{none_is_some, some_is, key_is}
 use Rattle.mark_laws.specs.Marking.{Marking, with_new, new_marks, outstanding_in}
 use Rattle.mark_laws.specs.Marking.Outgoing.{Mark_to_logger}
-use Rattle.mark_traces.specs.MarkedNode.{Marker}
+use Rattle.mark_laws.specs.MarkedNode.{Marker}
 use Rattle.wrapped_conn.specs.ConnState.{ConnState}
 use Rattle.wrapped_conn.specs.Refinement.{Stands}
 use Rattle.wrapped_conn.specs.Sound.{IsSound as IsSoundConn}

@@ -18,9 +18,9 @@ use Rattle.ft_model.specs.Wire.{Wire}
 use Rattle.ft_model.specs.World.{message_or_noise}
 use Rattle.mark_laws.specs.Marking.{Marking}
 use Rattle.mark_laws.specs.Restart.{FetchedSoFar, fetched_on, awaits_after}
-use Rattle.mark_traces.specs.MarkedNode.{Marker, MarkedNode, MarkedInput, RestsMarked, InputTurn, UnlessFenced, FetchesMarked, so_far}
-use Rattle.mark_traces.specs.MarkedNode.MarkedInput.{Plain_comes}
-use Rattle.mark_traces.specs.MarkedWorld.{either_said, input_of as marked_of}
+use Rattle.mark_laws.specs.MarkedNode.{Marker, MarkedNode, MarkedInput, RestsMarked, InputTurn, UnlessFenced, FetchesMarked, so_far}
+use Rattle.mark_laws.specs.MarkedNode.MarkedInput.{Plain_comes}
+use Rattle.mark_laws.specs.MarkedWorld.{either_said, input_of as marked_of}
 use Rattle.conn_marks.specs.KeyMarks.{KeyMarks}
 use Rattle.server_node.specs.declared.identity.Identity.{Identity}
 use Rattle.server_node.specs.declared.input.Input.{Input}

@@ -21,7 +21,7 @@ use Rattle.ft_model.specs.Keys.{has_key}
 use Rattle.ft_model.proofs.Keys.{key_eq_turns}
 use Rattle.ft_model.proofs.Lists.{all_append, key_is, same_key, none_is_some}
 use Rattle.mark_laws.specs.Marking.{Marking, Outgoing, with_new, new_marks, with_marks, marks_out}
-use Rattle.mark_traces.specs.MarkedNode.{Marker, GoesMarked, marks_at, marking_then, is_done}
+use Rattle.mark_laws.specs.MarkedNode.{Marker, GoesMarked, marks_at, marking_then, is_done}
 use Rattle.conn_marks.specs.KeyMarks.{KeyMarks, marking_in, Changes}
 use Rattle.conn_marks.specs.MarkSends.{AreOut}
 use Rattle.conn_marks.specs.Settled.{Keeps, IsSettledPoint, IsSettledPlace, AllSettled, MarksPlace}

@@ -26,8 +26,8 @@ use Rattle.ft_model.specs.Keys.{AreDistinct, has_key}
 use Rattle.ft_model.proofs.Keys.{key_eq_turns, finds_itself, all_from_get}
 use Rattle.ft_model.proofs.Lists.{all_slice_get, all_find, found_passes, same_key, key_is, some_is}
 use Rattle.mark_laws.specs.Marking.{Marking, Outgoing, MarkedTurn, is_due, with_new, new_marks, marking_answered, marks_out}
-use Rattle.mark_traces.specs.MarkedNode.{Marker, MarkedNode, RestsMarked, InputTurn, UnlessFenced, HearsOfMark, FetchesMarked, so_far, marking_fetched, is_tick_input, live_at, with_marking}
-use Rattle.mark_traces.specs.MarkedNode.MarkedInput.{Plain_comes, Mark_comes}
+use Rattle.mark_laws.specs.MarkedNode.{Marker, MarkedNode, RestsMarked, InputTurn, UnlessFenced, HearsOfMark, FetchesMarked, so_far, marking_fetched, is_tick_input, live_at, with_marking}
+use Rattle.mark_laws.specs.MarkedNode.MarkedInput.{Plain_comes, Mark_comes}
 use Rattle.mark_laws.specs.Restart.{begun_on, mark_of_newest}
 use Rattle.wrapped_conn.specs.ConnState.{ConnState}
 use Rattle.conn_marks.specs.KeyMarks.{KeyMarks, marking_in, Changes}

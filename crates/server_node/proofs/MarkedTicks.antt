@@ -17,7 +17,7 @@ use Rattle.ft_model.specs.Wire.{Wire, wire_of, HasWire}
 use Rattle.ft_model.proofs.Lists.{all_append, all_find, found_passes, same_key, none_is_some}
 use Rattle.mark_laws.specs.Marking.{Marking, Outgoing, IsSettled, is_due, with_new, new_marks, outstanding_in, with_marks, marks_out}
 use Rattle.mark_laws.specs.Marking.Outgoing.{Plain}
-use Rattle.mark_traces.specs.MarkedNode.{Marker, GoesMarked, AllGoMarked, marks_at, marking_then, is_done}
+use Rattle.mark_laws.specs.MarkedNode.{Marker, GoesMarked, AllGoMarked, marks_at, marking_then, is_done}
 use Rattle.conn_marks.specs.KeyMarks.{KeyMarks}
 use Rattle.conn_marks.specs.MarkSends.{SendsMarks}
 use Rattle.conn_marks.specs.Settled.{Keeps, IsSettledPoint, IsSettledPlace, AllSettled}

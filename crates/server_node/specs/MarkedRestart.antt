@@ -15,7 +15,7 @@ use Rattle.ft_model.specs.Point.{Point}
 use Rattle.ft_model.specs.Restart.{Fetched, IsSoundEntry, entry_in, is_fetched, point_of}
 use Rattle.ft_model.specs.Wire.{Wire}
 use Rattle.mark_laws.specs.Marking.{Marking, Outgoing, with_new, new_marks, with_marks, marks_out}
-use Rattle.mark_traces.specs.MarkedNode.{Marker, GoesMarked, AllGoMarked, marks_at, marking_then, is_done}
+use Rattle.mark_laws.specs.MarkedNode.{Marker, GoesMarked, AllGoMarked, marks_at, marking_then, is_done}
 use Rattle.reincarnate.specs.Progress.{EntryState, ReplayedState}
 use Rattle.reincarnate.specs.Refinement.{IsReplayed, RestoredIs, StandsWhole}
 use Rattle.reincarnate.specs.declared.entries.Restored.{Restored}

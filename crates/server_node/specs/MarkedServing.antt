@@ -8,7 +8,7 @@ use Rattle.ft_model.specs.Node.Input.{Tick_comes}
 use Rattle.ft_model.specs.ServingTurn.{PlaceTurn, newcomers}
 use Rattle.ft_model.specs.Wire.{Wire}
 use Rattle.mark_laws.specs.Marking.{Marking, Outgoing}
-use Rattle.mark_traces.specs.MarkedNode.{Marker, MarkedNode, GoesMarked, AllGoMarked, ServesMarked, HearsOfMark, marks_at}
+use Rattle.mark_laws.specs.MarkedNode.{Marker, MarkedNode, GoesMarked, AllGoMarked, ServesMarked, HearsOfMark, marks_at}
 use Rattle.conn_marks.specs.KeyMarks.{KeyMarks}
 use Rattle.server_node.specs.declared.identity.Identity.{Identity}
 use Rattle.server_node.specs.declared.serving.Serving.{Serving}

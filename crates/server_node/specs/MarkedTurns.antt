@@ -20,9 +20,9 @@ use Rattle.mark_laws.specs.MarkedLog.{AnyMessage}
 use Rattle.mark_laws.specs.MarkedLog.AnyMessage.{About_mark, Of_log}
 use Rattle.mark_laws.specs.Marking.{Marking, Outgoing}
 use Rattle.mark_laws.specs.Restart.{FetchedSoFar, IsFront, begun_on, mark_reported}
-use Rattle.mark_traces.specs.MarkedNode.{Marker, MarkedNode, MarkedInput, InputTurn, LawfulMarkedTurn, FetchesMarked, so_far, outgoing}
-use Rattle.mark_traces.specs.MarkedNode.MarkedInput.{Plain_comes, Mark_comes}
-use Rattle.mark_traces.specs.MarkedWorld.{said_by, input_of}
+use Rattle.mark_laws.specs.MarkedNode.{Marker, MarkedNode, MarkedInput, InputTurn, LawfulMarkedTurn, FetchesMarked, so_far, outgoing}
+use Rattle.mark_laws.specs.MarkedNode.MarkedInput.{Plain_comes, Mark_comes}
+use Rattle.mark_laws.specs.MarkedWorld.{said_by, input_of}
 use Rattle.reincarnate.specs.Marking.{uses}
 use Rattle.reincarnate.specs.Questions.{FetchingState}
 use Rattle.reincarnate.specs.Refinement.{StandsSoFar}

@@ -5,7 +5,7 @@ use Rattle.server_trait.specs.declared.Service.{Ghosts}
 use Rattle.server_trait.specs.Saved.{writing}
 use Rattle.ft_model.specs.Node.{Stage as law_stage}
 use Rattle.mark_laws.specs.Marking.{Marking}
-use Rattle.mark_traces.specs.MarkedNode.{Marker, MarkedNode}
+use Rattle.mark_laws.specs.MarkedNode.{Marker, MarkedNode}
 use Rattle.conn_marks.specs.KeyMarks.{every_for}
 use Rattle.server_node.specs.declared.identity.Identity.{Identity}
 use Rattle.server_node.specs.Identity.{node_of, service_of}

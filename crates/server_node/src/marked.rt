@@ -8,7 +8,7 @@ ghost use Rattle.segment_codec.specs.Value.{segment_of};
 ghost use Rattle.logger_wire.specs.Value.{message_of, IsSendable};
 ghost use Rattle.logger_wire.specs.MarkValue.{message_of as mark_message_of};
 ghost use Rattle.ft_model.specs.Node.Input.{Packet_comes, Message_comes, Tick_comes};
-ghost use Rattle.mark_traces.specs.MarkedNode.MarkedInput.{Plain_comes, Mark_comes};
+ghost use Rattle.mark_laws.specs.MarkedNode.MarkedInput.{Plain_comes, Mark_comes};
 ghost use Rattle.reincarnate.specs.Marking.{any_of, IsAnySendable};
 ghost use Rattle.server_trait.specs.Service.{machine};
 ghost use Rattle.mark_laws.specs.Restart.{FetchedSoFar, next_question};
@@ -19,7 +19,7 @@ ghost use Rattle.server_node.specs.declared.identity.Identity.{Identity as Incar
 ghost use Rattle.server_node.specs.FetchStage.{IsOf};
 ghost use Rattle.server_node.specs.Loan.{IsConnAt, place_in};
 ghost use Rattle.server_node.specs.Marked.{IsSoundMarked, IsBareQuestion, AreApart};
-ghost use Rattle.mark_traces.specs.MarkedNode.{Marker, MarkedNode, outgoing};
+ghost use Rattle.mark_laws.specs.MarkedNode.{Marker, MarkedNode, outgoing};
 ghost use Rattle.server_node.specs.Markers.{saving};
 ghost use Rattle.conn_marks.specs.MarkSends.{AreOut};
 ghost use Rattle.server_node.specs.MarkedTurns.{MarkedTurns, MarkedStands, BytesTurnMarked, FetchesOnMarked, Notes, SendsQuestion, IsPartBytes, input_of_any};

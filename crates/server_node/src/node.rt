@@ -35,7 +35,7 @@ impl<S: Saved> Node<S> {
     ghost use Rattle.server_node.specs.Inputs.{input_of};
     ghost use Rattle.server_node.specs.Loan.{IsConnAt, place_in};
     ghost use Rattle.server_node.specs.NodeTurns.{NodeTurns, Leaves};
-    ghost use Rattle.mark_traces.specs.MarkedNode.{MarkedNode, booted_to_mark};
+    ghost use Rattle.mark_laws.specs.MarkedNode.{MarkedNode, booted_to_mark};
     ghost use Rattle.server_node.specs.Markers.{saving, marker_of};
     ghost use Rattle.server_node.specs.MarkedTurns.{MarkedNodeStands, MarkedNodeTurns, marked_input_of};
     ghost use Rattle.server_node.specs.Stages.{StageStands};

@@ -5,3 +5,8 @@ pub mod Legal
 pub mod Turns
 pub mod FarPacket
 pub mod LateFin
+pub mod Again
+pub mod Folds
+pub mod Masks
+pub mod Outlives
+pub mod Refined

@@ -1,5 +1,5 @@
 use Rattle.std.proofs.Common.{◌∙◌, refl, sym, ap}
-use Rattle.logger_deaths.specs.NeededMessages.{log_after_all}
+use Rattle.trace_laws.specs.NeededMessages.{log_after_all}
 use Rattle.journal_laws.proofs.Saying.{log-append}
 use Rattle.journal_laws.proofs.Stepping.{comes_back}
 use Rattle.journal_laws.proofs.a_death_is_a_step.Goals as goal

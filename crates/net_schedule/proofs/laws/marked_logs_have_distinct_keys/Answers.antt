@@ -1,10 +1,10 @@
 use Rattle.server_trait.specs.Saved.{writing}
 use Rattle.ft_model.specs.Legal.{machines}
-use Rattle.mark_traces.specs.MarkedLegal.{markers}
-use Rattle.mark_traces.specs.MarkedWorld.{seen, marked_after}
-use Rattle.mark_traces.proofs.MarkSteps.{Kept}
-use Rattle.mark_traces.proofs.Traces.{kept_of}
-use Rattle.mark_traces.proofs.Truth.{MarkLaws}
+use Rattle.mark_laws.specs.MarkedLegal.{markers}
+use Rattle.mark_laws.specs.MarkedWorld.{seen, marked_after}
+use Rattle.mark_laws.proofs.MarkSteps.{Kept}
+use Rattle.mark_laws.proofs.Traces.{kept_of}
+use Rattle.mark_laws.proofs.Truth.{MarkLaws}
 use Rattle.net_schedule.proofs.laws.marked_logs_have_distinct_keys.Goals as goal
 
 pub returns : goal.returns

@@ -1,5 +1,5 @@
 use Rattle.ft_model.specs.Legal.{machines}
-use Rattle.mark_traces.specs.MarkedLegal.{markers}
+use Rattle.mark_laws.specs.MarkedLegal.{markers}
 use Rattle.net_schedule.proofs.MarkedSent.{marked_keys_are, keeps_all_marked, marked_sent_as}
 use Rattle.net_schedule.proofs.laws.marked_worlds_keep_what_was_sent.Goals as goal
 

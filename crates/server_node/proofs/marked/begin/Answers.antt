@@ -4,8 +4,8 @@ use Rattle.logger_wire.specs.Value.{body_of, message_of}
 use Rattle.ft_model.specs.Lawful.{summary_count}
 use Rattle.ft_model.specs.Node.Input.{Message_comes}
 use Rattle.ft_model.specs.Node.Stage.{Asking}
-use Rattle.mark_traces.specs.MarkedNode.{InputTurn}
-use Rattle.mark_traces.specs.MarkedNode.MarkedInput.{Plain_comes}
+use Rattle.mark_laws.specs.MarkedNode.{InputTurn}
+use Rattle.mark_laws.specs.MarkedNode.MarkedInput.{Plain_comes}
 use Rattle.server_node.specs.FetchStage.{IsOf}
 use Rattle.server_node.specs.Identity.{node_of}
 use Rattle.server_node.specs.Markers.{saving, marker_of, node_at}

@@ -3,8 +3,8 @@ use Rattle.segment_codec.specs.Value.{segment_of}
 use Rattle.ft_model.specs.Lawful.{AreNear, held}
 use Rattle.ft_model.specs.Node.Input.{Packet_comes}
 use Rattle.ft_model.specs.Wire.{Wire}
-use Rattle.mark_traces.specs.MarkedNode.{InputTurn}
-use Rattle.mark_traces.specs.MarkedNode.MarkedInput.{Plain_comes}
+use Rattle.mark_laws.specs.MarkedNode.{InputTurn}
+use Rattle.mark_laws.specs.MarkedNode.MarkedInput.{Plain_comes}
 use Rattle.server_node.specs.Identity.{node_of}
 use Rattle.server_node.specs.Markers.{saving, marker_of, node_at}
 use Rattle.server_node.specs.MarkedServing.{ServingGoesMarked}

@@ -4,7 +4,7 @@ use Rattle.ft_model.specs.Wire.{Wire}
 use Rattle.mark_laws.specs.Restart.{next_question}
 use Rattle.reincarnate.specs.Questions.{any_asked}
 use Rattle.reincarnate.specs.Refinement.{StandsSoFar, StandsFetching, StandsWhole}
-use Rattle.mark_traces.specs.MarkedNode.{FetchesMarked}
+use Rattle.mark_laws.specs.MarkedNode.{FetchesMarked}
 use Rattle.server_node.specs.MarkedTurns.{GoesOn, SendsQuestion}
 use Rattle.server_node.specs.Markers.{saving, marker_of, node_at}
 use Rattle.server_node.proofs.MarkedFetch.{asked_on, ended_on}

@@ -3,8 +3,8 @@ use Rattle.ft_io.proofs.Outcomes.{if_ok}
 use Rattle.logger_wire.specs.Value.{message_of}
 use Rattle.ft_model.specs.Node.Input.{Message_comes}
 use Rattle.ft_model.specs.Wire.{Wire}
-use Rattle.mark_traces.specs.MarkedNode.{InputTurn}
-use Rattle.mark_traces.specs.MarkedNode.MarkedInput.{Plain_comes}
+use Rattle.mark_laws.specs.MarkedNode.{InputTurn}
+use Rattle.mark_laws.specs.MarkedNode.MarkedInput.{Plain_comes}
 use Rattle.server_node.specs.Markers.{saving, marker_of, node_at}
 use Rattle.server_node.specs.MarkedServing.{ServingGoesMarked}
 use Rattle.server_node.specs.MarkedTurns.{GoesOn, MarkedStands}

@@ -2,8 +2,8 @@ use Rattle.std.proofs.Common.{sym, subst, List}
 use Rattle.ft_io.proofs.Outcomes.{if_ok}
 use Rattle.logger_wire.specs.MarkValue.{message_of as mark_message_of}
 use Rattle.ft_model.specs.Wire.{Wire}
-use Rattle.mark_traces.specs.MarkedNode.{InputTurn}
-use Rattle.mark_traces.specs.MarkedNode.MarkedInput.{Mark_comes}
+use Rattle.mark_laws.specs.MarkedNode.{InputTurn}
+use Rattle.mark_laws.specs.MarkedNode.MarkedInput.{Mark_comes}
 use Rattle.server_node.specs.Markers.{saving, marker_of, node_at}
 use Rattle.server_node.specs.MarkedServing.{HeardOfMark}
 use Rattle.server_node.specs.MarkedTurns.{GoesOn, MarkedStands}

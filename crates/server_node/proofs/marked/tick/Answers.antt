@@ -5,8 +5,8 @@ use Rattle.ft_model.specs.Connection.{told_by}
 use Rattle.ft_model.specs.Node.Input.{Tick_comes}
 use Rattle.ft_model.specs.Wire.{Wire}
 use Rattle.seq_arith.specs.Message.Body.{HelloMsg}
-use Rattle.mark_traces.specs.MarkedNode.{InputTurn}
-use Rattle.mark_traces.specs.MarkedNode.MarkedInput.{Plain_comes}
+use Rattle.mark_laws.specs.MarkedNode.{InputTurn}
+use Rattle.mark_laws.specs.MarkedNode.MarkedInput.{Plain_comes}
 use Rattle.reincarnate.specs.Questions.{any_asked}
 use Rattle.reincarnate.specs.Refinement.{StandsSoFar}
 use Rattle.server_node.specs.Marked.{IsSoundAt}

@@ -2,7 +2,7 @@ use Rattle.std.proofs.Common.{refl, sym, subst, []}
 use Rattle.std.proofs.lemmas.Result.{on_ok_weaker}
 use Rattle.seq_arith.specs.Mark.{MarkMessage}
 use Rattle.logger_wire.specs.MarkValue.{message_of, body_of}
-use Rattle.mark_traces.specs.MarkedNode.{HearsOfMark}
+use Rattle.mark_laws.specs.MarkedNode.{HearsOfMark}
 use Rattle.server_node.specs.Markers.{saving, marker_of, node_at}
 use Rattle.server_node.specs.MarkedServing.{HeardOfMark}
 use Rattle.server_node.proofs.MarkedServed.{not_heard}

@@ -18,7 +18,7 @@ use Rattle.server_node.specs.Stages.{is_marked}
 use Rattle.server_node.proofs.MarkedStage.{stands_plain, marked_apart, unheard, unheard_apart}
 use Rattle.server_node.specs.Markers.{saving}
 use Rattle.server_node.specs.MarkedTurns.{IsTurnMarked, marked_input_of, heard_of}
-use Rattle.mark_traces.specs.MarkedNode.MarkedInput.{Plain_comes}
+use Rattle.mark_laws.specs.MarkedNode.MarkedInput.{Plain_comes}
 use Rattle.seq_arith.specs.MarkGrammar.{reading as mark_reading}
 use Rattle.server_node.proofs.MarkedNodes.{noise_turn, not_of_log, of_the_log}
 use Rattle.server_node.proofs.stage.go.Goals as goal

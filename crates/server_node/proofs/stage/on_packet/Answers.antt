@@ -19,7 +19,7 @@ use Rattle.server_node.proofs.Staged.{asks_on, serves_on}
 use Rattle.server_node.proofs.stage.on_packet.Goals as goal
 use Rattle.server_node.specs.Markers.{saving}
 use Rattle.server_node.specs.MarkedTurns.{IsTurnMarked}
-use Rattle.mark_traces.specs.MarkedNode.MarkedInput.{Plain_comes}
+use Rattle.mark_laws.specs.MarkedNode.MarkedInput.{Plain_comes}
 use Rattle.server_node.proofs.MarkedNodes.{unmarked_turn}
 use Rattle.server_node.proofs.MarkedStage.{marked_apart}
 

@@ -6,7 +6,7 @@ use Rattle.twin_laws.specs.TwinWorld.{seen}
 use Rattle.server_node.specs.Markers.{saving}
 use Rattle.net_schedule.specs.MarkedTurns.{marker_in}
 use Rattle.net_schedule.specs.WorldView.{kept, service_of}
-use Rattle.mark_traces.specs.MarkedWorld.{ComesAs as MarkedComes}
+use Rattle.mark_laws.specs.MarkedWorld.{ComesAs as MarkedComes}
 use Rattle.net_schedule.specs.MarkedRefinement.{MarkedGoesOn, MarkedComesAs}
 use Rattle.net_schedule.specs.Premises.{ComesAs}
 use Rattle.net_schedule.specs.Refinement.{ReachesNext}

@@ -1,4 +1,0 @@
-mod SeenTurns
-mod Formed
-mod Counted
-mod Written

@@ -1,9 +1,0 @@
--- The report computes.
-use Rattle.std.proofs.Common.{refl}
-use Rattle.ft_model.proofs.ReportOnLiterals.{report_on_literals}
-use Rattle.mark_reports.specs.MarkedReport.{mark_words}
-use Rattle.mark_reports.proofs.worked_restart_is_reported.Goals as goal
-
-pub returns : goal.returns
-unfolding report_on_literals mark_words
-returns c = refl

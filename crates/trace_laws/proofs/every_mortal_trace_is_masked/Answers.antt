@@ -1,0 +1,6 @@
+use Rattle.trace_laws.proofs.every_mortal_trace_is_masked.Goals as goal
+use Rattle.server_trait.specs.Service.{machine}
+use Rattle.trace_laws.proofs.Masks.{all_unseen}
+
+pub returns : goal.returns
+returns g c = λ kind start trace joint. all_unseen (machine (g.S.Service.started kind) g.S.Service.after) g.met.S.Service.is_short start trace joint
