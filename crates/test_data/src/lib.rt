@@ -9,6 +9,7 @@ pub use lines::push_line;
 pub use pattern::{Pattern, PatternTable};
 
 mod draws;
+mod excluded;
 mod hashing;
 mod hexadecimal;
 mod lines;
