@@ -10,6 +10,7 @@ pub use turn_out::TurnOut;
 
 mod conn;
 mod copying;
+mod excluded;
 mod inside;
 pub mod laws;
 mod leaving;

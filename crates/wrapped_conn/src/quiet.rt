@@ -43,7 +43,7 @@ impl<S: Service> Conn<S> {
         })
     }
 
-    fn is_quiet(&self) -> bool
+    pub(crate) fn is_quiet(&self) -> bool
         ensures { result ≡ is_quiet self.now }
     {
         self.north.unanswered().len() == 0

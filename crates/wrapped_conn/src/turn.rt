@@ -331,7 +331,7 @@ impl<S: Service> Conn<S> {
     }
 
     /// Counts an end tick, up to four, if the connection is over and all that is taken is known to be logged.
-    fn count_end_tick(&mut self)
+    pub(crate) fn count_end_tick(&mut self)
         requires sound { IsSound self.old }
         ensures state { self.new ≡ counted self.old }
         ensures sound { IsSound self.new }
