@@ -4,6 +4,7 @@
 pub use marking::Marking;
 pub use marks::Marks;
 
+mod excluded;
 pub mod laws;
 mod marking;
 mod marks;

@@ -95,7 +95,7 @@ impl Marking {
     }
 
     /// The numbers of the mark that is due, if one is.
-    fn due<S: Service>(&self, every: u32, conn: &Conn<S>) -> Option<Quiet>
+    pub(crate) fn due<S: Service>(&self, every: u32, conn: &Conn<S>) -> Option<Quiet>
         ensures { result ≡ due_in every self.now conn.now }
     {
         let reads = conn.north().count();
