@@ -13,6 +13,7 @@ mod arriving;
 mod congestion;
 mod copying;
 mod ending;
+mod excluded;
 mod fields;
 mod point;
 mod reading;
