@@ -8,6 +8,7 @@ pub use twin_out::TwinOut;
 pub use two_logs::TwinLog;
 
 mod datagram;
+mod excluded;
 mod twin_out;
 mod two_logs;
 mod waiting;

@@ -113,7 +113,12 @@ impl TwinLog {
 
     /// Takes a datagram of the server.
     #[tactic(auto, using(crate::proofs::Cases::noise_in_pair), unfolding(twin_laws::specs::StoredState::kept_does))]
-    fn on_server(&mut self, alloc: Global, bytes: &[u8], out: &mut TwinOut) -> Result<(), NoMemory>
+    pub(crate) fn on_server(
+        &mut self,
+        alloc: Global,
+        bytes: &[u8],
+        out: &mut TwinOut,
+    ) -> Result<(), NoMemory>
         requires empty { out.old ≡ [] }
         ensures next { OnOk result (self.new ≡ (kept_does sides.Server bytes.now self.old).next) }
         ensures sent { OnOk result (out.new ≡ (kept_does sides.Server bytes.now self.old).sent) }
@@ -302,7 +307,7 @@ impl TwinLog {
 
     /// Takes a forwarded message as the tail of a pair. It applies the one with the next number. For an earlier one it confirms again all that it has applied,
     /// and it ignores one after a gap.
-    fn apply(
+    pub(crate) fn apply(
         &mut self,
         alloc: Global,
         number: u64,

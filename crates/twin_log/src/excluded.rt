@@ -1,0 +1,82 @@
+//! Wrong results that the contracts of this crate exclude. Each function calls another one of the crate, and promises of its result what a wrong body would make
+//! false. It is proved from the other's contract alone, so it is no longer proved once that contract lets the wrong body pass.
+
+ghost use Rattle.std.specs.Prelude.{[], ◌∷◌, ◌≡◌, ◌≤◌, ◌<◌, ◌+◌, ◌-◌, ◌^◌, true, false, Ok, OnOk, OnErr};
+ghost use Rattle.seq_arith.specs.Message.{Message};
+ghost use Rattle.seq_arith.specs.MessageGrammar.{reading};
+ghost use Rattle.logger_wire.specs.Value.{IsSendable};
+ghost use Rattle.twin_laws.specs.StoredState.{forwards_sent, sent_to_other};
+ghost use Rattle.twin_laws.specs.Twin.Between.{Got};
+ghost use Rattle.twin_laws.specs.declared.part.Part.TheVariants as parts;
+ghost use Rattle.twin_log.specs.Outbox.{is_asking_message};
+
+use crate::twin_out::TwinOut;
+use crate::two_logs::TwinLog;
+use ft_io::NoMemory;
+use logger_wire::Msg;
+use std::alloc::Global;
+use twin_laws::Side;
+
+/// A message that the tail has applied is only confirmed once more: the clauses `next` and `sent` of `TwinLog::apply`.
+fn answers_a_repeat(
+    tail: &mut TwinLog,
+    alloc: Global,
+    number: u64,
+    msg: &Msg<'_>,
+    out: &mut TwinOut,
+) -> Result<(), NoMemory>
+    requires sendable { IsSendable msg.now }
+    requires repeat { (1 ≤ number) × (number ≤ tail.old.number) }
+    requires empty { out.old ≡ [] }
+    ensures next { OnOk result (tail.new ≡ tail.old) }
+    ensures sent { OnOk result (out.new ≡ sent_to_other (Got tail.old.number ∷ [])) }
+{
+    tail.apply(alloc, number, msg, out)
+}
+
+/// A message after a gap changes nothing, and nothing is sent: the clauses `next` and `sent` of `TwinLog::apply`.
+fn applies_out_of_order(
+    tail: &mut TwinLog,
+    alloc: Global,
+    number: u64,
+    msg: &Msg<'_>,
+    out: &mut TwinOut,
+) -> Result<(), NoMemory>
+    requires sendable { IsSendable msg.now }
+    requires gap { tail.old.number + 1 < number }
+    requires empty { out.old ≡ [] }
+    ensures next { OnOk result (tail.new ≡ tail.old) }
+    ensures sent { OnOk result (out.new ≡ []) }
+{
+    tail.apply(alloc, number, msg, out)
+}
+
+/// The head of a pair takes what the server asks, and only forwards it: the clauses `next` and `sent` of `TwinLog::on_server`.
+#[tactic(auto, unfolding(twin_laws::specs::StoredState::kept_does))]
+fn head_answers_while_paired(
+    head: &mut TwinLog,
+    alloc: Global,
+    bytes: &[u8],
+    out: &mut TwinOut,
+) -> Result<(), NoMemory>
+    requires paired { (head.old.part ≡ parts.Head) × (head.old.alone ≡ false) }
+    requires room { (head.old.waiting ≡ []) × (head.old.number < 2 ^ 64 - 1) }
+    requires empty { out.old ≡ [] }
+    ensures next { (m : Message) → reading bytes.now ≡ Ok m → is_asking_message m ≡ true → OnOk result (head.new.waiting ≡ bytes.now ∷ []) }
+    ensures sent { (m : Message) → reading bytes.now ≡ Ok m → is_asking_message m ≡ true → OnOk result (out.new ≡ forwards_sent head.old.number (bytes.now ∷ [])) }
+{
+    head.on_server(alloc, bytes, out)
+}
+
+/// Where there is no memory, no message is taken and the number stays: the clause `refused` of `TwinLog::deliver`, and of `TwinLog::add` below it.
+fn takes_before_there_is_memory(
+    log: &mut TwinLog,
+    alloc: Global,
+    from: Side,
+    bytes: &[u8],
+    out: &mut TwinOut,
+) -> Result<(), NoMemory>
+    ensures { OnErr result (log.new.number ≡ log.old.number) }
+{
+    log.deliver(alloc, from, bytes, out)
+}
