@@ -1,5 +1,5 @@
 //! What a death leaves of a logger that keeps its log in a journal, at every moment of its run: the law that joins the contract of the process
-//! (`journal_link`), the laws of its file (`journal`) and those of a world whose logger may die (`logger_deaths`). Nothing here runs; each function is a
+//! (`journal_link`), the laws of its file (`journal`) and those of a world whose logger may die (`trace_laws`). Nothing here runs; each function is a
 //! theorem.
 #![tactic(auto)]
 
