@@ -10,9 +10,9 @@ set -eu
 . "$(dirname "$0")/common.sh"
 size=${1:-15000000} base=${2:-7200}
 build ftnode logger --local 127.0.0.1:7040 --turns 1
-build own_node logger --local 127.0.0.1:7041 --turns 1
+build own_node counter logger --local 127.0.0.1:7041 --turns 1
 ours=$PWD/crates/ftnode/out/ftnode own=$PWD/crates/own_node/out/own_node
-program=$ours service=(--service echo)
+program=$ours own_words=() service=(--service echo)
 pids=()
 clean_up() {
     for pid in "${pids[@]}"; do pkill -9 -P "$pid" || true; done
@@ -30,9 +30,9 @@ start() { # NAME PROGRAM WORD..
     pids+=("$last")
 }
 
-logger() { start "logger$1" "$program" logger --local "$at:$((base + 1))" --turns "$2"; }
+logger() { start "logger$1" "$program" "${own_words[@]}" logger --local "$at:$((base + 1))" --turns "$2"; }
 server() {
-    start "server$1" "$program" server --local "$at:$base" --logger "$at:$((base + 1))" "${service[@]}" --boot "$2" --isn $((1000 * $2 + 7)) --turns "$3"
+    start "server$1" "$program" "${own_words[@]}" server --local "$at:$base" --logger "$at:$((base + 1))" "${service[@]}" --boot "$2" --isn $((1000 * $2 + 7)) --turns "$3"
 }
 client() { start "client$1" "$ours" client --local "$at:$((base + 2))" --server "$at:$base" --isn 1000 --turns 1000000; }
 
@@ -106,9 +106,9 @@ transfer A "$work/script" 54 34
 echo_taken=$taken
 echo "Counter:"
 head -n $((size / 64)) "$work/script" | awk '{ count += length($0) + 1; print count }' >"$work/counts"
-base=$((base + 20)) program=$own service=()
+base=$((base + 20)) program=$own own_words=(counter) service=()
 transfer C "$work/counts" 76 43
-base=$((base - 20)) program=$ours service=(--service echo)
+base=$((base - 20)) program=$ours own_words=() service=(--service echo)
 
 gcc -O2 -Wall -o "$work/link" bench/link.c
 awk -v ms="$(spent "$work/link" 1400 200000)" 'BEGIN { printf "the C loop: %.1f us of processor for a datagram of 1,400 bytes sent and received\n", ms / 200 }'

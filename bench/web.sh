@@ -1,12 +1,12 @@
 #!/usr/bin/env bash
 # The web server's speed. First how many megabytes of output a second the service alone makes, beside Transfer: the best of three runs. Then, where root and TUN
-# devices allow it, a download of 1,000,000 bytes by curl, through tools/bridge.py from web_node with its logger, and from Python's http.server through
+# devices allow it, a download of 1,000,000 bytes by curl, through tools/bridge.py from own_node with its logger, and from Python's http.server through
 # bench/relay.py, which carries the packets between two TUN devices: three runs of each in turn, and the medians.
 #     bench/web.sh
 set -eu
 . "$(dirname "$0")/common.sh"
 build node_bench service echo <crates/node_bench/stdin
-build web_node logger --local 127.0.0.1:7043 --turns 1
+build own_node web logger --local 127.0.0.1:7043 --turns 1
 
 best() { # NAME INPUT
     local least= start nanoseconds written
@@ -37,11 +37,11 @@ download() { # NAMESPACE URL
         cmp -s "$work/got" "$work/served/bytes" || { echo "web.sh: not all bytes came" >"$work/failed"; exit 1; }
 }
 
-# from web_node, in a shell of its own, whose end takes all away that examples/bridged.sh started
+# from own_node, in a shell of its own, whose end takes all away that examples/bridged.sh started
 through_node() {
     (
         set +eu
-        name=web program=crates/web_node/out/web_node loss=0 service=()
+        name=web program=crates/own_node/out/own_node loss=0 own=(web) service=()
         . examples/bridged.sh
         start_all
         download "$inside" "http://$server/bytes/1000000"
@@ -84,5 +84,5 @@ for _ in 1 2 3; do
 done
 [ ! -e "$work/failed" ] || { cat "$work/failed" >&2; exit 1; }
 awk -v a="$(median node)" -v b="$(median kernel)" 'BEGIN {
-    printf "a download of 1,000,000 bytes: web_node %.2f s, %.3f MB a second; http.server %.2f s, %.3f MB a second; %.3f of it\n", a, 1 / a, b, 1 / b, b / a
+    printf "a download of 1,000,000 bytes: own_node %.2f s, %.3f MB a second; http.server %.2f s, %.3f MB a second; %.3f of it\n", a, 1 / a, b, 1 / b, b / a
 }'

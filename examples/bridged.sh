@@ -1,5 +1,6 @@
 # Sourced by real_client.sh, own.sh, logger_crash.sh and web.sh. It runs a kernel's TCP client in one network namespace, and a server, its logger and tools/bridge.py in
-# another. The script sets `name`, `program` (a built one), `loss` (in percent) and the array `service` (the server's words that choose its service, or none).
+# another. The script sets `name`, `program` (a built one), `loss` (in percent)
+# and two arrays: `own` (the first word of own_node, which chooses its service, or none) and `service` (the words of an ftnode server that choose it, or none).
 program=$(realpath "$program") client_ip=10.77.0.1 server=10.77.0.2:7 logger=10.77.0.3:7008
 inside=ftclient$$ outside=ftnode$$ room=$(mktemp -d) started=()
 
@@ -21,7 +22,7 @@ clean_up() {
 trap clean_up EXIT
 
 start_server() { # BOOT
-    ip netns exec "$outside" "$program" server --local "$server" --logger "$logger" "${service[@]}" --boot "$1" --isn "$((100000 * $1))" --turns 1000000 \
+    ip netns exec "$outside" "$program" "${own[@]}" server --local "$server" --logger "$logger" "${service[@]}" --boot "$1" --isn "$((100000 * $1))" --turns 1000000 \
         >"$room/server.$1" 2>&1 &
     server_process=$!
     started+=("$server_process")
@@ -43,7 +44,7 @@ start_bridge() {
 
 start_all() {
     add_spaces
-    ip netns exec "$outside" "$program" logger --local "$logger" --turns 1000000 >"$room/logger" 2>&1 &
+    ip netns exec "$outside" "$program" "${own[@]}" logger --local "$logger" --turns 1000000 >"$room/logger" 2>&1 &
     started+=("$!")
     start_server 1
     start_bridge

@@ -8,7 +8,7 @@
 # Defaults: PROGRAM crates/ftnode/out/ftnode, RUNS 10, SEED random. SEED is the first run's seed; each further run has the next number.
 set -u
 cd "$(dirname "$0")/.." || exit 2
-name=logger_crash program=${1:-crates/ftnode/out/ftnode} runs=${2:-10} seed=${3:-$RANDOM} loss=0 service=(--service echo)
+name=logger_crash program=${1:-crates/ftnode/out/ftnode} runs=${2:-10} seed=${3:-$RANDOM} loss=0 own=() service=(--service echo)
 bytes=2000000 kills=30 own_client=10.77.0.4
 
 # The shell prints nothing about killed processes.

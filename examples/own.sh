@@ -5,7 +5,7 @@
 #     sudo examples/own.sh [PROGRAM] [PERCENT]       defaults: PROGRAM crates/own_node/out/own_node, PERCENT (of packets lost) 0
 set -u
 cd "$(dirname "$0")/.." || exit 2
-name=own program=${1:-crates/own_node/out/own_node} loss=${2:-0} service=()
+name=own program=${1:-crates/own_node/out/own_node} loss=${2:-0} own=(counter) service=()
 . examples/bridged.sh
 start_all
 awk 'BEGIN { for (i = 1; i <= 4000; i++) { line = sprintf("%*d", i % 97 + 1, i); print line } }' >"$room/sent"

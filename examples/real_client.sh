@@ -4,7 +4,7 @@
 #     sudo examples/real_client.sh [PROGRAM] [PERCENT]       defaults: PROGRAM crates/ftnode/out/ftnode, PERCENT (of packets lost) 0
 set -u
 cd "$(dirname "$0")/.." || exit 2
-name=real_client program=${1:-crates/ftnode/out/ftnode} loss=${2:-0} service=(--service echo)
+name=real_client program=${1:-crates/ftnode/out/ftnode} loss=${2:-0} own=() service=(--service echo)
 . examples/bridged.sh
 start_all
 python3 -c 'import random, sys; sys.stdout.buffer.write(random.Random(1).randbytes(200000))' >"$room/sent"

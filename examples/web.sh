@@ -2,11 +2,11 @@
 # A web server that crashes, and an unchanged curl. Curl downloads 1,000,000 bytes four times over one connection through tools/bridge.py, while the server is
 # killed with kill -9 and started again three times, each time during a download. The checksum must be that of the bytes that tools/web_model.py makes without any
 # server. So that there is time to kill the server, curl reads 1,000,000 bytes a second, and its kernel has a small receive buffer.
-# It makes two network namespaces and a TUN device, and removes them at the end. It needs root, curl and a built web_node:
-#     sudo examples/web.sh [PROGRAM] [PERCENT]       defaults: PROGRAM crates/web_node/out/web_node, PERCENT (of packets lost) 0
+# It makes two network namespaces and a TUN device, and removes them at the end. It needs root, curl and a built own_node:
+#     sudo examples/web.sh [PROGRAM] [PERCENT]       defaults: PROGRAM crates/own_node/out/own_node, PERCENT (of packets lost) 0
 set -u
 cd "$(dirname "$0")/.." || exit 2
-name=web program=${1:-crates/web_node/out/web_node} loss=${2:-0} service=()
+name=web program=${1:-crates/own_node/out/own_node} loss=${2:-0} own=(web) service=()
 . examples/bridged.sh
 command -v curl >/dev/null || missing "curl is missing"
 
