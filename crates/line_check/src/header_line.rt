@@ -47,7 +47,11 @@ fn service_in(line: &[u8]) -> Option<ServiceKind>
 }
 
 /// Returns whether a text is the header of a schedule with one logger and without marks.
-fn is_header_of(alloc: Global, schedule: &Schedule, text: &[u8]) -> Result<bool, NoMemory>
+pub(crate) fn is_header_of(
+    alloc: Global,
+    schedule: &Schedule,
+    text: &[u8],
+) -> Result<bool, NoMemory>
     ensures { IfOk result (λ same. same ≡ spelled.is_header_of schedule.now text.now) }
 {
     if schedule.twin || schedule.marks.is_some() {

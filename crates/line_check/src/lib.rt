@@ -9,6 +9,7 @@ mod columns;
 mod direction;
 mod event_line;
 mod event_words;
+mod excluded;
 mod header_line;
 mod message;
 mod packet_line;

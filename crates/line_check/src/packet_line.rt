@@ -91,7 +91,7 @@ fn is_packet_text(clients: usize, n: u32, line: &[u8]) -> bool
 }
 
 /// Returns whether a text passes these tests, and the packet's number is within the limit.
-fn passes(clients: usize, n: u32, line: &[u8]) -> bool
+pub(crate) fn passes(clients: usize, n: u32, line: &[u8]) -> bool
     ensures { result ≡ (nat_le n 200000 && spelled.is_packet_text clients n line.now) }
 {
     n <= PACKET_LIMIT && is_packet_text(clients, n, line)
