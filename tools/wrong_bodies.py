@@ -1,60 +1,142 @@
 #!/usr/bin/env python3
-"""Tries the wrong bodies that the gate doesn't try: the files `must-fail/*.edit.md` of crates, each of which must be refused.
+"""Tries the wrong bodies of crates, each of which must be refused: `must-fail/*.edit`, which the gate tries too, and `wrong-bodies/*.edit`, which it doesn't.
 
     tools/wrong_bodies.py CRATE..      in the repository's root; without names, of all crates
-    tools/wrong_bodies.py --list       prints how many there are, by crate, and does nothing else
+    tools/wrong_bodies.py --list       prints how many there are, by crate: those that the gate tries, and the others
+    tools/wrong_bodies.py --table      prints docs/EXCLUDED.md: what stands for each wrong body in the gate
 
-The crates' files at HEAD are checked out in a temporary folder, where these edits take the place of those that the gate tries. Then `rt must-fail` tries
-them. The status is that of `rt must-fail`: 0 if all are refused. Each takes 15 to 80 processor seconds, after the crate and those below it are built.
+The crates' files at HEAD are checked out in a temporary folder, where all wrong bodies are edits that `rt must-fail` tries. The status is that of `rt must-fail`:
+0 if all are refused. Each takes 15 to 80 processor seconds, after the crate and those below it are built.
+
+For the table, a function of the module `excluded` stands for the wrong body of its name, and `tools/excluded.tsv` says of each which clause or law it stands on and
+whether it was seen to fail once that was taken out. The status is 1 if the two don't agree.
 """
 import argparse
+import csv
 import pathlib
+import re
 import subprocess
 import sys
 import tempfile
 
-SUFFIX = ".edit.md"
+TRIED = "must-fail"
+UNTRIED = "wrong-bodies"
+RECORDS = "tools/excluded.tsv"
+
+HEAD = """# What stands for each wrong body
+
+`tools/wrong_bodies.py --table` writes this page. [EDITS.md](EDITS.md) says what a wrong body is. Each is an edit, in `crates/CRATE/must-fail` or
+`crates/CRATE/wrong-bodies`, and `tools/wrong_bodies.py CRATE` tries all edits of a crate. In the gate one of these stands for it:
+
+- *the edit itself*, which the gate tries;
+- *a function* of the module `excluded` with the edit's name. It calls the function whose body the edit changes, and promises what the wrong body makes false; so it
+  isn't proved once the clause in the last column is gone;
+- *a law*, a function without a body, which is proved of the definitions alone;
+- *nothing*: the tool alone tries it. The clause that its first line names is proved, as all are, and what it says is compared with nothing.
+
+Of each function it was seen that it isn't proved once its clause is taken out, unless the last column says otherwise, and each edit for which a function stands was
+seen refused.
+"""
 
 
-def further_edits(top):
-    """The edits that the gate doesn't try, by crate."""
+def edits_of(top, folder):
+    """The names of the edits in this folder of each crate."""
     found = {}
-    for path in sorted(top.glob(f"crates/*/must-fail/*{SUFFIX}")):
-        found.setdefault(path.parts[-3], []).append(path)
+    for path in sorted(top.glob(f"crates/*/{folder}/*.edit")):
+        found.setdefault(path.parts[-3], []).append(path.stem)
     return found
 
 
-def put_in_place(top, found):
-    """Gives the further edits the names of edits that are tried, and removes all others."""
-    for path in top.glob("crates/*/must-fail/*.edit"):
-        path.unlink()
-    for edits in found.values():
-        for path in edits:
-            path.rename(path.with_name(path.name[: -len(".md")]))
+def excluded_functions(top):
+    """The functions of each crate's module `excluded`, each with whether it has a body."""
+    found = {}
+    for path in sorted(top.glob("crates/*/src/excluded.rt")):
+        text = path.read_text()
+        for match in re.finditer(r"^(?:pub )?fn (\w+)(?:.|\n)*?^(\{\}|\{)$", text, re.M):
+            found[path.parts[-3], match[1]] = match[2] == "{"
+    return found
+
+
+def records_of(top):
+    """What `tools/excluded.tsv` says: crate and edit, the law that stands for it or nothing, the clause, and what was seen."""
+    with open(top / RECORDS, newline="", encoding="utf-8") as file:
+        return {(row["crate"], row["edit"]): row for row in csv.DictReader(file, delimiter="\t", quoting=csv.QUOTE_NONE)}
+
+
+def stand_in(key, tried, functions, records):
+    """What stands for a wrong body in the gate, in words."""
+    if tried:
+        return "the edit itself"
+    if key in functions:
+        return f"the function `{key[1]}`" if functions[key] else f"the law `{key[1]}`"
+    if key in records:
+        return f"the law `{records[key]['law']}`"
+    return "nothing"
+
+
+def table(top):
+    """Prints the table. The status is 1 if a function has no edit, or no record, or a record nothing that it speaks of."""
+    tried, untried = edits_of(top, TRIED), edits_of(top, UNTRIED)
+    functions, records = excluded_functions(top), records_of(top)
+    keys = [(crate, edit) for crate in sorted({*tried, *untried}) for edit in sorted([*tried.get(crate, []), *untried.get(crate, [])])]
+    print(HEAD)
+    print("| crate | wrong body | in the gate stands for it | which rests on |\n|---|---|---|---|")
+    count = {}
+    for crate, edit in keys:
+        words = stand_in((crate, edit), edit in tried.get(crate, []), functions, records)
+        kind = words.split(" `")[0]
+        count[kind] = count.get(kind, 0) + 1
+        record = records.get((crate, edit))
+        rests = "" if record is None else record["clause"] + ("" if record["seen"] == "yes" else f" ({record['seen']})")
+        print(f"| `{crate}` | `{edit}` | {words} | {rests} |")
+    print(f"\n{len(keys)} in all: " + ", ".join(f"{n} {kind}" for kind, n in sorted(count.items())) + ".")
+    wrong = [key for key in functions if key not in keys or key not in records]
+    wrong += [key for key, row in records.items() if key not in keys or not (row["law"] or key in functions)]
+    for key in sorted(set(wrong)):
+        print(f"{RECORDS} and the crates don't agree on {key[0]}/{key[1]}", file=sys.stderr)
+    return 1 if wrong else 0
+
+
+def put_in_place(top):
+    """Gives all wrong bodies the place of edits that are tried."""
+    for path in top.glob(f"crates/*/{UNTRIED}/*.edit"):
+        folder = path.parent.with_name(TRIED)
+        folder.mkdir(exist_ok=True)
+        path.rename(folder / path.name)
+
+
+def try_all(names):
+    """Tries the wrong bodies of these crates, in a checkout of HEAD of their own."""
+    with tempfile.TemporaryDirectory(prefix="wrong-bodies-") as room:
+        top = pathlib.Path(room) / "checkout"
+        subprocess.run(["git", "worktree", "add", "--quiet", "--detach", top], check=True)
+        try:
+            put_in_place(top)
+            return subprocess.run(["rt", "must-fail", *names], cwd=top, check=False).returncode
+        finally:
+            subprocess.run(["git", "worktree", "remove", "--force", top], check=True)
 
 
 def main():
     parser = argparse.ArgumentParser(description=__doc__, formatter_class=argparse.RawDescriptionHelpFormatter)
     parser.add_argument("crates", nargs="*", metavar="CRATE")
     parser.add_argument("--list", action="store_true")
+    parser.add_argument("--table", action="store_true")
     words = parser.parse_args()
-    found = further_edits(pathlib.Path.cwd())
-    lacking = [name for name in words.crates if name not in found]
+    top = pathlib.Path.cwd()
+    tried, untried = edits_of(top, TRIED), edits_of(top, UNTRIED)
+    names = sorted({*tried, *untried})
+    lacking = [name for name in words.crates if name not in names]
     if lacking:
-        parser.error(f"no further edits in {lacking[0]}")
+        parser.error(f"no wrong bodies in {lacking[0]}")
+    if words.table:
+        return table(top)
     if words.list:
-        for name, edits in found.items():
-            print(f"{len(edits):3} {name}")
-        print(f"{sum(map(len, found.values())):3} in all")
+        for name in names:
+            print(f"{len(tried.get(name, [])):3} {len(untried.get(name, [])):3} {name}")
+        print(f"{sum(map(len, tried.values())):3} {sum(map(len, untried.values())):3} in all")
         return 0
-    with tempfile.TemporaryDirectory(prefix="wrong-bodies-") as room:
-        top = pathlib.Path(room) / "checkout"
-        subprocess.run(["git", "worktree", "add", "--quiet", "--detach", top], check=True)
-        try:
-            put_in_place(top, further_edits(top))
-            return subprocess.run(["rt", "must-fail", *(words.crates or found)], cwd=top, check=False).returncode
-        finally:
-            subprocess.run(["git", "worktree", "remove", "--force", top], check=True)
+    return try_all(words.crates or names)
 
 
 if __name__ == "__main__":
