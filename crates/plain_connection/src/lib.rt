@@ -8,6 +8,7 @@ pub use news::News;
 
 mod before;
 mod connection;
+mod excluded;
 pub mod laws;
 mod logging;
 mod made_output;

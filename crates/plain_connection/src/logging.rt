@@ -208,7 +208,7 @@ impl<S: Service> PlainConnection<S> {
     }
 
     /// Returns the first read whose length is sent: a new one, or at a tick the first unanswered one.
-    fn first_told(&self, news: &News<'_>, before: &Before) -> usize
+    pub(crate) fn first_told(&self, news: &News<'_>, before: &Before) -> usize
         ensures { (p : Point) → IsBefore (machine (S.started self.now.kind) S.after) (news_in news.now) p before.now
             → result ≡ first_told (news_in news.now) p self.now.point }
     {
