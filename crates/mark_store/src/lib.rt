@@ -4,6 +4,7 @@
 
 pub use store::MarkStore;
 
+mod excluded;
 mod kept_mark;
 mod store;
 mod telling;

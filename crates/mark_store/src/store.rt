@@ -123,7 +123,7 @@ impl MarkStore {
 
     /// Whether a mark may replace that of the entry at this place: it lies after more reads, these are logged and took its `length` bytes, and no closing
     /// read is among them.
-    fn follows(&self, place: u16, mark: &NewMark<'_>) -> bool
+    pub(crate) fn follows(&self, place: u16, mark: &NewMark<'_>) -> bool
         ensures value { result ≡ option_map_or (may_follow (record no_mark { reads = (trim_at self.now.trimmed.trims place).reads }) (mark_value mark.now)) (slice_get self.now.trimmed.log.entries place) false }
         ensures trims { result ≡ true → MayTrim place mark.now.length mark.now.reads self.now.trimmed }
         ensures within { result ≡ true → mark.now.length ≤ length (bytes_of (slice_get self.now.trimmed.log.entries place)) }
@@ -141,7 +141,12 @@ impl MarkStore {
     }
 
     /// Keeps a mark, if it may replace the one before it, and discards what is below it. The output that it counts is then acknowledged.
-    fn take_mark(&mut self, alloc: Global, key: Key, mark: &NewMark<'_>) -> Result<(), NoMemory>
+    pub(crate) fn take_mark(
+        &mut self,
+        alloc: Global,
+        key: Key,
+        mark: &NewMark<'_>,
+    ) -> Result<(), NoMemory>
         requires reads { mark.now.reads ≤ 2 ^ 24 + 1 }
         requires length { mark.now.length ≤ 2 ^ 24 }
         requires made { mark.now.made ≤ 2 ^ 24 }
