@@ -77,7 +77,7 @@ impl<S: Service> FetchedEntry<S> {
 
     /// An entry that begins at a mark.
     #[tactic(auto, using(crate::proofs::Sized::marked_sized))]
-    fn begin_at(
+    pub(crate) fn begin_at(
         alloc: Global,
         head: EntryHead,
         mark: &LoggedMark<'_>,

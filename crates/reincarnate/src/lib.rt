@@ -15,6 +15,7 @@ mod any_msg;
 mod asked;
 mod cuts;
 mod entries;
+mod excluded;
 mod fetched_entry;
 mod fetching;
 mod held;

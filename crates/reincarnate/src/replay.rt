@@ -151,7 +151,7 @@ impl<S: Service> Replay<S> {
     }
 
     /// Gives the service the next chunk. If its output would pass the end of the stream, none of it counts, and the service counts as closed.
-    fn serve(&mut self, size: usize) -> Result<(), NoMemory>
+    pub(crate) fn serve(&mut self, size: usize) -> Result<(), NoMemory>
         requires short { size ≤ 2048 }
         requires there { size ≤ length self.old.held }
         ensures state { OnOk result (self.new ≡ served_on self.old (S.after self.old.service (take size self.old.held))) }

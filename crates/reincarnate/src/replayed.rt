@@ -118,7 +118,7 @@ impl<S: Service> Replayed<S> {
 }
 
 /// A south wrapper that continues where the entry ends. Its service has made `made` bytes of output.
-fn south_behind(head: &EntryHead, cuts: Cuts, made: u32, isn: Seq) -> South
+pub(crate) fn south_behind(head: &EntryHead, cuts: Cuts, made: u32, isn: Seq) -> South
     requires stream { head.now.length ≤ 2 ^ 24 }
     requires made { made ≤ 2 ^ 24 }
     requires read { cuts.sum ≤ 2 ^ 24 }
