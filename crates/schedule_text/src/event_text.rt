@@ -21,7 +21,7 @@ pub fn write_event(alloc: Global, n: u32, e: &Event, out: &mut Vec<u8>) -> Resul
 }
 
 #[tactic(auto, using(crate::proofs::LineLemmas::line_rules), unfolding(ft_model::specs::Report::event_line))]
-fn put_event_line(n: u32, e: &Event, line: &mut LineOut) -> Result<(), NoMemory>
+pub(crate) fn put_event_line(n: u32, e: &Event, line: &mut LineOut) -> Result<(), NoMemory>
     ensures ok { OnOk result (line.new.words ≡ line.old.words ++ event_line n e.now) }
     ensures before { line.new.before ≡ line.old.before }
 {

@@ -14,6 +14,7 @@ mod closing_text;
 mod end;
 mod event_line;
 mod event_text;
+mod excluded;
 mod header_text;
 mod line;
 mod line_out;

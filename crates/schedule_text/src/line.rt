@@ -207,7 +207,7 @@ fn fits_number(count: usize, words: &[u8]) -> bool
 
 /// Returns whether another client line may follow these lines.
 #[tactic(auto, unfolding(ft_model::specs::Grammar::may_join))]
-fn takes_client(schedule: &Schedule, words: &[u8]) -> bool
+pub(crate) fn takes_client(schedule: &Schedule, words: &[u8]) -> bool
     ensures { result ≡ may_join schedule.now (words_of words.now) }
 {
     if schedule.events.as_slice().len() != 0 {

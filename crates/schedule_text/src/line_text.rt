@@ -180,7 +180,7 @@ pub(crate) fn put_flags(flags: u8, line: &mut LineOut) -> Result<(), NoMemory>
 
 /// Appends the letters of the flags that are set.
 #[tactic(auto, using(std::proofs::Common::append_assoc))]
-fn put_letters(flags: u8, line: &mut LineOut) -> Result<(), NoMemory>
+pub(crate) fn put_letters(flags: u8, line: &mut LineOut) -> Result<(), NoMemory>
     ensures ok { OnOk result (line.new.words ≡ line.old.words ++ flag_letters flags) }
     ensures before { line.new.before ≡ line.old.before }
 {

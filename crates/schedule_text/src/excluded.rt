@@ -1,0 +1,45 @@
+//! Wrong results that the contracts of this crate exclude. Each function calls another one of the crate, and promises of its result what a wrong body would make
+//! false. It is proved from the other's contract alone, so it is no longer proved once that contract lets the wrong body pass.
+
+ghost use Rattle.std.specs.Prelude.{◌≡◌, ◌∷◌, [], ◌++◌, false, length, Err, OnOk, codes};
+ghost use Rattle.ft_model.specs.Report.{event_line};
+ghost use Rattle.ft_model.specs.Words.{words_of};
+
+use crate::event_line::end_of;
+use crate::event_text::put_event_line;
+use crate::line::takes_client;
+use crate::line_out::LineOut;
+use crate::line_text::put_letters;
+use ft_io::NoMemory;
+use ft_model::{Event, LineWhy, Schedule};
+
+/// A line with a word too many is refused: the contract of `end_of`.
+fn reading_ignores_further_words(words: &[u8]) -> Result<(), LineWhy>
+    requires { words_of words.now ≡ codes "7" ∷ [] }
+    ensures { result ≡ Err LineWhy.Count }
+{
+    end_of(words)
+}
+
+/// After 16 clients no client line may follow: the contract of `takes_client`.
+#[tactic(auto, unfolding(ft_model::specs::Grammar::may_join))]
+fn reading_takes_a_seventeenth_client(schedule: &Schedule, words: &[u8]) -> bool
+    requires { length schedule.now.clients ≡ 16 }
+    ensures { result ≡ false }
+{
+    takes_client(schedule, words)
+}
+
+/// The letter of ACK stands before that of SYN: the clause `ok` of `put_letters`.
+fn writing_flags_in_another_order(line: &mut LineOut) -> Result<(), NoMemory>
+    ensures { OnOk result (line.new.words ≡ line.old.words ++ codes "AS") }
+{
+    put_letters(0x12, line)
+}
+
+/// The line of event 7 has the number 7: the clause `ok` of `put_event_line`.
+fn writing_numbers_events_one_too_high(line: &mut LineOut) -> Result<(), NoMemory>
+    ensures { OnOk result (line.new.words ≡ line.old.words ++ event_line 7 Event.Tick) }
+{
+    put_event_line(7, &Event::Tick, line)
+}
