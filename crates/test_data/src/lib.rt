@@ -1,5 +1,5 @@
 //! Data for tests and for programs with cases: numbers that follow from a seed, streams in which a byte at a wrong place is seen, bytes in hexadecimal, a hash
-//! of what came of them, and lines.
+//! of what came of them, lines, and what a script's program prints.
 #![tactic(auto)]
 
 pub use draws::Draws;
@@ -7,6 +7,7 @@ pub use hashing::hashed;
 pub use hexadecimal::{bytes_of_hex, bytes_of_word, word_of_bytes};
 pub use lines::push_line;
 pub use pattern::{Pattern, PatternTable};
+pub use said::Said;
 
 mod draws;
 mod excluded;
@@ -14,3 +15,4 @@ mod hashing;
 mod hexadecimal;
 mod lines;
 mod pattern;
+mod said;
