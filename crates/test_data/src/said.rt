@@ -35,6 +35,17 @@ impl Said {
         Ok(self.bytes.as_slice())
     }
 
+    /// How many bytes were said.
+    pub fn len(&self) -> usize {
+        self.bytes.len()
+    }
+
+    /// Forgets all but the first bytes, also that memory was refused.
+    pub fn cut(&mut self, len: usize) {
+        self.bytes.truncate(len);
+        self.is_lost = false;
+    }
+
     /// Adds bytes as they are.
     pub fn add(&mut self, bytes: &[u8]) {
         self.is_lost = self.is_lost || self.bytes.extend_from_slice(bytes).is_err();
