@@ -6,52 +6,51 @@ use hostile::{Tally, attack_live, attack_scripted};
 use joined::{Joined, join};
 use std::alloc::Global;
 use tcp_endpoint::Outbox;
+use test_data::Said;
 
 mod hostile;
 mod joined;
 mod rules;
 
-fn tell_joined(seed: u64, joined: Joined, said: &mut String) -> Result<(), NoMemory> {
+fn tell_joined(seed: u64, joined: Joined, said: &mut Said) {
     let (accepted, read) = (joined.accepted, joined.read);
     let same = if joined.same { "the same" } else { "others" };
     write!(
         said,
         "seed {seed}: the client accepted {accepted} bytes, and the server read {read}\n"
-    )?;
-    write!(said, "seed {seed}: they are {same}, {:?}\n", joined.outcome)?;
-    Ok(())
+    );
+    write!(said, "seed {seed}: they are {same}, {:?}\n", joined.outcome);
 }
 
-fn tell_tally(who: &str, tally: Tally, said: &mut String) -> Result<(), NoMemory> {
+fn tell_tally(who: &str, tally: Tally, said: &mut Said) {
     let (datagrams, packets) = (tally.datagrams, tally.packets);
     write!(
         said,
         "{who}: {datagrams} datagrams, {packets} of them packets\n"
-    )?;
+    );
     match tally.broken {
-        Some(rule) => write!(said, "{who}: {rule:?} is broken\n")?,
-        None => write!(said, "{who}: no rule is broken\n")?,
+        Some(rule) => write!(said, "{who}: {rule:?} is broken\n"),
+        None => write!(said, "{who}: no rule is broken\n"),
     }
-    Ok(())
 }
 
 /// Plays everything, with this outbox for what is sent.
-fn play(alloc: Global, out: &mut Outbox, said: &mut String) -> Result<bool, NoMemory> {
+fn play(alloc: Global, out: &mut Outbox, said: &mut Said) -> Result<bool, NoMemory> {
     let mut whole = true;
     for seed in 1..4u64 {
         let joined = join(alloc, seed, out)?;
-        tell_joined(seed, joined, said)?;
+        tell_joined(seed, joined, said);
         whole = whole && joined.same;
     }
     let scripted = attack_scripted(alloc)?;
-    tell_tally("scripted client", scripted, said)?;
+    tell_tally("scripted client", scripted, said);
     let live = attack_live(alloc, out)?;
-    tell_tally("live client", live, said)?;
+    tell_tally("live client", live, said);
     Ok(whole && scripted.broken.is_none() && live.broken.is_none())
 }
 
-/// Plays everything, and writes two lines for each of the five. Whether nothing is lost and no rule is broken.
-pub(crate) fn play_clients(alloc: Global, said: &mut String) -> Result<bool, NoMemory> {
+/// Plays everything, and says two lines for each of the five. Whether nothing is lost and no rule is broken.
+pub(crate) fn play_clients(alloc: Global, said: &mut Said) -> Result<bool, NoMemory> {
     let mut out = Outbox::new(alloc)?;
     play(alloc, &mut out, said)
 }

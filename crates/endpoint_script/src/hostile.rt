@@ -6,12 +6,12 @@ use crate::rules::{
     Kept, Known, OWN, Rule, Seen, check_leaving, check_numbers, check_reset, check_used,
     is_behind_fin, require, resets,
 };
-use crate::scene::{Met, Miss, Scene};
+use crate::scene::{Met, Scene, differs};
 use crate::script::{Counted, Hostile};
 use segment_codec::{Head, PacketRef, read_packet, write_packet};
 use seq_arith::{ACK, FIN, Seq};
 use socket_layer::Socket;
-use tcp_endpoint::{Outbox, StateName};
+use tcp_endpoint::StateName;
 use test_data::{Draws, Pattern};
 
 /// What came of all datagrams.
@@ -36,13 +36,6 @@ impl Tally {
             read: 0,
             acked: 0,
         }
-    }
-
-    fn note_met(&mut self, name: StateName) {
-        if let Some(count) = self.met.get_mut(name as usize) {
-            *count = count.wrapping_add(1);
-        }
-        self.handed = self.handed.wrapping_add(1);
     }
 
     pub(crate) fn count(&self, counted: Counted) -> u32 {
@@ -104,34 +97,6 @@ pub(crate) fn flags(draws: &mut Draws) -> u8 {
         2 => FIN | ACK,
         _ => ACK,
     }
-}
-
-/// Changes one byte.
-fn damage(draws: &mut Draws, packet: &mut [u8]) {
-    let place = draws.below(1_500) as usize % packet.len().max(1);
-    if place < packet.len() {
-        packet[place] = packet[place].wrapping_add(1 + draws.below(255) as u8);
-    }
-}
-
-/// Each packet that leaves keeps the rules.
-fn check_all(known: Known, out: &Outbox) -> Kept {
-    for i in 0..out.len() {
-        if i < out.len() {
-            let Ok(p) = read_packet(out.packet(i)) else {
-                return Err(Rule::Packet);
-            };
-            check_leaving(known, p)?;
-        }
-    }
-    Ok(())
-}
-
-/// A datagram that is refused isn't handed over: nothing changes, and nothing leaves.
-fn stay(scene: &mut Scene) -> Kept {
-    let before = seen(scene);
-    scene.send();
-    require(scene.out.is_empty() && seen(scene) == before, Rule::Silence)
 }
 
 impl Attack {
@@ -256,7 +221,15 @@ impl Attack {
             written: self.written,
             count: scene.out.len(),
         };
-        check_all(known, &scene.out)
+        for i in 0..scene.out.len() {
+            if i < scene.out.len() {
+                let Ok(p) = read_packet(scene.out.packet(i)) else {
+                    return Err(Rule::Packet);
+                };
+                check_leaving(known, p)?;
+            }
+        }
+        Ok(())
     }
 
     /// A datagram is handed over, the user acts, and the turn ends.
@@ -276,22 +249,32 @@ impl Attack {
         check_numbers(before, seen(scene), p.head.ack)
     }
 
-    /// One datagram, damaged or not, comes to an endpoint. A tick passes after some of them.
+    /// One datagram, damaged in one byte or not, comes to an endpoint. One that is damaged is refused and isn't handed over: nothing changes, and nothing leaves. A
+    /// tick passes after some of them.
     fn meet_one(&mut self, scene: &mut Scene) -> Kept {
         let mut packet = [0u8; 1_500];
         let len = self.write(scene, &mut packet);
         let is_damaged = self.draws.below(2) == 0;
         if is_damaged {
-            damage(&mut self.draws, &mut packet[..len]);
+            let place = self.draws.below(1_500) as usize % len.max(1);
+            if place < len {
+                packet[place] = packet[place].wrapping_add(1 + self.draws.below(255) as u8);
+            }
         }
         if let Ok(p) = read_packet(&packet[..len]) {
             require(!is_damaged, Rule::Damage)?;
-            self.tally.note_met(scene.endpoint.state().name);
+            if let Some(count) = self.tally.met.get_mut(scene.endpoint.state().name as usize) {
+                *count = count.wrapping_add(1);
+            }
+            self.tally.handed = self.tally.handed.wrapping_add(1);
             self.take_in(scene, p)?;
         } else {
             require(is_damaged, Rule::Damage)?;
             self.tally.refused = self.tally.refused.wrapping_add(1);
-            stay(scene)?;
+            let before = seen(scene);
+            scene.send();
+            let is_same = scene.out.is_empty() && seen(scene) == before;
+            require(is_same, Rule::Silence)?;
         }
         if self.draws.below(20) == 0 {
             scene.endpoint.on_tick();
@@ -300,17 +283,8 @@ impl Attack {
         Ok(())
     }
 
-    /// Counts what came of an endpoint that another replaces.
-    fn note_end(&mut self, scene: &Scene) {
-        let seen = seen(scene);
-        let tally = &mut self.tally;
-        tally.resets = tally.resets.wrapping_add(u32::from(seen.reset));
-        tally.read = tally.read.wrapping_add(self.read);
-        tally.acked = tally.acked.wrapping_add(seen.acked.minus(scene.isn));
-    }
-
-    /// The next datagrams come to a new endpoint, until another has to replace it.
-    pub(crate) fn meet(&mut self, scene: &mut Scene, said: &mut String) -> Met {
+    /// The next datagrams come to a new endpoint, until another has to replace it. Counts what came of it.
+    pub(crate) fn meet(&mut self, scene: &mut Scene) -> Met {
         self.read = 0;
         self.written = 0;
         let mut closed = 0u32;
@@ -320,8 +294,8 @@ impl Attack {
             }
             if let Err(rule) = self.meet_one(scene) {
                 let (number, rule) = (self.number, rule.text());
-                write!(said, "datagram {number} breaks a rule: {rule}")?;
-                return Err(Miss::Differs);
+                let seen = format_args!("datagram {number} breaks a rule: {rule}");
+                return differs(scene.alloc, seen);
             }
             self.number = self.number.saturating_add(1);
             if scene.endpoint.state().name == StateName::Closed {
@@ -331,7 +305,11 @@ impl Attack {
                 break;
             }
         }
-        self.note_end(scene);
+        let seen = seen(scene);
+        let tally = &mut self.tally;
+        tally.resets = tally.resets.wrapping_add(u32::from(seen.reset));
+        tally.read = tally.read.wrapping_add(self.read);
+        tally.acked = tally.acked.wrapping_add(seen.acked.minus(scene.isn));
         Ok(())
     }
 }

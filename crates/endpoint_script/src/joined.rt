@@ -1,6 +1,6 @@
 //! Two endpoints that hand their packets to one another, over ways that lose, repeat and reorder.
 
-use crate::scene::{Met, Miss, Scene};
+use crate::scene::{Met, Scene, differs};
 use crate::script::{Join, Opening};
 use ft_io::{Addr, NoMemory};
 use segment_codec::read_packet;
@@ -86,28 +86,8 @@ impl Side {
         }
     }
 
-    /// The user reads what came. It must be the text that begins at this place of the stream.
-    fn hear(&mut self, place: u32) {
-        let mut buf = [0u8; 300];
-        let count = self.scene.endpoint.read(&mut buf).min(300);
-        let is_next = STREAM.is_part(place.wrapping_add(self.read), &buf[..count]);
-        self.is_true = self.is_true && is_next;
-        self.read = self.read.wrapping_add(count as u32);
-    }
-
-    /// The user writes the next bytes, or closes where none is left.
-    fn say(&mut self) {
-        let mut buf = [0u8; 700];
-        let next = self.bytes.saturating_sub(self.written).min(700) as usize;
-        if next == 0 {
-            self.scene.endpoint.close();
-        }
-        STREAM.fill(self.place.wrapping_add(self.written), &mut buf);
-        let count = self.scene.endpoint.write(&buf[..next]).min(next);
-        self.written = self.written.wrapping_add(count as u32);
-    }
-
-    /// A turn: a tick, or a packet of those that are on the way.
+    /// A turn: a tick, or a packet of those that are on the way. Then the user reads what came, which must be the next of the peer's text, and writes the next
+    /// bytes, or closes where none is left.
     fn turn(
         &mut self,
         alloc: Global,
@@ -121,39 +101,49 @@ impl Side {
         }
         let name = self.scene.endpoint.state().name;
         if name != StateName::SynSent && name != StateName::Listen {
-            self.hear(peer.place);
-            self.say();
+            let mut buf = [0u8; 700];
+            let count = self.scene.endpoint.read(&mut buf[..300]).min(300);
+            let is_next = STREAM.is_part(peer.place.wrapping_add(self.read), &buf[..count]);
+            self.is_true = self.is_true && is_next;
+            self.read = self.read.wrapping_add(count as u32);
+            let next = self.bytes.saturating_sub(self.written).min(700) as usize;
+            if next == 0 {
+                self.scene.endpoint.close();
+            }
+            STREAM.fill(self.place.wrapping_add(self.written), &mut buf);
+            let count = self.scene.endpoint.write(&buf[..next]).min(next);
+            self.written = self.written.wrapping_add(count as u32);
         }
         self.carry(alloc, peer, draws)
     }
 
     /// All of the peer's text must have come, and nothing else, and the endpoint must be CLOSED without a reset.
-    fn meets(&self, who: &str, peer: &Side, said: &mut String) -> Met {
+    fn meets(&self, who: &str, peer: &Side) -> Met {
         let (some, all, state) = (self.read, peer.bytes, self.scene.endpoint.state());
         let is_closed = state.name == StateName::Closed && !state.reset;
         if self.is_true && some == all && is_closed {
             return Ok(());
         }
         let name = state.name;
-        write!(said, "the {who} heard {some} bytes of {all}, {name:?}")?;
-        Err(Miss::Differs)
+        let seen = format_args!("the {who} heard {some} bytes of {all}, {name:?}");
+        differs(self.scene.alloc, seen)
     }
 }
 
 /// Plays all turns. Each user must read all that the other writes.
-fn play(alloc: Global, join: Join, client: &mut Side, server: &mut Side, said: &mut String) -> Met {
+fn play(alloc: Global, join: Join, client: &mut Side, server: &mut Side) -> Met {
     let mut draws = Draws::new(join.seed);
     client.carry(alloc, server, &mut draws)?;
     for _ in 0..join.turns {
         client.turn(alloc, server, &mut draws)?;
         server.turn(alloc, client, &mut draws)?;
     }
-    client.meets("client", server, said)?;
-    server.meets("server", client, said)
+    client.meets("client", server)?;
+    server.meets("server", client)
 }
 
 /// Joins a server to a client.
-fn join_server(alloc: Global, join: Join, client: &mut Side, said: &mut String) -> Met {
+fn join_server(alloc: Global, join: Join, client: &mut Side) -> Met {
     let opening = Opening {
         local: SERVER,
         remote: None,
@@ -161,11 +151,11 @@ fn join_server(alloc: Global, join: Join, client: &mut Side, said: &mut String) 
         limit: LIMIT,
     };
     let mut server = Side::new(alloc, opening, join.server.bytes, SERVER_PLACE)?;
-    play(alloc, join, client, &mut server, said)
+    play(alloc, join, client, &mut server)
 }
 
 /// Joins two endpoints.
-pub(crate) fn join(alloc: Global, join: Join, said: &mut String) -> Met {
+pub(crate) fn join(alloc: Global, join: Join) -> Met {
     let opening = Opening {
         local: CLIENT,
         remote: Some(SERVER),
@@ -173,5 +163,5 @@ pub(crate) fn join(alloc: Global, join: Join, said: &mut String) -> Met {
         limit: LIMIT,
     };
     let mut client = Side::new(alloc, opening, join.client.bytes, 0)?;
-    join_server(alloc, join, &mut client, said)
+    join_server(alloc, join, &mut client)
 }

@@ -9,7 +9,9 @@ use segment_codec::{Head, PacketRef, read_packet};
 use seq_arith::{SYN, Seq, has};
 use socket_layer::Socket;
 use std::alloc::{AllocError, Global};
-use tcp_endpoint::{Endpoint, Outbox, State};
+use std::fmt::Display;
+use tcp_endpoint::{Endpoint, Outbox};
+use test_data::Said;
 
 /// Where the segments come from that go to a listening endpoint.
 const PEER: Addr = Addr {
@@ -21,12 +23,12 @@ const PEER: Addr = Addr {
 const PEER_ISN: Seq = Seq(1_000);
 
 /// Why a step fails.
-#[derive(Clone, Copy)]
+#[derive(Drop)]
 pub(crate) enum Miss {
     NoMemory,
     Refused(Why),
-    /// Something else is seen, which is told.
-    Differs,
+    /// This is seen, which is something else.
+    Differs(Said),
 }
 
 impl From<AllocError> for Miss {
@@ -58,29 +60,14 @@ pub(crate) struct Scene {
     told: usize,
     /// Whether something happened since the last flush.
     is_open: bool,
-    /// The bytes of the text that a step names, and those that it read.
-    text: Vec<u8>,
-    read: Vec<u8>,
+    pub(crate) alloc: Global,
 }
 
-/// A number must be this one; another is told.
-pub(crate) fn meets(found: u64, wanted: u64, said: &mut String) -> Met {
-    if found == wanted {
-        return Ok(());
-    }
-    write!(said, "{found}")?;
-    Err(Miss::Differs)
-}
-
-/// A state must be this one.
-fn meets_state(found: State, wanted: State, said: &mut String) -> Met {
-    if found.name == wanted.name && found.reset == wanted.reset {
-        return Ok(());
-    }
-    let reset = if found.reset { ", reset" } else { "" };
-    let name = found.name;
-    write!(said, "{name:?}{reset}")?;
-    Err(Miss::Differs)
+/// This is seen, which is something else.
+pub(crate) fn differs<D: Display + Drop>(alloc: Global, seen: D) -> Met {
+    let mut said = Said::new(alloc);
+    said.write_fmt(seen);
+    Err(Miss::Differs(said))
 }
 
 /// Whether two packets have the same headers.
@@ -126,29 +113,57 @@ impl Scene {
             peer_isn: PEER_ISN,
             told: 0,
             is_open: true,
-            text: Vec::new(alloc),
-            read: Vec::new(alloc),
+            alloc,
         })
     }
 
     /// Does what a step asks for.
-    pub(crate) fn act(&mut self, alloc: Global, deed: Deed<'_>, said: &mut String) -> Met {
+    pub(crate) fn act(&mut self, deed: Deed<'_>) -> Met {
         match deed {
-            Deed::Comes(segment) => self.comes(alloc, segment, said),
-            Deed::Tick => self.tick(said),
-            Deed::EndTurn => self.end_turn(said),
+            Deed::Comes(segment) => self.comes(segment),
+            Deed::Tick => {
+                self.end_turn()?;
+                self.endpoint.on_tick();
+                self.is_open = true;
+                Ok(())
+            }
+            Deed::EndTurn => self.end_turn(),
             Deed::Close => {
                 self.endpoint.close();
                 self.is_open = true;
                 Ok(())
             }
-            Deed::Write { text, taken } => self.write(alloc, text, taken, said),
-            Deed::Read { from, room, text } => self.read(alloc, from, room, text, said),
-            Deed::Leaves(segment) => self.leaves(alloc, segment, said),
-            Deed::Segments(count) => self.segments(count, said),
-            Deed::State(state) => meets_state(self.endpoint.state(), state, said),
-            Deed::Shows(quantity, number) => meets(self.shown(quantity), u64::from(number), said),
+            Deed::Write { text, taken } => {
+                let count = self.endpoint.write(&text.bytes(self.alloc)?);
+                self.is_open = true;
+                self.meets(count as u64, taken as u64)
+            }
+            Deed::Read { from, room, text } => self.read(from, room, text),
+            Deed::Leaves(segment) => self.leaves(segment),
+            Deed::Segments(count) => {
+                self.flush();
+                let left = self.out.len().saturating_sub(self.told);
+                self.told = self.out.len();
+                self.meets(left as u64, u64::from(count))
+            }
+            Deed::State(wanted) => {
+                let state = self.endpoint.state();
+                if state.name == wanted.name && state.reset == wanted.reset {
+                    return Ok(());
+                }
+                let (name, reset) = (state.name, if state.reset { ", reset" } else { "" });
+                differs(self.alloc, format_args!("{name:?}{reset}"))
+            }
+            Deed::Shows(quantity, number) => self.meets(self.shown(quantity), u64::from(number)),
         }
+    }
+
+    /// A number must be this one.
+    fn meets(&self, found: u64, wanted: u64) -> Met {
+        if found == wanted {
+            return Ok(());
+        }
+        differs(self.alloc, found)
     }
 
     /// What is seen of the endpoint between its calls.
@@ -179,112 +194,77 @@ impl Scene {
     }
 
     /// Ends the turn. The script must have named all segments that were sent.
-    pub(crate) fn end_turn(&mut self, said: &mut String) -> Met {
+    pub(crate) fn end_turn(&mut self) -> Met {
         self.flush();
         if self.told < self.out.len() {
-            return self.differs(said);
+            return self.differs();
         }
         Ok(())
     }
 
-    /// Tells what leaves next, which differs from what the script names.
-    fn differs(&self, said: &mut String) -> Met {
+    /// What leaves next differs from what the script names.
+    fn differs(&self) -> Met {
+        let mut said = Said::new(self.alloc);
         if self.told >= self.out.len() {
-            said.push_str("nothing leaves")?;
-            return Err(Miss::Differs);
+            said.add(b"nothing leaves");
+            return Err(Miss::Differs(said));
         }
         match read_packet(self.out.packet(self.told)) {
             Ok(p) => {
-                said.push_str("out ")?;
-                tell_segment(p, said)?;
+                said.add(b"out ");
+                tell_segment(p, &mut said);
             }
-            Err(why) => write!(said, "no packet: {why:?}")?,
+            Err(why) => write!(said, "no packet: {why:?}"),
         }
-        Err(Miss::Differs)
+        Err(Miss::Differs(said))
     }
 
-    fn comes(&mut self, alloc: Global, segment: Segment<'_>, said: &mut String) -> Met {
-        self.end_turn(said)?;
-        segment.text.put(alloc, &mut self.text)?;
+    fn comes(&mut self, segment: Segment<'_>) -> Met {
+        self.end_turn()?;
+        let text = segment.text.bytes(self.alloc)?;
         let head = segment.head(self.peer, self.local);
         if has(head.flags, SYN) {
             self.peer_isn = head.seq;
         }
         self.endpoint.on_packet(PacketRef {
             head,
-            payload: self.text.as_slice(),
+            payload: text.as_slice(),
         });
         self.is_open = true;
         Ok(())
     }
 
-    fn tick(&mut self, said: &mut String) -> Met {
-        self.end_turn(said)?;
-        self.endpoint.on_tick();
-        self.is_open = true;
-        Ok(())
-    }
-
-    fn write(&mut self, alloc: Global, text: Text<'_>, taken: usize, said: &mut String) -> Met {
-        text.put(alloc, &mut self.text)?;
-        let count = self.endpoint.write(self.text.as_slice());
-        self.is_open = true;
-        meets(count as u64, taken as u64, said)
-    }
-
     /// Reads into so many bytes, or peeks from a place on. This text must be read.
-    fn read(
-        &mut self,
-        alloc: Global,
-        from: Option<u16>,
-        room: u16,
-        text: Text<'_>,
-        said: &mut String,
-    ) -> Met {
-        text.put(alloc, &mut self.text)?;
-        self.read.resize(usize::from(room), 0)?;
+    fn read(&mut self, from: Option<u16>, room: u16, text: Text<'_>) -> Met {
+        let wanted = text.bytes(self.alloc)?;
+        let mut read = vec![in self.alloc; 0; usize::from(room)]?;
         let count = match from {
-            Some(from) => self
-                .endpoint
-                .peek(usize::from(from), self.read.as_mut_slice()),
-            None => self.endpoint.read(self.read.as_mut_slice()),
+            Some(from) => self.endpoint.peek(usize::from(from), read.as_mut_slice()),
+            None => self.endpoint.read(read.as_mut_slice()),
         };
         self.is_open = self.is_open || from.is_none();
-        self.read.truncate(count);
-        if self.read.as_slice() == self.text.as_slice() {
+        read.truncate(count);
+        if read.as_slice() == wanted.as_slice() {
             return Ok(());
         }
-        tell_bytes(self.read.as_slice(), said)?;
-        Err(Miss::Differs)
+        let mut said = Said::new(self.alloc);
+        tell_bytes(read.as_slice(), &mut said);
+        Err(Miss::Differs(said))
     }
 
-    /// Whether the next packet has these headers and the step's text.
-    fn is_next(&self, wanted: Head) -> bool {
-        if self.told >= self.out.len() {
-            return false;
-        }
-        match read_packet(self.out.packet(self.told)) {
-            Ok(p) => is_same_head(p.head, wanted) && p.payload == self.text.as_slice(),
-            Err(_) => false,
-        }
-    }
-
-    /// This segment leaves next.
-    fn leaves(&mut self, alloc: Global, segment: Segment<'_>, said: &mut String) -> Met {
+    /// This segment leaves next: it has these headers and this text.
+    fn leaves(&mut self, segment: Segment<'_>) -> Met {
         self.flush();
-        segment.text.put(alloc, &mut self.text)?;
-        if !self.is_next(segment.head(self.local, self.peer)) {
-            return self.differs(said);
+        let text = segment.text.bytes(self.alloc)?;
+        let head = segment.head(self.local, self.peer);
+        if self.told < self.out.len()
+            && let Ok(p) = read_packet(self.out.packet(self.told))
+            && is_same_head(p.head, head)
+            && p.payload == text.as_slice()
+        {
+            self.told = self.told.saturating_add(1);
+            return Ok(());
         }
-        self.told = self.told.saturating_add(1);
-        Ok(())
-    }
-
-    /// So many segments leave, whatever they say.
-    fn segments(&mut self, count: u16, said: &mut String) -> Met {
-        self.flush();
-        let left = self.out.len().saturating_sub(self.told);
-        self.told = self.out.len();
-        meets(left as u64, u64::from(count), said)
+        self.differs()
     }
 }

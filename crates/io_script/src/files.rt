@@ -1,12 +1,12 @@
 //! A file of the system as a disk, and with a UDP socket as a desk.
 
-use crate::said::Said;
 use disk::{Desk, Disk, FileDisk, HostDesk, ShelfEnd};
 use ft_io::{Addr, Failed, Heard};
 use std::fs;
 use std::fs::{File, Files};
 use std::net::Net;
 use std::os::unix::fs::symlink;
+use test_data::Said;
 
 /// Appends three bytes, replaces one, cuts one off, and appends two.
 fn change<D: Disk>(disk: &mut D) -> Result<(), Failed> {
@@ -33,7 +33,7 @@ fn say_opening<R: Files<File = File>>(system: &R, name: &str, said: &mut Said) {
 fn change_kept<R: Files<File = File>>(system: &R, said: &mut Said) {
     match FileDisk::open(system, "kept") {
         Ok(mut disk) => {
-            said.outcome(change(&mut disk));
+            said.done(change(&mut disk).is_ok());
             say_opening(system, "kept", said);
         }
         Err(_) => said.word(b"no file"),
@@ -45,7 +45,7 @@ fn say_reads<D: Disk>(disk: &mut D, said: &mut Said) {
     let mut back = [b'.'; 9];
     for _ in 0..2 {
         let read = disk.read(&mut back);
-        said.moved(read);
+        said.given(read);
         said.word(&back);
     }
 }
@@ -104,11 +104,11 @@ fn say_receive<K: Desk>(desk: &mut K, waits: bool, said: &mut Said) {
 
 /// Says what calls give at a desk without a file and an address, with the counts of faults.
 fn say_unused<K: Desk>(desk: &mut K, said: &mut Said) {
-    said.outcome(desk.sync());
-    said.outcome(desk.send(Addr { ip: 1, port: 2 }, b"a"));
+    said.done(desk.sync().is_ok());
+    said.done(desk.send(Addr { ip: 1, port: 2 }, b"a").is_ok());
     said.done(desk.open("/").is_ok());
-    said.count(desk.faults());
-    said.count(desk.link_faults());
+    said.value(desk.faults());
+    said.value(desk.link_faults());
 }
 
 /// Says what receives give before and after two datagrams of another desk.
@@ -118,8 +118,8 @@ fn say_exchange<K: Desk>(desk: &mut K, other: &mut K, said: &mut Said) {
     };
     say_receive(desk, false, said);
     say_receive(desk, true, said);
-    said.outcome(other.send(here, b"abc"));
-    said.outcome(other.send(here, b"defg"));
+    said.done(other.send(here, b"abc").is_ok());
+    said.done(other.send(here, b"defg").is_ok());
     say_receive(desk, true, said);
     say_receive(desk, false, said);
     say_receive(desk, false, said);

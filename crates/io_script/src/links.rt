@@ -1,10 +1,10 @@
 //! A link in memory.
 
 use crate::numbers;
-use crate::said::Said;
 use ft_io::{Addr, Failed, Heard, Link, NoMemory, Octets};
 use ft_system::{Arrival, MemLink};
 use std::alloc::Global;
+use test_data::Said;
 
 const HOME: Addr = Addr {
     ip: 0x7F00_0001,
@@ -36,7 +36,7 @@ fn come(bytes: Vec<u8>) -> Arrival {
 fn say_heard(heard: Result<Heard, Failed>, buf: &[u8], said: &mut Said) {
     match heard {
         Ok(Heard::Got { len, from }) if from == PEER => {
-            said.count(len as u64);
+            said.value(len);
             said.word(&buf[..len.min(5).min(buf.len())]);
         }
         Ok(Heard::Got { .. }) => said.word(b"elsewhere"),
@@ -68,9 +68,9 @@ pub fn send_two(
 ) -> Result<(), NoMemory> {
     let fails = numbers(alloc, fails)?;
     let mut link = MemLink::new(alloc, Vec::new(alloc), fails, Vec::new(alloc), bind_fails);
-    said.outcome(link.bind(HOME));
-    said.outcome(link.send(PEER, b"abc"));
-    said.outcome(link.send(PEER, b""));
+    said.done(link.bind(HOME).is_ok());
+    said.done(link.send(PEER, b"abc").is_ok());
+    said.done(link.send(PEER, b"").is_ok());
     say_counts(&link, said);
     Ok(())
 }
@@ -82,7 +82,7 @@ pub fn bind_three(alloc: Global, fails: &str, said: &mut Said) -> Result<(), NoM
     let none = Vec::new(alloc);
     let mut link = MemLink::with_bind_fails(alloc, arrivals, none, Vec::new(alloc), fails);
     for _ in 0..3 {
-        said.outcome(link.bind(HOME));
+        said.done(link.bind(HOME).is_ok());
     }
     say_counts(&link, said);
     Ok(())
@@ -90,7 +90,7 @@ pub fn bind_three(alloc: Global, fails: &str, said: &mut Said) -> Result<(), NoM
 
 /// Says the counts of faults, of failed binds, and of recorded calls.
 fn say_counts(link: &MemLink, said: &mut Said) {
-    said.count(link.faults());
-    said.count(link.bind_faults());
-    said.count(link.told().map_or(0, |calls| calls.len() as u64));
+    said.value(link.faults());
+    said.value(link.bind_faults());
+    said.value(link.told().map_or(0, |calls| calls.len() as u64));
 }

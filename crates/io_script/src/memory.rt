@@ -1,10 +1,10 @@
 //! A source, a sink and a spawner in memory.
 
 use crate::numbers;
-use crate::said::Said;
 use ft_io::{Failed, NoMemory, Sink, Source, Spawner};
 use ft_system::{MemSink, MemSource, MemSpawner};
 use std::alloc::Global;
+use test_data::Said;
 
 /// Five reads of `hello` of at most two bytes: what they gave, `!` for each that failed, and the count of faults.
 pub fn read_five(alloc: Global, fails: &str, said: &mut Said) -> Result<(), NoMemory> {
@@ -17,7 +17,7 @@ pub fn read_five(alloc: Global, fails: &str, said: &mut Said) -> Result<(), NoMe
             Err(Failed) => said.add(b"!"),
         }
     }
-    said.count(source.faults());
+    said.value(source.faults());
     Ok(())
 }
 
@@ -27,7 +27,7 @@ pub fn read_once(alloc: Global, said: &mut Said) -> Result<(), NoMemory> {
     said.word(source.rest());
     let mut buf = [b'.'; 3];
     let read = source.read(&mut buf);
-    said.moved(read);
+    said.given(read);
     said.word(&buf);
     said.word(source.rest());
     Ok(())
@@ -41,8 +41,8 @@ pub fn write_three(alloc: Global, fails: &str, said: &mut Said) -> Result<(), No
         let _ = sink.write(piece);
     }
     said.word(sink.written());
-    said.count(sink.faults());
-    said.count(sink.starved());
+    said.value(sink.faults());
+    said.value(sink.starved());
     Ok(())
 }
 
@@ -53,15 +53,15 @@ pub fn start_two(alloc: Global, fails: &str, said: &mut Said) -> Result<(), NoMe
     let mut spawner = MemSpawner::new(alloc, vec![in alloc; 7]?, numbers(alloc, fails)?);
     let first = spawner.start(&words);
     let second = spawner.start(&[]);
-    said.started(first);
-    said.started(second);
+    said.given(first);
+    said.given(second);
     if let Ok(child) = first {
-        said.ended(spawner.wait(child));
+        said.given(spawner.wait(child));
     }
     if let Ok(child) = second {
-        said.ended(spawner.wait(child));
+        said.given(spawner.wait(child));
     }
-    said.count(spawner.faults());
-    said.count(spawner.told().map_or(0, |calls| calls.len() as u64));
+    said.value(spawner.faults());
+    said.value(spawner.told().map_or(0, |calls| calls.len() as u64));
     Ok(())
 }

@@ -1,10 +1,10 @@
 //! Std's processes as a spawner.
 
-use crate::said::Said;
 use ft_io::{NoMemory, Spawner};
 use ft_system::ProcessSpawner;
 use std::alloc::Global;
 use std::process::Processes;
+use test_data::Said;
 
 /// The words that run this script by a program.
 fn words_of(alloc: Global, program: &str, script: &str) -> Result<Vec<String>, NoMemory> {
@@ -22,15 +22,15 @@ pub fn run_three<R: Processes>(system: &R, alloc: Global, said: &mut Said) -> Re
     let ends = words_of(alloc, "/bin/sh", "cat; echo seen; exit 7")?;
     let killed = words_of(alloc, "/bin/sh", "kill -9 $$")?;
     let mut spawner = ProcessSpawner::new(system, alloc);
-    said.started(spawner.start(&[]));
-    said.started(spawner.start(&missing));
+    said.given(spawner.start(&[]));
+    said.given(spawner.start(&missing));
     for words in [&ends, &killed] {
         let child = spawner.start(words);
-        said.started(child);
+        said.given(child);
         if let Ok(child) = child {
-            said.ended(spawner.wait(child));
+            said.given(spawner.wait(child));
         }
     }
-    said.count(spawner.faults());
+    said.value(spawner.faults());
     Ok(())
 }

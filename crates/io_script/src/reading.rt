@@ -1,10 +1,10 @@
 //! Reading to a limit, and writing completely.
 
 use crate::numbers;
-use crate::said::Said;
 use ft_io::{Failed, NoMemory, ReadEnd, Sink, read_to_limit, write_all};
 use ft_system::{MemSink, MemSource};
 use std::alloc::Global;
+use test_data::Said;
 
 /// Reads TEXT, `-` for none, under LIMIT; the read with number FAILS fails. Says how many bytes came or why not, and what is left.
 pub fn read_text(alloc: Global, words: &str, said: &mut Said) -> Result<(), NoMemory> {
@@ -15,7 +15,7 @@ pub fn read_text(alloc: Global, words: &str, said: &mut Said) -> Result<(), NoMe
     let fails = fails.parse::<u32>().unwrap_or(0);
     let mut source = MemSource::new(text.as_bytes().to_vec(alloc)?, vec![in alloc; fails]?);
     match read_to_limit(alloc, &mut source, limit) {
-        Ok(bytes) => said.count(bytes.len() as u64),
+        Ok(bytes) => said.value(bytes.len()),
         Err(end) => said.word(name_of(end)),
     }
     said.word(source.rest());
@@ -78,7 +78,7 @@ impl<S: Sink> Sink for Narrow<S> {
 pub fn write_text(alloc: Global, fails: &str, said: &mut Said) -> Result<(), NoMemory> {
     let inner = MemSink::new(alloc, numbers(alloc, fails)?);
     let mut sink = Narrow { inner };
-    said.outcome(write_all(&mut sink, b"abcdefgh"));
+    said.done(write_all(&mut sink, b"abcdefgh").is_ok());
     said.word(sink.inner.written());
     Ok(())
 }

@@ -1,10 +1,10 @@
 //! Std's UDP socket as a link.
 
-use crate::said::Said;
 use ft_io::{Addr, Failed, Heard, Link};
 use ft_system::UdpLink;
 use std::net::Net;
 use std::time::Clock;
+use test_data::Said;
 
 /// Binds the link to a port of this machine, one of 16 of which some may be taken.
 pub fn bind_somewhere<L: Link>(link: &mut L) -> Option<Addr> {
@@ -33,11 +33,11 @@ fn await_datagram<L: Link>(link: &mut L, buf: &mut [u8; 2048]) -> Result<Heard, 
 
 /// Sends itself a datagram of this many bytes, and says its length and first bytes when it arrives.
 fn send_round<L: Link>(link: &mut L, here: Addr, text: &[u8], said: &mut Said) {
-    said.outcome(link.send(here, text));
+    said.done(link.send(here, text).is_ok());
     let mut buf = [b'.'; 2048];
     match await_datagram(link, &mut buf) {
         Ok(Heard::Got { len, from }) if from == here => {
-            said.count(len as u64);
+            said.value(len);
             let same = buf[..len.min(2048)] == text[..len.min(text.len())];
             said.word(if same { b"the same" } else { b"other bytes" });
         }
@@ -57,11 +57,11 @@ fn say_rounds<L: Link>(link: &mut L, second: &mut L, here: Addr, said: &mut Said
     let mut buf = [0u8; 2048];
     let silent = matches!(link.recv(&mut buf), Ok(Heard::Nothing));
     said.word(if silent { b"silent" } else { b"not silent" });
-    said.count(link.faults().saturating_sub(others));
-    said.outcome(second.bind(here));
-    said.outcome(second.send(here, b"early"));
-    said.count(second.faults());
-    said.count(second.bind_faults());
+    said.value(link.faults().saturating_sub(others));
+    said.done(second.bind(here).is_ok());
+    said.done(second.send(here, b"early").is_ok());
+    said.value(second.faults());
+    said.value(second.bind_faults());
 }
 
 /// A receive before the bind, and then what `say_rounds` does.

@@ -1,10 +1,10 @@
 //! Std's readers and writers as a source and a sink, where the first call of a reader and the first flush of a writer fail.
 
-use crate::said::Said;
 use ft_io::{Sink, Source};
 use ft_system::{ReadSource, WriteSink};
 use std::io;
 use std::io::{Read, Write};
+use test_data::Said;
 
 /// A reader that fails at its first call, and a writer that fails at its first flush.
 #[derive(Drop)]
@@ -53,9 +53,9 @@ pub fn read_four(said: &mut Said) {
     for _ in 0..4 {
         let mut buf = [b'.'; 3];
         let read = source.read(&mut buf);
-        said.moved(read);
+        said.given(read);
         said.word(&buf);
-        said.count(source.faults());
+        said.value(source.faults());
     }
 }
 
@@ -65,8 +65,8 @@ pub fn write_four(said: &mut Said) {
     let mut sink = WriteSink::new(failing_once(room.as_mut_slice()));
     for piece in [b"x".as_slice(), b"abcdef", b"def", b""] {
         let written = sink.write(piece);
-        said.moved(written);
-        said.count(sink.faults());
+        said.given(written);
+        said.value(sink.faults());
     }
     drop(sink);
     said.word(&room);

@@ -1,6 +1,5 @@
 //! When a UDP socket gives nothing though datagrams come, and when it does so in silence.
 
-use crate::said::Said;
 use crate::sockets::bind_somewhere;
 use crate::watch::Watch;
 use ft_io::{Addr, Heard, Link, NoMemory};
@@ -9,6 +8,7 @@ use std::alloc::Global;
 use std::net::Net;
 use std::time::{Clock, Duration, Instant};
 use std::{io, thread};
+use test_data::Said;
 
 /// The listed times, in milliseconds; `-` is a clock that can't be read.
 fn listed(alloc: Global, times: &str) -> Result<Vec<Option<u64>>, NoMemory> {
@@ -34,7 +34,7 @@ fn say_at_times<L: Link, M: Link>(link: &mut L, stranger: &mut M, times: &str, s
         };
         say_receive(link, said);
     }
-    said.count(link.faults().saturating_sub(link.bind_faults()));
+    said.value(link.faults().saturating_sub(link.bind_faults()));
 }
 
 /// A bind at the first of the listed times, in milliseconds, and a receive at each later one, `-` for a clock that can't be read.
@@ -64,7 +64,7 @@ fn say_receive<L: Link>(link: &mut L, said: &mut Said) {
 }
 
 /// Five receives in silence: says whether the quickest of the last four took 15 to 200 ms, and else how long it took.
-fn say_silence<C: Clock, L: Link>(clock: &C, link: &mut L, said: &mut Said) {
+pub fn in_silence<C: Clock, L: Link>(clock: &C, link: &mut L, said: &mut Said) {
     if bind_somewhere(link).is_none() {
         return said.word(b"no port is free");
     }
@@ -80,12 +80,7 @@ fn say_silence<C: Clock, L: Link>(clock: &C, link: &mut L, said: &mut Said) {
         return said.word(b"nothing after 15 to 200 ms");
     }
     said.word(b"nothing after ms");
-    said.count(u64::try_from(quickest).unwrap_or(u64::MAX));
-}
-
-/// Five receives of a link, in silence.
-pub fn in_silence<R: Net + Clock>(system: &R, said: &mut Said) {
-    say_silence(system, &mut UdpLink::new(system), said);
+    said.value(u64::try_from(quickest).unwrap_or(u64::MAX));
 }
 
 /// How many milliseconds a receive took, or `None` where it gave something.
@@ -124,7 +119,7 @@ fn millis_since<C: Clock>(clock: &C, begun: Instant) -> u128 {
 
 /// 2,000 datagrams of a stranger, one half a millisecond after another, so that one always waits: says whether all came, with 20 ticks
 /// or more among them and no more than one in 15 ms, and else what came.
-fn say_traffic<C: Clock, L: Link>(clock: &C, link: &mut L, stranger: &mut L, said: &mut Said) {
+pub fn in_traffic<C: Clock, L: Link>(clock: &C, link: &mut L, stranger: &mut L, said: &mut Said) {
     let (Some(here), Some(_)) = (bind_somewhere(link), bind_somewhere(stranger)) else {
         return said.word(b"no port is free");
     };
@@ -142,19 +137,13 @@ fn say_traffic<C: Clock, L: Link>(clock: &C, link: &mut L, stranger: &mut L, sai
     if came.datagrams == 2000 && came.ticks >= 20 && u128::from(came.ticks) <= most {
         return said.word(b"2000 datagrams, 20 ticks or more, at most one in 15 ms");
     }
-    said.count(came.datagrams);
-    said.count(came.ticks);
-}
-
-/// Two links between which datagrams go without a pause.
-pub fn in_traffic<R: Net + Clock>(system: &R, said: &mut Said) {
-    let mut stranger = UdpLink::new(system);
-    say_traffic(system, &mut UdpLink::new(system), &mut stranger, said);
+    said.value(came.datagrams);
+    said.value(came.ticks);
 }
 
 /// The same, but that the link sends the datagrams to itself, as one that answers what comes: says whether all came, with at most one tick
 /// a second among them, and else what came.
-fn say_exchange<C: Clock, L: Link>(clock: &C, link: &mut L, said: &mut Said) {
+pub fn in_exchange<C: Clock, L: Link>(clock: &C, link: &mut L, said: &mut Said) {
     let Some(here) = bind_somewhere(link) else {
         return said.word(b"no port is free");
     };
@@ -171,13 +160,8 @@ fn say_exchange<C: Clock, L: Link>(clock: &C, link: &mut L, said: &mut Said) {
     if came.datagrams == 2000 && u128::from(came.ticks) <= most {
         return said.word(b"2000 datagrams, at most one tick a second");
     }
-    said.count(came.datagrams);
-    said.count(came.ticks);
-}
-
-/// A link that sends datagrams to itself without a pause.
-pub fn in_exchange<R: Net + Clock>(system: &R, said: &mut Said) {
-    say_exchange(system, &mut UdpLink::new(system), said);
+    said.value(came.datagrams);
+    said.value(came.ticks);
 }
 
 /// Receives until a datagram comes, at most eight times.

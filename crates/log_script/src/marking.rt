@@ -1,12 +1,12 @@
 //! The lines that play a log with marks.
 
-use crate::{tell, tell_answer};
+use crate::tell_answer;
 use ft_io::{Key, NoMemory};
 use logger_store::MsgOut;
 use logger_wire::{MarkBody, MarkMsg, write_mark};
 use mark_store::MarkStore;
 use std::alloc::Global;
-use test_data::bytes_of_word;
+use test_data::{Said, bytes_of_word};
 
 /// The most that a length and the output may be, in bytes.
 const STREAM: u32 = 1 << 24;
@@ -19,11 +19,12 @@ fn answer_to(
     alloc: Global,
     log: &mut MarkStore,
     bytes: &[u8],
-    said: &mut String,
+    said: &mut Said,
 ) -> Result<(), NoMemory> {
     let mut out = MsgOut::new();
     log.answer(alloc, bytes, &mut out)?;
-    tell_answer(alloc, out.bytes(), said)
+    tell_answer(out.bytes(), said);
+    Ok(())
 }
 
 /// Gives the bytes of a line to the log.
@@ -31,11 +32,14 @@ pub(crate) fn give_bytes(
     alloc: Global,
     log: &mut MarkStore,
     text: &str,
-    said: &mut String,
+    said: &mut Said,
 ) -> Result<(), NoMemory> {
     match bytes_of_word(alloc, text)? {
         Some(bytes) => answer_to(alloc, log, bytes.as_slice(), said),
-        None => tell(said, "no datagram"),
+        None => {
+            said.add(b"no datagram");
+            Ok(())
+        }
     }
 }
 
@@ -73,7 +77,7 @@ fn give_mark(
     log: &mut MarkStore,
     numbers: &Numbers,
     state: &[u8],
-    said: &mut String,
+    said: &mut Said,
 ) -> Result<(), NoMemory> {
     let Numbers {
         boot,
@@ -89,7 +93,8 @@ fn give_mark(
         || made > STREAM
         || state.len() > STATE
     {
-        return tell(said, "no such line");
+        said.add(b"no such line");
+        return Ok(());
     }
     let body = MarkBody::Mark {
         key,
@@ -108,7 +113,7 @@ pub(crate) fn mark_line(
     alloc: Global,
     log: &mut MarkStore,
     text: &str,
-    said: &mut String,
+    said: &mut Said,
 ) -> Result<(), NoMemory> {
     let words: Vec<&str> = text.split(' ').collect(alloc)?;
     if let [numbers @ .., state] = words.as_slice()
@@ -117,7 +122,8 @@ pub(crate) fn mark_line(
     {
         return give_mark(alloc, log, &numbers, state.as_slice(), said);
     }
-    tell(said, "no such line")
+    said.add(b"no such line");
+    Ok(())
 }
 
 /// The boot number and the key of a line.
@@ -137,13 +143,15 @@ pub(crate) fn ask_line(
     alloc: Global,
     log: &mut MarkStore,
     text: &str,
-    said: &mut String,
+    said: &mut Said,
 ) -> Result<(), NoMemory> {
     let Some((boot, key)) = asked(text) else {
-        return tell(said, "no such line");
+        said.add(b"no such line");
+        return Ok(());
     };
     if boot == 0 {
-        return tell(said, "no such line");
+        said.add(b"no such line");
+        return Ok(());
     }
     let mut bytes = [0; 2_048];
     let message = MarkMsg {
@@ -155,13 +163,13 @@ pub(crate) fn ask_line(
 }
 
 /// How many bytes of an entry are kept, as a line.
-pub(crate) fn kept_marked(log: &MarkStore, text: &str, said: &mut String) -> Result<(), NoMemory> {
-    match text.parse::<u16>() {
+pub(crate) fn kept_marked(log: &MarkStore, text: &str, said: &mut Said) {
+    let place = text.strip_prefix("marked ").unwrap_or(text);
+    match place.parse::<u16>() {
         Ok(place) if place < log.count() => {
             let kept = log.kept(place);
-            write!(said, "kept marked {place} is {kept}")?;
-            Ok(())
+            write!(said, "kept marked {place} is {kept}");
         }
-        _ => tell(said, "no such entry"),
+        _ => said.add(b"no such entry"),
     }
 }

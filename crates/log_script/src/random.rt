@@ -3,12 +3,12 @@
 
 ghost use Rattle.std.specs.Prelude.{◌≡◌, ◌<◌, ◌≤◌, length};
 
-use crate::{Given, give, tell};
+use crate::{Given, give};
 use ft_io::NoMemory;
 use logger_store::{MsgOut, TrimStore};
 use seq_arith::Sum16;
 use std::alloc::Global;
-use test_data::{Draws, hashed};
+use test_data::{Draws, Said, hashed};
 
 /// How long a message of each kind is, in bytes, from the first kind on: Part and Lens with one byte or length.
 const LENGTHS: [u8; 18] = [
@@ -121,11 +121,12 @@ pub(crate) fn give_random(
     alloc: Global,
     log: &mut TrimStore,
     text: &str,
-    said: &mut String,
+    said: &mut Said,
 ) -> Result<(), NoMemory> {
     let (count, seed) = text.split_once(' ').unwrap_or((text, ""));
     let (Ok(count), Ok(seed)) = (count.parse::<u32>(), seed.parse::<u64>()) else {
-        return tell(said, "no such line");
+        said.add(b"no such line");
+        return Ok(());
     };
     let Tally {
         refused,
@@ -136,6 +137,6 @@ pub(crate) fn give_random(
     write!(
         said,
         "random {count}: refused {refused} answered {answered} silent {silent} answers {answers}"
-    )?;
+    );
     Ok(())
 }

@@ -1,8 +1,7 @@
-//! The lines that print what a log keeps.
+//! The lines that trim an entry of a log, and those that print what it keeps.
 
-use crate::tell;
-use ft_io::NoMemory;
 use logger_store::{EntryHead, TrimStore};
+use test_data::Said;
 
 /// Two numbers, separated by a space.
 pub(crate) fn two_numbers(text: &str) -> Option<(u32, u32)> {
@@ -11,50 +10,38 @@ pub(crate) fn two_numbers(text: &str) -> Option<(u32, u32)> {
 }
 
 /// The place of an entry and a number, separated by a space.
-pub(crate) fn place_and_number(text: &str) -> Option<(u16, u32)> {
+fn place_and_number(text: &str) -> Option<(u16, u32)> {
     let (place, number) = two_numbers(text)?;
     Some((u16::try_from(place).ok()?, number))
 }
 
 /// The entry at a place, as a line.
-pub(crate) fn entry_at(log: &TrimStore, text: &str, said: &mut String) -> Result<(), NoMemory> {
+pub(crate) fn entry_at(log: &TrimStore, text: &str, said: &mut Said) {
     let Ok(place) = text.parse::<u16>() else {
-        return tell(said, "no such line");
+        return said.add(b"no such line");
     };
-    match log.entry(place) {
-        Some(entry) => tell_entry(place, &entry, said),
-        None => tell_no_entry(place, said),
-    }
-}
-
-/// Writes that there is no entry at a place.
-pub(crate) fn tell_no_entry(place: u16, said: &mut String) -> Result<(), NoMemory> {
-    write!(said, "entry {place} none")?;
-    Ok(())
-}
-
-/// An entry's numbers, as a line.
-fn tell_entry(place: u16, entry: &EntryHead, said: &mut String) -> Result<(), NoMemory> {
+    let Some(entry) = log.entry(place) else {
+        return write!(said, "entry {place} none");
+    };
     let EntryHead {
         cisn,
         sisn,
         mss,
         ..
-    } = *entry;
-    tell_key(place, entry, said)?;
-    write!(said, "cisn {cisn} sisn {sisn} mss {mss} ")?;
-    tell_extent(entry, said)
+    } = entry;
+    tell_key(place, &entry, said);
+    write!(said, "cisn {cisn} sisn {sisn} mss {mss} ");
+    tell_extent(&entry, said);
 }
 
-/// Writes an entry's place and its key, and a space.
-pub(crate) fn tell_key(place: u16, entry: &EntryHead, said: &mut String) -> Result<(), NoMemory> {
+/// Says an entry's place and its key, and a space.
+pub(crate) fn tell_key(place: u16, entry: &EntryHead, said: &mut Said) {
     let key = entry.key;
-    write!(said, "entry {place} ip {} port {} ", key.ip, key.port)?;
-    Ok(())
+    write!(said, "entry {place} ip {} port {} ", key.ip, key.port);
 }
 
-/// Writes what is logged of an entry behind its Open.
-pub(crate) fn tell_extent(entry: &EntryHead, said: &mut String) -> Result<(), NoMemory> {
+/// Says what is logged of an entry behind its Open.
+pub(crate) fn tell_extent(entry: &EntryHead, said: &mut Said) {
     let EntryHead {
         length,
         fin,
@@ -66,46 +53,58 @@ pub(crate) fn tell_extent(entry: &EntryHead, said: &mut String) -> Result<(), No
     write!(
         said,
         "length {length} fin {fin} done {done} reads {reads} acked {acked}"
-    )?;
-    Ok(())
+    );
 }
 
 /// The byte at a place of an entry, as a line.
-pub(crate) fn byte_at(log: &TrimStore, text: &str, said: &mut String) -> Result<(), NoMemory> {
+pub(crate) fn byte_at(log: &TrimStore, text: &str, said: &mut Said) {
     if let Some((place, at)) = place_and_number(text)
         && let Some(entry) = log.entry(place)
         && at < entry.length
         && log.trim_at(place).bytes <= at
     {
         let byte = log.byte(place, at);
-        write!(said, "byte {place} {at} is {byte}")?;
-        return Ok(());
+        return write!(said, "byte {place} {at} is {byte}");
     }
-    tell(said, "no such byte")
+    said.add(b"no such byte");
 }
 
 /// The length of a read of an entry, as a line.
-pub(crate) fn length_at(log: &TrimStore, text: &str, said: &mut String) -> Result<(), NoMemory> {
+pub(crate) fn length_at(log: &TrimStore, text: &str, said: &mut Said) {
     if let Some((place, at)) = place_and_number(text)
         && let Some(entry) = log.entry(place)
         && at < entry.reads
         && log.trim_at(place).reads <= at
     {
         let length = log.length(place, at);
-        write!(said, "length {place} {at} is {length}")?;
-        return Ok(());
+        return write!(said, "length {place} {at} is {length}");
     }
-    tell(said, "no such length")
+    said.add(b"no such length");
 }
 
 /// How many bytes of an entry are kept, as a line.
-pub(crate) fn kept_at(log: &TrimStore, text: &str, said: &mut String) -> Result<(), NoMemory> {
+pub(crate) fn kept_at(log: &TrimStore, text: &str, said: &mut Said) {
     match text.parse::<u16>() {
         Ok(place) if place < log.count() => {
             let kept = log.kept(place);
-            write!(said, "kept {place} is {kept}")?;
-            Ok(())
+            write!(said, "kept {place} is {kept}");
         }
-        _ => tell(said, "no such entry"),
+        _ => said.add(b"no such entry"),
     }
+}
+
+/// Trims an entry by its first reads, and says how many bytes they took. It refuses fewer reads than were trimmed before, and reads that aren't logged or include
+/// a closing read.
+pub(crate) fn trim_at(log: &mut TrimStore, text: &str, said: &mut Said) {
+    if let Some((place, reads)) = place_and_number(text)
+        && let Some(entry) = log.entry(place)
+        && place < log.count()
+        && reads <= entry.reads
+        && log.trim_at(place).reads <= reads
+        && let Some(bytes) = log.took(place, reads)
+    {
+        log.trim(place, bytes, reads);
+        return write!(said, "trimmed {place} by {bytes} bytes in {reads} reads");
+    }
+    said.add(b"no such trim");
 }

@@ -2,12 +2,12 @@
 
 ghost use Rattle.std.specs.Prelude.{◌≤◌, ◌<◌};
 
-use crate::{count_and_seed, tell, tell_bytes};
+use crate::count_and_seed;
 use ft_io::{Key, NoMemory};
 use logger_wire::{BadMark, MarkBody, MarkMsg, read_mark, write_mark};
 use seq_arith::{Sum16, flip};
 use std::alloc::Global;
-use test_data::{Draws, bytes_of_word, hashed};
+use test_data::{Draws, Said, bytes_of_word, hashed};
 
 /// The most that a length may be, in bytes.
 const STREAM: u32 = 1 << 24;
@@ -15,79 +15,57 @@ const STREAM: u32 = 1 << 24;
 /// Room for a message that is written.
 const ROOM: usize = 2_048;
 
-/// Reads the message of a line, and writes what it says.
-pub(crate) fn mark_line(alloc: Global, text: &str, said: &mut String) -> Result<(), NoMemory> {
-    match bytes_of_word(alloc, text)? {
-        Some(bytes) => tell_message(alloc, bytes.as_slice(), said),
-        None => tell(said, "no such line"),
-    }
-}
-
-/// Writes what a message says, and `again` if writing it gives the same bytes; or which test it fails.
-fn tell_message(alloc: Global, bytes: &[u8], said: &mut String) -> Result<(), NoMemory> {
-    match read_mark(bytes) {
+/// Reads the message of a line, and says what it says, and `again` if writing it gives the same bytes; or which test it fails.
+pub(crate) fn mark_line(alloc: Global, text: &str, said: &mut Said) -> Result<(), NoMemory> {
+    let Some(bytes) = bytes_of_word(alloc, text)? else {
+        said.add(b"no such line");
+        return Ok(());
+    };
+    match read_mark(bytes.as_slice()) {
         Ok(msg) => {
-            tell_mark(alloc, &msg, said)?;
+            tell_mark(&msg, said);
             let mut room = [0; ROOM];
             let len = write_mark(&msg, &mut room);
-            let again = if &room[..len] == bytes { " again" } else { "" };
-            tell(said, again)
+            if &room[..len] == bytes.as_slice() {
+                said.add(b" again");
+            }
         }
-        Err(bad) => {
-            write!(said, "{bad:?}")?;
-            Ok(())
-        }
+        Err(bad) => write!(said, "{bad:?}"),
     }
-}
-
-/// Writes what a message says.
-fn tell_mark(alloc: Global, msg: &MarkMsg<'_>, said: &mut String) -> Result<(), NoMemory> {
-    match msg.body {
-        MarkBody::Mark {
-            key,
-            reads,
-            length,
-            made,
-            state,
-        } => {
-            tell_head("Mark", msg.boot, key, said)?;
-            tell_state(alloc, [reads, length, made], state, said)
-        }
-        MarkBody::Marked { key, reads } => {
-            tell_head("Marked", msg.boot, key, said)?;
-            write!(said, " reads {reads}")?;
-            Ok(())
-        }
-        MarkBody::Ask { key } => tell_head("Ask", msg.boot, key, said),
-        MarkBody::Held {
-            key,
-            reads,
-            length,
-            made,
-            state,
-        } => {
-            tell_head("Held", msg.boot, key, said)?;
-            tell_state(alloc, [reads, length, made], state, said)
-        }
-    }
-}
-
-/// Writes a message's kind, boot number and key.
-fn tell_head(kind: &str, boot: u64, key: Key, said: &mut String) -> Result<(), NoMemory> {
-    let Key { ip, port } = key;
-    write!(said, "{kind} boot {boot} ip {ip} port {port}")?;
     Ok(())
 }
 
-/// Writes a state and its numbers.
-fn tell_state(
-    alloc: Global,
-    [reads, length, made]: [u32; 3],
-    state: &[u8],
-    said: &mut String,
-) -> Result<(), NoMemory> {
-    write!(said, " reads {reads} length {length} made {made} state ")?;
-    tell_bytes(alloc, state, said)
+/// Says what a message says.
+fn tell_mark(msg: &MarkMsg<'_>, said: &mut Said) {
+    let (kind, key) = match msg.body {
+        MarkBody::Mark { key, .. } => ("Mark", key),
+        MarkBody::Marked { key, .. } => ("Marked", key),
+        MarkBody::Ask { key } => ("Ask", key),
+        MarkBody::Held { key, .. } => ("Held", key),
+    };
+    let (boot, Key { ip, port }) = (msg.boot, key);
+    write!(said, "{kind} boot {boot} ip {ip} port {port}");
+    match msg.body {
+        MarkBody::Mark {
+            reads,
+            length,
+            made,
+            state,
+            ..
+        }
+        | MarkBody::Held {
+            reads,
+            length,
+            made,
+            state,
+            ..
+        } => {
+            write!(said, " reads {reads} length {length} made {made} state ");
+            said.hex(state);
+        }
+        MarkBody::Marked { reads, .. } => write!(said, " reads {reads}"),
+        MarkBody::Ask { .. } => (),
+    }
 }
 
 /// What came of many messages: how many fail each test, in the tests' order, and then how many are read.
@@ -118,43 +96,29 @@ fn place_of(bad: BadMark) -> usize
     }
 }
 
-/// Reads the messages that a line asks for, and writes what came of them.
-pub(crate) fn random_line(alloc: Global, text: &str, said: &mut String) -> Result<(), NoMemory> {
+/// Reads as many messages as a line asks for, drawn from its seed, and says what came of them.
+pub(crate) fn random_line(alloc: Global, text: &str, said: &mut Said) -> Result<(), NoMemory> {
     let Some((count, seed)) = count_and_seed(text) else {
-        return tell(said, "no such line");
+        said.add(b"no such line");
+        return Ok(());
     };
-    let tally = read_random(alloc, count, seed)?;
-    write!(said, "random {count}:")?;
-    tell_tally(&tally, said)
-}
-
-fn tell_tally(tally: &Tally, said: &mut String) -> Result<(), NoMemory> {
-    for place in 0..8 {
-        let (name, count) = (NAMES[place], tally.counts[place]);
-        write!(said, " {name} {count}")?;
-    }
-    write!(said, " bytes {}", tally.bytes)?;
-    Ok(())
-}
-
-/// Reads this many messages, drawn from a seed.
-fn read_random(alloc: Global, count: u32, seed: u64) -> Result<Tally, NoMemory> {
     let mut message = Vec::new(alloc);
-    read_all(count, seed, &mut message)
-}
-
-/// The same, with a vector for the messages, one after another.
-fn read_all(count: u32, seed: u64, message: &mut Vec<u8>) -> Result<Tally, NoMemory> {
     let mut draws = Draws::new(seed);
     let mut tally = Tally {
         counts: [0; 8],
         bytes: 0,
     };
     for _message in 0..count {
-        make_message(&mut draws, message)?;
+        make_message(&mut draws, &mut message)?;
         read_one(message.as_slice(), &mut tally);
     }
-    Ok(tally)
+    write!(said, "random {count}:");
+    for place in 0..8 {
+        let (name, count) = (NAMES[place], tally.counts[place]);
+        write!(said, " {name} {count}");
+    }
+    write!(said, " bytes {}", tally.bytes);
+    Ok(())
 }
 
 /// Reads a message, and writes it again where it is one.

@@ -1,12 +1,12 @@
 //! Services that are kept as bytes and read back.
 
-use crate::{count_and_seed, tell, tell_bytes};
+use crate::count_and_seed;
 use counter_service::Counter;
 use ft_io::NoMemory;
 use sample_servers::{AnyService, Line};
 use server_trait::{CHUNK_LIMIT, Next, Saved, Service};
 use std::alloc::Global;
-use test_data::{Draws, bytes_of_word, hashed};
+use test_data::{Draws, Said, bytes_of_word, hashed};
 
 /// The kind of the sample service of a name, and 0 for the counter.
 fn kind_of(name: &str) -> Option<u8> {
@@ -20,107 +20,68 @@ fn kind_of(name: &str) -> Option<u8> {
     }
 }
 
-/// Loads the service of a line, and writes the form that it then has.
-pub(crate) fn load_line(alloc: Global, text: &str, said: &mut String) -> Result<(), NoMemory> {
+/// Loads the service of a line, and says the form that it then has.
+pub(crate) fn load_line(alloc: Global, text: &str, said: &mut Said) -> Result<(), NoMemory> {
     let (name, text) = text.split_once(' ').unwrap_or((text, ""));
-    let Some(kind) = kind_of(name) else {
-        return tell(said, "no such line");
-    };
-    match bytes_of_word(alloc, text)? {
-        Some(form) if kind == 0 => load::<Counter>(alloc, name, kind, form.as_slice(), said),
-        Some(form) => load::<AnyService>(alloc, name, kind, form.as_slice(), said),
-        None => tell(said, "no such line"),
-    }
-}
-
-/// Loads a service from its form, and writes the form that it then has, or `none`.
-fn load<S: Saved>(
-    alloc: Global,
-    name: &str,
-    kind: u8,
-    form: &[u8],
-    said: &mut String,
-) -> Result<(), NoMemory> {
-    match S::load(alloc, kind, form)? {
-        Some(service) => tell_form(alloc, name, &service, said),
-        None => {
-            write!(said, "{name} none")?;
+    match (kind_of(name), bytes_of_word(alloc, text)?) {
+        (Some(0), Some(form)) => load::<Counter>(alloc, name, 0, form.as_slice(), said),
+        (Some(kind), Some(form)) => load::<AnyService>(alloc, name, kind, form.as_slice(), said),
+        _ => {
+            said.add(b"no such line");
             Ok(())
         }
     }
 }
 
-fn tell_form<S: Saved>(
+/// Loads a service from its form, and says the form that it then has, or `none`.
+fn load<S: Saved>(
     alloc: Global,
     name: &str,
-    service: &S,
-    said: &mut String,
+    kind: u8,
+    form: &[u8],
+    said: &mut Said,
 ) -> Result<(), NoMemory> {
-    write!(said, "{name} ")?;
-    let mut form = Vec::new(alloc);
-    service.save(&mut form)?;
-    tell_bytes(alloc, form.as_slice(), said)
+    write!(said, "{name} ");
+    match S::load(alloc, kind, form)? {
+        Some(service) => {
+            let mut form = Vec::new(alloc);
+            service.save(&mut form)?;
+            said.hex(form.as_slice());
+        }
+        None => said.add(b"none"),
+    }
+    Ok(())
 }
 
 /// Up to how many bytes of output are printed in full.
 const SHOWN: usize = 256;
 
-/// Gives a new service chunks, and writes whether it closes and all that it writes.
-pub(crate) fn play_line(alloc: Global, text: &str, said: &mut String) -> Result<(), NoMemory> {
+/// Gives a new service chunks, and says whether it closes and all that it writes.
+pub(crate) fn play_line(alloc: Global, text: &str, said: &mut Said) -> Result<(), NoMemory> {
     let (name, words) = text.split_once(' ').unwrap_or((text, ""));
     match kind_of(name) {
         Some(0) => play(alloc, name, Counter::fresh(alloc, 0), words, said),
         Some(kind) => play(alloc, name, AnyService::fresh(alloc, kind), words, said),
-        None => tell(said, "no such line"),
+        None => {
+            said.add(b"no such line");
+            Ok(())
+        }
     }
 }
 
 /// The same for Line that is loaded.
-pub(crate) fn resume_line(alloc: Global, text: &str, said: &mut String) -> Result<(), NoMemory> {
+pub(crate) fn resume_line(alloc: Global, text: &str, said: &mut Said) -> Result<(), NoMemory> {
     let (form, words) = text.split_once(' ').unwrap_or((text, ""));
-    match bytes_of_word(alloc, form)? {
-        Some(form) => resume(alloc, form.as_slice(), words, said),
-        None => tell(said, "line none"),
+    if let Some(form) = bytes_of_word(alloc, form)?
+        && let Some(service) = Line::load(alloc, 2, form.as_slice())?
+    {
+        return play(alloc, "line", service, words, said);
     }
+    said.add(b"line none");
+    Ok(())
 }
 
-/// Loads Line from its form, and gives it chunks.
-fn resume(alloc: Global, form: &[u8], words: &str, said: &mut String) -> Result<(), NoMemory> {
-    match Line::load(alloc, 2, form)? {
-        Some(service) => play(alloc, "line", service, words, said),
-        None => tell(said, "line none"),
-    }
-}
-
-/// Gives a service the chunks that these words say, and writes what it does with them.
-fn play<S: Service>(
-    alloc: Global,
-    name: &str,
-    mut service: S,
-    words: &str,
-    said: &mut String,
-) -> Result<(), NoMemory> {
-    let mut out = Vec::new(alloc);
-    tell_played(alloc, name, &mut service, words, &mut out, said)
-}
-
-/// The same, with a vector for its output.
-fn tell_played<S: Service>(
-    alloc: Global,
-    name: &str,
-    service: &mut S,
-    words: &str,
-    out: &mut Vec<u8>,
-    said: &mut String,
-) -> Result<(), NoMemory> {
-    match feed(alloc, service, words, out)? {
-        Next::Close => write!(said, "{name} closed ")?,
-        Next::Go => write!(said, "{name} open ")?,
-    }
-    tell_output(alloc, out.as_slice(), said)
-}
-
-/// Gives a service the chunks that these words say, until it closes. Whether it does.
+/// Gives a service the chunks that these words say, until it closes: an empty one where a word isn't hexadecimal. Whether it closes.
 fn feed<S: Service>(
     alloc: Global,
     service: &mut S,
@@ -128,22 +89,34 @@ fn feed<S: Service>(
     out: &mut Vec<u8>,
 ) -> Result<Next, NoMemory> {
     for word in words.split(' ') {
-        if give(alloc, service, word, out)? == Next::Close {
+        let chunk = bytes_of_word(alloc, word)?.unwrap_or(Vec::new(alloc));
+        if take(service, chunk.as_slice(), out)? == Next::Close {
             return Ok(Next::Close);
         }
     }
     Ok(Next::Go)
 }
 
-/// Gives a service the chunk that a word says, an empty one where the word isn't hexadecimal.
-fn give<S: Service>(
+/// Gives a service the chunks that these words say. Says whether it closes, and what it writes, in hexadecimal, or how many bytes that is and their hash.
+fn play<S: Service>(
     alloc: Global,
-    service: &mut S,
-    word: &str,
-    out: &mut Vec<u8>,
-) -> Result<Next, NoMemory> {
-    let chunk = bytes_of_word(alloc, word)?.unwrap_or(Vec::new(alloc));
-    take(service, chunk.as_slice(), out)
+    name: &str,
+    mut service: S,
+    words: &str,
+    said: &mut Said,
+) -> Result<(), NoMemory> {
+    let mut out = Vec::new(alloc);
+    match feed(alloc, &mut service, words, &mut out)? {
+        Next::Close => write!(said, "{name} closed "),
+        Next::Go => write!(said, "{name} open "),
+    }
+    if out.len() <= SHOWN {
+        said.hex(out.as_slice());
+    } else {
+        let (len, hash) = (out.len(), hashed(0, out.as_slice()));
+        write!(said, "{len} bytes {hash}");
+    }
+    Ok(())
 }
 
 /// Gives a service a chunk, of which it is given at most 2,048 bytes, and appends what it writes.
@@ -153,16 +126,6 @@ pub(crate) fn take<S: Service>(
     out: &mut Vec<u8>,
 ) -> Result<Next, NoMemory> {
     service.take(&chunk[..chunk.len().min(CHUNK_LIMIT)], out)
-}
-
-/// Writes output in hexadecimal, or how many bytes it has and their hash.
-fn tell_output(alloc: Global, out: &[u8], said: &mut String) -> Result<(), NoMemory> {
-    if out.len() <= SHOWN {
-        return tell_bytes(alloc, out, said);
-    }
-    let (len, hash) = (out.len(), hashed(0, out));
-    write!(said, "{len} bytes {hash}")?;
-    Ok(())
 }
 
 /// What came of many runs.
@@ -203,43 +166,33 @@ impl Bytes {
     }
 }
 
-/// Plays the runs that a line asks for, and writes what came of them.
-pub(crate) fn runs_line(alloc: Global, text: &str, said: &mut String) -> Result<(), NoMemory> {
+/// Plays the runs that a line asks for, and says what came of them.
+pub(crate) fn runs_line(alloc: Global, text: &str, said: &mut Said) -> Result<(), NoMemory> {
     let (name, rest) = text.split_once(' ').unwrap_or((text, ""));
     let (Some(kind), Some((count, seed))) = (kind_of(name), count_and_seed(rest)) else {
-        return tell(said, "no such line");
+        said.add(b"no such line");
+        return Ok(());
     };
     let Tally {
         closed,
         read_back,
         refused,
         bytes,
-    } = play_runs(alloc, kind, count, seed)?;
+    } = if kind == 0 {
+        play_all::<Counter>(alloc, kind, count, seed)?
+    } else {
+        play_all::<AnyService>(alloc, kind, count, seed)?
+    };
     write!(
         said,
         "{name} {count}: closed {closed} read back {read_back} refused {refused} bytes {bytes}"
-    )?;
+    );
     Ok(())
 }
 
-/// Plays this many runs of the service of this kind, drawn from a seed.
-fn play_runs(alloc: Global, kind: u8, count: u32, seed: u64) -> Result<Tally, NoMemory> {
+/// Plays this many runs of this service, drawn from a seed.
+fn play_all<S: Saved>(alloc: Global, kind: u8, count: u32, seed: u64) -> Result<Tally, NoMemory> {
     let mut bytes = Bytes::new(alloc);
-    if kind == 0 {
-        play_all::<Counter>(alloc, kind, count, seed, &mut bytes)
-    } else {
-        play_all::<AnyService>(alloc, kind, count, seed, &mut bytes)
-    }
-}
-
-/// Plays this many runs of this service.
-fn play_all<S: Saved>(
-    alloc: Global,
-    kind: u8,
-    count: u32,
-    seed: u64,
-    bytes: &mut Bytes,
-) -> Result<Tally, NoMemory> {
     let mut draws = Draws::new(seed);
     let mut tally = Tally {
         closed: 0,
@@ -249,7 +202,14 @@ fn play_all<S: Saved>(
     };
     for _run in 0..count {
         let mut service = S::fresh(alloc, kind);
-        play_run(alloc, kind, &mut service, &mut draws, bytes, &mut tally)?;
+        play_run(
+            alloc,
+            kind,
+            &mut service,
+            &mut draws,
+            &mut bytes,
+            &mut tally,
+        )?;
     }
     Ok(tally)
 }
@@ -301,7 +261,9 @@ fn check<S: Saved>(
     service.save(&mut bytes.form)?;
     tally.bytes = hashed(tally.bytes, bytes.form.as_slice());
     make_chunk(draws, kind, &mut bytes.chunk)?;
-    if is_read_back(alloc, kind, service, bytes)? {
+    if let Some(mut loaded) = S::load(alloc, kind, bytes.form.as_slice())?
+        && is_alike(service, &mut loaded, bytes)?
+    {
         tally.read_back = tally.read_back.wrapping_add(1);
     }
     damage(draws, &mut bytes.form)?;
@@ -312,18 +274,6 @@ fn check<S: Saved>(
 }
 
 /// Whether what is read back from a service's form has that form, and does with one more chunk what the service itself does.
-fn is_read_back<S: Saved>(
-    alloc: Global,
-    kind: u8,
-    service: &mut S,
-    bytes: &mut Bytes,
-) -> Result<bool, NoMemory> {
-    match S::load(alloc, kind, bytes.form.as_slice())? {
-        Some(mut loaded) => is_alike(service, &mut loaded, bytes),
-        None => Ok(false),
-    }
-}
-
 fn is_alike<S: Saved>(
     service: &mut S,
     loaded: &mut S,

@@ -1,35 +1,25 @@
 //! Connections to the web server, and what it answers.
 
 use crate::connections::{Parts, draw_connection};
+use crate::count_and_seed;
 use crate::services::take;
-use crate::{count_and_seed, tell, tell_bytes};
 use ft_io::NoMemory;
 use md5::{Digest, Md5};
 use percent_encoding::percent_decode;
 use server_trait::{Next, Service};
 use std::alloc::Global;
-use test_data::Draws;
+use test_data::{Draws, Said};
 use web_service::Web;
 
-/// A number, or 0 where there is none.
-fn number(word: &str) -> u32 {
-    word.parse::<u32>().unwrap_or(0)
-}
-
-/// Begins a part of a request.
-pub(crate) fn part_line(text: &str, parts: &mut Parts) -> Result<(), NoMemory> {
-    parts.begin(number(text))
-}
-
-/// Adds a piece to the last part.
+/// Adds a piece to the last part of a request.
 pub(crate) fn piece_line(alloc: Global, text: &str, parts: &mut Parts) -> Result<(), NoMemory> {
     let (weight, rest) = text.split_once(' ').unwrap_or((text, ""));
     let (times, escaped) = rest.split_once(' ').unwrap_or((rest, ""));
     let mut piece = Vec::new(alloc);
-    for _ in 0..number(times) {
+    for _ in 0..times.parse::<u32>().unwrap_or(0) {
         percent_decode(escaped.as_bytes()).append_to(&mut piece)?;
     }
-    parts.add(number(weight), piece.as_slice())
+    parts.add(weight.parse::<u32>().unwrap_or(0), piece.as_slice())
 }
 
 /// What came of connections.
@@ -59,16 +49,16 @@ impl Tally {
         self.digest.update(answer);
     }
 
-    /// Writes what was counted.
-    fn tell(self, alloc: Global, said: &mut String) -> Result<(), NoMemory> {
+    /// Says what was counted.
+    fn tell(self, said: &mut Said) {
         let Tally {
             answers,
             bytes,
             closed,
             digest,
         } = self;
-        write!(said, "{answers} answers, {bytes} bytes, {closed} closed, ")?;
-        tell_bytes(alloc, digest.finalize().as_slice(), said)
+        write!(said, "{answers} answers, {bytes} bytes, {closed} closed, ");
+        said.digits(digest.finalize().as_slice());
     }
 }
 
@@ -91,50 +81,42 @@ fn give(
     Ok(next)
 }
 
-/// Plays one connection with a text as its chunk, and writes what came of it.
-pub(crate) fn say_line(alloc: Global, escaped: &str, said: &mut String) -> Result<(), NoMemory> {
+/// Plays one connection with a text as its chunk, and says what came of it.
+pub(crate) fn say_line(alloc: Global, escaped: &str, said: &mut Said) -> Result<(), NoMemory> {
     let mut chunk = Vec::new(alloc);
     percent_decode(escaped.as_bytes()).append_to(&mut chunk)?;
     let mut tally = Tally::new();
-    play_whole(alloc, chunk.as_slice(), &mut tally)?;
-    tally.tell(alloc, said)
-}
-
-/// Plays a connection with one chunk.
-fn play_whole(alloc: Global, chunk: &[u8], tally: &mut Tally) -> Result<(), NoMemory> {
-    let mut web = Web::fresh(alloc, 0);
-    give(alloc, &mut web, 0, chunk, tally)?;
+    give(
+        alloc,
+        &mut Web::fresh(alloc, 0),
+        0,
+        chunk.as_slice(),
+        &mut tally,
+    )?;
+    tally.tell(said);
     Ok(())
 }
 
-/// Plays the connections that a line asks for, and writes what came of them.
+/// Plays the connections that a line asks for, in chunks that are drawn, and says what came of them.
 pub(crate) fn connections_line(
     alloc: Global,
     text: &str,
     parts: &Parts,
-    said: &mut String,
+    said: &mut Said,
 ) -> Result<(), NoMemory> {
     let Some((count, seed)) = count_and_seed(text) else {
-        return tell(said, "no such line");
+        said.add(b"no such line");
+        return Ok(());
     };
     let mut draws = Draws::new(seed);
     let mut tally = Tally::new();
     for _connection in 0..count {
         let drawn = draw_connection(alloc, &mut draws, parts)?;
-        play_cut(alloc, &mut draws, drawn.as_slice(), &mut tally)?;
+        let mut web = Web::fresh(alloc, 0);
+        give_cut(alloc, &mut web, &mut draws, drawn.as_slice(), &mut tally)?;
     }
-    tally.tell(alloc, said)
-}
-
-/// Plays a connection in chunks that are drawn.
-fn play_cut(
-    alloc: Global,
-    draws: &mut Draws,
-    text: &[u8],
-    tally: &mut Tally,
-) -> Result<(), NoMemory> {
-    let mut web = Web::fresh(alloc, 0);
-    give_cut(alloc, &mut web, draws, text, tally)
+    tally.tell(said);
+    Ok(())
 }
 
 /// The longest chunks of a connection, each drawn as often as it is listed here.

@@ -1,6 +1,5 @@
-//! What a script's program prints: text, bytes as they are, and lines of words.
+//! What a script says: text, bytes as they are, and lines of words.
 
-use crate::hexadecimal::word_of_bytes;
 use ft_io::{Addr, Failed, NoMemory};
 use std::alloc::Global;
 use std::fmt::Display;
@@ -56,11 +55,20 @@ impl Said {
         self.is_lost = self.is_lost || self.bytes.write_fmt(text).is_err();
     }
 
+    /// Adds bytes in hexadecimal.
+    pub fn digits(&mut self, bytes: &[u8]) {
+        match hex::encode(self.alloc, bytes) {
+            Ok(digits) => self.add(digits.as_bytes()),
+            Err(_) => self.is_lost = true,
+        }
+    }
+
     /// Adds bytes in hexadecimal, or `-` where there are none.
     pub fn hex(&mut self, bytes: &[u8]) {
-        match word_of_bytes(self.alloc, bytes) {
-            Ok(word) => self.add(word.as_bytes()),
-            Err(NoMemory) => self.is_lost = true,
+        if bytes.is_empty() {
+            self.add(b"-");
+        } else {
+            self.digits(bytes);
         }
     }
 

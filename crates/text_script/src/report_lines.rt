@@ -6,65 +6,63 @@ use crate::check_lines::{
 use crate::{bytes_of, number_of};
 use ft_io::NoMemory;
 use std::alloc::Global;
-use test_data::push_line;
+use test_data::Said;
 
-/// Says whether a text is the line of a packet.
+/// Whether a text is the line of a packet.
 pub(crate) fn ask_packet(
     alloc: Global,
     schedule: &[u8],
     rest: &str,
-    out: &mut Vec<u8>,
-) -> Result<(), NoMemory> {
+) -> Result<&'static str, NoMemory> {
     let Some((number, text)) = number_of(rest) else {
-        return push_line("no number", out);
+        return Ok("no number");
     };
     let line = bytes_of(alloc, text)?;
-    match is_line_of_packet(alloc, schedule, number, line.as_slice()) {
-        Some(true) => push_line("a packet", out),
-        Some(false) => push_line("no packet", out),
-        None => push_line("no schedule", out),
-    }
+    Ok(
+        match is_line_of_packet(alloc, schedule, number, line.as_slice()) {
+            Some(true) => "a packet",
+            Some(false) => "no packet",
+            None => "no schedule",
+        },
+    )
 }
 
 /// Says whether a text is the line of an event.
-pub(crate) fn ask_event(alloc: Global, rest: &str, out: &mut Vec<u8>) -> Result<(), NoMemory> {
-    let Some((number, rest)) = number_of(rest) else {
-        return push_line("no number", out);
-    };
-    let Some((size, text)) = number_of(rest) else {
-        return push_line("no number", out);
-    };
-    let line = bytes_of(alloc, text)?;
-    match size_with_event(size as usize, number, line.as_slice()) {
-        Some(size) => say_size(alloc, size, out),
-        None => push_line("no event", out),
+pub(crate) fn ask_event(alloc: Global, rest: &str, said: &mut Said) -> Result<(), NoMemory> {
+    if let Some((number, rest)) = number_of(rest)
+        && let Some((size, text)) = number_of(rest)
+    {
+        let line = bytes_of(alloc, text)?;
+        match size_with_event(size as usize, number, line.as_slice()) {
+            Some(size) => write!(said, "an event, {size}\n"),
+            None => said.line("no event"),
+        }
+        return Ok(());
     }
+    said.line("no number");
+    Ok(())
 }
 
-fn say_size(alloc: Global, size: usize, out: &mut Vec<u8>) -> Result<(), NoMemory> {
-    out.extend_from_slice(b"an event, ")?;
-    push_line(size.to_string(alloc)?.as_str(), out)
-}
-
-/// Says whether a text is the line of a service.
-pub(crate) fn ask_service(alloc: Global, text: &str, out: &mut Vec<u8>) -> Result<(), NoMemory> {
+/// Whether a text is the line of a service.
+pub(crate) fn ask_service(alloc: Global, text: &str) -> Result<&'static str, NoMemory> {
     let line = bytes_of(alloc, text)?;
-    if is_service_line(line.as_slice()) {
-        push_line("a service", out)
+    Ok(if is_service_line(line.as_slice()) {
+        "a service"
     } else {
-        push_line("no service", out)
-    }
+        "no service"
+    })
 }
 
-/// Says whether a text ends with a line of the header that it begins with.
-pub(crate) fn ask_header(alloc: Global, rest: &str, out: &mut Vec<u8>) -> Result<(), NoMemory> {
+/// Whether a text ends with a line of the header that it begins with.
+pub(crate) fn ask_header(alloc: Global, rest: &str) -> Result<&'static str, NoMemory> {
     let Some((start, text)) = number_of(rest) else {
-        return push_line("no number", out);
+        return Ok("no number");
     };
     let text = bytes_of(alloc, text)?;
-    if ends_with_header_line(alloc, text.as_slice(), start as usize)? {
-        push_line("a header line", out)
+    let ends = ends_with_header_line(alloc, text.as_slice(), start as usize)?;
+    Ok(if ends {
+        "a header line"
     } else {
-        push_line("no header line", out)
-    }
+        "no header line"
+    })
 }

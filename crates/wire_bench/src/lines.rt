@@ -42,18 +42,13 @@ pub(crate) fn read<I: Source>(alloc: Global, words: &[&str], input: &mut I) -> R
     let Ok(text) = read_to_limit(alloc, input, SCHEDULE) else {
         bail!("no text");
     };
-    Ok(read_rounds(alloc, text.as_slice(), rounds))
-}
-
-/// How many events the text spells, over all rounds.
-fn read_rounds(alloc: Global, text: &[u8], rounds: u32) -> u64 {
     let mut events = 0u64;
     for _ in 0..rounds {
-        if let Ok(schedule) = read_schedule(alloc, text) {
+        if let Ok(schedule) = read_schedule(alloc, text.as_slice()) {
             events = events.wrapping_add(schedule.events.as_slice().len() as u64);
         }
     }
-    events
+    Ok(events)
 }
 
 /// Makes the packets of all cycles, and writes the lines of the cycles this many times.

@@ -43,55 +43,32 @@ const LENS: u32 = 512;
 /// The most bytes of a stream.
 const STREAM: u32 = 1 << 24;
 
-/// Does what the words after `log` ask for.
+/// Does what the words after `log` ask for, and prints what came of it.
 pub(crate) fn run<R: AllocGlobal + Print + Clock>(rt: &R, command: &[&str]) -> Result<()> {
     match command {
-        ["marks", words @ ..] => print_seen(rt, run_marks(rt, rt.alloc(), words)),
-        ["twin", words @ ..] => print_sent(rt, run_twins(rt.alloc(), words)),
-        [reads, bytes, rounds, rest @ ..] => {
-            let tally = run_plain(rt.alloc(), reads, bytes, rounds, !rest.is_empty());
-            print_tally(rt, tally)
+        ["marks", words @ ..] => {
+            let Seen { first, last, kept } = run_marks(rt, rt.alloc(), words)?;
+            println!(rt;
+                "at most {kept} bytes kept; the first marks {first} ns, the last {last} ns"
+            )?;
         }
-        _ => bail!("wire_bench log marks|twin|READS WORD.."),
+        ["twin", words @ ..] => {
+            let sent = run_twins(rt.alloc(), words)?;
+            println!(rt;
+                "{} messages, {} forwarded, {} answered",
+                sent.messages, sent.forwards, sent.answers
+            )?;
+        }
+        [reads, bytes, rounds, rest @ ..] => {
+            let bytes: u32 = bytes.parse().context("BYTES")?;
+            let rounds: u32 = rounds.parse().context("ROUNDS")?;
+            ensure!(bytes <= STREAM, "BYTES is at most 2^24");
+            let tally = play(rt.alloc(), reads, bytes, rounds, !rest.is_empty())?;
+            println!(rt; "{} messages, {}", tally.messages, tally.total)?;
+        }
+        _ => bail!("log marks|twin|READS WORD.."),
     }
-}
-
-/// Prints what a run over marks saw. Its error is handed on, here and below.
-fn print_seen(rt: &impl Print, seen: Result<Seen>) -> Result<()> {
-    let Seen { first, last, kept } = seen?;
-    println!(rt; "at most {kept} bytes kept; the first marks {first} ns, the last {last} ns")?;
     Ok(())
-}
-
-/// Prints what a log or a pair sent.
-fn print_sent(rt: &impl Print, sent: Result<twins::Tally>) -> Result<()> {
-    let sent = sent?;
-    println!(rt;
-        "{} messages, {} forwarded, {} answered",
-        sent.messages, sent.forwards, sent.answers
-    )?;
-    Ok(())
-}
-
-/// Prints the tally of all rounds.
-fn print_tally(rt: &impl Print, tally: Result<Tally>) -> Result<()> {
-    let tally = tally?;
-    println!(rt; "{} messages, {}", tally.messages, tally.total)?;
-    Ok(())
-}
-
-/// Plays the rounds of these words.
-fn run_plain(
-    alloc: Global,
-    reads: &str,
-    bytes: &str,
-    rounds: &str,
-    is_marked: bool,
-) -> Result<Tally> {
-    let bytes: u32 = bytes.parse().context("BYTES")?;
-    let rounds: u32 = rounds.parse().context("ROUNDS")?;
-    ensure!(bytes <= STREAM, "BYTES is at most 2^24");
-    play(alloc, reads, bytes, rounds, is_marked)
 }
 
 /// So many rounds, to a log with marks or to one without.
@@ -103,32 +80,18 @@ fn play(alloc: Global, reads: &str, bytes: u32, rounds: u32, is_marked: bool) ->
         total: 0,
     };
     for _ in 0..rounds {
-        let ear = Ear::new(alloc, reads, is_marked);
-        let Ok(after) = round(alloc, ear, tally, bytes, reads == "other") else {
+        let mut talk = Talk {
+            ear: Ear::new(alloc, reads, is_marked),
+            datagram: [0; 2_048],
+            out: MsgOut::new(),
+            tally,
+        };
+        let Ok(after) = fill_and_fetch(alloc, &mut talk, bytes, reads == "other") else {
             bail!("no memory");
         };
         tally = after;
     }
     Ok(tally)
-}
-
-/// One round, with a log of its own. Returns the tally as it is after it.
-fn round(
-    alloc: Global,
-    ear: Ear,
-    tally: Tally,
-    bytes: u32,
-    alternates: bool,
-) -> Result<Tally, NoMemory>
-    requires { bytes ≤ 2 ^ 24 }
-{
-    let mut talk = Talk {
-        ear,
-        datagram: [0; 2_048],
-        out: MsgOut::new(),
-        tally,
-    };
-    fill_and_fetch(alloc, &mut talk, bytes, alternates)
 }
 
 /// The messages so far, and what their answers add up to, modulo 2^64.

@@ -22,20 +22,12 @@ pub(crate) fn total(alloc: Global, words: &[&str]) -> Result<u64> {
     let rounds: u32 = rounds.parse().context("ROUNDS")?;
     ensure!(40 <= bytes && bytes <= 1500, "BYTES is 40 to 1500");
     let mut packets = Vec::new(alloc);
-    add_up(bytes, rounds, sets, &mut packets)
-}
-
-/// Writes packets of this length into an empty vector, reads or sets them so many times, and returns what they add up to.
-fn add_up(bytes: usize, rounds: u32, sets: bool, packets: &mut Vec<u8>) -> Result<u64>
-    requires long { 40 ≤ bytes }
-    requires short { bytes ≤ 1500 }
-{
-    push_packets(bytes, packets)?;
+    push_packets(bytes, &mut packets)?;
     if !sets {
-        return Ok(read_all(packets, bytes, rounds));
+        return Ok(read_all(&packets, bytes, rounds));
     }
     set_all(packets.as_mut_slice(), bytes, rounds);
-    Ok(read_all(packets, bytes, 1).wrapping_add(checks(packets, bytes)))
+    Ok(read_all(&packets, bytes, 1).wrapping_add(checks(&packets, bytes)))
 }
 
 /// Packets of this length, one after the other. The ith has the sequence number i.

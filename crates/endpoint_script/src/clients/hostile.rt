@@ -379,24 +379,13 @@ fn check_leaving(out: &Outbox) -> Kept {
     Ok(())
 }
 
-/// Hands datagrams to a new live client.
-fn attack_one_live(
-    alloc: Global,
-    draws: &mut Draws,
-    out: &mut Outbox,
-    tally: &mut Tally,
-) -> Result<(), NoMemory> {
-    let mut target = Target::new(alloc)?;
-    target.meet_all(draws, out, tally);
-    Ok(())
-}
-
 /// Hands all datagrams to live clients, one after another.
 pub(crate) fn attack_live(alloc: Global, out: &mut Outbox) -> Result<Tally, NoMemory> {
     let mut draws = Draws::new(SEED);
     let mut tally = Tally::new();
     for _client in 0..DATAGRAMS {
-        attack_one_live(alloc, &mut draws, out, &mut tally)?;
+        let mut target = Target::new(alloc)?;
+        target.meet_all(&mut draws, out, &mut tally);
         if tally.is_complete() {
             break;
         }

@@ -130,28 +130,18 @@ impl Exchange {
         })
     }
 
+    /// The client gets a tick, or a packet where one arrives, and its user accepts some bytes.
     fn client_turn(&mut self, alloc: Global, out: &mut Outbox) -> Result<(), NoMemory> {
-        self.call_client(alloc)?;
-        self.accept();
-        self.flush_client(alloc, out)
-    }
-
-    /// The client gets a tick, or a packet where one arrives.
-    fn call_client(&mut self, alloc: Global) -> Result<(), NoMemory> {
         if self.draws.below(3) == 0 {
             self.client.on_tick();
         } else if let Some(packet) = self.to_client.arrival(alloc, &mut self.draws)? {
             self.client.on_packet(packet.as_slice());
         }
-        Ok(())
-    }
-
-    /// The client's user accepts some bytes.
-    fn accept(&mut self) {
         let mut buf = [0u8; 3_000];
         let most = self.draws.below(3_001) as usize;
         let count = self.client.accept(&mut buf[..most]).min(most);
         self.accepted.take(SERVERS, &buf[..count]);
+        self.flush_client(alloc, out)
     }
 
     fn flush_client(&mut self, alloc: Global, out: &mut Outbox) -> Result<(), NoMemory> {
@@ -160,17 +150,8 @@ impl Exchange {
         self.to_server.carry(alloc, out, &mut self.draws)
     }
 
+    /// The server gets a tick, or a packet where one arrives. Its user reads, and writes more of its text, or closes.
     fn server_turn(&mut self, alloc: Global, out: &mut Outbox) -> Result<(), NoMemory> {
-        self.call_server(alloc)?;
-        self.read();
-        self.write();
-        out.clear();
-        self.server.flush(out);
-        self.to_client.carry(alloc, out, &mut self.draws)
-    }
-
-    /// The server gets a tick, or a packet where one arrives.
-    fn call_server(&mut self, alloc: Global) -> Result<(), NoMemory> {
         if self.draws.below(3) == 0 {
             self.server.on_tick();
         } else if let Some(packet) = self.to_server.arrival(alloc, &mut self.draws)? {
@@ -178,19 +159,9 @@ impl Exchange {
                 self.server.on_packet(p);
             }
         }
-        Ok(())
-    }
-
-    /// The server's user reads.
-    fn read(&mut self) {
-        let mut buf = [0u8; 3_000];
-        let count = self.server.read(&mut buf).min(3_000);
-        self.heard.take(CLIENTS, &buf[..count]);
-    }
-
-    /// The server's user writes more of its text, or closes.
-    fn write(&mut self) {
         let mut buf = [0u8; 7_000];
+        let count = self.server.read(&mut buf[..3_000]).min(3_000);
+        self.heard.take(CLIENTS, &buf[..count]);
         let rest = LENGTH.saturating_sub(self.written).min(7_000) as usize;
         if rest == 0 {
             self.server.close();
@@ -198,17 +169,16 @@ impl Exchange {
         SERVERS.fill(self.written, &mut buf[..rest]);
         let count = self.server.write(&buf[..rest]).min(rest);
         self.written = self.written.saturating_add(count as u32);
+        out.clear();
+        self.server.flush(out);
+        self.to_client.carry(alloc, out, &mut self.draws)
     }
 
-    /// The client has an outcome, and the rest of what it accepted was handed out.
-    fn is_over(&self) -> bool {
-        self.client.outcome().is_some() && self.accepted.count >= LENGTH
-    }
-
+    /// Both take turns until the client has an outcome, and the rest of what it accepted was handed out.
     fn run(&mut self, alloc: Global, out: &mut Outbox) -> Result<Joined, NoMemory> {
         self.flush_client(alloc, out)?;
         for _ in 0..TURNS {
-            if self.is_over() {
+            if self.client.outcome().is_some() && self.accepted.count >= LENGTH {
                 break;
             }
             self.client_turn(alloc, out)?;

@@ -5,14 +5,13 @@ use crate::kept::text::{
     call_count, tell_bytes, tell_calls, tell_kept_entry, tell_log, tell_opening,
 };
 use crate::readers::two_numbers;
-use crate::{tell, tell_hex};
 use disk::{Death, MemDisk};
 use ft_io::NoMemory;
 use kept_log::{KeepEnd, KeptLog};
 use logger_store::MsgOut;
 use logger_wire::read_msg;
 use std::alloc::Global;
-use test_data::bytes_of_hex;
+use test_data::{Said, bytes_of_hex};
 
 /// Which calls fail of the files that are opened: their numbers, counted from 1; 0 for none.
 #[derive(Clone, Copy)]
@@ -57,11 +56,11 @@ fn tell_outcome(
     alloc: Global,
     bytes: &[u8],
     fails: Fails,
-    said: &mut String,
+    said: &mut Said,
 ) -> Result<(), NoMemory> {
     let mut disk = disk_of(alloc, bytes, fails)?;
     let opened = KeptLog::open(alloc, &mut disk);
-    tell_opening(alloc, &opened, &disk, said)
+    tell_opening(&opened, &disk, said)
 }
 
 /// What became of a datagram.
@@ -91,43 +90,6 @@ fn give(
     Ok(Given::Taken)
 }
 
-/// Writes a log's answer to a datagram.
-fn answer_to(
-    alloc: Global,
-    log: &mut KeptLog,
-    datagram: &[u8],
-    said: &mut String,
-) -> Result<(), NoMemory> {
-    let mut out = MsgOut::new();
-    match give(alloc, log, datagram, &mut out)? {
-        Given::Refused => tell(said, "no message"),
-        Given::Full => tell(said, "full"),
-        Given::Taken => {
-            said.push_str("out ")?;
-            tell_hex(alloc, out.bytes(), said)
-        }
-    }
-}
-
-/// Gives a log long messages until its round is full, and at most this many.
-fn give_long(
-    alloc: Global,
-    log: &mut KeptLog,
-    count: u32,
-    said: &mut String,
-) -> Result<(), NoMemory> {
-    let mut out = MsgOut::new();
-    for piece in 0..count {
-        let datagram = long_data(log.log().boot(), piece);
-        if let Given::Full = give(alloc, log, &datagram, &mut out)? {
-            write!(said, "full behind {piece}")?;
-            return Ok(());
-        }
-    }
-    write!(said, "took {count}")?;
-    Ok(())
-}
-
 impl Bench {
     pub(crate) fn new(alloc: Global) -> Bench {
         Bench {
@@ -139,82 +101,81 @@ impl Bench {
         }
     }
 
-    /// Writes how long the next file is.
-    fn tell_file(&self, said: &mut String) -> Result<(), NoMemory> {
+    /// Says how long the next file is.
+    fn tell_file(&self, said: &mut Said) {
         let len = self.file.len();
-        write!(said, "file {len}")?;
-        Ok(())
+        write!(said, "file {len}");
     }
 
     pub(crate) fn set_file(
         &mut self,
         alloc: Global,
         text: &str,
-        said: &mut String,
+        said: &mut Said,
     ) -> Result<(), NoMemory> {
         match bytes_of_hex(alloc, text)? {
             Some(file) => {
                 self.file = file;
-                self.tell_file(said)
+                self.tell_file(said);
             }
-            None => tell(said, "no bytes"),
+            None => said.add(b"no bytes"),
         }
+        Ok(())
     }
 
-    pub(crate) fn lengthen(&mut self, text: &str, said: &mut String) -> Result<(), NoMemory> {
+    pub(crate) fn lengthen(&mut self, text: &str, said: &mut Said) -> Result<(), NoMemory> {
         let Some((count, byte)) = two_numbers(text) else {
-            return tell(said, "no such line");
+            said.add(b"no such line");
+            return Ok(());
         };
         for _ in 0..count {
             self.file.push((byte % 256) as u8)?;
         }
-        self.tell_file(said)
-    }
-
-    pub(crate) fn set_fails(&mut self, text: &str, said: &mut String) -> Result<(), NoMemory> {
-        let Some((read, call)) = two_numbers(text) else {
-            return tell(said, "no such line");
-        };
-        self.fails = Fails { read, call };
-        write!(said, "fail {read} {call}")?;
+        self.tell_file(said);
         Ok(())
     }
 
-    pub(crate) fn open(&mut self, alloc: Global, said: &mut String) -> Result<(), NoMemory> {
-        said.push_str("open ")?;
+    pub(crate) fn set_fails(&mut self, text: &str, said: &mut Said) {
+        match two_numbers(text) {
+            Some((read, call)) => {
+                self.fails = Fails { read, call };
+                write!(said, "fail {read} {call}");
+            }
+            None => said.add(b"no such line"),
+        }
+    }
+
+    pub(crate) fn open(&mut self, alloc: Global, said: &mut Said) -> Result<(), NoMemory> {
+        said.add(b"open ");
         let mut disk = disk_of(alloc, &self.file, self.fails)?;
         let opened = KeptLog::open(alloc, &mut disk);
-        let told = tell_opening(alloc, &opened, &disk, said);
+        let told = tell_opening(&opened, &disk, said);
         self.shown = call_count(&disk);
         self.disk = disk;
         self.log = opened.ok();
         told
     }
 
-    pub(crate) fn open_cuts(&self, alloc: Global, said: &mut String) -> Result<(), NoMemory> {
-        said.push_str("cuts")?;
+    pub(crate) fn open_cuts(&self, alloc: Global, said: &mut Said) -> Result<(), NoMemory> {
+        said.add(b"cuts");
         for len in 0..=self.file.len() {
-            write!(said, "\n{len} ")?;
+            write!(said, "\n{len} ");
             tell_outcome(alloc, &self.file[..len], self.fails, said)?;
         }
         Ok(())
     }
 
-    /// Writes what comes of an opening of the file with one bit changed.
-    fn flip(&self, alloc: Global, at: usize, bit: u8, said: &mut String) -> Result<(), NoMemory> {
-        write!(said, "\n{at} {bit} ")?;
-        let mut bytes = self.file.as_slice().to_vec(alloc)?;
-        if let Some(byte) = bytes.get_mut(at) {
-            *byte ^= 1u8.wrapping_shl(u32::from(bit));
-        }
-        tell_outcome(alloc, &bytes, self.fails, said)
-    }
-
-    pub(crate) fn open_flips(&self, alloc: Global, said: &mut String) -> Result<(), NoMemory> {
-        said.push_str("flips")?;
+    /// Opens the file with each of its bits changed in turn.
+    pub(crate) fn open_flips(&self, alloc: Global, said: &mut Said) -> Result<(), NoMemory> {
+        said.add(b"flips");
         for at in 0..self.file.len() {
             for bit in 0..8u8 {
-                self.flip(alloc, at, bit, said)?;
+                write!(said, "\n{at} {bit} ");
+                let mut bytes = self.file.as_slice().to_vec(alloc)?;
+                if let Some(byte) = bytes.get_mut(at) {
+                    *byte ^= 1u8.wrapping_shl(u32::from(bit));
+                }
+                tell_outcome(alloc, &bytes, self.fails, said)?;
             }
         }
         Ok(())
@@ -224,73 +185,96 @@ impl Bench {
         &mut self,
         alloc: Global,
         text: &str,
-        said: &mut String,
+        said: &mut Said,
     ) -> Result<(), NoMemory> {
-        let Some(datagram) = bytes_of_hex(alloc, text)? else {
-            return tell(said, "no datagram");
+        let (datagram, log) = match (bytes_of_hex(alloc, text)?, &mut self.log) {
+            (Some(datagram), Some(log)) => (datagram, log),
+            (None, _) => {
+                said.add(b"no datagram");
+                return Ok(());
+            }
+            _ => {
+                said.add(b"no log");
+                return Ok(());
+            }
         };
-        match &mut self.log {
-            Some(log) => answer_to(alloc, log, datagram.as_slice(), said),
-            None => tell(said, "no log"),
+        let mut out = MsgOut::new();
+        match give(alloc, log, datagram.as_slice(), &mut out)? {
+            Given::Refused => said.add(b"no message"),
+            Given::Full => said.add(b"full"),
+            Given::Taken => {
+                said.add(b"out ");
+                said.digits(out.bytes());
+            }
         }
+        Ok(())
     }
 
+    /// Gives the log long messages until its round is full, and at most as many as a line says.
     pub(crate) fn take_long(
         &mut self,
         alloc: Global,
         text: &str,
-        said: &mut String,
+        said: &mut Said,
     ) -> Result<(), NoMemory> {
-        match (&mut self.log, text.parse::<u32>()) {
-            (Some(log), Ok(count)) => give_long(alloc, log, count, said),
-            _ => tell(said, "no log"),
+        let (Some(log), Ok(count)) = (&mut self.log, text.parse::<u32>()) else {
+            said.add(b"no log");
+            return Ok(());
+        };
+        let mut out = MsgOut::new();
+        for piece in 0..count {
+            let datagram = long_data(log.log().boot(), piece);
+            if let Given::Full = give(alloc, log, &datagram, &mut out)? {
+                write!(said, "full behind {piece}");
+                return Ok(());
+            }
         }
+        write!(said, "took {count}");
+        Ok(())
     }
 
-    pub(crate) fn commit(&mut self, alloc: Global, said: &mut String) -> Result<(), NoMemory> {
+    pub(crate) fn commit(&mut self, alloc: Global, said: &mut Said) -> Result<(), NoMemory> {
         let Some(log) = &mut self.log else {
-            return tell(said, "no log");
+            said.add(b"no log");
+            return Ok(());
         };
         let committed = log.commit(alloc, &mut self.disk);
         if committed.is_err() {
             self.log = None;
         }
         match committed {
-            Ok(()) => said.push_str("commit")?,
-            Err(KeepEnd::Failed) => said.push_str("failed")?,
+            Ok(()) => said.add(b"commit"),
+            Err(KeepEnd::Failed) => said.add(b"failed"),
             Err(KeepEnd::NoMemory) => return Err(NoMemory),
         }
-        tell_calls(alloc, &self.disk, self.shown, said)?;
+        tell_calls(&self.disk, self.shown, said);
         self.shown = call_count(&self.disk);
         Ok(())
     }
 
-    pub(crate) fn state(&self, said: &mut String) -> Result<(), NoMemory> {
+    pub(crate) fn state(&self, said: &mut Said) {
         match &self.log {
             Some(log) => tell_log(log, said),
-            None => tell(said, "no log"),
+            None => said.add(b"no log"),
         }
     }
 
-    pub(crate) fn entry(&self, text: &str, said: &mut String) -> Result<(), NoMemory> {
+    pub(crate) fn entry(&self, text: &str, said: &mut Said) {
         match (&self.log, text.parse::<u16>()) {
             (Some(log), Ok(place)) => tell_kept_entry(log.log(), place, said),
-            _ => tell(said, "no log"),
+            _ => said.add(b"no log"),
         }
     }
 
-    pub(crate) fn die(
-        &mut self,
-        alloc: Global,
-        text: &str,
-        said: &mut String,
-    ) -> Result<(), NoMemory> {
+    pub(crate) fn die(&mut self, text: &str, said: &mut Said) -> Result<(), NoMemory> {
         let Some(death) = death_of(text) else {
-            return tell(said, "no such line");
+            said.add(b"no such line");
+            return Ok(());
         };
         self.file = self.disk.after_death(death)?;
         self.log = None;
-        said.push_str("left ")?;
-        tell_bytes(alloc, &self.file, said)
+        said.add(b"left ");
+        tell_bytes(&self.file, said);
+        Ok(())
     }
 }

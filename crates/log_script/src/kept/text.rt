@@ -1,64 +1,54 @@
 //! What is written of calls on a file, and of a log.
 
-use crate::readers::{tell_extent, tell_key, tell_no_entry};
-use crate::{tell, tell_hex};
+use crate::readers::{tell_extent, tell_key};
 use disk::{DeskCall, DiskCall, MemDisk};
 use ft_io::NoMemory;
 use kept_log::{KeptLog, OpenEnd};
 use logger_store::LogStore;
-use std::alloc::Global;
-use test_data::hashed;
+use test_data::{Said, hashed};
 
 /// Up to how many bytes are printed in full.
 const SHOWN: usize = 256;
 
-/// Writes bytes in hexadecimal, or how many they are and their hash.
-pub(crate) fn tell_bytes(alloc: Global, bytes: &[u8], said: &mut String) -> Result<(), NoMemory> {
+/// Says bytes in hexadecimal, or how many they are and their hash.
+pub(crate) fn tell_bytes(bytes: &[u8], said: &mut Said) {
     if bytes.len() <= SHOWN {
-        return tell_hex(alloc, bytes, said);
+        return said.digits(bytes);
     }
     let (len, hash) = (bytes.len(), hashed(0, bytes));
-    write!(said, "{len} bytes {hash}")?;
-    Ok(())
+    write!(said, "{len} bytes {hash}");
 }
 
-/// Writes a call that changes a file, after a semicolon.
-fn tell_call(alloc: Global, call: &DiskCall, said: &mut String) -> Result<(), NoMemory> {
+/// Says a call that changes a file, after a semicolon.
+fn tell_call(call: &DiskCall, said: &mut Said) {
     let failed = match call {
         DiskCall::Appended(_, failed)
         | DiskCall::Put(_, _, failed)
         | DiskCall::Cut(_, failed)
         | DiskCall::Synced(failed) => *failed,
     };
-    said.push_str(if failed { "; failed " } else { "; " })?;
+    said.add(if failed { b"; failed " } else { b"; " });
     match call {
         DiskCall::Appended(bytes, _) => {
-            said.push_str("append ")?;
-            tell_bytes(alloc, bytes.as_slice(), said)?;
+            said.add(b"append ");
+            tell_bytes(bytes.as_slice(), said);
         }
-        DiskCall::Put(at, byte, _) => write!(said, "put {at} {byte}")?,
-        DiskCall::Cut(at, _) => write!(said, "cut {at}")?,
-        DiskCall::Synced(_) => said.push_str("sync")?,
+        DiskCall::Put(at, byte, _) => write!(said, "put {at} {byte}"),
+        DiskCall::Cut(at, _) => write!(said, "cut {at}"),
+        DiskCall::Synced(_) => said.add(b"sync"),
     }
-    Ok(())
 }
 
-/// Writes the calls on a disk from one of them on.
-pub(crate) fn tell_calls(
-    alloc: Global,
-    disk: &MemDisk,
-    from: usize,
-    said: &mut String,
-) -> Result<(), NoMemory> {
+/// Says the calls on a disk from one of them on.
+pub(crate) fn tell_calls(disk: &MemDisk, from: usize, said: &mut Said) {
     let Some(calls) = disk.told() else {
-        return tell(said, "; untold");
+        return said.add(b"; untold");
     };
     for call in calls.iter().skip(from) {
         if let DeskCall::OnDisk(call) = call {
-            tell_call(alloc, call, said)?;
+            tell_call(call, said);
         }
     }
-    Ok(())
 }
 
 /// How many calls a disk has recorded.
@@ -69,38 +59,33 @@ pub(crate) fn call_count(disk: &MemDisk) -> usize {
     }
 }
 
-/// Writes a log's boot number, its count of entries and the place of the closed gate.
-pub(crate) fn tell_log(log: &KeptLog, said: &mut String) -> Result<(), NoMemory> {
+/// Says a log's boot number, its count of entries and the place of the closed gate.
+pub(crate) fn tell_log(log: &KeptLog, said: &mut Said) {
     let (boot, count, end) = (log.log().boot(), log.log().count(), log.end());
-    write!(said, "boot {boot} count {count} end {end}")?;
+    write!(said, "boot {boot} count {count} end {end}");
+}
+
+/// Says what came of an opening, with the calls on the file.
+pub(crate) fn tell_opening(
+    opened: &Result<KeptLog, OpenEnd>,
+    disk: &MemDisk,
+    said: &mut Said,
+) -> Result<(), NoMemory> {
+    match opened {
+        Ok(log) => tell_log(log, said),
+        Err(OpenEnd::NoMemory) => return Err(NoMemory),
+        Err(OpenEnd::Failed) => said.add(b"failed"),
+        Err(OpenEnd::Wrong(at)) => write!(said, "wrong {at}"),
+    }
+    tell_calls(disk, 0, said);
     Ok(())
 }
 
-/// Writes what came of an opening, with the calls on the file.
-pub(crate) fn tell_opening(
-    alloc: Global,
-    opened: &Result<KeptLog, OpenEnd>,
-    disk: &MemDisk,
-    said: &mut String,
-) -> Result<(), NoMemory> {
-    match opened {
-        Ok(log) => tell_log(log, said)?,
-        Err(OpenEnd::NoMemory) => return Err(NoMemory),
-        Err(OpenEnd::Failed) => said.push_str("failed")?,
-        Err(OpenEnd::Wrong(at)) => write!(said, "wrong {at}")?,
-    }
-    tell_calls(alloc, disk, 0, said)
-}
-
-/// Writes the entry at a place of a log, without the numbers of its Open.
-pub(crate) fn tell_kept_entry(
-    log: &LogStore,
-    place: u16,
-    said: &mut String,
-) -> Result<(), NoMemory> {
+/// Says the entry at a place of a log, without the numbers of its Open.
+pub(crate) fn tell_kept_entry(log: &LogStore, place: u16, said: &mut Said) {
     let Some(entry) = log.entry(place) else {
-        return tell_no_entry(place, said);
+        return write!(said, "entry {place} none");
     };
-    tell_key(place, &entry, said)?;
-    tell_extent(&entry, said)
+    tell_key(place, &entry, said);
+    tell_extent(&entry, said);
 }

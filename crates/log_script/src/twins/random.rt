@@ -2,13 +2,12 @@
 
 ghost use Rattle.std.specs.Prelude.{◌<◌};
 
-use crate::tell;
 use crate::twins::messages::{ROOM, any_message};
 use crate::twins::pair::Pair;
 use ft_io::NoMemory;
 use seq_arith::flip;
 use std::alloc::Global;
-use test_data::{Draws, hashed};
+use test_data::{Draws, Said, hashed};
 use twin_log::{Part, Side, TwinOut};
 
 /// What came of many lists.
@@ -132,6 +131,13 @@ fn play_list(
     Ok(())
 }
 
+/// The three numbers of a line.
+fn numbers(text: &str) -> Option<(u32, u32, u64)> {
+    let (count, rest) = text.split_once(' ')?;
+    let (len, seed) = rest.split_once(' ')?;
+    Some((count.parse().ok()?, len.parse().ok()?, seed.parse().ok()?))
+}
+
 /// Plays one list with a new pair.
 fn play_new(
     alloc: Global,
@@ -144,14 +150,17 @@ fn play_new(
     play_list(alloc, len, draws, &mut pair, out, tally)
 }
 
-/// Plays this many lists, each with a new pair.
-fn play_lists(
+/// Plays as many lists as a line asks for, each with a new pair, and says what that prints.
+pub(crate) fn play_random(
     alloc: Global,
-    count: u32,
-    len: u32,
-    seed: u64,
+    text: &str,
     out: &mut TwinOut,
-) -> Result<Tally, NoMemory> {
+    said: &mut Said,
+) -> Result<(), NoMemory> {
+    let Some((count, len, seed)) = numbers(text) else {
+        said.add(b"no such line");
+        return Ok(());
+    };
     let mut draws = Draws::new(seed);
     let mut tally = Tally {
         answers: 0,
@@ -162,35 +171,15 @@ fn play_lists(
     for _list in 0..count {
         play_new(alloc, len, &mut draws, out, &mut tally)?;
     }
-    Ok(tally)
-}
-
-/// The three numbers of a line.
-fn numbers(text: &str) -> Option<(u32, u32, u64)> {
-    let (count, rest) = text.split_once(' ')?;
-    let (len, seed) = rest.split_once(' ')?;
-    Some((count.parse().ok()?, len.parse().ok()?, seed.parse().ok()?))
-}
-
-/// Plays the lists that a line asks for, and writes what that prints.
-pub(crate) fn play_random(
-    alloc: Global,
-    text: &str,
-    out: &mut TwinOut,
-    said: &mut String,
-) -> Result<(), NoMemory> {
-    let Some((count, len, seed)) = numbers(text) else {
-        return tell(said, "no such line");
-    };
     let Tally {
         answers,
         others,
         numbers,
         bytes,
-    } = play_lists(alloc, count, len, seed, out)?;
+    } = tally;
     write!(
         said,
         "lists {count}: answers {answers} others {others} numbers {numbers} bytes {bytes}"
-    )?;
+    );
     Ok(())
 }

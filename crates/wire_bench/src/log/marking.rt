@@ -125,30 +125,25 @@ pub(crate) struct Seen {
 /// Gives a new log so many reads with their marks, so many times.
 pub(crate) fn run_marks<C: Clock>(clock: &C, alloc: Global, words: &[&str]) -> Result<Seen> {
     let [reads, rounds] = words else {
-        bail!("wire_bench log marks READS ROUNDS");
+        bail!("log marks READS ROUNDS");
     };
     let reads: u32 = reads.parse().context("READS")?;
     let rounds: u32 = rounds.parse().context("ROUNDS")?;
+    ensure!(reads <= READS, "READS is at most 2^20");
     let mut seen = Seen {
         first: u128::MAX,
         last: u128::MAX,
         kept: 0,
     };
     for _ in 0..rounds {
-        run_once(clock, alloc, reads, &mut seen)?;
+        let mut talk = Talk {
+            log: MarkStore::new(alloc),
+            datagram: [0; 2_048],
+            out: MsgOut::new(),
+        };
+        give_marks(clock, alloc, &mut talk, reads / EVERY, &mut seen)?;
     }
     Ok(seen)
-}
-
-/// .. once.
-fn run_once<C: Clock>(clock: &C, alloc: Global, reads: u32, seen: &mut Seen) -> Result<()> {
-    ensure!(reads <= READS, "READS is at most 2^20");
-    let mut talk = Talk {
-        log: MarkStore::new(alloc),
-        datagram: [0; 2_048],
-        out: MsgOut::new(),
-    };
-    give_marks(clock, alloc, &mut talk, reads / EVERY, seen)
 }
 
 /// Opens a connection in an empty log, and gives it so many marks, each after its reads.

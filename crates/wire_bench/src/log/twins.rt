@@ -20,7 +20,7 @@ const MESSAGES: u32 = 100_000;
 /// Gives COUNT messages to WHO, in bursts of BURST.
 pub(crate) fn run_twins(alloc: Global, words: &[&str]) -> Result<Tally> {
     let [who, count, burst] = words else {
-        bail!("wire_bench log twin WHO COUNT BURST");
+        bail!("log twin WHO COUNT BURST");
     };
     let count: u32 = count.parse().context("COUNT")?;
     let burst: u32 = burst.parse().context("BURST")?;

@@ -1,39 +1,37 @@
-//! `io_script`: calls each form of the outside, in memory and over the system, by the lines of a script from standard input, and
-//! prints what the calls returned. docs/FORMATS.md has the lines.
+//! Calls of each form of the outside, in memory and over the system, by the lines of a script: it is said what the calls returned. docs/FORMATS.md has the lines.
 #![tactic(auto)]
 
-use ft_io::{NoMemory, write_all};
-use ft_system::WriteSink;
-use said::Said;
+use ft_io::NoMemory;
+use ft_system::UdpLink;
 use std::alloc::Global;
 use std::fs::{File, Files};
-use std::io;
 use std::net::Net;
 use std::process::Processes;
 use std::time::Clock;
+use test_data::Said;
 
 mod files;
 mod links;
 mod memory;
 mod processes;
 mod reading;
-mod said;
 mod sockets;
 mod streams;
 mod ticks;
 mod watch;
 
-fn main(rt: HostRuntime) -> io::Result<()> {
-    let mut said = Said::new(rt.alloc());
-    for line in rt.lines(rt.alloc()) {
-        if play(&rt, rt.alloc(), line?.as_str(), &mut said).is_err() {
-            return println!(rt; "no memory");
-        }
+/// Plays the lines of a script, and says what came of each. The status, which is 0.
+pub fn run<R: Net + Clock + Files<File = File> + Processes>(
+    system: &R,
+    alloc: Global,
+    text: &str,
+    said: &mut Said,
+) -> Result<u8, NoMemory> {
+    for line in text.lines() {
+        play(system, alloc, line, said)?;
+        said.end_line();
     }
-    if write_all(&mut WriteSink::new(rt.stdout()), said.bytes()).is_err() {
-        println!(rt; "a fault")?;
-    }
-    Ok(())
+    Ok(0)
 }
 
 /// Plays a line, and says what came of it.
@@ -61,7 +59,7 @@ fn play<R: Net + Clock + Files<File = File> + Processes>(
         "clock" => ticks::by_the_list(system, alloc, rest, said)?,
         _ => play_system(system, line, said),
     }
-    said.end_line()
+    Ok(())
 }
 
 /// Plays a line of the system, which wants no memory.
@@ -70,9 +68,12 @@ fn play_system<R: Net + Clock + Files<File = File>>(system: &R, line: &str, said
         "reader" => streams::read_four(said),
         "writer" => streams::write_four(said),
         "datagrams" => sockets::send_to_itself(system, said),
-        "silence" => ticks::in_silence(system, said),
-        "traffic" => ticks::in_traffic(system, said),
-        "exchange" => ticks::in_exchange(system, said),
+        "silence" => ticks::in_silence(system, &mut UdpLink::new(system), said),
+        "traffic" => {
+            let mut stranger = UdpLink::new(system);
+            ticks::in_traffic(system, &mut UdpLink::new(system), &mut stranger, said)
+        }
+        "exchange" => ticks::in_exchange(system, &mut UdpLink::new(system), said),
         "file" => files::keep_file(system, said),
         "names" => files::open_names(system, said),
         "desks" => files::use_desks(system, said),

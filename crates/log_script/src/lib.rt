@@ -1,5 +1,4 @@
-//! `log_script`: gives a log, two that act as one, or one in a journal's file the datagrams of a script, which comes from standard input, and prints what they
-//! answer. The lines of a script:
+//! A log, two that act as one, or one in a journal's file, which are given the datagrams of a script: it is said what they answer. The lines of a script:
 //!
 //! - `log` begins with an empty log, and `# ..` is printed as it is;
 //! - `in HEX` gives a datagram; the answer is printed as `out HEX`, or `out -` where there is none;
@@ -41,11 +40,9 @@ use logger_wire::read_msg;
 use mark_store::MarkStore;
 use marking::{ask_line, give_bytes, kept_marked, mark_line};
 use random::give_random;
-use readers::{byte_at, entry_at, kept_at, length_at};
+use readers::{byte_at, entry_at, kept_at, length_at, trim_at};
 use std::alloc::Global;
-use std::io;
-use test_data::{bytes_of_hex, word_of_bytes};
-use trimming::trim_at;
+use test_data::{Said, bytes_of_hex};
 use twin_log::TwinOut;
 use twins::{Pair, play_pair};
 
@@ -53,7 +50,6 @@ mod kept;
 mod marking;
 mod random;
 mod readers;
-mod trimming;
 mod twins;
 
 /// What became of a datagram.
@@ -84,37 +80,10 @@ fn give(
     })
 }
 
-/// Writes an answer as a line: `out HEX`, or `out -` without one.
-fn tell_answer(alloc: Global, answer: &[u8], said: &mut String) -> Result<(), NoMemory> {
-    let answer = word_of_bytes(alloc, answer)?;
-    write!(said, "out {answer}")?;
-    Ok(())
-}
-
-/// Writes the log's answer to a datagram.
-fn answer_to(
-    alloc: Global,
-    log: &mut TrimStore,
-    text: &str,
-    said: &mut String,
-) -> Result<(), NoMemory> {
-    let Some(datagram) = bytes_of_hex(alloc, text)? else {
-        return tell(said, "no datagram");
-    };
-    let mut out = MsgOut::new();
-    give(alloc, log, datagram.as_slice(), &mut out)?;
-    tell_answer(alloc, out.bytes(), said)
-}
-
-/// Writes a text that is printed as it is.
-fn tell(said: &mut String, text: &str) -> Result<(), NoMemory> {
-    said.push_str(text)?;
-    Ok(())
-}
-
-/// Writes bytes in hexadecimal.
-fn tell_hex(alloc: Global, bytes: &[u8], said: &mut String) -> Result<(), NoMemory> {
-    tell(said, hex::encode(alloc, bytes)?.as_str())
+/// Says an answer as a line: `out HEX`, or `out -` without one.
+fn tell_answer(answer: &[u8], said: &mut Said) {
+    said.add(b"out ");
+    said.hex(answer);
 }
 
 /// The logs of a script: one that is trimmed by lines, one with marks, a pair, with what it has sent, and one in a journal's file.
@@ -141,96 +110,77 @@ impl Logs {
     }
 }
 
-/// Plays a line of the log with marks, and writes what it prints. Returns whether it is such a line.
-fn play_marked(
-    alloc: Global,
-    log: &mut MarkStore,
-    word: &str,
-    rest: &str,
-    said: &mut String,
-) -> Result<bool, NoMemory> {
-    match word {
-        "marks" => {
-            *log = MarkStore::new(alloc);
-            tell(said, "marks")?;
-        }
-        "give" => give_bytes(alloc, log, rest, said)?,
-        "mark" => mark_line(alloc, log, rest, said)?,
-        "ask" => ask_line(alloc, log, rest, said)?,
-        "kept" => match rest.strip_prefix("marked ") {
-            Some(place) => kept_marked(log, place, said)?,
-            None => return Ok(false),
-        },
-        _ => return Ok(false),
-    }
-    Ok(true)
-}
-
-/// Plays a line of the log that is trimmed, and writes what it prints.
+/// Plays a line of the log that is trimmed, and says what it prints.
 fn play_trimmed(
     alloc: Global,
     log: &mut TrimStore,
-    line: &str,
-    said: &mut String,
+    word: &str,
+    rest: &str,
+    said: &mut Said,
 ) -> Result<(), NoMemory> {
-    let (word, rest) = line.split_once(' ').unwrap_or((line, ""));
     match word {
-        "#" => tell(said, line),
         "log" => {
             *log = TrimStore::new(alloc);
-            tell(said, "log")
+            said.add(b"log");
         }
-        "in" => answer_to(alloc, log, rest, said),
-        "random" => give_random(alloc, log, rest, said),
+        "in" => match bytes_of_hex(alloc, rest)? {
+            Some(datagram) => {
+                let mut out = MsgOut::new();
+                give(alloc, log, datagram.as_slice(), &mut out)?;
+                tell_answer(out.bytes(), said);
+            }
+            None => said.add(b"no datagram"),
+        },
+        "random" => give_random(alloc, log, rest, said)?,
         "trim" => trim_at(log, rest, said),
-        _ => tell_kept(log, word, rest, said),
-    }
-}
-
-/// Writes what a line asks of the log that is trimmed.
-fn tell_kept(log: &TrimStore, word: &str, rest: &str, said: &mut String) -> Result<(), NoMemory> {
-    match word {
         "state" => {
             let (boot, count) = (log.boot(), log.count());
-            write!(said, "state boot {boot} count {count}")?;
-            Ok(())
+            write!(said, "state boot {boot} count {count}");
         }
         "entry" => entry_at(log, rest, said),
         "byte" => byte_at(log, rest, said),
         "length" => length_at(log, rest, said),
         "kept" => kept_at(log, rest, said),
-        _ => tell(said, "no such line"),
+        _ => said.add(b"no such line"),
     }
+    Ok(())
 }
 
-/// Plays a line, and writes what it prints.
-fn play(alloc: Global, logs: &mut Logs, line: &str, said: &mut String) -> Result<(), NoMemory> {
-    said.clear();
+/// Plays a line, and says what it prints.
+fn play(alloc: Global, logs: &mut Logs, line: &str, said: &mut Said) -> Result<(), NoMemory> {
     let (word, rest) = line.split_once(' ').unwrap_or((line, ""));
-    if play_marked(alloc, &mut logs.marked, word, rest, said)?
-        || play_pair(alloc, &mut logs.pair, word, rest, &mut logs.sent, said)?
-    {
-        return Ok(());
+    match word {
+        "#" => said.add(line.as_bytes()),
+        "marks" => {
+            logs.marked = MarkStore::new(alloc);
+            said.add(b"marks");
+        }
+        "give" => give_bytes(alloc, &mut logs.marked, rest, said)?,
+        "mark" => mark_line(alloc, &mut logs.marked, rest, said)?,
+        "ask" => ask_line(alloc, &mut logs.marked, rest, said)?,
+        "kept" if rest.starts_with("marked ") => kept_marked(&logs.marked, rest, said),
+        "pair" | "stop" | "lists" | "head" | "tail" => {
+            play_pair(alloc, &mut logs.pair, word, rest, &mut logs.sent, said)?
+        }
+        _ => play_trimmed(alloc, &mut logs.trimmed, word, rest, said)?,
     }
-    play_trimmed(alloc, &mut logs.trimmed, line, said)
+    said.end_line();
+    Ok(())
 }
 
-/// Plays a line. Where memory is refused it is played once more, since the logs are then as they were before. A line on a journal's file isn't, since it may
-/// have changed the file.
-fn play_again(
-    alloc: Global,
-    logs: &mut Logs,
-    line: &str,
-    said: &mut String,
-) -> Result<(), NoMemory> {
-    if let Some(line) = line.strip_prefix("journal ") {
-        said.clear();
-        return play_kept(alloc, &mut logs.bench, line, said);
+/// Plays the lines of a script, and says what each prints. Where memory is refused, a line is played once more, since the logs are then as they were before. A
+/// line on a journal's file isn't, since it may have changed the file.
+fn play_lines(alloc: Global, text: &str, logs: &mut Logs, said: &mut Said) -> Result<(), NoMemory> {
+    for line in text.lines() {
+        let before = said.len();
+        if let Some(line) = line.strip_prefix("journal ") {
+            play_kept(alloc, &mut logs.bench, line, said)?;
+        } else if play(alloc, logs, line, said).is_err() || said.bytes().is_err() {
+            said.cut(before);
+            play(alloc, logs, line, said)?;
+        }
     }
-    match play(alloc, logs, line, said) {
-        Ok(()) => Ok(()),
-        Err(NoMemory) => play(alloc, logs, line, said),
-    }
+    Ok(())
 }
 
 /// Empty logs. Where memory is refused they are made once more.
@@ -241,21 +191,9 @@ fn begin_again(alloc: Global) -> Result<Logs, NoMemory> {
     }
 }
 
-/// Plays the lines of the input, and prints what each prints.
-fn play_lines(rt: &HostRuntime, logs: &mut Logs) -> io::Result<()> {
-    let mut said = String::new(rt.alloc());
-    for line in rt.lines(rt.alloc()) {
-        if play_again(rt.alloc(), logs, line?.as_str(), &mut said).is_err() {
-            return println!(rt; "no memory");
-        }
-        println!(rt; "{said}")?;
-    }
-    Ok(())
-}
-
-fn main(rt: HostRuntime) -> io::Result<()> {
-    match begin_again(rt.alloc()) {
-        Ok(mut logs) => play_lines(&rt, &mut logs),
-        Err(NoMemory) => println!(rt; "no memory"),
-    }
+/// Plays the lines of a script, and says what each prints. The status, which is 0.
+pub fn run(alloc: Global, text: &str, said: &mut Said) -> Result<u8, NoMemory> {
+    let mut logs = begin_again(alloc)?;
+    play_lines(alloc, text, &mut logs, said)?;
+    Ok(0)
 }

@@ -1,5 +1,4 @@
-//! `service_script`: what services write, save and answer, by the lines of a script, which it reads from standard input. A SERVICE is `echo`, `line`,
-//! `transfer`, `meter` or `counter`. The lines of a script:
+//! What services write, save and answer, by the lines of a script. A SERVICE is `echo`, `line`, `transfer`, `meter` or `counter`. The lines of a script:
 //!
 //! - `# ..` is printed as it is;
 //! - `load SERVICE HEX` loads a service, and prints the form that it then has, or `none`;
@@ -23,8 +22,7 @@
 use connections::Parts;
 use ft_io::NoMemory;
 use std::alloc::Global;
-use std::io;
-use test_data::word_of_bytes;
+use test_data::Said;
 
 mod connections;
 mod messages;
@@ -37,52 +35,32 @@ fn count_and_seed(text: &str) -> Option<(u32, u64)> {
     Some((count.parse().ok()?, seed.parse().ok()?))
 }
 
-/// Writes a text.
-fn tell(said: &mut String, text: &str) -> Result<(), NoMemory> {
-    said.push_str(text)?;
-    Ok(())
-}
-
-/// Writes bytes in hexadecimal, or `-` for none.
-fn tell_bytes(alloc: Global, bytes: &[u8], said: &mut String) -> Result<(), NoMemory> {
-    tell(said, word_of_bytes(alloc, bytes)?.as_str())
-}
-
-/// Plays a line, and writes what it prints.
-fn play(alloc: Global, parts: &mut Parts, line: &str, said: &mut String) -> Result<(), NoMemory> {
-    said.clear();
-    let (word, rest) = line.split_once(' ').unwrap_or((line, ""));
-    match word {
-        "#" => tell(said, line),
-        "load" => services::load_line(alloc, rest, said),
-        "play" => services::play_line(alloc, rest, said),
-        "resume" => services::resume_line(alloc, rest, said),
-        "runs" => services::runs_line(alloc, rest, said),
-        "mark" => messages::mark_line(alloc, rest, said),
-        "random" => messages::random_line(alloc, rest, said),
-        "part" => web_server::part_line(rest, parts),
-        "piece" => web_server::piece_line(alloc, rest, parts),
-        "say" => web_server::say_line(alloc, rest, said),
-        "connections" => web_server::connections_line(alloc, rest, parts, said),
-        _ => tell(said, "no such line"),
-    }
-}
-
-/// Plays the lines of the input, and prints what each writes, if anything.
-fn play_lines(rt: &HostRuntime, parts: &mut Parts, said: &mut String) -> io::Result<()> {
-    for line in rt.lines(rt.alloc()) {
-        if play(rt.alloc(), parts, line?.as_str(), said).is_err() {
-            return println!(rt; "no memory");
+/// Plays the lines of a script, and says what each prints: a line, but for those that only set a part of a request. The status, which is 0.
+pub fn run(alloc: Global, text: &str, said: &mut Said) -> Result<u8, NoMemory> {
+    let mut parts = Parts::new(alloc);
+    for line in text.lines() {
+        let (word, rest) = line.split_once(' ').unwrap_or((line, ""));
+        match word {
+            "#" => said.add(line.as_bytes()),
+            "load" => services::load_line(alloc, rest, said)?,
+            "play" => services::play_line(alloc, rest, said)?,
+            "resume" => services::resume_line(alloc, rest, said)?,
+            "runs" => services::runs_line(alloc, rest, said)?,
+            "mark" => messages::mark_line(alloc, rest, said)?,
+            "random" => messages::random_line(alloc, rest, said)?,
+            "part" => {
+                parts.begin(rest.parse::<u32>().unwrap_or(0))?;
+                continue;
+            }
+            "piece" => {
+                web_server::piece_line(alloc, rest, &mut parts)?;
+                continue;
+            }
+            "say" => web_server::say_line(alloc, rest, said)?,
+            "connections" => web_server::connections_line(alloc, rest, &parts, said)?,
+            _ => said.add(b"no such line"),
         }
-        if !said.is_empty() {
-            println!(rt; "{said}")?;
-        }
+        said.end_line();
     }
-    Ok(())
-}
-
-fn main(rt: HostRuntime) -> io::Result<()> {
-    let mut parts = Parts::new(rt.alloc());
-    let mut said = String::new(rt.alloc());
-    play_lines(&rt, &mut parts, &mut said)
+    Ok(0)
 }
