@@ -1,5 +1,5 @@
 /* Writes the lines of the turns in which one client sends a byte and hears its echo, with fprintf: CYCLES of them, ROUNDS times, the lines that
- * `wire_bench lines write CYCLES ROUNDS` writes. */
+ * `part_cases wire lines write CYCLES ROUNDS` writes. */
 #include <stdio.h>
 #include <stdlib.h>
 

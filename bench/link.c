@@ -1,4 +1,4 @@
-// The C loop beside `wire_bench link`: sends a datagram to itself and receives it, ROUNDS times, and prints how many bytes came back.
+// The C loop beside `part_cases wire link`: sends a datagram to itself and receives it, ROUNDS times, and prints how many bytes came back.
 #include <arpa/inet.h>
 #include <stdio.h>
 #include <stdlib.h>

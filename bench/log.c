@@ -1,4 +1,4 @@
-/* The log of one connection as a plain C program: `log READS BYTES ROUNDS`, as `wire_bench log` has them. */
+/* The log of one connection as a plain C program: `log READS BYTES ROUNDS`, as `part_cases wire log` has them. */
 #include <stdint.h>
 #include <stdio.h>
 #include <stdlib.h>

@@ -1,4 +1,4 @@
-/* Reading and writing messages as plain C loops: `messages WHAT KIND ROUNDS`, as `wire_bench messages` has them. */
+/* Reading and writing messages as plain C loops: `messages WHAT KIND ROUNDS`, as `part_cases wire messages` has them. */
 #include <stdint.h>
 #include <stdio.h>
 #include <stdlib.h>

@@ -1,26 +1,26 @@
 #!/usr/bin/env bash
-# Packets and messages by wire_bench, compared with plain C loops of the same checks and updates (gcc -O2), in one run: packets of 40 and of 1,500 bytes are read,
+# Packets and messages by `part_cases wire`, compared with plain C loops of the same checks and updates (gcc -O2), in one run: packets of 40 and of 1,500 bytes are read,
 # with their checksums; three fields of such a packet are set in place; and messages are read and written, a Data of 1,460 bytes and the length of a read. Printed
 # is the minimum CPU time of 7 runs each, which alternate.
 #     bench/packets.sh [OLDER]
-# With OLDER, an older wire_bench or a checkout that has one, both programs do the same 21 times alternately (or ROUNDS times), and the minimum times are compared,
+# With OLDER, an older part_cases or a checkout that has one, both programs do the same 21 times alternately (or ROUNDS times), and the minimum times are compared,
 # of whole runs. Status 1 if one of the new times is over 5 % longer.
 set -eu
 before=${1:+$(realpath "$1")}
 . "$(dirname "$0")/common.sh"
-build wire_bench packets 40 1
-program=$PWD/crates/wire_bench/out/wire_bench
-[ -z "$before" ] || before=$(older wire_bench "$before" packets 40 1)
+build part_cases wire packets 40 1
+program=$PWD/crates/part_cases/out/part_cases
+[ -z "$before" ] || before=$(older part_cases "$before" wire packets 40 1)
 gcc -O2 -Wall -o "$work/packets" bench/packets.c
 gcc -O2 -Wall -o "$work/messages" bench/messages.c
 
 # what is timed, the first word of ours and the C program of that name, their other words, and how many calls they make
 row() {
     local what=$1 word=$2 words=$3 calls=$4 least_ours=999999 least_c=999999 a b
-    [ -z "$before" ] || { beside "$what" "$word $words"; return; }
+    [ -z "$before" ] || { beside "$what" "wire $word $words"; return; }
     for _ in 1 2 3 4 5 6 7; do
         # shellcheck disable=SC2086
-        a=$(spent_in_user "$program" "$word" $words)
+        a=$(spent_in_user "$program" wire "$word" $words)
         mv "$work/out" "$work/said"
         # shellcheck disable=SC2086
         b=$(spent_in_user "$work/$word" $words)

@@ -2,7 +2,7 @@
 # Times `ftreplay run` on schedules of 10,000 and 100,000 events. Printed are the minimum of five runs of each, their ratio, and the memory of a run, with the sizes
 # of its packets, schedule and report. Eight clients send their scripts byte by byte, each byte is logged, echoed and acknowledged before the next, and at every
 # 1,000th event the server crashes and restarts from the log (bench/crash_schedule.awk). Then the same with one client and no crash (bench/echo_schedule.awk). Then the lines of the larger
-# report, without its first and last ones, as wire_bench writes them from events and packets as bytes, compared with a C loop of fprintf of the same lines (gcc
+# report, without its first and last ones, as `part_cases wire lines` writes them from events and packets as bytes, compared with a C loop of fprintf of the same lines (gcc
 # -O2); and the reading of a schedule of 8 MiB. Of each the minimum CPU time of 7 runs.
 #     bench/replay.sh [OLDER | marks]
 # With OLDER, an older ftreplay or a checkout that has one, both programs run the schedules of 100,000 events four times, 21 times alternately (or ROUNDS times), with
@@ -120,14 +120,14 @@ done
 echo 'one client, without a crash'
 { time_schedule 999; time_schedule 9999; } | compare
 
-build wire_bench lines write 9 1
-wire=$PWD/crates/wire_bench/out/wire_bench
-lines() { "$wire" lines "$@"; }
+build part_cases wire lines write 9 1
+cases=$PWD/crates/part_cases/out/part_cases
+lines() { "$cases" wire lines "$@"; }
 gcc -O2 -Wall -o "$schedules/lines" bench/lines.c
 lines write 9999 1 >"$schedules/ours"
 "$schedules/lines" 9999 1 >"$schedules/theirs"
 sed -n '/^event 11 /,/^client /p' "$schedules/report" | sed '$d' >"$schedules/reported"
-cmp -s "$schedules/ours" "$schedules/reported" || { echo "wire_bench and the report differ"; exit 1; }
+cmp -s "$schedules/ours" "$schedules/reported" || { echo "part_cases and the report differ"; exit 1; }
 cmp -s "$schedules/ours" "$schedules/theirs" || { echo "the two loops differ"; exit 1; }
 
 read -r made written < <(in_turn 7 "spent lines write 9999 0" "spent lines write 9999 20")

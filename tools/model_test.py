@@ -379,11 +379,13 @@ class Copies(unittest.TestCase):
 
 class StoredRuns(unittest.TestCase):
     def test_endpoint_script(self):
-        folder = pathlib.Path(__file__).parent.parent / "crates" / "endpoint_script"
-        script = (folder / "stdin").read_text(errors="replace").partition("\nscript\n")[0]
+        folder = pathlib.Path(__file__).parent.parent / "crates" / "part_cases"
+        texts = [(folder / name).read_text(errors="replace") for name in ("stdin", "stdout")]
+        part, printed_part = (text.partition("= endpoint\n")[2].partition("\n= ")[0] for text in texts)
+        script = part.partition("\nscript\n")[0]
         self.assertEqual(play_script(script)[1], [])
         names = re.findall(r"(?m)^case (.*)$", script)
-        printed_first = (folder / "stdout").read_text().splitlines()[: len(names)]
+        printed_first = printed_part.splitlines()[: len(names)]
         self.assertEqual(printed_first, [f"ok {name}" for name in names])
 
     def test_replay_script(self):

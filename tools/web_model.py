@@ -4,7 +4,7 @@
     tools/web_model.py bytes N              writes the N bytes of /bytes/N, made without any server
 
 `mark_model.py lines` writes what `service_script` must print, and uses this model for the lines about the web server. They are described at the beginning of
-crates/service_script/src/main.rt. It needs only Python's standard library and twin_model.py.
+crates/service_script/src/lib.rt. It needs only Python's standard library and twin_model.py.
 """
 import hashlib
 import re
