@@ -118,7 +118,7 @@ impl PlainClient {
         self.accepted.len() as u64 + u64::from(self.phase == Phase::Ended)
     }
 
-    fn suits_phase(&self, made: Move) -> bool
+    pub(crate) fn suits_phase(&self, made: Move) -> bool
         ensures { result ≡ suits_phase self.now (move_value made) }
     {
         let unfinished = self.acknowledged as usize <= self.script.len();

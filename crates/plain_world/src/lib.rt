@@ -10,6 +10,7 @@ mod actors;
 mod asking;
 mod client;
 mod clients;
+mod excluded;
 mod fetching;
 mod hearing;
 mod incarnation;

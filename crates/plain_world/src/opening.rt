@@ -62,7 +62,7 @@ fn numbers_for(isn: u32, n: u64, syn: &PacketRef<'_>) -> Numbers
 }
 
 /// Returns whether the log is asked for a pending opening: at its SYN, at each retransmission of the SYN, and at each tick.
-fn is_asked(who: Incarnation, input: &Input<'_>, numbers: &Numbers) -> bool
+pub(crate) fn is_asked(who: Incarnation, input: &Input<'_>, numbers: &Numbers) -> bool
     ensures { (stage : law.Stage) → result ≡ asked_lem (node_of who stage) (input_in input.now) (numbers_in numbers.now) }
 {
     match input {

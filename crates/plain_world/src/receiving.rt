@@ -108,7 +108,7 @@ impl PlainClient {
 
     /// Returns the part of a text that continues the accepted bytes, up to the right edge.
     #[tactic(auto, unfolding(crate::specs::Accepting::next_text))]
-    fn next_text<'a>(&self, first: i64, text: &'a [u8]) -> &'a [u8]
+    pub(crate) fn next_text<'a>(&self, first: i64, text: &'a [u8]) -> &'a [u8]
         ensures { result.now ≡ next_text (length self.now.accepted) self.now.edge (is_ended self.now.phase) first text.now }
     {
         let next = self.accepted.len() as u64;
