@@ -8,6 +8,7 @@ pub use world::World;
 
 mod clients;
 mod end;
+mod excluded;
 pub mod laws;
 mod logs;
 mod marked;

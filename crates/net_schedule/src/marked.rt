@@ -103,7 +103,7 @@ impl MarkedLog {
     }
 
     /// Enters in the journal the mark of a message that the store has read, if the store's acknowledged output of its key is at least the output made.
-    fn enter(&mut self, alloc: Global, message: &MarkMsg<'_>) -> Result<(), NoMemory>
+    pub(crate) fn enter(&mut self, alloc: Global, message: &MarkMsg<'_>) -> Result<(), NoMemory>
         requires { IsSpellable (mark_message_of message.now) }
         ensures { OnOk result (Notes (λ l. after_mark l (mark_message_of message.now)) self.old self.new) }
     {

@@ -45,7 +45,7 @@ fn refill(buffer: &mut Vec<u8>, bytes: &[u8]) -> Result<(), NoMemory>
 }
 
 /// Replaces the contents of a buffer by these bytes with one bit changed.
-fn refill_flipped(buffer: &mut Vec<u8>, bytes: &[u8], bit: u32) -> Result<(), NoMemory>
+pub(crate) fn refill_flipped(buffer: &mut Vec<u8>, bytes: &[u8], bit: u32) -> Result<(), NoMemory>
     requires { bit < 8 * length bytes.now }
     ensures { OnOk result (buffer.new.items ≡ flipped bit bytes.now) }
 {
@@ -357,7 +357,7 @@ impl<S: Saved> World<S> {
     }
 
     /// Does one event, however many packets were sent. After `BadEvent` the world is unchanged. After another error it may only be dropped.
-    fn act(&mut self, alloc: Global, event: &Event) -> Result<(), StepEnd>
+    pub(crate) fn act(&mut self, alloc: Global, event: &Event) -> Result<(), StepEnd>
         ensures done { OnOk result (Does (saving S.form S.state_of S.is_savable) event.now self.old self.new) }
         ensures ends { IfErr result (Declines (saving S.form S.state_of S.is_savable) event.now self.old self.new) }
     {
