@@ -8,6 +8,7 @@ pub use input::{Input, TurnEnd};
 pub use node::Node;
 pub use out_packet::{OutPacket, To};
 
+mod excluded;
 mod hearing;
 mod identity;
 mod input;

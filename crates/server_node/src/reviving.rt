@@ -42,7 +42,7 @@ pub(crate) fn restore_all<S: Service>(
 }
 
 /// Gives an entry its slot. An entry whose connection hasn't ended uses up an initial sequence number.
-fn restore<S: Service>(
+pub(crate) fn restore<S: Service>(
     who: Identity,
     entry: Restored<S>,
     serving: &mut Serving<S>,

@@ -176,7 +176,7 @@ fn on_summary<S: Saved>(who: Identity, m: &Msg<'_>, turn: &mut Turn) -> Result<S
 }
 
 /// The boot number that a Stale names, if it is larger than `boot`.
-fn newer_than(boot: u64, body: &Body<'_>) -> Option<u64>
+pub(crate) fn newer_than(boot: u64, body: &Body<'_>) -> Option<u64>
     ensures { result ≡ newer_than boot (body_of body.now) }
 {
     match body {
@@ -196,7 +196,7 @@ fn newer_in(who: Identity, m: &Msg<'_>) -> Option<u64>
 }
 
 /// Handles a message that the codec has read. A Stale of this boot that names a larger boot number ends the node.
-fn hear<S: Saved>(
+pub(crate) fn hear<S: Saved>(
     who: Identity,
     stage: Stage<S>,
     m: &Msg<'_>,

@@ -1,0 +1,84 @@
+//! Wrong results that the contracts of this crate exclude. Each function calls another one of the crate, and promises of its result what a wrong body would make
+//! false. It is proved from the other's contract alone, so it is no longer proved once that contract lets the wrong body pass.
+
+ghost use Rattle.std.specs.Prelude.{◌≡◌, ◌≢◌, ◌≤◌, [], List, None, false, IfOk, OnOk};
+ghost use Rattle.std.specs.Map.{lookup};
+ghost use Rattle.ft_io.specs.Key.{key_eq};
+ghost use Rattle.logger_wire.specs.Value.{IsSendable};
+ghost use Rattle.reincarnate.specs.Questions.{asked};
+ghost use Rattle.reincarnate.specs.Refinement.{RestoredIs};
+ghost use Rattle.ft_model.specs.Lawful.{restored_count};
+ghost use Rattle.ft_model.specs.Node.{Stage as Standing};
+ghost use Rattle.ft_model.specs.Opening.{initial_number};
+ghost use Rattle.ft_model.specs.Restart.{Fetched, IsSoundEntry, entry_in, is_fetched};
+ghost use Rattle.ft_model.specs.Wire.{Wire};
+ghost use Rattle.server_node.specs.FetchStage.{IsOwn};
+ghost use Rattle.server_node.specs.Identity.{node_of, service_of};
+ghost use Rattle.server_node.specs.Loan.{conn_in};
+ghost use Rattle.server_node.specs.RestartEnd.{AreRestored};
+ghost use Rattle.server_node.specs.RestartNumbers.{IsNumbered};
+ghost use Rattle.server_node.specs.Slots.{AllSound};
+
+use crate::identity::Identity;
+use crate::input::TurnEnd;
+use crate::restarting::ask;
+use crate::reviving::restore;
+use crate::serving::Serving;
+use crate::stage::{Stage, hear, newer_than};
+use crate::turn::Turn;
+use ft_io::NoMemory;
+use logger_wire::{Body, Msg};
+use reincarnate::{Fetching, Restored};
+use server_trait::{Saved, Service};
+
+/// A Stale that names a smaller boot number fences no server: the contract of `newer_than`.
+fn fenced_by_an_older_boot() -> Option<u64>
+    ensures { result ≡ None }
+{
+    newer_than(2, &Body::StaleMsg { newer: 1 })
+}
+
+/// A restored connection has inside the initial sequence number that follows those of the connections restored before it: the clause `turn` of `restore`.
+fn restarts_under_one_number<S: Service>(
+    who: Identity,
+    entry: Restored<S>,
+    serving: &mut Serving<S>,
+    turn: &mut Turn,
+) -> Result<(), NoMemory>
+    requires boot { 1 ≤ who.boot }
+    requires sound { AllSound who serving.old.slots.entries }
+    ensures { OnOk result ((standing : Standing) (f : Fetched) (earlier : List Fetched) (first : List Wire) → let service = service_of S.Service who in
+        RestoredIs service f entry → f.head.done ≡ false → IsSoundEntry service (entry_in f) → is_fetched f.head.key earlier ≡ false
+        → AreRestored service (node_of who standing) earlier serving.old first turn.old.sent.items
+        → IsNumbered service (entry_in f) (initial_number who.isn (restored_count earlier)) (conn_in (lookup (key_eq f.head.key) serving.new.slots.entries))) }
+{
+    restore(who, entry, serving, turn)
+}
+
+/// A restart that misses nothing asks for nothing: the clauses `missing` and `asks` of `ask`.
+fn stays_restarting<S: Service>(
+    who: Identity,
+    fetching: &Fetching<S>,
+    turn: &mut Turn,
+) -> Result<bool, NoMemory>
+    requires own { IsOwn who fetching.now }
+    requires whole { asked fetching.now ≡ None }
+    ensures { IfOk result (λ asks. asks ≡ false) }
+{
+    ask(who, fetching, turn)
+}
+
+/// A message of another boot changes nothing, and nothing is sent: the clauses `turn` and `apart` of `hear`.
+fn uses_a_message_of_another_boot<S: Saved>(
+    who: Identity,
+    m: &Msg<'_>,
+    turn: &mut Turn,
+) -> Result<Stage<S>, TurnEnd>
+    requires boot { 1 ≤ who.boot }
+    requires sendable { IsSendable m.now }
+    requires other { m.now.boot ≢ who.boot }
+    requires empty { turn.old.sent.items ≡ [] }
+    ensures { IfOk result (λ after. (after ≡ Stage.Asking) × (turn.new.sent.items ≡ [])) }
+{
+    hear(who, Stage::Asking, m, turn)
+}
