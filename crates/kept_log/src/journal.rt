@@ -59,7 +59,7 @@ pub struct Journal {
 }
 
 /// What is appended after a closed gate: the body with its length, and the next closed gate.
-fn block_of(alloc: Global, body: &[u8]) -> Result<Vec<u8>, AllocError>
+pub(crate) fn block_of(alloc: Global, body: &[u8]) -> Result<Vec<u8>, AllocError>
     requires { length body.now < 2 ^ 32 }
     ensures { IfOk result (λ block. block.items ≡ sized body.now) }
 {

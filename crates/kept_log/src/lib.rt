@@ -13,6 +13,7 @@ pub use opening::OpenEnd;
 
 mod block;
 mod body;
+mod excluded;
 mod journal;
 pub mod journal_laws;
 mod kept;

@@ -60,7 +60,11 @@ pub enum Found {
 }
 
 /// Takes the block at the beginning of the bytes into the log.
-fn take_block(alloc: Global, window: &mut Window, store: &mut LogStore) -> Result<Taken, NoMemory>
+pub(crate) fn take_block(
+    alloc: Global,
+    window: &mut Window,
+    store: &mut LogStore,
+) -> Result<Taken, NoMemory>
     ensures { IfOk result (Takes window.old window.new store.old store.new) }
 {
     match start_of(window.bytes()) {
