@@ -19,6 +19,7 @@ pub use top::{node, node_of};
 
 mod client;
 mod counts;
+mod excluded;
 mod logger;
 mod options;
 mod pair;

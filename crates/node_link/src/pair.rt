@@ -168,7 +168,7 @@ fn client_words(alloc: Global, role: &PairRole) -> Result<Words, NoMemory>
 }
 
 /// All steps of a pair, in order.
-fn steps(alloc: Global, role: &PairRole) -> Result<[PairStep; 8], NoMemory>
+pub(crate) fn steps(alloc: Global, role: &PairRole) -> Result<[PairStep; 8], NoMemory>
     requires { role.now.base ≤ 65533 }
     ensures { IfOk result (λ steps. steps ≡ steps_of role.now) }
 {

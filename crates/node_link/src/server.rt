@@ -124,7 +124,7 @@ fn input_of<'a>(loggers: Loggers, came: Option<(usize, Addr)>, buffer: &'a [u8])
 }
 
 /// Takes one turn: receives once, and sends all packets with which the node reacts.
-fn take_turn<S: Saved, L: Link>(
+pub(crate) fn take_turn<S: Saved, L: Link>(
     alloc: Global,
     loggers: Loggers,
     node: &mut Node<S>,
