@@ -86,7 +86,7 @@ pub(crate) fn write_closing<S: Service>(
     write_end(alloc, world.turns(), lines)
 }
 
-fn is_same(line: &[u8], due: &[u8]) -> bool
+pub(crate) fn is_same(line: &[u8], due: &[u8]) -> bool
     ensures { result ≡ bytes_eq line.now due.now }
 {
     line == due

@@ -7,6 +7,7 @@ pub use end::CheckEnd;
 mod check;
 mod closing;
 mod end;
+mod excluded;
 mod header;
 mod lines;
 mod next;

@@ -78,7 +78,13 @@ fn another_follows(schedule: &Schedule, text: &[u8], at: usize, n: u32) -> bool
 
 /// Returns where `due` ends, if it follows the first `from` bytes of a text, and is not followed by the line of packet `n`.
 #[tactic(auto, using(crate::proofs::ToldTurns::due_is_told, crate::proofs::ToldTurns::other_is_due, crate::proofs::ToldTurns::more_is_due, std::proofs::lemmas::List::take_rest))]
-fn told_end(schedule: &Schedule, text: &[u8], from: usize, due: &[u8], n: u32) -> Option<usize>
+pub(crate) fn told_end(
+    schedule: &Schedule,
+    text: &[u8],
+    from: usize,
+    due: &[u8],
+    n: u32,
+) -> Option<usize>
     requires within { from ≤ length text.now }
     requires schedule { IsChecked schedule.now }
     ensures { MatchOption result ((end : ℕ) → IsTold text.now schedule.now from end n due.now → ⊥) (λ end. IsTold text.now schedule.now from end n due.now) }

@@ -43,7 +43,7 @@ pub(crate) struct Place {
 }
 
 /// Returns whether an event may not happen then, or is one too many.
-fn is_refused<S: Service>(world: &PlainWorld<S>, event: &Event) -> bool
+pub(crate) fn is_refused<S: Service>(world: &PlainWorld<S>, event: &Event) -> bool
     ensures { (schedule : Written) (trace : List Moment) → IsAt (machines S.started S.after) schedule trace world.now → result ≡ refused_lem schedule trace event.now }
 {
     world.refusal(event).is_some() || EVENT_LIMIT <= world.turns()
