@@ -12,6 +12,7 @@ pub use top::replay;
 mod asked;
 mod check;
 mod dice;
+mod excluded;
 mod laws;
 mod lines;
 mod play;

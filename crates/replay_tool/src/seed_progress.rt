@@ -76,7 +76,7 @@ impl Progress {
     }
 
     /// Plays event number `n`, counted from 0. The event is never refused.
-    fn play_event(
+    pub(crate) fn play_event(
         &mut self,
         alloc: Global,
         asked: Asked,
