@@ -11,6 +11,7 @@ pub use status::JournalEnd;
 pub use top::node_with;
 
 mod answers;
+mod excluded;
 mod keeper;
 mod pair_role;
 mod pair_top;

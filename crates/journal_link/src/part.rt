@@ -25,7 +25,7 @@ use twin_log::{Part, Side, TwinLog, TwinOut};
 
 /// A logger of a pair, with what it sends in a turn.
 #[derive(Drop)]
-struct Twin {
+pub(crate) struct Twin {
     log: TwinLog,
     /// The server's address: the last one, apart from the other logger's, that sent a datagram which isn't an Alone. None before the first.
     server: Option<Addr>,
@@ -69,7 +69,7 @@ fn server_after_side(side: Side, from: Addr, server: Option<Addr>) -> Option<Add
 }
 
 /// Takes a datagram. What is then to be sent is in the logger's `out`.
-fn take(
+pub(crate) fn take(
     alloc: Global,
     other: Addr,
     twin: &mut Twin,

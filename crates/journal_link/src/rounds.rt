@@ -126,7 +126,7 @@ fn gather<K: Desk>(
 }
 
 /// Takes a round of at most `most` turns: receives, commits, and then answers. Returns how many turns it had.
-fn take_round<K: Desk>(
+pub(crate) fn take_round<K: Desk>(
     alloc: Global,
     desk: &mut K,
     kept: &mut KeptLog,

@@ -10,7 +10,7 @@ use node_link::Counts;
 use twin_log::{Side, TwinOut};
 
 /// Returns the address of a side, or `None` for the server while its address isn't known.
-fn address_for(server: Option<Addr>, other: Addr, side: Side) -> Option<Addr>
+pub(crate) fn address_for(server: Option<Addr>, other: Addr, side: Side) -> Option<Addr>
     ensures { result ≡ address_for_lem server other side }
 {
     match side {
