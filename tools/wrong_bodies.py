@@ -34,8 +34,8 @@ HEAD = """# What stands for each wrong body
 - *a law*, a function without a body, which is proved of the definitions alone;
 - *nothing*: the tool alone tries it. The clause that its first line names is proved, as all are, and what it says is compared with nothing.
 
-Of each function it was seen that it isn't proved once its clause is taken out, unless the last column says otherwise, and each edit for which a function stands was
-seen refused.
+Of each function it was seen that it isn't proved once its clause is taken out or weakened, unless the last column says otherwise. The gate refused each edit that a
+function stands for on 30 November 2026, when it still tried them; those of `schedule_text` and `plain_world` it had refused on earlier days.
 """
 
 
