@@ -1,6 +1,6 @@
-//! A run of `ftnode` as a process. This program with words is `ftnode`, by the one call that `ftnode` itself makes, so it starts itself again.
+//! A run of `ftnode` as a process. The program that plays the script is `ftnode` itself where it has the words of `ftnode`, by the one call that `ftnode` makes.
+//! So it starts itself again.
 
-use crate::said::Said;
 use disk::FileDisk;
 use ft_io::{Addr, Heard, Link};
 use ft_system::UdpLink;
@@ -11,6 +11,7 @@ use std::process::{Child, Command, Output, Processes, Stdio};
 use std::rt::Env;
 use std::time::Clock;
 use std::{env, io};
+use test_data::Said;
 
 /// Where the peer of a process is.
 const PEER: Addr = Addr {
@@ -60,7 +61,8 @@ pub fn start<R: AllocGlobal + Env + Net + Clock + Files<File = File> + Processes
     let _held = FileDisk::open(system, meeting.held.as_str());
     match run(system, words, meeting) {
         Ok(output) => {
-            said.status(output.status.code().unwrap_or(-1));
+            let status = output.status.code().unwrap_or(-1);
+            write!(said, "status {status}\n");
             said.add(output.stdout.as_slice());
             said.add(output.stderr.as_slice());
         }

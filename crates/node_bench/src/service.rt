@@ -1,4 +1,4 @@
-//! A service, run over the standard input to its end: `service NAME`, where `web` is the web server. It prints how many bytes of output the service gave.
+//! A service, run over an input to its end: `service NAME`, where `web` is the web server. It prints how many bytes of output the service gave.
 
 ghost use Rattle.std.specs.Prelude.{◌≡◌, string_bytes};
 ghost use Rattle.node_bench.specs.Names.{kind_named};
@@ -10,19 +10,19 @@ use std::io;
 use std::io::{ErrorKind, Read};
 use web_service::Web;
 
-/// Feeds the service of this name with the standard input, and prints how much it gave.
-pub(crate) fn play<R: AllocGlobal + Input + Print>(rt: &R, name: &str) -> io::Result<u8> {
+/// Feeds the service of this name with the input, and prints how much it gave.
+pub(crate) fn play<R: AllocGlobal + Print, I: Read>(
+    rt: &R,
+    name: &str,
+    input: &mut I,
+) -> io::Result<u8> {
     let len = if name == "web" {
-        output_len(rt.alloc(), Web::fresh(rt.alloc(), 0), &mut rt.reader())?
+        output_len(rt.alloc(), Web::fresh(rt.alloc(), 0), input)?
     } else {
         let Some(kind) = kind_of(name) else {
             return Err(ErrorKind::InvalidInput.into());
         };
-        output_len(
-            rt.alloc(),
-            AnyService::fresh(rt.alloc(), kind),
-            &mut rt.reader(),
-        )?
+        output_len(rt.alloc(), AnyService::fresh(rt.alloc(), kind), input)?
     };
     println!(rt; "{len}")?;
     Ok(0)

@@ -7,7 +7,7 @@ use sample_servers::AnyService;
 use seq_arith::Seq;
 use server_node::{Input, Node, OutPacket, To, TurnEnd};
 use std::alloc::Global;
-use test_data::bytes_of_hex;
+use test_data::{Said, bytes_of_hex};
 
 /// The server's address.
 pub(crate) const LOCAL: Addr = Addr {
@@ -15,13 +15,13 @@ pub(crate) const LOCAL: Addr = Addr {
     port: 7,
 };
 
-/// A server, and what the last line said.
+/// A server, and what the lines said so far.
 #[derive(Drop)]
 pub(crate) struct Player {
     node: Node<AnyService>,
     /// Whether no other has fenced it.
     up: bool,
-    out: String,
+    said: Said,
 }
 
 impl Player {
@@ -30,29 +30,34 @@ impl Player {
         Ok(Player {
             node: Node::boot(alloc, 1, 0, 1, LOCAL)?,
             up: true,
-            out: String::new(alloc),
+            said: Said::new(alloc),
         })
     }
 
-    /// What the last line said.
-    pub(crate) fn said(&self) -> &str {
-        self.out.as_str()
+    /// What the lines said, unless memory was refused.
+    pub(crate) fn said(&self) -> Result<&[u8], NoMemory> {
+        self.said.bytes()
     }
 
     /// Plays a line.
     pub(crate) fn play(&mut self, alloc: Global, line: &str) -> Result<(), NoMemory> {
-        self.out.clear();
         let Some((word, rest)) = line.split_once(' ') else {
             return self.turn(alloc, Input::Tick);
         };
         match word {
             "boot" => self.boot(alloc, numbers(rest)),
-            "conn" => self.tell_conn(numbers(rest)),
+            "conn" => {
+                self.tell_conn(numbers(rest));
+                Ok(())
+            }
             "attack" => self.attack(alloc, numbers(rest)),
             "strike" => self.strike(alloc, numbers(rest)),
             "packet" => self.give(alloc, rest, true),
             "message" => self.give(alloc, rest, false),
-            _ => tell_text(line, &mut self.out),
+            _ => {
+                self.said.line(line);
+                Ok(())
+            }
         }
     }
 
@@ -67,7 +72,8 @@ impl Player {
         let every = (every % 4_294_967_296) as u32;
         self.node = Node::boot_marked(alloc, boot.max(1), isn, kind, LOCAL, every)?;
         self.up = true;
-        tell(alloc, self.node.sent(), &mut self.out)
+        tell(self.node.sent(), &mut self.said);
+        Ok(())
     }
 
     /// A datagram from a client or from the logger.
@@ -75,53 +81,57 @@ impl Player {
         match bytes_of_hex(alloc, digits)? {
             Some(bytes) if is_packet => self.turn(alloc, Input::Packet(&bytes)),
             Some(bytes) => self.turn(alloc, Input::Message(&bytes)),
-            None => tell_text("no digits", &mut self.out),
+            None => {
+                self.said.line("no digits");
+                Ok(())
+            }
         }
     }
 
     fn turn(&mut self, alloc: Global, input: Input<'_>) -> Result<(), NoMemory> {
         if !self.up {
-            return tell_text("no server", &mut self.out);
+            self.said.line("no server");
+            return Ok(());
         }
         match self.node.turn(alloc, input) {
-            Ok(sent) => tell(alloc, sent, &mut self.out),
+            Ok(sent) => tell(sent, &mut self.said),
             Err(TurnEnd::Fenced { newer }) => {
                 self.up = false;
-                Ok(write!(&mut self.out, "fenced by {newer}")?)
+                write!(&mut self.said, "fenced by {newer}\n");
             }
-            Err(TurnEnd::NoMemory) => Err(NoMemory),
+            Err(TurnEnd::NoMemory) => return Err(NoMemory),
         }
+        Ok(())
     }
 
     /// The numbers of a client's connection.
-    fn tell_conn(&mut self, [ip, port, ..]: [u64; 5]) -> Result<(), NoMemory> {
+    fn tell_conn(&mut self, [ip, port, ..]: [u64; 5]) {
         let key = Key {
             ip: (ip % 4_294_967_296) as u32,
             port: (port % 65_536) as u16,
         };
         let Some(conn) = self.node.conn(key) else {
-            return tell_text("none", &mut self.out);
+            return self.said.line("none");
         };
         let now = conn.inside();
         write!(
-            &mut self.out,
+            &mut self.said,
             "delta {} taken {} answered {} ",
             now.delta, now.taken, now.answered
-        )?;
+        );
         write!(
-            &mut self.out,
-            "read {} reads {} una {} sent {}",
+            &mut self.said,
+            "read {} reads {} una {} sent {}\n",
             now.read, now.reads, now.una, now.sent
-        )?;
-        Ok(())
+        );
     }
 
     fn attack(&mut self, alloc: Global, [count, seed, ..]: [u64; 5]) -> Result<(), NoMemory> {
         let tally = attack(alloc, &mut self.node, count, seed)?;
         if tally.sent == 0 {
-            self.out.push_str("silent")?;
+            self.said.line("silent");
         } else {
-            write!(&mut self.out, "wrong {}", tally.wrong)?;
+            write!(&mut self.said, "wrong {}\n", tally.wrong);
         }
         Ok(())
     }
@@ -139,7 +149,11 @@ impl Player {
             ack: Seq((ack % 4_294_967_296) as u32),
         };
         let digest = strike(alloc, &mut self.node, strikes)?;
-        write!(&mut self.out, "sent {} digest {}", digest.sent, digest.sum)?;
+        write!(
+            &mut self.said,
+            "sent {} digest {}\n",
+            digest.sent, digest.sum
+        );
         Ok(())
     }
 }
@@ -157,30 +171,17 @@ fn numbers(rest: &str) -> [u64; 5] {
     all
 }
 
-/// What is sent, a line a packet.
-fn tell(alloc: Global, sent: &[OutPacket], out: &mut String) -> Result<(), NoMemory> {
+/// Says what is sent, a line a packet: to whom, and its bytes.
+fn tell(sent: &[OutPacket], said: &mut Said) {
     if sent.is_empty() {
-        out.push_str("-")?;
+        said.line("-");
     }
-    for i in 0..sent.len() {
-        if 0 < i {
-            out.push_str("\n")?;
+    for packet in sent {
+        match packet.to() {
+            To::Client(Key { ip, port }) => write!(said, "client {ip} {port} "),
+            To::Logger => said.add(b"logger "),
         }
-        tell_packet(alloc, &sent[i], out)?;
+        said.digits(packet.bytes());
+        said.end_line();
     }
-    Ok(())
-}
-
-/// A packet that is sent: to whom, and its bytes.
-fn tell_packet(alloc: Global, packet: &OutPacket, out: &mut String) -> Result<(), NoMemory> {
-    match packet.to() {
-        To::Client(Key { ip, port }) => write!(out, "client {ip} {port} ")?,
-        To::Logger => out.push_str("logger ")?,
-    }
-    tell_text(hex::encode(alloc, packet.bytes())?.as_str(), out)
-}
-
-fn tell_text(text: &str, out: &mut String) -> Result<(), NoMemory> {
-    out.push_str(text)?;
-    Ok(())
 }

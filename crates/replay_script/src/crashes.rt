@@ -6,6 +6,7 @@ use ft_model::{Event, Phase};
 use net_schedule::{StepEnd, World};
 use sample_servers::AnyService;
 use std::alloc::Global;
+use test_data::Said;
 
 /// The most packets of a run.
 const PACKET_LIMIT: u32 = 200_000;
@@ -131,29 +132,26 @@ impl Driven<'_> {
     }
 
     /// What the client has accepted, and the lengths of the reads of the log's first entry.
-    fn tell(&self, alloc: Global, out: &mut Vec<u8>) -> Result<(), NoMemory> {
+    fn tell(&self, said: &mut Said) {
         if let Some(client) = self.world.client(CLIENT) {
-            out.extend_from_slice(client.accepted())?;
+            said.add(client.accepted());
         }
-        out.extend_from_slice(b" in reads of")?;
+        said.add(b" in reads of");
         let log = self.world.log();
-        let Some(head) = log.entry(0) else {
-            return Ok(());
-        };
-        let text = format!(in alloc; " {} bytes, {} reads\n", head.length, head.reads)?;
-        out.extend_from_slice(text.as_bytes())?;
-        Ok(())
+        if let Some(head) = log.entry(0) {
+            write!(said, " {} bytes, {} reads\n", head.length, head.reads);
+        }
     }
 }
 
-/// Plays the first events of a schedule in its world, then a crash, with the stop of a logger if one is named. Appends what the client has at the end, or why an
-/// event was refused.
+/// Plays the first events of a schedule in its world, then a crash, with the stop of a logger if one is named. Says what the client has at the end, or why an event
+/// was refused.
 pub(crate) fn play_crash(
     alloc: Global,
     world: &mut World<AnyService>,
     events: &[Event],
     stops: Option<u8>,
-    out: &mut Vec<u8>,
+    said: &mut Said,
 ) -> Result<(), NoMemory> {
     let mut driven = Driven {
         world,
@@ -161,12 +159,9 @@ pub(crate) fn play_crash(
         stops,
     };
     match driven.play(alloc, events) {
-        Ok(()) => driven.tell(alloc, out),
-        Err(StepEnd::NoMemory) => Err(NoMemory),
-        Err(end) => {
-            let text = format!(in alloc; "{end:?}\n")?;
-            out.extend_from_slice(text.as_bytes())?;
-            Ok(())
-        }
+        Ok(()) => driven.tell(said),
+        Err(StepEnd::NoMemory) => return Err(NoMemory),
+        Err(end) => write!(said, "{end:?}\n"),
     }
+    Ok(())
 }

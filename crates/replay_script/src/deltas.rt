@@ -1,44 +1,36 @@
 //! The delta of each connection that the server has live at the end of a schedule: the client's number of a unit of output less the inner TCP's.
 
-use ft_io::NoMemory;
 use net_schedule::World;
 use sample_servers::AnyService;
 use schedule_text::Schedule;
 use std::alloc::Global;
+use test_data::Said;
 
-/// Plays a schedule's events in its world, and appends a line for each client whose connection is live at the end: its delta.
+/// Plays a schedule's events in its world, and says a line for each client whose connection is live at the end: its delta.
 pub(crate) fn tell_deltas(
     alloc: Global,
     name: &str,
     schedule: &Schedule,
     world: &mut World<AnyService>,
-    out: &mut Vec<u8>,
-) -> Result<(), NoMemory> {
+    said: &mut Said,
+) {
     for event in schedule.events.as_slice() {
         if world.step(alloc, event).is_err() {
-            out.extend_from_slice(b"not played\n")?;
-            return Ok(());
+            return said.line("not played");
         }
     }
-    say_deltas(alloc, name, schedule, world, out)
+    say_deltas(name, schedule, world, said)
 }
 
-/// Appends the line of each client whose connection is live.
-fn say_deltas(
-    alloc: Global,
-    name: &str,
-    schedule: &Schedule,
-    world: &World<AnyService>,
-    out: &mut Vec<u8>,
-) -> Result<(), NoMemory> {
+/// Says the line of each client whose connection is live.
+fn say_deltas(name: &str, schedule: &Schedule, world: &World<AnyService>, said: &mut Said) {
     let Some(node) = world.node() else {
-        return Ok(());
+        return;
     };
     for client in schedule.clients.as_slice() {
         if let Some(conn) = node.conn(client.key) {
-            let line = format!(in alloc; "{name}: delta {}\n", conn.inside().delta)?;
-            out.extend_from_slice(line.as_bytes())?;
+            let delta = conn.inside().delta;
+            write!(said, "{name}: delta {delta}\n");
         }
     }
-    Ok(())
 }

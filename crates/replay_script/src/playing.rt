@@ -4,6 +4,7 @@ use ft_io::NoMemory;
 use ft_system::{MemSink, MemSource};
 use replay_tool::replay;
 use std::alloc::Global;
+use test_data::Said;
 
 /// What the last words of an order say: which call of the source, of the sink of the report and of that of the errors fails, 0 for none, and how many of the
 /// report's last lines are printed, 0 for all.
@@ -15,10 +16,10 @@ struct Ends {
     last: u32,
 }
 
-/// Plays a text as the order says, and appends its name, its status, and what was written.
-pub fn play(alloc: Global, order: &[&str], text: &[u8], out: &mut Vec<u8>) -> Result<(), NoMemory> {
+/// Plays a text as the order says, and says its name, its status, and what was written.
+pub fn play(alloc: Global, order: &[&str], text: &[u8], said: &mut Said) -> Result<(), NoMemory> {
     let [name, spoken, read, wrote, told, last] = order else {
-        out.extend_from_slice(b"no such order\n")?;
+        said.line("no such order");
         return Ok(());
     };
     let ends = Ends {
@@ -28,7 +29,7 @@ pub fn play(alloc: Global, order: &[&str], text: &[u8], out: &mut Vec<u8>) -> Re
         last: number(last),
     };
     let words = words_of(alloc, spoken)?;
-    play_words(alloc, name, &words, ends, text, out)
+    play_words(alloc, name, &words, ends, text, said)
 }
 
 /// The words of an order, joined there by `~`.
@@ -47,7 +48,7 @@ fn play_words(
     words: &[String],
     ends: Ends,
     text: &[u8],
-    out: &mut Vec<u8>,
+    said: &mut Said,
 ) -> Result<(), NoMemory> {
     let read_fails = failing(alloc, ends.read)?;
     let write_fails = failing(alloc, ends.wrote)?;
@@ -56,31 +57,19 @@ fn play_words(
     let mut report = MemSink::new(alloc, write_fails);
     let mut err = MemSink::new(alloc, told_fails);
     let status = replay(alloc, words, &mut input, &mut report, &mut err);
-    tell_run(alloc, name, status.code, &report, &err, ends.last, out)
-}
-
-/// Appends the name and the status of a case, and what was written to both sinks.
-fn tell_run(
-    alloc: Global,
-    name: &str,
-    code: u8,
-    report: &MemSink,
-    err: &MemSink,
-    last: u32,
-    out: &mut Vec<u8>,
-) -> Result<(), NoMemory> {
-    out.extend_from_slice(format!(in alloc; "{name}: status {code}\n")?.as_bytes())?;
-    out.extend_from_slice(err.written())?;
-    out.extend_from_slice(last_lines(report.written(), last))?;
+    let code = status.code;
+    write!(said, "{name}: status {code}\n");
+    said.add(err.written());
+    said.add(last_lines(report.written(), ends.last));
     Ok(())
 }
 
-/// Plays a text by `run`, and appends what `check` says of its report.
+/// Plays a text by `run`, and says what `check` says of its report.
 pub fn play_checked(
     alloc: Global,
     name: &str,
     text: &[u8],
-    out: &mut Vec<u8>,
+    said: &mut Said,
 ) -> Result<(), NoMemory> {
     let words = words_of(alloc, "run")?;
     let mut input = MemSource::new(text.to_vec(alloc)?, Vec::new(alloc));
@@ -88,7 +77,7 @@ pub fn play_checked(
     let mut err = MemSink::new(alloc, Vec::new(alloc));
     replay(alloc, &words, &mut input, &mut report, &mut err);
     let order = [name, "check", "0", "0", "0", "0"];
-    play(alloc, &order, report.written(), out)
+    play(alloc, &order, report.written(), said)
 }
 
 /// A number of an order; 0 for what is none.

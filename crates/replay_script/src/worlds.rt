@@ -11,6 +11,7 @@ use net_schedule::World;
 use sample_servers::AnyService;
 use schedule_text::{Schedule, ScheduleEnd, read_schedule};
 use std::alloc::Global;
+use test_data::Said;
 
 /// What is done in one world.
 #[derive(Clone, Copy)]
@@ -31,19 +32,19 @@ fn schedule_of(alloc: Global, text: &[u8]) -> Result<Schedule, ScheduleEnd>
     read_schedule(alloc, text)
 }
 
-/// Does a task in a new world, and appends what it prints. Only this function owns a world: each exit of a function that drops one adds to its proof.
+/// Does a task in a new world, and says what it prints. Only this function owns a world: each exit of a function that drops one adds to its proof.
 fn do_task(
     alloc: Global,
     name: &str,
     schedule: &Schedule,
     task: Task,
-    out: &mut Vec<u8>,
+    said: &mut Said,
 ) -> Result<(), NoMemory>
     requires playable { IsPlayable schedule.now }
     requires clients { length schedule.now.clients ≤ 16 }
 {
     let mut world: World<AnyService> = World::new(alloc, schedule)?;
-    do_in(alloc, name, schedule, task, &mut world, out)
+    do_in(alloc, name, schedule, task, &mut world, said)
 }
 
 /// Does a task in a world.
@@ -53,14 +54,23 @@ fn do_in(
     schedule: &Schedule,
     task: Task,
     world: &mut World<AnyService>,
-    out: &mut Vec<u8>,
+    said: &mut Said,
 ) -> Result<(), NoMemory> {
     let events = schedule.events.as_slice();
     match task {
         Task::Crash { count, stops } => {
-            play_crash(alloc, world, &events[..count.min(events.len())], stops, out)
+            play_crash(
+                alloc,
+                world,
+                &events[..count.min(events.len())],
+                stops,
+                said,
+            )
         }
-        Task::Deltas => tell_deltas(alloc, name, schedule, world, out),
+        Task::Deltas => {
+            tell_deltas(alloc, name, schedule, world, said);
+            Ok(())
+        }
     }
 }
 
@@ -70,15 +80,14 @@ fn play_each_crash(
     name: &str,
     schedule: &Schedule,
     stops: Option<u8>,
-    out: &mut Vec<u8>,
+    said: &mut Said,
 ) -> Result<(), NoMemory>
     requires playable { IsPlayable schedule.now }
     requires clients { length schedule.now.clients ≤ 16 }
 {
     for count in 1..=schedule.events.as_slice().len() {
-        let head = format!(in alloc; "{name}, crash after {count}: ")?;
-        out.extend_from_slice(head.as_bytes())?;
-        do_task(alloc, name, schedule, Task::Crash { count, stops }, out)?;
+        write!(said, "{name}, crash after {count}: ");
+        do_task(alloc, name, schedule, Task::Crash { count, stops }, said)?;
     }
     Ok(())
 }
@@ -89,28 +98,29 @@ pub(crate) fn play_crashes(
     name: &str,
     stops: Option<u8>,
     text: &[u8],
-    out: &mut Vec<u8>,
+    said: &mut Said,
 ) -> Result<(), NoMemory> {
     match schedule_of(alloc, text) {
-        Ok(schedule) => play_each_crash(alloc, name, &schedule, stops, out),
-        Err(_) => tell_none(out),
+        Ok(schedule) => play_each_crash(alloc, name, &schedule, stops, said),
+        Err(_) => {
+            said.line("no schedule");
+            Ok(())
+        }
     }
 }
 
-/// Plays the schedule that a text spells, and appends the deltas at the end.
+/// Plays the schedule that a text spells, and says the deltas at the end.
 pub(crate) fn play_deltas(
     alloc: Global,
     name: &str,
     text: &[u8],
-    out: &mut Vec<u8>,
+    said: &mut Said,
 ) -> Result<(), NoMemory> {
     match schedule_of(alloc, text) {
-        Ok(schedule) => do_task(alloc, name, &schedule, Task::Deltas, out),
-        Err(_) => tell_none(out),
+        Ok(schedule) => do_task(alloc, name, &schedule, Task::Deltas, said),
+        Err(_) => {
+            said.line("no schedule");
+            Ok(())
+        }
     }
-}
-
-fn tell_none(out: &mut Vec<u8>) -> Result<(), NoMemory> {
-    out.extend_from_slice(b"no schedule\n")?;
-    Ok(())
 }

@@ -8,6 +8,7 @@ use ft_io::{Key, NoMemory};
 use reincarnate::Fetching;
 use sample_servers::AnyService;
 use std::alloc::Global;
+use test_data::Said;
 
 pub(crate) const ECHO: u8 = 1;
 
@@ -24,9 +25,9 @@ fn one(
     name: &str,
     kind: u8,
     entry: Logged<'_>,
-    out: &mut String,
+    said: &mut Said,
 ) -> Result<(), NoMemory> {
-    restart(alloc, name, begin(alloc, kind, 1, false)?, entry, out)
+    restart(alloc, name, begin(alloc, kind, 1, false)?, entry, said)
 }
 
 /// One connection that is restored by this restart, with what is asked for it.
@@ -35,23 +36,12 @@ pub(crate) fn restart(
     name: &str,
     mut fetching: Fetching<AnyService>,
     entry: Logged<'_>,
-    out: &mut String,
+    said: &mut Said,
 ) -> Result<(), NoMemory> {
-    fetch_case(alloc, name, &mut fetching, &[entry], out)?;
-    restore(alloc, fetching, out)?;
+    write!(said, "case {name}\n");
+    fetch(alloc, &mut fetching, &[entry], said)?;
+    restore(alloc, fetching, said)?;
     Ok(())
-}
-
-/// The case's name, and what is asked in it.
-fn fetch_case(
-    alloc: Global,
-    name: &str,
-    fetching: &mut Fetching<AnyService>,
-    entries: &[Logged<'_>],
-    out: &mut String,
-) -> Result<(), NoMemory> {
-    write!(out, "case {name}\n")?;
-    fetch(alloc, fetching, entries, out)
 }
 
 /// An entry of the worked runs' client.
@@ -85,17 +75,17 @@ fn many_entries(alloc: Global) -> Result<Vec<Logged<'static>>, NoMemory> {
 }
 
 /// Restores the connections of a log with these entries, and returns how many they are.
-fn restored(alloc: Global, entries: &[Logged<'_>], passed: &mut String) -> Result<u32, NoMemory> {
+fn restored(alloc: Global, entries: &[Logged<'_>], passed: &mut Said) -> Result<u32, NoMemory> {
     let mut fetching = begin(alloc, ECHO, 64, false)?;
     fetch(alloc, &mut fetching, entries, passed)?;
     restore(alloc, fetching, passed)
 }
 
 /// 64 entries, of which only the count of connections is printed.
-fn many(alloc: Global, out: &mut String) -> Result<(), NoMemory> {
+fn many(alloc: Global, said: &mut Said) -> Result<(), NoMemory> {
     let entries = many_entries(alloc)?;
-    let count = restored(alloc, &entries, &mut String::new(alloc))?;
-    write!(out, "case 64_entries\nrestored {count}\n")?;
+    let count = restored(alloc, &entries, &mut Said::new(alloc))?;
+    write!(said, "case 64_entries\nrestored {count}\n");
     Ok(())
 }
 
@@ -104,83 +94,81 @@ fn hostile_fetch(
     alloc: Global,
     fetching: &mut Fetching<AnyService>,
     entry: Logged<'_>,
-    out: &mut String,
+    said: &mut Said,
 ) -> Result<(), NoMemory> {
     hand(alloc, fetching, &head_of(alloc, BOOT, 0, &entry)?)?;
     hand(alloc, fetching, &lens_of(alloc, BOOT, &entry, 0)?)?;
     let fitted = attack(alloc, fetching, &entry, 10_000)?;
-    write!(out, "case hostile_messages\nfitted {fitted}\n")?;
-    fetch(alloc, fetching, &[entry], out)
+    write!(said, "case hostile_messages\nfitted {fitted}\n");
+    fetch(alloc, fetching, &[entry], said)
 }
 
 /// A restart that hostile messages meet.
-fn hostile(alloc: Global, bytes: &[u8], out: &mut String) -> Result<(), NoMemory> {
+fn hostile(alloc: Global, bytes: &[u8], said: &mut Said) -> Result<(), NoMemory> {
     let mut fetching = begin(alloc, METER, 1, false)?;
     let entry = logged(bytes, 0, &[2_048, 452], 5);
-    hostile_fetch(alloc, &mut fetching, entry, out)?;
-    restore(alloc, fetching, out)?;
+    hostile_fetch(alloc, &mut fetching, entry, said)?;
+    restore(alloc, fetching, said)?;
     Ok(())
 }
 
 /// Connections whose client continues to send.
-fn open_cases(alloc: Global, long: &[u8], out: &mut String) -> Result<(), NoMemory> {
+fn open_cases(alloc: Global, long: &[u8], said: &mut Said) -> Result<(), NoMemory> {
     one(
         alloc,
         "streaming_questions",
         METER,
         logged(long, 0, &[2_048, 452], 5),
-        out,
+        said,
     )?;
     one(
         alloc,
         "crash_after_logged",
         ECHO,
         logged(b"hello", 0, &[5], 0),
-        out,
+        said,
     )?;
     one(
         alloc,
         "cuts_and_swallowing",
         METER,
         logged(b"abc", 0, &[2, 1], 2),
-        out,
+        said,
     )?;
-    one(alloc, "nothing", ECHO, logged(b"", 0, &[], 0), out)
+    one(alloc, "nothing", ECHO, logged(b"", 0, &[], 0), said)
 }
 
 /// Connections whose client has sent its FIN: the server's FIN is acknowledged, isn't, or isn't due before the rest is read.
-fn ending_cases(alloc: Global, out: &mut String) -> Result<(), NoMemory> {
+fn ending_cases(alloc: Global, said: &mut Said) -> Result<(), NoMemory> {
     one(
         alloc,
         "acknowledged_fin",
         ECHO,
         logged(b"", 1, &[0], 1),
-        out,
+        said,
     )?;
     one(
         alloc,
         "fin_not_acknowledged",
         ECHO,
         logged(b"hello", 1, &[5, 0], 2),
-        out,
+        said,
     )?;
     one(
         alloc,
         "fin_behind_the_rest",
         METER,
         logged(b"hello", 1, &[2], 0),
-        out,
+        said,
     )
 }
 
-/// All of them, as text.
-pub(crate) fn play_all(alloc: Global) -> Result<String, NoMemory> {
-    let mut out = String::new(alloc);
+/// All of them.
+pub(crate) fn play_all(alloc: Global, said: &mut Said) -> Result<(), NoMemory> {
     let long = vec![in alloc; b'a'; 2_500]?;
-    open_cases(alloc, &long, &mut out)?;
-    ending_cases(alloc, &mut out)?;
-    many(alloc, &mut out)?;
-    hostile(alloc, &long, &mut out)?;
-    marked_cases(alloc, &mut out)?;
-    Ok(out)
+    open_cases(alloc, &long, said)?;
+    ending_cases(alloc, said)?;
+    many(alloc, said)?;
+    hostile(alloc, &long, said)?;
+    marked_cases(alloc, said)
 }

@@ -7,6 +7,7 @@ use ft_io::{Key, NoMemory};
 use reincarnate::Fetching;
 use sample_servers::AnyService;
 use std::alloc::Global;
+use test_data::Said;
 
 const LINE: u8 = 2;
 
@@ -37,21 +38,21 @@ fn from_mark(
     kind: u8,
     entry: Logged<'_>,
     mark: Marked<'_>,
-    out: &mut String,
+    said: &mut Said,
 ) -> Result<(), NoMemory> {
     let entry = Logged { mark, ..entry };
-    restart(alloc, name, begin(alloc, kind, 1, true)?, entry, out)
+    restart(alloc, name, begin(alloc, kind, 1, true)?, entry, said)
 }
 
 /// Connections with a mark, whose reads end at it or continue.
-fn with_marks(alloc: Global, out: &mut String) -> Result<(), NoMemory> {
+fn with_marks(alloc: Global, said: &mut Said) -> Result<(), NoMemory> {
     from_mark(
         alloc,
         "restart_from_mark",
         ECHO,
         logged(b"hello", 0, &[5], 5),
         ECHOED,
-        out,
+        said,
     )?;
     from_mark(
         alloc,
@@ -64,7 +65,7 @@ fn with_marks(alloc: Global, out: &mut String) -> Result<(), NoMemory> {
             made: 2,
             state: b"",
         },
-        out,
+        said,
     )?;
     from_mark(
         alloc,
@@ -72,7 +73,7 @@ fn with_marks(alloc: Global, out: &mut String) -> Result<(), NoMemory> {
         TRANSFER,
         logged(REQUESTS, 0, &[6, 2], 302),
         CUT_IN_TWO,
-        out,
+        said,
     )?;
     from_mark(
         alloc,
@@ -85,19 +86,19 @@ fn with_marks(alloc: Global, out: &mut String) -> Result<(), NoMemory> {
             made: 12,
             state: &[0, 0, 0, 0, 0, 0, 0, 2],
         },
-        out,
+        said,
     )
 }
 
 /// Connections whose end or rest is above the mark, or that have none.
-fn at_the_ends(alloc: Global, out: &mut String) -> Result<(), NoMemory> {
+fn at_the_ends(alloc: Global, said: &mut Said) -> Result<(), NoMemory> {
     from_mark(
         alloc,
         "closing_read_above_the_mark",
         ECHO,
         logged(b"hello", 1, &[5, 0], 5),
         ECHOED,
-        out,
+        said,
     )?;
     from_mark(
         alloc,
@@ -105,17 +106,17 @@ fn at_the_ends(alloc: Global, out: &mut String) -> Result<(), NoMemory> {
         ECHO,
         logged(b"helloworld", 0, &[5], 5),
         ECHOED,
-        out,
+        said,
     )?;
     let none = logged(b"hello", 0, &[5], 0);
-    from_mark(alloc, "no_mark", ECHO, none, none.mark, out)?;
+    from_mark(alloc, "no_mark", ECHO, none, none.mark, said)?;
     let unread = logged(b"", 0, &[], 0);
-    from_mark(alloc, "no_reads", ECHO, unread, unread.mark, out)?;
+    from_mark(alloc, "no_reads", ECHO, unread, unread.mark, said)?;
     let ended = Logged {
         done: 1,
         ..logged(b"hello", 1, &[5, 0], 6)
     };
-    from_mark(alloc, "ended", ECHO, ended, ECHOED, out)
+    from_mark(alloc, "ended", ECHO, ended, ECHOED, said)
 }
 
 /// A message that isn't the awaited mark: one of another boot or another key, one that the entry can't have, one whose state isn't read back, or another answer.
@@ -187,7 +188,7 @@ fn hand_thrice(alloc: Global, fetching: &mut Fetching<AnyService>) -> Result<u32
 fn hostile_fetch(
     alloc: Global,
     fetching: &mut Fetching<AnyService>,
-    out: &mut String,
+    said: &mut Said,
 ) -> Result<(), NoMemory> {
     let entry = Logged {
         mark: CUT_IN_TWO,
@@ -196,25 +197,22 @@ fn hostile_fetch(
     hand(alloc, fetching, &head_of(alloc, BOOT, 0, &entry)?)?;
     let wrong = attack(alloc, fetching, &entry)?;
     let right = hand_thrice(alloc, fetching)?;
-    write!(
-        out,
-        "case hostile_marks\nfitted {}\n",
-        wrong.saturating_add(right)
-    )?;
-    fetch(alloc, fetching, &[entry], out)
+    let fitted = wrong.saturating_add(right);
+    write!(said, "case hostile_marks\nfitted {fitted}\n");
+    fetch(alloc, fetching, &[entry], said)
 }
 
 /// A restart that hostile marks meet.
-fn hostile(alloc: Global, out: &mut String) -> Result<(), NoMemory> {
+fn hostile(alloc: Global, said: &mut Said) -> Result<(), NoMemory> {
     let mut fetching = begin(alloc, TRANSFER, 1, true)?;
-    hostile_fetch(alloc, &mut fetching, out)?;
-    restore(alloc, fetching, out)?;
+    hostile_fetch(alloc, &mut fetching, said)?;
+    restore(alloc, fetching, said)?;
     Ok(())
 }
 
 /// All of them.
-pub(crate) fn marked_cases(alloc: Global, out: &mut String) -> Result<(), NoMemory> {
-    with_marks(alloc, out)?;
-    at_the_ends(alloc, out)?;
-    hostile(alloc, out)
+pub(crate) fn marked_cases(alloc: Global, said: &mut Said) -> Result<(), NoMemory> {
+    with_marks(alloc, said)?;
+    at_the_ends(alloc, said)?;
+    hostile(alloc, said)
 }

@@ -9,6 +9,7 @@ use sample_servers::AnyService;
 use seq_arith::Seq;
 use std::alloc::Global;
 use tcp_endpoint::StateName;
+use test_data::Said;
 
 /// The boot number of the server that restarts, and its initial sequence number.
 pub(crate) const BOOT: u8 = 2;
@@ -62,17 +63,17 @@ fn step(
     alloc: Global,
     fetching: &mut Fetching<AnyService>,
     entries: &[Logged<'_>],
-    out: &mut String,
+    said: &mut Said,
 ) -> Result<bool, NoMemory> {
     let bytes = match fetching.question() {
         Some(question) => {
-            tell_question(&question, out)?;
+            tell_question(&question, said);
             any_answer(alloc, BOOT, entries, &question)?
         }
         None => return Ok(false),
     };
     hand(alloc, fetching, &bytes)?;
-    write!(out, "held {}\n", fetching.held())?;
+    write!(said, "held {}\n", fetching.held());
     Ok(true)
 }
 
@@ -81,10 +82,10 @@ pub(crate) fn fetch(
     alloc: Global,
     fetching: &mut Fetching<AnyService>,
     entries: &[Logged<'_>],
-    out: &mut String,
+    said: &mut Said,
 ) -> Result<(), NoMemory> {
     for _ in 0..QUESTIONS {
-        if !step(alloc, fetching, entries, out)? {
+        if !step(alloc, fetching, entries, said)? {
             return Ok(());
         }
     }
@@ -100,24 +101,26 @@ fn state_of(name: StateName) -> &'static str {
 }
 
 /// Where a connection continues: delta, and the number, acknowledgement and window of the first segment that it would send.
-fn tell(spliced: &Spliced<AnyService>, pending: &str, out: &mut String) -> Result<(), NoMemory> {
+fn tell(spliced: &Spliced<AnyService>, pending: &str, said: &mut Said) {
     let delta = spliced.south().delta();
     let number = spliced.endpoint().sent().add(delta).0;
     let told = spliced.south().ack_now();
     let (ack, window) = (told.ack.0, told.window);
     let state = state_of(spliced.endpoint().state().name);
     write!(
-        out,
+        said,
         "delta {delta}\nseq {number}\nack {ack}\nwindow {window}\n"
-    )?;
-    write!(out, "state {state}\npending {pending}\n")?;
-    Ok(())
+    );
+    write!(said, "state {state}\npending {pending}\n");
 }
 
-fn join(alloc: Global, replayed: Replayed<AnyService>, out: &mut String) -> Result<(), NoMemory> {
+fn join(alloc: Global, replayed: Replayed<AnyService>, said: &mut Said) -> Result<(), NoMemory> {
     let pending = hex::encode(alloc, replayed.pending())?;
     match replayed.splice(alloc, u64::from(BOOT), LOCAL, ISN) {
-        Ok(spliced) => tell(&spliced, pending.as_str(), out),
+        Ok(spliced) => {
+            tell(&spliced, pending.as_str(), said);
+            Ok(())
+        }
         Err(end) => Err(lost(end)),
     }
 }
@@ -126,14 +129,14 @@ fn join(alloc: Global, replayed: Replayed<AnyService>, out: &mut String) -> Resu
 fn join_all(
     alloc: Global,
     entries: &mut Entries<AnyService>,
-    out: &mut String,
+    said: &mut Said,
 ) -> Result<u32, NoMemory> {
     let mut count = 0u32;
     for _ in 0..64u32 {
         let Some(replayed) = entries.next() else {
             return Ok(count);
         };
-        join(alloc, replayed, out)?;
+        join(alloc, replayed, said)?;
         count = count.saturating_add(1);
     }
     Ok(count)
@@ -143,11 +146,11 @@ fn join_all(
 pub(crate) fn restore(
     alloc: Global,
     fetching: Fetching<AnyService>,
-    out: &mut String,
+    said: &mut Said,
 ) -> Result<u32, NoMemory> {
     if fetching.question().is_some() {
-        out.push_str("something is missing\n")?;
+        said.line("something is missing");
         return Ok(0);
     }
-    join_all(alloc, &mut fetching.finish(), out)
+    join_all(alloc, &mut fetching.finish(), said)
 }

@@ -1,25 +1,24 @@
 //! The lines that are printed.
 
-use ft_io::NoMemory;
 use logger_wire::{Body, MarkBody, MarkMsg};
 use reincarnate::AnyMsg;
+use test_data::Said;
 
-/// Appends the line of a question of either kind.
-pub(crate) fn tell_question(question: &AnyMsg<'_>, out: &mut String) -> Result<(), NoMemory> {
+/// Says the line of a question of either kind.
+pub(crate) fn tell_question(question: &AnyMsg<'_>, said: &mut Said) {
     match question {
         AnyMsg::Log(question) => match question.body {
-            Body::ListMsg { index } => write!(out, "list {index}\n")?,
-            Body::BytesMsg { offset, .. } => write!(out, "bytes {offset}\n")?,
-            Body::CutsMsg { first, .. } => write!(out, "cuts {first}\n")?,
-            _ => out.push_str("another\n")?,
+            Body::ListMsg { index } => write!(said, "list {index}\n"),
+            Body::BytesMsg { offset, .. } => write!(said, "bytes {offset}\n"),
+            Body::CutsMsg { first, .. } => write!(said, "cuts {first}\n"),
+            _ => said.line("another"),
         },
         AnyMsg::Mark(
             MarkMsg {
                 body: MarkBody::Ask { .. },
                 ..
             },
-        ) => out.push_str("ask\n")?,
-        AnyMsg::Mark(_) => out.push_str("another\n")?,
+        ) => said.line("ask"),
+        AnyMsg::Mark(_) => said.line("another"),
     }
-    Ok(())
 }

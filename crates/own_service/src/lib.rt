@@ -1,5 +1,5 @@
-//! `own_service`: a service of your own in the world of a schedule. It plays the schedule on its standard input, with its crashes, and prints what each
-//! client has accepted, next to what a server that never failed would have answered.
+//! A service of your own in the world of a schedule: `run` plays a schedule with its crashes, and writes what each client has accepted, next to what a server that
+//! never failed would have answered.
 #![tactic(auto)]
 
 ghost use Rattle.std.specs.Prelude.{◌≡◌, ◌≤◌, [], length, IfOk, IfSome, OnOk};
@@ -10,42 +10,27 @@ ghost use Rattle.own_service.specs.ClientView.{IsPlayed, SeesAnswers};
 ghost use Rattle.counter_service.specs.Counter.{answers};
 
 use counter_service::Counter;
-use ft_io::{NoMemory, read_to_limit};
+use ft_io::NoMemory;
 use ft_model::Script;
 use ft_model::grammar::{accepted_schedules_can_be_played, accepted_schedules_keep_the_limits};
 use ft_model::headline::clients_see_an_unfailing_server;
-use ft_system::ReadSource;
 use net_schedule::{StepEnd, World};
 use schedule_text::{Schedule, read_schedule};
 use server_trait::{CHUNK_LIMIT, Service};
 use std::alloc::Global;
-use std::{io, str};
-
-/// The largest size of a schedule that is read, in bytes.
-const TEXT_LIMIT: usize = 1 << 20;
-
-fn main(rt: HostRuntime) -> io::Result<()> {
-    let mut input = ReadSource::new(rt.stdin());
-    let Ok(text) = read_to_limit(rt.alloc(), &mut input, TEXT_LIMIT) else {
-        return println!(rt; "no text");
-    };
-    let mut lines = String::new(rt.alloc());
-    match play_text(rt.alloc(), &text, &mut lines) {
-        Ok(()) => print!(rt; "{lines}"),
-        Err(end) => println!(rt; "{}", end.text()),
-    }
-}
+use std::str;
 
 /// Why a run has nothing to print.
 #[derive(Clone, Copy, Debug, PartialEq, Eq)]
-enum End {
+pub enum End {
     NoSchedule,
     NotPlayed,
     NoMemory,
 }
 
 impl End {
-    fn text(self) -> &'static str {
+    /// What is printed instead.
+    pub fn text(self) -> &'static str {
         match self {
             End::NoSchedule => "no schedule",
             End::NotPlayed => "not played",
@@ -55,7 +40,7 @@ impl End {
 }
 
 /// Plays the schedule that a text spells, and writes what is printed of its clients.
-fn play_text(alloc: Global, text: &[u8], lines: &mut String) -> Result<(), End> {
+pub fn run(alloc: Global, text: &[u8], lines: &mut String) -> Result<(), End> {
     match read(alloc, text) {
         Some(schedule) => play_schedule(alloc, &schedule, lines),
         None => Err(End::NoSchedule),
@@ -109,7 +94,7 @@ fn read(alloc: Global, text: &[u8]) -> Option<Schedule>
 
 /// Plays all events of a schedule in the world in which it starts. Whatever the events lose or repeat, and whenever the server crashes, what a client has
 /// accepted is a prefix of the answers to its script.
-fn play(alloc: Global, schedule: &Schedule, world: &mut World<Counter>) -> Result<(), StepEnd>
+pub fn play(alloc: Global, schedule: &Schedule, world: &mut World<Counter>) -> Result<(), StepEnd>
     requires { IsPlayed schedule.now [] (kept world.old) }
     ensures played { OnOk result (IsPlayed schedule.now schedule.now.events (kept world.new)) }
     ensures seen { OnOk result (AllByRecursion SeesAnswers (kept world.new).clients) }

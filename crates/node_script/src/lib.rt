@@ -1,4 +1,4 @@
-//! `node_script`: plays a script of turns on a server, line by line from standard input, and prints what it sends. The lines:
+//! Turns of a server, by the lines of a script: it is said what it sends. The lines:
 //!
 //! - `# ..` is printed as it is;
 //! - `boot KIND BOOT ISN EVERY` boots a server at 192.0.2.100:7 with this service (1 for Echo, 2 for Line, 3 for Transfer, 4 for Meter), which marks a
@@ -16,26 +16,19 @@
 
 use ft_io::NoMemory;
 use player::Player;
-use std::io;
+use std::alloc::Global;
+use test_data::Said;
 
 mod attack;
 mod player;
 mod strike;
 
-/// Plays the lines of the input, and prints what each says.
-fn play_lines(rt: &HostRuntime, player: &mut Player) -> io::Result<()> {
-    for line in rt.lines(rt.alloc()) {
-        if player.play(rt.alloc(), line?.as_str()).is_err() {
-            return println!(rt; "no memory");
-        }
-        println!(rt; "{}", player.said())?;
+/// Plays the lines of a script, and says what came of each. The status, which is 0.
+pub fn run(alloc: Global, text: &str, said: &mut Said) -> Result<u8, NoMemory> {
+    let mut player = Player::new(alloc)?;
+    for line in text.lines() {
+        player.play(alloc, line)?;
     }
-    Ok(())
-}
-
-fn main(rt: HostRuntime) -> io::Result<()> {
-    match Player::new(rt.alloc()) {
-        Ok(mut player) => play_lines(&rt, &mut player),
-        Err(NoMemory) => println!(rt; "no memory"),
-    }
+    said.add(player.said()?);
+    Ok(0)
 }

@@ -2,7 +2,6 @@
 
 use crate::children::say_children;
 use crate::faults::Faults;
-use crate::said::Said;
 use counter_service::Counter;
 use disk::{MemDesk, MemDisk};
 use ft_io::{Addr, LinkCall, SpawnCall};
@@ -10,6 +9,7 @@ use ft_system::{Arrival, MemLink, MemSink, MemSource, MemSpawner};
 use journal_link::node_in_pair;
 use node_link::node_of;
 use std::alloc::Global;
+use test_data::Said;
 
 /// What is run, and how its calls on the link are printed.
 #[derive(Clone, Copy, Debug, PartialEq, Eq)]
@@ -83,7 +83,8 @@ pub fn run(alloc: Global, words: &[String], setting: Setting, said: &mut Said) {
         ),
         Way::Own => node_of::<Counter, _, _, _>(alloc, words, &mut link, &mut out, &mut err),
     };
-    said.status(i32::from(status.code));
+    let code = status.code;
+    write!(said, "status {code}\n");
     said.add(out.written());
     said.add(err.written());
     say_told(link.told(), kids.told(), way, said);
@@ -112,11 +113,7 @@ fn say_counts(calls: &[LinkCall], said: &mut Said) {
             _ => receives = receives.saturating_add(1),
         }
     }
-    said.add(b"receives ");
-    said.number(i64::from(receives));
-    said.add(b" sends ");
-    said.number(i64::from(sends));
-    said.line("");
+    write!(said, "receives {receives} sends {sends}\n");
 }
 
 /// Says the calls on a link, each in a line.
@@ -140,6 +137,6 @@ fn say_bytes(name: &str, at: Addr, bytes: &[u8], said: &mut Said) {
     said.add(name.as_bytes());
     said.address(at);
     said.add(b" ");
-    said.word(bytes);
-    said.line("");
+    said.hex(bytes);
+    said.end_line();
 }

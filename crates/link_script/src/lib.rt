@@ -1,5 +1,4 @@
-//! `link_script`: runs `node_in_pair` over a link in memory, by the lines of a script, which comes from standard input, and prints how each run ends. The lines of a
-//! script:
+//! Runs of `node_in_pair` over a link in memory, by the lines of a script: it is said how each run ends. The lines of a script:
 //!
 //! - `# ..` is printed as it is;
 //! - `ask WORDS` prints which role the words ask for. In words `~` means a space, and `''` an empty word;
@@ -15,64 +14,47 @@
 //!   TEXT` before it, where `$0` is the program and `$@` are its words. `answer HEX` is what a peer at 127.0.0.1:7461 answers to the datagrams that reach it,
 //!   one after another, and `hold FILE` keeps this journal open meanwhile.
 //!
-//! With words it is `ftnode`.
+//! The program that calls `run` is `$0`. With the words of `ftnode` it must be `ftnode`, by `run_ftnode`.
 #![tactic(auto)]
 
 use faults::Faults;
-use ft_io::{Addr, NoMemory, Octets, write_all};
-use ft_system::{Arrival, WriteSink};
-use journal_link::{TwinRole, read_twin_role, run_ftnode};
+use ft_io::{NoMemory, Octets};
+use ft_system::Arrival;
+use journal_link::{TwinRole, read_twin_role};
 use node_link::{Role, read_role};
 use process::Meeting;
-use run::{Setting, Way};
-use said::Said;
+use runs::{Setting, Way};
 use schedule_text::read_addr;
 use std::alloc::Global;
 use std::fs::{File, Files};
+use std::mem;
 use std::net::Net;
-use std::process::{ExitCode, Processes};
+use std::process::Processes;
 use std::rt::Env;
 use std::time::Clock;
-use std::{env, io, mem};
-use test_data::bytes_of_hex;
+use test_data::{Said, bytes_of_hex};
 use twin_log::Part;
 
 mod children;
 mod faults;
 mod process;
-mod run;
-mod said;
+mod runs;
 
-fn main(rt: HostRuntime) -> io::Result<ExitCode> {
-    if env::args(&rt)?.skip(1).next().is_some() {
-        return run_ftnode(&rt, rt.stdin(), rt.stdout(), rt.stderr());
+/// Plays the lines of a script, and says what came of each. The status, which is 0.
+pub fn run<R: AllocGlobal + Env + Net + Clock + Files<File = File> + Processes>(
+    system: &R,
+    text: &str,
+    said: &mut Said,
+) -> Result<u8, NoMemory> {
+    let mut script = Script::new(system.alloc());
+    for line in text.lines() {
+        script.play(system, line)?;
     }
-    let mut script = Script::new(rt.alloc());
-    play_lines(&rt, &mut script)
+    said.add(script.said.bytes()?);
+    Ok(0)
 }
 
-/// Plays the lines of the input, and prints what they say.
-fn play_lines(rt: &HostRuntime, script: &mut Script) -> io::Result<ExitCode> {
-    for line in rt.lines(rt.alloc()) {
-        if script.play(rt, line?.as_str()).is_err() {
-            return without_memory(rt);
-        }
-    }
-    let Ok(said) = script.said.bytes() else {
-        return without_memory(rt);
-    };
-    if write_all(&mut WriteSink::new(rt.stdout()), said).is_err() {
-        println!(rt; "a fault")?;
-    }
-    Ok(ExitCode::SUCCESS)
-}
-
-fn without_memory(rt: &impl Print) -> io::Result<ExitCode> {
-    println!(rt; "no memory")?;
-    Ok(ExitCode::FAILURE)
-}
-
-/// What arrives at the next run, its input, how its children end, and which of its calls fail; what the next process finds; and what was printed so far.
+/// What arrives at the next run, its input, how its children end, and which of its calls fail; what the next process finds; and what was said so far.
 #[derive(Drop)]
 struct Script {
     arrivals: Vec<Arrival>,
@@ -143,7 +125,7 @@ impl Script {
             faults: mem::replace(&mut self.faults, Faults::new(alloc)),
             way,
         };
-        run::run(alloc, words.as_slice(), setting, &mut self.said);
+        runs::run(alloc, words.as_slice(), setting, &mut self.said);
         Ok(())
     }
 
@@ -203,13 +185,9 @@ impl Script {
 /// Says which role the words ask for.
 fn ask(alloc: Global, text: &str, said: &mut Said) -> Result<(), NoMemory> {
     let words = words_of(alloc, text)?;
-    say_role(alloc, words.as_slice(), said)
-}
-
-fn say_role(alloc: Global, words: &[String], said: &mut Said) -> Result<(), NoMemory> {
-    match read_twin_role(alloc, words)? {
+    match read_twin_role(alloc, words.as_slice())? {
         Some(twin) => said.line(name_of_twin(&twin)),
-        None => said.line(name_of(&read_role(alloc, words)?)),
+        None => said.line(name_of(&read_role(alloc, words.as_slice())?)),
     }
     Ok(())
 }
@@ -239,20 +217,12 @@ fn name_of<'a>(role: &Option<Role>) -> &'a str {
 /// The words of a text, which single spaces separate. An empty text has none.
 fn words_of(alloc: Global, text: &str) -> Result<Vec<String>, NoMemory> {
     let mut words = Vec::new(alloc);
-    if !text.is_empty() {
-        add_words(alloc, text, &mut words)?;
+    if text.is_empty() {
+        return Ok(words);
+    }
+    for piece in text.split(' ') {
+        let piece = if piece == "''" { "" } else { piece };
+        words.push(piece.replace(alloc, '~', " ")?)?;
     }
     Ok(words)
-}
-
-fn add_words(alloc: Global, text: &str, words: &mut Vec<String>) -> Result<(), NoMemory> {
-    for piece in text.split(' ') {
-        words.push(word_of(alloc, piece)?)?;
-    }
-    Ok(())
-}
-
-fn word_of(alloc: Global, piece: &str) -> Result<String, NoMemory> {
-    let text = if piece == "''" { "" } else { piece };
-    Ok(text.replace(alloc, '~', " ")?)
 }

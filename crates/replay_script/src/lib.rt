@@ -1,5 +1,5 @@
-//! `replay_script`: plays the schedules of a script, which comes from standard input, by `replay` over memory, and prints what was written
-//! and how it ended. A line that begins with `=` says what is done with the lines after it, up to the next such line:
+//! Schedules that `replay` plays over memory, by the lines of a script: it is said what was written and how that ended. A line that begins with `=` says what is
+//! done with the lines after it, up to the next such line:
 //!
 //! - `= play NAME WORDS READ OUT ERR LAST` plays them as the text of a schedule, with these words, joined by `~`; READ, OUT and ERR number the call of the
 //!   source, of the sink of the report and of that of the errors that fails, 0 for none. Printed are the status, what was written to the sink of the errors,
@@ -16,11 +16,12 @@
 
 use ft_io::NoMemory;
 use playing::{play, play_checked};
-use replay_tool::run_ftreplay;
-use shell::{is_ftreplay, run_script};
+pub use shell::is_ftreplay;
+use shell::run_script;
 use std::alloc::Global;
-use std::io;
-use std::process::ExitCode;
+use std::process::Processes;
+use std::rt::Env;
+use test_data::Said;
 use worlds::{play_crashes, play_deltas};
 
 mod crashes;
@@ -39,9 +40,9 @@ struct Script {
 
 impl Script {
     /// A line: the next order, or one of the text.
-    fn take(&mut self, alloc: Global, line: &str, out: &mut Vec<u8>) -> Result<(), NoMemory> {
+    fn take(&mut self, alloc: Global, line: &str, said: &mut Said) -> Result<(), NoMemory> {
         if line.starts_with('=') {
-            self.follow(alloc, out)?;
+            self.follow(alloc, said)?;
             self.order = String::from_str(alloc, line)?;
             self.fresh = true;
             return Ok(());
@@ -67,23 +68,23 @@ impl Script {
         Ok(())
     }
 
-    /// Does what the order says, and appends what it prints.
-    fn follow(&self, alloc: Global, out: &mut Vec<u8>) -> Result<(), NoMemory> {
+    /// Does what the order says, and says what it prints.
+    fn follow(&self, alloc: Global, said: &mut Said) -> Result<(), NoMemory> {
         let mut words = Vec::new(alloc);
         for word in self.order.split_whitespace() {
             words.push(word)?;
         }
         match words.as_slice() {
-            [_, "play", rest @ ..] => play(alloc, rest, &self.text, out),
-            [_, "checked", name] => play_checked(alloc, name, &self.text, out),
-            [_, "deltas", name] => play_deltas(alloc, name, &self.text, out),
-            [_, "crash", name] => play_crashes(alloc, name, None, &self.text, out),
+            [_, "play", rest @ ..] => play(alloc, rest, &self.text, said),
+            [_, "checked", name] => play_checked(alloc, name, &self.text, said),
+            [_, "deltas", name] => play_deltas(alloc, name, &self.text, said),
+            [_, "crash", name] => play_crashes(alloc, name, None, &self.text, said),
             [_, "crash", name, part] => play_crashes(
                 alloc,
                 name,
                 part.parse().ok(),
                 &self.text,
-                out,
+                said,
             ),
             _ => Ok(()),
         }
@@ -99,59 +100,35 @@ fn many(line: &str) -> Option<(u32, &str)> {
     Some((count, repeated))
 }
 
-fn main(rt: HostRuntime) -> io::Result<ExitCode> {
-    if is_ftreplay(&rt) {
-        return run_ftreplay(&rt, rt.stdin(), rt.stdout(), rt.stderr());
+/// Runs these lines as a script for `sh`, and says what it wrote.
+fn play_shell<R: AllocGlobal + Env + Processes>(system: &R, lines: &[u8], said: &mut Said) {
+    let Ok(script) = str::from_utf8(lines) else {
+        return said.line("no text");
+    };
+    if !run_script(system, script, said).unwrap_or(false) {
+        said.line("the script fails");
     }
-    play_script(&rt)?;
-    Ok(ExitCode::SUCCESS)
 }
 
-/// Plays the script of the standard input.
-fn play_script(rt: &HostRuntime) -> io::Result<()> {
-    let alloc = rt.alloc();
+/// Plays a script, and says what it prints. Only the last order may be `= shell`. The status, which is 0.
+pub fn run<R: AllocGlobal + Env + Processes>(
+    system: &R,
+    text: &str,
+    said: &mut Said,
+) -> Result<u8, NoMemory> {
+    let alloc = system.alloc();
     let mut script = Script {
         order: String::new(alloc),
         text: Vec::new(alloc),
         fresh: true,
     };
-    for line in rt.lines(alloc) {
-        let mut out = Vec::new(alloc);
-        if script.take(alloc, line?.as_str(), &mut out).is_err() {
-            return println!(rt; "no memory");
-        }
-        tell(rt, &out)?;
+    for line in text.lines() {
+        script.take(alloc, line, said)?;
     }
-    play_last(rt, &script)
-}
-
-/// Does what the last order says: only that may be `= shell`.
-fn play_last(rt: &HostRuntime, script: &Script) -> io::Result<()> {
     if script.order.as_str() == "= shell" {
-        return play_shell(rt, &script.text);
+        play_shell(system, script.text.as_slice(), said);
+    } else {
+        script.follow(alloc, said)?;
     }
-    let mut out = Vec::new(rt.alloc());
-    if script.follow(rt.alloc(), &mut out).is_err() {
-        return println!(rt; "no memory");
-    }
-    tell(rt, &out)
-}
-
-/// Runs these lines as a script for `sh`.
-fn play_shell(rt: &HostRuntime, lines: &[u8]) -> io::Result<()> {
-    let Ok(script) = str::from_utf8(lines) else {
-        return println!(rt; "no text");
-    };
-    if !run_script(rt, script)? {
-        println!(rt; "the script fails")?;
-    }
-    Ok(())
-}
-
-/// Prints what an order has printed.
-fn tell(rt: &impl Print, out: &[u8]) -> io::Result<()> {
-    match str::from_utf8(out) {
-        Ok(text) => print!(rt; "{text}"),
-        Err(_) => println!(rt; "no text"),
-    }
+    Ok(0)
 }

@@ -1,0 +1,117 @@
+//! Connections that are brought into each of their situations and get hostile datagrams there, one whose stream is filled, two whose output comes to its limits,
+//! and others that are restarted from a log. The cases are in the code: it is said what was found.
+#![tactic(auto)]
+
+use ft_io::NoMemory;
+use hostile::{Tally, attack};
+use limits::{make_all, make_unacknowledged};
+use meter::{Filled, fill_all};
+use restarts::play_all;
+use segment_codec::Head;
+use situations::{SITUATIONS, Situation};
+use std::alloc::Global;
+use test_data::Said;
+use wrapped_conn::TurnOut;
+
+mod hostile;
+mod limits;
+mod meter;
+mod peers;
+mod restarts;
+mod rules;
+mod situations;
+
+fn tell_attack(situation: Situation, tally: Tally, said: &mut Said) {
+    let Tally {
+        begun,
+        datagrams,
+        packets,
+        answers,
+        broken,
+    } = tally;
+    match begun {
+        Some((name, stage)) => write!(said, "{situation:?}: {name:?}, {stage:?}\n"),
+        None => write!(said, "{situation:?}: no connection\n"),
+    }
+    write!(
+        said,
+        "{situation:?}: {datagrams} datagrams, {packets} of them packets\n"
+    );
+    let answered = if answers { "segments" } else { "no segment" };
+    match broken {
+        Some(rule) => write!(said, "{situation:?}: {answered} left, {rule:?} is broken\n"),
+        None => write!(said, "{situation:?}: {answered} left, no rule is broken\n"),
+    }
+}
+
+/// The letters of the flags that a connection sends.
+fn letters(flags: u8) -> &'static str {
+    match flags {
+        16 => "A",
+        17 => "AF",
+        18 => "AS",
+        _ => "others",
+    }
+}
+
+fn tell_segment(what: &str, head: Option<Head>, said: &mut Said) {
+    match head {
+        Some(head) => {
+            let (seq, ack) = (head.seq.0, head.ack.0);
+            let (flags, window) = (letters(head.flags), head.window);
+            write!(
+                said,
+                "{what}: {flags} seq {seq} ack {ack} window {window}\n"
+            )
+        }
+        None => write!(said, "{what}: no segment\n"),
+    }
+}
+
+fn tell_filled(filled: Filled, said: &mut Said) {
+    let inside = filled.inside;
+    let (taken, answered) = (inside.taken, inside.answered);
+    write!(said, "full stream: taken {taken} answered {answered}\n");
+    let (read, reads) = (inside.read, inside.reads);
+    write!(said, "full stream: read {read} in {reads} reads\n");
+    let (una, sent) = (inside.una, inside.sent);
+    write!(said, "full stream: una {una} sent {sent}\n");
+    tell_segment("all is logged", filled.full, said);
+    tell_segment("one byte more", filled.beyond, said);
+}
+
+/// The attack in each situation. Whether all rules are kept.
+fn attack_all(alloc: Global, out: &mut TurnOut, said: &mut Said) -> Result<bool, NoMemory> {
+    let mut whole = true;
+    for situation in SITUATIONS {
+        let tally = attack(alloc, situation, out)?;
+        tell_attack(situation, tally, said);
+        whole = whole && tally.broken.is_none();
+    }
+    Ok(whole)
+}
+
+/// The stream that is filled, and the limits of output.
+fn fill_and_tell(alloc: Global, out: &mut TurnOut, said: &mut Said) -> Result<(), NoMemory> {
+    tell_filled(fill_all(alloc, out)?, said);
+    let [a, b, c, d, e] = make_unacknowledged(alloc, out)?;
+    write!(
+        said,
+        "nothing acknowledged: {a} {b} {c} {d} reads, and {e} with one byte acknowledged\n"
+    );
+    let [a, b, c] = make_all(alloc, out)?;
+    write!(
+        said,
+        "15728640 bytes made: {a} reads, {b} with one request more, {c} with two\n"
+    );
+    Ok(())
+}
+
+/// Plays all cases, and says what was found. The status, which is 1 where a rule is broken.
+pub fn run(alloc: Global, said: &mut Said) -> Result<u8, NoMemory> {
+    let mut out = TurnOut::new(alloc)?;
+    let whole = attack_all(alloc, &mut out, said)?;
+    fill_and_tell(alloc, &mut out, said)?;
+    play_all(alloc, said)?;
+    Ok(u8::from(!whole))
+}
