@@ -1,29 +1,29 @@
 #!/usr/bin/env bash
-# Segments a second of wrapped connections, by `node_bench connection`, compared with those of two endpoints, by `node_bench echo`, in one run: eight clients one
-# after another, each with its own key, send 8 MiB each to a wrapped connection with a log, which echoes them; the two endpoints echo the same 64 MiB. Segments
-# have 1,460 bytes, and then 64. Printed is the minimum CPU time of 7 runs each, which alternate. A segment counts once: it is written, handed over, read, and its
-# text echoed or compared. The connection also sends segments without text, and the text of each segment is sent to the log in a message and answered, and so is
-# its read. So the comparison is by the segments with text, of which both have as many; the number of all segments is printed too.
+# Segments a second of wrapped connections, by `node_cases bench connection`, compared with those of two endpoints, by `node_cases bench echo`, in one run:
+# eight clients one after another, each with its own key, send 8 MiB each to a wrapped connection with a log, which echoes them; the two endpoints echo the same
+# 64 MiB. Segments have 1,460 bytes, and then 64. Printed is the minimum CPU time of 7 runs each, which alternate. A segment counts once: it is written, handed
+# over, read, and its text echoed or compared. The connection also sends segments without text, and the text of each segment is sent to the log in a message and
+# answered, and so is its read. So the comparison is by the segments with text, of which both have as many; the number of all segments is printed too.
 #     bench/connection.sh [OLDER]
-# With OLDER, an older node_bench or a checkout that has one, both programs echo 480 MB, in 4 runs of 8 connections with segments of 1,460 bytes, and then 64 MiB in
-# segments of 64 bytes, 21 times alternately (or ROUNDS times), and the minimum times are compared. Status 1 if one of the new times is over 5 % longer.
+# With OLDER, an older node_cases or a checkout that has one, both programs echo 480 MB, in 4 runs of 8 connections with segments of 1,460 bytes, and then 64
+# MiB in segments of 64 bytes, 21 times alternately (or ROUNDS times), and the minimum times are compared. Status 1 if one of the new times is over 5 % longer.
 set -eu
 before=${1:+$(realpath "$1")}
 . "$(dirname "$0")/common.sh"
-build node_bench connection 1460 1460
-program="$PWD/crates/node_bench/out/node_bench"
+build node_cases bench connection 1460 1460
+program="$PWD/crates/node_cases/out/node_cases"
 are_ended() { [ "$(grep -c '^ended 8 connections$' "$work/out")" = "$1" ] || { echo "not ended"; exit 1; }; }
 all_ended() { are_ended 4; }
 one_ended() { are_ended 1; }
 
 if [ -n "$before" ]; then
-    before=$(older node_bench "$before" connection 1460 1460)
+    before=$(older node_cases "$before" bench connection 1460 1460)
     machine
     status=0
     printf '1460 bytes: '
-    compare_least "spent four_times" all_ended "$before" "$program" connection 15000000 1460 || status=1
+    compare_least "spent four_times" all_ended "$before" "$program" bench connection 15000000 1460 || status=1
     printf '64 bytes: '
-    compare_least spent one_ended "$before" "$program" connection 8388608 64 || status=1
+    compare_least spent one_ended "$before" "$program" bench connection 8388608 64 || status=1
     exit $status
 fi
 
@@ -35,10 +35,10 @@ machine
 for text in 1460 64; do
     least_bare=999999 least_wrapped=999999
     for _ in 1 2 3 4 5 6 7; do
-        a=$(spent "$program" echo "$all" "$text")
+        a=$(spent "$program" bench echo "$all" "$text")
         bare=$(segments)
         grep -q "^echoed $all bytes\$" "$work/out" || { echo "not echoed"; exit 1; }
-        b=$(spent "$program" connection "$each" "$text")
+        b=$(spent "$program" bench connection "$each" "$text")
         wrapped=$(segments)
         messages=$(awk '/messages/ { print $2 }' "$work/out")
         are_ended 1

@@ -1,5 +1,6 @@
 #!/usr/bin/env python3
-"""Writes link_script's script and what it must print: link_oracle.py SCRIPT PRINTED.
+"""Writes the part `link` of the stored run of `node_cases`, which link_script plays: link_oracle.py [FOLDER], into FOLDER/stdin and FOLDER/stdout
+(crates/node_cases).
 
 The expected lines follow only the written rules. A table made by hand says which command lines are allowed. The logger, the server before it has a connection, and
 the pair are played by the short models below, which make the messages' bytes themselves. How a client ends is written down by hand, and also played by the
@@ -12,7 +13,8 @@ sys.path.insert(0, str(pathlib.Path(__file__).parent.parent / "tools"))
 
 from endpoint_model import Endpoint  # noqa: E402
 from model import LIMIT, Segment  # noqa: E402
-from twin_model import KINDS, Head, Tail, read_twin, spelled as between  # noqa: E402
+from stored_parts import FOLDER, write_part  # noqa: E402
+from twin_model import KINDS, Head, Tail, read_message, read_twin, spell, spelled as between, told as heard  # noqa: E402
 
 script, printed = [], []
 
@@ -196,7 +198,7 @@ def server(net, turns, boot, loggers):
 
 def part(net, turns, name, other):
     """One of two loggers. Told that the other has stopped, it serves alone."""
-    it, at = {"head": Head, "tail": Tail}[name](), None
+    it, at = {"head": Head, "tail": Tail}[name](read_message), None
     for _ in range(turns):
         came = net.receive()
         if came is None:
@@ -206,7 +208,7 @@ def part(net, turns, name, other):
             it.alone = True
             continue
         at = at if came[0] == other else came[0]
-        for to, out in (it.other if came[0] == other else it.server)(data):
+        for to, out in map(spell, it.hear_other(heard(data)) if came[0] == other else it.hear_server(data)):
             if to == "other" or at:
                 net.send(other if to == "other" else at, out.hex())
     return 0, net.told()
@@ -761,8 +763,5 @@ start(KEEPER + " damaged", 12, "ftnode: journal: byte 0", shell='printf "no jour
 start(KEEPER + " held", 13, "ftnode: journal in use", hold="held")
 start(KEEPER + " held", 0, TWO_TICKS)
 
-if len(sys.argv) != 3:
-    sys.exit("link_oracle.py SCRIPT PRINTED")
-for name, lines in zip(sys.argv[1:], (script, printed)):
-    with open(name, "w", encoding="utf-8") as file:
-        file.write("\n".join(lines) + "\n")
+folder = pathlib.Path(sys.argv[1]) if sys.argv[1:] else FOLDER
+write_part("link", "\n".join(script) + "\n", "\n".join(printed) + "\n", folder)

@@ -1,23 +1,23 @@
 #!/usr/bin/env bash
-# Turns a second of a server with 1, 16 and 64 live connections, by node_bench: clients in turn send segments of 64 bytes, or of 1,460; a log in the same program
-# stores each, and Echo returns it; then segments that are before the bytes taken, each answered only by an acknowledgement; then ticks. All is in memory,
-# and packets and messages are passed as bytes; the times include the log and the writing of the clients' packets. A segment makes three turns: its own, and one
-# for each of the log's two answers. The clients offer no segment size, so 1,460 bytes are returned in three segments. Each row also has the time of the plain C
-# checks of as many packets of that size (gcc -O2), in the same run, and how often memory is allocated, counted by a library that is loaded before libc. Times are
-# the minimum CPU time of 5 runs each, which alternate, minus that of a run that only opens the connections. Then the memory of a live connection, from the peak
-# memory of runs with 64 connections and with one.
+# Turns a second of a server with 1, 16 and 64 live connections, by `node_cases bench node`: clients in turn send segments of 64 bytes, or of 1,460; a log in
+# the same program stores each, and Echo returns it; then segments that are before the bytes taken, each answered only by an acknowledgement; then ticks. All is
+# in memory, and packets and messages are passed as bytes; the times include the log and the writing of the clients' packets. A segment makes three turns: its
+# own, and one for each of the log's two answers. The clients offer no segment size, so 1,460 bytes are returned in three segments. Each row also has the time
+# of the plain C checks of as many packets of that size (gcc -O2), in the same run, and how often memory is allocated, counted by a library that is loaded
+# before libc. Times are the minimum CPU time of 5 runs each, which alternate, minus that of a run that only opens the connections. Then the memory of a live
+# connection, from the peak memory of runs with 64 connections and with one.
 #     bench/node.sh [OLDER]
-# With OLDER, an older node_bench or a checkout that has one, both programs take the same turns and ticks, 21 times alternately (or ROUNDS times), and the minimum
-# times, each minus that of a run that only opens the connections, are compared. Status 1 if one of the new times is over 5 % longer.
+# With OLDER, an older node_cases or a checkout that has one, both programs take the same turns and ticks, 21 times alternately (or ROUNDS times), and the
+# minimum times, each minus that of a run that only opens the connections, are compared. Status 1 if one of the new times is over 5 % longer.
 set -eu
 before=${1:+$(realpath "$1")}
 . "$(dirname "$0")/common.sh"
-build node_bench node 1 1 64 1 0
-program="$PWD/crates/node_bench/out/node_bench"
+build node_cases bench node 1 1 64 1 0
+program="$PWD/crates/node_cases/out/node_cases"
 
 # what is timed, how a run is timed, connections, bytes of text, and rounds of segments and of ticks
 beside() {
-    local what=$1 measure=$2 words="node 1 $3 $4" rounds="$5 $6" whole opened
+    local what=$1 measure=$2 words="bench node 1 $3 $4" rounds="$5 $6" whole opened
     # shellcheck disable=SC2086
     same_output "$before" "$program" $words $rounds
     whole=$(in_turn "$ROUNDS" "$measure $before $words $rounds" "$measure $program $words $rounds") || exit 1
@@ -28,7 +28,7 @@ beside() {
 }
 
 if [ -n "$before" ]; then
-    before=$(older node_bench "$before" node 1 1 64 1 0)
+    before=$(older node_cases "$before" bench node 1 1 64 1 0)
     machine
     status=0
     for clients in 1 16 64; do
@@ -44,11 +44,11 @@ gcc -O2 -Wall -shared -fPIC -o "$work/refuse.so" bench/refuse.c -ldl
 
 # how often a run asks for memory, and how much it holds at most, in KiB
 asked() {
-    REFUSED=0 LD_PRELOAD=$work/refuse.so "$program" node "$@" >"$work/out" 3>"$work/calls"
+    REFUSED=0 LD_PRELOAD=$work/refuse.so "$program" bench node "$@" >"$work/out" 3>"$work/calls"
     wc -c <"$work/calls"
 }
 
-held() { command time -f %M "$program" node "$@" 2>&1 >/dev/null; }
+held() { command time -f %M "$program" bench node "$@" 2>&1 >/dev/null; }
 
 least() { echo $(($1 < $2 ? $1 : $2)); }
 
@@ -56,10 +56,10 @@ least() { echo $(($1 < $2 ? $1 : $2)); }
 row() {
     local what=$1 clients=$2 size=$3 all=$4 rounds=$(($4 / $2)) whole=999999 opened=999999 c=999999 more turns
     for _ in 1 2 3 4 5; do
-        whole=$(least "$whole" "$(spent "$program" node 1 "$clients" "$size" "$rounds" 0)")
+        whole=$(least "$whole" "$(spent "$program" bench node 1 "$clients" "$size" "$rounds" 0)")
         [ "$(head -2 "$work/out" | tr '\n' ' ')" = "$5 " ] || { cat "$work/out"; exit 1; }
         turns=$(awk '/turns/ { print $1 }' "$work/out")
-        opened=$(least "$opened" "$(spent "$program" node 1 "$clients" "$size" 0 0)")
+        opened=$(least "$opened" "$(spent "$program" bench node 1 "$clients" "$size" 0 0)")
         c=$(least "$c" "$(spent "$work/packets" $((40 + size)) $((all / 64 * 20)))")
     done
     more=$(($(asked 1 "$clients" "$size" $((rounds / 5)) 0) - $(asked 1 "$clients" "$size" $((rounds / 10)) 0)))
@@ -72,8 +72,8 @@ row() {
 ticks() {
     local clients=$1 rounds=$2 whole=999999 opened=999999 more
     for _ in 1 2 3 4 5; do
-        whole=$(least "$whole" "$(spent "$program" node 1 "$clients" 64 0 "$rounds")")
-        opened=$(least "$opened" "$(spent "$program" node 1 "$clients" 64 0 0)")
+        whole=$(least "$whole" "$(spent "$program" bench node 1 "$clients" 64 0 "$rounds")")
+        opened=$(least "$opened" "$(spent "$program" bench node 1 "$clients" 64 0 0)")
     done
     more=$(($(asked 1 "$clients" 64 0 200) - $(asked 1 "$clients" 64 0 100)))
     awk -v clients="$clients" -v n="$rounds" -v a=$((whole - opened)) -v more="$more" 'BEGIN {

@@ -1,5 +1,6 @@
 #!/usr/bin/env python3
-"""Writes the script of node_script and what it must print: node_script.py REPORTS FOLDER, into FOLDER/stdin and FOLDER/stdout.
+"""Writes the part `node` of the stored run of `node_cases`, which node_script plays: node_script.py REPORTS [FOLDER], into FOLDER/stdin and FOLDER/stdout
+(crates/node_cases).
 
 REPORTS is a folder with the reports of the worked runs. The server's turns are taken from each, and what the server sends by the report is what must be printed.
 Packets and messages are spelled here, independently of the repository's codecs. The other cases are written by hand below, except those on held segments and on
@@ -15,9 +16,10 @@ sys.path.insert(0, str(pathlib.Path(__file__).parent.parent / "tools"))
 import loggers  # noqa: E402
 import model  # noqa: E402
 from seed_model import Generator, packet_words  # noqa: E402
+from stored_parts import FOLDER, write_part  # noqa: E402
 
 REPORTS = sys.argv[1]
-OUT = sys.argv[2]
+OUT = pathlib.Path(sys.argv[2]) if sys.argv[2:] else FOLDER
 SERVER = (0xC0000264, 7)
 
 def ones(data):
@@ -817,6 +819,5 @@ alone, lines_kept, prints_kept = None, list(lines), list(prints)
 alone, none = serve_three(0)
 lines[:], prints[:] = lines_kept, prints_kept
 assert struck == alone and none == 0
-open(f"{OUT}/stdin", "w").write("\n".join(lines) + "\n")
-open(f"{OUT}/stdout", "w").write("\n".join(prints) + "\n")
+write_part("node", "\n".join(lines) + "\n", "\n".join(prints) + "\n", OUT)
 print(len(lines), "lines,", len(prints), "printed")

@@ -1,23 +1,24 @@
 #!/usr/bin/env bash
-# The restart, by node_bench: an entry whose output is all acknowledged is fetched from a log by messages as bytes, replayed and spliced. Measured with Echo and
-# 15,000,000 bytes in reads of 2,048, and with Meter and 1 MiB in reads of 1 byte: the bytes of input a second, and the messages a second, questions and answers
-# together. Of each the minimum CPU time of 5 runs with 40 restarts, minus that of 5 runs that only fill the log, which alternate. Then the peak memory of a run
-# with one restart, minus that of a run without it: the largest difference of three. At last restarts from a mark, 4 reads before the end of entries of 2^10, 2^16
-# and 2^20 reads of 16 bytes with Echo, timed the same way, of 15 runs each, with 20,000 restarts: how long one takes, and how many questions it asks, and an entry without bytes.
+# The restart, by `node_cases bench restart`: an entry whose output is all acknowledged is fetched from a log by messages as bytes, replayed and spliced.
+# Measured with Echo and 15,000,000 bytes in reads of 2,048, and with Meter and 1 MiB in reads of 1 byte: the bytes of input a second, and the messages a
+# second, questions and answers together. Of each the minimum CPU time of 5 runs with 40 restarts, minus that of 5 runs that only fill the log, which alternate.
+# Then the peak memory of a run with one restart, minus that of a run without it: the largest difference of three. At last restarts from a mark, 4 reads before
+# the end of entries of 2^10, 2^16 and 2^20 reads of 16 bytes with Echo, timed the same way, of 15 runs each, with 20,000 restarts: how long one takes, and how
+# many questions it asks, and an entry without bytes.
 set -eu
 . "$(dirname "$0")/common.sh"
-build node_bench restart echo 1000 1 1
-ours="$PWD/crates/node_bench/out/node_bench"
+build node_cases bench restart echo 1000 1 1
+ours="$PWD/crates/node_cases/out/node_cases"
 
-held() { command time -f %M "$ours" restart "$@" 2>&1 >/dev/null; }
+held() { command time -f %M "$ours" bench restart "$@" 2>&1 >/dev/null; }
 
 rounds=40
 machine
 while read -r service bytes size; do
     with=999999 without=999999
     for _ in 1 2 3 4 5; do
-        a=$(spent "$ours" restart "$service" "$bytes" "$size" 0)
-        b=$(spent "$ours" restart "$service" "$bytes" "$size" "$rounds")
+        a=$(spent "$ours" bench restart "$service" "$bytes" "$size" 0)
+        b=$(spent "$ours" bench restart "$service" "$bytes" "$size" "$rounds")
         ((a < without)) && without=$a
         ((b < with)) && with=$b
     done
@@ -43,18 +44,18 @@ restarts=20000
 marked() {
     local with=999999 without=999999 a b
     for _ in {1..15}; do
-        a=$(spent "$ours" restart echo "$1" 16 0 "$2")
-        b=$(spent "$ours" restart echo "$1" 16 "$restarts" "$2")
+        a=$(spent "$ours" bench restart echo "$1" 16 0 "$2")
+        b=$(spent "$ours" bench restart echo "$1" 16 "$restarts" "$2")
         ((a < without)) && without=$a
         ((b < with)) && with=$b
     done
     echo $((with - without))
 }
-"$ours" restart echo 0 16 1 >"$out"
+"$ours" bench restart echo 0 16 1 >"$out"
 read -r none _ <"$out"
 for reads in 1024 65536 1048576; do
     ms=$(marked $((16 * reads)) $((reads - 4)))
-    "$ours" restart echo $((16 * reads)) 16 1 $((reads - 4)) >"$out"
+    "$ours" bench restart echo $((16 * reads)) 16 1 $((reads - 4)) >"$out"
     read -r asked _ <"$out"
     awk -v reads="$reads" -v ms="$ms" -v n="$restarts" -v asked="$asked" -v none="$none" 'BEGIN {
         printf "a mark 4 reads before the end of %d: %d restarts in %d ms, %.2f us each, %d questions each, %d of an entry without bytes\n", reads, n, ms, 1000 * ms / n, asked, none

@@ -3,8 +3,8 @@
 # read 256 MiB of lines of 64 bytes, and Transfer reads 1 MiB of requests for 2,047 bytes each.
 set -eu
 . "$(dirname "$0")/common.sh"
-build node_bench service echo <crates/node_bench/stdin
-program=$PWD/crates/node_bench/out/node_bench
+build node_cases bench service echo <crates/node_cases/stdin
+program=$PWD/crates/node_cases/out/node_cases
 inputs=$work
 
 yes 'a line of sixty-three bytes, and with its line feed sixty-four.' | head -c 268435456 >"$inputs/lines"
@@ -20,7 +20,7 @@ time_service() {
     best=
     for _ in 1 2 3; do
         start=$(date +%s%N)
-        written=$("$program" service "$name" <"$input")
+        written=$("$program" bench service "$name" <"$input")
         nanoseconds=$(($(date +%s%N) - start))
         if [ -z "$best" ] || [ "$nanoseconds" -lt "$best" ]; then
             best=$nanoseconds

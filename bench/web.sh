@@ -5,14 +5,14 @@
 #     bench/web.sh
 set -eu
 . "$(dirname "$0")/common.sh"
-build node_bench service echo <crates/node_bench/stdin
+build node_cases bench service echo <crates/node_cases/stdin
 build own_node web logger --local 127.0.0.1:7043 --turns 1
 
 best() { # NAME INPUT
     local least= start nanoseconds written
     for _ in 1 2 3; do
         start=$(date +%s%N)
-        written=$(crates/node_bench/out/node_bench service "$1" <"$2")
+        written=$(crates/node_cases/out/node_cases bench service "$1" <"$2")
         nanoseconds=$(($(date +%s%N) - start))
         if [ -z "$least" ] || [ "$nanoseconds" -lt "$least" ]; then least=$nanoseconds; fi
     done

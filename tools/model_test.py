@@ -1,6 +1,6 @@
 #!/usr/bin/env python3
 """Tests of tools/model.py: numbers computed from the rules by hand, a crash at each turn of the first path, also where one of two loggers stops there, transfers
-with lost segments, and the stored runs of crates/replay_script. It takes half a minute. Run it: tools/model_test.py"""
+with lost segments, and the part `replay` of the stored run of crates/node_cases. It takes half a minute. Run it: tools/model_test.py"""
 import pathlib
 import re
 import unittest
@@ -11,9 +11,10 @@ from loggers import Forward, Got, Head, Log, Message, Tail
 from masked import Watch
 from model import WIDEST, Client, Congestion, Connection, Segment, Server, Stream, World, size_of
 from reordered import drawn
-from replay_stored import FOLDER, printed
+from replay_stored import printed
 from seed_model import drawn_run
 from services import Service
+from stored_parts import read_part
 
 KEY, SERVER = "192.0.2.1:40000", "192.0.2.100:7"
 FIRST_PATH = "boot 1 5000|deliver 1|deliver 2|open 1 65535|deliver 3|deliver 4|deliver 5|deliver 6|ack 1 65535|deliver 7|send 1 0 5|deliver 8|deliver 10"
@@ -389,8 +390,7 @@ class StoredRuns(unittest.TestCase):
         self.assertEqual(printed_first, [f"ok {name}" for name in names])
 
     def test_replay_script(self):
-        stored = [(FOLDER / name).read_text() for name in ("stdin", "stdout")]
-        told = {name: (stands, wanted) for name, stands, wanted in printed(*stored)}
+        told = {name: (stands, wanted) for name, stands, wanted in printed(*read_part("replay"))}
         self.assertEqual(sum(wanted is not None for _, wanted in told.values()), 219)
         for name, (stands, wanted) in told.items():
             self.assertIn(wanted, (None, stands), name)

@@ -1,5 +1,5 @@
 #!/usr/bin/env python3
-"""The lines of `connection_script` about the two limits on a service's output, by the connection of tools/model.py: how many reads are made.
+"""The lines of the part `connection` of `node_cases` about the two limits on a service's output, by the connection of tools/model.py: how many reads are made.
 
     tools/north_limits.py   prints them
 """

@@ -1,7 +1,7 @@
 #!/usr/bin/env python3
-"""The stored run of `replay_script` by the model in tools/model.py.
+"""The part `replay` of the stored run of `node_cases` by the model in tools/model.py.
 
-    tools/replay_stored.py [FOLDER]   writes FOLDER/stdout (crates/replay_script) again, with the model's result of each order that the model can play
+    tools/replay_stored.py [FOLDER]   writes this part of FOLDER/stdout (crates/node_cases) again, with the model's result of each order that the model can play
 
 The model plays whole schedules, seeds, crashes and deltas, and check_model.py judges reports. The lines about failed calls and refused words stay as they are,
 and so does what the script for `sh` prints, the last order.
@@ -14,8 +14,7 @@ from check_model import told as told_verdict, verdict
 from model import Client, World, number
 from schedule_model import read_schedule
 from seed_model import play, script_of, summary
-
-FOLDER = pathlib.Path(__file__).parent.parent / "crates" / "replay_script"
+from stored_parts import FOLDER, read_part, write_part
 
 
 def orders(stored):
@@ -125,15 +124,15 @@ def printed(stored, told):
 
 def main():
     folder = pathlib.Path(sys.argv[1]) if sys.argv[1:] else FOLDER
-    told = (folder / "stdout").read_text()
+    script, told = read_part("replay", folder)
     written = ""
-    for name, stands, wanted in printed((folder / "stdin").read_text(), told):
+    for name, stands, wanted in printed(script, told):
         if stands is None and wanted is None:
             sys.exit(f"{name}: the model can't tell, and nothing stands")
         if wanted not in (None, stands):
             print(f"{name}: {'written' if stands else 'new'}")
         written += stands if wanted is None else wanted
-    (folder / "stdout").write_text(written + "".join(told.partition(SHELL_TOLD)[1:]))
+    write_part("replay", None, written + "".join(told.partition(SHELL_TOLD)[1:]), folder)
 
 
 if __name__ == "__main__":
