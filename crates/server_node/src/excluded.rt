@@ -68,7 +68,7 @@ fn stays_restarting<S: Service>(
     ask(who, fetching, turn)
 }
 
-/// A message of another boot changes nothing, and nothing is sent: the clauses `turn` and `apart` of `hear`.
+/// A message of another boot changes nothing, and nothing is sent: the clause `apart` of `hear`.
 fn uses_a_message_of_another_boot<S: Saved>(
     who: Identity,
     m: &Msg<'_>,
