@@ -23,15 +23,15 @@ use Rattle.ft_model.specs.declared.way.Way.TheVariants.{ClientToServer, ServerTo
 use Rattle.ft_model.specs.declared.way.Way.{Way}
 use Rattle.ft_model.specs.Keys.{AreDistinct}
 use Rattle.peer_client.specs.Scripted.{delivered, hearing}
-use Rattle.net_schedule.specs.StoredPackets.{Carried, number_in, way_along}
+use Rattle.schedule_network.specs.StoredPackets.{Carried, number_in, way_along}
 use Rattle.net_schedule.specs.Actors.{ActorsStand, ActorsGoOn}
 use Rattle.net_schedule.specs.Delivery.{changed_at, delivered_to, with_logs}
 use Rattle.mark_store.specs.Refinement.{TrimmedAtMarks}
-use Rattle.net_schedule.specs.Loggers.{Loggers}
-use Rattle.net_schedule.specs.Logs.{HearsIn, both, log_in, keepers_in, log_reads, log_hears}
-use Rattle.net_schedule.specs.Logs.Keepers.{Single, Paired, With_marks}
-use Rattle.net_schedule.specs.declared.logs.Logs.{Logs}
-use Rattle.net_schedule.specs.declared.logs.Logs.TheVariants.{One, Two, Marked}
+use Rattle.schedule_network.specs.Loggers.{Loggers}
+use Rattle.schedule_network.specs.Logs.{HearsIn, both, log_in, keepers_in, log_reads, log_hears}
+use Rattle.schedule_network.specs.Logs.Keepers.{Single, Paired, With_marks}
+use Rattle.schedule_network.specs.declared.logs.Logs.{Logs}
+use Rattle.schedule_network.specs.declared.logs.Logs.TheVariants.{One, Two, Marked}
 use Rattle.net_schedule.specs.Premises.{Premises, ComesAs}
 use Rattle.net_schedule.specs.Refinement.{Kept, WorldStands, ReachesNext}
 use Rattle.net_schedule.proofs.Goings.{client_hears, logger_hears, nothing_happens, actors_of, one_goes}

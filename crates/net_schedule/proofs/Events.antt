@@ -21,8 +21,8 @@ use Rattle.ft_model.proofs.Lists.{all_slice_get, none_is_some}
 use Rattle.server_node.specs.Identity.{node_of}
 use Rattle.server_node.specs.Stages.{StageStands}
 use Rattle.net_schedule.specs.Actors.{ActorsStand, ActorsGoOn, ActorsAdvance}
-use Rattle.net_schedule.specs.AtNumber.{at_number}
-use Rattle.net_schedule.specs.StoredPackets.{with_wires, way_along}
+use Rattle.schedule_network.specs.AtNumber.{at_number}
+use Rattle.schedule_network.specs.StoredPackets.{with_wires, way_along}
 use Rattle.net_schedule.specs.Premises.{Premises, ComesAs}
 use Rattle.net_schedule.specs.Refinement.{Kept, Server, WorldStands, ReachesNext, Advances}
 use Rattle.net_schedule.proofs.PacketStore.{Found, found, none_sent}

@@ -10,20 +10,20 @@ use Rattle.ft_model.specs.Legal.{start_of}
 use Rattle.ft_model.specs.World.{IsStart}
 use Rattle.ft_model.specs.declared.schedule.Schedule.{Schedule}
 use Rattle.ft_model.specs.declared.schedule.ClientLine.{ClientLine}
-use Rattle.net_schedule.specs.StoredPackets.{Carried, no_packets}
+use Rattle.schedule_network.specs.StoredPackets.{Carried, no_packets}
 use Rattle.net_schedule.specs.Refinement.{Kept}
 use Rattle.net_schedule.specs.Step.{StandsAfter}
 use Rattle.net_schedule.specs.TwinStep.{TwinStandsAfter}
 use Rattle.ft_model.specs.Log.{empty_log}
 use Rattle.net_schedule.specs.Every.{every_in}
-use Rattle.net_schedule.specs.Journal.{StoreAndJournal}
-use Rattle.net_schedule.specs.Loggers.{new_loggers}
-use Rattle.net_schedule.specs.Logs.{IsNewMarked, log_in, keepers_in}
+use Rattle.schedule_network.specs.Journal.{StoreAndJournal}
+use Rattle.schedule_network.specs.Loggers.{new_loggers}
+use Rattle.schedule_network.specs.Logs.{IsNewMarked, log_in, keepers_in}
 use Rattle.server_node.specs.Markers.{Saving}
 use Rattle.net_schedule.specs.MarkedRefinement.{marker_for}
 use Rattle.net_schedule.specs.MarkedStep.{MarkedStandsAfter}
-use Rattle.net_schedule.specs.declared.logs.Logs.{Logs}
-use Rattle.net_schedule.specs.declared.logs.Logs.TheVariants.{One, Two}
+use Rattle.schedule_network.specs.declared.logs.Logs.{Logs}
+use Rattle.schedule_network.specs.declared.logs.Logs.TheVariants.{One, Two}
 use Rattle.ft_model.proofs.ClientKeys.{keys_in}
 
 pub keys_begin : (server : Addr) (lines : List ClientLine) → map (λ line. line.key) lines ≡ keys_in (clients_of server lines)

@@ -21,7 +21,7 @@ use Rattle.logger_store.specs.StoreState.{answer_bytes}
 use Rattle.server_node.specs.Identity.{node_of}
 use Rattle.server_node.specs.Stages.{StageStands, NodeGoes}
 use Rattle.net_schedule.specs.Actors.{ActorsStand, ActorsGoOn, ActorsAdvance}
-use Rattle.net_schedule.specs.StoredPackets.{carried, with_wires, with_answer}
+use Rattle.schedule_network.specs.StoredPackets.{carried, with_wires, with_answer}
 use Rattle.net_schedule.specs.Premises.{Premises}
 use Rattle.net_schedule.specs.Refinement.{Kept, Server, IsAt, NodeStands, WorldStands, ReachesNext, Advances}
 use Rattle.net_schedule.proofs.PacketStore.{sent_kept, none_sent, answer_kept}

@@ -8,7 +8,6 @@ pub mod Trace
 pub mod Outcomes
 pub mod Keys
 pub mod FirstWorld
-pub mod Numbered
 pub mod Sent
 pub mod Parcels
 pub mod TwinActors
@@ -17,8 +16,6 @@ pub mod TwinEvents
 pub mod Brought
 pub mod TwinTrace
 pub mod TwinSent
-pub mod Entered
-pub mod ByKey
 pub mod MarkedParcels
 pub mod MarkedActors
 pub mod MarkedLogger

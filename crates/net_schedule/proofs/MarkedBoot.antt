@@ -11,7 +11,7 @@ use Rattle.mark_laws.specs.MarkedWorld.{MarkedWorld, ServerMoves}
 use Rattle.server_node.specs.declared.node.Node.{Node}
 use Rattle.server_node.specs.Markers.{Saving, marker_of}
 use Rattle.server_node.specs.MarkedTurns.{MarkedNodeStands, MarkedNodeTurns, MarkedNodeGoes, NodeStandsAt}
-use Rattle.net_schedule.specs.StoredPackets.{with_wires}
+use Rattle.schedule_network.specs.StoredPackets.{with_wires}
 use Rattle.net_schedule.specs.WorldView.{server_of}
 use Rattle.net_schedule.specs.Refinement.{Kept}
 use Rattle.net_schedule.specs.MarkedRefinement.{MarkedWorldStands, MarkedGoesOn, MarkedAdvances, MarkedPremises, MayComeMarked, marker_for}

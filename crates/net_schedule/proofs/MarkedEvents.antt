@@ -32,7 +32,7 @@ use Rattle.mark_laws.specs.MarkedWorld.{Parcel, MarkedWorld, CanBeRead, ParcelCo
 use Rattle.mark_laws.specs.MarkedWorld.Parcel.{Usual, Mark_sent, Mark_answered}
 use Rattle.mark_laws.proofs.MarkSteps.{of_parcel, under_way}
 use Rattle.mark_laws.proofs.Noise.{message_noise, mark_noise}
-use Rattle.net_schedule.specs.AtNumber.{at_number}
+use Rattle.schedule_network.specs.AtNumber.{at_number}
 use Rattle.net_schedule.specs.Refinement.{Kept}
 use Rattle.net_schedule.specs.MarkedRefinement.{MarkedWorldStands, MarkedGoesOn, MarkedAdvances, MarkedPremises, MayComeMarked, MarkedComesAs, way_of_parcel}
 use Rattle.net_schedule.proofs.Events.{no_move}

@@ -19,16 +19,16 @@ use Rattle.mark_store.specs.Refinement.{TrimmedAtMarks, IsLeftOfMarked}
 use Rattle.mark_laws.specs.MarkedNode.{Marker}
 use Rattle.mark_laws.specs.MarkedWorld.{Parcel, MarkedWorld, LogReads, ComesAs, answered_as, either_said, said_by}
 use Rattle.mark_laws.specs.MarkedWorld.Parcel.{Usual, Mark_sent, Mark_answered}
-use Rattle.net_schedule.specs.StoredPackets.{Carried, with_answer}
+use Rattle.schedule_network.specs.StoredPackets.{Carried, with_answer}
 use Rattle.net_schedule.specs.Delivery.{with_logs}
-use Rattle.net_schedule.specs.Loggers.{Loggers}
-use Rattle.net_schedule.specs.Journal.{StoreAndJournal, AreAt, HasDistinctKeys}
-use Rattle.net_schedule.specs.Logs.{HearsIn, keepers_in, log_in}
-use Rattle.net_schedule.specs.Logs.Keepers.{Single, Paired, With_marks}
+use Rattle.schedule_network.specs.Loggers.{Loggers}
+use Rattle.schedule_network.specs.Journal.{StoreAndJournal, AreAt, HasDistinctKeys}
+use Rattle.schedule_network.specs.Logs.{HearsIn, keepers_in, log_in}
+use Rattle.schedule_network.specs.Logs.Keepers.{Single, Paired, With_marks}
 use Rattle.net_schedule.specs.Refinement.{Kept}
 use Rattle.net_schedule.specs.MarkedRefinement.{MarkedWorldStands, MarkedGoesOn, way_of_parcel}
-use Rattle.net_schedule.specs.declared.logs.Logs.{Logs}
-use Rattle.net_schedule.specs.declared.logs.Logs.TheVariants.{One, Two, Marked}
+use Rattle.schedule_network.specs.declared.logs.Logs.{Logs}
+use Rattle.schedule_network.specs.declared.logs.Logs.TheVariants.{One, Two, Marked}
 use Rattle.net_schedule.proofs.MarkedParcels.{reply_after}
 
 -- the log reads what bytes say, and sends its answer

@@ -17,8 +17,8 @@ use Rattle.mark_laws.specs.MarkedLog.AnyMessage.{About_mark, Of_log}
 use Rattle.mark_store.specs.Bytes.{reply_bytes}
 use Rattle.mark_laws.specs.MarkedWorld.{Parcel, answered_as, bytes_of, parcel_at}
 use Rattle.mark_laws.specs.MarkedWorld.Parcel.{Usual}
-use Rattle.net_schedule.specs.AtNumber.{at_number}
-use Rattle.net_schedule.specs.StoredPackets.{Carried, with_packet, with_wires, with_answer, way_along}
+use Rattle.schedule_network.specs.AtNumber.{at_number}
+use Rattle.schedule_network.specs.StoredPackets.{Carried, with_packet, with_wires, with_answer, way_along}
 use Rattle.net_schedule.specs.MarkedRefinement.{way_of_parcel, stored_parcels}
 use Rattle.net_schedule.proofs.PacketStore.{found_at, missing_at, spelling_begins}
 

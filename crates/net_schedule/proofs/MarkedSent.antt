@@ -11,7 +11,7 @@ use Rattle.mark_laws.specs.MarkedNode.{Marker}
 use Rattle.mark_laws.specs.MarkedWorld.{Parcel, MarkedWorld, MarkedMoment, MarkedJoint, CanBeRead, marked_after}
 use Rattle.mark_laws.specs.MarkedWorld.Parcel.{Usual, Mark_sent, Mark_answered}
 use Rattle.mark_laws.proofs.MarkSteps.{of_parcel}
-use Rattle.net_schedule.specs.AtNumber.{at_number}
+use Rattle.schedule_network.specs.AtNumber.{at_number}
 use Rattle.net_schedule.specs.SentPackets.{marked_parcels_of, marked_way, KeepsAllMarked, MarkedSentAs}
 use Rattle.net_schedule.specs.Refinement.{Kept}
 use Rattle.net_schedule.specs.MarkedRefinement.{way_of_parcel}

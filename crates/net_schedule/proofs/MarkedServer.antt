@@ -43,7 +43,7 @@ use Rattle.server_node.specs.MarkedTurns.{NodeStandsAt, IsFairTo, IsSoundStart, 
 use Rattle.server_node.specs.Inputs.{input_of as heard_of}
 use Rattle.server_node.specs.declared.input.Input.{Input as Heard}
 use Rattle.server_node.specs.declared.input.Input.TheVariants as inputs
-use Rattle.net_schedule.specs.StoredPackets.{Carried, with_wires, way_along}
+use Rattle.schedule_network.specs.StoredPackets.{Carried, with_wires, way_along}
 use Rattle.net_schedule.specs.Refinement.{Kept, Server}
 use Rattle.net_schedule.specs.MarkedRefinement.{IsMarkedAt, MarkedNodeStands, MarkedWorldStands, MarkedGoesOn, MarkedAdvances, MarkedPremises, MayComeMarked, MarkedComesAs, marker_for, way_of_parcel, stored_parcels}
 use Rattle.net_schedule.proofs.Events.{no_move}

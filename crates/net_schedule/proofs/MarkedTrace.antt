@@ -19,15 +19,15 @@ use Rattle.mark_laws.specs.Premises.{IsSoundMark}
 use Rattle.mark_laws.proofs.Traces.{start_of_joint}
 use Rattle.server_node.specs.Markers.{Saving}
 use Rattle.net_schedule.specs.WorldView.{kept, services_of}
-use Rattle.net_schedule.specs.Journal.{HasDistinctKeys}
+use Rattle.schedule_network.specs.Journal.{HasDistinctKeys}
 use Rattle.net_schedule.specs.Refinement.{Kept}
 use Rattle.net_schedule.specs.MarkedRefinement.{MarkedWorldStands, MarkedAdvances, MarkedPremises, marker_for}
 use Rattle.net_schedule.specs.MarkedStep.{MarkedStandsAfter, MarkedExtends, MarkedSteps, MarkedEndsStep}
 use Rattle.net_schedule.specs.Along.{MarkedEndsAlong}
 use Rattle.net_schedule.specs.Turns.{Declines}
-use Rattle.net_schedule.specs.declared.end.StepEnd.{StepEnd}
-use Rattle.net_schedule.specs.declared.end.StepEnd.TheVariants.{NoMemory, BadEvent, PacketLimit}
-use Rattle.net_schedule.specs.declared.step_out.StepOut.{StepOut}
+use Rattle.schedule_network.specs.declared.end.StepEnd.{StepEnd}
+use Rattle.schedule_network.specs.declared.end.StepEnd.TheVariants.{NoMemory, BadEvent, PacketLimit}
+use Rattle.schedule_network.specs.declared.step_out.StepOut.{StepOut}
 use Rattle.net_schedule.specs.declared.world.World.{World}
 use Rattle.net_schedule.proofs.MarkedParcels.{as_many_marked}
 use Rattle.net_schedule.proofs.MarkedKeys.{marked_keys_after}

@@ -19,13 +19,13 @@ use Rattle.ft_model.specs.declared.way.Way.TheVariants.{ClientToServer}
 use Rattle.ft_model.specs.Keys.{AreDistinct}
 use Rattle.ft_model.proofs.Lists.{none_is_some, some_is, same_key, index_within}
 use Rattle.peer_client.specs.Scripted.{Makes, Refuses as RefusesMove}
-use Rattle.net_schedule.specs.StoredPackets.{with_packet, number_in}
+use Rattle.schedule_network.specs.StoredPackets.{with_packet, number_in}
 use Rattle.net_schedule.specs.Delivery.{changed_at, delivered_to}
 use Rattle.peer_client.specs.Scripted.{delivered}
 use Rattle.net_schedule.specs.Premises.{Premises}
 use Rattle.net_schedule.specs.Actors.{ActorsStand, ActorsAdvance}
 use Rattle.net_schedule.specs.Refinement.{Kept}
-use Rattle.net_schedule.proofs.Numbered.{past}
+use Rattle.schedule_network.proofs.Numbered.{past}
 use Rattle.net_schedule.proofs.Peers.{number_is, at_first, first_is, changed_past}
 use Rattle.net_schedule.proofs.Bringing.{distinct_keys}
 use Rattle.ft_model.proofs.SomeOutcome.{asks, move_may as may}

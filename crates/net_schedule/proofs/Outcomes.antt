@@ -2,8 +2,8 @@
 use Rattle.std.proofs.Common.{◌≡◌, ◌∙◌, sym, ap, subst, not, Bool, true, false, is_some, Option, Some, None, option_map, Result, Ok, Err, refl, true≢false}
 use Rattle.std.specs.Prelude.{IfErr, IsErrAnd}
 use Rattle.ft_model.specs.declared.event.EventWhy.{EventWhy}
-use Rattle.net_schedule.specs.declared.end.StepEnd.{StepEnd}
-use Rattle.net_schedule.specs.declared.end.StepEnd.TheVariants.{BadEvent}
+use Rattle.schedule_network.specs.declared.end.StepEnd.{StepEnd}
+use Rattle.schedule_network.specs.declared.end.StepEnd.TheVariants.{BadEvent}
 
 pub not_there : {X Y : Type 0} (f : X → Y) (o : Option X) → is_some o ≡ false → option_map f o ≡ None
 not_there f None h = refl

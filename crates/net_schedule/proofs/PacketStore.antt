@@ -15,8 +15,8 @@ use Rattle.logger_store.specs.StoreState.{answer_bytes}
 use Rattle.server_node.specs.SentBytes.{party_of}
 use Rattle.server_node.specs.declared.out_packet.To.{To}
 use Rattle.server_node.specs.declared.out_packet.To.TheVariants.{Client, Logger}
-use Rattle.net_schedule.specs.AtNumber.{at_number}
-use Rattle.net_schedule.specs.StoredPackets.{Carried, carried, with_packet, with_wires, with_answer, way_along, way_between, way_to}
+use Rattle.schedule_network.specs.AtNumber.{at_number}
+use Rattle.schedule_network.specs.StoredPackets.{Carried, carried, with_packet, with_wires, with_answer, way_along, way_between, way_to}
 
 abbrev pack : List Way → List (List ℕ) → Carried
 pack ways bytes = record { ways = ways; bytes = bytes }

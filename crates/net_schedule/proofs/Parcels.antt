@@ -20,10 +20,9 @@ use Rattle.twin_laws.specs.StoredState.{sent_to_other}
 use Rattle.twin_laws.specs.TwinWorld.{Parcel, parcel_at, sent_by}
 use Rattle.twin_laws.specs.TwinWorld.Parcel.{Outside, Inside}
 use Rattle.twin_laws.specs.TwinLegal.{bytes_of_parcel}
-use Rattle.server_node.proofs.Collecting.{take_more}
-use Rattle.net_schedule.specs.AtNumber.{at_number}
-use Rattle.net_schedule.specs.StoredPackets.{Carried, with_packet, with_wires, way_along}
-use Rattle.net_schedule.specs.Loggers.{way_out, with_datagrams}
+use Rattle.schedule_network.specs.AtNumber.{at_number}
+use Rattle.schedule_network.specs.StoredPackets.{Carried, with_packet, with_wires, way_along}
+use Rattle.schedule_network.specs.Loggers.{way_out, with_datagrams}
 use Rattle.net_schedule.specs.TwinRefinement.{stored_way, carried_parcels}
 use Rattle.net_schedule.proofs.PacketStore.{found_at, missing_at}
 
@@ -101,26 +100,6 @@ datagrams_after keys part kept xs d goes e =
     (map-append (λ (x : Side × List ℕ). x.1) answers (sent_to_other d.to_other)
     ∙ ap₂ (λ a b. a ++ b) (answer_bytes d.to_server) (other_bytes d.to_other)
     ∙ sym (map-append bytes_of_parcel outs (map Inside d.to_other)))))
-
--- one datagram more is stored
-both_there : (xs : List (Side × List ℕ)) (i : ℕ) (to : Side) (bytes : List ℕ) → option_map (λ d. d.0) (slice_get xs i) ≡ Some to
-    → option_map (λ d. d.1) (slice_get xs i) ≡ Some bytes → slice_get xs i ≡ Some (to, bytes)
-both_there [] i to bytes e f = none_is_some to e
-both_there (x ∷ xs) zero to bytes e f = ap₂ (λ a b. Some (a, b)) (some_is x.0 to e) (some_is x.1 bytes f)
-both_there (x ∷ xs) (suc i) to bytes e f = both_there xs i to bytes e f
-
-pub one_datagram : (part : Part) (kept before after : Carried) (sent : List (Side × List ℕ)) (i : ℕ) (way : Way) (bytes : List ℕ) (to : Side)
-    → before ≡ with_datagrams part kept (take i sent) → option_map (λ d. d.0) (slice_get sent i) ≡ Some to → option_map (λ d. d.1) (slice_get sent i) ≡ Some bytes
-    → way ≡ way_out part to → after ≡ with_packet before way bytes → after ≡ with_datagrams part kept (take (i + 1) sent)
-one_datagram part kept before after sent i way bytes to is at text goes e =
-    let there : slice_get sent i ≡ Some (to, bytes) = both_there sent i to bytes at text in
-    e ∙ ap₂ (λ k w. with_packet k w bytes) is goes
-    ∙ ap₂ pack
-    (append_assoc kept.ways (map (λ d. way_out part d.0) (take i sent)) (way_out part to ∷ [])
-    ∙ ap (λ ws. kept.ways ++ ws) (sym (map-append (λ d. way_out part d.0) (take i sent) ((to, bytes) ∷ []))))
-    (append_assoc kept.bytes (map (λ d. d.1) (take i sent)) (bytes ∷ [])
-    ∙ ap (λ bs. kept.bytes ++ bs) (sym (map-append (λ d. d.1) (take i sent) ((to, bytes) ∷ []))))
-    ∙ ap (with_datagrams part kept) (sym (take_more sent i (to, bytes) there))
 
 -- a parcel by its number
 pub record FoundParcel (keys : List Key) (xs : List Parcel) (n : ℕ) (way : Way) (bytes : List ℕ) : Type 0 where

@@ -13,7 +13,7 @@ use Rattle.ft_model.specs.Keys.{AreDistinct, has_key}
 use Rattle.ft_model.proofs.Lists.{some_is, none_is_some, key_is, same_key, index_within}
 use Rattle.ft_model.proofs.Keys.{key_eq_turns, not_there}
 use Rattle.ft_model.proofs.ClientKeys.{keys_in, no_one}
-use Rattle.net_schedule.specs.StoredPackets.{number_in}
+use Rattle.schedule_network.specs.StoredPackets.{number_in}
 use Rattle.net_schedule.specs.Delivery.{changed_at}
 use Rattle.ft_io.proofs.Choices.{by_cases}
 use Rattle.logger_store.proofs.LeftLogs.{one_more}

@@ -27,9 +27,9 @@ use Rattle.net_schedule.specs.Refinement.{Kept, WorldStands, Advances, KeepsAtRe
 use Rattle.net_schedule.specs.Step.{StandsAfter, Extends, Steps, EndsStep}
 use Rattle.net_schedule.specs.Along.{EndsAlong}
 use Rattle.net_schedule.specs.Turns.{Declines}
-use Rattle.net_schedule.specs.declared.end.StepEnd.{StepEnd}
-use Rattle.net_schedule.specs.declared.end.StepEnd.TheVariants.{NoMemory, BadEvent, PacketLimit}
-use Rattle.net_schedule.specs.declared.step_out.StepOut.{StepOut}
+use Rattle.schedule_network.specs.declared.end.StepEnd.{StepEnd}
+use Rattle.schedule_network.specs.declared.end.StepEnd.TheVariants.{NoMemory, BadEvent, PacketLimit}
+use Rattle.schedule_network.specs.declared.step_out.StepOut.{StepOut}
 use Rattle.net_schedule.specs.declared.world.World.{World}
 use Rattle.net_schedule.proofs.PacketStore.{as_many}
 

@@ -28,8 +28,8 @@ use Rattle.net_schedule.specs.WorldView.{kept, service_of}
 use Rattle.net_schedule.specs.Refinement.{Kept}
 use Rattle.net_schedule.specs.Turns.{ActorsDo, ActorsDecline, Does, Declines}
 use Rattle.net_schedule.specs.TwinRefinement.{TwinWorldStands, TwinGoesOn, TwinAdvances, ParcelComesAs, carried_parcels}
-use Rattle.net_schedule.specs.declared.end.StepEnd.{StepEnd}
-use Rattle.net_schedule.specs.declared.end.StepEnd.TheVariants.{NoMemory, BadEvent, PacketLimit}
+use Rattle.schedule_network.specs.declared.end.StepEnd.{StepEnd}
+use Rattle.schedule_network.specs.declared.end.StepEnd.TheVariants.{NoMemory, BadEvent, PacketLimit}
 use Rattle.net_schedule.specs.declared.world.World.{World}
 use Rattle.net_schedule.proofs.Goings.{actors_of, one_advances}
 use Rattle.net_schedule.proofs.Parcels.{packets_after}

@@ -30,10 +30,10 @@ use Rattle.twin_laws.specs.TwinWorld.Parcel.{Outside, Inside}
 use Rattle.twin_laws.specs.TwinWorld.TwinEvent.{Usual, Stop}
 use Rattle.twin_laws.specs.TwinLegal.{part_number, bytes_of_parcel, refusal_of_twin_flip, may_stop, twin_refusal}
 use Rattle.twin_laws.specs.SentBytes.{IsWritten}
-use Rattle.net_schedule.specs.AtNumber.{at_number}
-use Rattle.net_schedule.specs.StoredPackets.{way_along}
-use Rattle.net_schedule.specs.Loggers.{Loggers, serving_log, stopped, part_numbered}
-use Rattle.net_schedule.specs.Logs.Keepers.{Paired}
+use Rattle.schedule_network.specs.AtNumber.{at_number}
+use Rattle.schedule_network.specs.StoredPackets.{way_along}
+use Rattle.schedule_network.specs.Loggers.{Loggers, serving_log, stopped, part_numbered}
+use Rattle.schedule_network.specs.Logs.Keepers.{Paired}
 use Rattle.net_schedule.specs.Premises.{ComesAs}
 use Rattle.net_schedule.specs.Refinement.{Kept}
 use Rattle.net_schedule.specs.TwinRefinement.{stored_way, LoggersStand, TwinWorldStands, TwinGoesOn, TwinAdvances, TwinPremises, ParcelComesAs, MayComeAs}

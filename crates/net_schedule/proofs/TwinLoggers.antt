@@ -25,15 +25,15 @@ use Rattle.twin_laws.specs.Pair.{Pair, IsPaired, head_has, tail_has}
 use Rattle.twin_laws.specs.TwinWorld.{Parcel, TwinWorld, HeadHas, TailHas, LoggerHas, serving, sent_by}
 use Rattle.twin_laws.specs.TwinWorld.Parcel.{Outside, Inside}
 use Rattle.twin_laws.proofs.StoredParts.{head_does_so, tail_does_so}
-use Rattle.net_schedule.specs.StoredPackets.{Carried, with_answer}
+use Rattle.schedule_network.specs.StoredPackets.{Carried, with_answer}
 use Rattle.net_schedule.specs.Delivery.{with_logs}
-use Rattle.net_schedule.specs.Loggers.{Loggers, serving_log, with_datagrams, head_hears, tail_hears, front_hears, pair_hears}
-use Rattle.net_schedule.specs.Logs.{HearsIn, keepers_in, log_reads, log_hears}
-use Rattle.net_schedule.specs.Logs.Keepers.{Single, Paired, With_marks}
+use Rattle.schedule_network.specs.Loggers.{Loggers, serving_log, with_datagrams, head_hears, tail_hears, front_hears, pair_hears}
+use Rattle.schedule_network.specs.Logs.{HearsIn, keepers_in, log_reads, log_hears}
+use Rattle.schedule_network.specs.Logs.Keepers.{Single, Paired, With_marks}
 use Rattle.net_schedule.specs.Refinement.{Kept}
 use Rattle.net_schedule.specs.TwinRefinement.{stored_way, carried_parcels, LoggersStand, TwinWorldStands, TwinGoesOn, ParcelComesAs}
-use Rattle.net_schedule.specs.declared.logs.Logs.{Logs}
-use Rattle.net_schedule.specs.declared.logs.Logs.TheVariants.{One, Two, Marked}
+use Rattle.schedule_network.specs.declared.logs.Logs.{Logs}
+use Rattle.schedule_network.specs.declared.logs.Logs.TheVariants.{One, Two, Marked}
 use Rattle.net_schedule.proofs.Parcels.{GoesFrom, datagrams_after, datagrams_grow, none_after}
 
 -- a head only forwards, and a tail only confirms

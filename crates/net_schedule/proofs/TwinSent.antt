@@ -13,7 +13,7 @@ use Rattle.twin_laws.specs.TwinLegal.{twin_start}
 use Rattle.twin_laws.specs.TwinReport.{way_of_parcel}
 use Rattle.twin_laws.specs.TwinWorld.{Parcel, TwinMoment, seen, twin_after}
 use Rattle.twin_laws.specs.TwinWorld.Parcel.{Outside, Inside}
-use Rattle.net_schedule.specs.AtNumber.{at_number}
+use Rattle.schedule_network.specs.AtNumber.{at_number}
 use Rattle.net_schedule.specs.SentPackets.{parcels_of, KeepsAllParcels, ParcelSentAs}
 use Rattle.net_schedule.specs.Refinement.{Kept}
 use Rattle.net_schedule.specs.TwinRefinement.{stored_way}

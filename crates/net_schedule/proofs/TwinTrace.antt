@@ -24,9 +24,9 @@ use Rattle.net_schedule.specs.TwinRefinement.{TwinWorldStands, TwinAdvances, Twi
 use Rattle.net_schedule.specs.TwinStep.{TwinStandsAfter, TwinExtends, TwinSteps, TwinEndsStep}
 use Rattle.net_schedule.specs.Along.{TwinEndsAlong}
 use Rattle.net_schedule.specs.Turns.{Declines}
-use Rattle.net_schedule.specs.declared.end.StepEnd.{StepEnd}
-use Rattle.net_schedule.specs.declared.end.StepEnd.TheVariants.{NoMemory, BadEvent, PacketLimit}
-use Rattle.net_schedule.specs.declared.step_out.StepOut.{StepOut}
+use Rattle.schedule_network.specs.declared.end.StepEnd.{StepEnd}
+use Rattle.schedule_network.specs.declared.end.StepEnd.TheVariants.{NoMemory, BadEvent, PacketLimit}
+use Rattle.schedule_network.specs.declared.step_out.StepOut.{StepOut}
 use Rattle.net_schedule.specs.declared.world.World.{World}
 use Rattle.net_schedule.proofs.Parcels.{as_many_parcels}
 use Rattle.net_schedule.proofs.Trace.{AreLaws, premises_at}

@@ -7,7 +7,7 @@ use Rattle.ft_model.specs.Network.{Packet}
 use Rattle.ft_model.specs.Wire.{wire_of}
 use Rattle.ft_model.specs.World.{World as Seen, Happens}
 use Rattle.ft_model.specs.declared.event.Event.{Event}
-use Rattle.net_schedule.specs.StoredPackets.{with_wires}
+use Rattle.schedule_network.specs.StoredPackets.{with_wires}
 use Rattle.net_schedule.specs.Refinement.{Kept, NodeStands}
 
 -- server and clients of the code's world correspond to those of a world of the definitions

@@ -12,8 +12,8 @@ use Rattle.net_schedule.specs.TwinStep.{TwinStandsAfter, TwinSteps, TwinEndsStep
 use Rattle.server_node.specs.Markers.{Saving}
 use Rattle.net_schedule.specs.MarkedRefinement.{marker_for}
 use Rattle.net_schedule.specs.MarkedStep.{MarkedStandsAfter, MarkedSteps, MarkedEndsStep}
-use Rattle.net_schedule.specs.declared.end.StepEnd.{StepEnd}
-use Rattle.net_schedule.specs.declared.step_out.StepOut.{StepOut}
+use Rattle.schedule_network.specs.declared.end.StepEnd.{StepEnd}
+use Rattle.schedule_network.specs.declared.step_out.StepOut.{StepOut}
 use Rattle.net_schedule.specs.declared.world.World.{World}
 
 -- With one logger: the step extends the trace by the event, ..

@@ -2,9 +2,9 @@
 use Rattle.std.specs.Prelude.{ℕ, zero, suc, List, [], ◌∷◌}
 use Rattle.ft_model.specs.Client.{Client}
 use Rattle.peer_client.specs.Scripted.{delivered}
-use Rattle.net_schedule.specs.StoredPackets.{Carried}
-use Rattle.net_schedule.specs.Logs.{log_in, keepers_in}
-use Rattle.net_schedule.specs.declared.logs.Logs.{Logs}
+use Rattle.schedule_network.specs.StoredPackets.{Carried}
+use Rattle.schedule_network.specs.Logs.{log_in, keepers_in}
+use Rattle.schedule_network.specs.declared.logs.Logs.{Logs}
 use Rattle.net_schedule.specs.Refinement.{Kept}
 
 -- the list with the element at this index changed, if there is one

@@ -1,9 +1,4 @@
-pub mod AtNumber
 pub mod Every
-pub mod StoredPackets
-pub mod Loggers
-pub mod Journal
-pub mod Logs
 pub mod Refinement
 pub mod Actors
 pub mod Delivery

@@ -24,9 +24,9 @@ use Rattle.mark_laws.specs.Premises.{IsSoundMark}
 use Rattle.server_node.specs.Identity.{node_of}
 use Rattle.server_node.specs.Markers.{Saving}
 use Rattle.server_node.specs.MarkedTurns.{NodeStandsAt}
-use Rattle.net_schedule.specs.StoredPackets.{Carried, way_along}
-use Rattle.net_schedule.specs.Journal.{StoreAndJournal, AreAt, HasDistinctKeys}
-use Rattle.net_schedule.specs.Logs.Keepers.{With_marks}
+use Rattle.schedule_network.specs.StoredPackets.{Carried, way_along}
+use Rattle.schedule_network.specs.Journal.{StoreAndJournal, AreAt, HasDistinctKeys}
+use Rattle.schedule_network.specs.Logs.Keepers.{With_marks}
 use Rattle.net_schedule.specs.Refinement.{Kept, Server}
 
 -- how the server of a world makes marks, given how the states of its services are saved

@@ -8,9 +8,9 @@ use Rattle.mark_laws.specs.MarkedWorld.{MarkedMoment, marked_after}
 use Rattle.mark_laws.specs.MarkedLegal.{IsMarkedLegalFor, marked_start, marked_refusal, marked_packets_sent}
 use Rattle.net_schedule.specs.Refinement.{Kept}
 use Rattle.net_schedule.specs.MarkedRefinement.{MarkedWorldStands}
-use Rattle.net_schedule.specs.declared.end.StepEnd.{StepEnd}
-use Rattle.net_schedule.specs.declared.end.StepEnd.TheVariants.{NoMemory, BadEvent, PacketLimit}
-use Rattle.net_schedule.specs.declared.step_out.StepOut.{StepOut}
+use Rattle.schedule_network.specs.declared.end.StepEnd.{StepEnd}
+use Rattle.schedule_network.specs.declared.end.StepEnd.TheVariants.{NoMemory, BadEvent, PacketLimit}
+use Rattle.schedule_network.specs.declared.step_out.StepOut.{StepOut}
 
 -- The code's world is at the end of a legal trace of these events of a schedule with marks.
 pub record MarkedStandsAfter {State : Type 0} (by : ℕ → Marker State) (schedule : Schedule) (events : List Event) (trace : List MarkedMoment)

@@ -15,11 +15,11 @@ use Rattle.server_node.specs.Identity.{node_of}
 use Rattle.server_node.specs.Stages.{StageStands}
 use Rattle.server_node.specs.declared.identity.Identity.{Identity}
 use Rattle.server_node.specs.declared.stage.Stage.{Stage as Holds}
-use Rattle.net_schedule.specs.StoredPackets.{Carried, carried}
-use Rattle.net_schedule.specs.Logs.{Keepers}
-use Rattle.net_schedule.specs.Logs.Keepers.{Single}
-use Rattle.net_schedule.specs.declared.end.StepEnd.{StepEnd}
-use Rattle.net_schedule.specs.declared.end.StepEnd.TheVariants.{BadEvent}
+use Rattle.schedule_network.specs.StoredPackets.{Carried, carried}
+use Rattle.schedule_network.specs.Logs.{Keepers}
+use Rattle.schedule_network.specs.Logs.Keepers.{Single}
+use Rattle.schedule_network.specs.declared.end.StepEnd.{StepEnd}
+use Rattle.schedule_network.specs.declared.end.StepEnd.TheVariants.{BadEvent}
 
 -- a server that is up: its identity, which never changes, and its state
 pub record Server (State : Type 0) : Type 0 where

@@ -19,7 +19,7 @@ use Rattle.mark_laws.specs.MarkedLegal.{marked_start}
 use Rattle.mark_laws.specs.MarkedWorld as marked
 use Rattle.mark_laws.specs.MarkedWorld.{MarkedMoment, CanBeRead, bytes_of, marked_after}
 use Rattle.mark_laws.specs.MarkedWorld.Parcel.{Usual, Mark_sent, Mark_answered}
-use Rattle.net_schedule.specs.StoredPackets.{Carried}
+use Rattle.schedule_network.specs.StoredPackets.{Carried}
 
 -- all packets that were sent up to the end of a trace
 abbrev pub packets_of : Schedule → List Moment → List Packet

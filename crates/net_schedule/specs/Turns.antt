@@ -14,17 +14,17 @@ use Rattle.mark_laws.specs.MarkedNode.{MarkedInput}
 use Rattle.twin_laws.specs.TwinLegal.{twin_refusal}
 use Rattle.twin_laws.specs.TwinWorld.{Parcel, TwinWorld, seen}
 use Rattle.net_schedule.specs.Actors.{ActorsStand, ActorsGoOn, ActorsAdvance}
-use Rattle.net_schedule.specs.StoredPackets.{way_along}
+use Rattle.schedule_network.specs.StoredPackets.{way_along}
 use Rattle.net_schedule.specs.Delivery.{with_logs}
-use Rattle.net_schedule.specs.Logs.{HearsIn}
+use Rattle.schedule_network.specs.Logs.{HearsIn}
 use Rattle.net_schedule.specs.WorldView.{kept, service_of}
 use Rattle.net_schedule.specs.Premises.{Premises, ComesAs}
 use Rattle.net_schedule.specs.Refinement.{WorldStands, ReachesNext, Advances}
 use Rattle.net_schedule.specs.TwinRefinement.{TwinWorldStands, TwinGoesOn, TwinAdvances, TwinPremises, ParcelComesAs, MayComeAs, stored_way}
 use Rattle.server_node.specs.Markers.{Saving}
 use Rattle.net_schedule.specs.MarkedTurns.{MarkedServes, MarkedBrings, MarkedDoes, MarkedRefuses}
-use Rattle.net_schedule.specs.declared.end.StepEnd.{StepEnd}
-use Rattle.net_schedule.specs.declared.end.StepEnd.TheVariants.{NoMemory, BadEvent, PacketLimit}
+use Rattle.schedule_network.specs.declared.end.StepEnd.{StepEnd}
+use Rattle.schedule_network.specs.declared.end.StepEnd.TheVariants.{NoMemory, BadEvent, PacketLimit}
 use Rattle.net_schedule.specs.declared.world.World.{World}
 
 -- in every turn the service stays the same, and packets are only added

@@ -22,9 +22,9 @@ use Rattle.twin_laws.specs.TwinLegal.{event_of, twin_refusal, bytes_of_parcel}
 use Rattle.twin_laws.specs.TwinReport.{way_of_between}
 use Rattle.twin_laws.specs.SentBytes.{IsWritten}
 use Rattle.net_schedule.specs.Actors.{ActorsStand}
-use Rattle.net_schedule.specs.StoredPackets.{Carried, way_along}
-use Rattle.net_schedule.specs.Loggers.{Loggers}
-use Rattle.net_schedule.specs.Logs.Keepers.{Paired}
+use Rattle.schedule_network.specs.StoredPackets.{Carried, way_along}
+use Rattle.schedule_network.specs.Loggers.{Loggers}
+use Rattle.schedule_network.specs.Logs.Keepers.{Paired}
 use Rattle.net_schedule.specs.Premises.{Premises, ComesAs}
 use Rattle.net_schedule.specs.Refinement.{Kept}
 

@@ -8,9 +8,9 @@ use Rattle.twin_laws.specs.TwinWorld.{TwinMoment, twin_after}
 use Rattle.twin_laws.specs.TwinLegal.{IsTwinLegalFor, twin_start, twin_refusal, twin_packets_sent}
 use Rattle.net_schedule.specs.Refinement.{Kept}
 use Rattle.net_schedule.specs.TwinRefinement.{TwinWorldStands}
-use Rattle.net_schedule.specs.declared.end.StepEnd.{StepEnd}
-use Rattle.net_schedule.specs.declared.end.StepEnd.TheVariants.{NoMemory, BadEvent, PacketLimit}
-use Rattle.net_schedule.specs.declared.step_out.StepOut.{StepOut}
+use Rattle.schedule_network.specs.declared.end.StepEnd.{StepEnd}
+use Rattle.schedule_network.specs.declared.end.StepEnd.TheVariants.{NoMemory, BadEvent, PacketLimit}
+use Rattle.schedule_network.specs.declared.step_out.StepOut.{StepOut}
 
 -- The code's world is at the end of a legal trace of these events of a schedule with two loggers.
 pub record TwinStandsAfter {State : Type 0} (services : ℕ → Machine State) (schedule : Schedule) (events : List Event) (trace : List TwinMoment)

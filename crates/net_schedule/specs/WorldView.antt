@@ -5,7 +5,7 @@ use Rattle.server_trait.specs.declared.Service.{Ghosts}
 use Rattle.ft_model.specs.Legal.{machines}
 use Rattle.server_node.specs.declared.node.Node.{Node}
 use Rattle.net_schedule.specs.declared.world.World.{World}
-use Rattle.net_schedule.specs.Logs.{log_in, keepers_in}
+use Rattle.schedule_network.specs.Logs.{log_in, keepers_in}
 use Rattle.net_schedule.specs.Refinement.{Kept, Server}
 
 abbrev pub server_of : {State : Type 0} {ghosts : Ghosts State} → Node State ghosts → Server State

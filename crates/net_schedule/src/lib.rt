@@ -2,19 +2,10 @@
 //! two, or one that keeps marks; and a server that crashes and restarts.
 #![tactic(auto)]
 
-pub use end::StepEnd;
-pub use step_out::StepOut;
+pub use schedule_network::{StepEnd, StepOut};
 pub use world::World;
 
-mod clients;
-mod end;
 mod excluded;
 pub mod laws;
-mod logs;
-mod marked;
-mod only;
-mod packets;
-mod pair;
 mod sending;
-mod step_out;
 mod world;

@@ -3,16 +3,11 @@
 
 ghost use Rattle.std.specs.Prelude.{◌≡◌, ◌≤◌, ◌<◌, ◌*◌, length, OnOk};
 ghost use Rattle.seq_arith.specs.Damage.{flipped};
-ghost use Rattle.net_schedule.specs.Loggers.{part_numbered};
+ghost use Rattle.schedule_network.specs.Loggers.{part_numbered};
 ghost use Rattle.net_schedule.specs.Every.{every_in};
 
-use crate::clients::{keys_of, new_clients};
-use crate::end::StepEnd;
 use crate::laws::marked_logs_have_distinct_keys;
-use crate::logs::Logs;
-use crate::packets::Packets;
 use crate::sending::keep_sent;
-use crate::step_out::StepOut;
 use ft_io::{Addr, Key, NoMemory};
 use ft_model::grammar::playable_schedules_start;
 use ft_model::wire::packets_have_wires;
@@ -20,6 +15,7 @@ use ft_model::{Event, EventWhy, Schedule, Way};
 use logger_store::LogStore;
 use mark_laws::{marked_parcels_are_written, marked_premises_hold};
 use peer_client::Client;
+use schedule_network::{Logs, Packets, StepEnd, StepOut, keys_of, new_clients};
 use seq_arith::flip;
 use server_node::{Input, Node, TurnEnd};
 use server_trait::{Saved, Service};
@@ -98,7 +94,7 @@ pub struct World<S: Service> {
 impl<S: Saved> World<S> {
     ghost use Rattle.std.specs.Prelude.{◌≡◌, ℕ, ◌≤◌, ◌<◌, ◌+◌, ◌-◌, true, false, [], option_copied, length, Some, None, IfOk, IfErr, OnOk};
     ghost use Rattle.net_schedule.specs.Along.{StepsAlong, EndsAlong, TwinStepsAlong, TwinEndsAlong, MarkedStepsAlong, MarkedEndsAlong};
-    ghost use Rattle.net_schedule.specs.AtNumber.{at_number};
+    ghost use Rattle.schedule_network.specs.AtNumber.{at_number};
     ghost use Rattle.net_schedule.specs.WorldView.{kept, services_of};
     ghost use Rattle.ft_model.specs.Client.{mover_of};
     ghost use Rattle.ft_model.specs.Playable.{IsPlayable};

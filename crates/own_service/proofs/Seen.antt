@@ -4,7 +4,7 @@ use Rattle.std.proofs.lemmas.List.{take_more}
 use Rattle.std.specs.List.{AllByRecursion}
 use Rattle.net_schedule.specs.Refinement.{Kept}
 use Rattle.net_schedule.specs.Step.{Steps}
-use Rattle.net_schedule.specs.declared.step_out.StepOut.{StepOut}
+use Rattle.schedule_network.specs.declared.step_out.StepOut.{StepOut}
 use Rattle.ft_model.specs.Client.{Client}
 use Rattle.ft_model.specs.Growth.{logged_lengths}
 use Rattle.ft_model.specs.Legal.{machines, start_of}

@@ -19,15 +19,15 @@ use Rattle.replay_tool.specs.Safe.{IsSafe}
 use Rattle.twin_laws.specs.Flat.{flat}
 use Rattle.twin_laws.specs.TwinLegal.{twin_start, IsTwinLegalFor}
 use Rattle.twin_laws.specs.TwinWorld.{TwinMoment}
-use Rattle.net_schedule.specs.AtNumber.{at_number}
+use Rattle.schedule_network.specs.AtNumber.{at_number}
 use Rattle.net_schedule.specs.SentPackets.{KeepsAllSent, KeepsAllParcels, KeepsAllMarked}
 use Rattle.net_schedule.specs.Refinement.{Kept}
 use Rattle.net_schedule.specs.MarkedStep.{MarkedStandsAfter, MarkedSteps, MarkedEndsStep}
 use Rattle.net_schedule.specs.Step.{StandsAfter, Steps, EndsStep}
 use Rattle.net_schedule.specs.TwinStep.{TwinStandsAfter, TwinSteps, TwinEndsStep}
-use Rattle.net_schedule.specs.declared.end.StepEnd.{StepEnd}
-use Rattle.net_schedule.specs.declared.end.StepEnd.TheVariants.{NoMemory, BadEvent, PacketLimit}
-use Rattle.net_schedule.specs.declared.step_out.StepOut.{StepOut}
+use Rattle.schedule_network.specs.declared.end.StepEnd.{StepEnd}
+use Rattle.schedule_network.specs.declared.end.StepEnd.TheVariants.{NoMemory, BadEvent, PacketLimit}
+use Rattle.schedule_network.specs.declared.step_out.StepOut.{StepOut}
 use Rattle.schedule_text.specs.Bytes.{content_in}
 use Rattle.replay_tool.specs.TraceEnd.{IsTraceEnd, IsStanding, PlaysOne, StopsAt}
 use Rattle.replay_tool.specs.Traces.{any_marker, traces_of, traces}

@@ -23,9 +23,9 @@ use Rattle.mark_laws.specs.MarkedNode.MarkedInput.{Plain_comes, Mark_comes}
 use Rattle.mark_laws.specs.MarkedWorld.{Parcel, MarkedWorld, MarkedMoment, MarkedHappens, MarkedJoint, ParcelComes, ComesAs, LogHears, LogReads, ServerTurn, CanBeRead, bytes_of, input_of, marked_after, said_by}
 use Rattle.mark_laws.specs.MarkedWorld.Parcel.{Usual, Mark_sent, Mark_answered}
 use Rattle.mark_laws.specs.MarkedReport.{mark_words, way_of_marked, marked_parcel_line, marked_parcel_lines, marked_parcel_count, marked_event_lines, marked_report}
-use Rattle.net_schedule.specs.AtNumber.{at_number}
+use Rattle.schedule_network.specs.AtNumber.{at_number}
 use Rattle.net_schedule.specs.MarkedStep.{MarkedStandsAfter}
-use Rattle.net_schedule.specs.StoredPackets.{Carried}
+use Rattle.schedule_network.specs.StoredPackets.{Carried}
 use Rattle.net_schedule.specs.SentPackets.{KeepsAllMarked, marked_parcels_of}
 use Rattle.net_schedule.specs.Refinement.{Kept}
 use Rattle.schedule_text.specs.Bytes.{content_in}

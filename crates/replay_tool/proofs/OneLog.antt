@@ -17,8 +17,8 @@ use Rattle.ft_model.specs.declared.schedule.Schedule.{Schedule}
 use Rattle.ft_model.proofs.OneTrace.{goes_on}
 use Rattle.std.specs.List.{flat_map}
 use Rattle.ft_model.specs.declared.way.Way.{Way}
-use Rattle.net_schedule.specs.AtNumber.{at_number}
-use Rattle.net_schedule.specs.StoredPackets.{Carried}
+use Rattle.schedule_network.specs.AtNumber.{at_number}
+use Rattle.schedule_network.specs.StoredPackets.{Carried}
 use Rattle.net_schedule.specs.SentPackets.{packets_of, reported_way, KeepsAllSent}
 use Rattle.net_schedule.specs.Refinement.{Kept}
 use Rattle.net_schedule.specs.Step.{StandsAfter}

@@ -5,9 +5,9 @@ use Rattle.ft_model.specs.Report.{header, event_line}
 use Rattle.ft_model.specs.declared.event.Event.{Event}
 use Rattle.ft_model.specs.declared.schedule.Schedule.{Schedule}
 use Rattle.net_schedule.specs.Refinement.{Kept, KeepsAtRefusal}
-use Rattle.net_schedule.specs.declared.end.StepEnd.{StepEnd}
-use Rattle.net_schedule.specs.declared.end.StepEnd.TheVariants.{NoMemory, BadEvent, PacketLimit}
-use Rattle.net_schedule.specs.declared.step_out.StepOut.{StepOut}
+use Rattle.schedule_network.specs.declared.end.StepEnd.{StepEnd}
+use Rattle.schedule_network.specs.declared.end.StepEnd.TheVariants.{NoMemory, BadEvent, PacketLimit}
+use Rattle.schedule_network.specs.declared.step_out.StepOut.{StepOut}
 use Rattle.replay_tool.specs.Ends.{end_of_step}
 use Rattle.replay_tool.specs.PartialWrite.{IsOnItsWay, Wrote, WroteFront, Holds}
 use Rattle.replay_tool.specs.PlayedRun.{IsPlayedTo, lines_so_far, ReportsFront, ReportsToLimit}

@@ -9,8 +9,8 @@ use Rattle.ft_model.specs.World.{World, Moment, world_after, events_of, Happens}
 use Rattle.ft_model.specs.declared.event.Event.{Event}
 use Rattle.net_schedule.specs.Refinement.{Kept}
 use Rattle.net_schedule.specs.Step.{StandsAfter, Extends, Steps, EndsStep}
-use Rattle.net_schedule.specs.declared.step_out.StepOut.{StepOut}
-use Rattle.net_schedule.specs.declared.end.StepEnd.TheVariants.{BadEvent, PacketLimit}
+use Rattle.schedule_network.specs.declared.step_out.StepOut.{StepOut}
+use Rattle.schedule_network.specs.declared.end.StepEnd.TheVariants.{BadEvent, PacketLimit}
 use Rattle.ft_model.proofs.Lists.{some_is, none_is_some}
 use Rattle.replay_tool.specs.SeedEvents.{Drawn, next_event, next_event_in}
 use Rattle.replay_tool.specs.Generated.{after_draws, schedule_of, state_behind, AreDrawn}

@@ -6,8 +6,8 @@ use Rattle.ft_model.specs.declared.way.Way.{Way}
 use Rattle.ft_model.specs.Report.{line_of_packet}
 use Rattle.ft_model.proofs.Lists.{some_is, none_is_some}
 use Rattle.ft_model.proofs.FormedWorld.{all_behind}
-use Rattle.net_schedule.specs.AtNumber.{at_number}
-use Rattle.net_schedule.specs.StoredPackets.{Carried}
+use Rattle.schedule_network.specs.AtNumber.{at_number}
+use Rattle.schedule_network.specs.StoredPackets.{Carried}
 use Rattle.schedule_text.specs.Bytes.{content_in}
 use Rattle.replay_tool.specs.PacketLines.{line_of, stored_line, stored_lines}
 use Rattle.replay_tool.proofs.Following.{AreLines}

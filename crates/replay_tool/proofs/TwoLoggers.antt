@@ -23,8 +23,8 @@ use Rattle.twin_laws.specs.TwinWorld.{Parcel, TwinWorld, TwinMoment, TwinJoint, 
 use Rattle.twin_laws.specs.TwinWorld.Parcel.{Outside, Inside}
 use Rattle.twin_laws.specs.SentBytes.{IsWritten, IsRead}
 use Rattle.twin_laws.proofs.OneTurn.{twin_goes_on}
-use Rattle.net_schedule.specs.AtNumber.{at_number}
-use Rattle.net_schedule.specs.StoredPackets.{Carried}
+use Rattle.schedule_network.specs.AtNumber.{at_number}
+use Rattle.schedule_network.specs.StoredPackets.{Carried}
 use Rattle.net_schedule.specs.SentPackets.{KeepsAllParcels, parcels_of}
 use Rattle.net_schedule.specs.Refinement.{Kept}
 use Rattle.net_schedule.specs.TwinStep.{TwinStandsAfter}

@@ -6,8 +6,8 @@ use Rattle.ft_io.specs.declared.reading.ReadEnd.TheVariants as reads
 use Rattle.ft_model.specs.declared.schedule.Limit.TheVariants as limits
 use Rattle.schedule_text.specs.declared.end.ScheduleEnd.{ScheduleEnd}
 use Rattle.schedule_text.specs.declared.end.ScheduleEnd.TheVariants as schedules
-use Rattle.net_schedule.specs.declared.end.StepEnd.{StepEnd}
-use Rattle.net_schedule.specs.declared.end.StepEnd.TheVariants as steps
+use Rattle.schedule_network.specs.declared.end.StepEnd.{StepEnd}
+use Rattle.schedule_network.specs.declared.end.StepEnd.TheVariants as steps
 use Rattle.trace_check.specs.declared.end.CheckEnd.{CheckEnd}
 use Rattle.trace_check.specs.declared.end.CheckEnd.TheVariants as checks
 use Rattle.replay_tool.specs.declared.seed_run.SeedEnd.{SeedEnd}

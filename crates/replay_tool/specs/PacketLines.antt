@@ -3,8 +3,8 @@ use Rattle.std.specs.Prelude.{ℕ, zero, suc, ◌+◌, Option, Some, List, [], �
 use Rattle.std.specs.Option.{option_map_or}
 use Rattle.ft_model.specs.Report.{line_of_packet}
 use Rattle.ft_model.specs.declared.way.Way.{Way}
-use Rattle.net_schedule.specs.AtNumber.{at_number}
-use Rattle.net_schedule.specs.StoredPackets.{Carried}
+use Rattle.schedule_network.specs.AtNumber.{at_number}
+use Rattle.schedule_network.specs.StoredPackets.{Carried}
 use Rattle.schedule_text.specs.Bytes.{content_in}
 
 -- the line for a direction and bytes; empty where the bytes can't be read

@@ -1,5 +1,5 @@
 use Rattle.std.proofs.Common.{◌≡◌, take}
-use Rattle.net_schedule.specs.StoredPackets.{with_wires}
+use Rattle.schedule_network.specs.StoredPackets.{with_wires}
 use Rattle.net_schedule.proofs.sending.keep_sent.Given as goal
 
 abbrev pub invariant-loop-packet : goal.invariant-loop-packet

@@ -1,7 +1,7 @@
 use Rattle.std.proofs.Common.{◌≡◌, ◌∙◌, ◌≤◌, ap, sym, subst, refl, arith, true, false, is_some, Some, option_map, length}
 use Rattle.server_node.specs.Markers.{saving}
 use Rattle.net_schedule.specs.MarkedTurns.{marker_in}
-use Rattle.net_schedule.specs.StoredPackets.{with_wires}
+use Rattle.schedule_network.specs.StoredPackets.{with_wires}
 use Rattle.net_schedule.specs.WorldView.{kept, server_of, service_of}
 use Rattle.net_schedule.proofs.Events.{boots, refuses_up, refuses_boot}
 use Rattle.net_schedule.proofs.MarkedBoot.{boots_marked}

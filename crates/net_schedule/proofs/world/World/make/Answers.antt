@@ -7,7 +7,7 @@ use Rattle.ft_model.specs.World.{client_at}
 use Rattle.ft_model.specs.declared.way.Way.TheVariants.{ClientToServer}
 use Rattle.server_node.specs.Markers.{saving}
 use Rattle.net_schedule.specs.MarkedTurns.{marker_in}
-use Rattle.net_schedule.specs.StoredPackets.{with_packet}
+use Rattle.schedule_network.specs.StoredPackets.{with_packet}
 use Rattle.net_schedule.specs.WorldView.{kept, service_of}
 use Rattle.net_schedule.proofs.MarkedActors.{movers_are_clients, downed, seen_down, down_stands, down_premises, client_advances, client_refused}
 use Rattle.net_schedule.proofs.PacketStore.{packet_grows}

@@ -4,7 +4,7 @@ use Rattle.server_node.specs.Inputs.{input_of}
 use Rattle.server_node.specs.Markers.{saving}
 use Rattle.server_node.specs.MarkedTurns.{marked_input_of}
 use Rattle.net_schedule.specs.MarkedTurns.{marker_in}
-use Rattle.net_schedule.specs.StoredPackets.{with_wires}
+use Rattle.schedule_network.specs.StoredPackets.{with_wires}
 use Rattle.net_schedule.specs.WorldView.{kept, server_of, services_of, service_of}
 use Rattle.net_schedule.proofs.Goings.{server_goes_at, server_rests, never_fenced}
 use Rattle.net_schedule.proofs.MarkedBoot.{serves_marked}

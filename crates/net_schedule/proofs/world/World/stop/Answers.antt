@@ -1,9 +1,9 @@
 use Rattle.std.proofs.Common.{◌≡◌, ◌∙◌, sym, ap, refl, le_refl}
 use Rattle.mark_store.specs.Refinement.{TrimmedAtMarks}
 use Rattle.net_schedule.specs.WorldView.{kept, service_of}
-use Rattle.net_schedule.specs.Loggers.{Loggers, serving_log}
-use Rattle.net_schedule.specs.Logs.{keepers_in}
-use Rattle.net_schedule.specs.Logs.Keepers.{Single, Paired, With_marks}
+use Rattle.schedule_network.specs.Loggers.{Loggers, serving_log}
+use Rattle.schedule_network.specs.Logs.{keepers_in}
+use Rattle.schedule_network.specs.Logs.Keepers.{Single, Paired, With_marks}
 use Rattle.net_schedule.proofs.TwinEvents.{twin_stops}
 use Rattle.net_schedule.proofs.world.World.stop.Goals as goal
 

@@ -1,5 +1,0 @@
-use Rattle.std.proofs.Common.{◌≡◌, map, take}
-use Rattle.net_schedule.proofs.clients.keys_of.Given as goal
-
-abbrev pub invariant-loop-line : goal.invariant-loop-line
-invariant-loop-line l = l.keys.items ≡ map (λ line. line.key) (take l.line-index l.lines)

@@ -1,6 +1,0 @@
-use Rattle.std.proofs.Common.{◌≡◌, take}
-use Rattle.net_schedule.specs.Loggers.{with_datagrams}
-use Rattle.net_schedule.proofs.sending.keep_datagrams.Given as goal
-
-abbrev pub invariant-loop-i : goal.invariant-loop-i
-invariant-loop-i l = l.packets ≡ with_datagrams l.part l.initial.packets (take l.i l.sent)

@@ -1,0 +1,4 @@
+pub mod Numbered
+pub mod Datagrams
+pub mod Entered
+pub mod ByKey

@@ -1,0 +1,67 @@
+-- A head and a tail as the code stores them, what each of them does with bytes that arrive, and what it sends, as the network stores it.
+use Rattle.std.specs.Prelude.{ℕ, ◌==◌, Option, None, Some, List, ◌++◌, map, if◌then◌else◌}
+use Rattle.ft_model.specs.Log.{Log}
+use Rattle.ft_model.specs.declared.way.Way.{Way}
+use Rattle.ft_model.specs.declared.way.Way.TheVariants.{ClientToServer, ServerToClient, ServerToLogger, LoggerToServer, HeadToTail, TailToHead}
+use Rattle.twin_laws.specs.declared.part.Part.{Part}
+use Rattle.twin_laws.specs.declared.part.Part.TheVariants as parts
+use Rattle.twin_laws.specs.declared.part.Side.{Side}
+use Rattle.twin_laws.specs.declared.part.Side.TheVariants as sides
+use Rattle.twin_laws.specs.StoredState.{Kept, new_kept, left_alone, kept_does}
+use Rattle.schedule_network.specs.StoredPackets.{Carried}
+
+-- one of them serves alone exactly if the other has stopped
+pub record Loggers : Type 0 where
+  pub head : Kept
+  pub tail : Kept
+
+abbrev pub new_loggers : Loggers
+new_loggers = record { head = new_kept parts.Head; tail = new_kept parts.Tail }
+
+-- the log that serves is the tail's, until the tail stops
+abbrev pub serving_log : Loggers → Log
+serving_log l = if l.head.alone then l.head.log else l.tail.log
+
+-- one of them stops, and the other serves alone from then on
+abbrev pub stopped : Part → Loggers → Loggers
+stopped parts.Head l = record l { tail = left_alone l.tail }
+stopped parts.Tail l = record l { head = left_alone l.head }
+
+-- the direction of what a logger sends: its answers are sent to the server, all else to the other logger
+abbrev pub way_out : Part → Side → Way
+way_out part sides.Server = LoggerToServer
+way_out parts.Head sides.Other = HeadToTail
+way_out parts.Tail sides.Other = TailToHead
+
+-- the packets that were stored before, and then what a logger sends
+abbrev pub with_datagrams : Part → Carried → List (Side × List ℕ) → Carried
+with_datagrams part kept sent =
+    record { ways = kept.ways ++ map (λ d. way_out part d.0) sent; bytes = kept.bytes ++ map (λ d. d.1) sent }
+
+-- bytes arrive at one of them from a side. One that has stopped does nothing
+abbrev pub head_hears : Side → List ℕ → Loggers × Carried → Loggers × Carried
+head_hears from bytes h =
+    if h.0.tail.alone then h
+    else (let d = kept_does from bytes h.0.head in (record h.0 { head = d.next }, with_datagrams parts.Head h.1 d.sent))
+
+abbrev pub tail_hears : Side → List ℕ → Loggers × Carried → Loggers × Carried
+tail_hears from bytes h =
+    if h.0.head.alone then h
+    else (let d = kept_does from bytes h.0.tail in (record h.0 { tail = d.next }, with_datagrams parts.Tail h.1 d.sent))
+
+-- what the server sends reaches the head, or the tail once the head has stopped
+abbrev pub front_hears : List ℕ → Loggers × Carried → Loggers × Carried
+front_hears bytes h = if h.0.tail.alone then tail_hears sides.Server bytes h else head_hears sides.Server bytes h
+
+-- bytes of this direction arrive at the logger to which it leads, if it leads to one
+abbrev pub pair_hears : Way → List ℕ → Loggers × Carried → Loggers × Carried
+pair_hears ServerToLogger bytes h = front_hears bytes h
+pair_hears HeadToTail bytes h = tail_hears sides.Other bytes h
+pair_hears TailToHead bytes h = head_hears sides.Other bytes h
+pair_hears (ClientToServer number) bytes h = h
+pair_hears (ServerToClient number) bytes h = h
+pair_hears LoggerToServer bytes h = h
+
+-- the logger that a schedule means by a number
+abbrev pub part_numbered : ℕ → Option Part
+part_numbered number = if number == 1 then Some parts.Head else (if number == 2 then Some parts.Tail else None)

@@ -1,0 +1,61 @@
+-- What keeps the log of a world: one logger, two, or one that keeps marks; and what becomes of it when bytes arrive.
+use Rattle.std.specs.Prelude.{◌≡◌, ℕ, List, Result, Ok, Err}
+use Rattle.seq_arith.specs.Message.{Message}
+use Rattle.seq_arith.specs.MessageGrammar.{reading}
+use Rattle.seq_arith.specs.declared.kinds.BadMsg.{BadMsg}
+use Rattle.ft_model.specs.Log.{Log, log_after, answer_to}
+use Rattle.ft_model.specs.declared.way.Way.{Way}
+use Rattle.ft_model.specs.declared.way.Way.TheVariants.{ClientToServer, ServerToClient, ServerToLogger, LoggerToServer, HeadToTail, TailToHead}
+use Rattle.logger_store.specs.StoreState.{answer_bytes}
+use Rattle.mark_laws.specs.MarkedLog.{nothing_logged}
+use Rattle.mark_store.specs.Refinement.{TrimmedAtMarks}
+use Rattle.schedule_network.specs.StoredPackets.{Carried, with_answer}
+use Rattle.schedule_network.specs.Loggers.{Loggers, serving_log, pair_hears}
+use Rattle.schedule_network.specs.Journal.{StoreAndJournal, AreAt, MarksHear}
+use Rattle.schedule_network.specs.declared.logs.Logs.{Logs}
+use Rattle.schedule_network.specs.declared.logs.Logs.TheVariants.{One, Two, Marked}
+
+-- a store with marks and its journal, with nothing logged
+abbrev pub IsNewMarked : Logs → Type 0
+IsNewMarked logs = (kept : StoreAndJournal) × (logs ≡ Marked kept) × AreAt kept nothing_logged
+
+-- the log that serves: with marks, the journal
+abbrev pub log_in : Logs → Log
+log_in (One log) = log
+log_in (Two loggers) = serving_log loggers
+log_in (Marked kept) = kept.journal
+
+-- what keeps the log: one logger, a head and a tail, or a store with marks
+pub data Keepers : Type 0 where
+  Single : Keepers
+  Paired : Loggers → Keepers
+  With_marks : TrimmedAtMarks → Keepers
+
+abbrev pub keepers_in : Logs → Keepers
+keepers_in (One log) = Single
+keepers_in (Two loggers) = Paired loggers
+keepers_in (Marked kept) = With_marks kept.store
+
+-- the only logger takes a message, and its answer is sent. What is no message changes nothing
+abbrev pub log_reads : Result Message BadMsg → Log × Carried → Log × Carried
+log_reads (Err bad) h = h
+log_reads (Ok message) h = (log_after h.0 message, with_answer h.1 (answer_bytes (answer_to h.0 message)))
+
+-- bytes of this direction arrive at the only logger, if it leads there
+abbrev pub log_hears : Way → List ℕ → Log × Carried → Log × Carried
+log_hears ServerToLogger bytes h = log_reads (reading bytes) h
+log_hears (ClientToServer number) bytes h = h
+log_hears (ServerToClient number) bytes h = h
+log_hears LoggerToServer bytes h = h
+log_hears HeadToTail bytes h = h
+log_hears TailToHead bytes h = h
+
+-- what keeps the log, and the packets
+abbrev pub both : Logs → Carried → Logs × Carried
+both logs packets = (logs, packets)
+
+-- bytes of this direction arrive at what keeps the log: `now` is its state after that, and `sent` are the stored packets with what it sends
+abbrev pub HearsIn : Logs → Way → List ℕ → Carried → Logs → Carried → Type 0
+HearsIn (One log) way bytes packets now sent = let h = log_hears way bytes (log, packets) in both now sent ≡ both (One h.0) h.1
+HearsIn (Two loggers) way bytes packets now sent = let h = pair_hears way bytes (loggers, packets) in both now sent ≡ both (Two h.0) h.1
+HearsIn (Marked kept) way bytes packets now sent = (after : StoreAndJournal) × (now ≡ Marked after) × MarksHear way bytes (kept, packets) (after, sent)

@@ -1,0 +1,72 @@
+//! The logger or the two loggers that keep the log of a world.
+
+ghost use Rattle.std.specs.Prelude.{◌≡◌, true, false, OnOk, IfOk};
+ghost use Rattle.ft_model.specs.Log.{empty_log};
+ghost use Rattle.schedule_network.specs.Loggers.{new_loggers};
+ghost use Rattle.schedule_network.specs.Logs.{IsNewMarked, log_in, HearsIn};
+ghost use Rattle.schedule_network.specs.declared.logs.Logs.TheVariants.{One as OneLog, Two as TwoLogs};
+
+use crate::marked::MarkedLog;
+use crate::only::OnlyLogger;
+use crate::packets::Packets;
+use crate::pair::LogPair;
+use ft_io::NoMemory;
+use ft_model::Way;
+use logger_store::LogStore;
+use std::alloc::Global;
+
+/// The logger or the two loggers that keep the log of a world.
+#[derive(Drop)]
+pub enum Logs {
+    /// One logger.
+    One(OnlyLogger),
+    /// A head and a tail.
+    Two(LogPair),
+    /// One logger that keeps marks.
+    Marked(MarkedLog),
+}
+
+impl Logs {
+    /// Creates two loggers, or one that keeps marks or doesn't, with empty logs.
+    pub fn new(alloc: Global, twin: bool, marks: bool) -> Result<Logs, NoMemory>
+        ensures one { twin ≡ false → marks ≡ false → IfOk result (λ logs. logs ≡ OneLog empty_log) }
+        ensures two { twin ≡ true → IfOk result (λ logs. logs ≡ TwoLogs new_loggers) }
+        ensures marked { twin ≡ false → marks ≡ true → IfOk result (λ logs. IsNewMarked logs) }
+    {
+        if twin {
+            return Ok(Logs::Two(LogPair::new(alloc)?));
+        }
+        if marks {
+            return Ok(Logs::Marked(MarkedLog::new(alloc)));
+        }
+        Ok(Logs::One(OnlyLogger::new(alloc)))
+    }
+
+    /// Returns the log that serves; with marks, the journal.
+    pub fn log(&self) -> &LogStore
+        ensures { result.now ≡ log_in self.now }
+    {
+        match self {
+            Logs::One(only) => only.log(),
+            Logs::Two(pair) => pair.log(),
+            Logs::Marked(marked) => marked.log(),
+        }
+    }
+
+    /// Passes bytes of this direction to a logger, and stores what it sends.
+    pub fn hear(
+        &mut self,
+        alloc: Global,
+        way: Way,
+        bytes: &[u8],
+        packets: &mut Packets,
+    ) -> Result<(), NoMemory>
+        ensures { OnOk result (HearsIn self.old way bytes.now packets.old self.new packets.new) }
+    {
+        match self {
+            Logs::One(only) => only.hear(alloc, way, bytes, packets),
+            Logs::Two(pair) => pair.hear(alloc, way, bytes, packets),
+            Logs::Marked(marked) => marked.hear(alloc, way, bytes, packets),
+        }
+    }
+}

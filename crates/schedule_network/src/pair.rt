@@ -1,0 +1,153 @@
+//! The two loggers of a world.
+
+ghost use Rattle.std.specs.Prelude.{◌≡◌, ◌||◌, not, false, IfOk, OnOk};
+ghost use Rattle.schedule_network.specs.Loggers.{new_loggers, serving_log, stopped, head_hears, tail_hears, front_hears, pair_hears};
+
+use crate::answers::keep_datagrams;
+use crate::packets::Packets;
+use ft_io::NoMemory;
+use ft_model::Way;
+use logger_store::LogStore;
+use std::alloc::Global;
+use std::marker::Model;
+use twin_log::{Part, Side, TwinLog, TwinOut};
+
+/// A head and a tail. One of them serves alone exactly if the other has stopped.
+#[derive(Drop)]
+pub struct LogPair {
+    head: TwinLog,
+    tail: TwinLog,
+    /// What one of them sends in a turn.
+    out: TwinOut,
+}
+
+impl Model for LogPair {
+    ghost use Rattle.schedule_network.specs.Loggers.{Loggers};
+
+    ghost Value = { Loggers };
+
+    ghost view = { λ p. record { head = p.head; tail = p.tail } };
+}
+
+impl LogPair {
+    /// Creates two running loggers with empty logs.
+    pub fn new(alloc: Global) -> Result<LogPair, NoMemory>
+        ensures { IfOk result (λ pair. pair ≡ new_loggers) }
+    {
+        Ok(LogPair {
+            head: TwinLog::new(alloc, Part::Head)?,
+            tail: TwinLog::new(alloc, Part::Tail)?,
+            out: TwinOut::new(alloc)?,
+        })
+    }
+
+    /// Returns the log that serves: the tail's, until the tail stops.
+    pub fn log(&self) -> &LogStore
+        ensures { result.now ≡ serving_log self.now }
+    {
+        if self.tail_runs() {
+            return self.tail.log();
+        }
+        self.head.log()
+    }
+
+    /// Returns whether the head still runs.
+    fn head_runs(&self) -> bool
+        ensures { result ≡ not self.now.tail.alone }
+    {
+        !self.tail.is_alone()
+    }
+
+    /// Returns whether the tail still runs.
+    fn tail_runs(&self) -> bool
+        ensures { result ≡ not self.now.head.alone }
+    {
+        !self.head.is_alone()
+    }
+
+    /// Returns whether one of them has stopped.
+    pub fn has_stopped(&self) -> bool
+        ensures { result ≡ (self.now.tail.alone || self.now.head.alone) }
+    {
+        self.tail.is_alone() || self.head.is_alone()
+    }
+
+    /// Stops one of them. The other serves alone from now on.
+    pub fn stop(&mut self, part: Part)
+        requires head { self.old.head.alone ≡ false }
+        requires tail { self.old.tail.alone ≡ false }
+        ensures { self.new ≡ stopped part self.old }
+    {
+        match part {
+            Part::Head => self.tail.alone(),
+            Part::Tail => self.head.alone(),
+        }
+    }
+
+    /// Passes bytes to the head, and stores what it sends.
+    fn head_hears(
+        &mut self,
+        alloc: Global,
+        from: Side,
+        bytes: &[u8],
+        packets: &mut Packets,
+    ) -> Result<(), NoMemory>
+        ensures { OnOk result ((self.new, packets.new) ≡ head_hears from bytes.now (self.old, packets.old)) }
+    {
+        if !self.head_runs() {
+            return Ok(());
+        }
+        self.head.deliver(alloc, from, bytes, &mut self.out)?;
+        keep_datagrams(Part::Head, &self.out, packets)
+    }
+
+    /// Passes bytes to the tail, and stores what it sends.
+    fn tail_hears(
+        &mut self,
+        alloc: Global,
+        from: Side,
+        bytes: &[u8],
+        packets: &mut Packets,
+    ) -> Result<(), NoMemory>
+        ensures { OnOk result ((self.new, packets.new) ≡ tail_hears from bytes.now (self.old, packets.old)) }
+    {
+        if !self.tail_runs() {
+            return Ok(());
+        }
+        self.tail.deliver(alloc, from, bytes, &mut self.out)?;
+        keep_datagrams(Part::Tail, &self.out, packets)
+    }
+
+    /// Passes bytes of the server to the head, or to the tail once the head has stopped.
+    fn front_hears(
+        &mut self,
+        alloc: Global,
+        bytes: &[u8],
+        packets: &mut Packets,
+    ) -> Result<(), NoMemory>
+        ensures { OnOk result ((self.new, packets.new) ≡ front_hears bytes.now (self.old, packets.old)) }
+    {
+        if self.head_runs() {
+            return self.head_hears(alloc, Side::Server, bytes, packets);
+        }
+        self.tail_hears(alloc, Side::Server, bytes, packets)
+    }
+
+    /// Passes bytes of this direction to the logger to which it leads, and stores what that logger sends.
+    pub fn hear(
+        &mut self,
+        alloc: Global,
+        way: Way,
+        bytes: &[u8],
+        packets: &mut Packets,
+    ) -> Result<(), NoMemory>
+        ensures { OnOk result ((self.new, packets.new) ≡ pair_hears way bytes.now (self.old, packets.old)) }
+    {
+        match way {
+            Way::ServerToLogger => self.front_hears(alloc, bytes, packets),
+            Way::HeadToTail => self.tail_hears(alloc, Side::Other, bytes, packets),
+            Way::TailToHead => self.head_hears(alloc, Side::Other, bytes, packets),
+            Way::ClientToServer(_) | Way::ServerToClient(_) | Way::LoggerToServer => Ok(()),
+        }
+    }
+}
