@@ -1,5 +1,5 @@
 -- Texts that are written in parts, and fronts of them where a part failed.
-use Rattle.std.proofs.Common.{◌≡◌, ◌∙◌, ℕ, List, [], ◌++◌, Option, refl, sym, ap, subst, append_assoc, append-nil, take, drop}
+use Rattle.std.proofs.Common.{◌≡◌, ◌∙◌, ℕ, List, [], ◌++◌, Option, Result, Ok, Err, OnErr, IsErrAnd, refl, sym, ap, subst, append_assoc, append-nil, take, drop}
 use Rattle.std.proofs.lemmas.List.{take-append-drop}
 use Rattle.std.proofs.KnownBytes.{Appends-nil, Appends-trans}
 use Rattle.std.specs.Io.KnownBytes.{Appends}
@@ -45,3 +45,8 @@ held_front old now new held text p w =
 -- nothing is held any more
 pub all_taken : (old new : Option (List ℕ)) (held text : List ℕ) → held ≡ [] → IsOnItsWay old new held text → Appends old new text
 all_taken old new held text none w = subst (Appends old new) (sym (append-nil w.front) ∙ ap (λ l. w.front ++ l) (sym none) ∙ w.whole) w.taken
+
+-- what is known where a call ends well, and where it doesn't
+pub when_err : {T E B : Type 0} {A : E → Type 0} (r : Result T E) → IsErrAnd r A → ((end : E) → A end → B) → OnErr r B
+when_err (Ok x) a f = absurd a
+when_err (Err e) a f = f e a

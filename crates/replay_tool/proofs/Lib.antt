@@ -17,3 +17,5 @@ pub mod FirstSchedule
 pub mod Stepping
 pub mod Facts
 pub mod Summing
+pub mod Telling
+pub mod Events

@@ -34,7 +34,7 @@ use Rattle.replay_tool.specs.PacketLines.{line_of, stored_lines}
 use Rattle.replay_tool.specs.Traces.{any_marker}
 use Rattle.replay_tool.proofs.Following.{packet_is_read}
 use Rattle.replay_tool.proofs.Stored.{lines_stored, stored_is_read}
-use Rattle.replay_tool.proofs.Stepping.{last_event as last_same}
+use Rattle.replay_tool.proofs.Events.{last_event as last_same}
 
 -- a trace has a moment for each event
 as_many_events : (trace : List MarkedMoment) → length (marked_events_of trace) ≡ length trace

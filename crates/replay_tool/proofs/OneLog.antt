@@ -28,7 +28,7 @@ use Rattle.report_laws.proofs.LineLemmas.{events_count}
 use Rattle.replay_tool.specs.PacketLines.{line_of, stored_lines}
 use Rattle.replay_tool.proofs.Following.{packet_is_read}
 use Rattle.replay_tool.proofs.Stored.{lines_stored, stored_is_read}
-use Rattle.replay_tool.proofs.Stepping.{last_event as last_same}
+use Rattle.replay_tool.proofs.Events.{last_event as last_same}
 
 pub as_many : (schedule : Schedule) (events : List Event) (trace : List Moment) → IsLegalFor any_machine schedule events trace → length events ≡ length trace
 as_many schedule events trace l = ap length (sym l.events_are) ∙ events_count trace

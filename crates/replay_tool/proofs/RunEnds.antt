@@ -36,11 +36,6 @@ use Rattle.replay_tool.proofs.Fronts.{none_on_its_way, more_held}
 use Rattle.replay_tool.proofs.Either.{AreSafe, as_many, few_clients, legal_of, no_lines, none_sent, none_legal, closes}
 use Rattle.replay_tool.proofs.Playing.{holds_front, stands_where}
 
--- what is known where a call ends well, and where it doesn't
-pub when_err : {T E B : Type 0} {A : E → Type 0} (r : Result T E) → IsErrAnd r A → ((end : E) → A end → B) → OnErr r B
-when_err (Ok x) a f = absurd a
-when_err (Err e) a f = f e a
-
 -- before the first event
 abbrev none_played : AreSafe → (schedule : Schedule) → (traces schedule).IsLegal schedule [] [] → IsPlayedTo schedule schedule.events
 none_played safe schedule legal = record { events = []; trace = []; split = refl; legal = legal; safe = safe schedule [] [] legal; within = none_sent schedule.twin schedule.marks schedule }

@@ -8,8 +8,7 @@ use Rattle.replay_tool.specs.SeedWords.{asked}
 use Rattle.replay_tool.specs.declared.asked.Asked.{Asked}
 use Rattle.replay_tool.specs.declared.seed_run.SeedEnd.{SeedEnd}
 use Rattle.replay_tool.specs.declared.seed_run.SeedEnd.TheVariants as seeds
-use Rattle.replay_tool.specs.Ends.{end_of_seed}
-use Rattle.replay_tool.specs.SeedRuns.{SeedStops}
+use Rattle.replay_tool.specs.SeedRuns.{SeedStops, end_of_seed}
 use Rattle.replay_tool.specs.Stream.{Stream, HasFailed}
 use Rattle.replay_tool.specs.Words.{is_run, is_check, most_read}
 

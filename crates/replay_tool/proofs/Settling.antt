@@ -1,6 +1,5 @@
 -- The status by the text: what each status says of it, and that the text settles the status.
 use Rattle.std.proofs.Common.{◌≡◌, ◌∙◌, ◌⊎◌, inl, inr, ℕ, ◌<◌, ◌≤◌, [], ◌∷◌, ◌++◌, Bool, true, false, ◌==◌, ◌||◌, eqb-true, Option, None, Some, List, Ok, Err, refl, sym, ap, subst, IfSome, Result, append-nil, arith}
-use Rattle.std.specs.Io.KnownBytes.{Appends}
 use Rattle.ft_model.specs.Grammar.{read_text}
 use Rattle.ft_model.specs.Grammar.{Refusal as reading}
 use Rattle.ft_model.specs.Legal.{IsLegalFor}
@@ -17,23 +16,14 @@ use Rattle.twin_laws.specs.TwinLegal.{IsTwinLegalFor}
 use Rattle.replay_tool.specs.Traces.{any_marker, traces_of}
 use Rattle.replay_tool.specs.Causes.{AllHappen, OneIsRefused, PacketsExceed, IsInOrder, HasBadLine, HasBadEvent, IsPastLimit, IsSettled}
 use Rattle.replay_tool.specs.Causes.IsPastLimit.{by_text, by_packets}
-use Rattle.replay_tool.specs.ErrText.{text_of}
-use Rattle.replay_tool.specs.PartialWrite.{Wrote, WroteFront}
-use Rattle.replay_tool.specs.Outcome.{IsTold}
+use Rattle.replay_tool.specs.PartialWrite.{Wrote}
 use Rattle.replay_tool.specs.PlayedRun.{Spells, ReportsAll, ReportsTill, ReportsToLimit}
 use Rattle.replay_tool.specs.Runs.{Reports, RunStops}
 use Rattle.replay_tool.specs.Stream.{Stream, HasFailed, HasNotFailed}
 use Rattle.replay_tool.specs.declared.status.TooMuch.TheVariants.{Text, Events, Packets}
 use Rattle.replay_tool.specs.declared.status.RunEnd.{RunEnd}
 use Rattle.replay_tool.specs.declared.status.RunEnd.TheVariants.{Usage, NoMemory, ReadFault, WriteFault, BadLine, BadEvent, TooLong, Rejected}
-
--- where a source tells its text, for each text
-pub of_told : {P : List ℕ → Type 0} (left : Option (List ℕ)) → ((text : List ℕ) → left ≡ Some text → P text) → IfSome left P
-of_told None f = tt
-of_told (Some text) f = f text refl
-
-pub when_told : (P : List ℕ → Type 0) (left : Option (List ℕ)) (text : List ℕ) → left ≡ Some text → IfSome left P → P text
-when_told P left text e p = subst (λ l. IfSome l P) e p
+use Rattle.replay_tool.proofs.Telling.{when_told, never_zero, TellsEnd}
 
 pub bad_line : (text : List ℕ) (input out : Stream) (end : RunEnd) → input.before ≡ Some text → code_of end ≡ 6 → RunStops input out end → HasBadLine text
 bad_line text input out (BadLine line why) told e s = record { line = line; why = why; refused = when_told (λ t. read_text t ≡ Err (reading.BadLine line why)) input.before text told s.refused }
@@ -156,16 +146,6 @@ codes_of input out (BadEvent number why) s = refl
 codes_of input out (TooLong what) s = refl
 codes_of input out (Rejected line law) s = absurd s
 
-never_zero : (end : RunEnd) → code_of end ≡ 0 → ⊥
-never_zero Usage e = cc
-never_zero NoMemory e = cc
-never_zero ReadFault e = cc
-never_zero WriteFault e = cc
-never_zero (BadLine line why) e = cc
-never_zero (BadEvent number why) e = cc
-never_zero (TooLong what) e = cc
-never_zero (Rejected line law) e = cc
-
 -- a run that is done
 pub in_order : (text : List ℕ) (input out : Stream) → input.before ≡ Some text → Reports input out ReportsAll → IsInOrder text
 in_order text input out told r =
@@ -174,21 +154,6 @@ in_order text input out told r =
   where
     in_whole : (schedule : Schedule) (written : List ℕ) → ReportsAll schedule written → AllHappen schedule.twin schedule.marks schedule
     in_whole schedule written a = whole_in schedule.twin schedule.marks schedule a.played.events a.played.trace (a.played.split ∙ append-nil a.played.events) a.played.legal a.played.within
-
--- what `tell` says of an end and a status
-abbrev pub TellsEnd : (end : RunEnd) (err : Stream) (code : ℕ) → Type 0
-TellsEnd end err code =
-    ((code ≡ code_of end) × Appends err.before err.after (text_of end) × HasNotFailed err) ⊎ ((code ≡ 5) × HasFailed err × WroteFront err.before err.after (text_of end))
-
-pub told_as : (end : RunEnd) (err : Stream) (code : ℕ) → TellsEnd end err code → (end ≡ WriteFault → err.Untouched × (code ≡ 5)) → IsTold (Err end) err code
-told_as WriteFault err code t untold = ((untold refl).1, (untold refl).0)
-told_as Usage err code t untold = t
-told_as NoMemory err code t untold = t
-told_as ReadFault err code t untold = t
-told_as (BadLine line why) err code t untold = t
-told_as (BadEvent number why) err code t untold = t
-told_as (TooLong what) err code t untold = t
-told_as (Rejected line law) err code t untold = t
 
 -- the ends that a run has
 no_read_fault : (input out : Stream) (end : RunEnd) → RunStops input out end → (HasFailed input → ⊥) → code_of end ≡ 4 → ⊥
@@ -210,11 +175,6 @@ no_write_fault input out (BadLine line why) s still e = cc
 no_write_fault input out (BadEvent number why) s still e = cc
 no_write_fault input out (TooLong what) s still e = cc
 no_write_fault input out (Rejected line law) s still e = cc
-
--- what a status of `tell` can't be
-pub never_done : (end : RunEnd) (err : Stream) (code : ℕ) → TellsEnd end err code → code ≡ 0 → ⊥
-never_done end err code (inl t) e = never_zero end (sym t.0 ∙ e)
-never_done end err code (inr t) e = omega (arith, t.0, e)
 
 pub is_told_code : (input out : Stream) (end : RunEnd) (err : Stream) (code : ℕ) → RunStops input out end → TellsEnd end err code → is_run_code code ≡ true
 is_told_code input out end err code s (inl t) = ap is_run_code t.0 ∙ codes_of input out end s

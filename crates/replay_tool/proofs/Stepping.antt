@@ -1,6 +1,5 @@
 -- One drawn event more: where the world and the counts come after it.
 use Rattle.std.proofs.Common.{◌≡◌, ◌∙◌, refl, sym, ap, subst, ℕ, ◌+◌, ◌<◌, ◌≤◌, None, is_some, slice_get, List, [], ◌∷◌, ◌++◌, length, length-append, add-one, arith}
-use Rattle.std.proofs.lemmas.List.{append_cancel_left}
 use Rattle.seq_arith.specs.Offset.{one_if}
 use Rattle.sample_servers.specs.AnyService.{any_machine}
 use Rattle.sample_servers.specs.declared.any_service.AnyService.{AnyService}
@@ -11,7 +10,7 @@ use Rattle.net_schedule.specs.Refinement.{Kept}
 use Rattle.net_schedule.specs.Step.{StandsAfter, Extends, Steps, EndsStep}
 use Rattle.schedule_network.specs.declared.step_out.StepOut.{StepOut}
 use Rattle.schedule_network.specs.declared.end.StepEnd.TheVariants.{BadEvent, PacketLimit}
-use Rattle.ft_model.proofs.Lists.{some_is, none_is_some}
+use Rattle.ft_model.proofs.Lists.{none_is_some}
 use Rattle.replay_tool.specs.SeedEvents.{Drawn, next_event, next_event_in}
 use Rattle.replay_tool.specs.Generated.{after_draws, schedule_of, state_behind, AreDrawn}
 use Rattle.replay_tool.specs.SummaryText.{count_events, is_boot, is_crash}
@@ -22,6 +21,7 @@ use Rattle.replay_tool.specs.declared.seed_progress.Progress.{Progress}
 use Rattle.replay_tool.proofs.Allowed.{allowed}
 use Rattle.replay_tool.proofs.Boots.{HasNextBoot, boot_after}
 use Rattle.replay_tool.proofs.Clients.{AllKeep, all_keep, start_keeps}
+use Rattle.replay_tool.proofs.Events.{last_event}
 use Rattle.net_schedule.proofs.Goings.{both_up}
 
 -- the world after the events
@@ -55,10 +55,6 @@ pub drawn_is_allowed : (asked : Asked) (n : ℕ) (w : Kept AnyService) (p : Prog
 drawn_is_allowed asked n w p s event state e =
     subst (λ (d : Drawn). (refusal (world_of asked s.trace) d.event ≡ None) × HasNextBoot (world_of asked s.trace) d.event) (sym (e ∙ drawn_alike asked n w p s))
     (allowed (world_of asked s.trace) (state_behind (after_draws asked.seed asked.clients) (start_of_run asked) s.trace) (clients_keep asked n w p s).keeps)
-
--- the last event of a trace
-pub last_event : (events : List Event) (one other : Event) → events ++ one ∷ [] ≡ events ++ other ∷ [] → one ≡ other
-last_event events one other e = some_is one other (ap (λ xs. slice_get xs 0) (append_cancel_left events (one ∷ []) (other ∷ []) e))
 
 legal_for : (asked : Asked) (trace : List Moment) (events : List Event) → IsLegalFor any_machine (schedule_of asked.seed asked.clients []) events trace
     → Legal any_machine (schedule_of asked.seed asked.clients (events_of trace)) trace

@@ -33,7 +33,7 @@ use Rattle.schedule_text.proofs.Contents.{content_of_packet}
 use Rattle.replay_tool.specs.PacketLines.{line_of, stored_lines}
 use Rattle.replay_tool.proofs.Following.{packet_is_read}
 use Rattle.replay_tool.proofs.Stored.{lines_stored, stored_is_read}
-use Rattle.replay_tool.proofs.Stepping.{last_event as last_same}
+use Rattle.replay_tool.proofs.Events.{last_event as last_same}
 
 -- a trace has a moment for each event
 as_many_events : (trace : List TwinMoment) → length (twin_events_of trace) ≡ length trace

@@ -1,6 +1,5 @@
 -- The texts for which a run ends in a certain way, and the status that the run then has.
 use Rattle.std.specs.Prelude.{◌≡◌, ◌⊎◌, ℕ, Bool, true, false, Option, None, Some, Ok, Err, List}
-use Rattle.ft_io.specs.Faults.{Rose}
 use Rattle.ft_model.specs.Grammar.{read_text}
 use Rattle.ft_model.specs.Grammar.Refusal.{BadLine, TooLong}
 use Rattle.ft_model.specs.Outcome.{IsWhole, IsRefused, IsPastPackets}
@@ -50,10 +49,6 @@ pub record HasBadEvent (text : List ℕ) : Type 0 where
 pub data IsPastLimit (text : List ℕ) : Type 0 where
   by_text : (what : Limit) → read_text text ≡ Err (TooLong what) → IsPastLimit text
   by_packets : (schedule : Schedule) → read_text text ≡ Ok schedule → PacketsExceed schedule.twin schedule.marks schedule → IsPastLimit text
-
--- a count of faults doesn't rise
-abbrev pub IsStill : ℕ → ℕ → Type 0
-IsStill before after = Rose before after → ⊥
 
 -- The status, given the text, if no count of faults rises: it is determined, unless an allocation failed.
 pub record IsSettled (text : List ℕ) (code : ℕ) : Type 0 where

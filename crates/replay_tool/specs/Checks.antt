@@ -1,5 +1,5 @@
 -- How the check of a report ends: what was read of the input, whether its text is legal, and what was written to out.
-use Rattle.std.specs.Prelude.{◌≡◌, ◌⊎◌, ◌<◌, ◌≤◌, ℕ, codes, decimal, Result, Ok, Err, List, [], ◌∷◌, ◌++◌, length, IfSome}
+use Rattle.std.specs.Prelude.{◌≡◌, ◌⊎◌, ◌<◌, ◌≤◌, ℕ, true, codes, decimal, Result, Ok, Err, List, [], ◌∷◌, ◌++◌, length, IfSome}
 use Rattle.std.specs.Io.KnownBytes.{IsAtEnd}
 use Rattle.sample_servers.specs.AnyService.{any_machine}
 use Rattle.ft_model.specs.Legal.{start_of}
@@ -8,9 +8,11 @@ use Rattle.ft_model.specs.Schedule.{kind_of}
 use Rattle.report_laws.specs.Transitions.{IsReport}
 use Rattle.report_laws.specs.Verdict.{IsRejected}
 use Rattle.report_laws.specs.declared.Law.{Law}
+use Rattle.replay_tool.specs.Ends.{is_check_code}
+use Rattle.replay_tool.specs.Outcome.{HasEnded}
 use Rattle.replay_tool.specs.Safe.{IsSafe}
 use Rattle.replay_tool.specs.PartialWrite.{IsFrontOf, Wrote}
-use Rattle.replay_tool.specs.Stream.{Stream, HasFailed, HasNotFailed}
+use Rattle.replay_tool.specs.Stream.{Stream, HasFailed, HasNotFailed, IsQuiet}
 use Rattle.replay_tool.specs.declared.status.TooMuch.TheVariants.{Text}
 use Rattle.replay_tool.specs.declared.status.RunEnd.{RunEnd}
 use Rattle.replay_tool.specs.declared.status.RunEnd.TheVariants.{NoMemory, ReadFault, WriteFault, TooLong, Rejected}
@@ -72,3 +74,9 @@ pub record IsCheckSettled (text : List ℕ) (code : ℕ) : Type 0 where
   pub legal : length text ≤ report_limit → IsReport any_machine text → (code ≡ 0) ⊎ (code ≡ 3)
   pub rejected : length text ≤ report_limit → (line : ℕ) (law : Law) → IsRejected any_machine text line law → (code ≡ 9) ⊎ (code ≡ 3)
   pub too_long : report_limit < length text → (code ≡ 8) ⊎ (code ≡ 3)
+
+-- For `check`. If no count of faults rises, the text determines the status, unless an allocation failed
+pub record HasChecked (input out err : Stream) (code : ℕ) : Type 0 where
+  pub ended : HasEnded (CheckDoes input out) err code
+  pub settled : IsQuiet input → IsQuiet out → IsQuiet err → IfSome input.before (λ text. IsCheckSettled text code)
+  pub codes : is_check_code code ≡ true

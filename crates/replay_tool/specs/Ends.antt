@@ -10,8 +10,6 @@ use Rattle.schedule_network.specs.declared.end.StepEnd.{StepEnd}
 use Rattle.schedule_network.specs.declared.end.StepEnd.TheVariants as steps
 use Rattle.trace_check.specs.declared.end.CheckEnd.{CheckEnd}
 use Rattle.trace_check.specs.declared.end.CheckEnd.TheVariants as checks
-use Rattle.replay_tool.specs.declared.seed_run.SeedEnd.{SeedEnd}
-use Rattle.replay_tool.specs.declared.seed_run.SeedEnd.TheVariants as seeds
 use Rattle.replay_tool.specs.declared.status.TooMuch.TheVariants.{Text, Events, Packets}
 use Rattle.replay_tool.specs.declared.status.RunEnd.{RunEnd}
 use Rattle.replay_tool.specs.declared.status.RunEnd.TheVariants.{Usage, NoMemory, ReadFault, WriteFault, BadLine, BadEvent, TooLong, Rejected}
@@ -31,12 +29,6 @@ abbrev pub end_of_step : StepEnd → ℕ → RunEnd
 end_of_step steps.NoMemory event = NoMemory
 end_of_step (steps.BadEvent why) event = BadEvent event why
 end_of_step steps.PacketLimit event = TooLong Packets
-
-abbrev pub end_of_seed : SeedEnd → RunEnd
-end_of_seed seeds.Usage = Usage
-end_of_seed seeds.NoMemory = NoMemory
-end_of_seed seeds.WriteFault = WriteFault
-end_of_seed seeds.PacketLimit = TooLong Packets
 
 abbrev pub end_of_check : CheckEnd → RunEnd
 end_of_check checks.NoMemory = NoMemory

@@ -1,13 +1,16 @@
 -- How the run of a schedule ends: what was read of the input, and what was written of the report.
-use Rattle.std.specs.Prelude.{◌≡◌, ◌⊎◌, Result, Ok, Err, List, ℕ, IfSome}
+use Rattle.std.specs.Prelude.{◌≡◌, ◌⊎◌, Result, Ok, Err, List, ℕ, true, IfSome}
 use Rattle.std.specs.Io.KnownBytes.{IsAtEnd}
 use Rattle.ft_model.specs.Grammar.{read_text}
 use Rattle.ft_model.specs.Grammar.{Refusal as reading}
 use Rattle.ft_model.specs.declared.schedule.Limit.TheVariants as limits
 use Rattle.ft_model.specs.declared.schedule.Schedule.{Schedule}
+use Rattle.replay_tool.specs.Causes.{IsSettled}
+use Rattle.replay_tool.specs.Ends.{is_run_code}
+use Rattle.replay_tool.specs.Outcome.{HasEnded}
 use Rattle.replay_tool.specs.PartialWrite.{Wrote}
 use Rattle.replay_tool.specs.PlayedRun.{Spells, ReportsAll, ReportsTill, ReportsToLimit, ReportsFront}
-use Rattle.replay_tool.specs.Stream.{Stream, HasFailed, HasNotFailed}
+use Rattle.replay_tool.specs.Stream.{Stream, HasFailed, HasNotFailed, IsQuiet}
 use Rattle.replay_tool.specs.declared.status.TooMuch.TheVariants.{Text, Events, Packets}
 use Rattle.replay_tool.specs.declared.status.RunEnd.{RunEnd}
 use Rattle.replay_tool.specs.declared.status.RunEnd.TheVariants.{Usage, NoMemory, ReadFault, WriteFault, BadLine, BadEvent, TooLong, Rejected}
@@ -56,3 +59,9 @@ StopsReading text (BadLine line why) = read_text text ≡ Err (reading.BadLine l
 StopsReading text (TooLong Text) = read_text text ≡ Err (reading.TooLong limits.Text)
 StopsReading text (TooLong Events) = read_text text ≡ Err (reading.TooLong limits.Events)
 StopsReading text _ = ⊥
+
+-- For `run`. If no count of faults rises, the text determines the status, unless an allocation failed
+pub record HasRun (input out err : Stream) (code : ℕ) : Type 0 where
+  pub ended : HasEnded (RunDoes input out) err code
+  pub settled : IsQuiet input → IsQuiet out → IsQuiet err → IfSome input.before (λ text. IsSettled text code)
+  pub codes : is_run_code code ≡ true

@@ -2,10 +2,19 @@
 use Rattle.std.specs.Prelude.{Result, Ok, Err}
 use Rattle.replay_tool.specs.SeedSummaries.{IsSummarized, IsSummarizedInPart, IsPastLimit}
 use Rattle.replay_tool.specs.declared.asked.Asked.{Asked}
+use Rattle.replay_tool.specs.declared.seed_run.SeedEnd.{SeedEnd}
+use Rattle.replay_tool.specs.declared.seed_run.SeedEnd.TheVariants as seeds
 use Rattle.replay_tool.specs.Stream.{Stream, HasFailed, HasNotFailed}
 use Rattle.replay_tool.specs.declared.status.TooMuch.TheVariants.{Packets}
 use Rattle.replay_tool.specs.declared.status.RunEnd.{RunEnd}
-use Rattle.replay_tool.specs.declared.status.RunEnd.TheVariants.{NoMemory, WriteFault, TooLong}
+use Rattle.replay_tool.specs.declared.status.RunEnd.TheVariants.{Usage, NoMemory, WriteFault, TooLong}
+
+-- its end as one of the program
+abbrev pub end_of_seed : SeedEnd → RunEnd
+end_of_seed seeds.Usage = Usage
+end_of_seed seeds.NoMemory = NoMemory
+end_of_seed seeds.WriteFault = WriteFault
+end_of_seed seeds.PacketLimit = TooLong Packets
 
 -- how it ends early: nothing was written to out, unless a call on out failed; then a prefix of the summary was
 abbrev pub SeedStops : Asked → (out : Stream) → RunEnd → Type 0

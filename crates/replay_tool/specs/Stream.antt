@@ -27,3 +27,11 @@ HasFailed s = Rose s.faults_before s.faults_after
 -- none of its calls failed
 abbrev pub HasNotFailed : Stream → Type 0
 HasNotFailed s = s.faults_after ≡ s.faults_before
+
+-- a count of faults doesn't rise
+abbrev pub IsStill : ℕ → ℕ → Type 0
+IsStill before after = Rose before after → ⊥
+
+-- no faults: a stream's count of faults doesn't rise
+abbrev pub IsQuiet : Stream → Type 0
+IsQuiet s = IsStill s.faults_before s.faults_after

@@ -7,7 +7,7 @@ ghost use Rattle.replay_tool.specs.Checks.{counted, legal_line, FindsLegal, Chec
 ghost use Rattle.replay_tool.specs.PartialWrite.{WroteFront, CountsFailed};
 ghost use Rattle.replay_tool.specs.Stream.{stream};
 
-use crate::laws::joint_traces_are_safe;
+use crate::safe::joint_traces_are_safe;
 use crate::status::RunEnd;
 use crate::telling::{write_both, write_text};
 use ft_io::{Failed, Sink, Source, read_to_limit};

@@ -1,33 +1,16 @@
 //! Laws of every trace that a run plays. Nothing here runs.
 
-ghost use Rattle.std.specs.Prelude.{ℕ, List};
-ghost use Rattle.ft_model.specs.World.{Joint, Moment, World};
+ghost use Rattle.std.specs.Prelude.{List};
 ghost use Rattle.ft_model.specs.declared.event.Event.{Event};
 ghost use Rattle.ft_model.specs.declared.schedule.Schedule.{Schedule};
-ghost use Rattle.sample_servers.specs.AnyService.{any_machine};
 ghost use Rattle.replay_tool.specs.Causes.{AllHappen, OneIsRefused, PacketsExceed};
-ghost use Rattle.replay_tool.specs.Safe.{IsSafe};
 ghost use Rattle.replay_tool.specs.Traces.{traces};
 
-use ft_model::headline::{
-    every_joint_trace_is_masked, logged_reads_cut_the_bytes, no_logged_connection_is_reset,
-    no_server_is_fenced,
-};
+use crate::safe::joint_traces_are_safe;
 use ft_model::laws::schedules_have_one_outcome;
 use mark_laws::{marked_schedules_are_masked, marked_schedules_have_one_outcome, marks_are_true};
 use sample_servers::AnyService;
 use twin_laws::{legal_traces_are_masked, twin_schedules_have_one_outcome};
-
-/// In every joint trace, crashes can't be seen from outside, no RST is sent to a client whose entry isn't done, no server is fenced, and the lengths of the
-/// logged reads cut the logged bytes.
-pub(crate) fn joint_traces_are_safe()
-    ensures { (kind : ℕ) (start : World) (trace : List Moment) → Joint (any_machine kind) start trace → IsSafe (any_machine kind) start trace }
-{
-    every_joint_trace_is_masked::<AnyService>();
-    no_logged_connection_is_reset::<AnyService>();
-    no_server_is_fenced::<AnyService>();
-    logged_reads_cut_the_bytes::<AnyService>();
-}
 
 /// Every legal trace is safe. With one log the trace is joint; with two loggers its reduction to one log is; and with marks the trace is masked.
 pub(crate) fn legal_traces_are_safe()

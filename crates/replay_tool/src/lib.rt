@@ -20,6 +20,7 @@ mod program;
 mod report;
 mod reports;
 mod run;
+mod safe;
 mod schedules;
 mod seed_progress;
 mod seed_run;

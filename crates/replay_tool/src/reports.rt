@@ -2,8 +2,7 @@
 
 ghost use Rattle.std.specs.Prelude.{◌≡◌};
 ghost use Rattle.ft_io.specs.Source.{ConsumesAtMost};
-ghost use Rattle.replay_tool.specs.Checks.{FindsLegal};
-ghost use Rattle.replay_tool.specs.Kinds.{HasChecked};
+ghost use Rattle.replay_tool.specs.Checks.{FindsLegal, HasChecked};
 ghost use Rattle.replay_tool.specs.Stream.{stream};
 
 use crate::check::check;

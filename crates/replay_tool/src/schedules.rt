@@ -2,8 +2,7 @@
 
 ghost use Rattle.std.specs.Prelude.{◌≡◌};
 ghost use Rattle.ft_io.specs.Source.{ConsumesAtMost};
-ghost use Rattle.replay_tool.specs.Kinds.{HasRun};
-ghost use Rattle.replay_tool.specs.Runs.{Reports};
+ghost use Rattle.replay_tool.specs.Runs.{Reports, HasRun};
 ghost use Rattle.replay_tool.specs.PlayedRun.{ReportsAll};
 ghost use Rattle.replay_tool.specs.Stream.{stream};
 

@@ -9,7 +9,7 @@ ghost use Rattle.net_schedule.specs.WorldView.{kept};
 
 use crate::asked::Asked;
 use crate::dice::Dice;
-use crate::laws::joint_traces_are_safe;
+use crate::safe::joint_traces_are_safe;
 use crate::seed_progress::Progress;
 use crate::seed_schedule::schedule_for;
 use crate::seed_summary::summarize;

@@ -2,17 +2,28 @@
 
 ghost use Rattle.std.specs.Prelude.{◌≡◌, ◌⊎◌, true, map, string_bytes, None, IfSome};
 ghost use Rattle.replay_tool.specs.SeedWords.{asked};
-ghost use Rattle.replay_tool.specs.Causes.{IsStill};
 ghost use Rattle.replay_tool.specs.Ends.{is_seed_code};
 ghost use Rattle.replay_tool.specs.Outcome.{HasEnded};
-ghost use Rattle.replay_tool.specs.SeedRuns.{SeedDoes};
-ghost use Rattle.replay_tool.specs.Stream.{stream};
+ghost use Rattle.replay_tool.specs.SeedRuns.{SeedDoes, end_of_seed as end_lem};
+ghost use Rattle.replay_tool.specs.Stream.{stream, IsStill};
 
-use crate::seed_run::seed;
-use crate::status::{Status, end_of_seed};
+use crate::seed_run::{SeedEnd, seed};
+use crate::status::{RunEnd, Status, TooMuch};
 use crate::telling::tell;
 use ft_io::Sink;
 use std::alloc::Global;
+
+/// Returns the end of a generated run as the end of a run.
+fn end_of_seed(end: SeedEnd) -> RunEnd
+    ensures { result ≡ end_lem end }
+{
+    match end {
+        SeedEnd::Usage => RunEnd::Usage,
+        SeedEnd::NoMemory => RunEnd::NoMemory,
+        SeedEnd::WriteFault => RunEnd::WriteFault,
+        SeedEnd::PacketLimit => RunEnd::TooLong(TooMuch::Packets),
+    }
+}
 
 /// Plays the schedule generated from the arguments and writes its summary to `out`. If the run ended early, it then writes the reason to `err`.
 pub(crate) fn replay_seed<O: Sink, E: Sink>(

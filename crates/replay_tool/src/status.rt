@@ -2,9 +2,8 @@
 
 ghost use Rattle.std.specs.Prelude.{◌≡◌};
 ghost use Rattle.replay_tool.specs.declared.status.RunEnd.TheVariants as ends;
-ghost use Rattle.replay_tool.specs.Ends.{end_of_step as end_lem, end_of_seed as seed_end_lem};
+ghost use Rattle.replay_tool.specs.Ends.{end_of_step as end_lem};
 
-use crate::seed_run::SeedEnd;
 use ft_io::{Failed, NoMemory, ReadEnd};
 use ft_model::{EventWhy, Limit, LineWhy};
 use net_schedule::StepEnd;
@@ -120,17 +119,5 @@ pub(crate) fn end_of_step(end: StepEnd, event: u32) -> RunEnd
         StepEnd::NoMemory => RunEnd::NoMemory,
         StepEnd::BadEvent(why) => RunEnd::BadEvent { event, why },
         StepEnd::PacketLimit => RunEnd::TooLong(TooMuch::Packets),
-    }
-}
-
-/// Returns the end of a generated run as the end of a run.
-pub(crate) fn end_of_seed(end: SeedEnd) -> RunEnd
-    ensures { result ≡ seed_end_lem end }
-{
-    match end {
-        SeedEnd::Usage => RunEnd::Usage,
-        SeedEnd::NoMemory => RunEnd::NoMemory,
-        SeedEnd::WriteFault => RunEnd::WriteFault,
-        SeedEnd::PacketLimit => RunEnd::TooLong(TooMuch::Packets),
     }
 }

@@ -6,8 +6,9 @@ ghost use Rattle.replay_tool.specs.SeedWords.{asked};
 ghost use Rattle.replay_tool.specs.Words.{is_run, is_check, most_read, AreOther};
 ghost use Rattle.replay_tool.specs.PartialWrite.{Wrote};
 ghost use Rattle.replay_tool.specs.PlayedRun.{Spells, ReportsAll};
-ghost use Rattle.replay_tool.specs.Checks.{IsFoundLegal};
-ghost use Rattle.replay_tool.specs.Kinds.{HasRun, HasChecked, HasSeeded, IsUsage};
+ghost use Rattle.replay_tool.specs.Checks.{IsFoundLegal, HasChecked};
+ghost use Rattle.replay_tool.specs.Kinds.{HasSeeded, IsUsage};
+ghost use Rattle.replay_tool.specs.Runs.{HasRun};
 ghost use Rattle.replay_tool.specs.Stream.{stream};
 ghost use Rattle.replay_tool.specs.Ends.{is_code};
 

@@ -1,7 +1,6 @@
 use Rattle.std.proofs.Common.{[], ◌∷◌, ◌++◌, codes}
 use Rattle.replay_tool.specs.Checks.{counted, legal_line}
-use Rattle.replay_tool.proofs.RunEnds.{when_err}
-use Rattle.replay_tool.proofs.Fronts.{then_front}
+use Rattle.replay_tool.proofs.Fronts.{then_front, when_err}
 use Rattle.replay_tool.proofs.check.write_legal.Goals as goal
 
 pub returns-in_err-write_packets-clause-front : goal.returns-in_err-write_packets-clause-front

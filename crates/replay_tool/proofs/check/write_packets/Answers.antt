@@ -1,7 +1,6 @@
 use Rattle.std.proofs.Common.{[], ◌∷◌, codes}
 use Rattle.replay_tool.specs.Checks.{counted}
-use Rattle.replay_tool.proofs.RunEnds.{when_err}
-use Rattle.replay_tool.proofs.Fronts.{then_front}
+use Rattle.replay_tool.proofs.Fronts.{then_front, when_err}
 use Rattle.replay_tool.proofs.check.write_packets.Goals as goal
 
 pub returns-in_err-write_text-clause-front : goal.returns-in_err-write_text-clause-front

@@ -1,8 +1,7 @@
 use Rattle.std.proofs.Common.{subst}
 use Rattle.std.specs.Io.KnownBytes.{Appends}
 use Rattle.ft_io.specs.Sink.{AppendsFront}
-use Rattle.replay_tool.proofs.RunEnds.{when_err}
-use Rattle.replay_tool.proofs.Fronts.{held_taken, held_front}
+use Rattle.replay_tool.proofs.Fronts.{held_taken, held_front, when_err}
 use Rattle.replay_tool.proofs.report.flush.Goals as goal
 
 pub returns-in_err-write_all-clause-err : goal.returns-in_err-write_all-clause-err

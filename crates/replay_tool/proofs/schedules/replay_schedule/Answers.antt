@@ -1,6 +1,7 @@
 use Rattle.std.proofs.Common.{refl, Ok, Err, ⊎_elim}
 use Rattle.replay_tool.specs.Stream.{stream}
-use Rattle.replay_tool.proofs.Settling.{of_told, in_order, told_as, never_done, is_told_code, settles, settles_end}
+use Rattle.replay_tool.proofs.Settling.{in_order, is_told_code, settles, settles_end}
+use Rattle.replay_tool.proofs.Telling.{of_told, told_as, never_done}
 use Rattle.replay_tool.proofs.schedules.replay_schedule.Goals as goal
 
 pub returns-in-Ok-clause-run : goal.returns-in-Ok-clause-run

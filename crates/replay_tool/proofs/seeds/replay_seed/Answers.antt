@@ -3,7 +3,7 @@ use Rattle.replay_tool.specs.SeedWords.{asked}
 use Rattle.replay_tool.specs.SeedRuns.{SeedStops}
 use Rattle.replay_tool.specs.Stream.{stream}
 use Rattle.replay_tool.proofs.Seeding.{of_asked, seed_stops}
-use Rattle.replay_tool.proofs.Settling.{told_as}
+use Rattle.replay_tool.proofs.Telling.{told_as}
 use Rattle.replay_tool.proofs.seeds.replay_seed.Goals as goal
 
 pub returns-in-Ok-clause-ended : goal.returns-in-Ok-clause-ended

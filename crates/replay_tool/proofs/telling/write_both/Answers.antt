@@ -1,5 +1,4 @@
-use Rattle.replay_tool.proofs.RunEnds.{when_err}
-use Rattle.replay_tool.proofs.Fronts.{then_front, front_then}
+use Rattle.replay_tool.proofs.Fronts.{then_front, front_then, when_err}
 use Rattle.replay_tool.proofs.telling.write_both.Goals as goal
 
 pub returns-in_err-write_text-clause-front : goal.returns-in_err-write_text-clause-front

@@ -1,7 +1,6 @@
 use Rattle.std.proofs.Common.{[], ◌∷◌, ◌++◌, codes}
 use Rattle.replay_tool.specs.ErrText.{error_line, cause_text}
-use Rattle.replay_tool.proofs.RunEnds.{when_err}
-use Rattle.replay_tool.proofs.Fronts.{then_front, front_then}
+use Rattle.replay_tool.proofs.Fronts.{then_front, front_then, when_err}
 use Rattle.replay_tool.proofs.telling.write_end.Goals as goal
 
 pub returns-in_err-write_text-clause-front : goal.returns-in_err-write_text-clause-front

@@ -1,7 +1,6 @@
 use Rattle.std.proofs.Common.{[], ◌∷◌}
 use Rattle.replay_tool.specs.ErrText.{cause_text}
-use Rattle.replay_tool.proofs.RunEnds.{when_err}
-use Rattle.replay_tool.proofs.Fronts.{then_front}
+use Rattle.replay_tool.proofs.Fronts.{then_front, when_err}
 use Rattle.replay_tool.proofs.telling.write_line.Goals as goal
 
 pub returns-in_err-write_text-clause-front : goal.returns-in_err-write_text-clause-front

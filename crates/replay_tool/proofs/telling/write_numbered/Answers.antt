@@ -1,8 +1,7 @@
 use Rattle.std.proofs.Common.{◌++◌, subst, codes}
 use Rattle.replay_tool.specs.ErrText.{numbered}
 use Rattle.replay_tool.specs.PartialWrite.{WroteFront}
-use Rattle.replay_tool.proofs.RunEnds.{when_err}
-use Rattle.replay_tool.proofs.Fronts.{then_front}
+use Rattle.replay_tool.proofs.Fronts.{then_front, when_err}
 use Rattle.replay_tool.proofs.telling.write_numbered.Goals as goal
 
 pub returns-in_err-write_both-2-clause-front : goal.returns-in_err-write_both-2-clause-front
