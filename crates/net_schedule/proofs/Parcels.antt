@@ -1,5 +1,5 @@
 -- The parcels that the network keeps, as those of the definitions: what is put after them, and each by its number.
-use Rattle.std.proofs.Common.{◌≡◌, ◌∙◌, sym, ap, ap₂, subst, refl, ℕ, zero, suc, ◌+◌, ◌≤◌, Some, None, option_map, List, [], ◌∷◌, ◌++◌, map, take, slice_get, append-nil, append_assoc, length, length-append, arith}
+use Rattle.std.proofs.Common.{◌≡◌, ◌∙◌, sym, ap, ap₂, subst, refl, ℕ, zero, suc, ◌+◌, ◌≤◌, Some, None, List, [], ◌∷◌, ◌++◌, map, slice_get, append-nil, length, length-append, arith}
 use Rattle.std.specs.List.{AllByRecursion}
 use Rattle.std.proofs.lemmas.List.{map-append, length-map}
 use Rattle.ft_io.specs.declared.Key.{Key}
@@ -9,7 +9,7 @@ use Rattle.ft_model.specs.Network.{Packet}
 use Rattle.ft_model.specs.Network.Packet.{From_logger}
 use Rattle.ft_model.specs.Wire.{wire_of}
 use Rattle.ft_model.specs.declared.way.Way.{Way}
-use Rattle.ft_model.proofs.Lists.{none_is_some, some_is}
+use Rattle.ft_model.proofs.Lists.{none_is_some}
 use Rattle.twin_laws.specs.declared.part.Part.{Part}
 use Rattle.twin_laws.specs.declared.part.Part.TheVariants as parts
 use Rattle.twin_laws.specs.declared.part.Side.{Side}
@@ -21,7 +21,7 @@ use Rattle.twin_laws.specs.TwinWorld.{Parcel, parcel_at, sent_by}
 use Rattle.twin_laws.specs.TwinWorld.Parcel.{Outside, Inside}
 use Rattle.twin_laws.specs.TwinLegal.{bytes_of_parcel}
 use Rattle.schedule_network.specs.AtNumber.{at_number}
-use Rattle.schedule_network.specs.StoredPackets.{Carried, with_packet, with_wires, way_along}
+use Rattle.schedule_network.specs.StoredPackets.{Carried, with_wires, way_along}
 use Rattle.schedule_network.specs.Loggers.{way_out, with_datagrams}
 use Rattle.net_schedule.specs.TwinRefinement.{stored_way, carried_parcels}
 use Rattle.net_schedule.proofs.PacketStore.{found_at, missing_at}

@@ -3,13 +3,13 @@ use Rattle.std.proofs.Common.{◌≡◌, ℕ, true, false, Option, None, Some, I
 use Rattle.std.specs.Str.{bytes_eq}
 use Rattle.std.proofs.lemmas.Slice.Eq.{bytes_eq-Decides}
 use Rattle.ft_io.specs.Source.{ConsumesAtMost}
-use Rattle.replay_tool.specs.SeedSummaries.{EndsRun}
-use Rattle.replay_tool.specs.SeedWords.{asked}
-use Rattle.replay_tool.specs.declared.asked.Asked.{Asked}
-use Rattle.replay_tool.specs.declared.seed_run.SeedEnd.{SeedEnd}
-use Rattle.replay_tool.specs.declared.seed_run.SeedEnd.TheVariants as seeds
+use Rattle.replay_seed.specs.SeedSummaries.{EndsRun}
+use Rattle.replay_seed.specs.SeedWords.{asked}
+use Rattle.replay_seed.specs.declared.asked.Asked.{Asked}
+use Rattle.replay_seed.specs.declared.seed_run.SeedEnd.{SeedEnd}
+use Rattle.replay_seed.specs.declared.seed_run.SeedEnd.TheVariants as seeds
 use Rattle.replay_tool.specs.SeedRuns.{SeedStops, end_of_seed}
-use Rattle.replay_tool.specs.Stream.{Stream, HasFailed}
+use Rattle.replay_check.specs.Stream.{Stream, HasFailed}
 use Rattle.replay_tool.specs.Words.{is_run, is_check, most_read}
 
 -- the word `run` asks for no seed

@@ -1,11 +1,11 @@
 -- The promises for the arguments of a seed and for others: how the call ended, what was read, what was written to out and to err, and the status.
 use Rattle.std.specs.Prelude.{◌≡◌, ◌⊎◌, ℕ, true, Err}
-use Rattle.replay_tool.specs.declared.asked.Asked.{Asked}
-use Rattle.replay_tool.specs.Ends.{is_seed_code}
-use Rattle.replay_tool.specs.Outcome.{HasEnded, IsTold}
+use Rattle.replay_seed.specs.declared.asked.Asked.{Asked}
+use Rattle.replay_check.specs.Ends.{is_seed_code}
+use Rattle.replay_check.specs.Outcome.{HasEnded, IsTold}
 use Rattle.replay_tool.specs.SeedRuns.{SeedDoes}
-use Rattle.replay_tool.specs.Stream.{Stream, IsQuiet}
-use Rattle.replay_tool.specs.declared.status.RunEnd.TheVariants.{Usage}
+use Rattle.replay_check.specs.Stream.{Stream, IsQuiet}
+use Rattle.replay_check.specs.declared.status.RunEnd.TheVariants.{Usage}
 
 -- For a seed: nothing was read. If no count of faults rises, the status is 0 or 8, unless an allocation failed
 pub record HasSeeded (asked : Asked) (input out err : Stream) (code : ℕ) : Type 0 where

@@ -1,13 +1,13 @@
 -- How a generated run ends: what was written of its summary.
 use Rattle.std.specs.Prelude.{Result, Ok, Err}
-use Rattle.replay_tool.specs.SeedSummaries.{IsSummarized, IsSummarizedInPart, IsPastLimit}
-use Rattle.replay_tool.specs.declared.asked.Asked.{Asked}
-use Rattle.replay_tool.specs.declared.seed_run.SeedEnd.{SeedEnd}
-use Rattle.replay_tool.specs.declared.seed_run.SeedEnd.TheVariants as seeds
-use Rattle.replay_tool.specs.Stream.{Stream, HasFailed, HasNotFailed}
-use Rattle.replay_tool.specs.declared.status.TooMuch.TheVariants.{Packets}
-use Rattle.replay_tool.specs.declared.status.RunEnd.{RunEnd}
-use Rattle.replay_tool.specs.declared.status.RunEnd.TheVariants.{Usage, NoMemory, WriteFault, TooLong}
+use Rattle.replay_seed.specs.SeedSummaries.{IsSummarized, IsSummarizedInPart, IsPastLimit}
+use Rattle.replay_seed.specs.declared.asked.Asked.{Asked}
+use Rattle.replay_seed.specs.declared.seed_run.SeedEnd.{SeedEnd}
+use Rattle.replay_seed.specs.declared.seed_run.SeedEnd.TheVariants as seeds
+use Rattle.replay_check.specs.Stream.{Stream, HasFailed, HasNotFailed}
+use Rattle.replay_check.specs.declared.status.TooMuch.TheVariants.{Packets}
+use Rattle.replay_check.specs.declared.status.RunEnd.{RunEnd}
+use Rattle.replay_check.specs.declared.status.RunEnd.TheVariants.{Usage, NoMemory, WriteFault, TooLong}
 
 -- its end as one of the program
 abbrev pub end_of_seed : SeedEnd → RunEnd

@@ -1,7 +1,7 @@
 -- The arguments of `ftreplay`. Those of a seed are defined by `asked`.
 use Rattle.std.specs.Prelude.{◌≡◌, ℕ, Bool, false, None, List, [], ◌∷◌, codes, if◌then◌else◌}
 use Rattle.std.specs.Str.{bytes_eq}
-use Rattle.replay_tool.specs.SeedWords.{asked}
+use Rattle.replay_seed.specs.SeedWords.{asked}
 
 -- the one word `run`
 abbrev pub is_run : List (List ℕ) → Bool

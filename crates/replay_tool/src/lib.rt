@@ -3,30 +3,12 @@
 //! report of a legal trace.
 #![tactic(auto)]
 
-pub use asked::Asked;
 pub use program::run_ftreplay;
-pub use seed_run::{SeedEnd, seed};
-pub use status::Status;
+pub use replay_check::Status;
+pub use replay_seed::{Asked, SeedEnd, seed};
 pub use top::replay;
 
-mod asked;
-mod check;
-mod dice;
 mod excluded;
-mod laws;
-mod lines;
-mod play;
 mod program;
-mod report;
-mod reports;
-mod run;
-mod safe;
-mod schedules;
-mod seed_progress;
-mod seed_run;
-mod seed_schedule;
-mod seed_summary;
 mod seeds;
-mod status;
-mod telling;
 mod top;

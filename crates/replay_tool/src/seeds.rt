@@ -1,16 +1,15 @@
 //! The `seed` command, from its arguments to the exit status.
 
 ghost use Rattle.std.specs.Prelude.{◌≡◌, ◌⊎◌, true, map, string_bytes, None, IfSome};
-ghost use Rattle.replay_tool.specs.SeedWords.{asked};
-ghost use Rattle.replay_tool.specs.Ends.{is_seed_code};
-ghost use Rattle.replay_tool.specs.Outcome.{HasEnded};
+ghost use Rattle.replay_seed.specs.SeedWords.{asked};
+ghost use Rattle.replay_check.specs.Ends.{is_seed_code};
+ghost use Rattle.replay_check.specs.Outcome.{HasEnded};
 ghost use Rattle.replay_tool.specs.SeedRuns.{SeedDoes, end_of_seed as end_lem};
-ghost use Rattle.replay_tool.specs.Stream.{stream, IsStill};
+ghost use Rattle.replay_check.specs.Stream.{stream, IsStill};
 
-use crate::seed_run::{SeedEnd, seed};
-use crate::status::{RunEnd, Status, TooMuch};
-use crate::telling::tell;
 use ft_io::Sink;
+use replay_check::{RunEnd, Status, TooMuch, tell};
+use replay_seed::{SeedEnd, seed};
 use std::alloc::Global;
 
 /// Returns the end of a generated run as the end of a run.
@@ -26,7 +25,7 @@ fn end_of_seed(end: SeedEnd) -> RunEnd
 }
 
 /// Plays the schedule generated from the arguments and writes its summary to `out`. If the run ended early, it then writes the reason to `err`.
-pub(crate) fn replay_seed<O: Sink, E: Sink>(
+pub(crate) fn run_seed<O: Sink, E: Sink>(
     alloc: Global,
     words: &[String],
     out: &mut O,

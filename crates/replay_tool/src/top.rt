@@ -2,23 +2,21 @@
 
 ghost use Rattle.std.specs.Prelude.{◌≡◌, true, map, string_bytes, IfSome};
 ghost use Rattle.ft_io.specs.Source.{ConsumesAtMost};
-ghost use Rattle.replay_tool.specs.SeedWords.{asked};
+ghost use Rattle.replay_seed.specs.SeedWords.{asked};
 ghost use Rattle.replay_tool.specs.Words.{is_run, is_check, most_read, AreOther};
-ghost use Rattle.replay_tool.specs.PartialWrite.{Wrote};
-ghost use Rattle.replay_tool.specs.PlayedRun.{Spells, ReportsAll};
-ghost use Rattle.replay_tool.specs.Checks.{IsFoundLegal, HasChecked};
+ghost use Rattle.replay_check.specs.PartialWrite.{Wrote};
+ghost use Rattle.replay_run.specs.PlayedRun.{Spells, ReportsAll};
+ghost use Rattle.replay_check.specs.Checks.{IsFoundLegal, HasChecked};
 ghost use Rattle.replay_tool.specs.Kinds.{HasSeeded, IsUsage};
-ghost use Rattle.replay_tool.specs.Runs.{HasRun};
-ghost use Rattle.replay_tool.specs.Stream.{stream};
-ghost use Rattle.replay_tool.specs.Ends.{is_code};
+ghost use Rattle.replay_run.specs.Runs.{HasRun};
+ghost use Rattle.replay_check.specs.Stream.{stream};
+ghost use Rattle.replay_check.specs.Ends.{is_code};
 
-use crate::asked::Asked;
-use crate::reports::check_report;
-use crate::schedules::replay_schedule;
-use crate::seeds::replay_seed;
-use crate::status::{RunEnd, Status};
-use crate::telling::tell;
+use crate::seeds::run_seed;
 use ft_io::{Sink, Source};
+use replay_check::{RunEnd, Status, check_report, tell};
+use replay_run::replay_schedule;
+use replay_seed::Asked;
 use std::alloc::Global;
 
 /// Returns whether the arguments are the one word `run`.
@@ -84,7 +82,7 @@ pub fn replay<I: Source, O: Sink, E: Sink>(
     ensures taken { ConsumesAtMost (most_read (map string_bytes words.now)) (I.left input.old) (I.left input.new) }
 {
     if Asked::from_words(words).is_some() {
-        return replay_seed(alloc, words, out, err);
+        return run_seed(alloc, words, out, err);
     }
     if asks_for_run(words) {
         return replay_schedule(alloc, input, out, err);

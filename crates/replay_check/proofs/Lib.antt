@@ -1,0 +1,4 @@
+pub mod Fronts
+pub mod Checking
+pub mod Telling
+pub mod Events

@@ -1,0 +1,9 @@
+pub mod Following
+pub mod Stored
+pub mod OneLog
+pub mod TwoLoggers
+pub mod Marked
+pub mod Either
+pub mod Playing
+pub mod RunEnds
+pub mod Settling

@@ -1,0 +1,35 @@
+//! Laws of every trace that a run plays. Nothing here runs.
+
+ghost use Rattle.std.specs.Prelude.{List};
+ghost use Rattle.ft_model.specs.declared.event.Event.{Event};
+ghost use Rattle.ft_model.specs.declared.schedule.Schedule.{Schedule};
+ghost use Rattle.replay_run.specs.Causes.{AllHappen, OneIsRefused, PacketsExceed};
+ghost use Rattle.replay_run.specs.Traces.{traces};
+
+use ft_model::laws::schedules_have_one_outcome;
+use mark_laws::{marked_schedules_are_masked, marked_schedules_have_one_outcome, marks_are_true};
+use replay_check::joint_traces_are_safe;
+use sample_servers::AnyService;
+use twin_laws::{legal_traces_are_masked, twin_schedules_have_one_outcome};
+
+/// Every legal trace is safe. With one log the trace is joint; with two loggers its reduction to one log is; and with marks the trace is masked.
+pub(crate) fn legal_traces_are_safe()
+    ensures { (schedule : Schedule) (events : List Event) (trace : List (traces schedule).Turn) → (traces schedule).IsLegal schedule events trace
+        → (traces schedule).IsSafe schedule trace }
+{
+    joint_traces_are_safe();
+    legal_traces_are_masked::<AnyService>();
+    marked_schedules_are_masked::<AnyService>();
+    marks_are_true::<AnyService>();
+}
+
+/// Proves that a schedule's events have only one of the three outcomes, with one log, with two loggers and with marks.
+pub(crate) fn schedules_end_in_one_way()
+    ensures whole_or_refused { (schedule : Schedule) → AllHappen schedule.twin schedule.marks schedule → OneIsRefused schedule.twin schedule.marks schedule → ⊥ }
+    ensures whole_or_past { (schedule : Schedule) → AllHappen schedule.twin schedule.marks schedule → PacketsExceed schedule.twin schedule.marks schedule → ⊥ }
+    ensures refused_or_past { (schedule : Schedule) → OneIsRefused schedule.twin schedule.marks schedule → PacketsExceed schedule.twin schedule.marks schedule → ⊥ }
+{
+    schedules_have_one_outcome::<AnyService>();
+    twin_schedules_have_one_outcome::<AnyService>();
+    marked_schedules_have_one_outcome::<AnyService>();
+}

@@ -1,7 +1,0 @@
-use Rattle.std.proofs.Common.{◌≡◌, ◌+◌, ◌-◌, ◌++◌}
-use Rattle.replay_tool.specs.PacketLines.{stored_lines}
-use Rattle.replay_tool.proofs.lines.write_packets.Given as goal
-
--- what is written, and what is still to be written, are the lines of all these packets
-abbrev pub invariant-loop-k : goal.invariant-loop-k
-invariant-loop-k l = l.lines.items ++ stored_lines l.world.packets (l.first + l.k) (l.count - l.k) ≡ l.initial.lines.items ++ stored_lines l.world.packets l.first l.count
