@@ -18,7 +18,8 @@ use Rattle.wrapped_conn.proofs.Copied.{last_true}
 use Rattle.reincarnate.specs.declared.lack.Lack.TheVariants as lack
 use Rattle.reincarnate.specs.ReadLengths.{HaveBytes, cuts_through}
 use Rattle.reincarnate.specs.Replay.{ReplayState}
-use Rattle.reincarnate.specs.Progress.{EntryState, Waiting, lacks, asks_bytes, asks_lengths, part_fits, lengths_fit, cuts_with, replayed_from, with_bytes, with_lengths, begun_entry, IsShort, IsSegmentSize, IsSized}
+use Rattle.reincarnate.specs.Progress.{EntryState, Waiting, lacks, asks_bytes, asks_lengths, part_fits, lengths_fit, cuts_with, replayed_from, with_bytes, with_lengths, begun_entry, IsShort, IsSized}
+use Rattle.reincarnate.specs.LoggedHead.{IsSegmentSize}
 use Rattle.reincarnate.proofs.ReplayOn.{Replays, replays}
 use Rattle.reincarnate.proofs.Ready.{first_of_four}
 

@@ -25,8 +25,9 @@ use Rattle.wrapped_conn.specs.Numbers.{has_fin}
 use Rattle.wrapped_conn.specs.Sound.{has_peer, IsSoundTcp, IsSound}
 use Rattle.wrapped_conn.proofs.NumbersAt.{has_fin_is}
 use Rattle.reincarnate.specs.ReadLengths.{HaveBytes}
-use Rattle.reincarnate.specs.Progress.{ReplayedState, IsSegmentSize}
-use Rattle.reincarnate.specs.Splice.{SplicedState, conn_of, goes_on_at, has_end, spliced_from, EntryNumbersFit}
+use Rattle.reincarnate.specs.Progress.{ReplayedState}
+use Rattle.reincarnate.specs.LoggedHead.{IsSegmentSize, has_end}
+use Rattle.reincarnate.specs.Splice.{SplicedState, conn_of, goes_on_at, spliced_from, EntryNumbersFit}
 use Rattle.reincarnate.proofs.Forging.{idle}
 use Rattle.reincarnate.proofs.Joined.{less_fin}
 use Rattle.ft_io.proofs.Booleans.{false_by}

@@ -1,3 +1,4 @@
+pub mod LoggedHead
 pub mod ReadLengths
 pub mod Replay
 pub mod Progress

@@ -9,6 +9,7 @@ use Rattle.server_trait.specs.Service.{Served}
 use Rattle.reincarnate.specs.declared.cuts.Cuts.{Cuts}
 use Rattle.reincarnate.specs.declared.lack.Lack.{Lack}
 use Rattle.reincarnate.specs.declared.lack.Lack.TheVariants as lack
+use Rattle.reincarnate.specs.LoggedHead.{IsSegmentSize}
 use Rattle.reincarnate.specs.ReadLengths.{cuts_of, cuts_through, HaveBytes}
 use Rattle.reincarnate.specs.Replay.{ReplayState, fed_on}
 
@@ -93,10 +94,6 @@ with_lengths after cuts lens e = record (waits_on e (replayed_from after (e.wait
 abbrev pub IsShort : List ℕ → (held : ℕ) → Type 0
 IsShort [] held = Unit {0}
 IsShort (n ∷ more) held = held < n
-
--- a segment size as the log keeps it
-abbrev pub IsSegmentSize : ℕ → Type 0
-IsSegmentSize mss = (64 ≤ mss) × (mss ≤ 1460)
 
 -- how the counts of an entry are related
 pub record IsSized {S : Type 0} (e : EntryState S) : Type 0 where

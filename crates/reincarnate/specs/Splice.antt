@@ -14,7 +14,8 @@ use Rattle.connection_laws.specs.Splice.{spliced, delta_from}
 use Rattle.connection_laws.specs.Parts.{PartsStand}
 use Rattle.wrapped_conn.specs.NewConnection.{joined_conn}
 use Rattle.wrapped_conn.specs.ConnState.{ConnState}
-use Rattle.reincarnate.specs.Progress.{ReplayedState, IsSegmentSize}
+use Rattle.reincarnate.specs.Progress.{ReplayedState}
+use Rattle.reincarnate.specs.LoggedHead.{IsSegmentSize, has_end}
 
 pub record SplicedState (S : Type 0) : Type 0 where
   pub boot : ℕ  -- the server's boot number
@@ -31,11 +32,6 @@ conn_of s = joined_conn s.boot s.key s.local s.south s.endpoint s.north
 -- output continues after what the client has acknowledged of it. A FIN is retransmitted even if it was acknowledged
 abbrev pub goes_on_at : {S : Type 0} → ReplayedState S → ℕ
 goes_on_at r = min r.head.acked r.replay.made
-
--- A FIN is logged, and the stream has room for it. No log keeps one after a full stream: there it would have no number within the receive window (RFC 9293,
--- section 3.4), and the connection continues without it
-abbrev pub has_end : EntryHead → Bool
-has_end head = head.fin && nat_lt head.length (2 ^ 24)
 
 abbrev pub south_from : {S : Type 0} → (i : ℕ) → ReplayedState S → SouthState
 south_from i r = record (resumed_south r.head.cisn r.head.sisn r.head.length (has_end r.head) (goes_on_at r) i) { read = r.cuts.sum }

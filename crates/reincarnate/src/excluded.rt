@@ -5,7 +5,7 @@ ghost use Rattle.std.specs.Prelude.{◌≡◌, ◌+◌, ◌^◌, ◌≤◌, true
 ghost use Rattle.logger_store.specs.StoreState.{head_value};
 ghost use Rattle.mark_laws.specs.Restart.{lies_within};
 ghost use Rattle.reincarnate.specs.Marking.{mark_value};
-ghost use Rattle.reincarnate.specs.Progress.{IsSegmentSize};
+ghost use Rattle.reincarnate.specs.LoggedHead.{IsSegmentSize};
 
 use crate::cuts::Cuts;
 use crate::fetched_entry::FetchedEntry;

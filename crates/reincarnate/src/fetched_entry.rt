@@ -11,7 +11,8 @@ ghost use Rattle.mark_laws.specs.Restart.{lies_within};
 ghost use Rattle.reincarnate.specs.Questions.{IsAskable};
 ghost use Rattle.reincarnate.specs.Marking.{begun_at, begun_from, mark_value};
 ghost use Rattle.reincarnate.specs.Progress.{begun_entry, lacks, asked_for, asks_bytes, asks_lengths, part_fits, lengths_fit, with_bytes, cuts_with};
-ghost use Rattle.reincarnate.specs.Progress.{with_lengths, first_whole, replayed_from, replayed_state, IsSegmentSize};
+ghost use Rattle.reincarnate.specs.Progress.{with_lengths, first_whole, replayed_from, replayed_state};
+ghost use Rattle.reincarnate.specs.LoggedHead.{IsSegmentSize};
 
 use crate::cuts::Cuts;
 use crate::lack::Lack;

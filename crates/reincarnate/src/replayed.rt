@@ -6,10 +6,10 @@ ghost use Rattle.ft_model.specs.Log.{Entry};
 ghost use Rattle.ft_model.specs.Restart.{IsSoundEntry};
 ghost use Rattle.south_wrap.specs.SouthState.{resumed_south};
 ghost use Rattle.reincarnate.specs.Refinement.{IsReplayed};
-ghost use Rattle.reincarnate.specs.Splice.{has_end, spliced_from, EntryNumbersFit, IsSpliced};
+ghost use Rattle.reincarnate.specs.Splice.{spliced_from, EntryNumbersFit, IsSpliced};
 ghost use Rattle.reincarnate.specs.ReadLengths.{HaveBytes};
 ghost use Rattle.logger_store.specs.StoreState.{head_value};
-ghost use Rattle.reincarnate.specs.Progress.{IsSegmentSize};
+ghost use Rattle.reincarnate.specs.LoggedHead.{IsSegmentSize, has_end};
 
 use crate::cuts::Cuts;
 use crate::lost::{LostIn, Stage};
@@ -39,7 +39,8 @@ impl<S: Service> Model for Replayed<S> {
     ghost use Rattle.std.specs.Prelude.{◌≡◌, ◌+◌, ◌^◌, ◌≤◌, length};
     ghost use Rattle.reincarnate.specs.ReadLengths.{HaveBytes};
     ghost use Rattle.logger_store.specs.StoreState.{head_value};
-    ghost use Rattle.reincarnate.specs.Progress.{ReplayedState, IsSegmentSize};
+    ghost use Rattle.reincarnate.specs.Progress.{ReplayedState};
+    ghost use Rattle.reincarnate.specs.LoggedHead.{IsSegmentSize};
 
     ghost Value = { ReplayedState S };
 

@@ -9,8 +9,7 @@ ghost use Rattle.tcp_endpoint.specs.SendHalf.{IsShort};
 ghost use Rattle.tcp_endpoint.specs.Tcb.{listening};
 ghost use Rattle.endpoint_laws.specs.Turn.{turned};
 ghost use Rattle.connection_laws.specs.Splice.{forged as forged_lem, forged_syn, forged_ack, forged_fin, connected as connected_lem, spliced};
-ghost use Rattle.reincarnate.specs.Progress.{IsSegmentSize};
-ghost use Rattle.reincarnate.specs.Splice.{has_end};
+ghost use Rattle.reincarnate.specs.LoggedHead.{IsSegmentSize, has_end};
 
 use ft_io::{Addr, Key, NoMemory};
 use logger_store::EntryHead;
