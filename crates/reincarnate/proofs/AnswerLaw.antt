@@ -9,11 +9,11 @@ use Rattle.server_trait.specs.Service.{Machine, Served, machine}
 use Rattle.ft_model.specs.Restart.{Fetched, wanted, next_entry, question, is_fetched, fetched_by, fetched_after, all_follow}
 use Rattle.ft_model.specs.Restart.Wanted.{An_entry, Its_bytes, Its_lengths}
 use Rattle.ft_model.proofs.Lists.{none_is_some}
-use Rattle.reincarnate.specs.declared.cuts.Cuts.{Cuts}
+use Rattle.log_replay.specs.declared.cuts.Cuts.{Cuts}
 use Rattle.reincarnate.specs.declared.lack.Lack.{Lack}
 use Rattle.reincarnate.specs.declared.lack.Lack.TheVariants as lack
 use Rattle.reincarnate.specs.declared.marks.Marks.{Marks}
-use Rattle.reincarnate.specs.ReadLengths.{cuts_of, cuts_through}
+use Rattle.log_replay.specs.ReadLengths.{cuts_of, cuts_through}
 use Rattle.reincarnate.specs.Progress.{EntryState, lacks, asked_for, asks_bytes, asks_lengths, with_bytes, with_lengths, cuts_with}
 use Rattle.reincarnate.specs.Questions.{FetchingState, entries_of, asked_of, asked, or_else, entry_known, head_fits, with_head, with_newest, part_on, lens_on, answered, after_answer}
 use Rattle.reincarnate.specs.Refinement.{StandsFor, StandFor, StandsFetching, AreWhole, fetched_then}

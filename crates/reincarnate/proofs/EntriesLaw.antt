@@ -8,7 +8,7 @@ use Rattle.ft_model.proofs.Services.{sum_more}
 use Rattle.logger_store.proofs.Took.{sum_of}
 use Rattle.reincarnate.specs.declared.entries.Restored.{Restored}
 use Rattle.reincarnate.specs.declared.entries.Restored.TheVariants as restored
-use Rattle.reincarnate.specs.Replay.{RunsTo}
+use Rattle.log_replay.specs.Replay.{RunsTo}
 use Rattle.reincarnate.specs.Progress.{EntryState, ReplayedState, replayed_state, next_live, behind_next, IsShort}
 use Rattle.reincarnate.specs.Questions.{FetchingState, entries_of, asked_of, asked}
 use Rattle.reincarnate.specs.Refinement.{StandsFor, StandFor, StandsFetching, StandsWhole, AreWhole, IsReplayed, NextIs, live_from, first_restored, RestoredIs, FirstIs}

@@ -8,11 +8,11 @@ use Rattle.ft_model.specs.Log.{may_follow}
 use Rattle.ft_model.specs.Restart.{Fetched, Wanted, wanted, next_entry, is_whole, all_follow}
 use Rattle.ft_model.specs.Restart.Wanted.{Its_bytes, Its_lengths}
 use Rattle.ft_model.proofs.Services.{sum_append}
-use Rattle.reincarnate.specs.declared.cuts.Cuts.{Cuts}
+use Rattle.log_replay.specs.declared.cuts.Cuts.{Cuts}
 use Rattle.reincarnate.specs.declared.lack.Lack.{Lack}
 use Rattle.reincarnate.specs.declared.lack.Lack.TheVariants as lack
-use Rattle.reincarnate.specs.ReadLengths.{cuts_of, cut_on, cuts_through}
-use Rattle.reincarnate.specs.Replay.{ReplayState}
+use Rattle.log_replay.specs.ReadLengths.{cuts_of, cut_on, cuts_through}
+use Rattle.log_replay.specs.Replay.{ReplayState}
 use Rattle.reincarnate.specs.Progress.{EntryState, begun_entry, lacks, with_bytes, with_lengths}
 use Rattle.reincarnate.specs.Refinement.{StandsFor}
 use Rattle.reincarnate.proofs.ReplayOn.{replays}

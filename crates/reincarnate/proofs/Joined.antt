@@ -20,7 +20,7 @@ use Rattle.wrapped_conn.specs.Numbers.{has_fin}
 use Rattle.wrapped_conn.specs.Refinement.{StandsBefore}
 use Rattle.wrapped_conn.proofs.NumbersAt.{has_fin_is, logged_at}
 use Rattle.reincarnate.specs.Progress.{ReplayedState}
-use Rattle.reincarnate.specs.LoggedHead.{IsSegmentSize, has_end}
+use Rattle.log_replay.specs.LoggedHead.{IsSegmentSize, has_end}
 use Rattle.reincarnate.specs.Refinement.{IsReplayed}
 use Rattle.reincarnate.specs.Splice.{SplicedState, goes_on_at, south_from, north_from, spliced_from, EntryNumbersFit, IsSpliced}
 use Rattle.wrapped_conn.proofs.Joining.{spliced_local}

@@ -1,4 +1,3 @@
-pub mod Lengths
 pub mod ReplayOn
 pub mod Sized
 pub mod Ready
@@ -8,7 +7,6 @@ pub mod ReplayLaw
 pub mod EntryLaw
 pub mod AnswerLaw
 pub mod EntriesLaw
-pub mod Forging
 pub mod Joined
 pub mod Startable
 pub mod Questions

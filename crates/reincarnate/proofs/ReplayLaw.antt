@@ -5,7 +5,7 @@ use Rattle.std.proofs.Math.Seq.{drop-nil}
 use Rattle.server_trait.specs.Service.{Machine, Run, Served, fed, with_served, reference}
 use Rattle.ft_model.proofs.Services.{more_bytes, reads_go_on, prefix_length, sum_append}
 use Rattle.north_wrap.proofs.OneRead.{drop_drop, one_more}
-use Rattle.reincarnate.specs.Replay.{ReplayState, RunsTo, passes_the_stream, served_on, taken_on, fed_on}
+use Rattle.log_replay.specs.Replay.{ReplayState, RunsTo, passes_the_stream, served_on, taken_on, fed_on}
 use Rattle.reincarnate.specs.Progress.{replayed_from}
 use Rattle.reincarnate.specs.Refinement.{HasReplayed}
 use Rattle.ft_io.proofs.Choices.{holds_if}

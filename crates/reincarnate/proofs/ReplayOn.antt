@@ -4,7 +4,7 @@ use Rattle.std.specs.List.{AllByRecursion}
 use Rattle.server_trait.specs.Service.{Served}
 use Rattle.ft_model.proofs.Lists.{some_is, none_is_some}
 use Rattle.ft_model.proofs.Services.{sum_more}
-use Rattle.reincarnate.specs.Replay.{ReplayState, fed_on}
+use Rattle.log_replay.specs.Replay.{ReplayState, fed_on}
 use Rattle.reincarnate.specs.Progress.{Waiting, first_whole, replayed_from, IsShort}
 use Rattle.ft_io.proofs.Choices.{holds_if}
 

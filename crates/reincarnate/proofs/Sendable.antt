@@ -5,7 +5,7 @@ use Rattle.std.specs.List.{list_all, AllByRecursion}
 use Rattle.std.proofs.lemmas.Bool.{and_parts}
 use Rattle.ft_io.specs.declared.Key.{Key}
 use Rattle.seq_arith.specs.MessageGrammar.{kind_of, numbers_of, behind_of, lens_of, message_length, all_in_range, fields_of, is_sound, has_length, lens_in}
-use Rattle.reincarnate.specs.LoggedHead.{IsSegmentSize}
+use Rattle.log_replay.specs.LoggedHead.{IsSegmentSize}
 use Rattle.logger_wire.specs.declared.Msg.{Msg}
 use Rattle.logger_wire.specs.declared.Body.{Body}
 use Rattle.logger_wire.specs.declared.Body.TheVariants as body

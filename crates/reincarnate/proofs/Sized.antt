@@ -8,7 +8,7 @@ use Rattle.mark_laws.specs.Restart.{lies_within}
 use Rattle.reincarnate.specs.Marking.{begun_at}
 use Rattle.server_trait.specs.Service.{Served}
 use Rattle.ft_model.proofs.Services.{sum_more}
-use Rattle.reincarnate.specs.declared.cuts.Cuts.{Cuts}
+use Rattle.log_replay.specs.declared.cuts.Cuts.{Cuts}
 use Rattle.seq_arith.specs.MessageGrammar.{lens_in}
 use Rattle.ft_io.specs.declared.Key.{Key}
 use Rattle.ft_io.specs.Key.{key_eq}
@@ -16,10 +16,10 @@ use Rattle.seq_arith.proofs.Texts.{lens_in_length}
 use Rattle.logger_store.proofs.Took.{sum_of}
 use Rattle.wrapped_conn.proofs.Copied.{last_true}
 use Rattle.reincarnate.specs.declared.lack.Lack.TheVariants as lack
-use Rattle.reincarnate.specs.ReadLengths.{HaveBytes, cuts_through}
-use Rattle.reincarnate.specs.Replay.{ReplayState}
+use Rattle.log_replay.specs.ReadLengths.{HaveBytes, cuts_through}
+use Rattle.log_replay.specs.Replay.{ReplayState}
 use Rattle.reincarnate.specs.Progress.{EntryState, Waiting, lacks, asks_bytes, asks_lengths, part_fits, lengths_fit, cuts_with, replayed_from, with_bytes, with_lengths, begun_entry, IsShort, IsSized}
-use Rattle.reincarnate.specs.LoggedHead.{IsSegmentSize}
+use Rattle.log_replay.specs.LoggedHead.{IsSegmentSize}
 use Rattle.reincarnate.proofs.ReplayOn.{Replays, replays}
 use Rattle.reincarnate.proofs.Ready.{first_of_four}
 

@@ -24,11 +24,11 @@ use Rattle.connection_laws.proofs.PointNumbers.{parts_tell}
 use Rattle.wrapped_conn.specs.Numbers.{has_fin}
 use Rattle.wrapped_conn.specs.Sound.{has_peer, IsSoundTcp, IsSound}
 use Rattle.wrapped_conn.proofs.NumbersAt.{has_fin_is}
-use Rattle.reincarnate.specs.ReadLengths.{HaveBytes}
+use Rattle.log_replay.specs.ReadLengths.{HaveBytes}
 use Rattle.reincarnate.specs.Progress.{ReplayedState}
-use Rattle.reincarnate.specs.LoggedHead.{IsSegmentSize, has_end}
+use Rattle.log_replay.specs.LoggedHead.{IsSegmentSize, has_end}
 use Rattle.reincarnate.specs.Splice.{SplicedState, conn_of, goes_on_at, spliced_from, EntryNumbersFit}
-use Rattle.reincarnate.proofs.Forging.{idle}
+use Rattle.log_replay.proofs.Forging.{idle}
 use Rattle.reincarnate.proofs.Joined.{less_fin}
 use Rattle.ft_io.proofs.Booleans.{false_by}
 use Rattle.wrapped_conn.proofs.Joining.{few_units}

@@ -1,6 +1,3 @@
-pub mod LoggedHead
-pub mod ReadLengths
-pub mod Replay
 pub mod Progress
 pub mod Marking
 pub mod Questions

@@ -6,12 +6,12 @@ use Rattle.ft_io.specs.Key.{key_eq}
 use Rattle.seq_arith.specs.Message.{EntryHead, Body}
 use Rattle.seq_arith.specs.Message.Body.{BytesMsg, CutsMsg}
 use Rattle.server_trait.specs.Service.{Served}
-use Rattle.reincarnate.specs.declared.cuts.Cuts.{Cuts}
+use Rattle.log_replay.specs.declared.cuts.Cuts.{Cuts}
 use Rattle.reincarnate.specs.declared.lack.Lack.{Lack}
 use Rattle.reincarnate.specs.declared.lack.Lack.TheVariants as lack
-use Rattle.reincarnate.specs.LoggedHead.{IsSegmentSize}
-use Rattle.reincarnate.specs.ReadLengths.{cuts_of, cuts_through, HaveBytes}
-use Rattle.reincarnate.specs.Replay.{ReplayState, fed_on}
+use Rattle.log_replay.specs.LoggedHead.{IsSegmentSize}
+use Rattle.log_replay.specs.ReadLengths.{cuts_of, cuts_through, HaveBytes}
+use Rattle.log_replay.specs.Replay.{ReplayState, fed_on}
 
 pub record EntryState (S : Type 0) : Type 0 where
   pub head : EntryHead  -- the entry without its bytes and lengths

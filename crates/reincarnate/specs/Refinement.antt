@@ -10,8 +10,8 @@ use Rattle.mark_laws.specs.MarkedLog.{AnyMessage}
 use Rattle.mark_laws.specs.MarkedLog.AnyMessage.{About_mark, Of_log}
 use Rattle.mark_laws.specs.Restart.{FetchedSoFar, fetched_on, mark_reported, IsFront, begun_on}
 use Rattle.reincarnate.specs.Marking.{uses, awaits}
-use Rattle.reincarnate.specs.ReadLengths.{cuts_of}
-use Rattle.reincarnate.specs.Replay.{ReplayState, RunsTo}
+use Rattle.log_replay.specs.ReadLengths.{cuts_of}
+use Rattle.log_replay.specs.Replay.{ReplayState, RunsTo}
 use Rattle.reincarnate.specs.declared.entries.Restored.{Restored}
 use Rattle.reincarnate.specs.declared.entries.Restored.TheVariants as restored
 use Rattle.reincarnate.specs.Progress.{EntryState, ReplayedState, replayed_state, IsShort}

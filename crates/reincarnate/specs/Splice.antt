@@ -1,8 +1,7 @@
 -- The parts of a connection at the end of a restart, which are at the point of its entry.
-use Rattle.std.specs.Prelude.{◌≡◌, ℕ, Bool, ◌&&◌, nat_lt, ◌<◌, ◌≤◌, ◌^◌, length, min}
+use Rattle.std.specs.Prelude.{◌≡◌, ℕ, ◌<◌, ◌≤◌, ◌^◌, length, min}
 use Rattle.ft_io.specs.declared.Addr.{Addr}
 use Rattle.ft_io.specs.declared.Key.{Key}
-use Rattle.seq_arith.specs.Message.{EntryHead}
 use Rattle.server_trait.specs.Service.{Machine}
 use Rattle.ft_model.specs.Log.{Entry}
 use Rattle.ft_model.specs.Restart.{point_of, resumed_at}
@@ -15,7 +14,7 @@ use Rattle.connection_laws.specs.Parts.{PartsStand}
 use Rattle.wrapped_conn.specs.NewConnection.{joined_conn}
 use Rattle.wrapped_conn.specs.ConnState.{ConnState}
 use Rattle.reincarnate.specs.Progress.{ReplayedState}
-use Rattle.reincarnate.specs.LoggedHead.{IsSegmentSize, has_end}
+use Rattle.log_replay.specs.LoggedHead.{IsSegmentSize, has_end}
 
 pub record SplicedState (S : Type 0) : Type 0 where
   pub boot : ℕ  -- the server's boot number

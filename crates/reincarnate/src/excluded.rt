@@ -1,18 +1,17 @@
 //! Wrong results that the contracts of this crate exclude. Each function calls another one of the crate, and promises of its result what a wrong body would
 //! make false. It is proved from the other's contract alone, so it is no longer proved once that contract lets the wrong body pass.
 
-ghost use Rattle.std.specs.Prelude.{◌≡◌, ◌+◌, ◌^◌, ◌≤◌, true, length, take, OnOk};
+ghost use Rattle.std.specs.Prelude.{◌≡◌, ◌^◌, ◌≤◌, true, length};
 ghost use Rattle.logger_store.specs.StoreState.{head_value};
 ghost use Rattle.mark_laws.specs.Restart.{lies_within};
 ghost use Rattle.reincarnate.specs.Marking.{mark_value};
-ghost use Rattle.reincarnate.specs.LoggedHead.{IsSegmentSize};
+ghost use Rattle.log_replay.specs.LoggedHead.{IsSegmentSize};
 
-use crate::cuts::Cuts;
 use crate::fetched_entry::FetchedEntry;
 use crate::logged_mark::LoggedMark;
-use crate::replay::Replay;
 use crate::replayed::south_behind;
-use ft_io::{Key, NoMemory};
+use ft_io::Key;
+use log_replay::Cuts;
 use logger_store::EntryHead;
 use seq_arith::Seq;
 use server_trait::Service;
@@ -51,17 +50,4 @@ fn replays_from_the_start<S: Service>(
     ensures { result.bytes ≡ mark.now.length }
 {
     FetchedEntry::begin_at(alloc, head, mark, service)
-}
-
-/// Output that the client has acknowledged doesn't become pending again: the clause `state` of `Replay::serve`.
-fn replays_without_swallowing<S: Service>(
-    replay: &mut Replay<S>,
-    size: usize,
-) -> Result<(), NoMemory>
-    requires short { size ≤ 2048 }
-    requires there { size ≤ length replay.old.held }
-    requires acked { replay.old.made + length (S.after replay.old.service (take size replay.old.held)).output ≤ replay.old.acked }
-    ensures { OnOk result (replay.new.pending ≡ replay.old.pending) }
-{
-    replay.serve(size)
 }

@@ -5,22 +5,21 @@ ghost use Rattle.std.specs.List.{AllByRecursion};
 ghost use Rattle.seq_arith.specs.MessageGrammar.{lens_in};
 ghost use Rattle.logger_wire.specs.Value.{body_of};
 ghost use Rattle.ft_io.specs.Key.{key_eq};
-ghost use Rattle.reincarnate.specs.ReadLengths.{HaveBytes};
+ghost use Rattle.log_replay.specs.ReadLengths.{HaveBytes};
 ghost use Rattle.logger_store.specs.StoreState.{head_value};
 ghost use Rattle.mark_laws.specs.Restart.{lies_within};
 ghost use Rattle.reincarnate.specs.Questions.{IsAskable};
 ghost use Rattle.reincarnate.specs.Marking.{begun_at, begun_from, mark_value};
 ghost use Rattle.reincarnate.specs.Progress.{begun_entry, lacks, asked_for, asks_bytes, asks_lengths, part_fits, lengths_fit, with_bytes, cuts_with};
 ghost use Rattle.reincarnate.specs.Progress.{with_lengths, first_whole, replayed_from, replayed_state};
-ghost use Rattle.reincarnate.specs.LoggedHead.{IsSegmentSize};
+ghost use Rattle.log_replay.specs.LoggedHead.{IsSegmentSize};
 
-use crate::cuts::Cuts;
 use crate::lack::Lack;
 use crate::logged_mark::LoggedMark;
 use crate::ranges::fit_key;
-use crate::replay::Replay;
 use crate::replayed::Replayed;
 use ft_io::{Key, NoMemory};
+use log_replay::{Cuts, Replay};
 use logger_store::EntryHead;
 use logger_wire::{Body, len_at};
 use server_trait::{Saved, Service};
@@ -296,7 +295,7 @@ impl<S: Saved> FetchedEntry<S> {
 }
 
 /// Appends the lengths `lens`, two bytes for each length, to those that wait.
-#[tactic(auto, using(seq_arith::proofs::Texts::lens_in_length, crate::proofs::Lengths::one_pushed, crate::proofs::Lengths::all_pushed))]
+#[tactic(auto, using(seq_arith::proofs::Texts::lens_in_length, log_replay::proofs::Lengths::one_pushed, log_replay::proofs::Lengths::all_pushed))]
 fn push_lengths(waiting: &mut VecDeque<u16>, lens: &[u8]) -> Result<(), NoMemory>
     ensures { OnOk result (waiting.new.items ≡ waiting.old.items ++ lens_in lens.now) }
 {

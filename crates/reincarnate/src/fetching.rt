@@ -18,7 +18,7 @@ ghost use Rattle.reincarnate.specs.Marking.{any_of, IsAnySendable, mark_value, a
 ghost use Rattle.logger_wire.specs.Value.{body_of, message_of, IsSendable};
 ghost use Rattle.logger_store.specs.StoreState.{head_value};
 ghost use Rattle.reincarnate.specs.Progress.{AreReady};
-ghost use Rattle.reincarnate.specs.LoggedHead.{IsSegmentSize};
+ghost use Rattle.log_replay.specs.LoggedHead.{IsSegmentSize};
 ghost use Rattle.reincarnate.specs.Questions.{any_asked, any_heard, log_heard, noted, held_heard, mark_heard, mark_asked};
 ghost use Rattle.reincarnate.specs.Questions.{IsAskable, entries_of, asked_of, asked_entry, asked, entry_known, head_fits, with_head, with_newest};
 ghost use Rattle.reincarnate.specs.Questions.{part_on, lens_on, answered, after_answer};

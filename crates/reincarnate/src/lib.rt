@@ -13,18 +13,14 @@ pub use spliced::Spliced;
 
 mod any_msg;
 mod asked;
-mod cuts;
 mod entries;
 mod excluded;
 mod fetched_entry;
 mod fetching;
-mod held;
 mod lack;
 mod logged_mark;
 mod lost;
 mod marks;
 mod ranges;
-mod replay;
 mod replayed;
 mod spliced;
-mod splicing;

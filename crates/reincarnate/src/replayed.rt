@@ -7,16 +7,14 @@ ghost use Rattle.ft_model.specs.Restart.{IsSoundEntry};
 ghost use Rattle.south_wrap.specs.SouthState.{resumed_south};
 ghost use Rattle.reincarnate.specs.Refinement.{IsReplayed};
 ghost use Rattle.reincarnate.specs.Splice.{spliced_from, EntryNumbersFit, IsSpliced};
-ghost use Rattle.reincarnate.specs.ReadLengths.{HaveBytes};
+ghost use Rattle.log_replay.specs.ReadLengths.{HaveBytes};
 ghost use Rattle.logger_store.specs.StoreState.{head_value};
-ghost use Rattle.reincarnate.specs.LoggedHead.{IsSegmentSize, has_end};
+ghost use Rattle.log_replay.specs.LoggedHead.{IsSegmentSize, has_end};
 
-use crate::cuts::Cuts;
 use crate::lost::{LostIn, Stage};
-use crate::replay::Replay;
 use crate::spliced::Spliced;
-use crate::splicing::{has_end, spliced_endpoint};
 use ft_io::Addr;
+use log_replay::{Cuts, Replay, has_end, spliced_endpoint};
 use logger_store::EntryHead;
 use seq_arith::Seq;
 use server_trait::Service;
@@ -37,10 +35,10 @@ pub struct Replayed<S: Service> {
 
 impl<S: Service> Model for Replayed<S> {
     ghost use Rattle.std.specs.Prelude.{◌≡◌, ◌+◌, ◌^◌, ◌≤◌, length};
-    ghost use Rattle.reincarnate.specs.ReadLengths.{HaveBytes};
+    ghost use Rattle.log_replay.specs.ReadLengths.{HaveBytes};
     ghost use Rattle.logger_store.specs.StoreState.{head_value};
     ghost use Rattle.reincarnate.specs.Progress.{ReplayedState};
-    ghost use Rattle.reincarnate.specs.LoggedHead.{IsSegmentSize};
+    ghost use Rattle.log_replay.specs.LoggedHead.{IsSegmentSize};
 
     ghost Value = { ReplayedState S };
 

@@ -4,7 +4,7 @@ use Rattle.south_wrap.specs.SouthState.{resumed_south}
 use Rattle.wrapped_conn.specs.Sound.{IsSound}
 use Rattle.reincarnate.specs.Progress.{ReplayedState}
 use Rattle.reincarnate.specs.Splice.{SplicedState, conn_of, south_from, spliced_from, EntryNumbersFit}
-use Rattle.reincarnate.specs.LoggedHead.{has_end}
+use Rattle.log_replay.specs.LoggedHead.{has_end}
 use Rattle.reincarnate.proofs.Startable.{spliced_sound}
 use Rattle.reincarnate.proofs.replayed.Replayed.join.Goals as goal
 

@@ -2,8 +2,8 @@
 
 ghost use Rattle.std.specs.Prelude.{◌≡◌, ℕ, ◌^◌, ◌-◌, ◌+◌, ◌≤◌, List, [], ◌++◌, length, take, drop, true, false, OnOk};
 ghost use Rattle.north_wrap.specs.NorthState.{resumed_north};
-ghost use Rattle.reincarnate.specs.ReadLengths.{HaveBytes};
-ghost use Rattle.reincarnate.specs.Replay.{served_on, fed_on};
+ghost use Rattle.log_replay.specs.ReadLengths.{HaveBytes};
+ghost use Rattle.log_replay.specs.Replay.{served_on, fed_on};
 
 use crate::cuts::Cuts;
 use crate::held::Held;
@@ -18,7 +18,7 @@ const STREAM: u32 = 16_777_216;
 
 /// A service that has replayed the fetched reads so far. It holds the bytes that aren't replayed, and the output after the client's acknowledgement.
 #[derive(Drop)]
-pub(crate) struct Replay<S: Service> {
+pub struct Replay<S: Service> {
     /// The service's state.
     service: S,
     /// Whether the service has closed.
@@ -37,7 +37,7 @@ pub(crate) struct Replay<S: Service> {
 
 impl<S: Service> Model for Replay<S> {
     ghost use Rattle.std.specs.Prelude.{◌≤◌, ◌^◌, length};
-    ghost use Rattle.reincarnate.specs.Replay.{ReplayState};
+    ghost use Rattle.log_replay.specs.Replay.{ReplayState};
 
     ghost Value = { ReplayState S };
 
@@ -48,7 +48,7 @@ impl<S: Service> Model for Replay<S> {
 
 impl<S: Service> Replay<S> {
     /// A service before its first read, of a connection whose client has acknowledged `acked` units of output.
-    pub(crate) fn new(alloc: Global, kind: u8, acked: u32) -> Replay<S>
+    pub fn new(alloc: Global, kind: u8, acked: u32) -> Replay<S>
         ensures { result ≡ record { service = S.started kind; closed = false; made = 0; acked = acked; pending = []; held = [] } }
     {
         Replay {
@@ -63,7 +63,7 @@ impl<S: Service> Replay<S> {
     }
 
     /// A service at a mark. It has made `made` bytes of output, and the client has acknowledged them all.
-    pub(crate) fn resumed(alloc: Global, service: S, made: u32, acked: u32) -> Replay<S>
+    pub fn resumed(alloc: Global, service: S, made: u32, acked: u32) -> Replay<S>
         requires { made ≤ 2 ^ 24 }
         ensures { result ≡ record { service = service; closed = false; made = made; acked = acked; pending = []; held = [] } }
     {
@@ -79,21 +79,21 @@ impl<S: Service> Replay<S> {
     }
 
     /// How many fetched bytes aren't replayed.
-    pub(crate) fn held(&self) -> usize
+    pub fn held(&self) -> usize
         ensures { result ≡ length self.now.held }
     {
         self.held.len()
     }
 
     /// The output after the client's acknowledgement.
-    pub(crate) fn pending(&self) -> &[u8]
+    pub fn pending(&self) -> &[u8]
         ensures { result.now ≡ self.now.pending }
     {
         &self.output
     }
 
     /// How many bytes of output the service has made.
-    pub(crate) fn made(&self) -> u32
+    pub fn made(&self) -> u32
         ensures value { result ≡ self.now.made }
         ensures most { result ≤ 2 ^ 24 }
         ensures pending { length self.now.pending ≤ result }
@@ -102,7 +102,7 @@ impl<S: Service> Replay<S> {
     }
 
     /// A north wrapper that continues after these reads.
-    pub(crate) fn into_north(self, alloc: Global, cuts: Cuts) -> North<S>
+    pub fn into_north(self, alloc: Global, cuts: Cuts) -> North<S>
         requires have { HaveBytes cuts }
         requires within { cuts.sum + length self.held ≤ 2 ^ 24 }
         ensures { result ≡ resumed_north self.service self.held self.pending cuts.count cuts.sum self.made cuts.ended self.closed }
@@ -130,7 +130,7 @@ impl<S: Service> Replay<S> {
     }
 
     /// Adds fetched bytes to those that wait.
-    pub(crate) fn hold(&mut self, bytes: &[u8]) -> Result<(), NoMemory>
+    pub fn hold(&mut self, bytes: &[u8]) -> Result<(), NoMemory>
         ensures { OnOk result (self.new ≡ record self.old { held = self.old.held ++ bytes.now }) }
     {
         self.held.push(bytes)
@@ -138,7 +138,7 @@ impl<S: Service> Replay<S> {
 
     /// Replays a read of this length.
     #[tactic(auto, unfolding(crate::specs::Replay::fed_on))]
-    pub(crate) fn feed(&mut self, size: usize) -> Result<(), NoMemory>
+    pub fn feed(&mut self, size: usize) -> Result<(), NoMemory>
         requires short { size ≤ 2048 }
         requires there { size ≤ length self.old.held }
         ensures { OnOk result (self.new ≡ fed_on S.after size self.old) }

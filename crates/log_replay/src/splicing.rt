@@ -9,7 +9,7 @@ ghost use Rattle.tcp_endpoint.specs.SendHalf.{IsShort};
 ghost use Rattle.tcp_endpoint.specs.Tcb.{listening};
 ghost use Rattle.endpoint_laws.specs.Turn.{turned};
 ghost use Rattle.connection_laws.specs.Splice.{forged as forged_lem, forged_syn, forged_ack, forged_fin, connected as connected_lem, spliced};
-ghost use Rattle.reincarnate.specs.LoggedHead.{IsSegmentSize, has_end};
+ghost use Rattle.log_replay.specs.LoggedHead.{IsSegmentSize, has_end};
 
 use ft_io::{Addr, Key, NoMemory};
 use logger_store::EntryHead;
@@ -22,7 +22,7 @@ use tcp_endpoint::{Endpoint, Outbox};
 const STREAM: u32 = 16_777_216;
 
 /// Whether a FIN is logged for which the stream has room.
-pub(crate) fn has_end(head: &EntryHead) -> bool
+pub fn has_end(head: &EntryHead) -> bool
     ensures { result ≡ has_end (head_value head.now) }
 {
     head.fin == 1 && head.length < STREAM
@@ -102,7 +102,7 @@ fn connected(
 
 /// An endpoint at the end of the entry, including the FIN where one is logged.
 #[tactic(auto, using(crate::proofs::Forging::connected_short))]
-pub(crate) fn spliced_endpoint(
+pub fn spliced_endpoint(
     alloc: Global,
     head: &EntryHead,
     local: Addr,

@@ -15,7 +15,7 @@ use Rattle.endpoint_laws.proofs.Listening.{listens_at_listen}
 use Rattle.endpoint_laws.proofs.FirstPoint.{begins_law}
 use Rattle.connection_laws.specs.Splice.{forged_syn, connected, GoesOnFrom}
 use Rattle.connection_laws.proofs.Spliced.{splices}
-use Rattle.reincarnate.specs.LoggedHead.{IsSegmentSize}
+use Rattle.log_replay.specs.LoggedHead.{IsSegmentSize}
 
 pub listen_short : (local : Addr) (i limit : ℕ) → IsShort (listening local i limit).sending
 unfolding listening

@@ -5,8 +5,8 @@ use Rattle.std.proofs.lemmas.List.{drop_more, take_all}
 use Rattle.std.proofs.Math.Seq.{drop-nil}
 use Rattle.ft_model.proofs.Lists.{some_is, none_is_some}
 use Rattle.ft_model.proofs.Services.{sum_more}
-use Rattle.reincarnate.specs.declared.cuts.Cuts.{Cuts}
-use Rattle.reincarnate.specs.ReadLengths.{may_cut, cut_on, cuts_through}
+use Rattle.log_replay.specs.declared.cuts.Cuts.{Cuts}
+use Rattle.log_replay.specs.ReadLengths.{may_cut, cut_on, cuts_through}
 
 by_choice : (len : ℕ) (fin : Bool) (on next : Cuts) (rest : List ℕ) (b : Bool) → (if b then Some on else None) ≡ Some next
     → (if b then cuts_through len fin on rest else None) ≡ cuts_through len fin next rest

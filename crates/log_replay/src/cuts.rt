@@ -2,13 +2,13 @@
 
 ghost use Rattle.std.specs.Prelude.{◌≡◌, ◌≤◌, ◌+◌, ◌^◌, length, sum, false, Some, None, IfSome, if◌then◌else◌};
 ghost use Rattle.seq_arith.specs.MessageGrammar.{lens_in};
-ghost use Rattle.reincarnate.specs.ReadLengths.{may_cut, cut_on, cuts_through, HaveBytes};
+ghost use Rattle.log_replay.specs.ReadLengths.{may_cut, cut_on, cuts_through, HaveBytes};
 
 use logger_wire::len_at;
 
 /// How many reads are fetched, how many bytes they took, and whether the closing one, of length 0, is among them.
 #[derive(Clone, Copy)]
-pub(crate) struct Cuts {
+pub struct Cuts {
     /// How many reads are fetched.
     pub count: u32,
     /// How many bytes they took.
@@ -18,14 +18,15 @@ pub(crate) struct Cuts {
 }
 
 impl Cuts {
-    pub(crate) const NONE: Cuts = Cuts {
+    /// No read.
+    pub const NONE: Cuts = Cuts {
         count: 0,
         sum: 0,
         ended: false,
     };
 
     /// The reads below a mark. The closing one isn't among them.
-    pub(crate) fn below(count: u32, sum: u32) -> Cuts
+    pub fn below(count: u32, sum: u32) -> Cuts
         ensures { result ≡ record { count = count; sum = sum; ended = false } }
     {
         Cuts {
@@ -59,7 +60,7 @@ impl Cuts {
 
     /// Returns these reads and those of the lengths `lens`, two bytes for each length, if all of these may follow.
     #[tactic(auto, using(seq_arith::proofs::Texts::lens_in_length, crate::proofs::Lengths::goes_through, crate::proofs::Lengths::stops_there, crate::proofs::Lengths::all_through, crate::proofs::Lengths::sum_through))]
-    pub(crate) fn through(self, lens: &[u8], len: u32, fin: bool) -> Option<Cuts>
+    pub fn through(self, lens: &[u8], len: u32, fin: bool) -> Option<Cuts>
         requires len { len ≤ 2 ^ 24 }
         requires bytes { HaveBytes self }
         requires within { self.sum ≤ len }

@@ -1,7 +1,7 @@
 use Rattle.std.proofs.Common.{◌≡◌, ◌≤◌, drop}
 use Rattle.seq_arith.specs.MessageGrammar.{lens_in}
-use Rattle.reincarnate.specs.ReadLengths.{cuts_through, HaveBytes}
-use Rattle.reincarnate.proofs.cuts.Cuts.through.Given as goal
+use Rattle.log_replay.specs.ReadLengths.{cuts_through, HaveBytes}
+use Rattle.log_replay.proofs.cuts.Cuts.through.Given as goal
 
 -- the lengths that are left decide
 abbrev pub invariant-loop-i : goal.invariant-loop-i

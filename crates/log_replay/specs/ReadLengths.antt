@@ -2,7 +2,7 @@
 use Rattle.std.specs.Prelude.{ℕ, ◌+◌, ◌≤◌, ◌==◌, Bool, ◌&&◌, ◌||◌, not, nat_lt, nat_le, Option, Some, None, List, [], ◌∷◌, length, sum, if◌then◌else◌}
 use Rattle.std.specs.List.{list_any}
 use Rattle.ft_model.specs.Offset.{one_if}
-use Rattle.reincarnate.specs.declared.cuts.Cuts.{Cuts}
+use Rattle.log_replay.specs.declared.cuts.Cuts.{Cuts}
 
 abbrev pub cuts_of : List ℕ → Cuts
 cuts_of lengths = record { count = length lengths; sum = sum lengths; ended = list_any (λ k. k == 0) lengths }

@@ -1,8 +1,8 @@
 use Rattle.std.proofs.Common.{◌≤◌, ◌∙◌, sym, length, arith}
 use Rattle.seq_arith.specs.MessageGrammar.{lens_in}
-use Rattle.reincarnate.proofs.Lengths.{all_through, sum_through}
+use Rattle.log_replay.proofs.Lengths.{all_through, sum_through}
 use Rattle.seq_arith.proofs.Texts.{lens_in_length}
-use Rattle.reincarnate.proofs.cuts.Cuts.through.Goals as goal
+use Rattle.log_replay.proofs.cuts.Cuts.through.Goals as goal
 
 pub returns-clause-sum : goal.returns-clause-sum
 returns-clause-sum c =

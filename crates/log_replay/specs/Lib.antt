@@ -1,0 +1,3 @@
+pub mod LoggedHead
+pub mod ReadLengths
+pub mod Replay
