@@ -6,11 +6,11 @@ use Rattle.std.proofs.Math.Seq.{drop-append-add}
 use Rattle.seq_arith.specs.Message.{Part}
 use Rattle.ft_model.specs.Log.{Entry, with_bytes, with_its_fin, with_part, with_read, is_next_read}
 use Rattle.ft_model.proofs.Services.{sum_more}
-use Rattle.logger_store.specs.Pages.{pages, zeroed, levelled, reads_on, without}
+use Rattle.log_pages.specs.Pages.{pages, zeroed, levelled, reads_on, without}
 use Rattle.logger_store.specs.StoreState.{acknowledging}
 use Rattle.logger_store.specs.Trim.{IsLeft}
 use Rattle.logger_store.specs.declared.trimming.Trim.{Trim}
-use Rattle.logger_store.proofs.Levels.{levelled_count, levelled_sum, levelled_closing, levelled_more, levelled_twice}
+use Rattle.log_pages.proofs.Levels.{levelled_count, levelled_sum, levelled_closing, levelled_more, levelled_twice}
 
 pub low : (b n : ℕ) → b ≤ n → pages b ≤ n
 low b n h = omega (arith, h)

@@ -9,13 +9,13 @@ use Rattle.seq_arith.specs.Message.{Numbers, Body, Message, is_answer}
 use Rattle.seq_arith.specs.Message.Body.{HelloMsg, SummaryMsg, ListMsg, EntryMsg, BytesMsg, PartMsg, CutsMsg, LensMsg, OpenMsg, OpenedMsg, DataMsg, StableMsg, ReadMsg, ReadsMsg, DoneMsg, EndedMsg, StaleMsg, FullMsg}
 use Rattle.ft_model.specs.Log.{Log, Entry, log_after, answer_to, answer_from, with_body, with_part, with_read, new_entry, with_entry, part_of, lens_of, head_of, kept_of, on_entry, opened_answer, is_hello}
 use Rattle.ft_model.proofs.PlayableLemmas.{same_either_way}
-use Rattle.logger_store.specs.Pages.{changed_at, pages, zeroed, reads_on, took, without}
+use Rattle.log_pages.specs.Pages.{changed_at, pages, zeroed, reads_on, took, without}
 use Rattle.logger_store.specs.StoreState.{acknowledging, bytes_of, lengths_of}
 use Rattle.logger_store.specs.Trim.{TrimmedLog, no_trim, trim_at, is_trimmed, answer_left, with_trim, MayTrim, IsLeft, AreLeft, IsLeftOf}
 use Rattle.logger_store.specs.declared.trimming.Trim.{Trim}
 use Rattle.logger_store.proofs.Entries.{changed}
 use Rattle.logger_store.proofs.Asking.{bytes_stay, cuts_stay}
-use Rattle.logger_store.proofs.Levels.{levelled_count, levelled_front, levelled_rest, levelled_front_closing}
+use Rattle.log_pages.proofs.Levels.{levelled_count, levelled_front, levelled_rest, levelled_front_closing}
 use Rattle.logger_store.proofs.Left.{same_length, same_rest, low, part_left, read_left, end_left, acknowledged_left, further_left}
 
 pub same_key_left : (t : Trim) (l e : Entry) (key : Key) → IsLeft t l e → key_eq l.key key ≡ key_eq e.key key

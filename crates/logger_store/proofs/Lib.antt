@@ -1,10 +1,3 @@
-pub mod Filling
-pub mod Paging
-pub mod GivenUp
-pub mod Lengths
-pub mod Levels
-pub mod Cutting
-pub mod Took
 pub mod Answers
 pub mod Changed
 pub mod Entries

@@ -7,7 +7,7 @@ use Rattle.indexmap.specs.Layout.{length-set_value_at}
 use Rattle.ft_io.specs.declared.Key.{Key}
 use Rattle.ft_io.proofs.Choices.{same_some}
 use Rattle.ft_model.specs.Log.{Entry}
-use Rattle.logger_store.specs.Pages.{changed_at}
+use Rattle.log_pages.specs.Pages.{changed_at}
 use Rattle.logger_store.proofs.Entries.{AreKept}
 
 -- where there is none nothing is changed

@@ -3,10 +3,10 @@ use Rattle.std.proofs.Common.{◌≡◌, ◌∙◌, ℕ, ◌≤◌, ◌==◌, na
 use Rattle.std.specs.List.{list_any, list_all}
 use Rattle.seq_arith.specs.MessageGrammar.{flag}
 use Rattle.ft_model.proofs.Services.{sum_take}
-use Rattle.logger_store.specs.Pages.{pages, zeroed, levelled, reads_on}
+use Rattle.log_pages.specs.Pages.{pages, zeroed, levelled, reads_on}
 use Rattle.logger_store.specs.StoreState.{IsInRange, AreRead}
 use Rattle.logger_store.proofs.Left.{low, same_length}
-use Rattle.logger_store.proofs.Levels.{levelled_count, levelled_sum, levelled_closing, levelled_each}
+use Rattle.log_pages.proofs.Levels.{levelled_count, levelled_sum, levelled_closing, levelled_each}
 
 abbrev IsKept : (mss output reads read : ℕ) → (closed : Bool) → (bytes lengths : List ℕ) → Type 0
 IsKept mss output reads read closed bytes lengths =

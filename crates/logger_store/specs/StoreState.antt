@@ -10,7 +10,7 @@ use Rattle.seq_arith.specs.MessageGrammar.{spelling, reading, flag}
 use Rattle.seq_arith.specs.MarkGrammar as marks
 use Rattle.ft_model.specs.Log.{Log, Entry, with_bytes, is_next_read, entry_of}
 use Rattle.logger_wire.specs.Value.{is_set}
-use Rattle.logger_store.specs.Pages.{room_after, ends_with}
+use Rattle.log_pages.specs.Pages.{room_after, ends_with}
 use Rattle.logger_store.specs.declared.stored_entry.Numbers.{Numbers}
 use Rattle.logger_store.specs.declared.stored_entry.Part.{Part}
 use Rattle.logger_store.specs.declared.entry_head.EntryHead.{EntryHead}

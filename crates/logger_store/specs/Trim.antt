@@ -6,7 +6,7 @@ use Rattle.ft_io.specs.declared.Key.{Key}
 use Rattle.seq_arith.specs.Message.{Message, Body}
 use Rattle.seq_arith.specs.Message.Body.{BytesMsg, CutsMsg}
 use Rattle.ft_model.specs.Log.{Log, Entry, empty_log, answer_to}
-use Rattle.logger_store.specs.Pages.{changed_at, place_of, reads_on, without}
+use Rattle.log_pages.specs.Pages.{changed_at, place_of, reads_on, without}
 use Rattle.logger_store.specs.StoreState.{lengths_of}
 use Rattle.logger_store.specs.declared.trimming.Trim.{Trim}
 

@@ -1,29 +1,16 @@
 //! Wrong results that the contracts of this crate exclude. Each function calls another one of the crate, and promises of its result what a wrong body would make
 //! false. It is proved from the other's contract alone, so it is no longer proved once that contract lets the wrong body pass.
 
-ghost use Rattle.std.specs.Prelude.{◌≡◌, ◌≤◌, ◌+◌, [], Some, length, OnOk};
+ghost use Rattle.std.specs.Prelude.{◌≡◌, [], Some, OnOk};
 ghost use Rattle.seq_arith.specs.Message.Body.{StaleMsg};
 ghost use Rattle.logger_store.specs.StoreState.{answer_bytes};
 
 use crate::msg_out::MsgOut;
-use crate::pages::Pages;
 use crate::store::LogStore;
 use crate::stored_entry::{Part, StoredEntry};
 use ft_io::{Key, NoMemory};
 use logger_wire::{Body, Msg};
 use std::alloc::Global;
-
-/// All bytes are added, also those that don't fit the page of the last byte: the clause `ok` of `Pages::add`.
-fn drops_the_tail_at_a_border(
-    pages: &mut Pages,
-    alloc: Global,
-    bytes: &[u8],
-) -> Result<(), NoMemory>
-    requires { length bytes.now ≤ 4096 }
-    ensures { OnOk result (length pages.new ≡ length pages.old + length bytes.now) }
-{
-    pages.add(alloc, bytes)
-}
 
 /// What an older boot sends changes nothing and gets Stale: the clauses `next` and `answer` of `LogStore::answer`.
 #[tactic(auto, unfolding(seq_arith::specs::MessageGrammar::is_sound, seq_arith::specs::MessageGrammar::has_length, ft_model::specs::Log::log_after, ft_model::specs::Log::answer_to))]

@@ -12,7 +12,7 @@ ghost use Rattle.seq_arith.specs.Message.Body.{OpenMsg, DataMsg, ReadMsg, DoneMs
 ghost use Rattle.logger_wire.specs.Value.{body_of, message_of, IsSendable};
 ghost use Rattle.logger_store.specs.Changes.{body_changes, changes};
 ghost use Rattle.std.specs.Prelude.{sum, take};
-ghost use Rattle.logger_store.specs.Pages.{changed_at, reads_on, took, without, place_of};
+ghost use Rattle.log_pages.specs.Pages.{changed_at, reads_on, took, without, place_of};
 ghost use Rattle.logger_store.specs.StoreState.{numbers_value, part_value, head_value, adds, answer_bytes, acknowledging, with_boot, wants_memory, bytes_of, lengths_of};
 
 use crate::entry_head::EntryHead;

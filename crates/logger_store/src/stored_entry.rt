@@ -4,16 +4,13 @@ ghost use Rattle.std.specs.Prelude.{[], take, drop, ◌≡◌, ◌≤◌, ◌<�
 ghost use Rattle.std.specs.List.{list_all};
 ghost use Rattle.ft_model.specs.Log.{new_entry, with_bytes, with_its_fin, with_part, with_read, is_next_read, head_of, Entry};
 ghost use Rattle.logger_store.specs.Changes.{part_changes};
-ghost use Rattle.logger_store.specs.Pages.{reads_on, took, without};
+ghost use Rattle.log_pages.specs.Pages.{reads_on, took, without};
 ghost use Rattle.logger_store.specs.StoreState.{acknowledging, numbers_value, part_value, head_value, adds_page, begins_run};
 
 use crate::entry_head::EntryHead;
-use crate::lens::Lens;
-use crate::page::PAGE;
-use crate::pages::{PART, Pages};
-use crate::read_lengths::ReadLengths;
 use arrayvec::ArrayVec;
 use ft_io::{Key, NoMemory};
+use log_pages::{Lens, PAGE, PART, Pages, ReadLengths};
 use std::alloc::Global;
 use std::marker::Model;
 
@@ -263,7 +260,7 @@ impl StoredEntry {
     }
 
     /// How many bytes the first `reads` reads took; `None` if a closing read is among them.
-    #[tactic(auto, using(crate::proofs::Took::sum_took, crate::proofs::Took::few_took, crate::proofs::Took::on_took))]
+    #[tactic(auto, using(log_pages::proofs::Took::sum_took, log_pages::proofs::Took::few_took, log_pages::proofs::Took::on_took))]
     pub fn took(&self, reads: u32) -> Option<u32>
         ensures value { result ≡ took reads self.now.lengths }
         ensures bytes { IfSome result (λ n. n ≡ sum (take reads self.now.lengths)) }

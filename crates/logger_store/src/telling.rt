@@ -6,11 +6,11 @@ ghost use Rattle.ft_model.specs.Log.{head_of, kept_of, part_of, lens_of, on_entr
 ghost use Rattle.logger_store.specs.StoreState.{answer_bytes, with_boot};
 
 use crate::entry_head::EntryHead;
-use crate::lens::Lens;
 use crate::msg_out::MsgOut;
 use crate::stored_entry::StoredEntry;
 use arrayvec::ArrayVec;
 use ft_io::Key;
+use log_pages::Lens;
 use logger_wire::{Body, Msg};
 
 /// Writes the entry at place `index`, without its bytes and lengths, into `out`. Writes nothing if there is no entry.

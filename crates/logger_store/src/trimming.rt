@@ -4,13 +4,13 @@ ghost use Rattle.std.specs.Prelude.{[], ◌≡◌, ◌≤◌, ◌<◌, ◌+◌, 
 ghost use Rattle.ft_model.specs.Log.{head_of, with_entry, log_after, answer_to};
 ghost use Rattle.logger_wire.specs.Value.{body_of, message_of, IsSendable};
 ghost use Rattle.logger_store.specs.StoreState.{acknowledging, head_value, answer_bytes, wants_memory, bytes_of, lengths_of};
-ghost use Rattle.logger_store.specs.Pages.{pages, place_of, reads_on, took};
+ghost use Rattle.log_pages.specs.Pages.{pages, place_of, reads_on, took};
 
 use crate::entry_head::EntryHead;
 use crate::msg_out::MsgOut;
-use crate::page::PAGE;
 use crate::store::LogStore;
 use ft_io::{Key, NoMemory};
+use log_pages::PAGE;
 use logger_wire::{Body, Msg};
 use std::alloc::Global;
 use std::marker::Model;

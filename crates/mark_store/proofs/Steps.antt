@@ -19,7 +19,7 @@ use Rattle.seq_arith.specs.Message.Body.{HelloMsg, SummaryMsg, ListMsg, EntryMsg
 use Rattle.ft_model.specs.Log.{Entry, log_after, answer_to, entry_of, head_of, with_entry}
 use Rattle.ft_model.specs.Growth.{EntriesGrow}
 use Rattle.ft_model.proofs.Grows.{log_grows}
-use Rattle.logger_store.specs.Pages.{changed_at, pages, place_of, without}
+use Rattle.log_pages.specs.Pages.{changed_at, pages, place_of, without}
 use Rattle.logger_store.specs.StoreState.{answer_bytes, bytes_of}
 use Rattle.logger_store.specs.Trim.{TrimmedLog, no_trim, trim_at, trim_of, is_trimmed, answer_left, with_trim, MayTrim, IsLeft, untrimmed}
 use Rattle.logger_store.specs.declared.trimming.Trim.{Trim}

@@ -7,7 +7,7 @@ use Rattle.seq_arith.specs.MarkGrammar as marks
 use Rattle.seq_arith.specs.MessageGrammar as messages
 use Rattle.seq_arith.specs.declared.mark.BadMark.{BadMark}
 use Rattle.seq_arith.specs.declared.kinds.BadMsg.{BadMsg}
-use Rattle.logger_store.specs.Pages.{pages}
+use Rattle.log_pages.specs.Pages.{pages}
 use Rattle.mark_laws.specs.MarkedLog.{MarkedLog, AnyMessage, after_mark, after_message, answer_above, answer_to_mark}
 use Rattle.mark_laws.specs.MarkedLog.AnyMessage.{About_mark, Of_log}
 

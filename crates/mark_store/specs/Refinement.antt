@@ -3,7 +3,7 @@ use Rattle.std.specs.Prelude.{◌≡◌, ◌≤◌, ℕ, List, length, slice_ind
 use Rattle.std.specs.Option.{option_map_or}
 use Rattle.ft_io.specs.declared.Key.{Key}
 use Rattle.seq_arith.specs.Mark.{Mark}
-use Rattle.logger_store.specs.Pages.{place_of}
+use Rattle.log_pages.specs.Pages.{place_of}
 use Rattle.logger_store.specs.Trim.{TrimmedLog, trim_at, IsLeftOf}
 use Rattle.mark_laws.specs.MarkedLog.{MarkedLog, no_mark}
 

@@ -5,7 +5,7 @@ use Rattle.std.specs.Option.{option_to_list}
 use Rattle.server_trait.specs.Service.{Machine, reference}
 use Rattle.ft_model.specs.Restart.{Fetched, is_whole, entry_in}
 use Rattle.ft_model.proofs.Services.{sum_more}
-use Rattle.logger_store.proofs.Took.{sum_of}
+use Rattle.log_pages.proofs.Took.{sum_of}
 use Rattle.reincarnate.specs.declared.entries.Restored.{Restored}
 use Rattle.reincarnate.specs.declared.entries.Restored.TheVariants as restored
 use Rattle.log_replay.specs.Replay.{RunsTo}

@@ -13,7 +13,7 @@ use Rattle.seq_arith.specs.MessageGrammar.{lens_in}
 use Rattle.ft_io.specs.declared.Key.{Key}
 use Rattle.ft_io.specs.Key.{key_eq}
 use Rattle.seq_arith.proofs.Texts.{lens_in_length}
-use Rattle.logger_store.proofs.Took.{sum_of}
+use Rattle.log_pages.proofs.Took.{sum_of}
 use Rattle.wrapped_conn.proofs.Copied.{last_true}
 use Rattle.reincarnate.specs.declared.lack.Lack.TheVariants as lack
 use Rattle.log_replay.specs.ReadLengths.{HaveBytes, cuts_through}

@@ -2,7 +2,7 @@ use Rattle.std.proofs.Common.{◌≡◌, ◌≤◌, ◌∙◌, sym, ap, subst, r
 use Rattle.std.specs.Prelude.{slice_get, sum, take, length, true}
 use Rattle.std.specs.Map.{values_of}
 use Rattle.ft_model.specs.Log.{Log}
-use Rattle.logger_store.specs.Pages.{changed_at, reads_on, without}
+use Rattle.log_pages.specs.Pages.{changed_at, reads_on, without}
 use Rattle.logger_store.specs.StoreState.{lengths_of}
 use Rattle.logger_store.proofs.Places.{none_there, changed_there, place_kept}
 use Rattle.logger_store.proofs.store.LogStore.give_up.Goals as goal

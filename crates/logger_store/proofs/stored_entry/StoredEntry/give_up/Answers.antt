@@ -1,5 +1,5 @@
 use Rattle.std.proofs.Common.{◌≡◌, ◌≤◌, sym, subst, length, take, sum, true}
-use Rattle.logger_store.specs.Pages.{reads_on}
+use Rattle.log_pages.specs.Pages.{reads_on}
 use Rattle.logger_store.proofs.Without.{kept_without}
 use Rattle.logger_store.proofs.stored_entry.StoredEntry.give_up.Goals as goal
 

@@ -1,5 +1,5 @@
 use Rattle.std.proofs.Common.{◌≡◌, ◌∙◌, ◌≤◌, ◌==◌, ℕ, true, false, sym, ap, subst, rules, None, Some, length, if◌then◌else◌, arith}
-use Rattle.logger_store.specs.Pages.{place_of}
+use Rattle.log_pages.specs.Pages.{place_of}
 use Rattle.mark_store.specs.New.{mark_value}
 use Rattle.mark_store.specs.Refinement.{mark_at}
 use Rattle.mark_store.proofs.Steps.{kept_given, not_kept, none_kept}

@@ -1,6 +1,6 @@
 use Rattle.std.proofs.Common.{◌≡◌, ◌∙◌, ◌≤◌, sym, ap, subst, rules, None, Some, option_map, length}
 use Rattle.seq_arith.specs.Mark.MarkBody.{MarkedMsg}
-use Rattle.logger_store.specs.Pages.{place_of}
+use Rattle.log_pages.specs.Pages.{place_of}
 use Rattle.mark_laws.specs.MarkedLog.{about_mark, no_mark}
 use Rattle.mark_store.specs.Bytes.{reply_bytes}
 use Rattle.mark_store.proofs.Steps.{told_reads, told_no_reads}

@@ -1,0 +1,20 @@
+//! Wrong results that the contracts of this crate exclude. Each function calls another one of the crate, and promises of its result what a wrong body would make
+//! false. It is proved from the other's contract alone, so it is no longer proved once that contract lets the wrong body pass.
+
+ghost use Rattle.std.specs.Prelude.{◌≡◌, ◌≤◌, ◌+◌, length, OnOk};
+
+use crate::pages::Pages;
+use ft_io::NoMemory;
+use std::alloc::Global;
+
+/// All bytes are added, also those that don't fit the page of the last byte: the clause `ok` of `Pages::add`.
+fn drops_the_tail_at_a_border(
+    pages: &mut Pages,
+    alloc: Global,
+    bytes: &[u8],
+) -> Result<(), NoMemory>
+    requires { length bytes.now ≤ 4096 }
+    ensures { OnOk result (length pages.new ≡ length pages.old + length bytes.now) }
+{
+    pages.add(alloc, bytes)
+}
