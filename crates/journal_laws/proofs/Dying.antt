@@ -19,9 +19,9 @@ use Rattle.kept_log.specs.Format.{front, HasBlocks, seen_by}
 use Rattle.kept_log.proofs.Deaths.{before_or_after, mended, left_append}
 use Rattle.kept_log.specs.JournaledLog.{committing, end_after, with_round, HasLog}
 use Rattle.kept_log.specs.Startup.{Finds, IsWhole, cutting}
-use Rattle.node_link.specs.LoggerTurns.{handing, answer_for, answering}
-use Rattle.node_link.specs.Receipt.{Received, datagram, silence, failure, received_as}
-use Rattle.journal_link.specs.Rounds.{Place, Round, IsRound, received_in, log_behind, receives, changes_in, answers_in, round_calls, place_after, calls_of}
+use Rattle.link_parts.specs.LoggerTurns.{handing, answer_for, answering}
+use Rattle.link_parts.specs.Receipt.{Received, datagram, silence, failure, received_as}
+use Rattle.journal_parts.specs.Rounds.{Place, Round, IsRound, received_in, log_behind, receives, changes_in, answers_in, round_calls, place_after, calls_of}
 use Rattle.journal_laws.specs.Moments.{IsFront, messages_in, handed_in, answers_to, ComesBack, Outlives}
 use Rattle.journal_laws.proofs.Fronts.{Within, within, link_front, one_front, disk_front}
 use Rattle.journal_laws.proofs.OneLog.{finds_one}

@@ -9,9 +9,9 @@ use Rattle.disk.specs.declared.calls.DiskCall.{DiskCall}
 use Rattle.disk.specs.declared.calls.DeskCall.{DeskCall}
 use Rattle.disk.specs.declared.calls.DeskCall.TheVariants.{OnLink, OnDisk}
 use Rattle.kept_log.specs.JournaledLog.{committing}
-use Rattle.node_link.specs.Receipt.{Received}
-use Rattle.journal_link.specs.LoggerLife.{IsUnanswered}
-use Rattle.journal_link.specs.Rounds.{Place, Round, IsRound, received_in, receives, changes_in, answers_in, round_calls, place_after, calls_of}
+use Rattle.link_parts.specs.Receipt.{Received}
+use Rattle.journal_parts.specs.LoggerLife.{IsUnanswered}
+use Rattle.journal_parts.specs.Rounds.{Place, Round, IsRound, received_in, receives, changes_in, answers_in, round_calls, place_after, calls_of}
 use Rattle.journal_laws.specs.Moments.{IsFront}
 
 pub behind_all : (xs ys done : List DeskCall) → IsFront ys done → IsFront (xs ++ ys) (xs ++ done)

@@ -20,9 +20,9 @@ use Rattle.kept_log.specs.Startup.{Finds}
 use Rattle.kept_log.proofs.Logs.{waits_more, kept_none, kept_round}
 use Rattle.kept_log.proofs.Messages.{whole}
 use Rattle.kept_log.proofs.Lives.{cut_rests, made}
-use Rattle.node_link.specs.LoggerTurns.{log_with, log_then}
-use Rattle.node_link.specs.Receipt.{Received, datagram, silence, failure}
-use Rattle.journal_link.specs.Rounds.{Place, Round, IsRound, received_in, log_behind, receives, change_in, change_by, changes_in, answers_in, round_calls, place_after, calls_of}
+use Rattle.link_parts.specs.LoggerTurns.{log_with, log_then}
+use Rattle.link_parts.specs.Receipt.{Received, datagram, silence, failure}
+use Rattle.journal_parts.specs.Rounds.{Place, Round, IsRound, received_in, log_behind, receives, change_in, change_by, changes_in, answers_in, round_calls, place_after, calls_of}
 use Rattle.journal_laws.proofs.Saying.{disk_calls-append, disk_calls_of_link, log_said, said_by}
 use Rattle.journal_laws.proofs.Staying as change
 

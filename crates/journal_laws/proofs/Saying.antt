@@ -13,9 +13,9 @@ use Rattle.disk.specs.CallRecord.{on_link, on_disk, disk_calls}
 use Rattle.disk.specs.declared.calls.DiskCall.{DiskCall}
 use Rattle.disk.specs.declared.calls.DeskCall.{DeskCall}
 use Rattle.disk.specs.declared.calls.DeskCall.TheVariants.{OnLink, OnDisk}
-use Rattle.node_link.specs.LoggerTurns.{log_with, log_then, answer_for, handing, answering}
-use Rattle.node_link.specs.Receipt.{Received, datagram, silence, failure, received_as}
-use Rattle.journal_link.specs.Rounds.{Round, received_in, log_behind, receives, answers_in}
+use Rattle.link_parts.specs.LoggerTurns.{log_with, log_then, answer_for, handing, answering}
+use Rattle.link_parts.specs.Receipt.{Received, datagram, silence, failure, received_as}
+use Rattle.journal_parts.specs.Rounds.{Round, received_in, log_behind, receives, answers_in}
 use Rattle.journal_laws.specs.Moments.{said_in, message_on, messages_in, bytes_on, handed_in, answers_to}
 
 pub messages-append : (xs ys : List DeskCall) → messages_in (xs ++ ys) ≡ messages_in xs ++ messages_in ys

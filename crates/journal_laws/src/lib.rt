@@ -1,5 +1,5 @@
 //! What a death leaves of a logger that keeps its log in a journal, at every moment of its run: the law that joins the contract of the process
-//! (`journal_link`), the laws of its file (`journal`) and those of a world whose logger may die (`trace_laws`). Nothing here runs; each function is a
+//! (`journal_parts`), the laws of its file (`journal`) and those of a world whose logger may die (`trace_laws`). Nothing here runs; each function is a
 //! theorem.
 #![tactic(auto)]
 
@@ -25,9 +25,9 @@ ghost use Rattle.disk.specs.declared.calls.DeskCall.{DeskCall};
 ghost use Rattle.disk.specs.declared.calls.DeskCall.TheVariants.{OnLink};
 ghost use Rattle.kept_log.specs.JournaledLog.{HasLog};
 ghost use Rattle.kept_log.specs.Startup.{Finds, IsWhole};
-ghost use Rattle.node_link.specs.Receipt.{Received};
-ghost use Rattle.journal_link.specs.Rounds.{Place, Round, IsRound, received_in, place_after, calls_of};
-ghost use Rattle.journal_link.specs.LoggerLife.{Starts, IsUnanswered};
+ghost use Rattle.link_parts.specs.Receipt.{Received};
+ghost use Rattle.journal_parts.specs.Rounds.{Place, Round, IsRound, received_in, place_after, calls_of};
+ghost use Rattle.journal_parts.specs.LoggerLife.{Starts, IsUnanswered};
 ghost use Rattle.journal_laws.specs.Moments.{IsFront, ComesBack, Outlives, AreUnderWay};
 
 use server_trait::Service;

@@ -1,9 +1,2 @@
-pub mod AnswerCalls
-pub mod EndReport
-pub mod Gathering
-pub mod Living
-pub mod Rounding
 pub mod Unread
-pub mod Handing
-pub mod PairRun
 pub mod PairUnread

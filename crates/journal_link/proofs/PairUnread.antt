@@ -4,15 +4,15 @@ use Rattle.server_trait.specs.Service.{Machine}
 use Rattle.disk.specs.declared.calls.DeskCall.{DeskCall}
 use Rattle.ft_io.specs.declared.link_call.LinkCall.{LinkCall}
 use Rattle.ft_io.proofs.Tellings.{none_told}
-use Rattle.node_link.specs.Ends.{TellsEnd}
-use Rattle.node_link.specs.Outcome.{Given, IsTold, Lives, HasEndedWith}
-use Rattle.node_link.specs.declared.role.Role.{Role}
-use Rattle.node_link.specs.declared.status.NodeEnd.TheVariants as ends
-use Rattle.journal_link.specs.Outcome as journal
-use Rattle.journal_link.specs.declared.role.JournalRole.{JournalRole}
-use Rattle.journal_link.specs.declared.status.JournalEnd.TheVariants.{Node}
-use Rattle.journal_link.specs.PairOutcome.{HasLived}
-use Rattle.journal_link.specs.declared.pair_role.TwinRole.{TwinRole}
+use Rattle.link_parts.specs.Ends.{IsTold, TellsEnd}
+use Rattle.node_link.specs.Outcome.{Given, Lives, HasEndedWith}
+use Rattle.link_parts.specs.declared.role.Role.{Role}
+use Rattle.link_parts.specs.declared.status.NodeEnd.TheVariants as ends
+use Rattle.journal_parts.specs.Outcome as journal
+use Rattle.journal_parts.specs.declared.role.JournalRole.{JournalRole}
+use Rattle.journal_parts.specs.declared.status.JournalEnd.TheVariants.{Node}
+use Rattle.journal_parts.specs.PairOutcome.{HasLived}
+use Rattle.journal_parts.specs.declared.pair_role.TwinRole.{TwinRole}
 
 module _ (err_old err_new : Option (List ℕ)) (faults_old faults_new code : ℕ) where
   pub told : TellsEnd ends.NoMemory err_old err_new faults_old faults_new code → IsTold (Err ends.NoMemory) err_old err_new code

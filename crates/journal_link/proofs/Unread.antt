@@ -3,14 +3,14 @@ use Rattle.std.proofs.Common.{inl, inr, ℕ, refl, Option, None, Some, List, Err
 use Rattle.ft_io.proofs.Tellings.{none_told}
 use Rattle.server_trait.specs.Service.{Machine}
 use Rattle.disk.specs.declared.calls.DeskCall.{DeskCall}
-use Rattle.node_link.specs.declared.role.Role.{Role}
-use Rattle.node_link.specs.declared.status.NodeEnd.TheVariants as ends
+use Rattle.link_parts.specs.declared.role.Role.{Role}
+use Rattle.link_parts.specs.declared.status.NodeEnd.TheVariants as ends
 use Rattle.node_link.specs.Outcome.{Given, Lives, HasEndedWith}
-use Rattle.node_link.specs.Outcome as node
-use Rattle.journal_link.specs.Ends.{TellsEnd}
-use Rattle.journal_link.specs.Outcome.{IsTold, HasKept}
-use Rattle.journal_link.specs.declared.role.JournalRole.{JournalRole}
-use Rattle.journal_link.specs.declared.status.JournalEnd.TheVariants.{Node}
+use Rattle.link_parts.specs.Ends as node
+use Rattle.journal_parts.specs.Ends.{TellsEnd}
+use Rattle.journal_parts.specs.Outcome.{IsTold, HasKept}
+use Rattle.journal_parts.specs.declared.role.JournalRole.{JournalRole}
+use Rattle.journal_parts.specs.declared.status.JournalEnd.TheVariants.{Node}
 
 module _ (err_old err_new : Option (List ℕ)) (faults_old faults_new code : ℕ) where
   node_told : TellsEnd (Node ends.NoMemory) err_old err_new faults_old faults_new code → node.IsTold (Err ends.NoMemory) err_old err_new code

@@ -1,49 +1,15 @@
 //! Wrong results that the contracts of this crate exclude. Each function calls another one of the crate, and promises of its result what a wrong body would make
 //! false. It is proved from the other's contract alone, so it is no longer proved once that contract lets the wrong body pass.
 
-ghost use Rattle.std.specs.Prelude.{List, ◌≡◌, ◌≤◌, [], ◌++◌, true, None, Some, OnOk, map, string_bytes};
-ghost use Rattle.disk.specs.CallRecord.{on_disk, on_link};
-ghost use Rattle.ft_io.specs.Told.{Tells};
-ghost use Rattle.ft_io.specs.declared.link_call.LinkCall.{LinkCall};
-ghost use Rattle.kept_log.specs.JournaledLog.{committing};
-ghost use Rattle.node_link.specs.Counts.{HasRoom};
-ghost use Rattle.node_link.specs.Receipt.{Received};
-ghost use Rattle.journal_link.specs.PartSteps.{standing_of};
-ghost use Rattle.journal_link.specs.PartTurns.{says_alone};
-ghost use Rattle.journal_link.specs.Rounds.{changes_in, receives};
-ghost use Rattle.journal_link.specs.Words.{journal_of};
-ghost use Rattle.journal_link.specs.declared.role.JournalRole.{JournalRole};
+ghost use Rattle.std.specs.Prelude.{◌≡◌, Some, map, string_bytes};
+ghost use Rattle.journal_parts.specs.Words.{journal_of};
+ghost use Rattle.journal_parts.specs.declared.role.JournalRole.{JournalRole};
 
-use crate::answers::Answer;
-use crate::part::{Twin, take};
-use crate::rounds::take_round;
-use crate::sending::address_for;
-use crate::status::JournalEnd;
 use crate::top::node_with;
 use disk::Desk;
-use ft_io::{Addr, Link, NoMemory, Sink, Source, Spawner};
-use kept_log::KeptLog;
-use node_link::{Counts, Status};
+use ft_io::{Link, Sink, Source, Spawner};
+use link_parts::Status;
 use std::alloc::Global;
-use twin_log::Side;
-
-/// All that a round's receives have changed is committed before any answer is handed to send: the clause `turned` of `take_round`.
-fn answers_before_the_commit<K: Desk>(
-    alloc: Global,
-    desk: &mut K,
-    kept: &mut KeptLog,
-    counts: &mut Counts,
-    answers: &mut Vec<Answer>,
-    most: u32,
-) -> Result<u32, JournalEnd>
-    requires most { (1 ≤ most) × (most ≤ 256) }
-    requires idle { kept.old.round ≡ [] }
-    requires counts { HasRoom 512 counts.old }
-    ensures { OnOk result ((received : List Received) × (answered : List LinkCall) × Tells (K.told desk.old) (K.told desk.new)
-        (on_link (receives received) ++ (on_disk (committing kept.old.end (changes_in kept.old.log received)) ++ on_link answered))) }
-{
-    take_round(alloc, desk, kept, counts, answers, most)
-}
 
 /// The words of a logger with a journal start one, which calls the desk, and neither link, input nor children: the clause `alone` of `node_with`.
 fn keeps_no_journal<L: Link, I: Source, O: Sink, E: Sink, P: Spawner, K: Desk>(
@@ -60,25 +26,4 @@ fn keeps_no_journal<L: Link, I: Source, O: Sink, E: Sink, P: Spawner, K: Desk>(
         → (link.new ≡ link.old) × (input.new ≡ input.old) × (kids.new ≡ kids.old) }
 {
     node_with(alloc, words, link, input, out, err, kids, desk)
-}
-
-/// As long as the server's address isn't known, nothing is sent to the server: the contract of `address_for`.
-fn sends_to_the_other_what_has_no_server(other: Addr) -> Option<Addr>
-    ensures { result ≡ None }
-{
-    address_for(None, other, Side::Server)
-}
-
-/// An Alone says nothing of where the server is: the clause `next` of `take`.
-fn takes_an_alone_for_the_servers(
-    alloc: Global,
-    other: Addr,
-    twin: &mut Twin,
-    from: Addr,
-    bytes: &[u8],
-) -> Result<(), NoMemory>
-    requires { says_alone bytes.now ≡ true }
-    ensures { OnOk result ((standing_of twin.new).server ≡ (standing_of twin.old).server) }
-{
-    take(alloc, other, twin, from, bytes)
 }

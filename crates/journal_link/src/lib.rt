@@ -3,23 +3,14 @@
 //! them that the other has stopped. All other words are those of `node`.
 #![tactic(auto)]
 
-pub use pair_role::{AloneRole, PartRole, TwinRole, read_twin_role};
+pub use journal_parts::{
+    AloneRole, FileName, JournalEnd, JournalRole, PartRole, TwinRole, read_twin_role,
+};
 pub use pair_top::node_in_pair;
 pub use program::run_ftnode;
-pub use role::{FileName, JournalRole};
-pub use status::JournalEnd;
 pub use top::node_with;
 
-mod answers;
 mod excluded;
-mod keeper;
-mod pair_role;
 mod pair_top;
-mod part;
 mod program;
-mod role;
-mod rounds;
-mod sending;
-mod status;
-mod teller;
 mod top;

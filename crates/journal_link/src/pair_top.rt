@@ -3,29 +3,27 @@
 ghost use Rattle.std.specs.Prelude.{◌≡◌, ◌≤◌, ◌^◌, ◌⊎◌, ℕ, List, length, map, string_bytes, None, Some, false, IfErr, OnOk, IsErrOf};
 ghost use Rattle.ft_io.specs.Faults.{Rose};
 ghost use Rattle.ft_io.specs.Source.{ConsumesAtMost};
-ghost use Rattle.node_link.specs.declared.role.ServerRole.{ServerRole};
-ghost use Rattle.node_link.specs.declared.role.ClientRole.{ClientRole};
-ghost use Rattle.node_link.specs.declared.role.LoggerRole.{LoggerRole};
-ghost use Rattle.node_link.specs.declared.role.PairRole.{PairRole};
-ghost use Rattle.node_link.specs.declared.role.Role.TheVariants as roles;
-ghost use Rattle.node_link.specs.Ends.{is_fault_status, UnlessFault};
+ghost use Rattle.link_parts.specs.declared.role.ServerRole.{ServerRole};
+ghost use Rattle.link_parts.specs.declared.role.ClientRole.{ClientRole};
+ghost use Rattle.link_parts.specs.declared.role.LoggerRole.{LoggerRole};
+ghost use Rattle.link_parts.specs.declared.role.PairRole.{PairRole};
+ghost use Rattle.link_parts.specs.declared.role.Role.TheVariants as roles;
+ghost use Rattle.link_parts.specs.Ends.{is_fault_status, UnlessFault};
 ghost use Rattle.node_link.specs.Outcome.{HasEnded, IsStill, HasScript};
-ghost use Rattle.node_link.specs.Roles.{role_of, is_pair, reads_input};
-ghost use Rattle.journal_link.specs.declared.role.JournalRole.{JournalRole};
-ghost use Rattle.journal_link.specs.Outcome.{HasKept};
-ghost use Rattle.journal_link.specs.Words.{journal_of};
-ghost use Rattle.journal_link.specs.PairOutcome.{LivesAs, HasLived, MayEnd};
-ghost use Rattle.journal_link.specs.PartSteps.{InRange};
-ghost use Rattle.journal_link.specs.PairWords.{twin_of};
-ghost use Rattle.journal_link.specs.declared.pair_role.TwinRole.{TwinRole};
+ghost use Rattle.link_parts.specs.Roles.{role_of, is_pair, reads_input};
+ghost use Rattle.journal_parts.specs.declared.role.JournalRole.{JournalRole};
+ghost use Rattle.journal_parts.specs.Outcome.{HasKept};
+ghost use Rattle.journal_parts.specs.Words.{journal_of};
+ghost use Rattle.journal_parts.specs.PairOutcome.{LivesAs, HasLived, MayEnd};
+ghost use Rattle.journal_parts.specs.PartSteps.{InRange};
+ghost use Rattle.journal_parts.specs.PairWords.{twin_of};
+ghost use Rattle.journal_parts.specs.declared.pair_role.TwinRole.{TwinRole};
 
-use crate::pair_role::{TwinRole, read_twin_role};
-use crate::part::run_part;
-use crate::teller::run_teller;
 use crate::top::node_with;
 use disk::Desk;
 use ft_io::{Link, NoMemory, Sink, Source, Spawner};
-use node_link::{NodeEnd, Status, tell};
+use journal_parts::{TwinRole, read_twin_role, run_part, run_teller};
+use link_parts::{NodeEnd, Status, tell};
 use std::alloc::Global;
 
 /// Runs a role.

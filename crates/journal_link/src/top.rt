@@ -3,24 +3,23 @@
 ghost use Rattle.std.specs.Prelude.{◌≡◌, ◌≤◌, ◌^◌, ◌⊎◌, ℕ, List, length, map, string_bytes, None, Some, false};
 ghost use Rattle.ft_io.specs.Faults.{Rose};
 ghost use Rattle.ft_io.specs.Source.{ConsumesAtMost};
-ghost use Rattle.node_link.specs.declared.role.ServerRole.{ServerRole};
-ghost use Rattle.node_link.specs.declared.role.ClientRole.{ClientRole};
-ghost use Rattle.node_link.specs.declared.role.LoggerRole.{LoggerRole};
-ghost use Rattle.node_link.specs.declared.role.PairRole.{PairRole};
-ghost use Rattle.node_link.specs.declared.role.Role.TheVariants as roles;
-ghost use Rattle.node_link.specs.Ends.{is_fault_status};
+ghost use Rattle.link_parts.specs.declared.role.ServerRole.{ServerRole};
+ghost use Rattle.link_parts.specs.declared.role.ClientRole.{ClientRole};
+ghost use Rattle.link_parts.specs.declared.role.LoggerRole.{LoggerRole};
+ghost use Rattle.link_parts.specs.declared.role.PairRole.{PairRole};
+ghost use Rattle.link_parts.specs.declared.role.Role.TheVariants as roles;
+ghost use Rattle.link_parts.specs.Ends.{is_fault_status};
 ghost use Rattle.node_link.specs.Outcome.{HasEnded, IsStill, HasScript};
-ghost use Rattle.node_link.specs.Roles.{role_of, is_pair, reads_input};
-ghost use Rattle.journal_link.specs.declared.role.JournalRole.{JournalRole};
-ghost use Rattle.journal_link.specs.Outcome.{HasKept, MayEnd};
-ghost use Rattle.journal_link.specs.Words.{journal_of};
+ghost use Rattle.link_parts.specs.Roles.{role_of, is_pair, reads_input};
+ghost use Rattle.journal_parts.specs.declared.role.JournalRole.{JournalRole};
+ghost use Rattle.journal_parts.specs.Outcome.{HasKept, MayEnd};
+ghost use Rattle.journal_parts.specs.Words.{journal_of};
 
-use crate::keeper::run_keeper;
-use crate::role::{JournalRole, read_journal_role};
-use crate::status::{JournalEnd, tell};
 use disk::Desk;
 use ft_io::{Link, NoMemory, Sink, Source, Spawner};
-use node_link::{NodeEnd, Status, node};
+use journal_parts::{JournalEnd, JournalRole, read_journal_role, run_keeper, tell};
+use link_parts::{NodeEnd, Status};
+use node_link::node;
 use std::alloc::Global;
 
 /// Runs a logger with a journal, and reports how it ended.

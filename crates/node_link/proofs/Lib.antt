@@ -1,12 +1,2 @@
-pub mod Calls
-pub mod ClientBeside
-pub mod ClientLimits
-pub mod ClientRunning
-pub mod Commanding
-pub mod Deciding
-pub mod Fronts
 pub mod KeyGoing
-pub mod Pairing
 pub mod Serviced
-pub mod LoggerRun
-pub mod Walking

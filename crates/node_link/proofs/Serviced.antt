@@ -24,22 +24,23 @@ use Rattle.server_node.specs.declared.input.TurnEnd.TheVariants as end
 use Rattle.server_node.specs.Apart.{TurnsApart}
 use Rattle.server_node.specs.Identity.{node_of}
 use Rattle.server_node.specs.Stages.{StageStands, NodeGoes, IsFence}
-use Rattle.node_link.specs.declared.counts.Counts.{Counts}
-use Rattle.node_link.specs.declared.role.Loggers.{Loggers}
-use Rattle.node_link.specs.declared.role.ServerRole.{ServerRole}
-use Rattle.node_link.specs.declared.status.NodeEnd.{NodeEnd}
-use Rattle.node_link.specs.declared.status.NodeEnd.TheVariants as ends
-use Rattle.node_link.specs.Counts.{count_line, counts_of, with_calls, HasRoom}
+use Rattle.link_parts.specs.declared.counts.Counts.{Counts}
+use Rattle.link_parts.specs.declared.role.Loggers.{Loggers}
+use Rattle.link_parts.specs.declared.role.ServerRole.{ServerRole}
+use Rattle.link_parts.specs.declared.status.NodeEnd.{NodeEnd}
+use Rattle.link_parts.specs.declared.status.NodeEnd.TheVariants as ends
+use Rattle.link_parts.specs.Counts.{count_line, counts_of, with_calls, HasRoom}
 use Rattle.node_link.specs.KeyLife.{AreFairFor}
 use Rattle.node_link.specs.KeyLife.KeyStage.{Asks}
-use Rattle.node_link.specs.Receipt.{Received, datagram, received_as, IsQuiet}
-use Rattle.node_link.specs.LineOutput.{TellStops}
+use Rattle.link_parts.specs.Receipt.{Received, datagram, received_as, IsQuiet}
+use Rattle.link_parts.specs.LineOutput.{TellStops}
 use Rattle.node_link.specs.ServerTurns.{is_from_logger, input_from, Sent, wires_in, address_of, second_for, sent_second, sent_as, sending, ServerTurn, turn_calls, server_calls}
-use Rattle.node_link.specs.Incarnation.{kind_in, service_of, first_of, input_in, IsFairAt, AreFair, fence_in}
+use Rattle.link_parts.specs.ServiceNumber.{kind_in}
+use Rattle.node_link.specs.Incarnation.{service_of, first_of, input_in, IsFairAt, AreFair, fence_in}
 use Rattle.node_link.specs.ServerLife.{IsServer, IsCutServer, ServerStops}
 use Rattle.node_link.specs.ServerParts.{Standing, HasHanded, HasSent, identity_of, HasBooted, Goes, HasTurned, EndsTurn, TurnStops, IsAfterTurns, StandsForKey, IsServing, HasServed, IsCutServing, ServeStops}
 use Rattle.node_link.proofs.KeyGoing.{GoesFor, begins_for, key_goes}
-use Rattle.node_link.proofs.Calls.{counts_on, with_both, with_none, few_calls, IsFew}
+use Rattle.link_parts.proofs.Calls.{counts_on, with_both, with_none, few_calls, IsFew}
 
 -- what came, as an input
 pub message_in : (loggers : Loggers) (from : Addr) (bytes : List ℕ) (r : Received) → r ≡ datagram from bytes → is_from_logger loggers from ≡ true

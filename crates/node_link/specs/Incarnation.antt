@@ -1,22 +1,16 @@
 -- The turns of a server's process as those of a lawful incarnation, for the services that its program offers, each by its kind.
-use Rattle.std.specs.Prelude.{◌≡◌, ℕ, Option, None, Some, map, List, [], ◌∷◌}
+use Rattle.std.specs.Prelude.{◌≡◌, ℕ, Option, None, map, List, [], ◌∷◌}
 use Rattle.std.specs.List.{AllByRecursion}
 use Rattle.ft_io.specs.declared.Key.{Key}
 use Rattle.server_trait.specs.Service.{Machine}
 use Rattle.ft_model.specs.Node.{Node, Input, booted}
 use Rattle.ft_model.specs.Lawful.{Turn, IsLawful, node_after, hello, fence, IsNearInput, IsSoundInput}
-use Rattle.ft_model.specs.Schedule.{kind_of}
-use Rattle.ft_model.specs.declared.schedule.ServiceKind.{ServiceKind}
 use Rattle.ft_model.specs.Wire.{wire_of, HasWire}
-use Rattle.node_link.specs.declared.role.ServerRole.{ServerRole}
+use Rattle.link_parts.specs.declared.role.ServerRole.{ServerRole}
 use Rattle.node_link.specs.KeyLife.{AreLawfulFor}
-use Rattle.node_link.specs.Receipt.{Received}
+use Rattle.link_parts.specs.Receipt.{Received}
 use Rattle.node_link.specs.ServerTurns.{Sent, wires_in, ServerTurn, input_from}
-
--- the number of the service that the words name; 0 where they name none
-abbrev pub kind_in : Option ServiceKind → ℕ
-kind_in None = 0
-kind_in (Some service) = kind_of service
+use Rattle.link_parts.specs.ServiceNumber.{kind_in}
 
 -- the incarnation of these words, as it boots
 abbrev pub first_of : ServerRole → Node

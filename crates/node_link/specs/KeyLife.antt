@@ -16,7 +16,7 @@ use Rattle.ft_model.specs.Wire.{Wire, wire_of, HasWire}
 use Rattle.server_node.specs.Alone.{IsNearFor, KeyTurn}
 use Rattle.server_node.specs.Restarts.{IsRestorable}
 use Rattle.server_node.specs.Ownership.{of_key}
-use Rattle.node_link.specs.declared.role.Loggers.{Loggers}
+use Rattle.link_parts.specs.declared.role.Loggers.{Loggers}
 use Rattle.node_link.specs.ServerTurns.{ServerTurn, wires_in, input_from}
 
 -- the stage of a server, for one key

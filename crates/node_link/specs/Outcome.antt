@@ -4,20 +4,19 @@ use Rattle.std.specs.Io.KnownBytes.{Appends}
 use Rattle.ft_io.specs.declared.link_call.LinkCall.{LinkCall}
 use Rattle.ft_io.specs.declared.spawn_call.SpawnCall.{SpawnCall}
 use Rattle.ft_io.specs.Faults.{Rose}
-use Rattle.ft_io.specs.Sink.{AppendsFront}
-use Rattle.node_link.specs.declared.role.Role.{Role}
-use Rattle.node_link.specs.declared.role.Role.TheVariants.{Server, Logger, Client, Pair}
-use Rattle.node_link.specs.declared.status.NodeEnd.{NodeEnd}
-use Rattle.node_link.specs.declared.status.NodeEnd.TheVariants.{Usage, NoMemory}
+use Rattle.link_parts.specs.declared.role.Role.{Role}
+use Rattle.link_parts.specs.declared.role.Role.TheVariants.{Server, Logger, Client, Pair}
+use Rattle.link_parts.specs.declared.status.NodeEnd.{NodeEnd}
+use Rattle.link_parts.specs.declared.status.NodeEnd.TheVariants.{Usage, NoMemory}
 use Rattle.server_trait.specs.Service.{Machine}
 use Rattle.ft_model.specs.Legal.{machines}
 use Rattle.ft_model.specs.declared.schedule.Script.{Script}
 use Rattle.sample_servers.specs.AnyService.{any_started, any_after}
 use Rattle.peer_client.specs.declared.live.ClientEnd.TheVariants.{Closed}
-use Rattle.node_link.specs.ClientRuns.{RunsScript, IsEndedBy, ClientStops}
-use Rattle.node_link.specs.Ends.{code_of, text_of}
-use Rattle.node_link.specs.LoggerParts.{IsLogger, LoggerStops}
-use Rattle.node_link.specs.Pair.{steps_of, IsPair, PairStops}
+use Rattle.link_parts.specs.ClientRuns.{RunsScript, IsEndedBy, ClientStops}
+use Rattle.link_parts.specs.Ends.{IsTold}
+use Rattle.link_parts.specs.LoggerParts.{IsLogger, LoggerStops}
+use Rattle.link_parts.specs.Pair.{steps_of, IsPair, PairStops}
 use Rattle.node_link.specs.ServerLife.{IsServer, ServerStops}
 
 -- what a process is given, as far as it is known: what its source has left, the calls on its link, how many children its spawner has started and the calls
@@ -32,12 +31,6 @@ pub record Given : Type 0 where
 -- nothing was read, called on the link or on the spawner, or written to out
 abbrev pub HasDoneNothing : (before after : Given) → Type 0
 HasDoneNothing before after = (after.left ≡ before.left) × (after.calls ≡ before.calls) × (after.spawned ≡ before.spawned) × (after.out ≡ before.out)
-
--- the status of an end, and what is written to err: the whole line, or a prefix of it at status 5
-abbrev pub IsTold : Result (Unit {0}) NodeEnd → (err_old err_new : Option (List ℕ)) → (code : ℕ) → Type 0
-IsTold (Ok _) err_old err_new code = (code ≡ 0) × (err_new ≡ err_old)
-IsTold (Err end) err_old err_new code =
-    ((code ≡ code_of end) × Appends err_old err_new (text_of end)) ⊎ ((code ≡ 5) × AppendsFront err_old err_new (text_of end))
 
 -- a count of faults doesn't rise
 abbrev pub IsStill : ℕ → ℕ → Type 0

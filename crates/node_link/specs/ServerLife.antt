@@ -6,11 +6,11 @@ use Rattle.ft_io.specs.declared.link_call.LinkCall.TheVariants.{Bound}
 use Rattle.ft_io.specs.Sink.{AppendsFront}
 use Rattle.ft_io.specs.Told.{Tells}
 use Rattle.server_trait.specs.Service.{Machine}
-use Rattle.node_link.specs.declared.role.ServerRole.{ServerRole}
-use Rattle.node_link.specs.declared.status.NodeEnd.{NodeEnd}
-use Rattle.node_link.specs.declared.status.NodeEnd.TheVariants.{LinkFault, NoMemory, WriteFault, Fenced}
-use Rattle.node_link.specs.Counts.{count_line, counts_of}
-use Rattle.node_link.specs.Receipt.{Received, received_as}
+use Rattle.link_parts.specs.declared.role.ServerRole.{ServerRole}
+use Rattle.link_parts.specs.declared.status.NodeEnd.{NodeEnd}
+use Rattle.link_parts.specs.declared.status.NodeEnd.TheVariants.{LinkFault, NoMemory, WriteFault, Fenced}
+use Rattle.link_parts.specs.Counts.{count_line, counts_of}
+use Rattle.link_parts.specs.Receipt.{Received, received_as}
 use Rattle.node_link.specs.ServerTurns.{Sent, ServerTurn, server_calls}
 use Rattle.node_link.specs.Incarnation.{Serves, fence_in}
 

@@ -21,15 +21,16 @@ use Rattle.server_node.specs.Apart.{TurnsApart}
 use Rattle.server_node.specs.Identity.{node_of}
 use Rattle.server_node.specs.FetchStage.{FetchingStands}
 use Rattle.server_node.specs.Stages.{StageStands, NodeGoes}
-use Rattle.node_link.specs.declared.counts.Counts.{Counts}
-use Rattle.node_link.specs.declared.role.Loggers.{Loggers}
-use Rattle.node_link.specs.declared.role.ServerRole.{ServerRole}
-use Rattle.node_link.specs.Counts.{with_calls, counts_of}
+use Rattle.link_parts.specs.declared.counts.Counts.{Counts}
+use Rattle.link_parts.specs.declared.role.Loggers.{Loggers}
+use Rattle.link_parts.specs.declared.role.ServerRole.{ServerRole}
+use Rattle.link_parts.specs.Counts.{with_calls, counts_of}
 use Rattle.node_link.specs.KeyLife.{KeyStage, KeyRun, AreFairFor}
 use Rattle.node_link.specs.KeyLife.KeyStage.{Asks, Fetches, Has}
-use Rattle.node_link.specs.Receipt.{Received, received_as}
+use Rattle.link_parts.specs.Receipt.{Received, received_as}
 use Rattle.node_link.specs.ServerTurns.{Sent, wires_in, sending, ServerTurn, turn_calls, server_calls, input_from}
-use Rattle.node_link.specs.Incarnation.{kind_in, service_of, first_of, IsIncarnation, AreFair, Serves, fence_in}
+use Rattle.link_parts.specs.ServiceNumber.{kind_in}
+use Rattle.node_link.specs.Incarnation.{service_of, first_of, IsIncarnation, AreFair, Serves, fence_in}
 
 -- a node: its identity and its stage
 pub record Standing (State : Type 0) : Type 0 where

@@ -1,5 +1,5 @@
 -- The turns of a server over its link. In each turn it receives once, and hands to send all packets with which its node reacts, before it receives again.
-use Rattle.std.specs.Prelude.{Bool, false, ◌==◌, ◌&&◌, ◌||◌, map, flat_map, Option, None, Some, List, [], ◌∷◌, ◌++◌, if◌then◌else◌}
+use Rattle.std.specs.Prelude.{Bool, false, ◌||◌, map, flat_map, Option, None, Some, List, [], ◌∷◌, ◌++◌, if◌then◌else◌}
 use Rattle.ft_io.specs.declared.Addr.{Addr}
 use Rattle.ft_io.specs.declared.link_call.LinkCall.{LinkCall}
 use Rattle.ft_io.specs.declared.link_call.LinkCall.TheVariants.{Handed}
@@ -10,11 +10,8 @@ use Rattle.ft_model.specs.Node.Input.{Tick_comes}
 use Rattle.ft_model.specs.World.{segment_or_noise, message_or_noise}
 use Rattle.ft_model.specs.Wire.{Party, Wire}
 use Rattle.ft_model.specs.Wire.Party.{A_client, The_server, The_logger}
-use Rattle.node_link.specs.declared.role.Loggers.{Loggers}
-use Rattle.node_link.specs.Receipt.{Received, datagram, silence, failure, received_as}
-
-abbrev pub is_from : Addr → Addr → Bool
-is_from at from = from.ip == at.ip && from.port == at.port
+use Rattle.link_parts.specs.declared.role.Loggers.{Loggers}
+use Rattle.link_parts.specs.Receipt.{is_from, Received, datagram, silence, failure, received_as}
 
 abbrev pub is_from_second : Option Addr → Addr → Bool
 is_from_second None from = false

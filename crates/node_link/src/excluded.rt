@@ -1,7 +1,7 @@
 //! Wrong results that the contracts of this crate exclude. Each function calls another one of the crate, and promises of its result what a wrong body would make
 //! false. It is proved from the other's contract alone, so it is no longer proved once that contract lets the wrong body pass.
 
-ghost use Rattle.std.specs.Prelude.{◌≡◌, ◌<◌, ◌≤◌, ◌-◌, ◌^◌, [], ◌∷◌, List, Some, map, slice_get, IfOk, IsErrOf, OnOk};
+ghost use Rattle.std.specs.Prelude.{◌≡◌, ◌^◌, [], ◌∷◌, List, map, IsErrOf, OnOk};
 ghost use Rattle.ft_io.specs.Told.{Tells};
 ghost use Rattle.ft_io.specs.declared.link_call.LinkCall.{LinkCall};
 ghost use Rattle.ft_io.specs.declared.link_call.LinkCall.TheVariants.{Bound};
@@ -11,38 +11,17 @@ ghost use Rattle.ft_model.specs.Node.Input.{Tick_comes};
 ghost use Rattle.ft_model.specs.Wire.{wire_of};
 ghost use Rattle.server_node.specs.Identity.{node_of};
 ghost use Rattle.server_node.specs.declared.stage.Stage.TheVariants as stages;
-ghost use Rattle.node_link.specs.Counts.{HasRoom};
-ghost use Rattle.node_link.specs.Ranges.{ServerInRange};
+ghost use Rattle.link_parts.specs.Counts.{HasRoom};
+ghost use Rattle.link_parts.specs.Ranges.{ServerInRange};
 ghost use Rattle.node_link.specs.ServerParts.{standing_of};
 ghost use Rattle.node_link.specs.ServerTurns.{ServerTurn, input_from, turn_calls, wires_in};
-ghost use Rattle.node_link.specs.declared.pair.ChildName.TheVariants as children;
-ghost use Rattle.node_link.specs.declared.pair.PairStep.TheVariants as steps;
 
-use crate::counts::Counts;
-use crate::logger::run_logger;
-use crate::pair::{PairStep, steps};
-use crate::role::{LoggerRole, Loggers, PairRole, ServerRole};
 use crate::server::{run_server, take_turn};
-use crate::status::NodeEnd;
-use ft_io::{Link, NoMemory, Sink};
+use ft_io::{Link, Sink};
+use link_parts::{Counts, Loggers, NodeEnd, ServerRole};
 use server_node::{Node, TurnEnd};
 use server_trait::Saved;
 use std::alloc::Global;
-
-/// A logger ends with a link fault only where its bind has failed, and then it has made no call: the clauses `bind_cause` and `stops` of `run_logger`.
-fn always_faults_at_the_bind<L: Link, O: Sink>(
-    alloc: Global,
-    role: &LoggerRole,
-    link: &mut L,
-    out: &mut O,
-) -> Result<(), NodeEnd>
-    requires turns { role.now.turns ≤ 1000000 }
-    requires countable { L.bind_fault_count link.old < 2 ^ 64 - 1 }
-    ensures failed { IsErrOf result NodeEnd.LinkFault → L.bind_fault_count link.old < L.bind_fault_count link.new }
-    ensures untold { IsErrOf result NodeEnd.LinkFault → Tells (L.told link.old) (L.told link.new) [] }
-{
-    run_logger(alloc, role, link, out)
-}
 
 /// A server's first call is its bind, and it makes none where that fails: the clauses `done` and `stops` of `run_server`.
 fn sends_before_its_bind<S: Saved, L: Link, O: Sink>(
@@ -72,15 +51,4 @@ fn sends_nothing_of_a_turn<S: Saved, L: Link>(
         × (input_from loggers turn.received ≡ Tick_comes → wires_in turn.sent ≡ map wire_of (hello (node_of (standing_of node.old).who Stage.Asking)))) }
 {
     take_turn(alloc, loggers, node, link, counts)
-}
-
-/// The fourth step of a pair is the wait for the first server, and the second one starts only after it: the contract of `steps`.
-fn starts_the_second_server_beside_the_first(
-    alloc: Global,
-    role: &PairRole,
-) -> Result<[PairStep; 8], NoMemory>
-    requires { role.now.base ≤ 65533 }
-    ensures { IfOk result (λ taken. slice_get taken 3 ≡ Some (steps.Wait 2 children.Server)) }
-{
-    steps(alloc, role)
 }

@@ -6,27 +6,13 @@
 //! fails, they are lost. An *end* is how a process stops early.
 #![tactic(auto)]
 
-pub use counts::{Counts, tell_counts};
-pub use options::{OptionName, read_options};
-pub use program::{Program, is_name};
-pub use receiving::{DATAGRAM_ROOM, receive};
-pub use role::{
-    ClientRole, LoggerRole, Loggers, PairRole, Role, ServerRole, addr_at, logger_role, read_role,
+pub use link_parts::{
+    ClientRole, Counts, DATAGRAM_ROOM, LoggerRole, Loggers, NodeEnd, OptionName, PairRole, Program,
+    Role, ServerRole, Status, addr_at, is_name, logger_role, read_options, read_role, receive,
+    tell, tell_counts,
 };
-pub use status::{NodeEnd, Status};
-pub use telling::tell;
 pub use top::{node, node_of};
 
-mod client;
-mod counts;
 mod excluded;
-mod logger;
-mod options;
-mod pair;
-mod program;
-mod receiving;
-mod role;
 mod server;
-mod status;
-mod telling;
 mod top;

@@ -3,25 +3,23 @@
 ghost use Rattle.std.specs.Prelude.{◌≡◌, ◌≤◌, ◌^◌, ◌⊎◌, ℕ, List, length, map, string_bytes, None, Some, Ok, Err, OnOk, IfErr, IsErrOf, false};
 ghost use Rattle.ft_io.specs.Faults.{Rose};
 ghost use Rattle.ft_io.specs.Source.{ConsumesAtMost};
-ghost use Rattle.node_link.specs.declared.role.ServerRole.{ServerRole};
-ghost use Rattle.node_link.specs.declared.role.ClientRole.{ClientRole};
-ghost use Rattle.node_link.specs.declared.role.LoggerRole.{LoggerRole};
-ghost use Rattle.node_link.specs.declared.role.PairRole.{PairRole};
-ghost use Rattle.node_link.specs.declared.role.Role.TheVariants as roles;
+ghost use Rattle.link_parts.specs.declared.role.ServerRole.{ServerRole};
+ghost use Rattle.link_parts.specs.declared.role.ClientRole.{ClientRole};
+ghost use Rattle.link_parts.specs.declared.role.LoggerRole.{LoggerRole};
+ghost use Rattle.link_parts.specs.declared.role.PairRole.{PairRole};
+ghost use Rattle.link_parts.specs.declared.role.Role.TheVariants as roles;
 ghost use Rattle.ft_model.specs.Legal.{machines};
 ghost use Rattle.sample_servers.specs.AnyService.{any_started, any_after};
-ghost use Rattle.node_link.specs.Ends.{is_fault_status, UnlessFault};
+ghost use Rattle.link_parts.specs.Ends.{is_fault_status, UnlessFault};
 ghost use Rattle.node_link.specs.Outcome.{Lives, HasEndedWith, HasEnded, with_link, IsStill, HasScript};
-ghost use Rattle.node_link.specs.Roles.{role_of, own_role_of, is_pair, reads_input};
+ghost use Rattle.link_parts.specs.Roles.{role_of, own_role_of, is_pair, reads_input};
 
-use crate::client::run_client;
-use crate::logger::run_logger;
-use crate::pair::run_pair;
-use crate::role::{OwnRole, Role, read_own_role, read_role};
 use crate::server::run_server;
-use crate::status::{NodeEnd, Status};
-use crate::telling::tell;
 use ft_io::{Link, Sink, Source, Spawner};
+use link_parts::{
+    NodeEnd, OwnRole, Role, Status, read_own_role, read_role, run_client, run_logger, run_pair,
+    tell,
+};
 use sample_servers::AnyService;
 use server_trait::Saved;
 use std::alloc::Global;

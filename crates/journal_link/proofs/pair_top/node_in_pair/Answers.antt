@@ -2,7 +2,7 @@ use Rattle.std.proofs.Common.{map}
 use Rattle.std.specs.Prelude.{string_bytes}
 use Rattle.ft_model.specs.Legal.{machines}
 use Rattle.sample_servers.specs.AnyService.{any_started, any_after}
-use Rattle.node_link.specs.Roles.{role_of}
+use Rattle.link_parts.specs.Roles.{role_of}
 use Rattle.journal_link.proofs.PairUnread.{unread, unread_kept, unread_twin}
 use Rattle.journal_link.proofs.pair_top.node_in_pair.Goals as goal
 

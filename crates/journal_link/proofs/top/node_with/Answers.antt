@@ -2,7 +2,7 @@ use Rattle.std.proofs.Common.{map}
 use Rattle.std.specs.Prelude.{string_bytes}
 use Rattle.ft_model.specs.Legal.{machines}
 use Rattle.sample_servers.specs.AnyService.{any_started, any_after}
-use Rattle.node_link.specs.Roles.{role_of}
+use Rattle.link_parts.specs.Roles.{role_of}
 use Rattle.journal_link.proofs.Unread.{unread, unread_kept}
 use Rattle.journal_link.proofs.top.node_with.Goals as goal
 

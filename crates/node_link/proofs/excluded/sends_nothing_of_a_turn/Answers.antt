@@ -12,8 +12,8 @@ use Rattle.server_trait.specs.Service.{Machine}
 use Rattle.server_node.specs.Identity.{node_of}
 use Rattle.server_node.specs.Stages.{StageStands, NodeGoes}
 use Rattle.server_node.specs.declared.stage.Stage.TheVariants as stages
-use Rattle.node_link.specs.declared.counts.Counts.{Counts}
-use Rattle.node_link.specs.declared.role.Loggers.{Loggers}
+use Rattle.link_parts.specs.declared.counts.Counts.{Counts}
+use Rattle.link_parts.specs.declared.role.Loggers.{Loggers}
 use Rattle.node_link.specs.ServerParts.{Standing, standing_of, Goes, HasTurned}
 use Rattle.node_link.specs.ServerTurns.{ServerTurn, input_from, turn_calls, wires_in}
 use Rattle.node_link.proofs.excluded.sends_nothing_of_a_turn.Goals as goal

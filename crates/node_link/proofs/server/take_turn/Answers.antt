@@ -1,13 +1,13 @@
 use Rattle.ft_model.specs.Legal.{machines}
 use Rattle.std.proofs.Common.{◌≡◌, ◌∙◌, ◌≤◌, ◌^◌, sym, ap, subst, length, take, Some, Err, arith}
-use Rattle.node_link.specs.Receipt.{datagram, IsQuiet}
+use Rattle.link_parts.specs.Receipt.{datagram, IsQuiet}
 use Rattle.ft_model.specs.Node.{Stage as law_stage}
 use Rattle.ft_model.specs.Lawful.{fence}
 use Rattle.server_node.specs.Identity.{node_of}
 use Rattle.server_node.specs.Inputs.{input_of}
 use Rattle.server_node.specs.Stages.{IsFence}
 use Rattle.node_link.specs.ServerParts.{standing_of}
-use Rattle.node_link.proofs.Fronts.{at_some}
+use Rattle.link_parts.proofs.Fronts.{at_some}
 use Rattle.node_link.proofs.Serviced.{turned, turn_stops}
 use Rattle.node_link.proofs.server.take_turn.Goals as goal
 use Rattle.ft_io.proofs.Outcomes.{of_error}

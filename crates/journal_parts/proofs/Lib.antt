@@ -1,0 +1,7 @@
+pub mod AnswerCalls
+pub mod EndReport
+pub mod Gathering
+pub mod Living
+pub mod Rounding
+pub mod Handing
+pub mod PairRun

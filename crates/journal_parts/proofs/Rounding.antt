@@ -1,0 +1,269 @@
+-- A round: its receives, the commit, and the answers. Rounds follow one another.
+use Rattle.std.proofs.Common.{◌≡◌, ◌∙◌, inr, ℕ, Bool, false, ◌+◌, ◌*◌, ◌≤◌, refl, sym, ap, ap₂, subst, Option, None, Some, List, [], ◌∷◌, ◌++◌, length, append_assoc, append-nil, length-append, arith}
+use Rattle.std.proofs.lemmas.List.{length-map}
+use Rattle.ft_io.specs.declared.Addr.{Addr}
+use Rattle.ft_io.specs.declared.link_call.LinkCall.{LinkCall}
+use Rattle.ft_io.specs.Told.{Tells}
+use Rattle.ft_io.proofs.Tellings.{tells_on, none_told}
+use Rattle.disk.specs.CallRecord.{on_link, on_disk, link_calls}
+use Rattle.disk.specs.Remains.{IsFrontOf}
+use Rattle.disk.specs.declared.calls.DiskCall.{DiskCall}
+use Rattle.disk.specs.declared.calls.DeskCall.{DeskCall}
+use Rattle.disk.specs.declared.calls.DeskCall.TheVariants.{OnLink, OnDisk}
+use Rattle.seq_arith.specs.Message.{Message}
+use Rattle.seq_arith.specs.MessageGrammar.{reading}
+use Rattle.ft_model.specs.Log.{Log}
+use Rattle.logger_store.specs.StoreState.{answer_bytes}
+use Rattle.kept_log.specs.JournaledLog.{KeptState, committing, end_after}
+use Rattle.link_parts.specs.declared.counts.Counts.{Counts}
+use Rattle.link_parts.specs.Counts.{counts_of, with_calls, no_calls, HasRoom}
+use Rattle.link_parts.specs.LoggerParts.{handing_bytes}
+use Rattle.link_parts.specs.LoggerTurns.{LoggerTurn, answer_for, answering, handing}
+use Rattle.link_parts.specs.Receipt.{Received, datagram, silence, failure}
+use Rattle.link_parts.proofs.Calls.{counts_on, with_both, few_calls}
+use Rattle.link_parts.proofs.LoggerRun.{handing_is}
+use Rattle.journal_parts.specs.declared.answers.Answer.{Answer}
+use Rattle.journal_parts.specs.LoggerLife.{IsUnanswered}
+use Rattle.journal_parts.specs.Rounds.{Place, Round, IsRound, received_in, receives, changes_in, log_behind, answers_in, after_receives, round_calls, place_after, calls_of, turns_in}
+use Rattle.journal_parts.specs.RoundParts.{place_of, with_all_received, reply_to, replies_to, AreHanded, HasAnswered, HasGathered, IsCutGathering, HasTurned, IsCutRound, HasServed, IsCutServing}
+use Rattle.journal_parts.proofs.Gathering.{receives_count}
+
+-- the calls on the network among those of a desk
+pub link_calls-append : (xs ys : List DeskCall) → link_calls (xs ++ ys) ≡ link_calls xs ++ link_calls ys
+link_calls-append [] ys = refl
+link_calls-append (OnLink x ∷ xs) ys = ap (λ l. x ∷ l) (link_calls-append xs ys)
+link_calls-append (OnDisk x ∷ xs) ys = link_calls-append xs ys
+
+pub link_calls_of_link : (xs : List LinkCall) → link_calls (on_link xs) ≡ xs
+link_calls_of_link [] = refl
+link_calls_of_link (x ∷ xs) = ap (λ l. x ∷ l) (link_calls_of_link xs)
+
+pub link_calls_of_disk : (xs : List DiskCall) → link_calls (on_disk xs) ≡ []
+link_calls_of_disk [] = refl
+link_calls_of_disk (x ∷ xs) = link_calls_of_disk xs
+
+round_links : (xs zs : List LinkCall) (ys : List DiskCall) → link_calls (on_link xs ++ (on_disk ys ++ on_link zs)) ≡ xs ++ zs
+round_links xs zs ys =
+    link_calls-append (on_link xs) (on_disk ys ++ on_link zs)
+    ∙ ap₂ (λ a b. a ++ b) (link_calls_of_link xs) (link_calls-append (on_disk ys) (on_link zs) ∙ ap₂ (λ a b. a ++ b) (link_calls_of_disk ys) (link_calls_of_link zs))
+
+-- calls by which answers are handed to send are those of the first ones, and then those of the others
+record Splits (xs ys : List Answer) (calls : List LinkCall) : Type 0 where
+  first : List LinkCall
+  rest : List LinkCall
+  first_handed : AreHanded xs first
+  rest_handed : AreHanded ys rest
+  calls_are : calls ≡ first ++ rest
+
+split : (xs ys : List Answer) (calls : List LinkCall) → AreHanded (xs ++ ys) calls → Splits xs ys calls
+split [] ys calls h = record { first = []; rest = calls; first_handed = refl; rest_handed = h; calls_are = refl }
+split (x ∷ xs) ys calls (lost, later, is, h) =
+    let s = split xs ys later h in
+    let this = handing_bytes x.to lost x.out in
+    record {
+      first = this ++ s.first;
+      rest = s.rest;
+      first_handed = (lost, s.first, refl, s.first_handed);
+      rest_handed = s.rest_handed;
+      calls_are = is ∙ (ap (λ l. this ++ l) s.calls_are ∙ sym (append_assoc this s.first s.rest));
+    }
+
+one_answered : (log : Log) (r : Received) (calls : List LinkCall) → AreHanded (reply_to log r) calls → (is_lost : Bool) × (calls ≡ answering log is_lost r)
+one_answered log (datagram from bytes) calls (lost, rest, is, none) =
+    let this = handing_bytes from lost (answer_bytes (answer_for log (reading bytes))) in
+    (lost, is ∙ (ap (λ l. this ++ l) none ∙ (append-nil this ∙ handing_is from lost (answer_for log (reading bytes)))))
+one_answered log silence calls none = (false, none)
+one_answered log failure calls none = (false, none)
+
+-- the turns of a round whose answers were handed to send by these calls
+record Answers (log : Log) (received : List Received) (calls : List LinkCall) : Type 0 where
+  round : Round
+  same : received_in round ≡ received
+  calls_are : calls ≡ answers_in log round
+
+answers : (log : Log) (received : List Received) (calls : List LinkCall) → AreHanded (replies_to log received) calls → Answers log received calls
+answers log [] calls h = record { round = []; same = refl; calls_are = h }
+answers log (last ∷ earlier) calls h =
+    let s = split (replies_to log earlier) (reply_to (log_behind log earlier) last) calls h in
+    let before = answers log earlier s.first s.first_handed in
+    let (lost, is) = one_answered (log_behind log earlier) last s.rest s.rest_handed in
+    record {
+      round = record { received = last; is_lost = lost } ∷ before.round;
+      same = ap (λ l. last ∷ l) before.same;
+      calls_are = s.calls_are ∙ ap₂ (λ a b. a ++ b) before.calls_are (is ∙ ap (λ l. answering (log_behind log l) lost last) (sym before.same));
+    }
+
+-- what a round's receives leave to be committed
+record Waits (before mid : KeptState) (received : List Received) : Type 0 where
+  end : mid.end ≡ before.end
+  log : mid.log ≡ log_behind before.log received
+  round : mid.round ≡ changes_in before.log received
+
+waits : (before mid : KeptState) (received : List Received) → before.round ≡ [] → mid ≡ with_all_received before received → Waits before mid received
+waits before mid received idle is = record {
+  end = ap (λ (k : KeptState). k.end) is;
+  log = ap (λ (k : KeptState). k.log) is;
+  round = ap (λ (k : KeptState). k.round) is ∙ ap (λ l. l ++ changes_in before.log received) idle;
+}
+
+pub turned : (count : ℕ) (before mid after : KeptState) (old t1 t2 new : Option (List DeskCall)) (c k counts : Counts) (replies : List Answer) → before.round ≡ []
+    → HasGathered count before mid old t1 c k replies → Tells t1 t2 (on_disk (committing mid.end mid.round)) → after.round ≡ [] → after.log ≡ mid.log
+    → after.end ≡ end_after mid.end mid.round → HasAnswered replies t2 new k counts → HasTurned count before after old new c counts
+turned count before mid after old t1 t2 new c k counts replies idle g kept none log end a =
+    let w = waits before mid g.received idle g.after_is in
+    let f = answers before.log g.received a.calls (subst (λ l. AreHanded l a.calls) g.answers_are a.handed) in
+    let place = place_of before in
+    let commit : committing mid.end mid.round ≡ committing before.end (changes_in before.log (received_in f.round)) =
+    ap₂ (λ x y. committing x y) w.end (w.round ∙ ap (changes_in before.log) (sym f.same)) in
+    let came : receives g.received ≡ receives (received_in f.round) = ap receives (sym f.same) in
+    let links = round_links (receives (received_in f.round)) (answers_in before.log f.round) (committing before.end (changes_in before.log (received_in f.round))) in
+    record {
+      round = f.round;
+      count_is = sym (length-map f.round (λ (t : LoggerTurn). t.received)) ∙ (ap length f.same ∙ g.count_is);
+      is_round = subst IsRound (sym f.same) g.is_round;
+      tells = tells_on old t1 new (on_link (receives (received_in f.round))) (on_disk (committing before.end (changes_in before.log (received_in f.round))) ++ on_link (answers_in before.log f.round))
+          (subst (λ l. Tells old t1 (on_link l)) came g.tells)
+          (tells_on t1 t2 new (on_disk (committing before.end (changes_in before.log (received_in f.round)))) (on_link (answers_in before.log f.round))
+          (subst (λ l. Tells t1 t2 (on_disk l)) commit kept) (subst (λ l. Tells t2 new (on_link l)) f.calls_are a.tells));
+      counts_are = a.counts_are ∙ (ap₂ (λ x y. with_calls x y) (g.counts_are ∙ ap (with_calls c) came) f.calls_are
+          ∙ (with_both c (receives (received_in f.round)) (answers_in before.log f.round) ∙ ap (with_calls c) (sym links)));
+      place = ap₂ (λ x y. record { end = x; log = y })
+          (end ∙ (ap₂ (λ x y. end_after x y) w.end (w.round ∙ ap (changes_in before.log) (sym f.same))))
+          (log ∙ (w.log ∙ ap (log_behind before.log) (sym f.same)));
+      idle = none;
+    }
+
+-- a round that ends because memory runs out
+pub cut_by_memory : (most : ℕ) (at : Place) (old new : Option (List DeskCall)) → IsCutGathering most old new → IsCutRound most at old new
+cut_by_memory most at old new g = record {
+  received = g.received;
+  cut = on_link (receives g.received) ++ [];
+  within = g.within;
+  unanswered = record { done = []; is_round = inr g.is_round; front = tt; calls_are = refl };
+  tells = subst (Tells old new) (sym (append-nil (on_link (receives g.received)))) g.tells;
+}
+
+-- .. or its commit
+pub cut_by_commit : (count most : ℕ) (before mid : KeptState) (old t1 new : Option (List DeskCall)) (c k : Counts) (replies : List Answer) → count ≤ most → before.round ≡ []
+    → HasGathered count before mid old t1 c k replies
+    → ((done : List DiskCall) × IsFrontOf (committing mid.end mid.round) done × Tells t1 new (on_disk done)) → IsCutRound most (place_of before) old new
+cut_by_commit count most before mid old t1 new c k replies few idle g (done, front, told) =
+    let w = waits before mid g.received idle g.after_is in
+    record {
+      received = g.received;
+      cut = on_link (receives g.received) ++ on_disk done;
+      within = omega (arith, g.count_is);
+      unanswered = record {
+        done = done;
+        is_round = inr g.is_round;
+        front = subst (λ l. IsFrontOf l done) (ap₂ (λ x y. committing x y) w.end w.round) front;
+        calls_are = refl;
+      };
+      tells = tells_on old t1 new (on_link (receives g.received)) (on_disk done) g.tells told;
+    }
+
+replies_count : (log : Log) (received : List Received) → length (replies_to log received) ≤ length received
+replies_count log [] = omega arith
+replies_count log (last ∷ earlier) =
+    let few = replies_count log earlier in
+    let sum = length-append (replies_to log earlier) (reply_to (log_behind log earlier) last) in
+    let one = one_reply (log_behind log earlier) last in
+    omega (arith, few, sum, one)
+  where
+    one_reply : (log : Log) (r : Received) → length (reply_to log r) ≤ 1
+    one_reply log (datagram from bytes) = omega arith
+    one_reply log silence = omega arith
+    one_reply log failure = omega arith
+
+-- there is room for the counts of the answers
+pub room_to_answer : (count : ℕ) (before mid : KeptState) (old t1 : Option (List DeskCall)) (c k : Counts) (replies : List Answer) → HasRoom 512 c
+    → HasGathered count before mid old t1 c k replies → count ≤ 256 → HasRoom (length replies) k
+room_to_answer count before mid old t1 c k replies room g few =
+    let calls = few_calls (receives g.received) in
+    let came : length (receives g.received) ≡ count = receives_count g.received ∙ g.count_is in
+    let wait : length replies ≡ length (replies_to before.log g.received) = ap length g.answers_are in
+    let most = replies_count before.log g.received in
+    let so : length replies ≤ 256 = omega (arith, wait, most, g.count_is) in
+    subst (HasRoom (length replies)) (sym g.counts_are) (record {
+      turns = omega (arith, room.turns, calls.turns, came, so);
+      datagrams = omega (arith, room.datagrams, calls.datagrams, came, so);
+      sent = omega (arith, room.sent, calls.sent, came, so);
+      lost = omega (arith, room.lost, calls.lost, came, so);
+      failed = omega (arith, room.failed, calls.failed, came, so);
+    })
+
+-- rounds so far
+pub served_none : (at : Place) (told : Option (List DeskCall)) (counts : Counts) → counts ≡ no_calls → HasServed 0 at at told told counts
+served_none at told counts none = record { rounds = []; are_rounds = tt; count_is = refl; tells = none_told told; counts_are = none; at_is = refl }
+
+pub served_on : (i count : ℕ) (start : Place) (before after : KeptState) (old mid new : Option (List DeskCall)) (c counts : Counts)
+    → HasServed i start (place_of before) old mid c → HasTurned count before after mid new c counts → HasServed (i + count) start (place_of after) old new counts
+served_on i count start before after old mid new c counts s t =
+    let calls : round_calls (place_of before) t.round ≡ round_calls (place_after start s.rounds) t.round = ap (λ p. round_calls p t.round) s.at_is in
+    record {
+      rounds = t.round ∷ s.rounds;
+      are_rounds = (t.is_round, s.are_rounds);
+      count_is = ap₂ (λ x y. x + y) s.count_is t.count_is;
+      tells = tells_on old mid new (calls_of start s.rounds) (round_calls (place_after start s.rounds) t.round) s.tells (subst (Tells mid new) calls t.tells);
+      counts_are = t.counts_are ∙ (ap₂ (λ x y. with_calls x (link_calls y)) s.counts_are calls
+          ∙ (sym (counts_on (link_calls (calls_of start s.rounds)) (link_calls (round_calls (place_after start s.rounds) t.round)))
+          ∙ ap counts_of (sym (link_calls-append (calls_of start s.rounds) (round_calls (place_after start s.rounds) t.round)))));
+      at_is = t.place ∙ ap (λ p. after_receives p (received_in t.round)) s.at_is;
+    }
+
+pub serving_cut : (i most turns : ℕ) (start at : Place) (old mid new : Option (List DeskCall)) (c : Counts) → i + most ≤ turns → HasServed i start at old mid c
+    → IsCutRound most at mid new → IsCutServing turns start old new
+serving_cut i most turns start at old mid new c few s cut = record {
+  rounds = s.rounds;
+  received = cut.received;
+  cut = cut.cut;
+  are_rounds = s.are_rounds;
+  unanswered = subst (λ p. IsUnanswered p cut.received cut.cut) s.at_is cut.unanswered;
+  within = omega (arith, s.count_is, cut.within);
+  tells = tells_on old mid new (calls_of start s.rounds) cut.cut s.tells cut.tells;
+}
+
+answers_few : (log : Log) (round : Round) → length (answers_in log round) ≤ length round
+answers_few log [] = omega arith
+answers_few log (last ∷ earlier) =
+    let few = answers_few log earlier in
+    let sum = length-append (answers_in log earlier) (answering (log_behind log (received_in earlier)) last.is_lost last.received) in
+    let one = one_answer (log_behind log (received_in earlier)) last.is_lost last.received in
+    omega (arith, few, sum, one)
+  where
+    one_handing : (to : Addr) (is_lost : Bool) (answer : Option Message) → length (handing to is_lost answer) ≤ 1
+    one_handing to is_lost None = omega arith
+    one_handing to is_lost (Some m) = omega arith
+
+    one_answer : (log : Log) (is_lost : Bool) (r : Received) → length (answering log is_lost r) ≤ 1
+    one_answer log is_lost (datagram from bytes) = one_handing from is_lost (answer_for log (reading bytes))
+    one_answer log is_lost silence = omega arith
+    one_answer log is_lost failure = omega arith
+
+links_few : (start : Place) (rounds : List Round) → length (link_calls (calls_of start rounds)) ≤ 2 * turns_in rounds
+links_few start [] = omega arith
+links_few start (last ∷ earlier) =
+    let at = place_after start earlier in
+    let few = links_few start earlier in
+    let all : length (link_calls (calls_of start earlier ++ round_calls at last)) ≡ length (link_calls (calls_of start earlier)) + length (link_calls (round_calls at last)) =
+    ap length (link_calls-append (calls_of start earlier) (round_calls at last)) ∙ length-append (link_calls (calls_of start earlier)) (link_calls (round_calls at last)) in
+    let this : length (link_calls (round_calls at last)) ≡ length (receives (received_in last)) + length (answers_in at.log last) =
+    ap length (round_links (receives (received_in last)) (answers_in at.log last) (committing at.end (changes_in at.log (received_in last))))
+    ∙ length-append (receives (received_in last)) (answers_in at.log last) in
+    let came : length (receives (received_in last)) ≡ length last = receives_count (received_in last) ∙ length-map last (λ (t : LoggerTurn). t.received) in
+    let told = answers_few at.log last in
+    omega (arith, few, all, this, came, told)
+
+-- there is room for the counts of a round
+pub room_for_round : (i : ℕ) (start at : Place) (old new : Option (List DeskCall)) (c : Counts) → i ≤ 1000000 → HasServed i start at old new c → HasRoom 512 c
+room_for_round i start at old new c le s =
+    let calls = few_calls (link_calls (calls_of start s.rounds)) in
+    let few = links_few start s.rounds in
+    let most : length (link_calls (calls_of start s.rounds)) ≤ 2000000 = omega (arith, few, s.count_is) in
+    subst (HasRoom 512) (sym s.counts_are) (record {
+      turns = omega (arith, calls.turns, most);
+      datagrams = omega (arith, calls.datagrams, most);
+      sent = omega (arith, calls.sent, most);
+      lost = omega (arith, calls.lost, most);
+      failed = omega (arith, calls.failed, most);
+    })

@@ -1,0 +1,11 @@
+use Rattle.journal_parts.specs.Ends.{from_open}
+use Rattle.journal_parts.specs.LoggerLife.{OpeningStops}
+use Rattle.journal_parts.proofs.Living.{opening_stops, said_end}
+use Rattle.journal_parts.proofs.keeper.open_log.Goals as goal
+
+pub returns-in_err-open-2-clause-stops : goal.returns-in_err-open-2-clause-stops
+returns-in_err-open-2-clause-stops g c =
+    said_end c.from_residual-in_err-open-2.result (from_open c.in_err-open-2.field-0.0)
+    (OpeningStops (g.K.Desk.file_of c.args.desk.now c.args.name.now) (g.K.Disk.told c.args.desk.now) (g.K.Disk.told c.open-2.new.disk)) c.from_residual-in_err-open-2.ensures.1
+    (opening_stops (g.K.Desk.file_of c.args.desk.now c.args.name.now) (g.K.Disk.left c.open.new.self) (g.K.Disk.told c.args.desk.now) (g.K.Disk.told c.open.new.self)
+    (g.K.Disk.told c.open-2.new.disk) c.in_err-open-2.field-0.0 c.in_ok-open.ensures.file c.open.ensures.told c.in_err-open-2.ensures.stopped)

@@ -1,0 +1,11 @@
+use Rattle.std.proofs.Common.{◌≡◌}
+use Rattle.journal_parts.specs.RoundParts.{IsGathering}
+use Rattle.journal_parts.proofs.rounds.gather.Given as goal
+
+-- so many datagrams came, and their answers wait
+abbrev pub invariant-loop-count : goal.invariant-loop-count
+invariant-loop-count g l = record {
+  gathering : IsGathering l.count l.fn.kept l.kept (g.K.Disk.told l.fn.desk) (g.K.Disk.told l.desk) l.fn.counts l.counts l.answers.items;
+  no_disk_fault : g.K.Disk.fault_count l.desk ≡ g.K.Disk.fault_count l.fn.desk;
+  no_bind_fault : (g.K.Disk.beside l.desk).bind_faults ≡ (g.K.Disk.beside l.fn.desk).bind_faults;
+}

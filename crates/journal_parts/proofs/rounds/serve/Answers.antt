@@ -1,0 +1,25 @@
+use Rattle.std.proofs.Common.{◌+◌, ◌∙◌, arith}
+use Rattle.journal_parts.specs.RoundParts.{place_of}
+use Rattle.journal_parts.proofs.Rounding.{room_for_round, served_on}
+use Rattle.journal_parts.proofs.rounds.serve.Goals as goal
+
+pub take_round-requires-clause-counts : goal.take_round-requires-clause-counts
+take_round-requires-clause-counts g c =
+    let s = c.loop-left.invariant in
+    room_for_round s.done (place_of c.args.kept.now) (place_of c.loop-left.kept) (g.K.Disk.told c.args.desk.now) (g.K.Disk.told c.loop-left.desk) c.loop-left.counts
+    (omega (arith, s.count_is, c.requires.within)) s.served
+
+pub loop-left-preserved : goal.loop-left-preserved
+loop-left-preserved g c =
+    let s = c.loop-left.invariant in
+    let count = c.in_ok-left.ensures.count.1 in
+    let least = c.min.ensures in
+    record {
+      done = s.done + c.in_ok-left.field-0;
+      count_is = omega (arith, s.count_is, count, least);
+      served = served_on s.done c.in_ok-left.field-0 (place_of c.args.kept.now) c.loop-left.kept c.take_round.new.kept (g.K.Disk.told c.args.desk.now) (g.K.Disk.told c.loop-left.desk)
+          (g.K.Disk.told c.take_round.new.desk) c.loop-left.counts c.take_round.new.counts s.served c.in_ok-left.ensures.turned;
+      idle = c.in_ok-left.ensures.turned.idle;
+      never_falls = omega (arith, s.never_falls, c.take_round.ensures.never_falls);
+      no_bind_fault = c.take_round.ensures.no_bind_fault ∙ s.no_bind_fault;
+    }

@@ -1,0 +1,17 @@
+use Rattle.std.proofs.Common.{◌≡◌, ◌≤◌, ◌+◌, [], ℕ}
+use Rattle.journal_parts.specs.RoundParts.{place_of, HasServed}
+use Rattle.journal_parts.proofs.rounds.serve.Given as goal
+
+-- so many turns are done, and nothing waits
+abbrev pub invariant-loop-left : goal.invariant-loop-left
+invariant-loop-left g l = record {
+  done : ℕ;
+  count_is : done + l.left ≡ l.turns;
+  served : HasServed done (place_of l.fn.kept) (place_of l.kept) (g.K.Disk.told l.fn.desk) (g.K.Disk.told l.desk) l.counts;
+  idle : l.kept.round ≡ [];
+  never_falls : g.K.Disk.fault_count l.fn.desk ≤ g.K.Disk.fault_count l.desk;
+  no_bind_fault : (g.K.Disk.beside l.desk).bind_faults ≡ (g.K.Disk.beside l.fn.desk).bind_faults;
+}
+
+abbrev pub decreases-loop-left : goal.decreases-loop-left
+decreases-loop-left g l = l.left

@@ -1,0 +1,20 @@
+use Rattle.journal_parts.specs.declared.status.JournalEnd.TheVariants.{JournalFault, BadJournal, InUse}
+use Rattle.journal_parts.proofs.EndReport.{told_end}
+use Rattle.journal_parts.proofs.status.tell.Goals as goal
+
+pub returns-in-JournalFault-clause-told : goal.returns-in-JournalFault-clause-told
+returns-in-JournalFault-clause-told g c =
+    rw c.in-JournalFault.is (told_end JournalFault c.write_all.result (g.E.Sink.taken c.args.err.now) (g.E.Sink.taken c.write_all.new.out) (g.E.Sink.fault_count c.args.err.now)
+    (g.E.Sink.fault_count c.write_all.new.out) c.status_of.result.code c.write_all.ensures.whole c.write_all.ensures.front c.write_all.ensures.cause c.status_of.ensures.ok c.status_of.ensures.err)
+
+pub returns-in-BadJournal-clause-told : goal.returns-in-BadJournal-clause-told
+returns-in-BadJournal-clause-told g c =
+    rw c.in-BadJournal.is (told_end (BadJournal c.in-BadJournal.at) c.write_place.result (g.E.Sink.taken c.args.err.now) (g.E.Sink.taken c.write_place.new.err)
+    (g.E.Sink.fault_count c.args.err.now) (g.E.Sink.fault_count c.write_place.new.err) c.status_of-in-BadJournal.result.code c.write_place.ensures.whole c.write_place.ensures.front
+    c.write_place.ensures.cause c.status_of-in-BadJournal.ensures.ok c.status_of-in-BadJournal.ensures.err)
+
+pub returns-in-InUse-clause-told : goal.returns-in-InUse-clause-told
+returns-in-InUse-clause-told g c =
+    rw c.in-InUse.is (told_end InUse c.write_all-in-InUse.result (g.E.Sink.taken c.args.err.now) (g.E.Sink.taken c.write_all-in-InUse.new.out) (g.E.Sink.fault_count c.args.err.now)
+    (g.E.Sink.fault_count c.write_all-in-InUse.new.out) c.status_of-in-InUse.result.code c.write_all-in-InUse.ensures.whole c.write_all-in-InUse.ensures.front
+    c.write_all-in-InUse.ensures.cause c.status_of-in-InUse.ensures.ok c.status_of-in-InUse.ensures.err)

@@ -1,0 +1,156 @@
+-- What the parts of a logger with a journal do in a round, and in the rounds so far.
+use Rattle.std.specs.Prelude.{◌≡◌, ◌⊎◌, ◌≤◌, ◌+◌, ℕ, Bool, true, Option, List, [], ◌∷◌, ◌++◌, length}
+use Rattle.std.specs.List.{AllByRecursion}
+use Rattle.ft_io.specs.Sink.{AppendsFront}
+use Rattle.ft_io.specs.Told.{Tells}
+use Rattle.ft_io.specs.declared.link_call.LinkCall.{LinkCall}
+use Rattle.seq_arith.specs.MessageGrammar.{reading}
+use Rattle.ft_model.specs.Log.{Log}
+use Rattle.disk.specs.CallRecord.{on_link, link_calls}
+use Rattle.disk.specs.declared.calls.DeskCall.{DeskCall}
+use Rattle.kept_log.specs.JournaledLog.{KeptState}
+use Rattle.logger_store.specs.StoreState.{answer_bytes}
+use Rattle.link_parts.specs.declared.counts.Counts.{Counts}
+use Rattle.link_parts.specs.Counts.{counts_of, with_calls, count_line}
+use Rattle.link_parts.specs.LoggerParts.{handing_bytes}
+use Rattle.link_parts.specs.LoggerTurns.{log_then, log_with, answer_for}
+use Rattle.link_parts.specs.Receipt.{Received, datagram, silence, failure, received_as}
+use Rattle.link_parts.specs.declared.status.NodeEnd.TheVariants.{NoMemory, WriteFault}
+use Rattle.journal_parts.specs.declared.answers.Answer.{Answer}
+use Rattle.journal_parts.specs.declared.status.JournalEnd.{JournalEnd}
+use Rattle.journal_parts.specs.declared.status.JournalEnd.TheVariants.{Node, JournalFault}
+use Rattle.journal_parts.specs.LoggerLife.{IsUnanswered}
+use Rattle.journal_parts.specs.Rounds.{Place, Round, IsDatagram, IsRound, received_in, log_behind, receives, change_in, change_by, changes_in, after_receives, round_calls, place_after, calls_of, turns_in}
+
+abbrev pub place_of : KeptState → Place
+place_of kept = record { end = kept.end; log = kept.log }
+
+-- after a receive: its message is applied to the log, and waits for the commit if it has changed the log
+abbrev pub with_received : KeptState → Received → KeptState
+with_received kept r = record kept { log = log_then kept.log r; round = kept.round ++ change_by kept.log r }
+
+-- bytes arrived
+abbrev pub with_bytes : KeptState → List ℕ → KeptState
+with_bytes kept bytes = record kept { log = log_with kept.log (reading bytes); round = kept.round ++ change_in kept.log bytes (reading bytes) }
+
+-- .. after these receives, the newest first
+abbrev pub with_all_received : KeptState → List Received → KeptState
+with_all_received kept received = record kept { log = log_behind kept.log received; round = kept.round ++ changes_in kept.log received }
+
+-- what waits to be sent because of a receive: an answer, or no bytes where there is none
+abbrev pub reply_to : Log → Received → List Answer
+reply_to log (datagram from bytes) = record { to = from; out = answer_bytes (answer_for log (reading bytes)) } ∷ []
+reply_to log silence = []
+reply_to log failure = []
+
+abbrev pub replies_to : Log → List Received → List Answer
+replies_to log [] = []
+replies_to log (last ∷ earlier) = replies_to log earlier ++ reply_to (log_behind log earlier) last
+
+-- the calls by which answers are handed to send, in their order
+abbrev pub AreHanded : List Answer → List LinkCall → Type 0
+AreHanded [] calls = calls ≡ []
+AreHanded (answer ∷ answers) calls = (is_lost : Bool) × (rest : List LinkCall) × (calls ≡ handing_bytes answer.to is_lost answer.out ++ rest) × AreHanded answers rest
+
+pub record HandsOver (answer : Answer) (old new : Option (List DeskCall)) (counted counts : Counts) : Type 0 where
+  pub is_lost : Bool
+  pub tells : Tells old new (on_link (handing_bytes answer.to is_lost answer.out))
+  pub counts_are : counts ≡ with_calls counted (handing_bytes answer.to is_lost answer.out)
+
+pub record HasAnswered (answers : List Answer) (old new : Option (List DeskCall)) (counted counts : Counts) : Type 0 where
+  pub calls : List LinkCall
+  pub handed : AreHanded answers calls
+  pub tells : Tells old new (on_link calls)
+  pub counts_are : counts ≡ with_calls counted calls
+
+-- one receive, which gave a datagram if `is_more`
+pub record HasTaken (is_more : Bool) (before after : KeptState) (old new : Option (List DeskCall)) (counted counts : Counts) (waiting answers : List Answer) : Type 0 where
+  pub received : Received
+  pub is_datagram : is_more ≡ true → IsDatagram received
+  pub tells : Tells old new (on_link (received_as received ∷ []))
+  pub counts_are : counts ≡ with_calls counted (received_as received ∷ [])
+  pub after_is : after ≡ with_received before received
+  pub answers_are : answers ≡ waiting ++ reply_to before.log received
+
+-- this many receives, each of which gave a datagram
+pub record IsGathering (count : ℕ) (before after : KeptState) (old new : Option (List DeskCall)) (counted counts : Counts) (answers : List Answer) : Type 0 where
+  pub received : List Received
+  pub count_is : length received ≡ count
+  pub are_datagrams : AllByRecursion IsDatagram received
+  pub tells : Tells old new (on_link (receives received))
+  pub counts_are : counts ≡ with_calls counted (receives received)
+  pub after_is : after ≡ with_all_received before received
+  pub answers_are : answers ≡ replies_to before.log received
+
+-- the receives of a round
+pub record HasGathered (count : ℕ) (before after : KeptState) (old new : Option (List DeskCall)) (counted counts : Counts) (answers : List Answer) : Type 0 where
+  pub received : List Received
+  pub count_is : length received ≡ count
+  pub is_round : IsRound received
+  pub tells : Tells old new (on_link (receives received))
+  pub counts_are : counts ≡ with_calls counted (receives received)
+  pub after_is : after ≡ with_all_received before received
+  pub answers_are : answers ≡ replies_to before.log received
+
+-- receives of a round that ended because an allocation failed
+pub record IsCutGathering (most : ℕ) (old new : Option (List DeskCall)) : Type 0 where
+  pub received : List Received
+  pub within : length received ≤ most
+  pub is_round : IsRound received
+  pub tells : Tells old new (on_link (receives received))
+
+-- a complete round
+pub record HasTurned (count : ℕ) (before after : KeptState) (old new : Option (List DeskCall)) (counted counts : Counts) : Type 0 where
+  pub round : Round
+  pub count_is : length round ≡ count
+  pub is_round : IsRound (received_in round)
+  pub tells : Tells old new (round_calls (place_of before) round)
+  pub counts_are : counts ≡ with_calls counted (link_calls (round_calls (place_of before) round))
+  pub place : place_of after ≡ after_receives (place_of before) (received_in round)
+  pub idle : after.round ≡ []
+
+-- a round that isn't answered
+pub record IsCutRound (most : ℕ) (at : Place) (old new : Option (List DeskCall)) : Type 0 where
+  pub received : List Received
+  pub cut : List DeskCall
+  pub within : length received ≤ most
+  pub unanswered : IsUnanswered at received cut
+  pub tells : Tells old new cut
+
+-- rounds of this many turns in all
+pub record HasServed (count : ℕ) (start at : Place) (old new : Option (List DeskCall)) (counts : Counts) : Type 0 where
+  pub rounds : List Round
+  pub are_rounds : AllByRecursion (λ round. IsRound (received_in round)) rounds
+  pub count_is : turns_in rounds ≡ count
+  pub tells : Tells old new (calls_of start rounds)
+  pub counts_are : counts ≡ counts_of (link_calls (calls_of start rounds))
+  pub at_is : at ≡ place_after start rounds
+
+-- rounds, and one that isn't answered
+pub record IsCutServing (most : ℕ) (start : Place) (old new : Option (List DeskCall)) : Type 0 where
+  pub rounds : List Round
+  pub received : List Received
+  pub cut : List DeskCall
+  pub are_rounds : AllByRecursion (λ round. IsRound (received_in round)) rounds
+  pub unanswered : IsUnanswered (place_after start rounds) received cut
+  pub within : turns_in rounds + length received ≤ most
+  pub tells : Tells old new (calls_of start rounds ++ cut)
+
+-- rounds of this many turns in all, whose counts are written
+pub record HasLived (count : ℕ) (start : Place) (old new : Option (List DeskCall)) (Writes : List ℕ → Type 0) : Type 0 where
+  pub rounds : List Round
+  pub are_rounds : AllByRecursion (λ round. IsRound (received_in round)) rounds
+  pub count_is : turns_in rounds ≡ count
+  pub tells : Tells old new (calls_of start rounds)
+  pub written : Writes (count_line (counts_of (link_calls (calls_of start rounds))))
+
+-- how rounds and their line stop
+abbrev pub ServingStops : ℕ → Place → (old new : Option (List DeskCall)) → (out_old out_new : Option (List ℕ)) → JournalEnd → Type 0
+ServingStops most start old new out_old out_new (Node NoMemory) = IsCutServing most start old new × (out_new ≡ out_old)
+ServingStops most start old new out_old out_new (Node WriteFault) = HasLived most start old new (AppendsFront out_old out_new)
+ServingStops most start old new out_old out_new JournalFault = IsCutServing most start old new × (out_new ≡ out_old)
+ServingStops most start old new out_old out_new _ = ⊥
+
+-- how rounds may stop
+abbrev pub IsServeEnd : JournalEnd → Type 0
+IsServeEnd end = (end ≡ Node NoMemory) ⊎ (end ≡ JournalFault)

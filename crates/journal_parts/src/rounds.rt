@@ -1,0 +1,178 @@
+//! Rounds: receives, the commit of what they changed, and then their answers.
+
+ghost use Rattle.std.specs.Prelude.{◌≡◌, ◌≤◌, ◌<◌, [], ◌∷◌, take, length, false, IfOk, IfErr, OnOk, OnErr, IsErrOf, MatchOption};
+ghost use Rattle.ft_io.specs.Faults.{Rose};
+ghost use Rattle.ft_io.specs.Told.{Tells};
+ghost use Rattle.disk.specs.CallRecord.{on_link};
+ghost use Rattle.link_parts.specs.Counts.{HasRoom, with_calls};
+ghost use Rattle.link_parts.specs.Receipt.{Received, datagram, received_as, IsQuiet};
+ghost use Rattle.seq_arith.specs.MessageGrammar.{reading};
+ghost use Rattle.logger_store.specs.StoreState.{answer_bytes};
+ghost use Rattle.kept_log.specs.JournaledLog.{is_full};
+ghost use Rattle.link_parts.specs.LoggerTurns.{answer_for};
+ghost use Rattle.journal_parts.specs.RoundParts.{place_of, with_bytes, HasTaken, HasGathered, IsCutGathering, HasTurned, IsCutRound, HasServed, IsCutServing, IsServeEnd};
+
+use crate::answers::{Answer, reply_to_all};
+use crate::status::JournalEnd;
+use disk::Desk;
+use ft_io::{Addr, Heard, NoMemory};
+use kept_log::KeptLog;
+use link_parts::Counts;
+use logger_store::MsgOut;
+use logger_wire::read_msg;
+use std::alloc::Global;
+
+/// The length of the buffer for a datagram, in bytes: no message is longer.
+const DATAGRAM_ROOM: usize = 2_048;
+
+/// The most turns of a round.
+const MOST: u32 = 256;
+
+/// Receives once. Returns the length of the datagram, which is at the beginning of the buffer, and its sender. `None`: no datagram. It waits only if `waits`.
+fn receive<K: Desk>(
+    desk: &mut K,
+    waits: bool,
+    buffer: &mut [u8],
+    counts: &mut Counts,
+) -> Option<(usize, Addr)>
+    requires room { 2048 ≤ length buffer.old }
+    requires counts { HasRoom 1 counts.old }
+    ensures received { (r : Received) × Tells (K.told desk.old) (K.told desk.new) (on_link (received_as r ∷ []))
+        × (counts.new ≡ with_calls counts.old (received_as r ∷ []))
+        × MatchOption result (IsQuiet r) (λ g. (g.0 ≤ length buffer.new) × (r ≡ datagram g.1 (take g.0 buffer.new))) }
+    ensures no_disk_fault { K.fault_count desk.new ≡ K.fault_count desk.old }
+    ensures no_bind_fault { (K.beside desk.new).bind_faults ≡ (K.beside desk.old).bind_faults }
+{
+    let heard = if waits {
+        desk.recv(buffer)
+    } else {
+        desk.recv_waiting(buffer)
+    };
+    counts.note_received(&heard);
+    match heard {
+        Ok(Heard::Got { len, from }) => Some((len, from)),
+        _ => None,
+    }
+}
+
+/// Applies to the log the message that the bytes spell, and returns the answer. Returns no bytes if there is no answer or the bytes are no message.
+fn answer(alloc: Global, kept: &mut KeptLog, bytes: &[u8]) -> Result<MsgOut, NoMemory>
+    requires { is_full kept.old ≡ false }
+    ensures next { OnOk result (kept.new ≡ with_bytes kept.old bytes.now) }
+    ensures answer { IfOk result (λ out. out ≡ answer_bytes (answer_for kept.old.log (reading bytes.now))) }
+{
+    let mut out = MsgOut::new();
+    if let Ok(m) = read_msg(bytes) {
+        kept.take(alloc, bytes, &m, &mut out)?;
+    }
+    Ok(out)
+}
+
+/// Receives once, and applies what arrived to the log. The answer waits for the commit. Returns whether a datagram arrived.
+fn take_next<K: Desk>(
+    alloc: Global,
+    desk: &mut K,
+    waits: bool,
+    kept: &mut KeptLog,
+    counts: &mut Counts,
+    answers: &mut Vec<Answer>,
+) -> Result<bool, NoMemory>
+    requires counts { HasRoom 1 counts.old }
+    requires room { is_full kept.old ≡ false }
+    ensures taken { IfOk result (λ more. HasTaken more kept.old kept.new (K.told desk.old) (K.told desk.new) counts.old counts.new answers.old.items answers.new.items) }
+    ensures cut_off { OnErr result ((r : Received) × Tells (K.told desk.old) (K.told desk.new) (on_link (received_as r ∷ []))) }
+    ensures no_disk_fault { K.fault_count desk.new ≡ K.fault_count desk.old }
+    ensures no_bind_fault { (K.beside desk.new).bind_faults ≡ (K.beside desk.old).bind_faults }
+{
+    let mut buffer = [0; DATAGRAM_ROOM];
+    let Some((len, to)) = receive(desk, waits, &mut buffer, counts) else {
+        return Ok(false);
+    };
+    let out = answer(alloc, kept, &buffer[..len])?;
+    answers.push(Answer { to, out })?;
+    Ok(true)
+}
+
+/// Makes the receives of a round: one that waits, then others until no datagram is there, a receive fails, there were `most`, or the block is full. Returns
+/// how many there were.
+fn gather<K: Desk>(
+    alloc: Global,
+    desk: &mut K,
+    kept: &mut KeptLog,
+    counts: &mut Counts,
+    answers: &mut Vec<Answer>,
+    most: u32,
+) -> Result<u32, NoMemory>
+    requires some { 1 ≤ most }
+    requires within { most ≤ 256 }
+    requires idle { kept.old.round ≡ [] }
+    requires counts { HasRoom 256 counts.old }
+    ensures count { IfOk result (λ count. (1 ≤ count) × (count ≤ most)) }
+    ensures gathered { IfOk result (λ count. HasGathered count kept.old kept.new (K.told desk.old) (K.told desk.new) counts.old counts.new answers.new.items) }
+    ensures cut_off { OnErr result (IsCutGathering most (K.told desk.old) (K.told desk.new)) }
+    ensures no_disk_fault { K.fault_count desk.new ≡ K.fault_count desk.old }
+    ensures no_bind_fault { (K.beside desk.new).bind_faults ≡ (K.beside desk.old).bind_faults }
+{
+    answers.clear();
+    for count in 0..most {
+        if kept.is_full() {
+            return Ok(count);
+        }
+        if !take_next(alloc, desk, count == 0, kept, counts, answers)? {
+            return Ok(count + 1);
+        }
+    }
+    Ok(most)
+}
+
+/// Takes a round of at most `most` turns: receives, commits, and then answers. Returns how many turns it had.
+pub(crate) fn take_round<K: Desk>(
+    alloc: Global,
+    desk: &mut K,
+    kept: &mut KeptLog,
+    counts: &mut Counts,
+    answers: &mut Vec<Answer>,
+    most: u32,
+) -> Result<u32, JournalEnd>
+    requires some { 1 ≤ most }
+    requires within { most ≤ 256 }
+    requires idle { kept.old.round ≡ [] }
+    requires counts { HasRoom 512 counts.old }
+    ensures count { IfOk result (λ count. (1 ≤ count) × (count ≤ most)) }
+    ensures turned { IfOk result (λ count. HasTurned count kept.old kept.new (K.told desk.old) (K.told desk.new) counts.old counts.new) }
+    ensures stopped { OnErr result (IsCutRound most (place_of kept.old) (K.told desk.old) (K.told desk.new)) }
+    ensures ends { IfErr result IsServeEnd }
+    ensures cause { IsErrOf result JournalEnd.JournalFault → Rose (K.fault_count desk.old) (K.fault_count desk.new) }
+    ensures never_falls { K.fault_count desk.old ≤ K.fault_count desk.new }
+    ensures no_bind_fault { (K.beside desk.new).bind_faults ≡ (K.beside desk.old).bind_faults }
+{
+    let count = gather(alloc, desk, kept, counts, answers, most)?;
+    kept.commit(alloc, desk)?;
+    reply_to_all(desk, answers, counts);
+    Ok(count)
+}
+
+/// Takes this many turns, in rounds, and returns the counts of their calls.
+pub(crate) fn serve<K: Desk>(
+    alloc: Global,
+    desk: &mut K,
+    kept: &mut KeptLog,
+    turns: u32,
+) -> Result<Counts, JournalEnd>
+    requires within { turns ≤ 1000000 }
+    requires idle { kept.old.round ≡ [] }
+    ensures served { IfOk result (λ counts. HasServed turns (place_of kept.old) (place_of kept.new) (K.told desk.old) (K.told desk.new) counts) }
+    ensures stopped { OnErr result (IsCutServing turns (place_of kept.old) (K.told desk.old) (K.told desk.new)) }
+    ensures ends { IfErr result IsServeEnd }
+    ensures cause { IsErrOf result JournalEnd.JournalFault → Rose (K.fault_count desk.old) (K.fault_count desk.new) }
+    ensures never_falls { K.fault_count desk.old ≤ K.fault_count desk.new }
+    ensures no_bind_fault { (K.beside desk.new).bind_faults ≡ (K.beside desk.old).bind_faults }
+{
+    let mut counts = Counts::new();
+    let mut answers = Vec::new(alloc);
+    let mut left = turns;
+    while left > 0 {
+        left -= take_round(alloc, desk, kept, &mut counts, &mut answers, left.min(MOST))?;
+    }
+    Ok(counts)
+}

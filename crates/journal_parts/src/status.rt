@@ -1,0 +1,118 @@
+//! How a logger with a journal ends.
+
+ghost use Rattle.std.specs.Prelude.{◌≡◌, ◌++◌, false, codes, decimal, OnOk, OnErr};
+ghost use Rattle.std.specs.Io.KnownBytes.{Appends};
+ghost use Rattle.ft_io.specs.Faults.{Rose};
+ghost use Rattle.ft_io.specs.Sink.{AppendsFront};
+ghost use Rattle.link_parts.specs.Ends.{is_fault_status};
+ghost use Rattle.link_parts.specs.declared.status.NodeEnd.TheVariants as node_ends;
+ghost use Rattle.journal_parts.specs.declared.status.JournalEnd.TheVariants as ends;
+ghost use Rattle.journal_parts.specs.Ends.{place_text, from_shelf, from_open, from_keep, TellsEnd, is_fault};
+
+use disk::ShelfEnd;
+use ft_io::{Failed, NoMemory, Sink, write_all};
+use itoa::Buffer;
+use kept_log::{KeepEnd, OpenEnd};
+use link_parts::{NodeEnd, Status};
+
+/// How a logger with a journal ends before its turns are done.
+#[derive(Clone, Copy)]
+pub enum JournalEnd {
+    /// An end that any role may have.
+    Node(NodeEnd),
+    /// A call on the journal's file failed.
+    JournalFault,
+    /// The file is no journal, or is damaged: `at`, in bytes, is where something begins that is neither a block nor the closed gate.
+    BadJournal { at: u64 },
+    /// Another process has the file open.
+    InUse,
+}
+
+impl From<NoMemory> for JournalEnd {
+    ghost from_gives = { λ _ e. e ≡ ends.Node node_ends.NoMemory };
+
+    fn from(_error: NoMemory) -> JournalEnd {
+        JournalEnd::Node(NodeEnd::NoMemory)
+    }
+}
+
+impl From<NodeEnd> for JournalEnd {
+    ghost from_gives = { λ end e. e ≡ ends.Node end };
+
+    fn from(end: NodeEnd) -> JournalEnd {
+        JournalEnd::Node(end)
+    }
+}
+
+impl From<ShelfEnd> for JournalEnd {
+    ghost from_gives = { λ end e. e ≡ from_shelf end };
+
+    fn from(end: ShelfEnd) -> JournalEnd {
+        match end {
+            ShelfEnd::Failed => JournalEnd::JournalFault,
+            ShelfEnd::InUse => JournalEnd::InUse,
+        }
+    }
+}
+
+impl From<OpenEnd> for JournalEnd {
+    ghost from_gives = { λ end e. e ≡ from_open end };
+
+    fn from(end: OpenEnd) -> JournalEnd {
+        match end {
+            OpenEnd::NoMemory => JournalEnd::Node(NodeEnd::NoMemory),
+            OpenEnd::Failed => JournalEnd::JournalFault,
+            OpenEnd::Wrong(at) => JournalEnd::BadJournal { at },
+        }
+    }
+}
+
+impl From<KeepEnd> for JournalEnd {
+    ghost from_gives = { λ end e. e ≡ from_keep end };
+
+    fn from(end: KeepEnd) -> JournalEnd {
+        match end {
+            KeepEnd::NoMemory => JournalEnd::Node(NodeEnd::NoMemory),
+            KeepEnd::Failed => JournalEnd::JournalFault,
+        }
+    }
+}
+
+/// Writes the line for a damaged file, with the place of the damage.
+fn write_place<E: Sink>(err: &mut E, at: u64) -> Result<(), Failed>
+    ensures whole { OnOk result (Appends (E.taken err.old) (E.taken err.new) (place_text at)) }
+    ensures front { OnErr result (AppendsFront (E.taken err.old) (E.taken err.new) (place_text at)) }
+    ensures cause { OnErr result (Rose (E.fault_count err.old) (E.fault_count err.new)) }
+    ensures no_fault { OnOk result (E.fault_count err.new ≡ E.fault_count err.old) }
+{
+    let mut number = Buffer::new();
+    write_all(err, b"ftnode: journal: byte ")?;
+    write_all(err, number.format(at).as_bytes())?;
+    write_all(err, b"\n")
+}
+
+/// The status of an end: 5 if its line couldn't be written.
+fn status_of(code: u8, written: Result<(), Failed>) -> Status
+    ensures ok { OnOk written (result.code ≡ code) }
+    ensures err { OnErr written (result.code ≡ 5) }
+{
+    match written {
+        Ok(()) => Status { code },
+        Err(Failed) => Status { code: 5 },
+    }
+}
+
+/// Writes the line of an end, and returns its status: 5 if that write failed.
+pub fn tell<E: Sink>(err: &mut E, end: JournalEnd) -> Status
+    ensures told { TellsEnd end (E.taken err.old) (E.taken err.new) (E.fault_count err.old) (E.fault_count err.new) result.code }
+    ensures early { result.code ≡ 0 → ⊥ }
+    ensures fault { is_fault_status result.code ≡ false → is_fault end ≡ false }
+    ensures no_fault { is_fault_status result.code ≡ false → E.fault_count err.new ≡ E.fault_count err.old }
+{
+    match end {
+        JournalEnd::Node(end) => link_parts::tell(err, end),
+        JournalEnd::JournalFault => status_of(11, write_all(err, b"ftnode: journal fault\n")),
+        JournalEnd::BadJournal { at } => status_of(12, write_place(err, at)),
+        JournalEnd::InUse => status_of(13, write_all(err, b"ftnode: journal in use\n")),
+    }
+}

@@ -1,0 +1,10 @@
+pub mod Calls
+pub mod ClientBeside
+pub mod ClientLimits
+pub mod ClientRunning
+pub mod Commanding
+pub mod Deciding
+pub mod Fronts
+pub mod Pairing
+pub mod LoggerRun
+pub mod Walking

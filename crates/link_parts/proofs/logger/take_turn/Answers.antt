@@ -1,0 +1,20 @@
+use Rattle.std.proofs.Common.{◌≡◌, take}
+use Rattle.link_parts.specs.Receipt.{datagram}
+use Rattle.link_parts.proofs.LoggerRun.{quiet, replied}
+use Rattle.link_parts.proofs.logger.take_turn.Goals as goal
+
+pub returns-in_default-clause-turned : goal.returns-in_default-clause-turned
+returns-in_default-clause-turned g c =
+    let r = c.in_default.ensures.received in
+    quiet c.args.store.now (g.L.Link.told c.args.link.now) (g.L.Link.told c.receive.new.link) c.args.counts.now c.receive.new.counts r.0 r.1 r.2 r.3
+
+pub returns-clause-turned : goal.returns-clause-turned
+returns-clause-turned g c =
+    let r = c.in-Some.ensures.received in
+    let came = r.3.1 in
+    let len = c.in-Some.len-is in
+    let from = c.in-Some.from-is in
+    let is : r.0 ≡ datagram c.in-Some.from (take c.in-Some.len c.receive.new.buffer) = cc in
+    replied c.args.store.now c.answer.new.store (g.L.Link.told c.args.link.now) (g.L.Link.told c.receive.new.link) (g.L.Link.told c.reply.new.link) c.args.counts.now
+    c.receive.new.counts c.reply.new.counts r.0 c.in-Some.from (take c.in-Some.len c.receive.new.buffer) c.in_ok-answer.answer r.1 r.2 is c.in_ok-answer.ensures.next
+    c.in_ok-answer.ensures.answer c.reply.ensures.replies

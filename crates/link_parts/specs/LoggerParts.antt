@@ -1,0 +1,80 @@
+-- What a logger's parts do in a turn.
+use Rattle.std.specs.Prelude.{◌≡◌, ◌⊎◌, ℕ, Bool, Option, List, [], ◌∷◌, ◌++◌, ◌≤◌, length}
+use Rattle.ft_io.specs.declared.Addr.{Addr}
+use Rattle.ft_io.specs.declared.link_call.LinkCall.{LinkCall}
+use Rattle.ft_io.specs.declared.link_call.LinkCall.TheVariants.{Bound, Came, Handed}
+use Rattle.ft_io.specs.Told.{Tells}
+use Rattle.ft_model.specs.Log.{Log}
+use Rattle.link_parts.specs.declared.counts.Counts.{Counts}
+use Rattle.link_parts.specs.Counts.{with_calls, counts_of, count_line}
+use Rattle.link_parts.specs.declared.role.LoggerRole.{LoggerRole}
+use Rattle.link_parts.specs.declared.status.NodeEnd.{NodeEnd}
+use Rattle.link_parts.specs.declared.status.NodeEnd.TheVariants.{LinkFault, NoMemory, WriteFault}
+use Rattle.ft_io.specs.Sink.{AppendsFront}
+use Rattle.link_parts.specs.LoggerTurns.{LoggerTurn, log_then, turn_calls, log_at, calls_of}
+
+-- bytes are handed to send, unless there are none
+abbrev pub handing_bytes : Addr → Bool → List ℕ → List LinkCall
+handing_bytes to is_lost [] = []
+handing_bytes to is_lost (b ∷ bytes) = Handed to (b ∷ bytes) is_lost ∷ []
+
+pub record Replies (to : Addr) (bytes : List ℕ) (old new : Option (List LinkCall)) (before after : Counts) : Type 0 where
+  pub is_lost : Bool
+  pub tells : Tells old new (handing_bytes to is_lost bytes)
+  pub counts : after ≡ with_calls before (handing_bytes to is_lost bytes)
+
+-- a turn that was cut off because an allocation failed: its datagram came, and no answer was sent
+abbrev pub IsCutOff : List LinkCall → Type 0
+IsCutOff calls = (from : Addr) × (bytes : List ℕ) × (calls ≡ Came from bytes ∷ [])
+
+-- a whole turn
+pub record HasTurned (before after : Log) (old new : Option (List LinkCall)) (counted counts : Counts) : Type 0 where
+  pub turn : LoggerTurn
+  pub tells : Tells old new (turn_calls before turn)
+  pub log : after ≡ log_then before turn.received
+  pub counts_are : counts ≡ with_calls counted (turn_calls before turn)
+
+-- so many turns were done
+pub record HasServed (count : ℕ) (old new : Option (List LinkCall)) (log : Log) (counts : Counts) : Type 0 where
+  pub turns : List LoggerTurn  -- the newest first
+  pub count_is : length turns ≡ count
+  pub tells : Tells old new (calls_of turns)
+  pub log_is : log ≡ log_at turns
+  pub counts_are : counts ≡ counts_of (calls_of turns)
+
+-- the same, whatever the log
+pub record HasCounted (count : ℕ) (old new : Option (List LinkCall)) (counts : Counts) : Type 0 where
+  pub turns : List LoggerTurn
+  pub count_is : length turns ≡ count
+  pub tells : Tells old new (calls_of turns)
+  pub counts_are : counts ≡ counts_of (calls_of turns)
+
+-- at most so many turns were done, and then one was cut off, or none
+pub record IsCutServing (most : ℕ) (old new : Option (List LinkCall)) : Type 0 where
+  pub turns : List LoggerTurn
+  pub cut : List LinkCall
+  pub within : length turns ≤ most
+  pub cut_off : (cut ≡ []) ⊎ IsCutOff cut
+  pub tells : Tells old new (calls_of turns ++ cut)
+
+-- A logger's whole life: it bound to its address, and then did its turns. What is written are the counts of their calls.
+pub record IsLogger (role : LoggerRole) (old new : Option (List LinkCall)) (Writes : List ℕ → Type 0) : Type 0 where
+  pub turns : List LoggerTurn
+  pub count_is : length turns ≡ role.turns
+  pub tells : Tells old new (Bound role.local ∷ calls_of turns)
+  pub written : Writes (count_line (counts_of (calls_of turns)))
+
+-- a life that ended because an allocation failed
+pub record IsCutLogger (role : LoggerRole) (old new : Option (List LinkCall)) : Type 0 where
+  pub turns : List LoggerTurn
+  pub cut : List LinkCall
+  pub within : length turns ≤ role.turns
+  pub cut_off : (cut ≡ []) ⊎ IsCutOff cut
+  pub tells : Tells old new (Bound role.local ∷ (calls_of turns ++ cut))
+
+-- how a logger stops early: nothing was written where the bind failed, and a prefix of the line where a write did
+abbrev pub LoggerStops : LoggerRole → (old new : Option (List LinkCall)) → (out_old out_new : Option (List ℕ)) → NodeEnd → Type 0
+LoggerStops role old new out_old out_new LinkFault = Tells old new [] × (out_new ≡ out_old)
+LoggerStops role old new out_old out_new NoMemory = IsCutLogger role old new × (out_new ≡ out_old)
+LoggerStops role old new out_old out_new WriteFault = IsLogger role old new (AppendsFront out_old out_new)
+LoggerStops role old new out_old out_new _ = ⊥

@@ -1,0 +1,130 @@
+//! The logger: a log that answers over a link. Each turn is one receive and the answer to what came, which is handed to send before the next receive.
+
+ghost use Rattle.std.specs.Prelude.{List, ◌≡◌, ◌≤◌, [], ◌∷◌, OnOk, OnErr, IfOk, IfErr, IsErrOf};
+ghost use Rattle.std.specs.Io.KnownBytes.{Appends};
+ghost use Rattle.ft_io.specs.Faults.{Rose};
+ghost use Rattle.seq_arith.specs.MessageGrammar.{reading};
+ghost use Rattle.ft_io.specs.Told.{Tells};
+ghost use Rattle.ft_io.specs.declared.link_call.LinkCall.{LinkCall};
+ghost use Rattle.ft_io.specs.declared.link_call.LinkCall.TheVariants.{Bound};
+ghost use Rattle.std.specs.declared.option.Option.{Option};
+ghost use Rattle.logger_store.specs.StoreState.{answer_bytes, IsAnswer};
+ghost use Rattle.link_parts.specs.Counts.{HasRoom};
+ghost use Rattle.link_parts.specs.Ends.{UnlessFault};
+ghost use Rattle.link_parts.specs.LoggerTurns.{log_with, answer_for};
+ghost use Rattle.link_parts.specs.LoggerParts.{HasTurned, IsCutOff, Replies, HasCounted, IsCutServing, IsLogger, LoggerStops};
+
+use crate::counts::{Counts, tell_counts};
+use crate::receiving::{DATAGRAM_ROOM, receive};
+use crate::role::LoggerRole;
+use crate::status::NodeEnd;
+use ft_io::{Addr, Failed, Link, NoMemory, Sink};
+use logger_store::{LogStore, MsgOut};
+use logger_wire::read_msg;
+use std::alloc::Global;
+
+/// Applies to the log the message that the bytes spell, and returns the answer. Returns no bytes if there is no answer or the bytes are no message.
+fn answer(alloc: Global, store: &mut LogStore, bytes: &[u8]) -> Result<MsgOut, NoMemory>
+    ensures next { OnOk result (store.new ≡ log_with store.old (reading bytes.now)) }
+    ensures answer { IfOk result (λ out. out ≡ answer_bytes (answer_for store.old (reading bytes.now))) }
+{
+    let mut out = MsgOut::new();
+    if let Ok(m) = read_msg(bytes) {
+        store.answer(alloc, &m, &mut out)?;
+    }
+    Ok(out)
+}
+
+/// Hands an answer to send, if it has bytes.
+fn reply<L: Link>(link: &mut L, to: Addr, answer: &MsgOut, counts: &mut Counts)
+    requires { HasRoom 1 counts.old }
+    ensures replies { Replies to answer.now (L.told link.old) (L.told link.new) counts.old counts.new }
+    ensures no_bind_fault { L.bind_fault_count link.new ≡ L.bind_fault_count link.old }
+{
+    let bytes = answer.bytes();
+    if bytes.is_empty() {
+        return;
+    }
+    let sent = link.send(to, bytes);
+    counts.note_sent(&sent);
+}
+
+/// Takes one turn: receives once, and sends the answer to what came.
+fn take_turn<L: Link>(
+    alloc: Global,
+    link: &mut L,
+    store: &mut LogStore,
+    counts: &mut Counts,
+) -> Result<(), NoMemory>
+    requires { HasRoom 2 counts.old }
+    ensures turned { OnOk result (HasTurned store.old store.new (L.told link.old) (L.told link.new) counts.old counts.new) }
+    ensures cut_off { OnErr result ((calls : List LinkCall) × IsCutOff calls × Tells (L.told link.old) (L.told link.new) calls) }
+    ensures no_bind_fault { L.bind_fault_count link.new ≡ L.bind_fault_count link.old }
+{
+    let mut buffer = [0; DATAGRAM_ROOM];
+    let Some((len, from)) = receive(link, &mut buffer, counts) else {
+        return Ok(());
+    };
+    let answer = answer(alloc, store, &buffer[..len])?;
+    reply(link, from, &answer, counts);
+    Ok(())
+}
+
+/// Takes this many turns, beginning with an empty log, and returns the counts of their calls.
+fn serve<L: Link>(alloc: Global, link: &mut L, turns: u32) -> Result<Counts, NoMemory>
+    requires { turns ≤ 1000000 }
+    ensures served { IfOk result (λ counts. HasCounted turns (L.told link.old) (L.told link.new) counts) }
+    ensures cut_off { OnErr result (IsCutServing turns (L.told link.old) (L.told link.new)) }
+    ensures no_bind_fault { L.bind_fault_count link.new ≡ L.bind_fault_count link.old }
+{
+    let mut store = LogStore::new(alloc);
+    let mut counts = Counts::new();
+    for _turn in 0..turns {
+        take_turn(alloc, link, &mut store, &mut counts)?;
+    }
+    Ok(counts)
+}
+
+/// Runs a logger after its bind: takes its turns, and writes the line of the counts.
+fn serve_and_tell<L: Link, O: Sink>(
+    alloc: Global,
+    role: &LoggerRole,
+    link: &mut L,
+    out: &mut O,
+) -> Result<(), NodeEnd>
+    requires { role.now.turns ≤ 1000000 }
+    ensures done { OnOk result ((before : Option (List LinkCall)) → Tells before (L.told link.old) (Bound role.now.local ∷ [])
+        → IsLogger role.now before (L.told link.new) (Appends (O.taken out.old) (O.taken out.new))) }
+    ensures stops { IfErr result (λ end. (before : Option (List LinkCall)) → Tells before (L.told link.old) (Bound role.now.local ∷ [])
+        → LoggerStops role.now before (L.told link.new) (O.taken out.old) (O.taken out.new) end) }
+    ensures write_cause { IsErrOf result NodeEnd.WriteFault → Rose (O.fault_count out.old) (O.fault_count out.new) }
+    ensures bound { IsErrOf result NodeEnd.LinkFault → ⊥ }
+    ensures no_bind_fault { L.bind_fault_count link.new ≡ L.bind_fault_count link.old }
+    ensures no_write_fault { UnlessFault result (O.fault_count out.new ≡ O.fault_count out.old) }
+{
+    match serve(alloc, link, role.turns) {
+        Err(NoMemory) => Err(NodeEnd::NoMemory),
+        Ok(counts) => tell_counts(alloc, &counts, out),
+    }
+}
+
+/// Runs a logger: binds, takes its turns, and writes the counts of their calls.
+pub fn run_logger<L: Link, O: Sink>(
+    alloc: Global,
+    role: &LoggerRole,
+    link: &mut L,
+    out: &mut O,
+) -> Result<(), NodeEnd>
+    requires { role.now.turns ≤ 1000000 }
+    ensures done { OnOk result (IsLogger role.now (L.told link.old) (L.told link.new) (Appends (O.taken out.old) (O.taken out.new))) }
+    ensures stops { IfErr result (LoggerStops role.now (L.told link.old) (L.told link.new) (O.taken out.old) (O.taken out.new)) }
+    ensures bind_cause { IsErrOf result NodeEnd.LinkFault → Rose (L.bind_fault_count link.old) (L.bind_fault_count link.new) }
+    ensures write_cause { IsErrOf result NodeEnd.WriteFault → Rose (O.fault_count out.old) (O.fault_count out.new) }
+    ensures no_bind_fault { UnlessFault result (L.bind_fault_count link.new ≡ L.bind_fault_count link.old) }
+    ensures no_write_fault { UnlessFault result (O.fault_count out.new ≡ O.fault_count out.old) }
+{
+    match link.bind(role.local) {
+        Err(Failed) => Err(NodeEnd::LinkFault),
+        Ok(()) => serve_and_tell(alloc, role, link, out),
+    }
+}

@@ -1,0 +1,401 @@
+//! What the words ask for: a role, and the values of its options.
+
+ghost use Rattle.std.specs.Prelude.{◌≡◌, ◌≤◌, List, map, string_bytes, option_map, IfOk, IfSome};
+ghost use Rattle.link_parts.specs.declared.role.Role.TheVariants as roles;
+ghost use Rattle.link_parts.specs.Options.{Use, HasValues};
+ghost use Rattle.link_parts.specs.Ranges.{ServerInRange, IsShort, ClientInRange, InRange};
+ghost use Rattle.link_parts.specs.Roles.{addr_at as addr_lem, number_at as number_lem, service_at as service_lem, script_at as script_lem};
+ghost use Rattle.link_parts.specs.Roles.{program_at as program_lem};
+ghost use Rattle.link_parts.specs.Roles.{loggers_in, server_with as server_lem, server_in, own_server_in, logger_in, client_in, pair_in};
+ghost use Rattle.link_parts.specs.Roles.{server_of, own_server_of, logger_of, client_of, pair_of, role_of, own_role_of};
+ghost use Rattle.link_parts.specs.OwnRoles.{as_role};
+ghost use Rattle.link_parts.specs.ServiceNumber.{kind_in};
+
+use crate::options::{OptionName, read_options};
+use crate::program::Program;
+use clap::ArgMatches;
+use ft_io::{Addr, NoMemory};
+use ft_model::{Script, ServiceKind};
+use schedule_text::{read_addr, read_number, read_script, read_service};
+use std::alloc::Global;
+
+const SERVER_OPTIONS: [OptionName; 7] = [
+    OptionName::Local,
+    OptionName::Logger,
+    OptionName::SecondLogger,
+    OptionName::Service,
+    OptionName::Boot,
+    OptionName::Isn,
+    OptionName::Turns,
+];
+
+const OWN_SERVER_OPTIONS: [OptionName; 5] = [
+    OptionName::Local,
+    OptionName::Logger,
+    OptionName::Boot,
+    OptionName::Isn,
+    OptionName::Turns,
+];
+
+const LOGGER_OPTIONS: [OptionName; 2] = [OptionName::Local, OptionName::Turns];
+
+const CLIENT_OPTIONS: [OptionName; 5] = [
+    OptionName::Local,
+    OptionName::Server,
+    OptionName::Isn,
+    OptionName::Turns,
+    OptionName::Script,
+];
+
+const PAIR_OPTIONS: [OptionName; 5] = [
+    OptionName::Program,
+    OptionName::Base,
+    OptionName::First,
+    OptionName::Second,
+    OptionName::Turns,
+];
+
+/// The last port for a pair's server: the two after it are the logger's and the client's.
+const LAST_BASE: u64 = 65_533;
+
+/// The most turns of a role.
+const TURN_LIMIT: u64 = 1_000_000;
+
+/// The loggers of a server: one, or two that act as one.
+#[derive(Clone, Copy)]
+pub struct Loggers {
+    /// The one logger, or the first of two.
+    pub first: Addr,
+    pub second: Option<Addr>,
+}
+
+/// An incarnation of the server.
+#[derive(Clone, Copy)]
+pub struct ServerRole {
+    /// Its own address and port.
+    pub local: Addr,
+    /// The addresses of its logger, or of both.
+    pub loggers: Loggers,
+    /// The service: one of the four, or None where the program has a service of its own.
+    pub service: Option<ServiceKind>,
+    /// The boot number, at least 1.
+    pub boot: u64,
+    /// The number from which its connections' initial sequence numbers are counted.
+    pub isn: u32,
+    /// How many turns it takes, 1 to 1,000,000.
+    pub turns: u32,
+}
+
+/// A logger that starts with an empty log.
+#[derive(Clone, Copy)]
+pub struct LoggerRole {
+    /// Its own address and port.
+    pub local: Addr,
+    /// How many turns it takes, 1 to 1,000,000.
+    pub turns: u32,
+}
+
+/// A client that sends a script.
+#[derive(Drop)]
+pub struct ClientRole {
+    /// Its own address and port.
+    pub local: Addr,
+    /// The server's address and port.
+    pub server: Addr,
+    /// Its initial sequence number.
+    pub isn: u32,
+    /// The most turns that it takes, 1 to 1,000,000.
+    pub turns: u32,
+    /// The bytes that it sends. `None`: it reads them from the input.
+    pub script: Option<Script>,
+}
+
+/// Two servers, one after the other, with a logger and a client, each a process.
+#[derive(Drop)]
+pub struct PairRole {
+    /// The program of every child.
+    pub program: Program,
+    /// The server's port, 1 to 65,533. The next one is the logger's, and the one after that the client's.
+    pub base: u16,
+    /// The turns of the first server, 1 to 1,000,000.
+    pub first: u32,
+    /// The turns of the second server, 1 to 1,000,000.
+    pub second: u32,
+    /// The turns of the logger, and of the client, 1 to 1,000,000.
+    pub turns: u32,
+}
+
+impl ServerRole {
+    /// Returns the number of the service's kind, or 0 where the program has a service of its own.
+    pub fn kind(&self) -> u8
+        ensures { result ≡ kind_in self.now.service }
+    {
+        match self.service {
+            Some(service) => service.number(),
+            None => 0,
+        }
+    }
+}
+
+/// The role of a process.
+#[derive(Drop)]
+pub enum Role {
+    Server(ServerRole),
+    Logger(LoggerRole),
+    Client(ClientRole),
+    Pair(PairRole),
+}
+
+/// The role of a process whose program has a service of its own.
+#[derive(Clone, Copy)]
+pub enum OwnRole {
+    Server(ServerRole),
+    Logger(LoggerRole),
+}
+
+/// Returns the address that an option gives, or `None` where the option is missing or its value spells no address.
+pub fn addr_at(matches: &ArgMatches<'_>, option: OptionName) -> Option<Addr>
+    ensures { (uses : List Use) → HasValues uses matches.now → result ≡ addr_lem uses option }
+{
+    read_addr(matches.get_str(option.word())?.as_bytes())
+}
+
+fn number_at(matches: &ArgMatches<'_>, option: OptionName, least: u64, most: u64) -> Option<u64>
+    ensures value { (uses : List Use) → HasValues uses matches.now → result ≡ number_lem least most uses option }
+    ensures range { IfSome result (λ n. (least ≤ n) × (n ≤ most)) }
+{
+    read_number(matches.get_str(option.word())?.as_bytes(), least, most)
+}
+
+fn service_at(matches: &ArgMatches<'_>, option: OptionName) -> Option<ServiceKind>
+    ensures { (uses : List Use) → HasValues uses matches.now → result ≡ service_lem uses option }
+{
+    read_service(matches.get_str(option.word())?.as_bytes())
+}
+
+/// Returns the script, if one is given. The outer `None`: the word spells no script.
+fn script_at(
+    alloc: Global,
+    matches: &ArgMatches<'_>,
+    option: OptionName,
+) -> Result<Option<Option<Script>>, NoMemory>
+    ensures short { IfOk result (λ given. IfSome given (λ script. IfSome script IsShort)) }
+    ensures value { IfOk result (λ script. (uses : List Use) → HasValues uses matches.now → script ≡ script_lem uses option) }
+{
+    let Some(word) = matches.get_str(option.word()) else {
+        return Ok(Some(None));
+    };
+    match read_script(alloc, word.as_bytes())? {
+        Some(script) => Ok(Some(Some(script))),
+        None => Ok(None),
+    }
+}
+
+/// Returns the program, or `None` where no word names one.
+fn program_at(
+    alloc: Global,
+    matches: &ArgMatches<'_>,
+    option: OptionName,
+) -> Result<Option<Program>, NoMemory>
+    ensures { IfOk result (λ program. (uses : List Use) → HasValues uses matches.now → program ≡ program_lem uses option) }
+{
+    match matches.get_str(option.word()) {
+        Some(word) => Program::read(alloc, word),
+        None => Ok(None),
+    }
+}
+
+/// Returns the loggers, or `None` where the first is missing or a word spells no address.
+fn loggers_at(matches: &ArgMatches<'_>) -> Option<Loggers>
+    ensures { (uses : List Use) → HasValues uses matches.now → result ≡ loggers_in uses }
+{
+    let first = addr_at(matches, OptionName::Logger)?;
+    match matches.get_str(OptionName::SecondLogger.word()) {
+        None => Some(Loggers {
+            first,
+            second: None,
+        }),
+        Some(word) => Some(Loggers {
+            first,
+            second: Some(read_addr(word.as_bytes())?),
+        }),
+    }
+}
+
+fn server_with(matches: &ArgMatches<'_>, service: Option<ServiceKind>) -> Option<ServerRole>
+    ensures range { IfSome result (λ role. ServerInRange role) }
+    ensures value { (uses : List Use) → HasValues uses matches.now → result ≡ server_lem uses service }
+{
+    Some(ServerRole {
+        local: addr_at(matches, OptionName::Local)?,
+        loggers: loggers_at(matches)?,
+        service,
+        boot: number_at(matches, OptionName::Boot, 1, u64::MAX)?,
+        isn: number_at(matches, OptionName::Isn, 0, u64::from(u32::MAX))? as u32,
+        turns: number_at(matches, OptionName::Turns, 1, TURN_LIMIT)? as u32,
+    })
+}
+
+fn server_role(matches: &ArgMatches<'_>) -> Option<ServerRole>
+    ensures range { IfSome result (λ role. ServerInRange role) }
+    ensures value { (uses : List Use) → HasValues uses matches.now → result ≡ server_in uses }
+{
+    let service = service_at(matches, OptionName::Service)?;
+    server_with(matches, Some(service))
+}
+
+/// Returns the role of a logger with these values of its options, or `None` where a value is missing or isn't allowed.
+pub fn logger_role(matches: &ArgMatches<'_>) -> Option<LoggerRole>
+    ensures range { IfSome result (λ role. role.turns ≤ 1000000) }
+    ensures value { (uses : List Use) → HasValues uses matches.now → result ≡ logger_in uses }
+{
+    Some(LoggerRole {
+        local: addr_at(matches, OptionName::Local)?,
+        turns: number_at(matches, OptionName::Turns, 1, TURN_LIMIT)? as u32,
+    })
+}
+
+fn client_role(alloc: Global, matches: &ArgMatches<'_>) -> Result<Option<ClientRole>, NoMemory>
+    ensures range { IfOk result (λ role. IfSome role (λ r. ClientInRange r)) }
+    ensures value { IfOk result (λ role. (uses : List Use) → HasValues uses matches.now → role ≡ client_in uses) }
+{
+    let script = script_at(alloc, matches, OptionName::Script)?;
+    Ok(client_with(matches, script))
+}
+
+fn client_with(matches: &ArgMatches<'_>, script: Option<Option<Script>>) -> Option<ClientRole>
+    requires { IfSome script (λ given. IfSome given IsShort) }
+    ensures range { IfSome result (λ role. ClientInRange role) }
+    ensures value { (uses : List Use) → HasValues uses matches.now → script ≡ script_lem uses OptionName.Script → result ≡ client_in uses }
+{
+    Some(ClientRole {
+        local: addr_at(matches, OptionName::Local)?,
+        server: addr_at(matches, OptionName::Server)?,
+        isn: number_at(matches, OptionName::Isn, 0, u64::from(u32::MAX))? as u32,
+        turns: number_at(matches, OptionName::Turns, 1, TURN_LIMIT)? as u32,
+        script: script?,
+    })
+}
+
+fn pair_role(alloc: Global, matches: &ArgMatches<'_>) -> Result<Option<PairRole>, NoMemory>
+    ensures range { IfOk result (λ role. IfSome role (λ r. r.base ≤ 65533)) }
+    ensures value { IfOk result (λ role. (uses : List Use) → HasValues uses matches.now → role ≡ pair_in uses) }
+{
+    let program = program_at(alloc, matches, OptionName::Program)?;
+    Ok(pair_with(matches, program))
+}
+
+fn pair_with(matches: &ArgMatches<'_>, program: Option<Program>) -> Option<PairRole>
+    ensures range { IfSome result (λ role. role.base ≤ 65533) }
+    ensures value { (uses : List Use) → HasValues uses matches.now → program ≡ program_lem uses OptionName.Program → result ≡ pair_in uses }
+{
+    Some(PairRole {
+        program: program?,
+        base: number_at(matches, OptionName::Base, 1, LAST_BASE)? as u16,
+        first: number_at(matches, OptionName::First, 1, TURN_LIMIT)? as u32,
+        second: number_at(matches, OptionName::Second, 1, TURN_LIMIT)? as u32,
+        turns: number_at(matches, OptionName::Turns, 1, TURN_LIMIT)? as u32,
+    })
+}
+
+#[tactic(auto, unfolding(crate::specs::Roles::server_of))]
+fn read_server(alloc: Global, words: &[String]) -> Result<Option<Role>, NoMemory>
+    ensures role { IfOk result (λ role. role ≡ server_of (map string_bytes words.now)) }
+    ensures range { IfOk result (λ role. IfSome role InRange) }
+{
+    let Some(matches) = read_options(alloc, &SERVER_OPTIONS, words)? else {
+        return Ok(None);
+    };
+    Ok(server_role(&matches).map(Role::Server))
+}
+
+#[tactic(auto, unfolding(crate::specs::Roles::own_server_of))]
+fn read_own_server(alloc: Global, words: &[String]) -> Result<Option<ServerRole>, NoMemory>
+    ensures role { IfOk result (λ role. option_map roles.Server role ≡ own_server_of (map string_bytes words.now)) }
+    ensures range { IfOk result (λ role. IfSome role ServerInRange) }
+{
+    match read_options(alloc, &OWN_SERVER_OPTIONS, words)? {
+        Some(matches) => Ok(server_with(&matches, None)),
+        None => Ok(None),
+    }
+}
+
+#[tactic(auto, unfolding(crate::specs::Roles::logger_of))]
+fn read_logger(alloc: Global, words: &[String]) -> Result<Option<LoggerRole>, NoMemory>
+    ensures role { IfOk result (λ role. option_map roles.Logger role ≡ logger_of (map string_bytes words.now)) }
+    ensures range { IfOk result (λ role. IfSome role (λ r. r.turns ≤ 1000000)) }
+{
+    match read_options(alloc, &LOGGER_OPTIONS, words)? {
+        Some(matches) => Ok(logger_role(&matches)),
+        None => Ok(None),
+    }
+}
+
+#[tactic(auto, unfolding(crate::specs::Roles::client_of))]
+fn read_client(alloc: Global, words: &[String]) -> Result<Option<Role>, NoMemory>
+    ensures role { IfOk result (λ role. role ≡ client_of (map string_bytes words.now)) }
+    ensures range { IfOk result (λ role. IfSome role InRange) }
+{
+    let Some(matches) = read_options(alloc, &CLIENT_OPTIONS, words)? else {
+        return Ok(None);
+    };
+    match client_role(alloc, &matches)? {
+        Some(role) => Ok(Some(Role::Client(role))),
+        None => Ok(None),
+    }
+}
+
+#[tactic(auto, unfolding(crate::specs::Roles::pair_of))]
+fn read_pair(alloc: Global, words: &[String]) -> Result<Option<Role>, NoMemory>
+    ensures role { IfOk result (λ role. role ≡ pair_of (map string_bytes words.now)) }
+    ensures range { IfOk result (λ role. IfSome role InRange) }
+{
+    let Some(matches) = read_options(alloc, &PAIR_OPTIONS, words)? else {
+        return Ok(None);
+    };
+    match pair_role(alloc, &matches)? {
+        Some(role) => Ok(Some(Role::Pair(role))),
+        None => Ok(None),
+    }
+}
+
+/// Reads a role from the words: its name, then its options in any order, each as `--NAME VALUE` or `--NAME=VALUE`. Returns `None` where the words
+/// aren't allowed.
+#[tactic(auto, unfolding(crate::specs::Roles::role_of))]
+pub fn read_role(alloc: Global, words: &[String]) -> Result<Option<Role>, NoMemory>
+    ensures role { IfOk result (λ role. role ≡ role_of (map string_bytes words.now)) }
+    ensures range { IfOk result (λ role. IfSome role InRange) }
+{
+    let Some((name, words)) = words.split_first() else {
+        return Ok(None);
+    };
+    match name.as_str() {
+        "server" => read_server(alloc, words),
+        "logger" => Ok(read_logger(alloc, words)?.map(Role::Logger)),
+        "client" => read_client(alloc, words),
+        "pair" => read_pair(alloc, words),
+        _ => Ok(None),
+    }
+}
+
+/// Reads the role of a program with a service of its own. The words are those of a server, without `--service` and `--second`, or those of a logger.
+#[tactic(auto, unfolding(crate::specs::Roles::own_role_of))]
+pub fn read_own_role(alloc: Global, words: &[String]) -> Result<Option<OwnRole>, NoMemory>
+    ensures role { IfOk result (λ role. option_map as_role role ≡ own_role_of (map string_bytes words.now)) }
+    ensures range { IfOk result (λ role. IfSome role (λ r. InRange (as_role r))) }
+{
+    let Some((name, words)) = words.split_first() else {
+        return Ok(None);
+    };
+    match name.as_str() {
+        "server" => match read_own_server(alloc, words)? {
+            Some(role) => Ok(Some(OwnRole::Server(role))),
+            None => Ok(None),
+        },
+        "logger" => match read_logger(alloc, words)? {
+            Some(role) => Ok(Some(OwnRole::Logger(role))),
+            None => Ok(None),
+        },
+        _ => Ok(None),
+    }
+}
