@@ -12,11 +12,11 @@
 
 use anyhow::{Context, Result, bail};
 use ft_io::{read_to_limit, write_all};
-use ft_system::{ReadSource, WriteSink};
+use ft_system::{MemSink, MemSource, ReadSource, WriteSink};
 use journal_link::run_ftnode;
 use memchr::memmem;
-use replay_script::is_ftreplay;
-use replay_tool::run_ftreplay;
+use replay_script::{Tool, is_ftreplay};
+use replay_tool::{replay, run_ftreplay};
 use std::alloc::Global;
 use std::fs::{File, Files};
 use std::net::Net;
@@ -125,7 +125,7 @@ fn play<R: AllocGlobal + Env + Print + Eprint + Net + Clock + Files<File = File>
         "connection" => connection_script::run(alloc, &mut said),
         "link" => link_script::run(rt, lines_of(text)?, &mut said),
         "node" => node_script::run(alloc, lines_of(text)?, &mut said),
-        "replay" => replay_script::run(rt, lines_of(text)?, &mut said),
+        "replay" => replay_script::run::<Ftreplay, _>(rt, lines_of(text)?, &mut said),
         "own" => Ok(play_own(alloc, text, &mut said)),
         "bench" => return play_commands(rt, lines_of(text)?),
         _ => {
@@ -145,6 +145,21 @@ fn play<R: AllocGlobal + Env + Print + Eprint + Net + Clock + Files<File = File>
 /// The lines of a script.
 fn lines_of(text: &[u8]) -> Result<&str> {
     str::from_utf8(text).context("the script isn't UTF-8")
+}
+
+/// `ftreplay`, as `replay_script` plays it over memory.
+struct Ftreplay;
+
+impl Tool for Ftreplay {
+    fn replay(
+        alloc: Global,
+        words: &[String],
+        input: &mut MemSource,
+        report: &mut MemSink,
+        err: &mut MemSink,
+    ) -> u8 {
+        replay(alloc, words, input, report, err).code
+    }
 }
 
 /// Plays a schedule with the service of `own_service`, and says what is written of it. The status, which is 0.

@@ -1,5 +1,5 @@
-//! Schedules that `replay` plays over memory, by the lines of a script: it is said what was written and how that ended. A line that begins with `=` says what is
-//! done with the lines after it, up to the next such line:
+//! Schedules that `ftreplay` plays over memory, by the lines of a script: it is said what was written and how that ended. The program passes `ftreplay` as a
+//! [`Tool`]. A line that begins with `=` says what is done with the lines after it, up to the next such line:
 //!
 //! - `= play NAME WORDS READ OUT ERR LAST` plays them as the text of a schedule, with these words, joined by `~`; READ, OUT and ERR number the call of the
 //!   source, of the sink of the report and of that of the errors that fails, 0 for none. Printed are the status, what was written to the sink of the errors,
@@ -15,6 +15,7 @@
 #![tactic(auto)]
 
 use ft_io::NoMemory;
+pub use playing::Tool;
 use playing::{play, play_checked};
 pub use shell::is_ftreplay;
 use shell::run_script;
@@ -40,9 +41,14 @@ struct Script {
 
 impl Script {
     /// A line: the next order, or one of the text.
-    fn take(&mut self, alloc: Global, line: &str, said: &mut Said) -> Result<(), NoMemory> {
+    fn take<T: Tool>(
+        &mut self,
+        alloc: Global,
+        line: &str,
+        said: &mut Said,
+    ) -> Result<(), NoMemory> {
         if line.starts_with('=') {
-            self.follow(alloc, said)?;
+            self.follow::<T>(alloc, said)?;
             self.order = String::from_str(alloc, line)?;
             self.fresh = true;
             return Ok(());
@@ -69,14 +75,14 @@ impl Script {
     }
 
     /// Does what the order says, and says what it prints.
-    fn follow(&self, alloc: Global, said: &mut Said) -> Result<(), NoMemory> {
+    fn follow<T: Tool>(&self, alloc: Global, said: &mut Said) -> Result<(), NoMemory> {
         let mut words = Vec::new(alloc);
         for word in self.order.split_whitespace() {
             words.push(word)?;
         }
         match words.as_slice() {
-            [_, "play", rest @ ..] => play(alloc, rest, &self.text, said),
-            [_, "checked", name] => play_checked(alloc, name, &self.text, said),
+            [_, "play", rest @ ..] => play::<T>(alloc, rest, &self.text, said),
+            [_, "checked", name] => play_checked::<T>(alloc, name, &self.text, said),
             [_, "deltas", name] => play_deltas(alloc, name, &self.text, said),
             [_, "crash", name] => play_crashes(alloc, name, None, &self.text, said),
             [_, "crash", name, part] => play_crashes(
@@ -111,7 +117,7 @@ fn play_shell<R: AllocGlobal + Env + Processes>(system: &R, lines: &[u8], said: 
 }
 
 /// Plays a script, and says what it prints. Only the last order may be `= shell`. The status, which is 0.
-pub fn run<R: AllocGlobal + Env + Processes>(
+pub fn run<T: Tool, R: AllocGlobal + Env + Processes>(
     system: &R,
     text: &str,
     said: &mut Said,
@@ -123,12 +129,12 @@ pub fn run<R: AllocGlobal + Env + Processes>(
         fresh: true,
     };
     for line in text.lines() {
-        script.take(alloc, line, said)?;
+        script.take::<T>(alloc, line, said)?;
     }
     if script.order.as_str() == "= shell" {
         play_shell(system, script.text.as_slice(), said);
     } else {
-        script.follow(alloc, said)?;
+        script.follow::<T>(alloc, said)?;
     }
     Ok(0)
 }

@@ -1,10 +1,21 @@
-//! The playing of one schedule by `replay`, over sources and sinks in memory.
+//! The playing of one schedule by `ftreplay`, over sources and sinks in memory.
 
 use ft_io::NoMemory;
 use ft_system::{MemSink, MemSource};
-use replay_tool::replay;
 use std::alloc::Global;
 use test_data::Said;
+
+/// The top call of `ftreplay`, which the program that plays the script passes.
+pub trait Tool {
+    /// Runs it with these words, over memory. Its exit status.
+    fn replay(
+        alloc: Global,
+        words: &[String],
+        input: &mut MemSource,
+        report: &mut MemSink,
+        err: &mut MemSink,
+    ) -> u8;
+}
 
 /// What the last words of an order say: which call of the source, of the sink of the report and of that of the errors fails, 0 for none, and how many of the
 /// report's last lines are printed, 0 for all.
@@ -17,7 +28,12 @@ struct Ends {
 }
 
 /// Plays a text as the order says, and says its name, its status, and what was written.
-pub fn play(alloc: Global, order: &[&str], text: &[u8], said: &mut Said) -> Result<(), NoMemory> {
+pub(crate) fn play<T: Tool>(
+    alloc: Global,
+    order: &[&str],
+    text: &[u8],
+    said: &mut Said,
+) -> Result<(), NoMemory> {
     let [name, spoken, read, wrote, told, last] = order else {
         said.line("no such order");
         return Ok(());
@@ -29,7 +45,7 @@ pub fn play(alloc: Global, order: &[&str], text: &[u8], said: &mut Said) -> Resu
         last: number(last),
     };
     let words = words_of(alloc, spoken)?;
-    play_words(alloc, name, &words, ends, text, said)
+    play_words::<T>(alloc, name, &words, ends, text, said)
 }
 
 /// The words of an order, joined there by `~`.
@@ -42,7 +58,7 @@ fn words_of(alloc: Global, spoken: &str) -> Result<Vec<String>, NoMemory> {
 }
 
 /// Plays a text with these words.
-fn play_words(
+fn play_words<T: Tool>(
     alloc: Global,
     name: &str,
     words: &[String],
@@ -56,16 +72,15 @@ fn play_words(
     let mut input = MemSource::new(text.to_vec(alloc)?, read_fails);
     let mut report = MemSink::new(alloc, write_fails);
     let mut err = MemSink::new(alloc, told_fails);
-    let status = replay(alloc, words, &mut input, &mut report, &mut err);
-    let code = status.code;
-    write!(said, "{name}: status {code}\n");
+    let status = T::replay(alloc, words, &mut input, &mut report, &mut err);
+    write!(said, "{name}: status {status}\n");
     said.add(err.written());
     said.add(last_lines(report.written(), ends.last));
     Ok(())
 }
 
 /// Plays a text by `run`, and says what `check` says of its report.
-pub fn play_checked(
+pub(crate) fn play_checked<T: Tool>(
     alloc: Global,
     name: &str,
     text: &[u8],
@@ -75,9 +90,9 @@ pub fn play_checked(
     let mut input = MemSource::new(text.to_vec(alloc)?, Vec::new(alloc));
     let mut report = MemSink::new(alloc, Vec::new(alloc));
     let mut err = MemSink::new(alloc, Vec::new(alloc));
-    replay(alloc, &words, &mut input, &mut report, &mut err);
+    T::replay(alloc, &words, &mut input, &mut report, &mut err);
     let order = [name, "check", "0", "0", "0", "0"];
-    play(alloc, &order, report.written(), said)
+    play::<T>(alloc, &order, report.written(), said)
 }
 
 /// A number of an order; 0 for what is none.
