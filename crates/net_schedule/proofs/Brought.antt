@@ -10,7 +10,7 @@ use Rattle.twin_laws.specs.TwinWorld.{seen}
 use Rattle.mark_laws.specs.MarkedNode.MarkedInput.{Plain_comes}
 use Rattle.mark_laws.specs.MarkedWorld.{said_by}
 use Rattle.mark_laws.specs.MarkedWorld.{input_of as heard_from}
-use Rattle.server_node.specs.Markers.{Saving}
+use Rattle.node_serving.specs.Markers.{Saving}
 use Rattle.net_schedule.specs.Delivery.{delivered_to}
 use Rattle.net_schedule.specs.WorldView.{kept, service_of}
 use Rattle.net_schedule.specs.MarkedTurns.{marker_in}

@@ -18,7 +18,7 @@ use Rattle.ft_model.specs.declared.event.Event.TheVariants as events
 use Rattle.ft_model.specs.declared.event.EventWhy.TheVariants as why
 use Rattle.ft_model.specs.declared.way.Way.{Way}
 use Rattle.ft_model.proofs.Lists.{all_slice_get, none_is_some}
-use Rattle.server_node.specs.Identity.{node_of}
+use Rattle.node_serving.specs.Identity.{node_of}
 use Rattle.server_node.specs.Stages.{StageStands}
 use Rattle.net_schedule.specs.Actors.{ActorsStand, ActorsGoOn, ActorsAdvance}
 use Rattle.schedule_network.specs.AtNumber.{at_number}

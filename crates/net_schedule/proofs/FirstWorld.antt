@@ -19,7 +19,7 @@ use Rattle.net_schedule.specs.Every.{every_in}
 use Rattle.schedule_network.specs.Journal.{StoreAndJournal}
 use Rattle.schedule_network.specs.Loggers.{new_loggers}
 use Rattle.schedule_network.specs.Logs.{IsNewMarked, log_in, keepers_in}
-use Rattle.server_node.specs.Markers.{Saving}
+use Rattle.node_serving.specs.Markers.{Saving}
 use Rattle.net_schedule.specs.MarkedRefinement.{marker_for}
 use Rattle.net_schedule.specs.MarkedStep.{MarkedStandsAfter}
 use Rattle.schedule_network.specs.declared.logs.Logs.{Logs}

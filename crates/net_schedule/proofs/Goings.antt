@@ -18,7 +18,7 @@ use Rattle.ft_model.proofs.FaithfulKept.{received_same}
 use Rattle.ft_model.proofs.Lists.{none_is_some}
 use Rattle.ft_model.proofs.ClientKeys.{keys_stay}
 use Rattle.logger_store.specs.StoreState.{answer_bytes}
-use Rattle.server_node.specs.Identity.{node_of}
+use Rattle.node_serving.specs.Identity.{node_of}
 use Rattle.server_node.specs.Stages.{StageStands, NodeGoes}
 use Rattle.net_schedule.specs.Actors.{ActorsStand, ActorsGoOn, ActorsAdvance}
 use Rattle.schedule_network.specs.StoredPackets.{carried, with_wires, with_answer}

@@ -9,7 +9,7 @@ use Rattle.ft_model.specs.declared.event.Event.TheVariants as events
 use Rattle.mark_laws.specs.MarkedNode.{MarkedInput, booted_to_mark}
 use Rattle.mark_laws.specs.MarkedWorld.{MarkedWorld, ServerMoves}
 use Rattle.server_node.specs.declared.node.Node.{Node}
-use Rattle.server_node.specs.Markers.{Saving, marker_of}
+use Rattle.node_serving.specs.Markers.{Saving, marker_of}
 use Rattle.server_node.specs.MarkedTurns.{MarkedNodeStands, MarkedNodeTurns, MarkedNodeGoes, NodeStandsAt}
 use Rattle.schedule_network.specs.StoredPackets.{with_wires}
 use Rattle.net_schedule.specs.WorldView.{server_of}

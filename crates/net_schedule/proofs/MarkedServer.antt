@@ -35,9 +35,9 @@ use Rattle.mark_laws.specs.Premises.{IsSoundMark, LeadsToSound}
 use Rattle.server_trait.specs.declared.Service.{Ghosts}
 use Rattle.ft_model.specs.Legal.{machines}
 use Rattle.conn_marks.specs.KeyMarks.{every_for}
-use Rattle.server_node.specs.declared.identity.Identity.{Identity}
-use Rattle.server_node.specs.Identity.{node_of}
-use Rattle.server_node.specs.Markers.{Saving, marker_of}
+use Rattle.node_serving.specs.declared.identity.Identity.{Identity}
+use Rattle.node_serving.specs.Identity.{node_of}
+use Rattle.node_serving.specs.Markers.{Saving, marker_of}
 use Rattle.conn_marks.specs.MarkSends.{outgoing_wire}
 use Rattle.server_node.specs.MarkedTurns.{NodeStandsAt, IsFairTo, IsSoundStart, IsSoundBelow, marked_input_of}
 use Rattle.server_node.specs.Inputs.{input_of as heard_of}

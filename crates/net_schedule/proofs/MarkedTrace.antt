@@ -17,7 +17,7 @@ use Rattle.mark_laws.specs.MarkedWorld.{MarkedWorld, MarkedMoment, MarkedJoint, 
 use Rattle.mark_laws.specs.MarkedWorld.Parcel.{Mark_answered}
 use Rattle.mark_laws.specs.Premises.{IsSoundMark}
 use Rattle.mark_laws.proofs.Traces.{start_of_joint}
-use Rattle.server_node.specs.Markers.{Saving}
+use Rattle.node_serving.specs.Markers.{Saving}
 use Rattle.net_schedule.specs.WorldView.{kept, services_of}
 use Rattle.schedule_network.specs.Journal.{HasDistinctKeys}
 use Rattle.net_schedule.specs.Refinement.{Kept}

@@ -12,9 +12,9 @@ use Rattle.ft_model.specs.declared.way.Way.{Way}
 use Rattle.ft_model.specs.declared.way.Way.TheVariants.{LoggerToServer}
 use Rattle.ft_model.proofs.Lists.{none_is_some, some_is}
 use Rattle.logger_store.specs.StoreState.{answer_bytes}
-use Rattle.server_node.specs.SentBytes.{party_of}
-use Rattle.server_node.specs.declared.out_packet.To.{To}
-use Rattle.server_node.specs.declared.out_packet.To.TheVariants.{Client, Logger}
+use Rattle.node_serving.specs.SentBytes.{party_of}
+use Rattle.node_serving.specs.declared.out_packet.To.{To}
+use Rattle.node_serving.specs.declared.out_packet.To.TheVariants.{Client, Logger}
 use Rattle.schedule_network.specs.AtNumber.{at_number}
 use Rattle.schedule_network.specs.StoredPackets.{Carried, carried, with_packet, with_wires, with_answer, way_along, way_between, way_to}
 

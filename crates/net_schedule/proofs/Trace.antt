@@ -20,7 +20,7 @@ use Rattle.ft_model.proofs.Happened.{Happened, holds_after}
 use Rattle.ft_model.proofs.Happened.Happened.{log_heard, client_heard, client_moved, server_turned, server_booted, server_down}
 use Rattle.ft_model.proofs.Lists.{same_key}
 use Rattle.ft_model.proofs.ClientKeys.{keys_in, keys_stay}
-use Rattle.server_node.specs.Markers.{Saving}
+use Rattle.node_serving.specs.Markers.{Saving}
 use Rattle.net_schedule.specs.WorldView.{kept, services_of}
 use Rattle.net_schedule.specs.Premises.{Premises}
 use Rattle.net_schedule.specs.Refinement.{Kept, WorldStands, Advances, KeepsAtRefusal}

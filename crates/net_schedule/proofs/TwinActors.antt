@@ -23,7 +23,7 @@ use Rattle.twin_laws.specs.TwinLegal.{twin_refusal}
 use Rattle.twin_laws.proofs.Elsewhere.{with_packets, happens_elsewhere, server_elsewhere, client_reads_elsewhere, NamesNone}
 use Rattle.twin_laws.proofs.Numbering.{outside_of}
 use Rattle.net_schedule.specs.Actors.{ActorsStand, ActorsGoOn, ActorsAdvance}
-use Rattle.server_node.specs.Markers.{Saving}
+use Rattle.node_serving.specs.Markers.{Saving}
 use Rattle.net_schedule.specs.WorldView.{kept, service_of}
 use Rattle.net_schedule.specs.Refinement.{Kept}
 use Rattle.net_schedule.specs.Turns.{ActorsDo, ActorsDecline, Does, Declines}

@@ -16,7 +16,7 @@ use Rattle.twin_laws.specs.TwinLegal.{IsTwinLegalFor, event_of, twin_start, twin
 use Rattle.twin_laws.specs.TwinWorld.{TwinWorld, TwinMoment, TwinJoint, TwinHappens, seen, parcel_at, twin_after}
 use Rattle.twin_laws.specs.TwinWorld.Parcel.{Outside}
 use Rattle.twin_laws.specs.SentBytes.{IsWritten}
-use Rattle.server_node.specs.Markers.{Saving}
+use Rattle.node_serving.specs.Markers.{Saving}
 use Rattle.net_schedule.specs.WorldView.{kept, services_of}
 use Rattle.net_schedule.specs.Premises.{Premises}
 use Rattle.net_schedule.specs.Refinement.{Kept}

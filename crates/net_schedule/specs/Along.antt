@@ -9,7 +9,7 @@ use Rattle.mark_laws.specs.MarkedWorld.{MarkedMoment}
 use Rattle.net_schedule.specs.WorldView.{kept, services_of}
 use Rattle.net_schedule.specs.Step.{StandsAfter, Steps, EndsStep}
 use Rattle.net_schedule.specs.TwinStep.{TwinStandsAfter, TwinSteps, TwinEndsStep}
-use Rattle.server_node.specs.Markers.{Saving}
+use Rattle.node_serving.specs.Markers.{Saving}
 use Rattle.net_schedule.specs.MarkedRefinement.{marker_for}
 use Rattle.net_schedule.specs.MarkedStep.{MarkedStandsAfter, MarkedSteps, MarkedEndsStep}
 use Rattle.schedule_network.specs.declared.end.StepEnd.{StepEnd}

@@ -21,8 +21,8 @@ use Rattle.mark_laws.specs.MarkedNode.MarkedInput.{Plain_comes, Mark_comes}
 use Rattle.mark_laws.specs.MarkedWorld.{Parcel, MarkedWorld, MarkedHappens, CanBeRead, bytes_of, usual, seen, parcel_at, said_by, input_of}
 use Rattle.mark_laws.specs.MarkedWorld.Parcel.{Usual, Mark_sent, Mark_answered}
 use Rattle.mark_laws.specs.Premises.{IsSoundMark}
-use Rattle.server_node.specs.Identity.{node_of}
-use Rattle.server_node.specs.Markers.{Saving}
+use Rattle.node_serving.specs.Identity.{node_of}
+use Rattle.node_serving.specs.Markers.{Saving}
 use Rattle.server_node.specs.MarkedTurns.{NodeStandsAt}
 use Rattle.schedule_network.specs.StoredPackets.{Carried, way_along}
 use Rattle.schedule_network.specs.Journal.{StoreAndJournal, AreAt, HasDistinctKeys}

@@ -9,7 +9,7 @@ use Rattle.mark_laws.specs.MarkedLegal.{marked_refusal}
 use Rattle.mark_laws.specs.MarkedNode.{Marker, MarkedInput}
 use Rattle.mark_laws.specs.MarkedWorld.{Parcel, MarkedWorld, ServerMoves, ComesAs}
 use Rattle.net_schedule.specs.WorldView.{kept, services_of}
-use Rattle.server_node.specs.Markers.{Saving}
+use Rattle.node_serving.specs.Markers.{Saving}
 use Rattle.net_schedule.specs.MarkedRefinement.{MarkedWorldStands, MarkedGoesOn, MarkedAdvances, MarkedPremises, MayComeMarked, MarkedComesAs, marker_for, way_of_parcel}
 use Rattle.net_schedule.specs.declared.world.World.{World}
 

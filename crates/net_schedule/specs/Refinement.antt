@@ -11,9 +11,9 @@ use Rattle.ft_model.specs.Wire.{wire_of}
 use Rattle.ft_model.specs.World.{World as Seen, Happens}
 use Rattle.ft_model.specs.Legal.{refusal, IsScripted}
 use Rattle.ft_model.specs.declared.event.Event.{Event}
-use Rattle.server_node.specs.Identity.{node_of}
+use Rattle.node_serving.specs.Identity.{node_of}
 use Rattle.server_node.specs.Stages.{StageStands}
-use Rattle.server_node.specs.declared.identity.Identity.{Identity}
+use Rattle.node_serving.specs.declared.identity.Identity.{Identity}
 use Rattle.server_node.specs.declared.stage.Stage.{Stage as Holds}
 use Rattle.schedule_network.specs.StoredPackets.{Carried, carried}
 use Rattle.schedule_network.specs.Logs.{Keepers}

@@ -21,7 +21,7 @@ use Rattle.net_schedule.specs.WorldView.{kept, service_of}
 use Rattle.net_schedule.specs.Premises.{Premises, ComesAs}
 use Rattle.net_schedule.specs.Refinement.{WorldStands, ReachesNext, Advances}
 use Rattle.net_schedule.specs.TwinRefinement.{TwinWorldStands, TwinGoesOn, TwinAdvances, TwinPremises, ParcelComesAs, MayComeAs, stored_way}
-use Rattle.server_node.specs.Markers.{Saving}
+use Rattle.node_serving.specs.Markers.{Saving}
 use Rattle.net_schedule.specs.MarkedTurns.{MarkedServes, MarkedBrings, MarkedDoes, MarkedRefuses}
 use Rattle.schedule_network.specs.declared.end.StepEnd.{StepEnd}
 use Rattle.schedule_network.specs.declared.end.StepEnd.TheVariants.{NoMemory, BadEvent, PacketLimit}

@@ -1,7 +1,7 @@
 //! What the server sends, as the network stores it.
 
 ghost use Rattle.std.specs.Prelude.{◌≡◌, ◌≤◌, length, OnOk};
-ghost use Rattle.server_node.specs.SentBytes.{party_of};
+ghost use Rattle.node_serving.specs.SentBytes.{party_of};
 ghost use Rattle.schedule_network.specs.StoredPackets.{way_to as way_lem, with_wires};
 
 use ft_io::{Key, NoMemory};

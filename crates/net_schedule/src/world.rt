@@ -107,7 +107,7 @@ impl<S: Saved> World<S> {
     ghost use Rattle.net_schedule.specs.Turns.{Serves, ActorsDo, ActorsDecline, TellsLogger, Brings, Does, Declines};
     ghost use Rattle.net_schedule.specs.TwinStep.{TwinStandsAfter};
     ghost use Rattle.net_schedule.specs.MarkedRefinement.{marker_for};
-    ghost use Rattle.server_node.specs.Markers.{saving};
+    ghost use Rattle.node_serving.specs.Markers.{saving};
     ghost use Rattle.net_schedule.specs.MarkedStep.{MarkedStandsAfter};
     ghost use Rattle.server_node.specs.MarkedTurns.{marked_input_of};
 

@@ -13,18 +13,19 @@ use Rattle.ft_model.specs.Node.Input.{Packet_comes, Message_comes, Noise_comes, 
 use Rattle.ft_model.specs.Restart.{Fetched, is_fetched, wanted}
 use Rattle.ft_model.specs.Wire.{Wire}
 use Rattle.ft_model.proofs.Lists.{all_find, found_passes, same_key, none_is_some}
-use Rattle.server_node.specs.declared.identity.Identity.{Identity}
-use Rattle.server_node.specs.declared.serving.Serving.{Serving}
+use Rattle.node_serving.specs.declared.identity.Identity.{Identity}
+use Rattle.node_serving.specs.declared.serving.Serving.{Serving}
 use Rattle.server_node.specs.declared.stage.Stage.{Stage}
 use Rattle.server_node.specs.declared.stage.Stage.TheVariants as stage
-use Rattle.server_node.specs.Alone.{slot_of, StandsFor, IsNearFor, Alone}
+use Rattle.node_serving.specs.Alone.{slot_of, StandsFor, IsNearFor}
+use Rattle.server_node.specs.StageAlone.{Alone}
 use Rattle.server_node.specs.Apart.{TurnsApart}
-use Rattle.server_node.specs.Identity.{node_of}
-use Rattle.server_node.specs.Openings.{pending_slots}
+use Rattle.node_serving.specs.Identity.{node_of}
+use Rattle.node_serving.specs.Openings.{pending_slots}
 use Rattle.server_node.specs.FetchStage.{FetchingStands}
 use Rattle.server_node.specs.Restarts.{IsRestorable, KeyRevives, RestoredAlone, RestartGoes, MessageRestarts}
 use Rattle.server_node.specs.Stages.{StageStands, NodeGoes}
-use Rattle.server_node.specs.Ownership.{of_key}
+use Rattle.node_serving.specs.Ownership.{of_key}
 use Rattle.server_node.proofs.RestoredAlone.{silent_fetched}
 use Rattle.node_link.specs.KeyLife.{KeyStage, restarts_by, entry_of, RestartsKey, Revived, KeyAdvances, IsSoundFor, IsFairFor}
 use Rattle.node_link.specs.KeyLife.KeyStage.{Asks, Fetches, Has}

@@ -22,7 +22,7 @@ use Rattle.ft_model.specs.Wire.{Wire, wire_of}
 use Rattle.server_node.specs.declared.input.TurnEnd.{TurnEnd}
 use Rattle.server_node.specs.declared.input.TurnEnd.TheVariants as end
 use Rattle.server_node.specs.Apart.{TurnsApart}
-use Rattle.server_node.specs.Identity.{node_of}
+use Rattle.node_serving.specs.Identity.{node_of}
 use Rattle.server_node.specs.Stages.{StageStands, NodeGoes, IsFence}
 use Rattle.link_parts.specs.declared.counts.Counts.{Counts}
 use Rattle.link_parts.specs.declared.role.Loggers.{Loggers}

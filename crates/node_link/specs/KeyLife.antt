@@ -13,9 +13,9 @@ use Rattle.ft_model.specs.Node.Stage.{Asking, Fetching}
 use Rattle.ft_model.specs.Node.Input.{Packet_comes, Message_comes, Noise_comes, Tick_comes}
 use Rattle.ft_model.specs.Restart.{Fetched, wanted}
 use Rattle.ft_model.specs.Wire.{Wire, wire_of, HasWire}
-use Rattle.server_node.specs.Alone.{IsNearFor, KeyTurn}
+use Rattle.node_serving.specs.Alone.{IsNearFor, KeyTurn}
 use Rattle.server_node.specs.Restarts.{IsRestorable}
-use Rattle.server_node.specs.Ownership.{of_key}
+use Rattle.node_serving.specs.Ownership.{of_key}
 use Rattle.link_parts.specs.declared.role.Loggers.{Loggers}
 use Rattle.node_link.specs.ServerTurns.{ServerTurn, wires_in, input_from}
 

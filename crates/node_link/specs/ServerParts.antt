@@ -10,15 +10,15 @@ use Rattle.ft_model.specs.Lawful.{Turn, node_after, fence, hello, IsNearInput, I
 use Rattle.ft_model.specs.Wire.{Wire, wire_of}
 use Rattle.server_trait.specs.Service.{Machine}
 use Rattle.server_trait.specs.declared.Service.{Ghosts}
-use Rattle.server_node.specs.declared.identity.Identity.{Identity}
+use Rattle.node_serving.specs.declared.identity.Identity.{Identity}
 use Rattle.server_node.specs.declared.input.TurnEnd.{TurnEnd}
 use Rattle.server_node.specs.declared.input.TurnEnd.TheVariants as end
 use Rattle.server_node.specs.declared.node.Node.{Node}
 use Rattle.server_node.specs.declared.stage.Stage.{Stage}
 use Rattle.server_node.specs.declared.stage.Stage.TheVariants as stage
-use Rattle.server_node.specs.Alone.{slot_of, StandsFor}
+use Rattle.node_serving.specs.Alone.{slot_of, StandsFor}
 use Rattle.server_node.specs.Apart.{TurnsApart}
-use Rattle.server_node.specs.Identity.{node_of}
+use Rattle.node_serving.specs.Identity.{node_of}
 use Rattle.server_node.specs.FetchStage.{FetchingStands}
 use Rattle.server_node.specs.Stages.{StageStands, NodeGoes}
 use Rattle.link_parts.specs.declared.counts.Counts.{Counts}

@@ -9,7 +9,7 @@ ghost use Rattle.ft_model.specs.Lawful.{hello};
 ghost use Rattle.ft_model.specs.Node.{Stage};
 ghost use Rattle.ft_model.specs.Node.Input.{Tick_comes};
 ghost use Rattle.ft_model.specs.Wire.{wire_of};
-ghost use Rattle.server_node.specs.Identity.{node_of};
+ghost use Rattle.node_serving.specs.Identity.{node_of};
 ghost use Rattle.server_node.specs.declared.stage.Stage.TheVariants as stages;
 ghost use Rattle.link_parts.specs.Counts.{HasRoom};
 ghost use Rattle.link_parts.specs.Ranges.{ServerInRange};

@@ -10,7 +10,7 @@ ghost use Rattle.ft_io.specs.declared.link_call.LinkCall.{LinkCall};
 ghost use Rattle.ft_io.specs.declared.link_call.LinkCall.TheVariants.{Bound};
 ghost use Rattle.ft_model.specs.Legal.{machines};
 ghost use Rattle.server_node.specs.Inputs.{input_of as input_lem};
-ghost use Rattle.server_node.specs.SentBytes.{party_of};
+ghost use Rattle.node_serving.specs.SentBytes.{party_of};
 ghost use Rattle.link_parts.specs.Counts.{HasRoom};
 ghost use Rattle.link_parts.specs.Ends.{UnlessFault};
 ghost use Rattle.link_parts.specs.Receipt.{is_from as is_from_lem, Received, datagram, IsQuiet};

@@ -23,7 +23,7 @@ use Rattle.replay_check.specs.Stream.{Stream, HasFailed, HasNotFailed}
 use Rattle.replay_check.specs.declared.status.TooMuch.TheVariants.{Text, Events, Packets}
 use Rattle.replay_check.specs.declared.status.RunEnd.{RunEnd}
 use Rattle.replay_check.specs.declared.status.RunEnd.TheVariants.{Usage, NoMemory, ReadFault, WriteFault, BadLine, BadEvent, TooLong, Rejected}
-use Rattle.replay_check.proofs.Telling.{when_told, TellsEnd}
+use Rattle.replay_check.proofs.EndTold.{when_told, TellsEnd}
 
 -- what holds of a text that was read holds of the source's
 of_read : (Is : List ℕ → Type 0) (left : Option (List ℕ)) (text : List ℕ) → IfSome left (λ whole. text ≡ whole) → Is text → IfSome left Is

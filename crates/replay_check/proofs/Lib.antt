@@ -1,4 +1,4 @@
 pub mod Fronts
 pub mod Checking
-pub mod Telling
+pub mod EndTold
 pub mod Events

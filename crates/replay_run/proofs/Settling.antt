@@ -23,7 +23,7 @@ use Rattle.replay_check.specs.Stream.{Stream, HasFailed}
 use Rattle.replay_check.specs.declared.status.TooMuch.TheVariants.{Text, Events, Packets}
 use Rattle.replay_check.specs.declared.status.RunEnd.{RunEnd}
 use Rattle.replay_check.specs.declared.status.RunEnd.TheVariants.{Usage, NoMemory, ReadFault, WriteFault, BadLine, BadEvent, TooLong, Rejected}
-use Rattle.replay_check.proofs.Telling.{when_told, never_zero, TellsEnd}
+use Rattle.replay_check.proofs.EndTold.{when_told, never_zero, TellsEnd}
 
 pub bad_line : (text : List ℕ) (input out : Stream) (end : RunEnd) → input.before ≡ Some text → code_of end ≡ 6 → RunStops input out end → HasBadLine text
 bad_line text input out (BadLine line why) told e s = record { line = line; why = why; refused = when_told (λ t. read_text t ≡ Err (reading.BadLine line why)) input.before text told s.refused }

@@ -1,5 +1,5 @@
 -- What a restart keeps, whatever answers it.
-use Rattle.std.proofs.Common.{◌≡◌, ◌∙◌, ℕ, ◌+◌, Bool, true, false, ◌==◌, ◌&&◌, not, nat_le, refl, sym, ap, subst, List, [], ◌∷◌, ◌++◌, map, length, Option, Some, None, Result, Ok, IfSome, MatchOption, if◌then◌else◌, find, option_map}
+use Rattle.std.proofs.Common.{◌≡◌, ◌∙◌, ℕ, ◌+◌, Bool, true, false, ◌==◌, ◌&&◌, not, nat_le, refl, sym, ap, subst, List, [], ◌∷◌, ◌++◌, map, length, Option, Some, None, IfSome, MatchOption, if◌then◌else◌, find, option_map}
 use Rattle.std.specs.Option.{option_to_list}
 use Rattle.std.proofs.lemmas.Bool.{and_parts, or_parts}
 use Rattle.ft_io.specs.declared.Key.{Key}
@@ -13,7 +13,7 @@ use Rattle.ft_model.specs.Node.{Node}
 use Rattle.ft_model.specs.Lawful.{fetched_then}
 use Rattle.reincarnate.specs.Questions.{FetchingState, entry_known, entries_of, after_answer, answered, head_fits, with_head, with_newest, part_on, lens_on}
 use Rattle.reincarnate.specs.Progress.{EntryState}
-use Rattle.server_node.specs.declared.identity.Identity.{Identity}
+use Rattle.node_serving.specs.declared.identity.Identity.{Identity}
 use Rattle.server_node.specs.FetchStage.{AreDistinct, FetchingStands, IsOwn, UsesNone}
 use Rattle.ft_io.proofs.Booleans.{not_true}
 use Rattle.ft_model.proofs.Lists.{same_key, none_is_some, some_is, found_passes}
@@ -131,10 +131,6 @@ heads_of g None = refl
 
 pub still_own : {S : Type 0} (who : Identity) (s t : FetchingState S) → IsSame s t → IsOwn who s → IsOwn who t
 still_own who s t same own = record { boot = same.boot ∙ own.boot; kind = same.kind ∙ own.kind; unmarked = subst UsesNone (sym same.marks) own.unmarked }
-
--- an outcome is one value
-pub same_ok : {X E : Type 0} (r : Result X E) (x y : X) → r ≡ Ok x → r ≡ Ok y → x ≡ y
-same_ok {X} {E} r x y a b = ap (λ o. Rattle.std.specs.Result.result_unwrap_or o x) (sym a ∙ b)
 
 -- the service of this incarnation is that of its restart
 pub own_stands : {S : Type 0} (started : ℕ → S) (after : S → List ℕ → Served S) (who : Identity) (f : FetchingState S) (count : ℕ) (fetched : List Fetched) → f.kind ≡ who.kind

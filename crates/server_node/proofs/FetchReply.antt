@@ -10,8 +10,8 @@ use Rattle.ft_model.specs.Restart.{Fetched, live_entry, holding_segment}
 use Rattle.ft_model.specs.Node.{Node, is_for}
 use Rattle.ft_model.specs.Lawful.{held}
 use Rattle.ft_model.specs.Wire.{Wire}
-use Rattle.server_node.specs.RefusalPackets.{AreSent}
-use Rattle.server_node.specs.SentBytes.{ArePut}
+use Rattle.node_serving.specs.RefusalPackets.{AreSent}
+use Rattle.node_serving.specs.SentBytes.{ArePut}
 use Rattle.server_node.proofs.FetchAnswer.{heads_of}
 
 module _ (node : Node) (fetched : List Fetched) (segment : Segment) where

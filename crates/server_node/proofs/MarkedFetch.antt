@@ -36,17 +36,17 @@ use Rattle.reincarnate.specs.declared.marks.Marks.TheVariants as marks
 use Rattle.conn_marks.specs.KeyMarks.{KeyMarks, every_for}
 use Rattle.conn_marks.specs.MarkSends.{AreOut}
 use Rattle.conn_marks.specs.Settled.{Keeps}
-use Rattle.server_node.specs.declared.identity.Identity.{Identity}
+use Rattle.node_serving.specs.declared.identity.Identity.{Identity}
 use Rattle.server_node.specs.declared.marked.Marked.{Marked}
 use Rattle.server_node.specs.declared.marked.MarkedStage.TheVariants as marked
-use Rattle.server_node.specs.declared.serving.Serving.{Serving as CodeServing}
+use Rattle.node_serving.specs.declared.serving.Serving.{Serving as CodeServing}
 use Rattle.conn_marks.proofs.MarkWires.{plain_out}
 use Rattle.server_node.specs.FetchStage.{AreDistinct, FetchingStands}
-use Rattle.server_node.specs.SentBytes.{ArePut}
-use Rattle.server_node.specs.Identity.{node_of}
+use Rattle.node_serving.specs.SentBytes.{ArePut}
+use Rattle.node_serving.specs.Identity.{node_of}
 use Rattle.server_node.specs.MarkedRestart.{AllBytes, AreRestoredMarked}
 use Rattle.server_node.specs.MarkedTurns.{FetchingStandsMarked, MarkedStands, GoesOn, IsFairTo, IsSoundStart, IsUnfencedMarked, Notes, marking_noted, BodyBytes, IsPartBytes, SendsQuestion, input_of_any}
-use Rattle.server_node.specs.Markers.{node_at}
+use Rattle.node_serving.specs.Markers.{node_at}
 use Rattle.server_node.proofs.FetchAnswer.{IsSame, heard_same, then_distinct}
 use Rattle.server_node.proofs.Staged.{stand_again}
 

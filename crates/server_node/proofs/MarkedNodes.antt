@@ -22,7 +22,7 @@ use Rattle.mark_laws.specs.MarkedNode.{Marker, MarkedNode, MarkedInput, RestsMar
 use Rattle.mark_laws.specs.MarkedNode.MarkedInput.{Plain_comes}
 use Rattle.mark_laws.specs.MarkedWorld.{either_said, input_of as marked_of}
 use Rattle.conn_marks.specs.KeyMarks.{KeyMarks}
-use Rattle.server_node.specs.declared.identity.Identity.{Identity}
+use Rattle.node_serving.specs.declared.identity.Identity.{Identity}
 use Rattle.server_node.specs.declared.input.Input.{Input}
 use Rattle.server_node.specs.declared.input.Input.TheVariants as input
 use Rattle.server_node.specs.declared.marked.Marked.{Marked}
@@ -31,17 +31,18 @@ use Rattle.server_node.specs.declared.marked.MarkedStage.TheVariants as marked
 use Rattle.server_node.specs.declared.node.Node.{Node}
 use Rattle.server_node.specs.declared.stage.Stage.{Stage}
 use Rattle.server_node.specs.declared.stage.Stage.TheVariants as stage
-use Rattle.server_node.specs.Identity.{node_of}
+use Rattle.node_serving.specs.Identity.{node_of}
 use Rattle.server_node.specs.Inputs.{input_of}
 use Rattle.server_node.specs.Marked.{AreApart}
 use Rattle.server_node.specs.MarkedTurns.{MarkedStands, MarkedTurns, GoesOn, IsFairTo, IsUnfencedMarked, IsTurnMarked, HasSlotsApart, NodeStandsAt, MarkedNodeGoes, MarkedNodeTurns, marked_input_of, heard_of}
-use Rattle.server_node.specs.Markers.{Saving, marker_of, node_at}
+use Rattle.node_serving.specs.Markers.{Saving, marker_of, node_at}
 use Rattle.server_node.specs.Stages.{is_marked}
-use Rattle.server_node.specs.Turns.{IsUnfenced}
+use Rattle.server_node.specs.StageTurns.{IsUnfenced}
 use Rattle.server_node.proofs.MarkedFetch.{goes_by, rests_on}
-use Rattle.server_node.proofs.MarkedServed.{fenced_never, noise_rests_marked, serving_on_marked, served_unmarked}
-use Rattle.server_node.proofs.OneKey.{none_concerned}
-use Rattle.server_node.proofs.Served.{message_goes}
+use Rattle.node_serving.proofs.MarkedServed.{served_unmarked}
+use Rattle.server_node.proofs.MarkedInputs.{fenced_never, noise_rests_marked, serving_on_marked}
+use Rattle.node_serving.proofs.OneKey.{none_concerned}
+use Rattle.node_serving.proofs.Served.{message_goes}
 
 -- a message of another boot changes nothing
 no_fence : (who : Identity) (standing : law_stage) (message : Message) → (message.boot == who.boot) ≡ false → fence (node_of who standing) (Message_comes message) ≡ None

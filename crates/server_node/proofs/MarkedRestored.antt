@@ -29,15 +29,15 @@ use Rattle.conn_marks.proofs.KeyMarks.{changes_none}
 use Rattle.conn_marks.proofs.MarkWires.{put_out, out_on, out_none}
 use Rattle.conn_marks.proofs.OneMarked.{found_here, found_there, found_in, found_behind}
 use Rattle.conn_marks.proofs.Serving.{turn_settled}
-use Rattle.server_node.specs.declared.serving.Serving.{Serving}
-use Rattle.server_node.specs.declared.slot.Slot.{Slot}
-use Rattle.server_node.specs.declared.slot.Slot.TheVariants as slot
+use Rattle.node_serving.specs.declared.serving.Serving.{Serving}
+use Rattle.node_serving.specs.declared.slot.Slot.{Slot}
+use Rattle.node_serving.specs.declared.slot.Slot.TheVariants as slot
 use Rattle.server_node.specs.MarkedRestart.{AllBytes, SlotRevivesWith, AreRestoredMarked, markings_then}
 use Rattle.server_node.specs.RestartEnd.{SlotRevives}
-use Rattle.server_node.specs.Slots.{SlotStands, AllStand}
-use Rattle.server_node.proofs.Admitted.{one_stands_more, next_number}
-use Rattle.server_node.proofs.MarkedTicks.{go_on_marked}
-use Rattle.server_node.proofs.OneKey.{place_key}
+use Rattle.node_serving.specs.Slots.{SlotStands, AllStand}
+use Rattle.node_serving.proofs.Admitted.{one_stands_more, next_number}
+use Rattle.node_serving.proofs.MarkedTicks.{go_on_marked}
+use Rattle.node_serving.proofs.OneKey.{place_key}
 use Rattle.server_node.proofs.Restored.{behind_others}
 
 -- a slot's first turn, with its mark

@@ -14,14 +14,14 @@ use Rattle.mark_laws.specs.Restart.{or_else}
 use Rattle.reincarnate.specs.Marking.{awaits, marks_after, marked_on}
 use Rattle.reincarnate.specs.Progress.{EntryState}
 use Rattle.reincarnate.specs.Questions.{FetchingState, asked, any_asked, mark_asked, noted, log_heard, after_answer, with_marked, held_heard, mark_heard, any_heard}
-use Rattle.server_node.specs.declared.identity.Identity.{Identity}
+use Rattle.node_serving.specs.declared.identity.Identity.{Identity}
 use Rattle.server_node.specs.declared.stage.Stage.{Stage}
 use Rattle.server_node.specs.declared.stage.Stage.TheVariants as stage
 use Rattle.server_node.specs.Apart.{TurnsApart}
 use Rattle.server_node.specs.FetchStage.{IsOf}
-use Rattle.server_node.specs.Identity.{node_of, service_of}
+use Rattle.node_serving.specs.Identity.{node_of, service_of}
 use Rattle.server_trait.specs.declared.Service.{Ghosts}
-use Rattle.server_node.specs.Turns.{StageTurns}
+use Rattle.server_node.specs.StageTurns.{StageTurns}
 use Rattle.server_node.specs.Restarts.{Restarts}
 use Rattle.server_node.specs.Stages.{StageStands, IsSoundStage, NodeGoes, is_marked}
 use Rattle.server_node.proofs.Staged.{noise_rests}

@@ -11,7 +11,7 @@ use Rattle.ft_model.specs.Lawful.{asked as asked_law}
 use Rattle.ft_model.specs.Wire.{Wire}
 use Rattle.reincarnate.specs.Progress.{EntryState, lacks, asked_for}
 use Rattle.reincarnate.specs.Questions.{FetchingState, asked, asked_of, asked_entry, or_else, entries_of}
-use Rattle.server_node.specs.SentBytes.{ArePut}
+use Rattle.node_serving.specs.SentBytes.{ArePut}
 use Rattle.ft_io.proofs.Choices.{holds_if}
 
 abbrev said_in : ℕ → Body → Message

@@ -2,13 +2,12 @@
 use Rattle.std.proofs.Common.{◌≡◌, ◌∙◌, ℕ, suc, ◌+◌, ◌%◌, ◌^◌, Bool, true, false, not, refl, sym, ap, subst, arith, List, [], ◌∷◌, ◌++◌, filter, length, reverse, append_assoc, append-nil, Some, None, cond, if◌then◌else◌}
 use Rattle.std.specs.Map.{lookup}
 use Rattle.std.proofs.lemmas.List.{reverse-append, reverse-reverse}
-use Rattle.indexmap.specs.IndexMap.{insert_entry}
 use Rattle.ft_io.specs.declared.Key.{Key}
 use Rattle.ft_io.specs.Key.{key_eq}
 use Rattle.server_trait.specs.Service.{Machine}
 use Rattle.std.proofs.lemmas.Bool.{false≢true, or_parts}
 use Rattle.ft_model.specs.Log.{Entry}
-use Rattle.ft_model.proofs.Lists.{none_is_some, key_is, same_key}
+use Rattle.ft_model.proofs.Lists.{none_is_some}
 use Rattle.ft_model.specs.Node.{Node}
 use Rattle.ft_model.specs.Node.Place.{Lives, Ended}
 use Rattle.ft_model.specs.Node.Input.{Tick_comes}
@@ -19,29 +18,18 @@ use Rattle.ft_model.specs.Wire.{Wire}
 use Rattle.reincarnate.specs.declared.entries.Restored.{Restored}
 use Rattle.reincarnate.specs.Progress.{EntryState}
 use Rattle.reincarnate.specs.Refinement.{StandsWhole, RestoredIs, FirstIs}
-use Rattle.server_node.specs.declared.identity.Identity.{Identity}
-use Rattle.server_node.specs.declared.serving.Serving.{Serving}
-use Rattle.server_node.specs.declared.slot.Slot.{Slot}
-use Rattle.server_node.specs.declared.slot.Slot.TheVariants as slot
+use Rattle.node_serving.specs.declared.serving.Serving.{Serving}
+use Rattle.node_serving.specs.declared.slot.Slot.{Slot}
+use Rattle.node_serving.specs.declared.slot.Slot.TheVariants as slot
 use Rattle.server_node.specs.FetchStage.{AreDistinct}
 use Rattle.server_node.specs.RestartEnd.{SlotRevives, AreRestored}
 use Rattle.server_node.specs.RestartNumbers.{IsNumbered, AreNumbered}
-use Rattle.server_node.specs.Loan.{conn_in}
-use Rattle.server_node.specs.Slots.{IsSoundSlot, AllSound}
-use Rattle.server_node.proofs.Admitted.{one_stands_more, next_number}
-use Rattle.server_node.proofs.AllSlots.{go_on}
-use Rattle.server_node.proofs.Opens.{put_on}
+use Rattle.node_serving.specs.Loan.{conn_in}
+use Rattle.node_serving.proofs.Admitted.{one_stands_more, next_number}
+use Rattle.node_serving.proofs.AllSlots.{go_on}
+use Rattle.node_serving.proofs.Found.{found_last}
+use Rattle.node_serving.proofs.Opens.{put_on}
 use Rattle.ft_model.proofs.Keys.{key_eq_turns}
-
--- a slot more stays sound, wherever it comes to stand
-pub sound_insert : {S : Type 0} (who : Identity) (key : Key) (es : List (Key × Slot S)) (now : Slot S) → AllSound who es → IsSoundSlot who key now
-    → AllSound who (insert_entry key_eq es key now)
-sound_insert who key [] now sound s = (s, tt)
-sound_insert who key (e ∷ es) now sound s = go (key_eq key e.0) refl (sound_insert who key es now sound.1 s)
-  where
-    go : (b : Bool) → key_eq key e.0 ≡ b → AllSound who (insert_entry key_eq es key now) → AllSound who (if b then (e.0, now) ∷ es else e ∷ insert_entry key_eq es key now)
-    go true t rest = (subst (λ k. IsSoundSlot who k now) (same_key key e.0 t) s, sound.1)
-    go false t rest = (sound.0, rest)
 
 -- a key that isn't that of the last entry is found among the others
 pub behind_others : {X : Type 0} (key last : Key) (es : List (Key × X)) (x : X) → key_eq key last ≡ false → lookup (key_eq key) es ≡ None → lookup (key_eq key) (es ++ (last, x) ∷ []) ≡ None
@@ -52,17 +40,6 @@ behind_others key last (e ∷ es) x other none = go (key_eq key e.0) refl (behin
     go true t rest = none_is_some e.1 (sym none ∙ ap (λ b. cond b (Some e.1) (lookup (key_eq key) es)) t)
     go false t rest =
         ap (λ b. cond b (Some e.1) (lookup (key_eq key) (es ++ (last, x) ∷ []))) t
-        ∙ rest (sym (ap (λ b. cond b (Some e.1) (lookup (key_eq key) es)) t) ∙ none)
-
--- one that isn't there yet is found at the end
-pub found_last : {X : Type 0} (key : Key) (es : List (Key × X)) (x : X) → lookup (key_eq key) es ≡ None → lookup (key_eq key) (es ++ (key, x) ∷ []) ≡ Some x
-found_last key [] x none = ap (λ b. cond b (Some x) None) (key_is key)
-found_last key (e ∷ es) x none = go (key_eq key e.0) refl (found_last key es x)
-  where
-    go : (b : Bool) → key_eq key e.0 ≡ b → (lookup (key_eq key) es ≡ None → lookup (key_eq key) (es ++ (key, x) ∷ []) ≡ Some x) → lookup (key_eq key) ((e ∷ es) ++ (key, x) ∷ []) ≡ Some x
-    go true t rest = none_is_some e.1 (sym none ∙ ap (λ b. cond b (Some e.1) (lookup (key_eq key) es)) t)
-    go false t rest =
-        ap (λ b. cond b (Some e.1) (lookup (key_eq key) (es ++ (key, x) ∷ []))) t
         ∙ rest (sym (ap (λ b. cond b (Some e.1) (lookup (key_eq key) es)) t) ∙ none)
 
 -- a connection that is found stays so where a slot is added after
@@ -89,7 +66,7 @@ module _ {S : Type 0} (service : Machine S) (node : Node) where
   restored_none now told number none = record {
     places = [];
     packets = [];
-    stands = record { number = number; slots = subst (λ es. Rattle.server_node.specs.Slots.AllStand service node es []) (sym none) tt };
+    stands = record { number = number; slots = subst (λ es. Rattle.node_serving.specs.Slots.AllStand service node es []) (sym none) tt };
     go = (refl, refl);
     numbers = tt;
     others = λ key e. ap (lookup (key_eq key)) none;
@@ -112,7 +89,7 @@ module _ {S : Type 0} (service : Machine S) (node : Node) where
         packets = r.packets ++ s.packets;
         stands = record {
           number = number;
-          slots = subst (λ es. Rattle.server_node.specs.Slots.AllStand service node es (r.places ++ s.after ∷ [])) (sym is)
+          slots = subst (λ es. Rattle.node_serving.specs.Slots.AllStand service node es (r.places ++ s.after ∷ [])) (sym is)
               (one_stands_more service node before.slots.entries r.places f.head.key now s.after r.stands.slots s.stands);
         };
         go = go_on service node Tick_comes (Revives service node) (all_restored service fetched) r.places r.packets s.packets (restored service f) s.after r.go s.turn;

@@ -13,17 +13,17 @@ use Rattle.ft_model.specs.Restart.{Fetched, IsSoundEntry, entry_in, is_fetched, 
 use Rattle.ft_model.specs.Wire.{Wire}
 use Rattle.ft_model.proofs.Keys.{key_eq_turns}
 use Rattle.ft_model.proofs.Lists.{or_left, same_key, key_is, all_append, all_both, all_weaker}
-use Rattle.server_node.specs.declared.serving.Serving.{Serving}
-use Rattle.server_node.specs.declared.slot.Slot.{Slot}
-use Rattle.server_node.specs.declared.slot.Slot.TheVariants as slot
-use Rattle.server_node.specs.Alone.{slot_of, StandsFor}
+use Rattle.node_serving.specs.declared.serving.Serving.{Serving}
+use Rattle.node_serving.specs.declared.slot.Slot.{Slot}
+use Rattle.node_serving.specs.declared.slot.Slot.TheVariants as slot
+use Rattle.node_serving.specs.Alone.{slot_of, StandsFor}
 use Rattle.server_node.specs.Restarts.{IsRestorable, KeyRevives, IsForFetched, RestoredAlone}
 use Rattle.server_node.specs.RestartEnd.{SlotRevives}
-use Rattle.server_node.specs.Ownership.{of_key, IsFor, IsOnlyFor}
-use Rattle.server_node.proofs.Found.{other_last}
-use Rattle.server_node.proofs.Keyed.{none_of, quiet_for, told_is, told_its}
-use Rattle.server_node.proofs.Restored.{behind_others, found_last}
-use Rattle.server_node.proofs.Ticked.{of_both}
+use Rattle.node_serving.specs.Ownership.{of_key, IsFor, IsOnlyFor}
+use Rattle.node_serving.proofs.Found.{other_last, found_last}
+use Rattle.node_serving.proofs.Keyed.{none_of, quiet_for, told_is, told_its}
+use Rattle.server_node.proofs.Restored.{behind_others}
+use Rattle.node_serving.proofs.Ticked.{of_both}
 
 -- a key that isn't fetched is none of these
 all_unlike : (key : Key) (fetched : List Fetched) → is_fetched key fetched ≡ false → AllByRecursion (λ f. key_eq f.head.key key ≡ false) fetched

@@ -12,13 +12,13 @@ use Rattle.ft_model.specs.Wire.{Wire}
 use Rattle.reincarnate.specs.Questions.{FetchingState}
 use Rattle.reincarnate.specs.Refinement.{AnswerLeads}
 use Rattle.reincarnate.specs.Refinement as restart
-use Rattle.server_node.specs.declared.identity.Identity.{Identity}
-use Rattle.server_node.specs.declared.serving.Serving.{Serving}
+use Rattle.node_serving.specs.declared.identity.Identity.{Identity}
+use Rattle.node_serving.specs.declared.serving.Serving.{Serving}
 use Rattle.server_node.specs.declared.stage.Stage.{Stage}
 use Rattle.server_node.specs.declared.stage.Stage.TheVariants as stage
-use Rattle.server_node.specs.Identity.{node_of}
+use Rattle.node_serving.specs.Identity.{node_of}
 use Rattle.server_node.specs.RestartNumbers.{fetched_by}
-use Rattle.server_node.specs.Openings.{ArePut}
+use Rattle.node_serving.specs.Openings.{ArePut}
 use Rattle.server_node.specs.FetchStage.{AreDistinct, FetchingStands, IsOwn}
 use Rattle.server_node.specs.Restarts.{RestoredAlone, StillAsks, RestartGoes, AnswerGoes}
 use Rattle.server_node.specs.RestartEnd.{AreRestored, StageGoes}

@@ -8,20 +8,11 @@ use Rattle.ft_model.specs.Restart.{point_of}
 use Rattle.ft_model.specs.Node.{Node}
 use Rattle.ft_model.specs.Node.Place.{Lives}
 use Rattle.ft_model.specs.Wire.{Wire}
-use Rattle.tcp_endpoint.specs.SendHalf.{Sending}
-use Rattle.tcp_endpoint.specs.Tcb.{Tcb}
-use Rattle.endpoint_laws.specs.Turn.{Call, called}
-use Rattle.endpoint_laws.specs.Turn.Call.{Reads, Writes, Closes}
-use Rattle.endpoint_laws.proofs.EndingLaw.{used_keeps}
-use Rattle.endpoint_laws.proofs.TurnEnd.{flush_keeps}
-use Rattle.north_wrap.specs.NorthState.{lengths_of}
-use Rattle.wrapped_conn.specs.Calls.{calls_of}
 use Rattle.wrapped_conn.specs.ConnState.{ConnState}
-use Rattle.wrapped_conn.specs.Turn.{Starts, tcp_used, new_reads}
 use Rattle.reincarnate.specs.Splice.{SplicedState, IsSpliced, conn_of}
 use Rattle.wrapped_conn.specs.Refinement.{StandsBefore}
-use Rattle.server_node.specs.declared.slot.Slot.TheVariants as slot
-use Rattle.server_node.specs.Conn.{Begins, ConnGoes}
+use Rattle.node_serving.specs.declared.slot.Slot.TheVariants as slot
+use Rattle.node_serving.specs.Conn.{Begins, ConnGoes}
 use Rattle.server_node.specs.RestartNumbers.{GoesOnUnder}
 use Rattle.server_node.specs.RestartEnd.{SlotRevives}
 
@@ -39,22 +30,6 @@ live_again service node e c now old new local boot size before h =
       wires = g.wires;
       spelled = g.spelled;
     }
-
--- no turn without a segment changes the initial number of the TCP inside
-call_numbers : (call : Call) (t : Tcb) → (called call t).sending.iss ≡ t.sending.iss
-call_numbers (Reads n) t = refl
-call_numbers (Writes bytes) t = refl
-call_numbers Closes t = refl
-
-pub number_kept : {S : Type 0} (service : Machine S) (c now : ConnState S) (segments messages : List (List ℕ)) → Starts service.after c now segments messages
-    → now.endpoint.sending.iss ≡ c.endpoint.sending.iss
-number_kept service c now segments messages k =
-    ap (λ x. x.endpoint.sending.iss) k.state
-    ∙ flush_keeps (λ (q : Sending). q.iss) (tcp_used c (new_reads c now)) (record { sends = λ s n. refl; ends = λ s. refl; times = λ s i r. refl })
-    ∙ used_keeps (λ (t : Tcb). t.sending.iss) call_numbers (calls_of c.north c.endpoint (lengths_of (new_reads c now))) c.endpoint
-
-pub delta_kept : {S : Type 0} (service : Machine S) (c now : ConnState S) (segments messages : List (List ℕ)) → Starts service.after c now segments messages → now.south.delta ≡ c.south.delta
-delta_kept service c now segments messages k = ap (λ x. x.south.delta) k.state
 
 -- what a restart has put together goes on under the number that it was given
 pub number_spliced : {S : Type 0} (service : Machine S) (e : Entry) (i : ℕ) (s : SplicedState S) → IsSpliced service e i s → s.endpoint.sending.iss ≡ i

@@ -6,16 +6,17 @@ use Rattle.ft_io.specs.Key.{key_eq}
 use Rattle.ft_model.proofs.Lists.{same_key}
 use Rattle.server_trait.specs.Service.{Machine}
 use Rattle.ft_model.specs.Node.{Node, Place, place_at}
-use Rattle.server_node.specs.declared.serving.Serving.{Serving}
-use Rattle.server_node.specs.declared.slot.Slot.{Slot}
+use Rattle.node_serving.specs.declared.serving.Serving.{Serving}
+use Rattle.node_serving.specs.declared.slot.Slot.{Slot}
 use Rattle.server_node.specs.declared.stage.Stage.{Stage}
 use Rattle.server_node.specs.declared.stage.Stage.TheVariants as stage
-use Rattle.server_node.specs.Alone.{slot_of, slot_in, StandsFor}
-use Rattle.server_node.specs.Loan.{place_in}
+use Rattle.node_serving.specs.Alone.{slot_of, StandsFor}
+use Rattle.server_node.specs.StageAlone.{slot_in}
+use Rattle.node_serving.specs.Loan.{place_in}
 use Rattle.server_node.specs.Runs.{Turned, AreTurns, AreNearFor, RunsAlone}
-use Rattle.server_node.specs.Slots.{AllStand}
+use Rattle.node_serving.specs.Slots.{AllStand}
 use Rattle.server_node.specs.Stages.{StageStands}
-use Rattle.server_node.proofs.Admitted.{place_has}
+use Rattle.node_serving.proofs.Admitted.{place_has}
 
 module _ {S : Type 0} (service : Machine S) (node : Node) (key : Key) where
   -- a key finds its slot where it finds its place

@@ -14,22 +14,22 @@ use Rattle.ft_model.specs.Lawful.{fence, newer_than, summary_count, is_fenced, F
 use Rattle.ft_model.specs.ServingTurn.{newcomers, names}
 use Rattle.ft_model.specs.Wire.{Wire}
 use Rattle.reincarnate.specs.Questions.{FetchingState}
-use Rattle.server_node.specs.declared.identity.Identity.{Identity}
-use Rattle.server_node.specs.declared.serving.Serving.{Serving}
-use Rattle.server_node.specs.declared.slot.Slot.{Slot}
-use Rattle.server_node.specs.declared.slot.Slot.TheVariants as slot
+use Rattle.node_serving.specs.declared.identity.Identity.{Identity}
+use Rattle.node_serving.specs.declared.serving.Serving.{Serving}
+use Rattle.node_serving.specs.declared.slot.Slot.{Slot}
+use Rattle.node_serving.specs.declared.slot.Slot.TheVariants as slot
 use Rattle.server_node.specs.declared.stage.Stage.{Stage}
 use Rattle.server_node.specs.declared.stage.Stage.TheVariants as stage
-use Rattle.server_node.specs.Identity.{node_of}
-use Rattle.server_node.specs.Openings.{ArePut, all_opens}
+use Rattle.node_serving.specs.Identity.{node_of}
+use Rattle.node_serving.specs.Openings.{ArePut, all_opens}
 use Rattle.server_node.specs.FetchStage.{FetchingStands}
-use Rattle.server_node.specs.ServingStage.{ServingStands, ServingGoes}
-use Rattle.server_node.specs.Slots.{SlotStands, AllStand}
+use Rattle.node_serving.specs.ServingStage.{ServingStands, ServingGoes}
+use Rattle.node_serving.specs.Slots.{SlotStands, AllStand}
 use Rattle.server_node.specs.RestartNumbers.{AreNumbered, fetched_by}
 use Rattle.server_node.specs.Stages.{StageStands, NodeGoes}
-use Rattle.server_node.proofs.OneKey.{none_concerned}
-use Rattle.server_node.proofs.Opens.{put_none}
-use Rattle.server_node.proofs.Served.{known_goes, message_goes}
+use Rattle.node_serving.proofs.OneKey.{none_concerned}
+use Rattle.node_serving.proofs.Opens.{put_none}
+use Rattle.node_serving.proofs.Served.{known_goes, message_goes}
 
 module _ {S : Type 0} (service : Machine S) (who : Identity) where
   -- a slot stands at its place in every stage of the node

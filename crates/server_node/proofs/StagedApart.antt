@@ -12,18 +12,19 @@ use Rattle.ft_model.specs.Node.Input.{Packet_comes, Message_comes, Noise_comes, 
 use Rattle.ft_model.specs.ServingTurn.{concerns, names}
 use Rattle.ft_model.specs.Wire.{Wire}
 use Rattle.reincarnate.specs.Questions.{FetchingState}
-use Rattle.server_node.specs.declared.identity.Identity.{Identity}
-use Rattle.server_node.specs.declared.serving.Serving.{Serving}
+use Rattle.node_serving.specs.declared.identity.Identity.{Identity}
+use Rattle.node_serving.specs.declared.serving.Serving.{Serving}
 use Rattle.server_node.specs.declared.stage.Stage.{Stage}
 use Rattle.server_node.specs.declared.stage.Stage.TheVariants as stage
-use Rattle.server_node.specs.Alone.{LeavesOthers, HoldsOthers, Others, Alone, IsUntouched, ServesAlone, GoAlone}
+use Rattle.node_serving.specs.Alone.{LeavesOthers, ServesAlone, GoAlone}
+use Rattle.server_node.specs.StageAlone.{HoldsOthers, Others, Alone, IsUntouched}
 use Rattle.server_node.specs.Apart.{TurnsApart}
-use Rattle.server_node.specs.Identity.{node_of}
+use Rattle.node_serving.specs.Identity.{node_of}
 use Rattle.server_node.specs.Restarts.{Restarts, RestartGoes, MessageRestarts}
 use Rattle.server_node.specs.Stages.{IsSoundStage}
-use Rattle.server_node.specs.Ownership.{IsFor, IsOnlyFor}
-use Rattle.server_node.proofs.Apart.{rests_key}
-use Rattle.server_node.proofs.Knocking.{counted_by}
+use Rattle.node_serving.specs.Ownership.{IsFor, IsOnlyFor}
+use Rattle.node_serving.proofs.MarkedApart.{rests_key}
+use Rattle.node_serving.proofs.Knocking.{counted_by}
 
 module _ {S : Type 0} (service : Machine S) (node : Node) (input : law.Input) (was now : Serving S) (old new : List Wire) (first : old ≡ []) (s : ServesAlone service node input was now old new) where
   all_told : new ≡ s.told

@@ -4,10 +4,10 @@ use Rattle.server_trait.specs.Service.{Machine}
 use Rattle.ft_model.specs.Node.{Input}
 use Rattle.ft_model.specs.Node.{Stage as law_stage}
 use Rattle.ft_model.specs.Wire.{Wire}
-use Rattle.server_node.specs.declared.identity.Identity.{Identity}
+use Rattle.node_serving.specs.declared.identity.Identity.{Identity}
 use Rattle.server_node.specs.declared.stage.Stage.{Stage}
-use Rattle.server_node.specs.Alone.{Others, IsUntouched, Alone}
-use Rattle.server_node.specs.Identity.{node_of}
+use Rattle.server_node.specs.StageAlone.{Others, IsUntouched, Alone}
+use Rattle.node_serving.specs.Identity.{node_of}
 use Rattle.server_node.specs.Restarts.{Restarts}
 
 -- a turn leaves other keys alone, an input that is for nobody here changes nothing, each key has its turn, and each entry is restarted by itself

@@ -11,7 +11,7 @@ use Rattle.reincarnate.specs.declared.marks.Marks.{Marks}
 use Rattle.reincarnate.specs.declared.marks.Marks.TheVariants as marks
 use Rattle.reincarnate.specs.Questions.{FetchingState}
 use Rattle.reincarnate.specs.Refinement.{StandsFetching}
-use Rattle.server_node.specs.declared.identity.Identity.{Identity}
+use Rattle.node_serving.specs.declared.identity.Identity.{Identity}
 
 -- no key is fetched twice
 abbrev pub AreDistinct : List Fetched → Type 0

@@ -8,13 +8,13 @@ use Rattle.std.specs.List.{AllByRecursion-prop, IsDistinct}
 use Rattle.std.specs.Map.{keys_of}
 use Rattle.ft_io.specs.Key.{key_eq}
 use Rattle.std.proofs.Math.Nat.{ℕ_set}
-use Rattle.server_node.specs.declared.identity.Identity.{Identity}
+use Rattle.node_serving.specs.declared.identity.Identity.{Identity}
 use Rattle.server_node.specs.declared.marked.Marked.{Marked}
 use Rattle.server_node.specs.declared.marked.MarkedStage.{MarkedStage}
 use Rattle.server_node.specs.declared.marked.MarkedStage.TheVariants as marked
 use Rattle.server_node.specs.FetchStage.{IsOf, IsOf-prop}
-use Rattle.server_node.specs.Openings.{IsCounted}
-use Rattle.server_node.specs.Slots.{AllSound, IsSoundSlot, IsSoundSlot-prop}
+use Rattle.node_serving.specs.Openings.{IsCounted}
+use Rattle.node_serving.specs.Slots.{AllSound, IsSoundSlot, IsSoundSlot-prop}
 
 -- a question that isn't about marks has no bytes after its fields
 abbrev pub IsBareQuestion : AnyMessage → Type 0

@@ -20,17 +20,17 @@ use Rattle.reincarnate.specs.Progress.{EntryState, ReplayedState}
 use Rattle.reincarnate.specs.Refinement.{IsReplayed, RestoredIs, StandsWhole}
 use Rattle.reincarnate.specs.declared.entries.Restored.{Restored}
 use Rattle.conn_marks.specs.KeyMarks.{KeyMarks, marking_in, Changes}
-use Rattle.server_node.specs.declared.identity.Identity.{Identity}
-use Rattle.server_node.specs.declared.serving.Serving.{Serving}
-use Rattle.server_node.specs.declared.slot.Slot.{Slot}
-use Rattle.server_node.specs.declared.turn.Turn.{Turn}
+use Rattle.node_serving.specs.declared.identity.Identity.{Identity}
+use Rattle.node_serving.specs.declared.serving.Serving.{Serving}
+use Rattle.node_serving.specs.declared.slot.Slot.{Slot}
+use Rattle.node_serving.specs.declared.turn.Turn.{Turn}
 use Rattle.server_node.specs.FetchStage.{AreDistinct}
-use Rattle.server_node.specs.Identity.{node_of, service_of}
+use Rattle.node_serving.specs.Identity.{node_of, service_of}
 use Rattle.conn_marks.specs.MarkSends.{AreOut}
 use Rattle.conn_marks.specs.Settled.{Keeps, AllSettled, IsSettledPoint, MarksPlace}
-use Rattle.server_node.specs.Markers.{Saving, marker_of}
-use Rattle.server_node.specs.ServingStage.{ServingStands}
-use Rattle.server_node.specs.Slots.{SlotStands}
+use Rattle.node_serving.specs.Markers.{Saving, marker_of}
+use Rattle.node_serving.specs.ServingStage.{ServingStands}
+use Rattle.node_serving.specs.Slots.{SlotStands}
 
 -- the fetched bytes fit their type
 abbrev pub AllBytes : List Fetched → Type 0

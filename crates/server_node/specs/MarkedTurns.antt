@@ -27,7 +27,7 @@ use Rattle.reincarnate.specs.Marking.{uses}
 use Rattle.reincarnate.specs.Questions.{FetchingState}
 use Rattle.reincarnate.specs.Refinement.{StandsSoFar}
 use Rattle.conn_marks.specs.KeyMarks.{KeyMarks, Changes}
-use Rattle.server_node.specs.declared.identity.Identity.{Identity}
+use Rattle.node_serving.specs.declared.identity.Identity.{Identity}
 use Rattle.server_node.specs.declared.input.Input.{Input}
 use Rattle.server_node.specs.declared.input.Input.TheVariants as input
 use Rattle.server_node.specs.declared.marked.Marked.{Marked}
@@ -37,13 +37,13 @@ use Rattle.server_node.specs.declared.node.Node.{Node}
 use Rattle.server_node.specs.declared.stage.Stage.{Stage}
 use Rattle.server_node.specs.declared.stage.Stage.TheVariants as stage
 use Rattle.server_node.specs.FetchStage.{AreDistinct}
-use Rattle.server_node.specs.Identity.{node_of}
+use Rattle.node_serving.specs.Identity.{node_of}
 use Rattle.server_node.specs.Marked.{AreApart}
 use Rattle.server_node.specs.MarkedRestart.{AllBytes}
 use Rattle.conn_marks.specs.MarkSends.{AreOut, outgoing_wire, HasOutgoingWire}
 use Rattle.conn_marks.specs.Settled.{Keeps, AllSettled}
-use Rattle.server_node.specs.Markers.{Saving, marker_of, node_at}
-use Rattle.server_node.specs.ServingStage.{ServingStands}
+use Rattle.node_serving.specs.Markers.{Saving, marker_of, node_at}
+use Rattle.node_serving.specs.ServingStage.{ServingStands}
 
 -- what arrives, as the law's input: bytes that no codec reads are noise
 abbrev pub marked_input_of : Input → MarkedInput

@@ -8,8 +8,8 @@ use Rattle.ft_model.specs.Wire.{Wire}
 use Rattle.server_node.specs.contracts.node.Node.{the_row}
 use Rattle.server_node.specs.declared.node.Node.{Node}
 use Rattle.server_node.specs.Apart.{TurnsApart}
-use Rattle.server_node.specs.Identity.{service_of}
-use Rattle.server_node.specs.Turns.{StageTurns}
+use Rattle.node_serving.specs.Identity.{service_of}
+use Rattle.server_node.specs.StageTurns.{StageTurns}
 
 -- a node's turn at this input, with the sent packets that it returns: it stays the same incarnation, and its turn is lawful, and lawful for each key by itself
 pub record NodeTurns {S : Type 0} {s : Ghosts S} (input : Input) (was now : Node S s) (lent : List Wire) : Type 0 where

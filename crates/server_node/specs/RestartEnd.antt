@@ -12,14 +12,14 @@ use Rattle.ft_model.specs.Node as law
 use Rattle.ft_model.specs.ServingTurn.{AllGo}
 use Rattle.ft_model.specs.Lawful.{Revives, all_restored, restored_count}
 use Rattle.ft_model.specs.Wire.{Wire, wire_of, HasWire}
-use Rattle.server_node.specs.declared.identity.Identity.{Identity}
-use Rattle.server_node.specs.declared.serving.Serving.{Serving}
-use Rattle.server_node.specs.declared.slot.Slot.{Slot}
+use Rattle.node_serving.specs.declared.identity.Identity.{Identity}
+use Rattle.node_serving.specs.declared.serving.Serving.{Serving}
+use Rattle.node_serving.specs.declared.slot.Slot.{Slot}
 use Rattle.server_node.specs.declared.stage.Stage.{Stage}
-use Rattle.server_node.specs.Identity.{node_of}
+use Rattle.node_serving.specs.Identity.{node_of}
 use Rattle.server_node.specs.RestartNumbers.{AreNumbered, AllNumbered}
-use Rattle.server_node.specs.Slots.{SlotStands}
-use Rattle.server_node.specs.ServingStage.{ServingStands}
+use Rattle.node_serving.specs.Slots.{SlotStands}
+use Rattle.node_serving.specs.ServingStage.{ServingStands}
 use Rattle.server_node.specs.Stages.{StageStands}
 
 -- a slot's first turn, from the place of its entry

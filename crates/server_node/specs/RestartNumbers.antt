@@ -13,10 +13,10 @@ use Rattle.ft_model.specs.Opening.{initial_number}
 use Rattle.ft_model.specs.Restart.{Fetched, entry_in}
 use Rattle.connection_laws.specs.Splice.{delta_from}
 use Rattle.wrapped_conn.specs.ConnState.{ConnState}
-use Rattle.server_node.specs.declared.slot.Slot.{Slot}
+use Rattle.node_serving.specs.declared.slot.Slot.{Slot}
 use Rattle.server_node.specs.declared.stage.Stage.{Stage}
 use Rattle.server_node.specs.declared.stage.Stage.TheVariants as stage
-use Rattle.server_node.specs.Loan.{conn_in}
+use Rattle.node_serving.specs.Loan.{conn_in}
 
 -- the inner TCP has this initial sequence number i, and delta is the difference from it to the number that the client knows for the unit of output at which
 -- the entry continues: sisn + u - i, modulo 2^32

@@ -17,19 +17,19 @@ use Rattle.reincarnate.specs.Questions.{FetchingState}
 use Rattle.reincarnate.specs.Progress.{EntryState, ReplayedState}
 use Rattle.reincarnate.specs.Refinement.{IsReplayed, RestoredIs, StandsWhole}
 use Rattle.reincarnate.specs.declared.entries.Restored.{Restored}
-use Rattle.server_node.specs.declared.identity.Identity.{Identity}
-use Rattle.server_node.specs.declared.serving.Serving.{Serving}
-use Rattle.server_node.specs.declared.slot.Slot.{Slot}
+use Rattle.node_serving.specs.declared.identity.Identity.{Identity}
+use Rattle.node_serving.specs.declared.serving.Serving.{Serving}
+use Rattle.node_serving.specs.declared.slot.Slot.{Slot}
 use Rattle.server_node.specs.declared.stage.Stage.{Stage}
 use Rattle.server_node.specs.declared.stage.Stage.TheVariants as stage
-use Rattle.server_node.specs.declared.turn.Turn.{Turn}
-use Rattle.server_node.specs.Identity.{node_of, service_of}
-use Rattle.server_node.specs.Loan.{conn_in}
+use Rattle.node_serving.specs.declared.turn.Turn.{Turn}
+use Rattle.node_serving.specs.Identity.{node_of, service_of}
+use Rattle.node_serving.specs.Loan.{conn_in}
 use Rattle.server_node.specs.RestartNumbers.{IsNumbered, fetched_by}
 use Rattle.server_node.specs.FetchStage.{AreDistinct, FetchingStands}
 use Rattle.server_node.specs.Restarts.{RestartGoes, RestoredAlone, AnswerGoes, MessageRestarts}
 use Rattle.server_node.specs.RestartEnd.{SlotRevives, AreRestored, StageGoes}
-use Rattle.server_node.specs.Turns.{Sends}
+use Rattle.node_serving.specs.Turns.{Sends}
 
 -- for a service, given by its ghost members, and an incarnation
 module _ {S : Type 0} (s : Ghosts S) (who : Identity) where

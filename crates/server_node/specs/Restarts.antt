@@ -11,14 +11,14 @@ use Rattle.ft_model.specs.Node.Input.{Packet_comes, Message_comes, Noise_comes, 
 use Rattle.ft_model.specs.Restart.{Fetched, Wanted, IsSoundEntry, entry_in, is_fetched, wanted}
 use Rattle.ft_model.specs.Wire.{Wire, wire_of, HasWire}
 use Rattle.reincarnate.specs.Questions.{FetchingState}
-use Rattle.server_node.specs.declared.serving.Serving.{Serving}
-use Rattle.server_node.specs.declared.slot.Slot.{Slot}
+use Rattle.node_serving.specs.declared.serving.Serving.{Serving}
+use Rattle.node_serving.specs.declared.slot.Slot.{Slot}
 use Rattle.server_node.specs.declared.stage.Stage.{Stage}
 use Rattle.server_node.specs.declared.stage.Stage.TheVariants as stage
-use Rattle.server_node.specs.Alone.{slot_of, StandsFor}
+use Rattle.node_serving.specs.Alone.{slot_of, StandsFor}
 use Rattle.server_node.specs.FetchStage.{FetchingStands}
-use Rattle.server_node.specs.SentBytes.{ArePut}
-use Rattle.server_node.specs.Ownership.{of_key, IsFor}
+use Rattle.node_serving.specs.SentBytes.{ArePut}
+use Rattle.node_serving.specs.Ownership.{of_key, IsFor}
 
 -- an entry that is done, or sound
 abbrev pub IsRestorable : {S : Type 0} → Machine S → Fetched → Type 0

@@ -4,9 +4,10 @@ use Rattle.ft_io.specs.declared.Key.{Key}
 use Rattle.server_trait.specs.Service.{Machine}
 use Rattle.ft_model.specs.Node.{Node, Place, Input}
 use Rattle.ft_model.specs.Wire.{Wire}
-use Rattle.server_node.specs.declared.serving.Serving.{Serving}
+use Rattle.node_serving.specs.declared.serving.Serving.{Serving}
 use Rattle.server_node.specs.declared.stage.Stage.TheVariants as stage
-use Rattle.server_node.specs.Alone.{slot_of, StandsFor, IsNearFor, Alone, KeyGoes}
+use Rattle.node_serving.specs.Alone.{slot_of, StandsFor, IsNearFor, KeyGoes}
+use Rattle.server_node.specs.StageAlone.{Alone}
 
 -- a turn of a node that serves: the input, the node's state after it, and what it sent
 pub record Turned (S : Type 0) : Type 0 where

@@ -10,18 +10,18 @@ use Rattle.ft_model.specs.Node as law
 use Rattle.ft_model.specs.Node.{Stage as law_stage}
 use Rattle.ft_model.specs.Lawful.{LawfulTurn}
 use Rattle.ft_model.specs.Wire.{Wire, wire_of, HasWire}
-use Rattle.server_node.specs.declared.identity.Identity.{Identity}
+use Rattle.node_serving.specs.declared.identity.Identity.{Identity}
 use Rattle.server_node.specs.declared.stage.Stage.{Stage}
 use Rattle.server_node.specs.declared.stage.Stage.TheVariants as stage
 use Rattle.server_node.specs.declared.input.TurnEnd.{TurnEnd}
 use Rattle.server_node.specs.declared.input.TurnEnd.TheVariants as end
-use Rattle.server_node.specs.Identity.{node_of}
+use Rattle.node_serving.specs.Identity.{node_of}
 use Rattle.server_node.specs.FetchStage.{FetchingStands, IsOwn, IsOwn-prop}
 use Rattle.server_node.specs.RestartNumbers.{AllNumbered, fetched_by}
-use Rattle.server_node.specs.Openings.{IsCounted}
-use Rattle.server_node.specs.Slots.{AllSound, IsSoundSlot, IsSoundSlot-prop}
+use Rattle.node_serving.specs.Openings.{IsCounted}
+use Rattle.node_serving.specs.Slots.{AllSound, IsSoundSlot, IsSoundSlot-prop}
 use Rattle.server_node.specs.Marked.{IsSoundMarked, IsSoundMarked-prop}
-use Rattle.server_node.specs.ServingStage.{ServingStands}
+use Rattle.node_serving.specs.ServingStage.{ServingStands}
 
 abbrev pub StageStands : {S : Type 0} → Machine S → law.Node → Stage S → Type 0
 StageStands service node stage.Asking = node.stage ≡ law_stage.Asking

@@ -13,21 +13,19 @@ ghost use Rattle.ft_model.specs.Opening.{initial_number};
 ghost use Rattle.ft_model.specs.Restart.{Fetched, IsSoundEntry, entry_in, is_fetched};
 ghost use Rattle.ft_model.specs.Wire.{Wire};
 ghost use Rattle.server_node.specs.FetchStage.{IsOwn};
-ghost use Rattle.server_node.specs.Identity.{node_of, service_of};
-ghost use Rattle.server_node.specs.Loan.{conn_in};
+ghost use Rattle.node_serving.specs.Identity.{node_of, service_of};
+ghost use Rattle.node_serving.specs.Loan.{conn_in};
 ghost use Rattle.server_node.specs.RestartEnd.{AreRestored};
 ghost use Rattle.server_node.specs.RestartNumbers.{IsNumbered};
-ghost use Rattle.server_node.specs.Slots.{AllSound};
+ghost use Rattle.node_serving.specs.Slots.{AllSound};
 
-use crate::identity::Identity;
 use crate::input::TurnEnd;
 use crate::restarting::ask;
 use crate::reviving::restore;
-use crate::serving::Serving;
 use crate::stage::{Stage, hear, newer_than};
-use crate::turn::Turn;
 use ft_io::NoMemory;
 use logger_wire::{Body, Msg};
+use node_serving::{Identity, Serving, Turn};
 use reincarnate::{Fetching, Restored};
 use server_trait::{Saved, Service};
 

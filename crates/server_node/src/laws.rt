@@ -8,12 +8,13 @@ ghost use Rattle.ft_model.specs.Node.{Node, Place};
 ghost use Rattle.ft_model.specs.Point.{Point};
 ghost use Rattle.wrapped_conn.specs.ConnState.{ConnState};
 ghost use Rattle.wrapped_conn.specs.Sound.{IsSound};
-ghost use Rattle.server_node.specs.declared.serving.Serving.{Serving};
+ghost use Rattle.node_serving.specs.declared.serving.Serving.{Serving};
 ghost use Rattle.server_node.specs.declared.stage.Stage.{Stage};
-ghost use Rattle.server_node.specs.Alone.{slot_of, slot_in, StandsFor};
-ghost use Rattle.server_node.specs.Conn.{IsOursAt};
-ghost use Rattle.server_node.specs.Loan.{place_in};
-ghost use Rattle.server_node.specs.LentConn.{TellsItsPoint};
+ghost use Rattle.node_serving.specs.Alone.{slot_of, StandsFor};
+ghost use Rattle.server_node.specs.StageAlone.{slot_in};
+ghost use Rattle.node_serving.specs.Conn.{IsOursAt};
+ghost use Rattle.node_serving.specs.Loan.{place_in};
+ghost use Rattle.node_serving.specs.LentConn.{TellsItsPoint};
 ghost use Rattle.server_node.specs.Runs.{Turned, AreTurns, AreNearFor, RunsAlone};
 ghost use Rattle.server_node.specs.Stages.{StageStands};
 

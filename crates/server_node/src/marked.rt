@@ -14,31 +14,27 @@ ghost use Rattle.server_trait.specs.Service.{machine};
 ghost use Rattle.mark_laws.specs.Restart.{FetchedSoFar, next_question};
 ghost use Rattle.reincarnate.specs.Refinement.{StandsSoFar};
 ghost use Rattle.reincarnate.specs.Questions.{asked, any_asked};
-ghost use Rattle.server_node.specs.Conn.{IsSound};
-ghost use Rattle.server_node.specs.declared.identity.Identity.{Identity as Incarnation};
+ghost use Rattle.node_serving.specs.Conn.{IsSound};
+ghost use Rattle.node_serving.specs.declared.identity.Identity.{Identity as Incarnation};
 ghost use Rattle.server_node.specs.FetchStage.{IsOf};
-ghost use Rattle.server_node.specs.Loan.{IsConnAt, place_in};
+ghost use Rattle.node_serving.specs.Loan.{IsConnAt, place_in};
 ghost use Rattle.server_node.specs.Marked.{IsSoundMarked, IsBareQuestion, AreApart};
 ghost use Rattle.mark_laws.specs.MarkedNode.{Marker, MarkedNode, outgoing};
-ghost use Rattle.server_node.specs.Markers.{saving};
+ghost use Rattle.node_serving.specs.Markers.{saving};
 ghost use Rattle.conn_marks.specs.MarkSends.{AreOut};
 ghost use Rattle.server_node.specs.MarkedTurns.{MarkedTurns, MarkedStands, BytesTurnMarked, FetchesOnMarked, Notes, SendsQuestion, IsPartBytes, input_of_any};
-ghost use Rattle.server_node.specs.Turns.{IsUnfenced};
+ghost use Rattle.server_node.specs.StageTurns.{IsUnfenced};
 
-use crate::identity::Identity;
 use crate::marked_reviving::restore_all_marked;
-use crate::marked_serving::{
-    apart, serve_mark, serve_message_marked, serve_packet_marked, serve_tick_marked,
-};
 use crate::restarting::hold;
-use crate::sent::{ask_mark, fit, tell};
-use crate::serving::Serving;
-use crate::slots::conn_at;
 use crate::stage::{count_in, send_hello};
-use crate::turn::Turn;
 use conn_marks::Marks;
 use ft_io::{Key, NoMemory};
 use logger_wire::{Body, MarkBody, MarkMsg, Msg, read_mark};
+use node_serving::{
+    Identity, Serving, Turn, apart, ask_mark, conn_at, fit, serve_mark, serve_message_marked,
+    serve_packet_marked, serve_tick_marked, tell,
+};
 use reincarnate::{AnyMsg, Asked, Fetching};
 use segment_codec::PacketRef;
 use server_trait::{Saved, Service};

@@ -2,22 +2,16 @@
 //! due.
 
 ghost use Rattle.std.specs.Prelude.{◌≤◌, length, IfOk, OnOk};
-ghost use Rattle.server_node.specs.Markers.{saving};
+ghost use Rattle.node_serving.specs.Markers.{saving};
 ghost use Rattle.server_node.specs.MarkedRestart.{LogRevivesMarked, EntryRevivesMarked, SlotRevivesMarked, SlotMarked};
-ghost use Rattle.server_node.specs.Openings.{IsCounted};
-ghost use Rattle.server_node.specs.Slots.{AllSound, IsSoundSlot};
+ghost use Rattle.node_serving.specs.Openings.{IsCounted};
+ghost use Rattle.node_serving.specs.Slots.{AllSound, IsSoundSlot};
 
-use crate::identity::Identity;
-use crate::marking::send_new;
-use crate::opening::STRIDE;
 use crate::reviving::revive;
-use crate::serving::Serving;
-use crate::slot::{Slot, live_conn};
-use crate::slots::add_slot;
-use crate::turn::Turn;
 use conn_marks::Marks;
 use ft_io::{Key, NoMemory};
 use indexmap::IndexMap;
+use node_serving::{Identity, STRIDE, Serving, Slot, Turn, add_slot, live_conn, send_new};
 use reincarnate::{Entries, Replayed, Restored};
 use seq_arith::Seq;
 use server_trait::Saved;

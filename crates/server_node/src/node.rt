@@ -3,12 +3,10 @@
 ghost use Rattle.std.specs.Prelude.{◌≤◌};
 ghost use Rattle.server_node.specs.Stages.{IsSoundStage, IsSoundStage-prop};
 
-use crate::identity::Identity;
 use crate::input::{Input, TurnEnd};
-use crate::out_packet::OutPacket;
 use crate::stage::{Stage, conn_in, go, send_hello};
-use crate::turn::Turn;
 use ft_io::{Addr, Key, NoMemory};
+use node_serving::{Identity, OutPacket, Turn};
 use server_trait::{Saved, Service};
 use std::alloc::Global;
 use std::mem;
@@ -31,15 +29,15 @@ impl<S: Saved> Node<S> {
     ghost use Rattle.ft_model.specs.Lawful.{hello};
     ghost use Rattle.ft_model.specs.Wire.{wire_of};
     ghost use Rattle.wrapped_conn.specs.Sound.{IsSound};
-    ghost use Rattle.server_node.specs.Identity.{node_of, service_of};
+    ghost use Rattle.node_serving.specs.Identity.{node_of, service_of};
     ghost use Rattle.server_node.specs.Inputs.{input_of};
-    ghost use Rattle.server_node.specs.Loan.{IsConnAt, place_in};
+    ghost use Rattle.node_serving.specs.Loan.{IsConnAt, place_in};
     ghost use Rattle.server_node.specs.NodeTurns.{NodeTurns, Leaves};
     ghost use Rattle.mark_laws.specs.MarkedNode.{MarkedNode, booted_to_mark};
-    ghost use Rattle.server_node.specs.Markers.{saving, marker_of};
+    ghost use Rattle.node_serving.specs.Markers.{saving, marker_of};
     ghost use Rattle.server_node.specs.MarkedTurns.{MarkedNodeStands, MarkedNodeTurns, marked_input_of};
     ghost use Rattle.server_node.specs.Stages.{StageStands};
-    ghost use Rattle.server_node.specs.Turns.{IsUnfenced, IsFenceOf};
+    ghost use Rattle.server_node.specs.StageTurns.{IsUnfenced, IsFenceOf};
     ghost use Rattle.server_trait.specs.Service.{machine};
 
     /// Boots a server without marks. The boot number is at least 1; initial sequence numbers are counted from `isn`; `kind` chooses the service. `sent` then
@@ -89,7 +87,7 @@ impl<S: Saved> Node<S> {
     }
 
     /// The connection of a key, while it is live. It is at the point that the model has for the key, and each of its calls may be made.
-    #[tactic(auto, unfolding(crate::specs::Conn::IsSound))]
+    #[tactic(auto, unfolding(node_serving::specs::Conn::IsSound))]
     pub fn conn(&self, key: Key) -> Option<&Conn<S>>
         ensures stands { (standing : Standing) → StageStands (service_of S.Service self.now.who) (node_of self.now.who standing) self.now.stage
             → IsConnAt (service_of S.Service self.now.who) (node_of self.now.who standing) (option_copied result) (place_in key standing) }

@@ -13,21 +13,18 @@ ghost use Rattle.reincarnate.specs.Refinement.{StandsFetching, AnswerLeads, fetc
 ghost use Rattle.ft_model.specs.Restart.{Fetched, wanted, question, live_entry, holding_segment};
 ghost use Rattle.ft_model.specs.Network.{source_of};
 ghost use Rattle.ft_model.specs.Node.{is_for};
-ghost use Rattle.server_node.specs.Identity.{service_of};
+ghost use Rattle.node_serving.specs.Identity.{service_of};
 ghost use Rattle.server_node.specs.FetchStage.{FetchingStands, IsOwn, UsesNone, of_log};
 ghost use Rattle.server_node.specs.RestartTurns.{FetchingBegins, FetchingBeginsAlone, FetchingTurns, FetchingTurnsAlone, AnswerTurns, AnswerTurnsAlone, SendsWanted, SendsHeld};
 ghost use Rattle.server_node.specs.Stages.{IsSoundStage};
-ghost use Rattle.server_node.specs.Turns.{SendsFor};
+ghost use Rattle.node_serving.specs.Turns.{SendsFor};
 
-use crate::identity::Identity;
-use crate::refusal::send_bare;
 use crate::reviving::restore_all;
-use crate::sent::tell;
 use crate::stage::Stage;
-use crate::turn::Turn;
 use ft_io::{Key, NoMemory};
 use logger_store::EntryHead;
 use logger_wire::Msg;
+use node_serving::{Identity, Turn, send_bare, tell};
 use reincarnate::{AnyMsg, Asked, Fetching};
 use segment_codec::{Head, PacketRef};
 use seq_arith::{ACK, RST, Seq, has};

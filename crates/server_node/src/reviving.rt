@@ -1,20 +1,14 @@
 //! The turn that ends a restart: every entry of the log gets its slot, in the log's order, and those that aren't done become live.
 
 ghost use Rattle.std.specs.Prelude.{◌≤◌, IfOk, OnOk};
-ghost use Rattle.server_node.specs.Openings.{IsCounted};
+ghost use Rattle.node_serving.specs.Openings.{IsCounted};
 ghost use Rattle.server_node.specs.RestartTurns.{LogRevives, LogRevivesAlone, EntryRevives, EntryRevivesAlone, SlotRevivesFrom, IsNumberedFrom};
-ghost use Rattle.server_node.specs.Slots.{AllSound, IsSoundSlot};
-ghost use Rattle.server_node.specs.Turns.{SendsFor};
+ghost use Rattle.node_serving.specs.Slots.{AllSound, IsSoundSlot};
+ghost use Rattle.node_serving.specs.Turns.{SendsFor};
 
-use crate::identity::Identity;
-use crate::live::start_live;
-use crate::opening::STRIDE;
-use crate::serving::Serving;
-use crate::slot::Slot;
-use crate::slots::add_slot;
-use crate::turn::Turn;
 use ft_io::NoMemory;
 use indexmap::IndexMap;
+use node_serving::{Identity, STRIDE, Serving, Slot, Turn, add_slot, start_live};
 use reincarnate::{Entries, Replayed, Restored};
 use seq_arith::Seq;
 use server_trait::Service;

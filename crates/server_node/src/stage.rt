@@ -1,52 +1,46 @@
 //! The stage of a node, and what an input does to it.
 
-ghost use Rattle.std.specs.Prelude.{◌≡◌, ◌≤◌, ◌∷◌, [], length, Ok, None, Some, IfSome, OnOk, IfOk, IfErr, IsErrOf, option_copied, false};
+ghost use Rattle.std.specs.Prelude.{◌≡◌, ◌≤◌, ◌∷◌, [], Ok, None, Some, IfSome, OnOk, IfOk, IfErr, IsErrOf, option_copied, false};
 ghost use Rattle.seq_arith.specs.PacketGrammar.{reading};
 ghost use Rattle.seq_arith.specs.Message.Body.{HelloMsg};
 ghost use Rattle.segment_codec.specs.Value.{segment_of};
 ghost use Rattle.server_trait.specs.Service.{Machine};
 ghost use Rattle.logger_wire.specs.Value.{body_of, message_of, IsSendable};
 ghost use Rattle.ft_model.specs.Connection.{told_by};
-ghost use Rattle.ft_model.specs.Node.{Node, Stage as Standing, is_for};
+ghost use Rattle.ft_model.specs.Node.{Node, Stage as Standing};
 ghost use Rattle.ft_model.specs.Node.Input.{Packet_comes, Message_comes, Tick_comes};
 ghost use Rattle.ft_model.specs.Lawful.{fence, newer_than, summary_count};
 ghost use Rattle.server_node.specs.Apart.{TurnsApart};
-ghost use Rattle.server_node.specs.Conn.{IsSound};
-ghost use Rattle.server_node.specs.declared.identity.Identity.{Identity as Incarnation};
-ghost use Rattle.server_node.specs.Identity.{node_of, service_of};
+ghost use Rattle.node_serving.specs.Conn.{IsSound};
+ghost use Rattle.node_serving.specs.declared.identity.Identity.{Identity as Incarnation};
+ghost use Rattle.node_serving.specs.Identity.{node_of, service_of};
 ghost use Rattle.server_node.specs.Inputs.{input_of};
-ghost use Rattle.server_node.specs.Loan.{IsConnAt, place_in};
-ghost use Rattle.server_node.specs.Openings.{IsCounted};
-ghost use Rattle.server_node.specs.Slots.{AllSound};
+ghost use Rattle.node_serving.specs.Loan.{IsConnAt, place_in};
 ghost use Rattle.server_node.specs.Stages.{StageStands, IsSoundStage, IsFence, is_marked};
 ghost use Rattle.seq_arith.specs.MarkGrammar.{reading as mark_reading};
 ghost use Rattle.conn_marks.specs.KeyMarks.{every_for};
 ghost use Rattle.mark_laws.specs.MarkedNode.{Marker, MarkedNode};
 ghost use Rattle.mark_laws.specs.MarkedNode.MarkedInput.{Plain_comes};
-ghost use Rattle.server_node.specs.Markers.{saving};
+ghost use Rattle.node_serving.specs.Markers.{saving};
 ghost use Rattle.server_node.specs.MarkedTurns.{IsTurnMarked, NodeStandsAt, HasSlotsApart, marked_input_of, heard_of};
 ghost use Rattle.server_node.specs.RestartTurns.{SummaryRestarts};
-ghost use Rattle.server_node.specs.Turns.{Sends, ServingTurns, ServingTurnsAlone, StageTurns, IsUnfenced, IsFenceOf};
+ghost use Rattle.node_serving.specs.Turns.{Sends};
+ghost use Rattle.server_node.specs.StageTurns.{StageTurns, IsUnfenced, IsFenceOf};
 
-use crate::identity::Identity;
 use crate::input::{Input, TurnEnd};
 use crate::marked::{self, Marked, MarkedStage, apart_in};
 use crate::restarting::{ask, begin_fetching, hold, take_answer};
-use crate::sent::tell;
-use crate::serving::{Serving, serve_message, serve_packet, serve_tick};
-use crate::slots::conn_at;
-use crate::turn::Turn;
 use conn_marks::Marks;
 use ft_io::{Key, NoMemory};
 use logger_wire::{Body, Msg, read_msg};
+use node_serving::{
+    Identity, Serving, Turn, conn_at, serve_bytes, serve_message, serve_tick, tell,
+};
 use reincarnate::Fetching;
 use segment_codec::{PacketRef, read_packet};
 use server_trait::{Saved, Service};
 use std::alloc::Global;
 use wrapped_conn::Conn;
-
-/// The most bytes of a short packet.
-const SHORT_PACKET: usize = 128;
 
 /// The stage of a node.
 #[derive(Drop)]
@@ -284,43 +278,6 @@ fn on_packet<S: Saved>(
         Stage::Marked(node) => Ok(Stage::Marked(marked::give(who, node, segment, packet, turn)?)),
         Stage::Lost => Err(NoMemory),
     }
-}
-
-/// Hands the packet to the stage that serves, as a copy whose numbers the connection changes in place. A short packet is copied into a short buffer, which
-/// takes less time to clear.
-#[tactic(auto, using(crate::proofs::Came::packet_fits))]
-pub(crate) fn serve_bytes<S: Service>(
-    who: Identity,
-    segment: &PacketRef<'_>,
-    packet: &[u8],
-    serving: &mut Serving<S>,
-    turn: &mut Turn,
-) -> Result<(), NoMemory>
-    requires boot { 1 ≤ who.boot }
-    requires read { reading packet.now ≡ Ok (segment_of segment.now) }
-    requires sound { AllSound who serving.old.slots.entries }
-    requires counted { IsCounted who.isn serving.old.next.0 }
-    ensures turn { OnOk result (ServingTurns S.Service who (Packet_comes (segment_of segment.now)) serving.old serving.new turn.old turn.new) }
-    ensures alone { OnOk result (ServingTurnsAlone S.Service who (Packet_comes (segment_of segment.now)) serving.old serving.new turn.old turn.new) }
-    ensures untouched { OnOk result (is_for who.local (segment_of segment.now) ≡ false
-        → (serving.new ≡ serving.old) × (turn.new.sent.items ≡ turn.old.sent.items)) }
-    ensures sound { OnOk result (AllSound who serving.new.slots.entries) }
-    ensures counted { OnOk result (IsCounted who.isn serving.new.next.0) }
-{
-    if packet.len() <= SHORT_PACKET {
-        return serve_packet(who, segment, copied(packet, &mut [0; 128]), serving, turn);
-    }
-    serve_packet(who, segment, copied(packet, &mut [0; 1_500]), serving, turn)
-}
-
-/// Copies a packet to the beginning of this buffer, and returns the copy.
-fn copied<'a>(packet: &[u8], room: &'a mut [u8]) -> &'a mut [u8]
-    requires { length packet.now ≤ length room.old }
-    ensures { result.now ≡ packet.now }
-{
-    let text = &mut room[..packet.len()];
-    text.copy_from_slice(packet);
-    text
 }
 
 /// The connection of a key, while it is live.

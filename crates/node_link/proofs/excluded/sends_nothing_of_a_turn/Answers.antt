@@ -9,7 +9,7 @@ use Rattle.ft_model.specs.Node.{Stage as law_stage}
 use Rattle.ft_model.specs.Node.Input.{Tick_comes}
 use Rattle.ft_model.specs.Wire.{wire_of}
 use Rattle.server_trait.specs.Service.{Machine}
-use Rattle.server_node.specs.Identity.{node_of}
+use Rattle.node_serving.specs.Identity.{node_of}
 use Rattle.server_node.specs.Stages.{StageStands, NodeGoes}
 use Rattle.server_node.specs.declared.stage.Stage.TheVariants as stages
 use Rattle.link_parts.specs.declared.counts.Counts.{Counts}

@@ -3,7 +3,7 @@ use Rattle.std.proofs.Common.{◌≡◌, ◌∙◌, ◌≤◌, ◌^◌, sym, ap,
 use Rattle.link_parts.specs.Receipt.{datagram, IsQuiet}
 use Rattle.ft_model.specs.Node.{Stage as law_stage}
 use Rattle.ft_model.specs.Lawful.{fence}
-use Rattle.server_node.specs.Identity.{node_of}
+use Rattle.node_serving.specs.Identity.{node_of}
 use Rattle.server_node.specs.Inputs.{input_of}
 use Rattle.server_node.specs.Stages.{IsFence}
 use Rattle.node_link.specs.ServerParts.{standing_of}

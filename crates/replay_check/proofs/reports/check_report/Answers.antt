@@ -1,6 +1,6 @@
 use Rattle.std.proofs.Common.{refl, Ok, Err, ⊎_elim}
 use Rattle.replay_check.specs.Stream.{stream}
-use Rattle.replay_check.proofs.Telling.{of_told, told_as, never_done}
+use Rattle.replay_check.proofs.EndTold.{of_told, told_as, never_done}
 use Rattle.replay_check.proofs.Checking.{is_told_code, settles_found, settles_end}
 use Rattle.replay_check.proofs.reports.check_report.Goals as goal
 

@@ -1,7 +1,7 @@
 use Rattle.std.proofs.Common.{refl, Ok, Err, ⊎_elim}
 use Rattle.replay_check.specs.Stream.{stream}
 use Rattle.replay_run.proofs.Settling.{in_order, is_told_code, settles, settles_end}
-use Rattle.replay_check.proofs.Telling.{of_told, told_as, never_done}
+use Rattle.replay_check.proofs.EndTold.{of_told, told_as, never_done}
 use Rattle.replay_run.proofs.schedules.replay_schedule.Goals as goal
 
 pub returns-in-Ok-clause-run : goal.returns-in-Ok-clause-run

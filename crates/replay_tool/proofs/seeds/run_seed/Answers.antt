@@ -3,7 +3,7 @@ use Rattle.replay_seed.specs.SeedWords.{asked}
 use Rattle.replay_tool.specs.SeedRuns.{SeedStops}
 use Rattle.replay_check.specs.Stream.{stream}
 use Rattle.replay_tool.proofs.Seeding.{of_asked, seed_stops}
-use Rattle.replay_check.proofs.Telling.{told_as}
+use Rattle.replay_check.proofs.EndTold.{told_as}
 use Rattle.replay_tool.proofs.seeds.run_seed.Goals as goal
 
 pub returns-in-Ok-clause-ended : goal.returns-in-Ok-clause-ended

@@ -1,5 +1,5 @@
 use Rattle.server_trait.specs.Service.{machine}
-use Rattle.server_node.proofs.LentConn.{tells_its_point}
+use Rattle.node_serving.proofs.LentConn.{tells_its_point}
 use Rattle.server_node.proofs.laws.lent_connections_tell_their_point.Goals as goal
 
 pub returns : goal.returns

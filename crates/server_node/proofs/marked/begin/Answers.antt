@@ -7,10 +7,10 @@ use Rattle.ft_model.specs.Node.Stage.{Asking}
 use Rattle.mark_laws.specs.MarkedNode.{InputTurn}
 use Rattle.mark_laws.specs.MarkedNode.MarkedInput.{Plain_comes}
 use Rattle.server_node.specs.FetchStage.{IsOf}
-use Rattle.server_node.specs.Identity.{node_of}
-use Rattle.server_node.specs.Markers.{saving, marker_of, node_at}
+use Rattle.node_serving.specs.Identity.{node_of}
+use Rattle.node_serving.specs.Markers.{saving, marker_of, node_at}
 use Rattle.server_node.specs.MarkedTurns.{GoesOn}
-use Rattle.server_node.proofs.FetchAnswer.{same_ok}
+use Rattle.node_serving.proofs.Outcomes.{same_ok}
 use Rattle.server_node.proofs.MarkedFetch.{asking_rests, begun_at, begun_stands, told_no_count, told_count, nothing_yet}
 use Rattle.server_node.proofs.Ranged.{count_in_range}
 use Rattle.server_node.proofs.marked.begin.Goals as goal

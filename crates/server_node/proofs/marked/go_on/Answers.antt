@@ -6,7 +6,7 @@ use Rattle.reincarnate.specs.Questions.{any_asked}
 use Rattle.reincarnate.specs.Refinement.{StandsSoFar, StandsFetching, StandsWhole}
 use Rattle.mark_laws.specs.MarkedNode.{FetchesMarked}
 use Rattle.server_node.specs.MarkedTurns.{GoesOn, SendsQuestion}
-use Rattle.server_node.specs.Markers.{saving, marker_of, node_at}
+use Rattle.node_serving.specs.Markers.{saving, marker_of, node_at}
 use Rattle.server_node.proofs.MarkedFetch.{asked_on, ended_on}
 use Rattle.server_node.proofs.marked.go_on.Goals as goal
 

@@ -5,10 +5,10 @@ use Rattle.ft_model.specs.Node.Input.{Message_comes}
 use Rattle.ft_model.specs.Wire.{Wire}
 use Rattle.mark_laws.specs.MarkedNode.{InputTurn}
 use Rattle.mark_laws.specs.MarkedNode.MarkedInput.{Plain_comes}
-use Rattle.server_node.specs.Markers.{saving, marker_of, node_at}
-use Rattle.server_node.specs.MarkedServing.{ServingGoesMarked}
+use Rattle.node_serving.specs.Markers.{saving, marker_of, node_at}
+use Rattle.node_serving.specs.MarkedServing.{ServingGoesMarked}
 use Rattle.server_node.specs.MarkedTurns.{GoesOn, MarkedStands}
-use Rattle.server_node.proofs.MarkedServed.{served_at}
+use Rattle.server_node.proofs.MarkedInputs.{served_at}
 use Rattle.server_node.proofs.marked.hear.Goals as goal
 
 pub returns-in-Asking-clause-turn : goal.returns-in-Asking-clause-turn

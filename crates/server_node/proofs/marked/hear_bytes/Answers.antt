@@ -2,9 +2,9 @@ use Rattle.std.proofs.Common.{◌==◌, false, ◌≡◌, subst}
 use Rattle.std.proofs.lemmas.Bool.{ne_eqb}
 use Rattle.ft_io.proofs.Outcomes.{if_ok}
 use Rattle.logger_wire.specs.MarkValue.{message_of as mark_message_of}
-use Rattle.server_node.specs.Markers.{saving, marker_of}
+use Rattle.node_serving.specs.Markers.{saving, marker_of}
 use Rattle.server_node.specs.MarkedTurns.{BytesTurnMarked}
-use Rattle.server_node.proofs.MarkedServed.{noise_rests_marked, other_rests}
+use Rattle.server_node.proofs.MarkedInputs.{noise_rests_marked, other_rests}
 use Rattle.server_node.proofs.marked.hear_bytes.Goals as goal
 
 pub returns-in_default-clause-turn : goal.returns-in_default-clause-turn

@@ -4,10 +4,10 @@ use Rattle.logger_wire.specs.MarkValue.{message_of as mark_message_of}
 use Rattle.ft_model.specs.Wire.{Wire}
 use Rattle.mark_laws.specs.MarkedNode.{InputTurn}
 use Rattle.mark_laws.specs.MarkedNode.MarkedInput.{Mark_comes}
-use Rattle.server_node.specs.Markers.{saving, marker_of, node_at}
-use Rattle.server_node.specs.MarkedServing.{HeardOfMark}
+use Rattle.node_serving.specs.Markers.{saving, marker_of, node_at}
+use Rattle.node_serving.specs.MarkedServing.{HeardOfMark}
 use Rattle.server_node.specs.MarkedTurns.{GoesOn, MarkedStands}
-use Rattle.server_node.proofs.MarkedServed.{mark_rests, heard_serving}
+use Rattle.server_node.proofs.MarkedInputs.{mark_rests, heard_serving}
 use Rattle.server_node.proofs.marked.hear_mark.Goals as goal
 
 pub returns-in-Asking-clause-turn : goal.returns-in-Asking-clause-turn

@@ -5,7 +5,7 @@ use Rattle.server_trait.specs.Saved.{writing}
 use Rattle.reincarnate.specs.Marking.{any_of}
 use Rattle.reincarnate.specs.Refinement.{StandsSoFar, AnyLeads}
 use Rattle.server_node.specs.Marked.{IsSoundMarked}
-use Rattle.server_node.specs.Markers.{saving, marker_of}
+use Rattle.node_serving.specs.Markers.{saving, marker_of}
 use Rattle.server_node.proofs.MarkedFetch.{took_at, kept_on}
 use Rattle.server_node.proofs.MarkedStage.{answer_kept}
 use Rattle.server_node.proofs.marked.take_answer.Goals as goal

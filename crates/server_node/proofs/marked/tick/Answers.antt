@@ -10,12 +10,12 @@ use Rattle.mark_laws.specs.MarkedNode.MarkedInput.{Plain_comes}
 use Rattle.reincarnate.specs.Questions.{any_asked}
 use Rattle.reincarnate.specs.Refinement.{StandsSoFar}
 use Rattle.server_node.specs.Marked.{IsSoundAt}
-use Rattle.server_node.specs.Markers.{saving, marker_of, node_at}
-use Rattle.server_node.specs.MarkedServing.{ServingGoesMarked}
+use Rattle.node_serving.specs.Markers.{saving, marker_of, node_at}
+use Rattle.node_serving.specs.MarkedServing.{ServingGoesMarked}
 use Rattle.server_node.specs.MarkedTurns.{GoesOn, MarkedStands, SendsQuestion}
-use Rattle.server_node.specs.SentBytes.{ArePut}
+use Rattle.node_serving.specs.SentBytes.{ArePut}
 use Rattle.server_node.proofs.MarkedFetch.{hello_at, tick_asked_at}
-use Rattle.server_node.proofs.MarkedServed.{served_at}
+use Rattle.server_node.proofs.MarkedInputs.{served_at}
 use Rattle.server_node.proofs.marked.tick.Goals as goal
 
 pub returns-in_ok-send_hello-in-Asking-clause-turn : goal.returns-in_ok-send_hello-in-Asking-clause-turn

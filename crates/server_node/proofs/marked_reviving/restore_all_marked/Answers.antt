@@ -3,10 +3,10 @@ use Rattle.ft_model.specs.Lawful.{AreSound}
 use Rattle.ft_model.specs.Opening.{initial_number}
 use Rattle.reincarnate.specs.Refinement.{FirstIs}
 use Rattle.server_node.specs.FetchStage.{AreDistinct}
-use Rattle.server_node.specs.Identity.{node_of, service_of}
+use Rattle.node_serving.specs.Identity.{node_of, service_of}
 use Rattle.server_node.specs.MarkedRestart.{AllBytes, RestoredSoFar}
-use Rattle.server_node.specs.Markers.{saving, marker_of}
-use Rattle.server_node.specs.Slots.{AllSound}
+use Rattle.node_serving.specs.Markers.{saving, marker_of}
+use Rattle.node_serving.specs.Slots.{AllSound}
 use Rattle.server_node.proofs.MarkedRestored.{none_marked_yet, bytes_at}
 use Rattle.server_node.proofs.Restored.{restores_none, restores_more, restores_all, distinct_at, sound_at}
 use Rattle.server_node.proofs.marked_reviving.restore_all_marked.Goals as goal

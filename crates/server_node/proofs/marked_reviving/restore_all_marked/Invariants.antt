@@ -7,11 +7,11 @@ use Rattle.mark_laws.specs.Marking.{Marking}
 use Rattle.reincarnate.specs.Refinement.{StandsWhole}
 use Rattle.conn_marks.specs.Settled.{Keeps}
 use Rattle.server_node.specs.FetchStage.{AreDistinct}
-use Rattle.server_node.specs.Identity.{node_of, service_of}
+use Rattle.node_serving.specs.Identity.{node_of, service_of}
 use Rattle.server_node.specs.MarkedRestart.{AllBytes, RestoredSoFar}
-use Rattle.server_node.specs.Markers.{saving, marker_of}
-use Rattle.server_node.specs.Openings.{IsCounted}
-use Rattle.server_node.specs.Slots.{AllSound}
+use Rattle.node_serving.specs.Markers.{saving, marker_of}
+use Rattle.node_serving.specs.Openings.{IsCounted}
+use Rattle.node_serving.specs.Slots.{AllSound}
 use Rattle.server_node.proofs.Restored.{RestoresOn}
 use Rattle.server_node.proofs.marked_reviving.restore_all_marked.Given as goal
 

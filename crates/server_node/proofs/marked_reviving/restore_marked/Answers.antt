@@ -2,12 +2,12 @@ use Rattle.std.proofs.Common.{◌≡◌, ◌∙◌, ap, refl, sym, subst}
 use Rattle.std.proofs.lemmas.Result.{on_ok_weaker}
 use Rattle.reincarnate.specs.Refinement.{RestoredIs}
 use Rattle.ft_model.specs.Restart.{entry_in}
-use Rattle.server_node.specs.Identity.{node_of, service_of}
-use Rattle.server_node.specs.Markers.{saving, marker_of}
-use Rattle.server_node.specs.Slots.{IsSoundSlot}
+use Rattle.node_serving.specs.Identity.{node_of, service_of}
+use Rattle.node_serving.specs.Markers.{saving, marker_of}
+use Rattle.node_serving.specs.Slots.{IsSoundSlot}
 use Rattle.server_node.proofs.MarkedRestored.{ended_marked, live_marked}
-use Rattle.server_node.proofs.Knocking.{counted_on}
-use Rattle.server_node.proofs.Turned.{at_ok}
+use Rattle.node_serving.proofs.Knocking.{counted_on}
+use Rattle.node_serving.proofs.Turned.{at_ok}
 use Rattle.server_node.proofs.marked_reviving.restore_marked.Goals as goal
 
 pub returns-in-Ended-clause-turn : goal.returns-in-Ended-clause-turn

@@ -1,7 +1,7 @@
 use Rattle.std.proofs.Common.{◌≡◌, ◌∙◌, ap, sym, subst, Some}
-use Rattle.server_node.specs.Identity.{node_of}
-use Rattle.server_node.specs.Markers.{saving, marker_of}
-use Rattle.server_node.specs.Slots.{SlotStands}
+use Rattle.node_serving.specs.Identity.{node_of}
+use Rattle.node_serving.specs.Markers.{saving, marker_of}
+use Rattle.node_serving.specs.Slots.{SlotStands}
 use Rattle.conn_marks.specs.Settled.{MarksPlace}
 use Rattle.server_node.proofs.MarkedRestored.{revives_with}
 use Rattle.server_node.proofs.marked_reviving.revive_marked.Goals as goal

@@ -1,6 +1,6 @@
 use Rattle.std.proofs.Common.{refl, sym, subst, [], ap}
 use Rattle.server_node.specs.FetchStage.{IsOwn}
-use Rattle.server_node.proofs.FetchAnswer.{same_ok}
+use Rattle.node_serving.proofs.Outcomes.{same_ok}
 use Rattle.server_node.proofs.restarting.begin_fetching.Goals as goal
 use Rattle.ft_io.proofs.Outcomes.{if_ok}
 

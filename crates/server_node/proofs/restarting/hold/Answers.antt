@@ -6,11 +6,11 @@ use Rattle.segment_codec.specs.Value.{segment_of}
 use Rattle.logger_store.specs.StoreState.{head_value}
 use Rattle.ft_model.specs.Network.{source_of}
 use Rattle.ft_model.specs.Node.{is_for}
-use Rattle.server_node.specs.Identity.{node_of}
+use Rattle.node_serving.specs.Identity.{node_of}
 use Rattle.server_node.proofs.FetchAnswer.{own_stands}
 use Rattle.server_node.proofs.FetchReply.{none_held, one_held}
 use Rattle.std.proofs.lemmas.Bool.{and_parts}
-use Rattle.server_node.proofs.Keyed.{quiet_for, refused_for, held_back}
+use Rattle.node_serving.proofs.Keyed.{quiet_for, refused_for, held_back}
 use Rattle.server_node.proofs.restarting.hold.Goals as goal
 
 pub returns-in-Some-clause-held : goal.returns-in-Some-clause-held

@@ -3,13 +3,13 @@ use Rattle.std.proofs.lemmas.Result.{on_ok_weaker}
 use Rattle.server_trait.specs.Service.{machine}
 use Rattle.reincarnate.specs.Refinement.{RestoredIs}
 use Rattle.ft_model.specs.Restart.{entry_in}
-use Rattle.server_node.specs.Identity.{node_of}
-use Rattle.server_node.specs.Slots.{IsSoundSlot}
-use Rattle.server_node.proofs.Knocking.{counted_on}
-use Rattle.server_node.specs.Ownership.{IsOnlyFor}
+use Rattle.node_serving.specs.Identity.{node_of}
+use Rattle.node_serving.specs.Slots.{IsSoundSlot}
+use Rattle.node_serving.proofs.Knocking.{counted_on}
+use Rattle.node_serving.specs.Ownership.{IsOnlyFor}
 use Rattle.server_node.proofs.Restored.{ended_more, live_more}
 use Rattle.server_node.proofs.RestoredAlone.{ended_alone, live_alone}
-use Rattle.server_node.proofs.Turned.{at_ok}
+use Rattle.node_serving.proofs.Turned.{at_ok}
 use Rattle.server_node.proofs.reviving.restore.Goals as goal
 
 pub returns-in-Ended-clause-turn : goal.returns-in-Ended-clause-turn

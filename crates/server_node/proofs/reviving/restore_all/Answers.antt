@@ -3,11 +3,11 @@ use Rattle.server_trait.specs.Service.{machine}
 use Rattle.ft_model.specs.Lawful.{AreSound}
 use Rattle.ft_model.specs.Opening.{initial_number}
 use Rattle.reincarnate.specs.Refinement.{FirstIs}
-use Rattle.server_node.specs.Identity.{node_of}
+use Rattle.node_serving.specs.Identity.{node_of}
 use Rattle.server_node.specs.FetchStage.{AreDistinct}
 use Rattle.server_node.specs.Restarts.{RestoredAlone}
 use Rattle.server_node.specs.RestartEnd.{AreRestored}
-use Rattle.server_node.specs.Slots.{AllSound}
+use Rattle.node_serving.specs.Slots.{AllSound}
 use Rattle.server_node.proofs.Restored.{restored_none, restores_none, restores_more, restores_all, distinct_at, sound_at}
 use Rattle.server_node.proofs.RestoredAlone.{none_restored}
 use Rattle.server_node.proofs.reviving.restore_all.Goals as goal

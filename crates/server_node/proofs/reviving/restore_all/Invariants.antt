@@ -4,12 +4,12 @@ use Rattle.ft_model.specs.Restart.{Fetched}
 use Rattle.ft_model.specs.Node.{Stage}
 use Rattle.ft_model.specs.Lawful.{AreSound}
 use Rattle.reincarnate.specs.Refinement.{StandsWhole}
-use Rattle.server_node.specs.Identity.{node_of}
-use Rattle.server_node.specs.Openings.{IsCounted}
+use Rattle.node_serving.specs.Identity.{node_of}
+use Rattle.node_serving.specs.Openings.{IsCounted}
 use Rattle.server_node.specs.FetchStage.{AreDistinct}
 use Rattle.server_node.specs.Restarts.{RestoredAlone}
 use Rattle.server_node.specs.RestartEnd.{AreRestored}
-use Rattle.server_node.specs.Slots.{AllSound}
+use Rattle.node_serving.specs.Slots.{AllSound}
 use Rattle.server_node.proofs.Restored.{RestoresOn}
 use Rattle.server_node.proofs.reviving.restore_all.Given as goal
 

@@ -1,10 +1,10 @@
 use Rattle.std.proofs.Common.{◌≡◌, ◌∙◌, ap, sym, subst}
 use Rattle.server_trait.specs.Service.{machine}
-use Rattle.server_node.specs.Identity.{node_of}
-use Rattle.server_node.specs.declared.slot.Slot.TheVariants as slot
-use Rattle.server_node.specs.Conn.{IsSound}
-use Rattle.server_node.specs.Slots.{IsSoundSlot}
-use Rattle.server_node.specs.Ownership.{IsOnlyFor}
+use Rattle.node_serving.specs.Identity.{node_of}
+use Rattle.node_serving.specs.declared.slot.Slot.TheVariants as slot
+use Rattle.node_serving.specs.Conn.{IsSound}
+use Rattle.node_serving.specs.Slots.{IsSoundSlot}
+use Rattle.node_serving.specs.Ownership.{IsOnlyFor}
 use Rattle.server_node.proofs.Revived.{live_again, goes_on_under}
 use Rattle.server_node.proofs.reviving.revive.Goals as goal
 

@@ -9,14 +9,14 @@ use Rattle.ft_model.specs.Node.Input.{Packet_comes, Message_comes, Noise_comes}
 use Rattle.ft_model.specs.World.{segment_or_noise, message_or_noise}
 use Rattle.server_node.specs.Apart.{TurnsApart}
 use Rattle.server_node.specs.Inputs.{input_of}
-use Rattle.server_node.specs.Turns.{StageTurns, IsUnfenced, IsFenceOf}
+use Rattle.server_node.specs.StageTurns.{StageTurns, IsUnfenced, IsFenceOf}
 use Rattle.server_node.proofs.Staged.{noise_rests}
 use Rattle.server_node.proofs.StagedApart.{rest_apart}
 use Rattle.ft_io.proofs.Choices.{by_cases}
-use Rattle.server_node.specs.Identity.{node_of}
+use Rattle.node_serving.specs.Identity.{node_of}
 use Rattle.server_node.specs.Stages.{is_marked}
 use Rattle.server_node.proofs.MarkedStage.{stands_plain, marked_apart, unheard, unheard_apart}
-use Rattle.server_node.specs.Markers.{saving}
+use Rattle.node_serving.specs.Markers.{saving}
 use Rattle.server_node.specs.MarkedTurns.{IsTurnMarked, marked_input_of, heard_of}
 use Rattle.mark_laws.specs.MarkedNode.MarkedInput.{Plain_comes}
 use Rattle.seq_arith.specs.MarkGrammar.{reading as mark_reading}

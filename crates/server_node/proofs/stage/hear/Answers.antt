@@ -4,11 +4,11 @@ use Rattle.server_trait.specs.Service.{machine}
 use Rattle.logger_wire.specs.Value.{message_of}
 use Rattle.ft_model.specs.Node.Input.{Message_comes}
 use Rattle.server_node.specs.Apart.{TurnsApart}
-use Rattle.server_node.specs.Identity.{node_of}
+use Rattle.node_serving.specs.Identity.{node_of}
 use Rattle.server_node.specs.Stages.{NodeGoes}
 use Rattle.server_node.proofs.Staged.{others_message}
 use Rattle.server_node.proofs.StagedApart.{rest_apart, other_boot, other_restarts}
-use Rattle.server_node.specs.Markers.{saving}
+use Rattle.node_serving.specs.Markers.{saving}
 use Rattle.server_node.proofs.MarkedNodes.{other_turn}
 use Rattle.server_node.proofs.stage.hear.Goals as goal
 

@@ -6,18 +6,18 @@ use Rattle.ft_model.specs.Node.Stage.{Fetching}
 use Rattle.ft_model.specs.Node.Input.{Message_comes}
 use Rattle.server_node.specs.declared.stage.Stage.TheVariants as stage
 use Rattle.server_node.specs.Apart.{TurnsApart}
-use Rattle.server_node.specs.Identity.{node_of}
+use Rattle.node_serving.specs.Identity.{node_of}
 use Rattle.server_node.specs.RestartNumbers.{fetched_by}
 use Rattle.server_node.specs.Restarts.{AnswerGoes}
 use Rattle.server_node.specs.RestartEnd.{StageGoes}
-use Rattle.server_node.specs.ServingStage.{ServingGoes}
+use Rattle.node_serving.specs.ServingStage.{ServingGoes}
 use Rattle.server_node.specs.Stages.{StageStands, is_marked}
 use Rattle.server_node.proofs.Resuming.{answered_on}
 use Rattle.server_node.proofs.StagedApart.{serving_apart}
 use Rattle.server_node.proofs.Staged.{serves_on}
 use Rattle.server_node.proofs.stage.on_message.Goals as goal
 use Rattle.ft_io.proofs.Outcomes.{if_ok}
-use Rattle.server_node.specs.Markers.{saving}
+use Rattle.node_serving.specs.Markers.{saving}
 use Rattle.server_node.specs.MarkedTurns.{IsTurnMarked}
 use Rattle.mark_laws.specs.MarkedNode.MarkedInput.{Plain_comes}
 use Rattle.server_node.proofs.MarkedNodes.{unmarked_turn}

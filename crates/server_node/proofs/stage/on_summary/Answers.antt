@@ -4,7 +4,7 @@ use Rattle.logger_wire.specs.Value.{body_of, message_of}
 use Rattle.ft_model.specs.Lawful.{Fetches, summary_count}
 use Rattle.ft_model.specs.Node.Input.{Message_comes}
 use Rattle.server_node.specs.declared.stage.Stage.TheVariants as stage
-use Rattle.server_node.specs.Identity.{node_of}
+use Rattle.node_serving.specs.Identity.{node_of}
 use Rattle.server_node.specs.Restarts.{RestartGoes}
 use Rattle.server_node.specs.RestartEnd.{StageGoes}
 use Rattle.server_node.specs.Stages.{NodeGoes}

@@ -7,15 +7,15 @@ use Rattle.ft_model.specs.Restart.{wanted}
 use Rattle.ft_model.specs.Node.Input.{Tick_comes}
 use Rattle.server_node.specs.declared.stage.Stage.TheVariants as stage
 use Rattle.server_node.specs.Apart.{TurnsApart}
-use Rattle.server_node.specs.Identity.{node_of}
-use Rattle.server_node.specs.Openings.{ArePut}
-use Rattle.server_node.specs.ServingStage.{ServingGoes}
+use Rattle.node_serving.specs.Identity.{node_of}
+use Rattle.node_serving.specs.Openings.{ArePut}
+use Rattle.node_serving.specs.ServingStage.{ServingGoes}
 use Rattle.server_node.specs.Stages.{StageStands, is_marked}
 use Rattle.server_node.proofs.Resuming.{ticks_on}
 use Rattle.server_node.proofs.StagedApart.{serving_apart}
 use Rattle.server_node.proofs.Staged.{asks_on, serves_on}
 use Rattle.server_node.proofs.stage.on_tick.Goals as goal
-use Rattle.server_node.specs.Markers.{saving}
+use Rattle.node_serving.specs.Markers.{saving}
 use Rattle.server_node.specs.MarkedTurns.{IsTurnMarked}
 use Rattle.mark_laws.specs.MarkedNode.MarkedInput.{Plain_comes}
 use Rattle.server_node.proofs.MarkedNodes.{unmarked_turn}

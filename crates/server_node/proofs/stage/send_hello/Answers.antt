@@ -1,5 +1,5 @@
 use Rattle.std.proofs.Common.{rules}
-use Rattle.server_node.proofs.Sendable.{hello_tells}
+use Rattle.node_serving.proofs.Sendable.{hello_tells}
 use Rattle.server_node.proofs.stage.send_hello.Goals as goal
 
 pub tell-requires-clause-sendable : goal.tell-requires-clause-sendable

@@ -1,6 +1,6 @@
 use Rattle.std.proofs.Common.{sym, subst, refl, rules}
 use Rattle.std.proofs.lemmas.Result.{on_ok_weaker}
-use Rattle.server_node.specs.Markers.{saving}
+use Rattle.node_serving.specs.Markers.{saving}
 use Rattle.net_schedule.specs.Turns.{Does, Declines}
 use Rattle.net_schedule.proofs.TwinActors.{acted, acted_not, movers_are_actors}
 use Rattle.net_schedule.proofs.world.World.act.Goals as goal

@@ -1,5 +1,5 @@
 use Rattle.std.proofs.lemmas.Result.{on_ok_weaker}
-use Rattle.server_node.specs.Markers.{saving}
+use Rattle.node_serving.specs.Markers.{saving}
 use Rattle.net_schedule.proofs.Brought.{to_client, to_server, answer_to_server, to_logger, to_tail, to_head}
 use Rattle.net_schedule.proofs.world.World.bring.Goals as goal
 

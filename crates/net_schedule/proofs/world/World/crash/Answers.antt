@@ -1,6 +1,6 @@
 use Rattle.std.proofs.Common.{◌≡◌, ◌∙◌, sym, ap, subst, refl, le_refl, not, is_some, option_map}
 use Rattle.ft_model.specs.declared.event.Event.TheVariants.{Crash}
-use Rattle.server_node.specs.Markers.{saving}
+use Rattle.node_serving.specs.Markers.{saving}
 use Rattle.net_schedule.specs.MarkedTurns.{marker_in}
 use Rattle.net_schedule.specs.WorldView.{kept, server_of, service_of}
 use Rattle.net_schedule.proofs.Events.{crashes, refuses_down}

@@ -1,7 +1,7 @@
 use Rattle.std.proofs.Common.{◌≡◌, ◌∙◌, sym, ap, refl, Some}
 use Rattle.std.specs.Prelude.{option_copied}
 use Rattle.schedule_network.specs.AtNumber.{at_number}
-use Rattle.server_node.specs.Markers.{saving}
+use Rattle.node_serving.specs.Markers.{saving}
 use Rattle.net_schedule.specs.MarkedTurns.{marker_in}
 use Rattle.net_schedule.specs.WorldView.{kept, service_of}
 use Rattle.net_schedule.proofs.Events.{delivers, refuses_packet}

@@ -3,7 +3,7 @@ use Rattle.std.specs.Prelude.{option_copied}
 use Rattle.seq_arith.specs.Damage.{flipped}
 use Rattle.ft_model.specs.World.{DeliveredAs}
 use Rattle.twin_laws.specs.TwinWorld.{seen}
-use Rattle.server_node.specs.Markers.{saving}
+use Rattle.node_serving.specs.Markers.{saving}
 use Rattle.net_schedule.specs.MarkedTurns.{marker_in}
 use Rattle.net_schedule.specs.WorldView.{kept, service_of}
 use Rattle.mark_laws.specs.MarkedWorld.{ComesAs as MarkedComes}

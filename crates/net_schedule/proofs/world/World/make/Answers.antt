@@ -5,7 +5,7 @@ use Rattle.seq_arith.specs.PacketGrammar.{spelling}
 use Rattle.ft_model.specs.Client.{segment_of, window_of}
 use Rattle.ft_model.specs.World.{client_at}
 use Rattle.ft_model.specs.declared.way.Way.TheVariants.{ClientToServer}
-use Rattle.server_node.specs.Markers.{saving}
+use Rattle.node_serving.specs.Markers.{saving}
 use Rattle.net_schedule.specs.MarkedTurns.{marker_in}
 use Rattle.schedule_network.specs.StoredPackets.{with_packet}
 use Rattle.net_schedule.specs.WorldView.{kept, service_of}

@@ -2,7 +2,7 @@ use Rattle.std.proofs.Common.{◌≡◌, ◌∙◌, ap, map, ℕ, ◌<◌, nat_l
 use Rattle.std.proofs.lemmas.Bool.{lt-ltb}
 use Rattle.ft_model.specs.Legal.{machines}
 use Rattle.ft_model.specs.Schedule.{clients_of}
-use Rattle.server_node.specs.Markers.{saving}
+use Rattle.node_serving.specs.Markers.{saving}
 use Rattle.net_schedule.proofs.FirstWorld.{begun_so, stands_at_start, twin_stands_at_start, marked_stands_at_start, no_marks, no_twin_marks, marks_are}
 use Rattle.net_schedule.proofs.world.World.new.Goals as goal
 

@@ -1,7 +1,7 @@
 use Rattle.std.proofs.Common.{◌≡◌, ◌∙◌, ◌≤◌, ap, sym, subst, refl, le_refl, Some, option_map, length}
 use Rattle.std.proofs.lemmas.Result.{on_ok_weaker}
 use Rattle.server_node.specs.Inputs.{input_of}
-use Rattle.server_node.specs.Markers.{saving}
+use Rattle.node_serving.specs.Markers.{saving}
 use Rattle.server_node.specs.MarkedTurns.{marked_input_of}
 use Rattle.net_schedule.specs.MarkedTurns.{marker_in}
 use Rattle.schedule_network.specs.StoredPackets.{with_wires}

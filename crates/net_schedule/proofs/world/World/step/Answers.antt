@@ -1,5 +1,5 @@
 use Rattle.ft_model.specs.Legal.{machines}
-use Rattle.server_node.specs.Markers.{saving}
+use Rattle.node_serving.specs.Markers.{saving}
 use Rattle.net_schedule.specs.Along.{StepsMarked, EndsMarked}
 use Rattle.net_schedule.specs.MarkedRefinement.{marker_for}
 use Rattle.net_schedule.specs.WorldView.{kept}

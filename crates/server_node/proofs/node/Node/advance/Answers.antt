@@ -1,5 +1,5 @@
 use Rattle.std.proofs.Common.{rules, ◌≡◌, refl, subst}
-use Rattle.server_node.specs.Markers.{saving}
+use Rattle.node_serving.specs.Markers.{saving}
 use Rattle.server_node.specs.MarkedTurns.{IsTurnMarked, marked_input_of}
 use Rattle.server_node.proofs.MarkedNodes.{node_goes, calm}
 use Rattle.server_node.proofs.node.Node.advance.Goals as goal

@@ -1,5 +1,5 @@
-use Rattle.server_node.specs.Conn.{IsSound}
-use Rattle.server_node.specs.Markers.{saving, marker_of}
+use Rattle.node_serving.specs.Conn.{IsSound}
+use Rattle.node_serving.specs.Markers.{saving, marker_of}
 use Rattle.server_node.proofs.node.Node.conn.Goals as goal
 
 pub returns-clause-sound : goal.returns-clause-sound

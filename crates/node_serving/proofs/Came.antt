@@ -1,0 +1,47 @@
+-- What a packet says that a connection is given.
+use Rattle.std.proofs.Common.{◌≡◌, ℕ, ◌+◌, ◌<◌, ◌≤◌, ◌^◌, refl, sym, ap, subst, Ok, List, length, drop, slice_index, arith, length-drop}
+use Rattle.std.specs.Prelude.{IsOk}
+use Rattle.seq_arith.specs.Bytes.{word_at, long_at}
+use Rattle.seq_arith.specs.Packet.{Segment}
+use Rattle.seq_arith.specs.PacketGrammar.{reading, payload_at, head_in, segment_in}
+use Rattle.segment_codec.proofs.Accepting.{packet_is_short, start_is_there}
+use Rattle.ft_model.specs.Offset.{IsNear}
+use Rattle.ft_model.specs.Point.{Point}
+use Rattle.connection_laws.specs.Turn.{SegmentFits}
+use Rattle.node_serving.proofs.Turned.{packet_is}
+
+long_low : (bytes : List ℕ) (at : ℕ) → ((i : ℕ) → slice_index bytes i < 256) → long_at bytes at < 2 ^ 32
+unfolding long_at
+long_low bytes at small = omega (arith, small at, small (at + 1), small (at + 2), small (at + 3))
+
+word_low : (bytes : List ℕ) (at : ℕ) → ((i : ℕ) → slice_index bytes i < 256) → word_at bytes at ≤ 65535
+unfolding word_at
+word_low bytes at small = omega (arith, small at, small (at + 1))
+
+pub accepted : (bytes : List ℕ) (segment : Segment) → reading bytes ≡ Ok segment → IsOk (reading bytes)
+accepted bytes segment reads = subst (λ r. IsOk r) (sym reads) refl
+
+pub packet_fits : (bytes : List ℕ) (segment : Segment) → reading bytes ≡ Ok segment → length bytes ≤ 1500
+packet_fits bytes segment reads = packet_is_short bytes (accepted bytes segment reads)
+
+pub text_fits : (bytes : List ℕ) (segment : Segment) → reading bytes ≡ Ok segment → length segment.payload ≤ 1460
+unfolding segment_in
+text_fits bytes segment reads =
+    let ok = accepted bytes segment reads in
+    let size = length-drop (payload_at bytes) bytes in
+    let long = packet_is_short bytes ok in
+    let start = start_is_there bytes ok in
+    let short : length (drop (payload_at bytes) bytes) ≤ 1460 = omega (arith, size, long, start.0) in
+    subst (λ xs. length xs ≤ 1460) (ap (λ (s : Segment). s.payload) (packet_is bytes segment reads)) short
+
+pub fits : (p : Point) (bytes : List ℕ) (segment : Segment) → ((i : ℕ) → slice_index bytes i < 256) → reading bytes ≡ Ok segment → IsNear p.cisn p.sisn segment → SegmentFits p segment
+unfolding segment_in head_in
+fits p bytes segment small reads near =
+    let is = packet_is bytes segment reads in
+    let few = text_fits bytes segment reads in record {
+      ack = subst (λ n. n < 2 ^ 32) (ap (λ (s : Segment). s.head.ack) is) (long_low bytes 28 small);
+      seq = subst (λ n. n < 2 ^ 32) (ap (λ (s : Segment). s.head.seq) is) (long_low bytes 24 small);
+      window = subst (λ n. n ≤ 65535) (ap (λ (s : Segment). s.head.window) is) (word_low bytes 34 small);
+      text = omega (arith, few);
+      near = λ has. (near.ack has).0;
+    }

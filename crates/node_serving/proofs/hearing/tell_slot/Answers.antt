@@ -1,0 +1,20 @@
+use Rattle.std.proofs.Common.{subst}
+use Rattle.std.proofs.lemmas.Result.{on_ok_weaker}
+use Rattle.server_trait.specs.Service.{machine}
+use Rattle.logger_wire.specs.Value.{message_of}
+use Rattle.node_serving.specs.Identity.{node_of}
+use Rattle.node_serving.specs.Slots.{SlotStands}
+use Rattle.node_serving.proofs.Heard.{live_hears}
+use Rattle.node_serving.proofs.Keyed.{quiet_for}
+use Rattle.node_serving.proofs.hearing.tell_slot.Goals as goal
+
+pub returns-in-Live-clause-turn : goal.returns-in-Live-clause-turn
+returns-in-Live-clause-turn g c = on_ok_weaker c.tell_live.result
+    (λ h kept log stage place near st.
+    let service = machine (g.S.Service.started c.args.who.kind) g.S.Service.after in
+    live_hears service (node_of c.args.who stage) (message_of c.args.m.now) log.boot c.args.key kept log.says log.client place c.in-Live.conn c.tell_live.new.conn c.args.turn.now.sent.items c.tell_live.new.turn.sent.items
+    (subst (λ s. SlotStands service (node_of c.args.who stage) c.args.key s place) c.in-Live.is st)
+    (λ p key stands. h kept log p tt key stands)) c.tell_live.ensures.turn
+
+pub returns-in-Pending-clause-alone : goal.returns-in-Pending-clause-alone
+returns-in-Pending-clause-alone g c = quiet_for c.args.key c.args.turn.now.sent.items

@@ -1,0 +1,38 @@
+use Rattle.std.proofs.Common.{◌∙◌, refl, sym, subst, List}
+use Rattle.std.proofs.lemmas.Result.{on_ok_weaker}
+use Rattle.std.specs.Option.{option_copied}
+use Rattle.seq_arith.specs.Mark.MarkBody.{MarkedMsg}
+use Rattle.conn_marks.specs.Settled.{MarksNew}
+use Rattle.ft_model.specs.Node.{place_at}
+use Rattle.ft_model.specs.Wire.{Wire}
+use Rattle.node_serving.specs.Identity.{node_of}
+use Rattle.node_serving.specs.Loan.{IsConnAt}
+use Rattle.node_serving.specs.Markers.{saving, marker_of, node_at}
+use Rattle.node_serving.specs.MarkedServing.{HeardOfMark}
+use Rattle.node_serving.proofs.MarkedServed.{not_heard, none_live, heard_at, places_apart}
+use Rattle.node_serving.proofs.marked_serving.hear_marked.Goals as goal
+
+pub send_new-requires-clause-sound : goal.send_new-requires-clause-sound
+send_new-requires-clause-sound g c = c.in-Some.ensures.sound c.args.who c.requires.sound
+
+pub returns-in_default : goal.returns-in_default
+returns-in_default g c = λ boot every standing awaits marking opened places keeps settled st.
+    let by = marker_of g.S.Service (saving g.S.Saved.form g.S.Saved.state_of g.S.Saved.is_savable) c.args.who every in
+    let node = node_at c.args.who standing awaits marking in
+    let at = c.conn_at.ensures.stands by.service (node_of c.args.who standing) places st.slots in
+    not_heard by node places (record { boot = boot; body = MarkedMsg c.args.key c.args.reads }) c.args.marks.now c.args.turn.now.sent.items
+    (none_live by node c.args.key c.args.reads places (place_at c.args.key places) refl
+    (subst (λ o. IsConnAt by.service (node_of c.args.who standing) (option_copied o) (place_at c.args.key places)) c.in_default.is at)) c.requires.empty keeps settled
+
+pub returns : goal.returns
+returns g c =
+    on_ok_weaker c.send_new.result
+    (λ marked boot every standing awaits marking opened places keeps settled st.
+    let by = marker_of g.S.Service (saving g.S.Saved.form g.S.Saved.state_of g.S.Saved.is_savable) c.args.who every in
+    let node = node_at c.args.who standing awaits marking in
+    let at = subst (λ o. IsConnAt by.service (node_of c.args.who standing) (option_copied o) (place_at c.args.key places)) c.in-Some.is (c.conn_at.ensures.stands by.service (node_of c.args.who standing) places st.slots) in
+    subst (λ (l : List Wire). HeardOfMark by node places (record { boot = boot; body = MarkedMsg c.args.key c.args.reads }) c.send_new.new.marks l c.send_new.new.turn.sent.items) (sym c.requires.empty)
+    (heard_at by node c.args.key c.args.reads boot places c.in-Some.conn.now c.args.marks.now c.hear.new.self c.send_new.new.marks c.send_new.new.turn.sent.items
+    (places_apart by (node_of c.args.who standing) c.args.serving.now.slots.entries places st.slots c.apart.ensures) (place_at c.args.key places) refl at keeps settled c.hear.ensures
+    (λ p ours bytes. subst (λ (l : List Wire). MarksNew by c.args.who.boot c.args.key p c.hear.new.self c.send_new.new.marks 0 l c.send_new.new.turn.sent.items) c.requires.empty
+    (marked every p (c.hear.ensures.every ∙ keeps.every) ours bytes)))) c.send_new.ensures

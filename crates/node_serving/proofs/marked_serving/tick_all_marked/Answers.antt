@@ -1,0 +1,59 @@
+use Rattle.std.proofs.Common.{rules, ◌≡◌, ◌∙◌, ◌<◌, ◌≤◌, length, subst, sym, refl, []}
+use Rattle.indexmap.specs.Layout.{length-set_value_at}
+use Rattle.conn_marks.proofs.MarkWires.{out_none}
+use Rattle.node_serving.specs.Identity.{node_of}
+use Rattle.node_serving.specs.Markers.{saving, marker_of}
+use Rattle.node_serving.specs.MarkedServing.{SlotTicks}
+use Rattle.node_serving.specs.Slots.{SlotStands}
+use Rattle.node_serving.proofs.AllSlots.{value_at, key_is_at}
+use Rattle.node_serving.proofs.MarkedTicks.{ticks_more_marked, ticks_all_marked}
+use Rattle.node_serving.proofs.Sound.{sound_at, sound_put}
+use Rattle.node_serving.proofs.marked_serving.tick_all_marked.Goals as goal
+
+pub tick_marked-requires-clause-sound : goal.tick_marked-requires-clause-sound
+tick_marked-requires-clause-sound g c = sound_at c.args.who c.loop-i.slots.entries c.loop-i.i c.key_at-key.result c.index_mut.result.now c.loop-i.invariant.1 c.key_at-key.ensures c.index_mut.ensures.value
+
+pub loop-i-preserved : goal.loop-i-preserved
+loop-i-preserved g c =
+    let told = rw c.in_ok-tick_marked.was at c.tick_marked.ensures in
+    let within : c.loop-i.i < length c.loop-i.slots.entries = search rules in (
+      length-set_value_at c.loop-i.slots.entries c.loop-i.i c.tick_marked.new.slot ∙ c.loop-i.invariant.0,
+      sound_put c.args.who c.loop-i.slots.entries c.loop-i.i c.key_at-key.result c.tick_marked.new.slot c.loop-i.invariant.1 c.key_at-key.ensures told.sound,
+      λ every standing marking places keeps settled st.
+          let by = marker_of g.S.Service (saving g.S.Saved.form g.S.Saved.state_of g.S.Saved.is_savable) c.args.who every in
+          let node = node_of c.args.who standing in
+          ticks_more_marked by node marking places c.loop-i.i c.loop-i.slots.entries c.args.turn.now.sent.items c.loop-i.turn.sent.items c.tick_marked.new.turn.sent.items c.tick_marked.new.slot within
+          (c.loop-i.invariant.2 every standing marking places keeps settled st)
+          (λ key was place at calm stands.
+          let same : key ≡ c.key_at-key.result = key_is_at c.loop-i.slots.entries c.loop-i.i key c.key_at-key.result was at c.key_at-key.ensures in
+          let here = subst (λ s. SlotStands by.service node key s place)
+          (value_at c.loop-i.slots.entries c.loop-i.i key was c.index_mut.result.now at c.index_mut.ensures.value) stands in
+          subst (λ k. SlotTicks by node marking k place c.tick_marked.new.slot c.loop-i.turn.sent.items c.tick_marked.new.turn.sent.items) (sym same)
+          (told.turn every standing marking place keeps calm (subst (λ k. SlotStands by.service node k c.index_mut.result.now place) same here))),
+    )
+
+pub loop-i-init : goal.loop-i-init
+loop-i-init g c = (
+  sym c.len-i-end.ensures.len,
+  c.requires.sound,
+  λ every standing marking places keeps settled st. record {
+    done = [];
+    left = places;
+    went = [];
+    sent = [];
+    split = refl;
+    at = refl;
+    stands = st;
+    go = (refl, refl);
+    settled = tt;
+    waiting = settled;
+    out = out_none c.args.turn.now.sent.items;
+  },
+)
+
+pub returns-clause-turn : goal.returns-clause-turn
+returns-clause-turn g c = λ every standing marking places keeps settled st.
+    let past : length c.loop-i.slots.entries ≤ c.loop-i.i = search rules in
+    let within : c.loop-i.i ≤ length c.loop-i.slots.entries = search rules in
+    ticks_all_marked (marker_of g.S.Service (saving g.S.Saved.form g.S.Saved.state_of g.S.Saved.is_savable) c.args.who every) (node_of c.args.who standing) marking places c.loop-i.i c.loop-i.slots.entries
+    c.args.turn.now.sent.items c.loop-i.turn.sent.items past within (c.loop-i.invariant.2 every standing marking places keeps settled st)

@@ -1,0 +1,43 @@
+use Rattle.std.proofs.Common.{rules, ◌≡◌, ◌∙◌, true, false, sym}
+use Rattle.std.proofs.lemmas.Result.{on_ok_weaker}
+use Rattle.segment_codec.specs.Value.{segment_of}
+use Rattle.server_trait.specs.Service.{machine}
+use Rattle.ft_model.specs.Node.{is_for}
+use Rattle.node_serving.specs.Identity.{node_of}
+use Rattle.node_serving.proofs.Knocking.{counted_by}
+use Rattle.node_serving.proofs.Served.{others_packet}
+use Rattle.node_serving.proofs.Strange.{others_alone}
+use Rattle.node_serving.proofs.serving.serve_packet.Goals as goal
+
+pub returns-then-not-is_for-clause-turn : goal.returns-then-not-is_for-clause-turn
+returns-then-not-is_for-clause-turn g c = λ stage opened places near st.
+    let segment = segment_of c.args.segment.now in
+    let other : is_for c.args.who.local segment ≡ false = sym c.is_for.ensures ∙ search rules in
+    others_packet (machine (g.S.Service.started c.args.who.kind) g.S.Service.after) (node_of c.args.who stage) segment opened places _ c.args.turn.now.sent.items other st
+
+pub returns-then-not-is_for-clause-alone : goal.returns-then-not-is_for-clause-alone
+returns-then-not-is_for-clause-alone g c = λ stage.
+    let segment = segment_of c.args.segment.now in
+    let other : is_for c.args.who.local segment ≡ false = sym c.is_for.ensures ∙ search rules in
+    let count = counted_by c.args.who.isn c.args.serving.now.next.0 (search rules) c.requires.counted in
+    others_alone (machine (g.S.Service.started c.args.who.kind) g.S.Service.after) (node_of c.args.who stage) segment c.args.serving.now c.args.turn.now.sent.items count.0 count.1 other
+
+pub returns-then-contains_key-clause-turn : goal.returns-then-contains_key-clause-turn
+returns-then-contains_key-clause-turn g c =
+    let mine : is_for c.args.who.local (segment_of c.args.segment.now) ≡ true = sym c.is_for.ensures ∙ search rules in
+    on_ok_weaker c.serve_known.result (λ h. h mine) c.serve_known.ensures.turn
+
+pub returns-then-contains_key-clause-alone : goal.returns-then-contains_key-clause-alone
+returns-then-contains_key-clause-alone g c =
+    let mine : is_for c.args.who.local (segment_of c.args.segment.now) ≡ true = sym c.is_for.ensures ∙ search rules in
+    on_ok_weaker c.serve_known.result (λ h. h mine) c.serve_known.ensures.alone
+
+pub returns-else-contains_key-clause-turn : goal.returns-else-contains_key-clause-turn
+returns-else-contains_key-clause-turn g c =
+    let mine : is_for c.args.who.local (segment_of c.args.segment.now) ≡ true = sym c.is_for.ensures ∙ search rules in
+    on_ok_weaker c.serve_strange.result (λ h. h mine) c.serve_strange.ensures.turn
+
+pub returns-else-contains_key-clause-alone : goal.returns-else-contains_key-clause-alone
+returns-else-contains_key-clause-alone g c =
+    let mine : is_for c.args.who.local (segment_of c.args.segment.now) ≡ true = sym c.is_for.ensures ∙ search rules in
+    on_ok_weaker c.serve_strange.result (λ h. h mine) c.serve_strange.ensures.alone

@@ -1,0 +1,16 @@
+pub mod SentBytes
+pub mod TurnPackets
+pub mod RefusalPackets
+pub mod Conn
+pub mod LentConn
+pub mod LogMessages
+pub mod Identity
+pub mod Slots
+pub mod Openings
+pub mod ServingStage
+pub mod Loan
+pub mod Ownership
+pub mod Alone
+pub mod Turns
+pub mod Markers
+pub mod MarkedServing

@@ -1,0 +1,223 @@
+//! What a message of the logger does at the slot of the key that it names.
+
+ghost use Rattle.std.specs.Prelude.{◌≡◌, ◌≤◌, List, Some, OnOk, IsSome};
+ghost use Rattle.std.specs.Map.{lookup, set_value, remove_entry, keys_of};
+ghost use Rattle.std.specs.List.{IsDistinct};
+ghost use Rattle.ft_io.specs.Key.{key_eq};
+ghost use Rattle.seq_arith.specs.Message.{Kept, Message};
+ghost use Rattle.seq_arith.specs.Message.Body.{OpenedMsg, EndedMsg, FullMsg};
+ghost use Rattle.server_trait.specs.Service.{Machine};
+ghost use Rattle.logger_wire.specs.Value.{message_of, IsSendable};
+ghost use Rattle.ft_model.specs.Node.{Node, Place};
+ghost use Rattle.ft_model.specs.Node.Input.{Message_comes};
+ghost use Rattle.ft_model.specs.Wire.{Wire};
+ghost use Rattle.node_serving.specs.Alone.{SlotsAlone};
+ghost use Rattle.node_serving.specs.LogMessages.{IsLogged, opening_in, ended as ended_lem};
+ghost use Rattle.node_serving.specs.declared.identity.Identity.{Identity as Incarnation};
+ghost use Rattle.node_serving.specs.Slots.{numbers_of, IsSoundSlot, AllStand, AllSlotsGo, AllSound};
+ghost use Rattle.node_serving.specs.Turns.{SendsFor, SlotTurns, SlotsTurn, SlotsTurnAlone};
+
+use crate::identity::Identity;
+use crate::live::{begin_live, tell_live};
+use crate::refusal::refuse_full;
+use crate::slot::{Opening, Slot};
+use crate::turn::Turn;
+use ft_io::{Key, NoMemory};
+use indexmap::IndexMap;
+use logger_wire::{Body, Msg};
+use seq_arith::Seq;
+use server_trait::Service;
+
+fn tell_slot<S: Service>(
+    who: Identity,
+    key: Key,
+    slot: &mut Slot<S>,
+    m: &Msg<'_>,
+    turn: &mut Turn,
+) -> Result<(), NoMemory>
+    requires sound { IsSoundSlot who key slot.old }
+    requires sendable { IsSendable m.now }
+    ensures turn { OnOk result ((kept : Kept) → IsLogged who.boot (message_of m.now) key kept
+        → SlotTurns S.Service who (Message_comes (message_of m.now)) key slot.old slot.new turn.old turn.new) }
+    ensures alone { OnOk result (SendsFor key turn.old turn.new) }
+    ensures sound { OnOk result (IsSoundSlot who key slot.new) }
+{
+    match slot {
+        Slot::Live(conn) => tell_live(who, key, conn, m, turn),
+        Slot::Pending(_) | Slot::Done => Ok(()),
+    }
+}
+
+/// Handles a message that says how much of a connection is logged.
+pub(crate) fn tell_known<S: Service>(
+    who: Identity,
+    key: Key,
+    slots: &mut IndexMap<Key, Slot<S>>,
+    m: &Msg<'_>,
+    turn: &mut Turn,
+) -> Result<(), NoMemory>
+    requires sound { AllSound who slots.old.entries }
+    requires sendable { IsSendable m.now }
+    ensures turn { OnOk result ((kept : Kept) → IsLogged who.boot (message_of m.now) key kept
+        → SlotsTurn S.Service who (Message_comes (message_of m.now)) slots.old.entries slots.new.entries turn.old turn.new) }
+    ensures alone { OnOk result ((kept : Kept) → IsLogged who.boot (message_of m.now) key kept
+        → SlotsTurnAlone S.Service who (Message_comes (message_of m.now)) slots.old.entries slots.new.entries turn.old turn.new) }
+    ensures sound { OnOk result (AllSound who slots.new.entries) }
+{
+    if let Some(slot) = slots.get_mut(&key) {
+        tell_slot(who, key, slot, m, turn)?;
+    }
+    Ok(())
+}
+
+fn end_slot<S: Service>(slot: &mut Slot<S>)
+    ensures { slot.new ≡ ended_lem slot.old }
+{
+    match slot {
+        Slot::Live(_) => *slot = Slot::Done,
+        Slot::Pending(_) | Slot::Done => {}
+    }
+}
+
+/// Handles the message that the end of a connection is logged.
+pub(crate) fn end_known<S: Service>(key: Key, slots: &mut IndexMap<Key, Slot<S>>)
+    ensures turn { (service : Machine S) (node : Node) (places : List Place) (message : Message) (told : List Wire)
+        → message ≡ record { boot = node.boot; body = EndedMsg key }
+        → AllStand service node slots.old.entries places → AllSlotsGo service node (Message_comes message) places slots.new.entries told told }
+    ensures alone { (service : Machine S) (node : Node) (message : Message) (told : List Wire) → message ≡ record { boot = node.boot; body = EndedMsg key }
+        → SlotsAlone service node (Message_comes message) slots.old.entries slots.new.entries told told }
+    ensures sound { (who : Incarnation) → AllSound who slots.old.entries → AllSound who slots.new.entries }
+{
+    if let Some(slot) = slots.get_mut(&key) {
+        end_slot(slot);
+    }
+}
+
+/// The opening that is pending for a key.
+pub(crate) fn opening_at<S: Service>(key: Key, slots: &IndexMap<Key, Slot<S>>) -> Option<Opening>
+    ensures found { result ≡ opening_in (lookup (key_eq key) slots.now.entries) }
+    ensures unique { IsDistinct key_eq (keys_of slots.now.entries) }
+{
+    let place = slots.get_index_of(&key)?;
+    opening_of(&slots[place])
+}
+
+fn opening_of<S: Service>(slot: &Slot<S>) -> Option<Opening>
+    ensures { result ≡ opening_in (Some slot.now) }
+{
+    match slot {
+        Slot::Pending(opening) => Some(*opening),
+        Slot::Live(_) | Slot::Done => None,
+    }
+}
+
+/// Replaces the slot of a key.
+fn put_slot<S: Service>(key: Key, slots: &mut IndexMap<Key, Slot<S>>, slot: Slot<S>)
+    requires { IsSome (lookup (key_eq key) slots.old.entries) }
+    ensures { slots.new.entries ≡ set_value (key_eq key) slots.old.entries slot }
+{
+    if let Some(place) = slots.get_mut(&key) {
+        *place = slot;
+    }
+}
+
+/// Removes the slot of a key. The others keep their order.
+fn drop_slot<S: Service>(key: Key, slots: &mut IndexMap<Key, Slot<S>>)
+    ensures { slots.new.entries ≡ remove_entry (key_eq key) slots.old.entries }
+{
+    let _ = slots.shift_remove(&key);
+}
+
+/// Handles the message that the log has an entry for a key, with these numbers: a pending opening with the same initial sequence number of the client becomes
+/// a connection, and one with another is removed.
+pub(crate) fn open_known<S: Service>(
+    who: Identity,
+    key: Key,
+    numbers: Opening,
+    slots: &mut IndexMap<Key, Slot<S>>,
+    turn: &mut Turn,
+) -> Result<(), NoMemory>
+    requires boot { 1 ≤ who.boot }
+    requires least { 64 ≤ numbers.mss }
+    requires most { numbers.mss ≤ 1460 }
+    requires sound { AllSound who slots.old.entries }
+    ensures turn { OnOk result ((message : Message) → message ≡ record { boot = who.boot; body = OpenedMsg (numbers_of key numbers) }
+        → SlotsTurn S.Service who (Message_comes message) slots.old.entries slots.new.entries turn.old turn.new) }
+    ensures alone { OnOk result ((message : Message) → message ≡ record { boot = who.boot; body = OpenedMsg (numbers_of key numbers) }
+        → SlotsTurnAlone S.Service who (Message_comes message) slots.old.entries slots.new.entries turn.old turn.new) }
+    ensures sound { OnOk result (AllSound who slots.new.entries) }
+{
+    let Some(opening) = opening_at(key, slots) else {
+        return Ok(());
+    };
+    if opening.cisn.0 != numbers.cisn.0 {
+        drop_slot(key, slots);
+        return Ok(());
+    }
+    let conn = begin_live(who, key, numbers, turn)?;
+    put_slot(key, slots, Slot::Live(conn));
+    Ok(())
+}
+
+/// Handles the message that the log is full: refuses the SYN of a pending opening, and removes the opening.
+pub(crate) fn refuse_known<S: Service>(
+    who: Identity,
+    key: Key,
+    slots: &mut IndexMap<Key, Slot<S>>,
+    turn: &mut Turn,
+) -> Result<(), NoMemory>
+    requires sound { AllSound who slots.old.entries }
+    ensures turn { OnOk result ((message : Message) → message ≡ record { boot = who.boot; body = FullMsg key }
+        → SlotsTurn S.Service who (Message_comes message) slots.old.entries slots.new.entries turn.old turn.new) }
+    ensures alone { OnOk result ((message : Message) → message ≡ record { boot = who.boot; body = FullMsg key }
+        → SlotsTurnAlone S.Service who (Message_comes message) slots.old.entries slots.new.entries turn.old turn.new) }
+    ensures sound { OnOk result (AllSound who slots.new.entries) }
+{
+    let Some(opening) = opening_at(key, slots) else {
+        return Ok(());
+    };
+    refuse_full(who, key, opening, turn)?;
+    drop_slot(key, slots);
+    Ok(())
+}
+
+/// Handles a message of this boot.
+pub(crate) fn hear<S: Service>(
+    who: Identity,
+    m: &Msg<'_>,
+    slots: &mut IndexMap<Key, Slot<S>>,
+    turn: &mut Turn,
+) -> Result<(), NoMemory>
+    requires boot { 1 ≤ who.boot }
+    requires sendable { IsSendable m.now }
+    requires sound { AllSound who slots.old.entries }
+    ensures turn { OnOk result (m.now.boot ≡ who.boot
+        → SlotsTurn S.Service who (Message_comes (message_of m.now)) slots.old.entries slots.new.entries turn.old turn.new) }
+    ensures alone { OnOk result (m.now.boot ≡ who.boot
+        → SlotsTurnAlone S.Service who (Message_comes (message_of m.now)) slots.old.entries slots.new.entries turn.old turn.new) }
+    ensures sound { OnOk result (AllSound who slots.new.entries) }
+{
+    match m.body {
+        Body::StableMsg { key, .. } => tell_known(who, key, slots, m, turn),
+        Body::ReadsMsg { key, .. } => tell_known(who, key, slots, m, turn),
+        Body::EndedMsg { key } => {
+            end_known(key, slots);
+            Ok(())
+        }
+        Body::OpenedMsg {
+            key,
+            cisn,
+            sisn,
+            mss,
+        } => {
+            let numbers = Opening {
+                cisn: Seq(cisn),
+                sisn: Seq(sisn),
+                mss,
+            };
+            open_known(who, key, numbers, slots, turn)
+        }
+        Body::FullMsg { key } => refuse_known(who, key, slots, turn),
+        _ => Ok(()),
+    }
+}

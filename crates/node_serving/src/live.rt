@@ -1,0 +1,133 @@
+//! The calls of a live connection: each is one turn of it, and what it gives out is sent.
+
+ghost use Rattle.std.specs.Prelude.{◌≡◌, ◌≤◌, Ok, IsOk, OnOk, IfOk};
+ghost use Rattle.seq_arith.specs.Message.{Kept};
+ghost use Rattle.seq_arith.specs.Packet.{Segment};
+ghost use Rattle.seq_arith.specs.PacketGrammar.{reading};
+ghost use Rattle.logger_wire.specs.Value.{message_of, IsSendable};
+ghost use Rattle.ft_model.specs.News.News.{Comes, Logged, Ticks};
+ghost use Rattle.node_serving.specs.Conn.{Belongs};
+ghost use Rattle.node_serving.specs.LogMessages.{IsLogged};
+ghost use Rattle.node_serving.specs.Slots.{numbers_of};
+ghost use Rattle.node_serving.specs.Turns.{SendsFor, ConnTurns, ConnBegins, ConnRevives};
+
+use crate::identity::Identity;
+use crate::sent::{fit, send_all};
+use crate::slot::Opening;
+use crate::turn::Turn;
+use ft_io::{Key, NoMemory};
+use logger_wire::Msg;
+use server_trait::Service;
+use wrapped_conn::Conn;
+
+/// Makes a new connection, with the numbers that the log keeps, and takes its first turn.
+#[tactic(auto, unfolding(crate::specs::Conn::IsSound))]
+pub(crate) fn begin_live<S: Service>(
+    who: Identity,
+    key: Key,
+    numbers: Opening,
+    turn: &mut Turn,
+) -> Result<Conn<S>, NoMemory>
+    requires boot { 1 ≤ who.boot }
+    requires least { 64 ≤ numbers.mss }
+    requires most { numbers.mss ≤ 1460 }
+    ensures turn { IfOk result (λ conn. ConnBegins S.Service who (numbers_of key numbers) conn turn.old turn.new) }
+    ensures alone { IfOk result (λ conn. SendsFor key turn.old turn.new) }
+    ensures sound { IfOk result (λ conn. Belongs who key conn) }
+{
+    let mut conn = Conn::first(
+        turn.alloc,
+        who.boot,
+        key,
+        who.local,
+        numbers.cisn,
+        numbers.sisn,
+        numbers.mss,
+        who.kind,
+    )?;
+    turn.out.clear();
+    conn.start(turn.alloc, &mut turn.out)?;
+    send_all(key, turn)?;
+    Ok(conn)
+}
+
+/// Takes the first turn of a connection that a restart has put together. `key` is its client's.
+#[tactic(auto, unfolding(crate::specs::Conn::IsSound))]
+pub fn start_live<S: Service>(
+    who: Identity,
+    key: Key,
+    conn: &mut Conn<S>,
+    turn: &mut Turn,
+) -> Result<(), NoMemory>
+    requires { Belongs who key conn.old }
+    ensures turn { OnOk result (ConnRevives S.Service who key conn.old conn.new turn.old turn.new) }
+    ensures number { OnOk result (conn.new.endpoint.sending.iss ≡ conn.old.endpoint.sending.iss) }
+    ensures delta { OnOk result (conn.new.south.delta ≡ conn.old.south.delta) }
+    ensures alone { OnOk result (SendsFor key turn.old turn.new) }
+    ensures sound { OnOk result (Belongs who key conn.new) }
+{
+    turn.out.clear();
+    conn.start(turn.alloc, &mut turn.out)?;
+    send_all(key, turn)
+}
+
+/// Takes a live connection's turn at a tick.
+#[tactic(auto, unfolding(crate::specs::Conn::IsSound))]
+pub(crate) fn tick_live<S: Service>(
+    who: Identity,
+    key: Key,
+    conn: &mut Conn<S>,
+    turn: &mut Turn,
+) -> Result<(), NoMemory>
+    requires { Belongs who key conn.old }
+    ensures turn { OnOk result (ConnTurns S.Service who Ticks key conn.old conn.new turn.old turn.new) }
+    ensures alone { OnOk result (SendsFor key turn.old turn.new) }
+    ensures sound { OnOk result (Belongs who key conn.new) }
+{
+    turn.out.clear();
+    conn.on_tick(&mut turn.out);
+    send_all(key, turn)
+}
+
+/// Takes a live connection's turn on a segment. `packet` has its bytes.
+#[tactic(auto, unfolding(crate::specs::Conn::IsSound))]
+pub(crate) fn give_live<S: Service>(
+    who: Identity,
+    key: Key,
+    conn: &mut Conn<S>,
+    packet: &mut [u8],
+    turn: &mut Turn,
+) -> Result<(), NoMemory>
+    requires sound { Belongs who key conn.old }
+    requires accepted { IsOk (reading packet.old) }
+    ensures turn { OnOk result ((segment : Segment) → reading packet.old ≡ Ok segment
+        → ConnTurns S.Service who (Comes segment) key conn.old conn.new turn.old turn.new) }
+    ensures alone { OnOk result (SendsFor key turn.old turn.new) }
+    ensures sound { OnOk result (Belongs who key conn.new) }
+{
+    fit(packet);
+    turn.out.clear();
+    conn.on_packet(turn.alloc, packet, &mut turn.out)?;
+    send_all(key, turn)
+}
+
+/// Takes a live connection's turn on a message about how much of it is logged.
+#[tactic(auto, unfolding(crate::specs::Conn::IsSound))]
+pub(crate) fn tell_live<S: Service>(
+    who: Identity,
+    key: Key,
+    conn: &mut Conn<S>,
+    m: &Msg<'_>,
+    turn: &mut Turn,
+) -> Result<(), NoMemory>
+    requires sound { Belongs who key conn.old }
+    requires sendable { IsSendable m.now }
+    ensures turn { OnOk result ((kept : Kept) → IsLogged who.boot (message_of m.now) key kept
+        → ConnTurns S.Service who (Logged kept) key conn.old conn.new turn.old turn.new) }
+    ensures alone { OnOk result (SendsFor key turn.old turn.new) }
+    ensures sound { OnOk result (Belongs who key conn.new) }
+{
+    turn.out.clear();
+    conn.on_msg(turn.alloc, m, &mut turn.out)?;
+    send_all(key, turn)
+}

@@ -1,0 +1,88 @@
+//! A packet that the node sends.
+
+ghost use Rattle.std.specs.Prelude.{◌≡◌, OnOk};
+ghost use Rattle.seq_arith.specs.MessageGrammar.{reading};
+ghost use Rattle.node_serving.specs.SentBytes.{sent_to, party_of};
+ghost use Rattle.conn_marks.specs.MarkSends.{is_done_wire, says_done_in};
+
+use ft_io::{Key, NoMemory};
+use logger_wire::{Body, read_msg};
+use std::alloc::Global;
+use std::marker::Model;
+
+/// The addressee of a packet.
+#[derive(Clone, Copy)]
+pub enum To {
+    /// The client at this address and port.
+    Client(Key),
+    Logger,
+}
+
+/// A packet's bytes, with its addressee.
+#[derive(Drop)]
+pub struct OutPacket {
+    to: To,
+    text: Vec<u8>,
+}
+
+impl Model for OutPacket {
+    ghost use Rattle.ft_model.specs.Wire.{Wire};
+    ghost use Rattle.node_serving.specs.SentBytes.{sent_to};
+
+    ghost Value = { Wire };
+
+    ghost view = { λ p. sent_to p.to p.text.items };
+}
+
+impl OutPacket {
+    pub(crate) fn new(alloc: Global, to: To, bytes: &[u8]) -> Result<OutPacket, NoMemory>
+        ensures { OnOk result (result ≡ Rattle.std.specs.Prelude.Ok (sent_to to bytes.now)) }
+    {
+        let text = Vec::from_slice(alloc, bytes)?;
+        Ok(OutPacket { to, text })
+    }
+
+    /// Replaces the packet by another, in the same buffer if that is long enough.
+    pub(crate) fn refill(&mut self, to: To, bytes: &[u8]) -> Result<(), NoMemory>
+        ensures { OnOk result (self.new ≡ sent_to to bytes.now) }
+    {
+        self.text.clear();
+        self.text.extend_from_slice(bytes)?;
+        self.to = to;
+        Ok(())
+    }
+
+    /// Whether it is a message to the logger that says that a connection is done.
+    pub(crate) fn is_done(&self) -> bool
+        ensures { result ≡ is_done_wire self.now }
+    {
+        match self.to {
+            To::Client(_) => false,
+            To::Logger => says_done(&self.text),
+        }
+    }
+
+    /// The addressee.
+    pub fn to(&self) -> To
+        ensures { party_of result ≡ self.now.to }
+    {
+        self.to
+    }
+
+    /// The bytes: a packet to a client, or a message to the logger.
+    pub fn bytes(&self) -> &[u8]
+        ensures { result.now ≡ self.now.bytes }
+    {
+        self.text.as_slice()
+    }
+}
+
+/// Whether bytes are the message that a connection is done.
+fn says_done(bytes: &[u8]) -> bool
+    ensures { result ≡ says_done_in (reading bytes.now) }
+{
+    match read_msg(bytes) {
+        Ok(m) => matches!(m.body, Body::DoneMsg { .. }),
+        Err(_) => false,
+    }
+}
