@@ -36,26 +36,12 @@ pub(crate) struct Tally {
 }
 
 impl Tally {
-    fn count(&mut self, is_packet: bool) {
-        self.datagrams = self.datagrams.saturating_add(1);
-        self.packets = self.packets.saturating_add(u32::from(is_packet));
-    }
-
     fn note(&mut self, kept: Kept, out: &TurnOut) {
         self.answers = self.answers || !out.segments().is_empty();
         if let Err(rule) = kept {
             self.broken = self.broken.or(Some(rule));
         }
     }
-}
-
-/// Fills a datagram of 0 to 100 bytes with anything, and answers its length.
-fn anything(draws: &mut Draws, out: &mut [u8; 1_500]) -> usize
-    ensures { result ≤ 1500 }
-{
-    let len = draws.below(101) as usize;
-    draws.fill(&mut out[..len]);
-    len
 }
 
 fn flags(draws: &mut Draws) -> u8 {
@@ -102,7 +88,7 @@ fn datagram(draws: &mut Draws, number: u32, inside: Inside, out: &mut [u8; 1_500
             let ack = draws.perturbed(SISN.add(1).add(inside.sent));
             packet(draws, seq, ack, out)
         }
-        _ => anything(draws, out),
+        _ => draws.anything(&mut out[..]),
     }
 }
 
@@ -138,7 +124,8 @@ fn meet(
         let (is_packet, resets) = kind_of(&bytes[..len], before);
         is_reset = is_reset || resets;
         take_packet(alloc, conn, &mut bytes[..len], out)?;
-        tally.count(is_packet);
+        tally.datagrams = tally.datagrams.saturating_add(1);
+        tally.packets = tally.packets.saturating_add(u32::from(is_packet));
         tally.note(check(before, is_reset, is_packet, conn, out), out);
         if i % 5 == 4 {
             let before = conn.inside();

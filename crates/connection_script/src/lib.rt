@@ -5,7 +5,7 @@
 use ft_io::NoMemory;
 use hostile::{Tally, attack};
 use limits::{make_all, make_unacknowledged};
-use meter::{Filled, fill_all};
+use meter::fill_all;
 use restarts::play_all;
 use segment_codec::Head;
 use situations::{SITUATIONS, Situation};
@@ -44,21 +44,17 @@ fn tell_attack(situation: Situation, tally: Tally, said: &mut Said) {
     }
 }
 
-/// The letters of the flags that a connection sends.
-fn letters(flags: u8) -> &'static str {
-    match flags {
-        16 => "A",
-        17 => "AF",
-        18 => "AS",
-        _ => "others",
-    }
-}
-
 fn tell_segment(what: &str, head: Option<Head>, said: &mut Said) {
     match head {
         Some(head) => {
-            let (seq, ack) = (head.seq.0, head.ack.0);
-            let (flags, window) = (letters(head.flags), head.window);
+            let (seq, ack, window) = (head.seq.0, head.ack.0, head.window);
+            // The letters of the flags that a connection sends.
+            let flags = match head.flags {
+                16 => "A",
+                17 => "AF",
+                18 => "AS",
+                _ => "others",
+            };
             write!(
                 said,
                 "{what}: {flags} seq {seq} ack {ack} window {window}\n"
@@ -68,7 +64,15 @@ fn tell_segment(what: &str, head: Option<Head>, said: &mut Said) {
     }
 }
 
-fn tell_filled(filled: Filled, said: &mut Said) {
+/// The attack in each situation, the stream that is filled, and the limits of output. Whether all rules are kept.
+fn play_turns(alloc: Global, out: &mut TurnOut, said: &mut Said) -> Result<bool, NoMemory> {
+    let mut whole = true;
+    for situation in SITUATIONS {
+        let tally = attack(alloc, situation, out)?;
+        tell_attack(situation, tally, said);
+        whole = whole && tally.broken.is_none();
+    }
+    let filled = fill_all(alloc, out)?;
     let inside = filled.inside;
     let (taken, answered) = (inside.taken, inside.answered);
     write!(said, "full stream: taken {taken} answered {answered}\n");
@@ -78,22 +82,6 @@ fn tell_filled(filled: Filled, said: &mut Said) {
     write!(said, "full stream: una {una} sent {sent}\n");
     tell_segment("all is logged", filled.full, said);
     tell_segment("one byte more", filled.beyond, said);
-}
-
-/// The attack in each situation. Whether all rules are kept.
-fn attack_all(alloc: Global, out: &mut TurnOut, said: &mut Said) -> Result<bool, NoMemory> {
-    let mut whole = true;
-    for situation in SITUATIONS {
-        let tally = attack(alloc, situation, out)?;
-        tell_attack(situation, tally, said);
-        whole = whole && tally.broken.is_none();
-    }
-    Ok(whole)
-}
-
-/// The stream that is filled, and the limits of output.
-fn fill_and_tell(alloc: Global, out: &mut TurnOut, said: &mut Said) -> Result<(), NoMemory> {
-    tell_filled(fill_all(alloc, out)?, said);
     let [a, b, c, d, e] = make_unacknowledged(alloc, out)?;
     write!(
         said,
@@ -104,14 +92,13 @@ fn fill_and_tell(alloc: Global, out: &mut TurnOut, said: &mut Said) -> Result<()
         said,
         "15728640 bytes made: {a} reads, {b} with one request more, {c} with two\n"
     );
-    Ok(())
+    Ok(whole)
 }
 
 /// Plays all cases, and says what was found. The status, which is 1 where a rule is broken.
 pub fn run(alloc: Global, said: &mut Said) -> Result<u8, NoMemory> {
     let mut out = TurnOut::new(alloc)?;
-    let whole = attack_all(alloc, &mut out, said)?;
-    fill_and_tell(alloc, &mut out, said)?;
+    let whole = play_turns(alloc, &mut out, said)?;
     play_all(alloc, said)?;
     Ok(u8::from(!whole))
 }

@@ -7,9 +7,10 @@ use ft_io::{Addr, Key, NoMemory};
 use logger_wire::read_msg;
 use sample_servers::AnyService;
 use segment_codec::{Head, read_packet, write_packet};
-use seq_arith::{Seq, Sum16};
+use seq_arith::Seq;
 use std::alloc::Global;
 use tcp_endpoint::StateName;
+use test_data::seal;
 use wrapped_conn::{Conn, TurnOut};
 
 pub(crate) const SERVER: Addr = Addr {
@@ -134,9 +135,7 @@ fn message(answer: Answer, logged: Logged) -> [u8; 31] {
     bytes[22..26].copy_from_slice(&logged.length.to_be_bytes());
     bytes[26] = u8::from(logged.fin);
     bytes[27..31].copy_from_slice(&logged.reads.to_be_bytes());
-    let mut sum = Sum16::new();
-    sum.take(&bytes[..]);
-    bytes[6..8].copy_from_slice(&sum.check().to_be_bytes());
+    seal(&mut bytes[..]);
     bytes
 }
 

@@ -7,7 +7,7 @@ use logger_wire::{Body, read_msg};
 use sample_servers::AnyService;
 use segment_codec::read_packet;
 use seq_arith::{RST, has};
-use test_data::Pattern;
+use test_data::{Pattern, require, require_all};
 use wrapped_conn::{Conn, ConnStage, Inside, TurnOut};
 
 /// A rule that a hostile datagram broke.
@@ -31,35 +31,30 @@ pub(crate) enum Rule {
 
 pub(crate) type Kept = Result<(), Rule>;
 
-fn require(holds: bool, rule: Rule) -> Kept {
-    if holds { Ok(()) } else { Err(rule) }
-}
-
 /// The client's stream.
 pub(crate) const CLIENTS: Pattern = Pattern::Letters;
 
 /// The rules on a segment.
 fn check_segment(bytes: &[u8], after: Inside) -> Kept {
-    let packet = read_packet(bytes).map_err(|_| Rule::Packet)?;
+    let Ok(packet) = read_packet(bytes) else {
+        return Err(Rule::Packet);
+    };
     let head = packet.head;
-    require(
-        head.src == SERVER.ip && head.sport == SERVER.port,
-        Rule::Packet,
-    )?;
-    require(
-        head.dst == CLIENT.ip && head.dport == CLIENT.port && !has(head.flags, RST),
-        Rule::Packet,
-    )?;
-    require(head.ack.minus(CISN.add(1)) <= after.answered, Rule::Ack)?;
-    require(
-        CLIENTS.is_part(head.seq.minus(SISN.add(1)), packet.payload),
-        Rule::Text,
-    )
+    let is_from = head.src == SERVER.ip && head.sport == SERVER.port;
+    let is_to = head.dst == CLIENT.ip && head.dport == CLIENT.port;
+    let is_text = CLIENTS.is_part(head.seq.minus(SISN.add(1)), packet.payload);
+    require_all(&[
+        (is_from && is_to && !has(head.flags, RST), Rule::Packet),
+        (head.ack.minus(CISN.add(1)) <= after.answered, Rule::Ack),
+        (is_text, Rule::Text),
+    ])
 }
 
 /// The rules on a message.
 fn check_message(bytes: &[u8], after: Inside, has_ended: bool) -> Kept {
-    let message = read_msg(bytes).map_err(|_| Rule::Message)?;
+    let Ok(message) = read_msg(bytes) else {
+        return Err(Rule::Message);
+    };
     let holds = match message.body {
         Body::DataMsg {
             offset,
@@ -125,15 +120,13 @@ pub(crate) fn check(
     requires { IsSound conn.now }
 {
     let after = conn.inside();
-    let is_silent = out.segments().is_empty() && out.messages() == 0;
-    require(
-        is_packet || (is_silent && is_same(before, after)),
-        Rule::Silence,
-    )?;
-    require(never_fall(before, after), Rule::Numbers)?;
-    require(
-        !is_reset || (out.segments().is_empty() && after.taken == before.taken),
-        Rule::Reset,
-    )?;
+    let has_none = out.segments().is_empty();
+    let is_silent = has_none && out.messages() == 0 && is_same(before, after);
+    let is_still = has_none && after.taken == before.taken;
+    require_all(&[
+        (is_packet || is_silent, Rule::Silence),
+        (never_fall(before, after), Rule::Numbers),
+        (!is_reset || is_still, Rule::Reset),
+    ])?;
     check_leaving(after, conn.stage() != ConnStage::Live, out)
 }

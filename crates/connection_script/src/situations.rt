@@ -90,20 +90,6 @@ fn client_first(
     say(alloc, conn, ACK, b"", out)
 }
 
-/// The server closes first, since it is asked to.
-fn server_first(
-    alloc: Global,
-    conn: &mut Conn<AnyService>,
-    out: &mut TurnOut,
-) -> Result<(), NoMemory>
-    requires { IsSound conn.old }
-    ensures { OnOk result (IsSound conn.new) }
-{
-    say(alloc, conn, ACK, b"quit\n", out)?;
-    log_all(alloc, conn, out)?;
-    say(alloc, conn, FIN | ACK, b"", out)
-}
-
 /// Four ticks pass after both FINs.
 fn ending(alloc: Global, conn: &mut Conn<AnyService>, out: &mut TurnOut) -> Result<(), NoMemory>
     requires { IsSound conn.old }
@@ -132,7 +118,12 @@ pub(crate) fn arrange(
         Situation::Started => Ok(()),
         Situation::Unlogged => unlogged(alloc, conn, false, out),
         Situation::FinTaken => unlogged(alloc, conn, true, out),
-        Situation::ServerFirst => server_first(alloc, conn, out),
+        // The server closes first, since it is asked to.
+        Situation::ServerFirst => {
+            say(alloc, conn, ACK, b"quit\n", out)?;
+            log_all(alloc, conn, out)?;
+            say(alloc, conn, FIN | ACK, b"", out)
+        }
         Situation::ClientFirst => client_first(alloc, conn, out),
         Situation::Reset => {
             unlogged(alloc, conn, false, out)?;

@@ -3,7 +3,7 @@
 
 use ft_io::NoMemory;
 use hostile::{Tally, attack_live, attack_scripted};
-use joined::{Joined, join};
+use joined::join;
 use std::alloc::Global;
 use tcp_endpoint::Outbox;
 use test_data::Said;
@@ -11,16 +11,6 @@ use test_data::Said;
 mod hostile;
 mod joined;
 mod rules;
-
-fn tell_joined(seed: u64, joined: Joined, said: &mut Said) {
-    let (accepted, read) = (joined.accepted, joined.read);
-    let same = if joined.same { "the same" } else { "others" };
-    write!(
-        said,
-        "seed {seed}: the client accepted {accepted} bytes, and the server read {read}\n"
-    );
-    write!(said, "seed {seed}: they are {same}, {:?}\n", joined.outcome);
-}
 
 fn tell_tally(who: &str, tally: Tally, said: &mut Said) {
     let (datagrams, packets) = (tally.datagrams, tally.packets);
@@ -39,7 +29,13 @@ fn play(alloc: Global, out: &mut Outbox, said: &mut Said) -> Result<bool, NoMemo
     let mut whole = true;
     for seed in 1..4u64 {
         let joined = join(alloc, seed, out)?;
-        tell_joined(seed, joined, said);
+        let (accepted, read) = (joined.accepted, joined.read);
+        let same = if joined.same { "the same" } else { "others" };
+        write!(
+            said,
+            "seed {seed}: the client accepted {accepted} bytes, and the server read {read}\n"
+        );
+        write!(said, "seed {seed}: they are {same}, {:?}\n", joined.outcome);
         whole = whole && joined.same;
     }
     let scripted = attack_scripted(alloc)?;

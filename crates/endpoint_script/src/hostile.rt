@@ -3,8 +3,7 @@
 ghost use Rattle.std.specs.Prelude.{◌≤◌};
 
 use crate::rules::{
-    Kept, Known, OWN, Rule, Seen, check_leaving, check_numbers, check_reset, check_used,
-    is_behind_fin, require, resets,
+    Kept, Known, OWN, Rule, Seen, check_leaving, check_numbers, check_taken, is_behind_fin, resets,
 };
 use crate::scene::{Met, Scene, differs};
 use crate::script::{Counted, Hostile};
@@ -12,7 +11,7 @@ use segment_codec::{Head, PacketRef, read_packet, write_packet};
 use seq_arith::{ACK, FIN, Seq};
 use socket_layer::Socket;
 use tcp_endpoint::StateName;
-use test_data::{Draws, Pattern};
+use test_data::{Draws, Pattern, require, require_all};
 
 /// What came of all datagrams.
 #[derive(Clone, Copy)]
@@ -121,38 +120,32 @@ impl Attack {
             .add(u32::from(fin))
     }
 
-    fn seq(&mut self, scene: &Scene) -> Seq {
-        let next = self.next(scene);
-        match self.draws.below(8) {
+    fn head(&mut self, scene: &Scene) -> Head {
+        let sides = if self.draws.below(2) == 0 { 20 } else { 65_536 };
+        let (from, to) = (scene.peer, scene.local);
+        let (next, seen) = (self.next(scene), seen(scene));
+        let seq = match self.draws.below(8) {
             0 => self.draws.number(),
             1..=3 => next,
             4 | 5 => self.draws.near(next, 3),
             6 => self.draws.near(next, 120),
             _ => self.draws.near(next.add(u32::from(window(scene))), 3),
-        }
-    }
-
-    fn ack(&mut self, seen: Seen) -> Seq {
-        match self.draws.below(8) {
+        };
+        let ack = match self.draws.below(8) {
             0 => self.draws.number(),
             1..=3 => seen.sent,
             4 => seen.acked,
             5 => self.draws.near(seen.acked, 3),
             6 => self.draws.near(seen.sent, 40),
             _ => self.draws.near(seen.sent, 2),
-        }
-    }
-
-    fn head(&mut self, scene: &Scene) -> Head {
-        let sides = if self.draws.below(2) == 0 { 20 } else { 65_536 };
-        let (from, to) = (scene.peer, scene.local);
+        };
         Head {
             src: from.ip,
             dst: to.ip,
             sport: from.port,
             dport: to.port,
-            seq: self.seq(scene),
-            ack: self.ack(seen(scene)),
+            seq,
+            ack,
             flags: flags(&mut self.draws),
             window: self.draws.below(sides) as u16,
             mss: if self.draws.below(2) == 0 {
@@ -175,32 +168,26 @@ impl Attack {
         write_packet(&head, &text[..len], out)
     }
 
-    /// What is read is, in place, what some datagram carried.
-    fn user_reads(&mut self, scene: &mut Scene) -> Kept {
-        let mut read = [0u8; 150];
-        let size = self.draws.below(151) as usize;
-        let count = scene.endpoint.read(&mut read[..size]);
-        require(count <= size, Rule::Counts)?;
-        let read = &read[..count.min(size)];
-        require(PEERS.is_part(self.read, read), Rule::ReadText)?;
-        self.read = self.read.wrapping_add(read.len() as u32);
-        Ok(())
-    }
-
-    fn user_writes(&mut self, scene: &mut Scene) -> Kept {
-        let mut text = [0u8; 40];
-        OWN.fill(self.written, &mut text);
-        let size = self.draws.below(41) as usize;
-        let count = scene.endpoint.write(&text[..size]);
-        self.written = self.written.wrapping_add(count as u32);
-        require(count <= size, Rule::Counts)
-    }
-
-    /// The user reads, writes a little, or closes, at some of the turns.
+    /// The user reads, writes a little, or closes, at some of the turns. What is read is, in place, what some datagram carried.
     fn user_acts(&mut self, scene: &mut Scene) -> Kept {
         match self.draws.below(40) {
-            0..=11 => self.user_reads(scene),
-            12..=19 => self.user_writes(scene),
+            0..=11 => {
+                let mut read = [0u8; 150];
+                let size = self.draws.below(151) as usize;
+                let count = scene.endpoint.read(&mut read[..size]);
+                let read = &read[..count.min(size)];
+                let is_next = PEERS.is_part(self.read, read);
+                self.read = self.read.wrapping_add(read.len() as u32);
+                require_all(&[(count <= size, Rule::Counts), (is_next, Rule::ReadText)])
+            }
+            12..=19 => {
+                let mut text = [0u8; 40];
+                OWN.fill(self.written, &mut text);
+                let size = self.draws.below(41) as usize;
+                let count = scene.endpoint.write(&text[..size]);
+                self.written = self.written.wrapping_add(count as u32);
+                require(count <= size, Rule::Counts)
+            }
             20 => {
                 scene.endpoint.close();
                 Ok(())
@@ -242,8 +229,7 @@ impl Attack {
         if begins && after.state != before.state {
             scene.peer_isn = p.head.seq;
         }
-        check_reset(before, after, resets)?;
-        check_used(before, after, p.head.flags)?;
+        check_taken(before, after, resets, p.head.flags)?;
         self.user_acts(scene)?;
         self.end_turn(scene)?;
         check_numbers(before, seen(scene), p.head.ack)
@@ -261,26 +247,28 @@ impl Attack {
                 packet[place] = packet[place].wrapping_add(1 + self.draws.below(255) as u8);
             }
         }
-        if let Ok(p) = read_packet(&packet[..len]) {
-            require(!is_damaged, Rule::Damage)?;
-            if let Some(count) = self.tally.met.get_mut(scene.endpoint.state().name as usize) {
-                *count = count.wrapping_add(1);
+        match read_packet(&packet[..len]) {
+            Ok(p) if !is_damaged => {
+                if let Some(count) = self.tally.met.get_mut(scene.endpoint.state().name as usize) {
+                    *count = count.wrapping_add(1);
+                }
+                self.tally.handed = self.tally.handed.wrapping_add(1);
+                self.take_in(scene, p)?;
             }
-            self.tally.handed = self.tally.handed.wrapping_add(1);
-            self.take_in(scene, p)?;
-        } else {
-            require(is_damaged, Rule::Damage)?;
-            self.tally.refused = self.tally.refused.wrapping_add(1);
-            let before = seen(scene);
-            scene.send();
-            let is_same = scene.out.is_empty() && seen(scene) == before;
-            require(is_same, Rule::Silence)?;
+            Err(_) if is_damaged => {
+                self.tally.refused = self.tally.refused.wrapping_add(1);
+                let before = seen(scene);
+                scene.send();
+                let is_same = scene.out.is_empty() && seen(scene) == before;
+                require(is_same, Rule::Silence)?;
+            }
+            _ => return Err(Rule::Damage),
         }
-        if self.draws.below(20) == 0 {
-            scene.endpoint.on_tick();
-            self.end_turn(scene)?;
+        if self.draws.below(20) > 0 {
+            return Ok(());
         }
-        Ok(())
+        scene.endpoint.on_tick();
+        self.end_turn(scene)
     }
 
     /// The next datagrams come to a new endpoint, until another has to replace it. Counts what came of it.

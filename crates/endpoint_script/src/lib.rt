@@ -5,13 +5,12 @@
 
 use clients::play_clients;
 use ft_io::NoMemory;
-use memchr::memmem;
 use play::Play;
 use read::ScriptEnd;
 use scene::Miss;
 use script::Script;
 use std::alloc::Global;
-use test_data::Said;
+use test_data::{Said, cut};
 use words::Why;
 
 mod clients;
@@ -38,26 +37,6 @@ struct Outcome {
     cases: usize,
     differ: usize,
     refused: usize,
-}
-
-impl Outcome {
-    fn status(self) -> u8 {
-        if self.refused > 0 {
-            return 2;
-        }
-        if self.differ > 0 { 1 } else { 0 }
-    }
-}
-
-/// The first script of a text, and what comes after the line that ends it.
-fn first_script(text: &[u8]) -> (&[u8], Option<&[u8]>) {
-    match memmem::find(text, SEAM) {
-        Some(at) => (
-            text.get(..at).unwrap_or(text),
-            text.get(at.wrapping_add(SEAM.len())..),
-        ),
-        None => (text, None),
-    }
 }
 
 /// Tells of a script's line that is refused.
@@ -146,7 +125,7 @@ pub fn run(alloc: Global, text: &[u8], said: &mut Said) -> Result<u8, NoMemory> 
     // Each turn but the last takes a line out of the text.
     for _turn in 0..=text.len() {
         let Some(scripts) = rest else { break };
-        let (script, behind) = first_script(scripts);
+        let (script, behind) = cut(scripts, SEAM);
         play_text(alloc, script, &mut outcome, said)?;
         rest = behind;
     }
@@ -155,5 +134,9 @@ pub fn run(alloc: Global, text: &[u8], said: &mut Said) -> Result<u8, NoMemory> 
         said,
         "{cases} cases, {differ} differ; {refused} scripts refused\n"
     );
-    Ok(outcome.status())
+    Ok(match (differ, refused) {
+        (0, 0) => 0,
+        (_, 0) => 1,
+        _ => 2,
+    })
 }

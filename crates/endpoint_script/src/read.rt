@@ -99,7 +99,7 @@ impl<'a> Script<'a> {
     }
 
     fn add(&mut self, line: &'a str) -> Result<(), ScriptEnd> {
-        let mut words = Words(line.trim());
+        let mut words = Words::new(line.trim());
         let keyword = words.next().unwrap_or("#");
         match keyword {
             "way" => self.begin_part(words.only()?, true),
@@ -107,7 +107,7 @@ impl<'a> Script<'a> {
             "begin" => self.begin(words.only()?),
             _ if keyword.starts_with('#') => Ok(()),
             _ => {
-                let action = action(keyword, &mut words, self.ways)?;
+                let action = action(keyword, &mut words, self.ways);
                 words.end()?;
                 self.add_step(action)
             }

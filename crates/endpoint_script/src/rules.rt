@@ -3,7 +3,7 @@
 use segment_codec::{Head, PacketRef};
 use seq_arith::{ACK, FIN, RST, SYN, Seq, has};
 use tcp_endpoint::StateName;
-use test_data::Pattern;
+use test_data::{Pattern, require, require_all};
 
 /// A SYN with ACK.
 const SYN_ACK: u8 = 18;
@@ -69,11 +69,6 @@ impl Rule {
 /// A rule is kept, or this one is broken.
 pub(crate) type Kept = Result<(), Rule>;
 
-/// A rule is kept, or this one is broken: one of the rules on endpoints, or of those on clients.
-pub(crate) fn require<R: Copy>(kept: bool, rule: R) -> Result<(), R> {
-    if kept { Ok(()) } else { Err(rule) }
-}
-
 /// What is seen of an endpoint from outside.
 #[derive(Clone, Copy, PartialEq, Eq)]
 pub(crate) struct Seen {
@@ -121,24 +116,22 @@ pub(crate) fn resets(before: Seen, first: Seq, next: Seq, head: Head) -> bool {
     }
 }
 
-/// A connection is reset where a segment resets, and then it is CLOSED.
-pub(crate) fn check_reset(before: Seen, after: Seen, resets: bool) -> Kept {
-    require(after.reset == (before.reset || resets), Rule::Reset)?;
+/// A connection is reset where a segment resets, and then it is CLOSED. No text is taken from a segment without ACK, or with SYN or RST, or once the peer's FIN is
+/// taken. The acknowledgement of a segment without ACK, or with SYN or RST, isn't used, except in SYN-SENT.
+pub(crate) fn check_taken(before: Seen, after: Seen, resets: bool, flags: u8) -> Kept {
     let is_closed = after.state == StateName::Closed && after.room == 0;
-    require(!after.reset || is_closed, Rule::Room)
-}
-
-/// No text is taken from a segment without ACK, or with SYN or RST, or once the peer's FIN is taken. The acknowledgement of a segment without ACK,
-/// or with SYN or RST, isn't used, except in SYN-SENT.
-pub(crate) fn check_used(before: Seen, after: Seen, flags: u8) -> Kept {
     let is_used = flags & (SYN | RST | ACK) == ACK;
     let may_take = is_used && !is_behind_fin(before.state);
-    require(may_take || after.readable == before.readable, Rule::Text)?;
     let may_use = is_used || before.state == StateName::SynSent;
-    require(
-        may_use || after.acked == before.acked,
-        Rule::Acknowledgement,
-    )
+    require_all(&[
+        (after.reset == (before.reset || resets), Rule::Reset),
+        (!after.reset || is_closed, Rule::Room),
+        (may_take || after.readable == before.readable, Rule::Text),
+        (
+            may_use || after.acked == before.acked,
+            Rule::Acknowledgement,
+        ),
+    ])
 }
 
 /// The numbers after a turn in which a segment acknowledged `ack`.
@@ -146,22 +139,24 @@ pub(crate) fn check_numbers(before: Seen, after: Seen, ack: Seq) -> Kept {
     let grows = before.acked.le(after.acked) && before.sent.le(after.sent);
     let is_told = after.acked == before.acked || after.acked == ack;
     let is_sent = after.acked.le(after.sent);
-    require(grows && is_told && is_sent, Rule::Numbers)?;
-    require(after.readable <= 65_535, Rule::Text)?;
-    if before.state != StateName::Closed {
-        return Ok(());
-    }
     let readable = after.readable;
-    require(after == Seen { readable, ..before }, Rule::Closed)
+    let is_still = after == Seen { readable, ..before };
+    require_all(&[
+        (grows && is_told && is_sent, Rule::Numbers),
+        (readable <= 65_535, Rule::Text),
+        (before.state != StateName::Closed || is_still, Rule::Closed),
+    ])
 }
 
 /// A RST in answer is the only segment of its turn.
 fn check_rst(p: PacketRef<'_>, count: usize) -> Kept {
     let is_alone = p.head.window == 0 && p.payload.is_empty() && count == 1;
-    require(is_alone, Rule::RstAlone)?;
     let at_ack = p.head.flags == RST && p.head.ack == Seq(0);
     let behind = p.head.flags == RST | ACK && p.head.seq == Seq(0);
-    require(at_ack || behind, Rule::RstFields)
+    require_all(&[
+        (is_alone, Rule::RstAlone),
+        (at_ack || behind, Rule::RstFields),
+    ])
 }
 
 /// Text leaves as it was written, and the FIN comes after it.
@@ -169,9 +164,11 @@ fn check_text(known: Known, p: PacketRef<'_>) -> Kept {
     let place = p.head.seq.minus(known.isn.add(1));
     let left = known.written.saturating_sub(place) as usize;
     let is_own = p.payload.len() <= left && OWN.is_part(place, p.payload);
-    require(is_own, Rule::OwnText)?;
     let is_behind = place == known.written && p.payload.is_empty();
-    require(is_behind || !has(p.head.flags, FIN), Rule::Fin)
+    require_all(&[
+        (is_own, Rule::OwnText),
+        (is_behind || !has(p.head.flags, FIN), Rule::Fin),
+    ])
 }
 
 /// A segment without RST in a connection.

@@ -51,37 +51,59 @@ impl Why {
     }
 }
 
-/// The words of a line that aren't read yet. Spaces separate them.
+/// The words of a line that aren't read yet, which spaces separate, and why the line is refused, if it is. What is read after that is of no account: `end` reports
+/// the refusal. So what reads words has no error of its own to return.
 #[derive(Clone, Copy)]
-pub(crate) struct Words<'a>(pub(crate) &'a str);
+pub(crate) struct Words<'a> {
+    rest: &'a str,
+    why: Option<Why>,
+}
 
 impl<'a> Words<'a> {
+    pub(crate) fn new(line: &'a str) -> Words<'a> {
+        Words {
+            rest: line,
+            why: None,
+        }
+    }
+
+    /// The line is refused, unless it is already.
+    pub(crate) fn refuse(&mut self, why: Why) {
+        self.why = self.why.or(Some(why));
+    }
+
     /// The next word, where there is one.
     pub(crate) fn next(&mut self) -> Option<&'a str> {
-        let rest = self.0.trim_start();
+        let rest = self.rest.trim_start();
         if rest.is_empty() {
             return None;
         }
         let (word, behind) = rest.split_once(' ').unwrap_or((rest, ""));
-        self.0 = behind;
+        self.rest = behind;
         Some(word)
     }
 
     /// The next word, which may not be missing.
-    pub(crate) fn word(&mut self) -> Result<&'a str, Why> {
-        self.next().ok_or(Why::Missing)
+    pub(crate) fn word(&mut self) -> &'a str {
+        match self.next() {
+            Some(word) => word,
+            None => {
+                self.refuse(Why::Missing);
+                ""
+            }
+        }
     }
 
     /// The only word that is left.
     pub(crate) fn only(&mut self) -> Result<&'a str, Why> {
-        let word = self.word()?;
+        let word = self.word();
         self.end()?;
         Ok(word)
     }
 
     /// All words that are left, of which there must be one.
     pub(crate) fn all(self) -> Result<&'a str, Why> {
-        let all = self.0.trim();
+        let all = self.rest.trim();
         if all.is_empty() {
             Err(Why::Missing)
         } else {
@@ -90,11 +112,9 @@ impl<'a> Words<'a> {
     }
 
     /// This word comes next.
-    pub(crate) fn key(&mut self, key: &str) -> Result<(), Why> {
-        if self.word()? == key {
-            Ok(())
-        } else {
-            Err(Why::Word)
+    pub(crate) fn key(&mut self, key: &str) {
+        if self.word() != key {
+            self.refuse(Why::Word);
         }
     }
 
@@ -108,9 +128,12 @@ impl<'a> Words<'a> {
         found
     }
 
-    /// No word may be left.
+    /// No word may be left, and the line may not be refused.
     pub(crate) fn end(self) -> Result<(), Why> {
-        if self.0.trim_start().is_empty() {
+        if let Some(why) = self.why {
+            return Err(why);
+        }
+        if self.rest.trim_start().is_empty() {
             Ok(())
         } else {
             Err(Why::Word)
@@ -118,164 +141,182 @@ impl<'a> Words<'a> {
     }
 
     /// A decimal number of 32 bits.
-    pub(crate) fn number(&mut self) -> Result<u32, Why> {
-        self.word()?.parse::<u32>().or(Err(Why::Number))
+    pub(crate) fn number(&mut self) -> u32 {
+        match self.word().parse::<u32>() {
+            Ok(number) => number,
+            Err(_) => {
+                self.refuse(Why::Number);
+                0
+            }
+        }
     }
 
     /// The decimal number of 32 bits after this word, which comes next.
-    pub(crate) fn number_after(&mut self, key: &str) -> Result<u32, Why> {
-        self.key(key)?;
+    pub(crate) fn number_after(&mut self, key: &str) -> u32 {
+        self.key(key);
         self.number()
     }
 
     /// A decimal number of 16 bits.
-    pub(crate) fn short(&mut self) -> Result<u16, Why> {
-        short(self.word()?)
+    pub(crate) fn short(&mut self) -> u16 {
+        match self.word().parse::<u16>() {
+            Ok(number) => number,
+            Err(_) => {
+                self.refuse(Why::Number);
+                0
+            }
+        }
     }
 
     /// The decimal number of 16 bits after this word, which comes next.
-    pub(crate) fn short_after(&mut self, key: &str) -> Result<u16, Why> {
-        self.key(key)?;
+    pub(crate) fn short_after(&mut self, key: &str) -> u16 {
+        self.key(key);
         self.short()
     }
 
     /// The decimal number of 16 bits after this word, where it comes next.
-    pub(crate) fn short_if(&mut self, key: &str) -> Result<Option<u16>, Why> {
+    pub(crate) fn short_if(&mut self, key: &str) -> Option<u16> {
         if self.has(key) {
-            return Ok(Some(self.short()?));
+            return Some(self.short());
         }
-        Ok(None)
+        None
     }
 
     /// `A.B.C.D:PORT`.
-    pub(crate) fn address(&mut self) -> Result<Addr, Why> {
-        let at = self.word()?.parse::<SocketAddrV4>().or(Err(Why::Address))?;
-        Ok(Addr {
-            ip: at.ip().to_bits(),
-            port: at.port(),
-        })
+    pub(crate) fn address(&mut self) -> Addr {
+        match self.word().parse::<SocketAddrV4>() {
+            Ok(at) => Addr {
+                ip: at.ip().to_bits(),
+                port: at.port(),
+            },
+            Err(_) => {
+                self.refuse(Why::Address);
+                Addr { ip: 0, port: 0 }
+            }
+        }
     }
 
     /// `yes` or `no`.
-    pub(crate) fn answer(&mut self) -> Result<bool, Why> {
-        match self.word()? {
-            "yes" => Ok(true),
-            "no" => Ok(false),
-            _ => Err(Why::Word),
+    pub(crate) fn answer(&mut self) -> bool {
+        match self.word() {
+            "yes" => true,
+            "no" => false,
+            _ => {
+                self.refuse(Why::Word);
+                false
+            }
         }
     }
 
     /// Control bits by their first letters, each at most once, or `-` for none.
-    fn flags(&mut self) -> Result<u8, Why> {
-        let word = self.word()?;
+    fn flags(&mut self) -> u8 {
+        let word = self.word();
         let mut all = 0u8;
         if word == "-" {
-            return Ok(all);
+            return all;
         }
         for letter in word.as_bytes() {
-            let one = flag(*letter).ok_or(Why::Flags)?;
-            if all & one != 0 {
-                return Err(Why::Flags);
+            let one = flag(*letter);
+            if one == 0 || all & one != 0 {
+                self.refuse(Why::Flags);
             }
             all |= one;
         }
-        Ok(all)
+        all
     }
 
     /// A state by its name in RFC 9293.
-    pub(crate) fn state_name(&mut self) -> Result<StateName, Why> {
-        match self.word()? {
-            "CLOSED" => Ok(StateName::Closed),
-            "LISTEN" => Ok(StateName::Listen),
-            "SYN-SENT" => Ok(StateName::SynSent),
-            "SYN-RECEIVED" => Ok(StateName::SynReceived),
-            "ESTABLISHED" => Ok(StateName::Established),
-            "FIN-WAIT-1" => Ok(StateName::FinWait1),
-            "FIN-WAIT-2" => Ok(StateName::FinWait2),
-            "CLOSE-WAIT" => Ok(StateName::CloseWait),
-            "CLOSING" => Ok(StateName::Closing),
-            "LAST-ACK" => Ok(StateName::LastAck),
-            "TIME-WAIT" => Ok(StateName::TimeWait),
-            _ => Err(Why::State),
+    pub(crate) fn state_name(&mut self) -> StateName {
+        match self.word() {
+            "CLOSED" => StateName::Closed,
+            "LISTEN" => StateName::Listen,
+            "SYN-SENT" => StateName::SynSent,
+            "SYN-RECEIVED" => StateName::SynReceived,
+            "ESTABLISHED" => StateName::Established,
+            "FIN-WAIT-1" => StateName::FinWait1,
+            "FIN-WAIT-2" => StateName::FinWait2,
+            "CLOSE-WAIT" => StateName::CloseWait,
+            "CLOSING" => StateName::Closing,
+            "LAST-ACK" => StateName::LastAck,
+            "TIME-WAIT" => StateName::TimeWait,
+            _ => {
+                self.refuse(Why::State);
+                StateName::Closed
+            }
         }
     }
 
     /// A state, and `reset` after it where the peer has reset the connection.
-    pub(crate) fn state(&mut self) -> Result<State, Why> {
-        let name = self.state_name()?;
+    pub(crate) fn state(&mut self) -> State {
+        let name = self.state_name();
         let reset = self.has("reset");
-        Ok(State { name, reset })
+        State { name, reset }
     }
 
     /// `hex:` and pairs of digits, `fill:COUNT` or `fill:COUNT@PLACE`, `-` for nothing, or the letters themselves.
-    pub(crate) fn text(&mut self) -> Result<Text<'a>, Why> {
-        let word = self.word()?;
-        if let Some(digits) = word.strip_prefix("hex:") {
-            return hex(digits);
-        }
+    pub(crate) fn text(&mut self) -> Text<'a> {
+        let word = self.word();
         if let Some(size) = word.strip_prefix("fill:") {
-            return fill(size);
+            return self.fill(size);
         }
-        if word == "-" {
-            return Ok(Text::Word(""));
+        let (text, fits) = match word.strip_prefix("hex:") {
+            Some(digits) => (Text::Hex(digits), are_pairs(digits)),
+            None if word == "-" => (Text::Word(""), true),
+            None => (Text::Word(word), word.len() <= 65_535),
+        };
+        if !fits {
+            self.refuse(Why::Text);
         }
-        if word.len() > 65_535 {
-            return Err(Why::Text);
+        text
+    }
+
+    /// `COUNT` or `COUNT@PLACE`.
+    fn fill(&mut self, size: &'a str) -> Text<'a> {
+        let (count, place) = size.split_once('@').unwrap_or((size, "0"));
+        if let (Ok(count), Ok(place)) = (count.parse::<u16>(), place.parse::<u32>()) {
+            return Text::Fill { count, place };
         }
-        Ok(Text::Word(word))
+        self.refuse(Why::Number);
+        Text::Word("")
     }
 
     /// `FLAGS seq N ack N win N`, then `mss N` and `data TEXT` where the segment has them.
-    pub(crate) fn segment(&mut self) -> Result<Segment<'a>, Why> {
-        Ok(Segment {
-            flags: self.flags()?,
-            seq: self.number_after("seq")?,
-            ack: self.number_after("ack")?,
-            window: self.short_after("win")?,
-            mss: self.short_if("mss")?,
+    pub(crate) fn segment(&mut self) -> Segment<'a> {
+        Segment {
+            flags: self.flags(),
+            seq: self.number_after("seq"),
+            ack: self.number_after("ack"),
+            window: self.short_after("win"),
+            mss: self.short_if("mss"),
             text: if self.has("data") {
-                self.text()?
+                self.text()
             } else {
                 Text::Word("")
             },
-        })
+        }
     }
 }
 
-fn short(word: &str) -> Result<u16, Why> {
-    word.parse::<u16>().or(Err(Why::Number))
-}
-
-fn flag(letter: u8) -> Option<u8> {
+/// The flag of a letter, or 0 where it has none.
+fn flag(letter: u8) -> u8 {
     match letter {
-        b'C' => Some(CWR),
-        b'E' => Some(ECE),
-        b'U' => Some(URG),
-        b'A' => Some(ACK),
-        b'P' => Some(PSH),
-        b'R' => Some(RST),
-        b'S' => Some(SYN),
-        b'F' => Some(FIN),
-        _ => None,
+        b'C' => CWR,
+        b'E' => ECE,
+        b'U' => URG,
+        b'A' => ACK,
+        b'P' => PSH,
+        b'R' => RST,
+        b'S' => SYN,
+        b'F' => FIN,
+        _ => 0,
     }
 }
 
-fn hex(digits: &str) -> Result<Text<'_>, Why> {
+/// Whether these are pairs of hexadecimal digits, of at most 65,535 bytes.
+fn are_pairs(digits: &str) -> bool {
     let all = digits
         .as_bytes()
         .iter()
         .all(|digit| digit.is_ascii_hexdigit());
-    if all && digits.len() % 2 == 0 && digits.len() <= 131_070 {
-        Ok(Text::Hex(digits))
-    } else {
-        Err(Why::Text)
-    }
-}
-
-fn fill(size: &str) -> Result<Text<'_>, Why> {
-    let (count, place) = size.split_once('@').unwrap_or((size, "0"));
-    Ok(Text::Fill {
-        count: short(count)?,
-        place: place.parse::<u32>().or(Err(Why::Number))?,
-    })
+    all && digits.len() % 2 == 0 && digits.len() <= 131_070
 }

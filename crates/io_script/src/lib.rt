@@ -43,23 +43,28 @@ fn play<R: Net + Clock + Files<File = File> + Processes>(
 ) -> Result<(), NoMemory> {
     let (word, rest) = line.split_once(' ').unwrap_or((line, ""));
     match word {
-        "#" => said.word(line.as_bytes()),
-        "source" => memory::read_five(alloc, rest, said)?,
-        "rest" => memory::read_once(alloc, said)?,
-        "sink" => memory::write_three(alloc, rest, said)?,
-        "spawn" => memory::start_two(alloc, rest, said)?,
-        "read" => reading::read_text(alloc, rest, said)?,
-        "chunks" => reading::read_long(alloc, rest, said)?,
-        "write" => reading::write_text(alloc, rest, said)?,
-        "receive" => links::receive_five(alloc, rest, said)?,
-        "send" => links::send_two(alloc, rest, false, said)?,
-        "unbound" => links::send_two(alloc, rest, true, said)?,
-        "bind" => links::bind_three(alloc, rest, said)?,
-        "process" => processes::run_three(system, alloc, said)?,
-        "clock" => ticks::by_the_list(system, alloc, rest, said)?,
-        _ => play_system(system, line, said),
+        "#" => {
+            said.word(line.as_bytes());
+            Ok(())
+        }
+        "source" => memory::read_five(alloc, rest, said),
+        "rest" => memory::read_once(alloc, said),
+        "sink" => memory::write_three(alloc, rest, said),
+        "spawn" => memory::start_two(alloc, rest, said),
+        "read" => reading::read_text(alloc, rest, said),
+        "chunks" => reading::read_long(alloc, rest, said),
+        "write" => reading::write_text(alloc, rest, said),
+        "receive" => links::receive_five(alloc, rest, said),
+        "send" => links::send_two(alloc, rest, false, said),
+        "unbound" => links::send_two(alloc, rest, true, said),
+        "bind" => links::bind_three(alloc, rest, said),
+        "process" => processes::run_three(system, alloc, said),
+        "clock" => ticks::by_the_list(system, alloc, rest, said),
+        _ => {
+            play_system(system, line, said);
+            Ok(())
+        }
     }
-    Ok(())
 }
 
 /// Plays a line of the system, which wants no memory.

@@ -4,21 +4,10 @@ use ft_io::{Addr, Failed, Heard, Link};
 use ft_system::UdpLink;
 use std::net::Net;
 use std::time::Clock;
-use test_data::Said;
+use test_data::{Said, bind_somewhere};
 
-/// Binds the link to a port of this machine, one of 16 of which some may be taken.
-pub fn bind_somewhere<L: Link>(link: &mut L) -> Option<Addr> {
-    for port in 7431..7447u16 {
-        let here = Addr {
-            ip: 0x7F00_0001,
-            port,
-        };
-        if link.bind(here).is_ok() {
-            return Some(here);
-        }
-    }
-    None
-}
+/// The first of the ports that are tried.
+pub const PORT: u16 = 7431;
 
 /// Receives, at most eight times, until there is anything but silence: a slow machine may be 20 ms late.
 fn await_datagram<L: Link>(link: &mut L, buf: &mut [u8; 2048]) -> Result<Heard, Failed> {
@@ -70,7 +59,7 @@ pub fn send_to_itself<R: Net + Clock>(system: &R, said: &mut Said) {
     let mut second = UdpLink::new(system);
     let mut buf = [0u8; 2048];
     said.done(link.recv(&mut buf).is_ok());
-    match bind_somewhere(&mut link) {
+    match bind_somewhere(&mut link, PORT) {
         Some(here) => say_rounds(&mut link, &mut second, here, said),
         None => said.word(b"no port is free"),
     }

@@ -1,6 +1,6 @@
 //! When a UDP socket gives nothing though datagrams come, and when it does so in silence.
 
-use crate::sockets::bind_somewhere;
+use crate::sockets::PORT;
 use crate::watch::Watch;
 use ft_io::{Addr, Heard, Link, NoMemory};
 use ft_system::UdpLink;
@@ -8,7 +8,7 @@ use std::alloc::Global;
 use std::net::Net;
 use std::time::{Clock, Duration, Instant};
 use std::{io, thread};
-use test_data::Said;
+use test_data::{Said, bind_somewhere};
 
 /// The listed times, in milliseconds; `-` is a clock that can't be read.
 fn listed(alloc: Global, times: &str) -> Result<Vec<Option<u64>>, NoMemory> {
@@ -22,7 +22,7 @@ fn listed(alloc: Global, times: &str) -> Result<Vec<Option<u64>>, NoMemory> {
 
 /// Says what the link receives at each time but the first. A datagram is sent to it before: by itself where `+` follows the time, and else by the stranger.
 fn say_at_times<L: Link, M: Link>(link: &mut L, stranger: &mut M, times: &str, said: &mut Said) {
-    let (Some(here), Some(_)) = (bind_somewhere(link), bind_somewhere(stranger)) else {
+    let (Some(here), Some(_)) = (bind_somewhere(link, PORT), bind_somewhere(stranger, PORT)) else {
         return said.word(b"no port is free");
     };
     for time in times.split(' ').skip(1) {
@@ -65,7 +65,7 @@ fn say_receive<L: Link>(link: &mut L, said: &mut Said) {
 
 /// Five receives in silence: says whether the quickest of the last four took 15 to 200 ms, and else how long it took.
 pub fn in_silence<C: Clock, L: Link>(clock: &C, link: &mut L, said: &mut Said) {
-    if bind_somewhere(link).is_none() {
+    if bind_somewhere(link, PORT).is_none() {
         return said.word(b"no port is free");
     }
     let mut quickest = u128::MAX;
@@ -120,7 +120,7 @@ fn millis_since<C: Clock>(clock: &C, begun: Instant) -> u128 {
 /// 2,000 datagrams of a stranger, one half a millisecond after another, so that one always waits: says whether all came, with 20 ticks
 /// or more among them and no more than one in 15 ms, and else what came.
 pub fn in_traffic<C: Clock, L: Link>(clock: &C, link: &mut L, stranger: &mut L, said: &mut Said) {
-    let (Some(here), Some(_)) = (bind_somewhere(link), bind_somewhere(stranger)) else {
+    let (Some(here), Some(_)) = (bind_somewhere(link, PORT), bind_somewhere(stranger, PORT)) else {
         return said.word(b"no port is free");
     };
     let Ok(begun) = Instant::now(clock) else {
@@ -144,7 +144,7 @@ pub fn in_traffic<C: Clock, L: Link>(clock: &C, link: &mut L, stranger: &mut L, 
 /// The same, but that the link sends the datagrams to itself, as one that answers what comes: says whether all came, with at most one tick
 /// a second among them, and else what came.
 pub fn in_exchange<C: Clock, L: Link>(clock: &C, link: &mut L, said: &mut Said) {
-    let Some(here) = bind_somewhere(link) else {
+    let Some(here) = bind_somewhere(link, PORT) else {
         return said.word(b"no port is free");
     };
     let Ok(begun) = Instant::now(clock) else {

@@ -86,30 +86,21 @@ impl Script {
         let alloc = system.alloc();
         let (word, rest) = line.split_once(' ').unwrap_or((line, ""));
         match word {
-            "#" => {
-                self.said.line(line);
-                Ok(())
-            }
-            "ask" => ask(alloc, rest, &mut self.said),
-            "run" => self.run(alloc, rest, Way::Node),
-            "brief" => self.run(alloc, rest, Way::Brief),
-            "own" => self.run(alloc, rest, Way::Own),
-            "start" => self.start(system, rest),
-            _ => self.prepare(alloc, word, rest),
-        }
-    }
-
-    /// Plays a line that says what the next run or the next process meets.
-    fn prepare(&mut self, alloc: Global, word: &str, rest: &str) -> Result<(), NoMemory> {
-        match word {
-            "come" => self.come(alloc, rest)?,
+            "#" => self.said.line(line),
+            "ask" => return ask(alloc, rest, &mut self.said),
+            "run" => return self.run(alloc, rest, Way::Node),
+            "brief" => return self.run(alloc, rest, Way::Brief),
+            "own" => return self.run(alloc, rest, Way::Own),
+            "start" => return self.start(system, rest),
+            // What the next run or the next process meets.
+            "come" => return self.come(alloc, rest),
             "nothing" => self.arrivals.push(Arrival::Nothing)?,
-            "child" => self.end_child(rest)?,
-            "fail" => self.faults.add(rest)?,
-            "input" => self.give(alloc, rest)?,
+            "child" => return self.end_child(rest),
+            "fail" => return self.faults.add(rest),
+            "input" => return self.give(alloc, rest),
             "shell" => self.meeting.shell = String::from_str(alloc, rest)?,
             "hold" => self.meeting.held = String::from_str(alloc, rest)?,
-            "answer" => self.answer(alloc, rest)?,
+            "answer" => return self.answer(alloc, rest),
             _ => self.said.line("no such line"),
         }
         Ok(())

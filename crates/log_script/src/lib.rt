@@ -34,7 +34,7 @@
 #![tactic(auto)]
 
 use ft_io::NoMemory;
-use kept::{Bench, play_kept};
+use kept::Bench;
 use logger_store::{MsgOut, TrimStore};
 use logger_wire::read_msg;
 use mark_store::MarkStore;
@@ -149,23 +149,30 @@ fn play_trimmed(
 /// Plays a line, and says what it prints.
 fn play(alloc: Global, logs: &mut Logs, line: &str, said: &mut Said) -> Result<(), NoMemory> {
     let (word, rest) = line.split_once(' ').unwrap_or((line, ""));
-    match word {
-        "#" => said.add(line.as_bytes()),
+    let played = match word {
+        "#" => {
+            said.add(line.as_bytes());
+            Ok(())
+        }
         "marks" => {
             logs.marked = MarkStore::new(alloc);
             said.add(b"marks");
+            Ok(())
         }
-        "give" => give_bytes(alloc, &mut logs.marked, rest, said)?,
-        "mark" => mark_line(alloc, &mut logs.marked, rest, said)?,
-        "ask" => ask_line(alloc, &mut logs.marked, rest, said)?,
-        "kept" if rest.starts_with("marked ") => kept_marked(&logs.marked, rest, said),
+        "give" => give_bytes(alloc, &mut logs.marked, rest, said),
+        "mark" => mark_line(alloc, &mut logs.marked, rest, said),
+        "ask" => ask_line(alloc, &mut logs.marked, rest, said),
+        "kept" if rest.starts_with("marked ") => {
+            kept_marked(&logs.marked, rest, said);
+            Ok(())
+        }
         "pair" | "stop" | "lists" | "head" | "tail" => {
-            play_pair(alloc, &mut logs.pair, word, rest, &mut logs.sent, said)?
+            play_pair(alloc, &mut logs.pair, word, rest, &mut logs.sent, said)
         }
-        _ => play_trimmed(alloc, &mut logs.trimmed, word, rest, said)?,
-    }
+        _ => play_trimmed(alloc, &mut logs.trimmed, word, rest, said),
+    };
     said.end_line();
-    Ok(())
+    played
 }
 
 /// Plays the lines of a script, and says what each prints. Where memory is refused, a line is played once more, since the logs are then as they were before. A
@@ -174,7 +181,7 @@ fn play_lines(alloc: Global, text: &str, logs: &mut Logs, said: &mut Said) -> Re
     for line in text.lines() {
         let before = said.len();
         if let Some(line) = line.strip_prefix("journal ") {
-            play_kept(alloc, &mut logs.bench, line, said)?;
+            logs.bench.play(alloc, line, said)?;
         } else if play(alloc, logs, line, said).is_err() || said.bytes().is_err() {
             said.cut(before);
             play(alloc, logs, line, said)?;
@@ -183,17 +190,12 @@ fn play_lines(alloc: Global, text: &str, logs: &mut Logs, said: &mut Said) -> Re
     Ok(())
 }
 
-/// Empty logs. Where memory is refused they are made once more.
-fn begin_again(alloc: Global) -> Result<Logs, NoMemory> {
-    match Logs::new(alloc) {
-        Ok(logs) => Ok(logs),
-        Err(NoMemory) => Logs::new(alloc),
-    }
-}
-
-/// Plays the lines of a script, and says what each prints. The status, which is 0.
+/// Plays the lines of a script, and says what each prints. The status, which is 0. Where memory is refused for the empty logs, they are made once more.
 pub fn run(alloc: Global, text: &str, said: &mut Said) -> Result<u8, NoMemory> {
-    let mut logs = begin_again(alloc)?;
+    let mut logs = match Logs::new(alloc) {
+        Ok(logs) => logs,
+        Err(NoMemory) => Logs::new(alloc)?,
+    };
     play_lines(alloc, text, &mut logs, said)?;
     Ok(0)
 }

@@ -58,16 +58,30 @@ fn numbers_of(words: &[&str]) -> Option<Numbers> {
     let [boot, ip, port, reads, length, made] = words else {
         return None;
     };
+    let (boot, key) = key_of(boot, ip, port)?;
+    let (Ok(reads), Ok(length), Ok(made)) = (
+        reads.parse::<u32>(),
+        length.parse::<u32>(),
+        made.parse::<u32>(),
+    ) else {
+        return None;
+    };
     Some(Numbers {
-        boot: boot.parse().ok()?,
-        key: Key {
-            ip: ip.parse().ok()?,
-            port: port.parse().ok()?,
-        },
-        reads: reads.parse().ok()?,
-        length: length.parse().ok()?,
-        made: made.parse().ok()?,
+        boot,
+        key,
+        reads,
+        length,
+        made,
     })
+}
+
+/// A boot number and a key.
+fn key_of(boot: &str, ip: &str, port: &str) -> Option<(u64, Key)> {
+    let (Ok(boot), Ok(ip), Ok(port)) = (boot.parse::<u64>(), ip.parse::<u32>(), port.parse::<u16>())
+    else {
+        return None;
+    };
+    Some((boot, Key { ip, port }))
 }
 
 /// Gives a mark to the log.
@@ -130,11 +144,7 @@ pub(crate) fn mark_line(
 fn asked(text: &str) -> Option<(u64, Key)> {
     let (boot, rest) = text.split_once(' ')?;
     let (ip, port) = rest.split_once(' ')?;
-    let key = Key {
-        ip: ip.parse().ok()?,
-        port: port.parse().ok()?,
-    };
-    Some((boot.parse().ok()?, key))
+    key_of(boot, ip, port)
 }
 
 /// Asks the log for the mark of a line's key.

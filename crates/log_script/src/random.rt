@@ -6,9 +6,8 @@ ghost use Rattle.std.specs.Prelude.{◌≡◌, ◌<◌, ◌≤◌, length};
 use crate::{Given, give};
 use ft_io::NoMemory;
 use logger_store::{MsgOut, TrimStore};
-use seq_arith::Sum16;
 use std::alloc::Global;
-use test_data::{Draws, Said, hashed};
+use test_data::{Draws, Said, hashed, seal};
 
 /// How long a message of each kind is, in bytes, from the first kind on: Part and Lens with one byte or length.
 const LENGTHS: [u8; 18] = [
@@ -36,15 +35,6 @@ impl Tally {
             self.answers = hashed(self.answers, answer);
         }
     }
-}
-
-/// Any bytes, at most 100, at the beginning of `bytes`; returns how many.
-fn any_bytes(draws: &mut Draws, bytes: &mut [u8; 128]) -> usize
-    ensures { result ≤ 100 }
-{
-    let len = draws.below(101) as usize;
-    draws.fill(&mut bytes[..len]);
-    len
 }
 
 /// A message of a kind from 1 to 18, most of whose numbers are small, at the beginning of `bytes`; returns its length. A Data has up to 69 bytes.
@@ -86,14 +76,22 @@ fn any_message(draws: &mut Draws, boot: u8, bytes: &mut [u8; 128]) -> usize
     if kind != 0 && other == 1 {
         bytes[15] = boot.wrapping_add(1);
     }
-    let mut sum = Sum16::new();
-    sum.take(&bytes[..len]);
-    bytes[6..8].copy_from_slice(&sum.check().to_be_bytes());
+    seal(&mut bytes[..len]);
     len
 }
 
-/// Gives the log so many datagrams from a seed. The boot number of messages grows by one every 2,000 datagrams.
-fn give_all(alloc: Global, log: &mut TrimStore, count: u32, seed: u64) -> Result<Tally, NoMemory> {
+/// Gives the log as many datagrams as a line says, from its seed, and writes what that prints. The boot number of messages grows by one every 2,000 datagrams.
+pub(crate) fn give_random(
+    alloc: Global,
+    log: &mut TrimStore,
+    text: &str,
+    said: &mut Said,
+) -> Result<(), NoMemory> {
+    let (count, seed) = text.split_once(' ').unwrap_or((text, ""));
+    let (Ok(count), Ok(seed)) = (count.parse::<u32>(), seed.parse::<u64>()) else {
+        said.add(b"no such line");
+        return Ok(());
+    };
     let mut draws = Draws::new(seed);
     let mut tally = Tally {
         refused: 0,
@@ -106,34 +104,15 @@ fn give_all(alloc: Global, log: &mut TrimStore, count: u32, seed: u64) -> Result
     for i in 0..count {
         let boot = (i / 2_000 % 100) as u8 + 1;
         let len = if draws.below(2) == 0 {
-            any_bytes(&mut draws, &mut bytes)
+            draws.anything(&mut bytes[..])
         } else {
             any_message(&mut draws, boot, &mut bytes)
         };
         let given = give(alloc, log, &bytes[..len], &mut out)?;
         tally.count(given, out.bytes());
     }
-    Ok(tally)
-}
-
-/// Gives the log as many datagrams as a line says, and writes what that prints.
-pub(crate) fn give_random(
-    alloc: Global,
-    log: &mut TrimStore,
-    text: &str,
-    said: &mut Said,
-) -> Result<(), NoMemory> {
-    let (count, seed) = text.split_once(' ').unwrap_or((text, ""));
-    let (Ok(count), Ok(seed)) = (count.parse::<u32>(), seed.parse::<u64>()) else {
-        said.add(b"no such line");
-        return Ok(());
-    };
-    let Tally {
-        refused,
-        answered,
-        silent,
-        answers,
-    } = give_all(alloc, log, count, seed)?;
+    let (refused, answered) = (tally.refused, tally.answered);
+    let (silent, answers) = (tally.silent, tally.answers);
     write!(
         said,
         "random {count}: refused {refused} answered {answered} silent {silent} answers {answers}"

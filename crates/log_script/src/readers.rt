@@ -6,13 +6,19 @@ use test_data::Said;
 /// Two numbers, separated by a space.
 pub(crate) fn two_numbers(text: &str) -> Option<(u32, u32)> {
     let (first, second) = text.split_once(' ')?;
-    Some((first.parse().ok()?, second.parse().ok()?))
+    let (Ok(first), Ok(second)) = (first.parse::<u32>(), second.parse::<u32>()) else {
+        return None;
+    };
+    Some((first, second))
 }
 
 /// The place of an entry and a number, separated by a space.
 fn place_and_number(text: &str) -> Option<(u16, u32)> {
-    let (place, number) = two_numbers(text)?;
-    Some((u16::try_from(place).ok()?, number))
+    let (place, number) = text.split_once(' ')?;
+    let (Ok(place), Ok(number)) = (place.parse::<u16>(), number.parse::<u32>()) else {
+        return None;
+    };
+    Some((place, number))
 }
 
 /// The entry at a place, as a line.

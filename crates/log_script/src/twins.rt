@@ -65,7 +65,8 @@ pub(crate) fn play_pair(
 ) -> Result<(), NoMemory> {
     let part = match word {
         "pair" => {
-            pair.begin_anew(alloc)?;
+            // Where memory is refused the old ones stay.
+            *pair = Pair::new(alloc)?;
             said.add(b"pair");
             return Ok(());
         }

@@ -4,7 +4,7 @@
 //! connections ended.
 
 use crate::logger::Logger;
-use crate::{STREAM, without_memory};
+use crate::{CLIENT, STREAM, without_memory};
 use client::Work;
 use exchange::Exchange;
 use ft_io::{Key, NoMemory};
@@ -20,12 +20,6 @@ mod server;
 
 /// How many connections there are.
 const CONNECTIONS: u16 = 8;
-
-/// The address of the clients, and the first one's port.
-const CLIENTS: Key = Key {
-    ip: 0xC000_0201,
-    port: 40_000,
-};
 
 /// What the run did.
 #[derive(Clone, Copy, Debug)]
@@ -65,8 +59,9 @@ fn work_of(words: &[&str]) -> Option<Work> {
     let [bytes, write] = words else {
         return None;
     };
-    let bytes: u32 = bytes.parse().ok()?;
-    let write: usize = write.parse().ok()?;
+    let (Ok(bytes), Ok(write)) = (bytes.parse::<u32>(), write.parse::<usize>()) else {
+        return None;
+    };
     let fits = (1..=STREAM).contains(&bytes) && (1..=1_460).contains(&write);
     fits.then_some(Work { bytes, write })
 }
@@ -95,8 +90,8 @@ fn connect_all(
     let mut totals = Totals::NONE;
     for i in 0..CONNECTIONS {
         let key = Key {
-            ip: CLIENTS.ip,
-            port: CLIENTS.port + i,
+            ip: CLIENT.ip,
+            port: CLIENT.port + i,
         };
         connect(alloc, work, key, packets, backend, &mut totals)?;
     }

@@ -19,23 +19,17 @@ struct Work {
     way: Way,
 }
 
-fn way_of(word: &str) -> Option<Way> {
-    match word.as_bytes() {
-        b"window" => Some(Way::Window),
-        b"swapped" => Some(Way::Swapped),
-        b"lossy" => Some(Way::Lossy),
-        _ => None,
-    }
-}
-
 fn work_of(words: &[&str]) -> Option<Work> {
     let (bytes, write, way) = match words {
         [bytes, write] => (bytes, write, Way::Single),
-        [bytes, write, way] => (bytes, write, way_of(way)?),
+        [bytes, write, "window"] => (bytes, write, Way::Window),
+        [bytes, write, "swapped"] => (bytes, write, Way::Swapped),
+        [bytes, write, "lossy"] => (bytes, write, Way::Lossy),
         _ => return None,
     };
-    let bytes: u32 = bytes.parse().ok()?;
-    let write: usize = write.parse().ok()?;
+    let (Ok(bytes), Ok(write)) = (bytes.parse::<u32>(), write.parse::<usize>()) else {
+        return None;
+    };
     let fits = (1..1 << 30).contains(&bytes) && (1..=1_460).contains(&write);
     fits.then_some(Work { bytes, write, way })
 }
@@ -54,33 +48,22 @@ pub(crate) fn play<R: AllocGlobal + Print + Eprint>(rt: &R, words: &[&str]) -> i
     }
 }
 
-/// Plays an exchange to its end, and prints what came of it. Its status.
+/// Plays an exchange to its end, and prints what each side sent, and what came back. Its status.
 fn run(rt: &(impl Print + Eprint), exchange: &mut Exchange) -> io::Result<u8> {
     exchange.run();
-    tell(rt, exchange)?;
+    let (client, server) = (exchange.client.segments, exchange.server.segments);
+    let client_name = exchange.client.state().name;
+    let server_name = exchange.server.state().name;
+    let (echoed, ticks) = (exchange.echoed, exchange.ticks);
+    println!(rt;
+        "client {client} segments, {client_name:?}\nserver {server} segments, {server_name:?}\nechoed {echoed} bytes"
+    )?;
+    if ticks > 0 {
+        println!(rt; "{ticks} ticks")?;
+    }
     if exchange.is_whole() {
         return Ok(0);
     }
     eprintln!(rt; "the echo differs")?;
     Ok(1)
-}
-
-/// Prints what each side sent, and what came back.
-fn tell(rt: &impl Print, exchange: &Exchange) -> io::Result<()> {
-    let (client, server) = (&exchange.client, &exchange.server);
-    println!(rt;
-        "client {} segments, {:?}",
-        client.segments,
-        client.state().name
-    )?;
-    println!(rt;
-        "server {} segments, {:?}",
-        server.segments,
-        server.state().name
-    )?;
-    println!(rt; "echoed {} bytes", exchange.echoed)?;
-    if exchange.ticks > 0 {
-        println!(rt; "{} ticks", exchange.ticks)?;
-    }
-    Ok(())
 }

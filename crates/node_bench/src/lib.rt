@@ -9,6 +9,7 @@
 //! Statuses: 0, 1 where an echo differs, a connection doesn't end or a service fails, 2 for wrong words, 3 if memory runs out.
 #![tactic(auto)]
 
+use ft_io::{Addr, Key};
 use std::io;
 use std::io::Read;
 
@@ -21,6 +22,18 @@ mod service;
 
 /// The most bytes of a connection's stream.
 const STREAM: u32 = 1 << 24;
+
+/// The server's address.
+const SERVER: Addr = Addr {
+    ip: 0xC000_0264,
+    port: 7,
+};
+
+/// The address and the port of the client, or of the first of several.
+const CLIENT: Key = Key {
+    ip: 0xC000_0201,
+    port: 40_000,
+};
 
 /// Does what the words of a command ask for, and prints what came of it. A service is run over the input. The status.
 pub fn run<R: AllocGlobal + Print + Eprint, I: Read>(

@@ -34,11 +34,16 @@ fn work_of(words: &[&str]) -> Option<Work>
     let [kind, clients, size, rounds, ticks] = words else {
         return None;
     };
-    let kind: u8 = kind.parse().ok()?;
-    let clients: u16 = clients.parse().ok()?;
-    let size: u16 = size.parse().ok()?;
-    let rounds: u32 = rounds.parse().ok()?;
-    let ticks: u32 = ticks.parse().ok()?;
+    let (Ok(kind), Ok(clients), Ok(size)) = (
+        kind.parse::<u8>(),
+        clients.parse::<u16>(),
+        size.parse::<u16>(),
+    ) else {
+        return None;
+    };
+    let (Ok(rounds), Ok(ticks)) = (rounds.parse::<u32>(), ticks.parse::<u32>()) else {
+        return None;
+    };
     let fits = (1..=CLIENTS).contains(&clients) && size <= MOST;
     fits.then_some(Work {
         kind,
@@ -79,12 +84,8 @@ pub(crate) fn play<R: AllocGlobal + Print + Eprint>(rt: &R, words: &[&str]) -> i
         return without_memory(rt);
     };
     println!(rt;
-        "{} turns, {} packets to clients",
-        counts.turns, counts.packets
-    )?;
-    println!(rt;
-        "{} bytes of text, {} messages to the log",
-        counts.text, counts.messages
+        "{} turns, {} packets to clients\n{} bytes of text, {} messages to the log",
+        counts.turns, counts.packets, counts.text, counts.messages
     )?;
     if let Some(now) = first {
         println!(rt;

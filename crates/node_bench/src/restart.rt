@@ -42,9 +42,13 @@ fn work_of(words: &[&str]) -> Option<Work>
         return None;
     };
     let kind = if *service == "meter" { 4 } else { 1 };
-    let bytes: u32 = bytes.parse().ok()?;
-    let read: u16 = read.parse().ok()?;
-    let rounds: u16 = rounds.parse().ok()?;
+    let (Ok(bytes), Ok(read), Ok(rounds)) = (
+        bytes.parse::<u32>(),
+        read.parse::<u16>(),
+        rounds.parse::<u16>(),
+    ) else {
+        return None;
+    };
     let marked = match marked {
         [] => None,
         [reads] => Some(marked_of(reads, bytes, read)?),

@@ -10,11 +10,9 @@
 //! starts that.
 #![tactic(auto)]
 
-use anyhow::{Context, Result, bail};
-use ft_io::{read_to_limit, write_all};
-use ft_system::{MemSink, MemSource, ReadSource, WriteSink};
+use anyhow::{Result, bail};
+use ft_system::{MemSink, MemSource, ReadSource};
 use journal_link::run_ftnode;
-use memchr::memmem;
 use replay_script::{Tool, is_ftreplay};
 use replay_tool::{replay, run_ftreplay};
 use std::alloc::Global;
@@ -23,17 +21,13 @@ use std::net::Net;
 use std::process::{ExitCode, Processes};
 use std::rt::Env;
 use std::time::Clock;
-use std::{env, io, mem};
-use test_data::Said;
+use std::{env, mem};
+use test_data::{Program, Said, Scripts, lines_of};
 
-/// The most bytes of the input.
-const LIMIT: usize = 16_777_216;
-
-/// What begins a part's line, with the line feed before it.
-const SEAM: &[u8] = b"\n== ";
-
-/// The status where the input isn't one of parts.
-const NO_PART: u8 = 2;
+const NODE_CASES: Program = Program {
+    name: "node_cases",
+    seam: "\n== ",
+};
 
 fn main(rt: HostRuntime) -> Result<ExitCode> {
     if is_ftreplay(&rt) {
@@ -52,14 +46,12 @@ fn main(rt: HostRuntime) -> Result<ExitCode> {
         let status = run_ftnode(&rt, rt.stdin(), rt.stdout(), rt.stderr())?;
         return Ok(status);
     }
-    let Ok(text) = read_to_limit(rt.alloc(), &mut ReadSource::new(rt.stdin()), LIMIT) else {
-        bail!("the input can't be read, or has over {LIMIT} bytes");
+    let scripts = NodeScripts { system: &rt };
+    let name = match words.as_slice() {
+        [name] => Some(*name),
+        _ => None,
     };
-    let status = match words.as_slice() {
-        [name] => play(&rt, name, text.as_slice())?,
-        _ => play_parts(&rt, text.as_slice())?,
-    };
-    Ok(ExitCode::from(status.unwrap_or(NO_PART)))
+    NODE_CASES.play(&rt, &scripts, name, &mut ReadSource::new(rt.stdin()))
 }
 
 /// Whether these words are for `ftnode`: there are some, and they aren't the name of a script.
@@ -74,77 +66,32 @@ fn are_for_ftnode(words: &[&str]) -> bool {
     }
 }
 
-/// Plays the parts of a text. `None` where a line is before the first part, or no script has a part's name: it is said which.
-fn play_parts<R: AllocGlobal + Env + Print + Eprint + Net + Clock + Files<File = File> + Processes>(
-    rt: &R,
-    text: &[u8],
-) -> Result<Option<u8>> {
-    let mut rest = text.strip_prefix(b"== ");
-    if rest.is_none() && !text.is_empty() {
-        eprintln!(rt; "node_cases: the input doesn't begin with the line `== NAME` of a part")?;
-        return Ok(None);
-    }
-    // Each turn takes a part's line out of the text.
-    for _turn in 0..text.len() {
-        let Some(parts) = rest else { break };
-        let (part, behind) = cut(parts, SEAM);
-        let (name, script) = cut(part, b"\n");
-        let name = str::from_utf8(name.trim_ascii()).unwrap_or("");
-        println!(rt; "== {name}")?;
-        let Some(status) = play(rt, name, script.unwrap_or(b""))? else {
-            return Ok(None);
+/// The scripts on whole nodes, processes and runs.
+#[derive(Drop)]
+struct NodeScripts<'a, R> {
+    system: &'a R,
+}
+
+impl<
+    'a,
+    R: AllocGlobal + Env + Print + Eprint + Net + Clock + Files<File = File> + Processes,
+> Scripts for NodeScripts<'a, R> {
+    fn play(&self, name: &str, text: &[u8], said: &mut Said) -> Result<Option<u8>> {
+        let (system, alloc) = (self.system, self.system.alloc());
+        let status = match name {
+            "connection" => connection_script::run(alloc, said),
+            "link" => link_script::run(system, lines_of(text)?, said),
+            "node" => node_script::run(alloc, lines_of(text)?, said),
+            "replay" => replay_script::run::<Ftreplay, _>(system, lines_of(text)?, said),
+            "own" => Ok(play_own(alloc, text, said)),
+            "bench" => return play_commands(system, lines_of(text)?),
+            _ => return Ok(None),
         };
-        if status != 0 {
-            println!(rt; "status {status}")?;
-        }
-        rest = behind;
+        let Ok(status) = status else {
+            bail!("no memory");
+        };
+        Ok(Some(status))
     }
-    Ok(Some(0))
-}
-
-/// What stands before a mark, with the line feed that begins the mark, and what stands after it.
-fn cut<'a>(text: &'a [u8], mark: &[u8]) -> (&'a [u8], Option<&'a [u8]>) {
-    match memmem::find(text, mark) {
-        Some(at) => (
-            text.get(..at.wrapping_add(1)).unwrap_or(text),
-            text.get(at.wrapping_add(mark.len())..),
-        ),
-        None => (text, None),
-    }
-}
-
-/// Plays the script of a name, and prints what it says. Its status, or `None` where no script has this name, which is said.
-fn play<R: AllocGlobal + Env + Print + Eprint + Net + Clock + Files<File = File> + Processes>(
-    rt: &R,
-    name: &str,
-    text: &[u8],
-) -> Result<Option<u8>> {
-    let alloc = rt.alloc();
-    let mut said = Said::new(alloc);
-    let status = match name {
-        "connection" => connection_script::run(alloc, &mut said),
-        "link" => link_script::run(rt, lines_of(text)?, &mut said),
-        "node" => node_script::run(alloc, lines_of(text)?, &mut said),
-        "replay" => replay_script::run::<Ftreplay, _>(rt, lines_of(text)?, &mut said),
-        "own" => Ok(play_own(alloc, text, &mut said)),
-        "bench" => return play_commands(rt, lines_of(text)?),
-        _ => {
-            eprintln!(rt; "node_cases: no script has the name `{name}`")?;
-            return Ok(None);
-        }
-    };
-    let (Ok(status), Ok(bytes)) = (status, said.bytes()) else {
-        bail!("no memory");
-    };
-    if write_all(&mut WriteSink::new(io::writer(rt)), bytes).is_err() {
-        bail!("the output can't be written");
-    }
-    Ok(Some(status))
-}
-
-/// The lines of a script.
-fn lines_of(text: &[u8]) -> Result<&str> {
-    str::from_utf8(text).context("the script isn't UTF-8")
 }
 
 /// `ftreplay`, as `replay_script` plays it over memory.

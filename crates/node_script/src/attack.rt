@@ -55,15 +55,6 @@ fn write_stale(draws: &mut Draws, out: &mut [u8; 2_048]) -> usize
     write_msg(&Msg { boot, body }, out).min(2_048)
 }
 
-/// Writes any bytes, at most 100.
-fn write_bytes(draws: &mut Draws, out: &mut [u8; 2_048]) -> usize
-    ensures { result ≤ 2048 }
-{
-    let len = draws.below(101) as usize;
-    draws.fill(&mut out[..len]);
-    len
-}
-
 /// What came of all datagrams: how many packets the server sent, and how many of them were wrong.
 #[derive(Clone, Copy)]
 pub(crate) struct Tally {
@@ -120,11 +111,11 @@ pub(crate) fn attack(
                 Input::Message(&bytes[..len])
             }
             2 => {
-                let len = write_bytes(&mut draws, &mut bytes);
+                let len = draws.anything(&mut bytes[..]);
                 Input::Packet(&bytes[..len])
             }
             _ => {
-                let len = write_bytes(&mut draws, &mut bytes);
+                let len = draws.anything(&mut bytes[..]);
                 Input::Message(&bytes[..len])
             }
         };

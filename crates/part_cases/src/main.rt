@@ -7,25 +7,19 @@
 //! for, for the scripts of bench/.
 #![tactic(auto)]
 
-use anyhow::{Context, Result, bail};
-use ft_io::{Source, read_to_limit, write_all};
-use ft_system::{ReadSource, WriteSink};
-use memchr::memmem;
+use anyhow::{Result, bail};
+use ft_system::ReadSource;
+use std::env;
 use std::fs::{File, Files};
 use std::net::Net;
 use std::process::{ExitCode, Processes};
 use std::time::Clock;
-use std::{env, io};
-use test_data::Said;
+use test_data::{Program, Said, Scripts, lines_of};
 
-/// The most bytes of the input.
-const LIMIT: usize = 16_777_216;
-
-/// What begins a part's line, with the line feed before it.
-const SEAM: &[u8] = b"\n= ";
-
-/// The status where the input isn't one of parts.
-const NO_PART: u8 = 2;
+const PART_CASES: Program = Program {
+    name: "part_cases",
+    seam: "\n= ",
+};
 
 fn main(rt: HostRuntime) -> Result<ExitCode> {
     let words: Vec<String> = env::args(&rt)?.skip(1).collect(rt.alloc())?;
@@ -37,88 +31,41 @@ fn main(rt: HostRuntime) -> Result<ExitCode> {
         wire_bench::run(&rt, command, &mut input)?;
         return Ok(ExitCode::SUCCESS);
     }
-    let Ok(text) = read_to_limit(rt.alloc(), &mut input, LIMIT) else {
-        bail!("the input can't be read, or has over {LIMIT} bytes");
+    if words.len() > 1 {
+        bail!("part_cases [endpoint|io|log|service|text|wire [WORD..]]");
+    }
+    let scripts = PartScripts { system: &rt };
+    let name = match words.as_slice() {
+        [name] => Some(*name),
+        _ => None,
     };
-    let status = match words.as_slice() {
-        [] => play_parts(&rt, text.as_slice())?,
-        [name] => play(&rt, name, text.as_slice())?,
-        _ => bail!("part_cases [endpoint|io|log|service|text|wire [WORD..]]"),
-    };
-    Ok(ExitCode::from(status.unwrap_or(NO_PART)))
+    PART_CASES.play(&rt, &scripts, name, &mut input)
 }
 
-/// Plays the parts of a text. `None` where a line is before the first part, or no script has a part's name: it is said which.
-fn play_parts<R: AllocGlobal + Print + Eprint + Net + Clock + Files<File = File> + Processes>(
-    rt: &R,
-    text: &[u8],
-) -> Result<Option<u8>> {
-    let mut rest = text.strip_prefix(b"= ");
-    if rest.is_none() && !text.is_empty() {
-        eprintln!(rt; "part_cases: the input doesn't begin with the line `= NAME` of a part")?;
-        return Ok(None);
-    }
-    // Each turn takes a part's line out of the text.
-    for _turn in 0..text.len() {
-        let Some(parts) = rest else { break };
-        let (part, behind) = cut(parts, SEAM);
-        let (name, script) = cut(part, b"\n");
-        let name = str::from_utf8(name).unwrap_or("");
-        println!(rt; "= {name}")?;
-        let Some(status) = play(rt, name, script.unwrap_or(b""))? else {
-            return Ok(None);
+/// The scripts on the parts below the node.
+#[derive(Drop)]
+struct PartScripts<'a, R> {
+    system: &'a R,
+}
+
+impl<'a, R: AllocGlobal + Print + Net + Clock + Files<File = File> + Processes> Scripts
+    for PartScripts<'a, R> {
+    fn play(&self, name: &str, text: &[u8], said: &mut Said) -> Result<Option<u8>> {
+        let alloc = self.system.alloc();
+        let status = match name {
+            "endpoint" => endpoint_script::run(alloc, text, said),
+            "io" => io_script::run(self.system, alloc, lines_of(text)?, said),
+            "log" => log_script::run(alloc, lines_of(text)?, said),
+            "service" => service_script::run(alloc, lines_of(text)?, said),
+            "text" => text_script::run(alloc, lines_of(text)?, said),
+            "wire" => return play_commands(self.system, lines_of(text)?),
+            _ => return Ok(None),
         };
-        if status != 0 {
-            println!(rt; "status {status}")?;
-        }
-        rest = behind;
+        let Ok(status) = status else {
+            bail!("no memory");
+        };
+        Ok(Some(status))
     }
-    Ok(Some(0))
-}
-
-/// What stands before a mark, and what stands after it.
-fn cut<'a>(text: &'a [u8], mark: &[u8]) -> (&'a [u8], Option<&'a [u8]>) {
-    match memmem::find(text, mark) {
-        Some(at) => (
-            text.get(..at).unwrap_or(text),
-            text.get(at.wrapping_add(mark.len())..),
-        ),
-        None => (text, None),
-    }
-}
-
-/// Plays the script of a name, and prints what it says. Its status, or `None` where no script has this name, which is said.
-fn play<R: AllocGlobal + Print + Eprint + Net + Clock + Files<File = File> + Processes>(
-    rt: &R,
-    name: &str,
-    text: &[u8],
-) -> Result<Option<u8>> {
-    let alloc = rt.alloc();
-    let mut said = Said::new(alloc);
-    let status = match name {
-        "endpoint" => endpoint_script::run(alloc, text, &mut said),
-        "io" => io_script::run(rt, alloc, lines_of(text)?, &mut said),
-        "log" => log_script::run(alloc, lines_of(text)?, &mut said),
-        "service" => service_script::run(alloc, lines_of(text)?, &mut said),
-        "text" => text_script::run(alloc, lines_of(text)?, &mut said),
-        "wire" => return play_commands(rt, lines_of(text)?),
-        _ => {
-            eprintln!(rt; "part_cases: no script has the name `{name}`")?;
-            return Ok(None);
-        }
-    };
-    let (Ok(status), Ok(bytes)) = (status, said.bytes()) else {
-        bail!("no memory");
-    };
-    if write_all(&mut WriteSink::new(io::writer(rt)), bytes).is_err() {
-        bail!("the output can't be written");
-    }
-    Ok(Some(status))
-}
-
-/// The lines of a script.
-fn lines_of(text: &[u8]) -> Result<&str> {
-    str::from_utf8(text).context("the script isn't UTF-8")
 }
 
 /// Does what each line asks for, until one fails.

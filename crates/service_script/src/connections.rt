@@ -4,7 +4,7 @@ ghost use Rattle.std.specs.Prelude.{◌<◌};
 
 use ft_io::NoMemory;
 use std::alloc::Global;
-use test_data::Draws;
+use test_data::{Draws, Said};
 
 /// The pieces of each part of a request.
 #[derive(Drop)]
@@ -46,48 +46,43 @@ impl Parts {
     }
 }
 
-/// Draws what a client says on a connection: one to five requests, of which one in eight is damaged at one place.
+/// Draws what a client says on a connection: one to five requests, each a piece of each part. One text in eight is damaged at one place.
 pub(crate) fn draw_connection(
     alloc: Global,
     draws: &mut Draws,
     parts: &Parts,
-) -> Result<Vec<u8>, NoMemory> {
-    let mut text = Vec::new(alloc);
+) -> Result<Said, NoMemory> {
+    let mut text = Said::new(alloc);
     for _ in 0..1 + draws.below(5) {
-        draw_request(draws, parts, &mut text)?;
+        for part in &parts.parts {
+            let count = part.len().min(10_000) as u32;
+            if count > 0 {
+                if let Some(piece) = part.get(draws.below(count) as usize) {
+                    text.add(piece);
+                }
+            }
+        }
     }
     if draws.below(8) == 0 {
-        return damaged(alloc, draws, text.as_slice());
+        return Ok(damaged(alloc, draws, text.bytes()?));
     }
     Ok(text)
 }
 
-/// Appends a request: a piece of each part.
-fn draw_request(draws: &mut Draws, parts: &Parts, text: &mut Vec<u8>) -> Result<(), NoMemory> {
-    for part in &parts.parts {
-        let count = part.len().min(10_000) as u32;
-        if count > 0 {
-            if let Some(piece) = part.get(draws.below(count) as usize) {
-                text.extend_from_slice(piece)?;
-            }
-        }
-    }
-    Ok(())
-}
-
 /// A text that lacks a byte at some place, or has another there, or one more, or a line end.
-fn damaged(alloc: Global, draws: &mut Draws, text: &[u8]) -> Result<Vec<u8>, NoMemory> {
+fn damaged(alloc: Global, draws: &mut Draws, text: &[u8]) -> Said {
     let at = draws.below(text.len().min(100_000) as u32 + 1) as usize;
     let kind = draws.below(4);
     let byte = draws.byte();
     let (front, back) = text.split_at(at.min(text.len()));
-    let mut changed = front.to_vec(alloc)?;
+    let mut changed = Said::new(alloc);
+    changed.add(front);
     if kind == 3 {
-        changed.extend_from_slice(b"\r\n")?;
+        changed.add(b"\r\n");
     } else if kind > 0 {
-        changed.push(byte)?;
+        changed.add(&[byte]);
     }
     let skipped = if kind < 2 { 1 } else { 0 };
-    changed.extend_from_slice(&back[back.len().min(skipped)..])?;
-    Ok(changed)
+    changed.add(&back[back.len().min(skipped)..]);
+    changed
 }

@@ -32,7 +32,10 @@ mod web_server;
 /// The count and the seed of a line.
 fn count_and_seed(text: &str) -> Option<(u32, u64)> {
     let (count, seed) = text.split_once(' ')?;
-    Some((count.parse().ok()?, seed.parse().ok()?))
+    let (Ok(count), Ok(seed)) = (count.parse::<u32>(), seed.parse::<u64>()) else {
+        return None;
+    };
+    Some((count, seed))
 }
 
 /// Plays the lines of a script, and says what each prints: a line, but for those that only set a part of a request. The status, which is 0.
@@ -40,27 +43,30 @@ pub fn run(alloc: Global, text: &str, said: &mut Said) -> Result<u8, NoMemory> {
     let mut parts = Parts::new(alloc);
     for line in text.lines() {
         let (word, rest) = line.split_once(' ').unwrap_or((line, ""));
-        match word {
-            "#" => said.add(line.as_bytes()),
-            "load" => services::load_line(alloc, rest, said)?,
-            "play" => services::play_line(alloc, rest, said)?,
-            "resume" => services::resume_line(alloc, rest, said)?,
-            "runs" => services::runs_line(alloc, rest, said)?,
-            "mark" => messages::mark_line(alloc, rest, said)?,
-            "random" => messages::random_line(alloc, rest, said)?,
-            "part" => {
-                parts.begin(rest.parse::<u32>().unwrap_or(0))?;
-                continue;
+        let played = match word {
+            "#" => {
+                said.add(line.as_bytes());
+                Ok(())
             }
-            "piece" => {
-                web_server::piece_line(alloc, rest, &mut parts)?;
-                continue;
+            "load" => services::load_line(alloc, rest, said),
+            "play" => services::play_line(alloc, rest, said),
+            "resume" => services::resume_line(alloc, rest, said),
+            "runs" => services::runs_line(alloc, rest, said),
+            "mark" => messages::mark_line(alloc, rest, said),
+            "random" => messages::random_line(alloc, rest, said),
+            "part" => parts.begin(rest.parse::<u32>().unwrap_or(0)),
+            "piece" => web_server::piece_line(alloc, rest, &mut parts),
+            "say" => web_server::say_line(alloc, rest, said),
+            "connections" => web_server::connections_line(alloc, rest, &parts, said),
+            _ => {
+                said.add(b"no such line");
+                Ok(())
             }
-            "say" => web_server::say_line(alloc, rest, said)?,
-            "connections" => web_server::connections_line(alloc, rest, &parts, said)?,
-            _ => said.add(b"no such line"),
+        };
+        played?;
+        if word != "part" && word != "piece" {
+            said.end_line();
         }
-        said.end_line();
     }
     Ok(0)
 }

@@ -5,12 +5,15 @@ ghost use Rattle.std.specs.Prelude.{◌≤◌, ◌<◌};
 use crate::count_and_seed;
 use ft_io::{Key, NoMemory};
 use logger_wire::{BadMark, MarkBody, MarkMsg, read_mark, write_mark};
-use seq_arith::{Sum16, flip};
+use seq_arith::flip;
 use std::alloc::Global;
-use test_data::{Draws, Said, bytes_of_word, hashed};
+use test_data::{Draws, Said, bytes_of_word, hashed, seal};
 
 /// The most that a length may be, in bytes.
 const STREAM: u32 = 1 << 24;
+
+/// The address of each key.
+const ADDRESS: u32 = 0xC000_0201;
 
 /// Room for a message that is written.
 const ROOM: usize = 2_048;
@@ -96,21 +99,34 @@ fn place_of(bad: BadMark) -> usize
     }
 }
 
-/// Reads as many messages as a line asks for, drawn from its seed, and says what came of them.
+/// Reads as many messages as a line asks for, drawn from its seed, writes again those that are one, and says what came of them.
 pub(crate) fn random_line(alloc: Global, text: &str, said: &mut Said) -> Result<(), NoMemory> {
     let Some((count, seed)) = count_and_seed(text) else {
         said.add(b"no such line");
         return Ok(());
     };
+    let mut fields = Said::new(alloc);
     let mut message = Vec::new(alloc);
+    let mut room = [0; ROOM];
     let mut draws = Draws::new(seed);
     let mut tally = Tally {
         counts: [0; 8],
         bytes: 0,
     };
     for _message in 0..count {
-        make_message(&mut draws, &mut message)?;
-        read_one(message.as_slice(), &mut tally);
+        make_message(&mut draws, &mut fields);
+        damage(&mut draws, &fields, &mut message)?;
+        match read_mark(message.as_slice()) {
+            Ok(msg) => {
+                let len = write_mark(&msg, &mut room);
+                tally.bytes = hashed(tally.bytes, &room[..len]);
+                tally.counts[7] = tally.counts[7].wrapping_add(1);
+            }
+            Err(bad) => {
+                let place = place_of(bad);
+                tally.counts[place] = tally.counts[place].wrapping_add(1);
+            }
+        }
     }
     write!(said, "random {count}:");
     for place in 0..8 {
@@ -119,22 +135,6 @@ pub(crate) fn random_line(alloc: Global, text: &str, said: &mut Said) -> Result<
     }
     write!(said, " bytes {}", tally.bytes);
     Ok(())
-}
-
-/// Reads a message, and writes it again where it is one.
-fn read_one(message: &[u8], tally: &mut Tally) {
-    match read_mark(message) {
-        Ok(msg) => {
-            let mut room = [0; ROOM];
-            let len = write_mark(&msg, &mut room);
-            tally.bytes = hashed(tally.bytes, &room[..len]);
-            tally.counts[7] = tally.counts[7].wrapping_add(1);
-        }
-        Err(bad) => {
-            let place = place_of(bad);
-            tally.counts[place] = tally.counts[place].wrapping_add(1);
-        }
-    }
 }
 
 /// A number at or near the ends of a range that ends at `most`, or any below that.
@@ -150,38 +150,23 @@ fn any_number(draws: &mut Draws, most: u32) -> u32
     }
 }
 
-/// Makes a message of any kind in place of what is there. Most are damaged in some way.
-fn make_message(draws: &mut Draws, bytes: &mut Vec<u8>) -> Result<(), NoMemory> {
+/// Makes a message of any kind in place of what is there, without its length and checksum: the header, the boot number, the key, and the fields of the kind.
+fn make_message(draws: &mut Draws, fields: &mut Said) {
     let kind = 1 + draws.below(4) as u8;
-    bytes.clear();
-    put_head(draws, kind, bytes)?;
+    fields.cut(0);
+    fields.add(&[0x46, 0x56, 1, kind, 0, 0, 0, 0, 0, 0, 0, 0]);
+    fields.add(&draws.below(8).to_be_bytes());
+    fields.add(&ADDRESS.to_be_bytes());
+    fields.add(&(40_000 + draws.below(3) as u16).to_be_bytes());
     if kind != 3 {
-        put(bytes, any_number(draws, STREAM + 1))?;
+        fields.add(&any_number(draws, STREAM + 1).to_be_bytes());
     }
-    if kind == 1 || kind == 4 {
-        put(bytes, any_number(draws, STREAM))?;
-        put(bytes, any_number(draws, STREAM))?;
-        put_state(draws, bytes)?;
+    if kind != 1 && kind != 4 {
+        return;
     }
-    damage(draws, bytes)
-}
-
-/// Appends what all kinds begin with: the header, whose length and checksum aren't known yet, the boot number and the key.
-fn put_head(draws: &mut Draws, kind: u8, bytes: &mut Vec<u8>) -> Result<(), NoMemory> {
-    bytes.extend_from_slice(&[0x46, 0x56, 1, kind, 0, 0, 0, 0, 0, 0, 0, 0])?;
-    put(bytes, draws.below(8))?;
-    put(bytes, 0xC000_0201)?;
-    bytes.extend_from_slice(&(40_000 + draws.below(3) as u16).to_be_bytes())?;
-    Ok(())
-}
-
-fn put(bytes: &mut Vec<u8>, n: u32) -> Result<(), NoMemory> {
-    bytes.extend_from_slice(&n.to_be_bytes())?;
-    Ok(())
-}
-
-/// A state of few bytes, or of about as many as one may have.
-fn put_state(draws: &mut Draws, bytes: &mut Vec<u8>) -> Result<(), NoMemory> {
+    fields.add(&any_number(draws, STREAM).to_be_bytes());
+    fields.add(&any_number(draws, STREAM).to_be_bytes());
+    // A state of few bytes, or of about as many as one may have.
     let len = if draws.below(8) == 0 {
         1_098 + draws.below(5)
     } else {
@@ -189,14 +174,15 @@ fn put_state(draws: &mut Draws, bytes: &mut Vec<u8>) -> Result<(), NoMemory> {
     };
     let first = draws.below(256);
     for i in 0..len {
-        bytes.push(((first + i) % 256) as u8)?;
+        fields.add(&[((first + i) % 256) as u8]);
     }
-    Ok(())
 }
 
-/// Puts the length and the checksum of a message in their places. In five of eight cases it damages the message: before that it changes a byte of the
-/// header, or cuts or lengthens the message; or after that it changes a bit or cuts it.
-fn damage(draws: &mut Draws, bytes: &mut Vec<u8>) -> Result<(), NoMemory> {
+/// Makes a message of these fields, in place of what is there: its length and its checksum are put in their places. In five of eight cases it damages the message:
+/// before that it changes a byte of the header, or cuts or lengthens the message; or after that it changes a bit or cuts it.
+fn damage(draws: &mut Draws, fields: &Said, bytes: &mut Vec<u8>) -> Result<(), NoMemory> {
+    bytes.clear();
+    bytes.extend_from_slice(fields.bytes()?)?;
     let way = draws.below(8);
     let place = draws.below(16) as usize;
     let byte = draws.below(6) as u8;
@@ -221,21 +207,4 @@ fn damage(draws: &mut Draws, bytes: &mut Vec<u8>) -> Result<(), NoMemory> {
         _ => {}
     }
     Ok(())
-}
-
-/// Puts the length and the checksum of a message in their places.
-fn seal(bytes: &mut [u8]) {
-    if bytes.len() < 16 || bytes.len() > 4_096 {
-        return;
-    }
-    let len = (bytes.len() as u16).to_be_bytes();
-    bytes[4] = len[0];
-    bytes[5] = len[1];
-    bytes[6] = 0;
-    bytes[7] = 0;
-    let mut sum = Sum16::new();
-    sum.take(bytes);
-    let check = sum.check().to_be_bytes();
-    bytes[6] = check[0];
-    bytes[7] = check[1];
 }

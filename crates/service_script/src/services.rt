@@ -53,9 +53,6 @@ fn load<S: Saved>(
     Ok(())
 }
 
-/// Up to how many bytes of output are printed in full.
-const SHOWN: usize = 256;
-
 /// Gives a new service chunks, and says whether it closes and all that it writes.
 pub(crate) fn play_line(alloc: Global, text: &str, said: &mut Said) -> Result<(), NoMemory> {
     let (name, words) = text.split_once(' ').unwrap_or((text, ""));
@@ -110,11 +107,10 @@ fn play<S: Service>(
         Next::Close => write!(said, "{name} closed "),
         Next::Go => write!(said, "{name} open "),
     }
-    if out.len() <= SHOWN {
-        said.hex(out.as_slice());
+    if out.is_empty() {
+        said.add(b"-");
     } else {
-        let (len, hash) = (out.len(), hashed(0, out.as_slice()));
-        write!(said, "{len} bytes {hash}");
+        said.brief(out.as_slice());
     }
     Ok(())
 }
@@ -145,7 +141,7 @@ struct Tally {
 #[derive(Drop)]
 struct Bytes {
     /// The chunk that services are given.
-    chunk: Vec<u8>,
+    chunk: Said,
     /// The form of a service, and what it writes.
     form: Vec<u8>,
     out: Vec<u8>,
@@ -157,7 +153,7 @@ struct Bytes {
 impl Bytes {
     fn new(alloc: Global) -> Bytes {
         Bytes {
-            chunk: Vec::new(alloc),
+            chunk: Said::new(alloc),
             form: Vec::new(alloc),
             out: Vec::new(alloc),
             loaded_form: Vec::new(alloc),
@@ -239,10 +235,10 @@ fn give_some<S: Service>(
 ) -> Result<Next, NoMemory> {
     let mut next = Next::Go;
     for _chunk in 0..1 + draws.below(5) {
-        make_chunk(draws, kind, &mut bytes.chunk)?;
+        make_chunk(draws, kind, &mut bytes.chunk);
         if next == Next::Go {
             bytes.out.clear();
-            next = take(service, bytes.chunk.as_slice(), &mut bytes.out)?;
+            next = take(service, bytes.chunk.bytes()?, &mut bytes.out)?;
         }
     }
     Ok(next)
@@ -260,7 +256,7 @@ fn check<S: Saved>(
     bytes.form.clear();
     service.save(&mut bytes.form)?;
     tally.bytes = hashed(tally.bytes, bytes.form.as_slice());
-    make_chunk(draws, kind, &mut bytes.chunk)?;
+    make_chunk(draws, kind, &mut bytes.chunk);
     if let Some(mut loaded) = S::load(alloc, kind, bytes.form.as_slice())?
         && is_alike(service, &mut loaded, bytes)?
     {
@@ -286,12 +282,13 @@ fn is_alike<S: Saved>(
         loaded_form,
         loaded_out,
     } = bytes;
+    let chunk = chunk.bytes()?;
     loaded_form.clear();
     loaded.save(loaded_form)?;
     out.clear();
-    let next = take(service, chunk.as_slice(), out)?;
+    let next = take(service, chunk, out)?;
     loaded_out.clear();
-    let loaded_next = take(loaded, chunk.as_slice(), loaded_out)?;
+    let loaded_next = take(loaded, chunk, loaded_out)?;
     Ok(
         loaded_form.as_slice() == form.as_slice()
             && next == loaded_next
@@ -314,33 +311,25 @@ fn damage(draws: &mut Draws, form: &mut Vec<u8>) -> Result<(), NoMemory> {
     Ok(())
 }
 
-/// Makes a chunk of one to four pieces in place of what is there.
-fn make_chunk(draws: &mut Draws, kind: u8, chunk: &mut Vec<u8>) -> Result<(), NoMemory> {
-    chunk.clear();
+/// Makes a chunk of one to four pieces in place of what is there: a line feed, the line `quit`, many bytes of one letter, a request, or a few bytes. Transfer,
+/// which gives much for little, is given few of the letters.
+fn make_chunk(draws: &mut Draws, kind: u8, chunk: &mut Said) {
+    let letters = [b'a'; 500];
+    chunk.cut(0);
     for _piece in 0..1 + draws.below(4) {
-        put_piece(draws, kind, chunk)?;
-    }
-    Ok(())
-}
-
-/// A line feed, the line `quit`, many bytes of one letter, a request, or a few bytes. Transfer, which gives much for little, is given few of the letters.
-fn put_piece(draws: &mut Draws, kind: u8, chunk: &mut Vec<u8>) -> Result<(), NoMemory> {
-    match draws.below(6) {
-        0 => chunk.push(b'\n')?,
-        1 => chunk.extend_from_slice(b"quit\n")?,
-        2 => {
-            let len = draws.below(if kind == 3 { 8 } else { 500 });
-            chunk.resize(chunk.len().saturating_add(len as usize), b'a')?;
-        }
-        3 => {
-            let size = draws.below(2_048).to_be_bytes();
-            chunk.extend_from_slice(&size)?;
-        }
-        _ => {
-            for _byte in 0..1 + draws.below(5) {
-                chunk.push(draws.below(256) as u8)?;
+        match draws.below(6) {
+            0 => chunk.add(b"\n"),
+            1 => chunk.add(b"quit\n"),
+            2 => {
+                let len = draws.below(if kind == 3 { 8 } else { 500 }) as usize;
+                chunk.add(&letters[..len.min(500)]);
+            }
+            3 => chunk.add(&draws.below(2_048).to_be_bytes()),
+            _ => {
+                for _byte in 0..1 + draws.below(5) {
+                    chunk.add(&[draws.byte()]);
+                }
             }
         }
     }
-    Ok(())
 }

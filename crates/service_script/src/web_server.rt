@@ -113,7 +113,7 @@ pub(crate) fn connections_line(
     for _connection in 0..count {
         let drawn = draw_connection(alloc, &mut draws, parts)?;
         let mut web = Web::fresh(alloc, 0);
-        give_cut(alloc, &mut web, &mut draws, drawn.as_slice(), &mut tally)?;
+        give_cut(alloc, &mut web, &mut draws, &drawn, &mut tally)?;
     }
     tally.tell(said);
     Ok(())
@@ -127,12 +127,12 @@ fn give_cut(
     alloc: Global,
     web: &mut Web,
     draws: &mut Draws,
-    text: &[u8],
+    text: &Said,
     tally: &mut Tally,
 ) -> Result<(), NoMemory> {
     let longest = LONGEST[draws.below(8) as usize];
     let ends = draws.below(8) == 0;
-    let mut rest = text;
+    let mut rest = text.bytes()?;
     for at in 0..u32::MAX {
         if rest.is_empty() {
             if ends {

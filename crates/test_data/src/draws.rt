@@ -72,6 +72,16 @@ impl Draws {
         }
     }
 
+    /// Fills the beginning of a slice with at most 100 bytes, each drawn in its turn, and returns how many they are.
+    pub fn anything(&mut self, bytes: &mut [u8]) -> usize
+        requires { 100 ≤ length bytes.old }
+        ensures { result ≤ 100 }
+    {
+        let len = self.below(101) as usize;
+        self.fill(&mut bytes[..len]);
+        len
+    }
+
     /// Any sequence number: its upper half is drawn, and then its lower half.
     pub fn number(&mut self) -> Seq
         ensures steps { self.new ≡ stepped (stepped self.old) }

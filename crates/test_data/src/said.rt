@@ -1,9 +1,13 @@
 //! What a script says: text, bytes as they are, and lines of words.
 
+use crate::hashing::hashed;
 use ft_io::{Addr, Failed, NoMemory};
 use std::alloc::Global;
 use std::fmt::Display;
 use std::io::Write;
+
+/// Up to how many bytes are said in full.
+const SHOWN: usize = 256;
 
 /// What was said so far. Where memory is refused, that is noted, and what is said from then on is lost: `bytes` reports it. So what speaks has no error of its
 /// own to return, and `write!` gives none.
@@ -45,6 +49,11 @@ impl Said {
         self.is_lost = false;
     }
 
+    /// Notes that memory was refused, if it was.
+    pub fn note(&mut self, done: Result<(), NoMemory>) {
+        self.is_lost = self.is_lost || done.is_err();
+    }
+
     /// Adds bytes as they are.
     pub fn add(&mut self, bytes: &[u8]) {
         self.is_lost = self.is_lost || self.bytes.extend_from_slice(bytes).is_err();
@@ -69,6 +78,16 @@ impl Said {
             self.add(b"-");
         } else {
             self.digits(bytes);
+        }
+    }
+
+    /// Adds bytes in hexadecimal, or how many they are and their hash where they are over 256.
+    pub fn brief(&mut self, bytes: &[u8]) {
+        if bytes.len() <= SHOWN {
+            self.digits(bytes);
+        } else {
+            let (len, hash) = (bytes.len(), hashed(0, bytes));
+            write!(self, "{len} bytes {hash}");
         }
     }
 

@@ -7,7 +7,7 @@ ghost use Rattle.ft_model.specs.World.{are_apart};
 
 use ft_io::NoMemory;
 use ft_model::grammar::{accepted_schedules_can_be_played, accepted_schedules_fit};
-use line_check::{is_packet_line, read_event_line, read_header_line, read_service_line};
+use line_check::{is_packet_line, read_event_line, read_header_line};
 use schedule_text::{Schedule, read_schedule};
 use std::alloc::Global;
 
@@ -57,8 +57,4 @@ pub(crate) fn ends_with_header_line(
         return Ok(false);
     }
     Ok(read_header_line(alloc, text, start)?.is_some())
-}
-
-pub(crate) fn is_service_line(line: &[u8]) -> bool {
-    read_service_line(line).is_some()
 }

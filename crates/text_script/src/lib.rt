@@ -36,19 +36,29 @@ pub fn run(alloc: Global, text: &str, said: &mut Said) -> Result<u8, NoMemory> {
     let mut schedule = Vec::new(alloc);
     for line in text.lines() {
         let (word, rest) = line.split_once(' ').unwrap_or((line, ""));
-        match word {
-            "#" => said.line(line),
-            "read" => read(alloc, rest, said)?,
-            "many" => read_many(alloc, rest, said)?,
-            "script" => say_script(alloc, rest, said)?,
-            "packet" => say_packet(alloc, rest, said)?,
-            "schedule" => schedule = bytes_of(alloc, rest)?,
-            "line" => said.line(ask_packet(alloc, schedule.as_slice(), rest)?),
-            "event" => ask_event(alloc, rest, said)?,
-            "service" => said.line(ask_service(alloc, rest)?),
-            "header" => said.line(ask_header(alloc, rest)?),
-            _ => said.line("no such line"),
-        }
+        let played = match word {
+            "#" => {
+                said.line(line);
+                Ok(())
+            }
+            "read" => read(alloc, rest, said),
+            "many" => read_many(alloc, rest, said),
+            "script" => say_script(alloc, rest, said),
+            "packet" => say_packet(alloc, rest, said),
+            "schedule" => {
+                schedule = bytes_of(alloc, rest)?;
+                Ok(())
+            }
+            "line" => ask_packet(alloc, schedule.as_slice(), rest, said),
+            "event" => ask_event(alloc, rest, said),
+            "service" => ask_service(alloc, rest, said),
+            "header" => ask_header(alloc, rest, said),
+            _ => {
+                said.line("no such line");
+                Ok(())
+            }
+        };
+        played?;
     }
     Ok(0)
 }

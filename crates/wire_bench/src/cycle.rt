@@ -4,7 +4,8 @@ ghost use Rattle.std.specs.Prelude.{◌≡◌, ◌≤◌, ◌<◌, length, IsSom
 ghost use Rattle.logger_wire.specs.Value.{IsSendable};
 ghost use Rattle.schedule_text.specs.Bytes.{content_in};
 
-use ft_io::{Key, NoMemory};
+use crate::CLIENT;
+use ft_io::Key;
 use logger_wire::{Body, Msg, write_msg};
 use schedule_text::{Way, is_packet};
 use segment_codec::write_packet;
@@ -13,11 +14,6 @@ use std::alloc::Global;
 
 /// How many packets a cycle sends.
 pub(crate) const SENT: usize = 11;
-
-const CLIENT: Key = Key {
-    ip: 0xC000_0201,
-    port: 40_000,
-};
 
 const SERVER: Key = Key {
     ip: 0xC000_0264,
@@ -32,44 +28,43 @@ pub(crate) struct Sent {
     ghost accepted: { IsSome (content_in way bytes.items) },
 }
 
+/// The packets of the run so far. Where memory is refused, that is noted, and a packet is missing.
+#[derive(Drop)]
+pub(crate) struct Run {
+    pub(crate) packets: Vec<Sent>,
+    pub(crate) is_lost: bool,
+}
+
 /// The packets of all cycles, one after the other.
-pub(crate) fn push_cycles(alloc: Global, cycles: u32, sent: &mut Vec<Sent>) -> Result<(), NoMemory>
+pub(crate) fn push_cycles(alloc: Global, cycles: u32, sent: &mut Run)
     requires { cycles ≤ 100000 }
 {
     for i in 0..cycles {
-        push_cycle(alloc, i, sent)?;
+        push_cycle(alloc, i, sent);
     }
-    Ok(())
 }
 
 /// The packets of a cycle: the byte, a duplicate ACK, Data, Read, Stable, an acknowledgement, Reads, the echo, the client's acknowledgement of it, and
 /// Data and Stable for that.
-fn push_cycle(alloc: Global, i: u32, sent: &mut Vec<Sent>) -> Result<(), NoMemory>
+fn push_cycle(alloc: Global, i: u32, sent: &mut Run)
     requires { i < 100000 }
 {
     let byte = [(i % 256) as u8];
-    push_segment(alloc, true, 1_001 + i, 5_001 + i, &byte, sent)?;
-    push_segment(alloc, false, 5_001 + i, 1_001 + i, &[], sent)?;
-    push_data(alloc, i, &byte, sent)?;
-    push_read(alloc, i, sent)?;
-    push_stable(alloc, i + 1, i, sent)?;
-    push_segment(alloc, false, 5_001 + i, 1_002 + i, &[], sent)?;
-    push_reads(alloc, i + 1, sent)?;
-    push_segment(alloc, false, 5_001 + i, 1_002 + i, &byte, sent)?;
-    push_segment(alloc, true, 1_002 + i, 5_002 + i, &[], sent)?;
-    push_data(alloc, i + 1, &[], sent)?;
-    push_stable(alloc, i + 1, i + 1, sent)
+    push_segment(alloc, true, 1_001 + i, 5_001 + i, &byte, sent);
+    push_segment(alloc, false, 5_001 + i, 1_001 + i, &[], sent);
+    push_data(alloc, i, &byte, sent);
+    push_read(alloc, i, sent);
+    push_stable(alloc, i + 1, i, sent);
+    push_segment(alloc, false, 5_001 + i, 1_002 + i, &[], sent);
+    push_reads(alloc, i + 1, sent);
+    push_segment(alloc, false, 5_001 + i, 1_002 + i, &byte, sent);
+    push_segment(alloc, true, 1_002 + i, 5_002 + i, &[], sent);
+    push_data(alloc, i + 1, &[], sent);
+    push_stable(alloc, i + 1, i + 1, sent);
 }
 
 /// A segment of the client, or else of the server, with at most a byte of text.
-fn push_segment(
-    alloc: Global,
-    is_client: bool,
-    seq: u32,
-    ack: u32,
-    text: &[u8],
-    sent: &mut Vec<Sent>,
-) -> Result<(), NoMemory>
+fn push_segment(alloc: Global, is_client: bool, seq: u32, ack: u32, text: &[u8], sent: &mut Run)
     requires { length text.now ≤ 1 }
 {
     let (way, from, to) = if is_client {
@@ -90,12 +85,12 @@ fn push_segment(
     };
     let mut out = [0u8; 1_500];
     let len = write_packet(&head, text, &mut out);
-    push(alloc, way, &out[..len], sent)
+    push(alloc, way, &out[..len], sent);
 }
 
 /// Bytes to be logged, at most one, with as many acknowledged as are logged before.
 #[tactic(auto, unfolding(seq_arith::specs::MessageGrammar::has_length, seq_arith::specs::MessageGrammar::is_sound))]
-fn push_data(alloc: Global, offset: u32, bytes: &[u8], sent: &mut Vec<Sent>) -> Result<(), NoMemory>
+fn push_data(alloc: Global, offset: u32, bytes: &[u8], sent: &mut Run)
     requires few { length bytes.now ≤ 1 }
     requires within { offset ≤ 100000 }
 {
@@ -106,12 +101,12 @@ fn push_data(alloc: Global, offset: u32, bytes: &[u8], sent: &mut Vec<Sent>) -> 
         fin: 0,
         bytes,
     };
-    push_message(alloc, Way::ServerToLogger, &Msg { boot: 1, body }, sent)
+    push_message(alloc, Way::ServerToLogger, &Msg { boot: 1, body }, sent);
 }
 
 /// The length of a read, which is 1.
 #[tactic(auto, unfolding(seq_arith::specs::MessageGrammar::has_length, seq_arith::specs::MessageGrammar::is_sound))]
-fn push_read(alloc: Global, index: u32, sent: &mut Vec<Sent>) -> Result<(), NoMemory>
+fn push_read(alloc: Global, index: u32, sent: &mut Run)
     requires { index ≤ 100000 }
 {
     let body = Body::ReadMsg {
@@ -119,12 +114,12 @@ fn push_read(alloc: Global, index: u32, sent: &mut Vec<Sent>) -> Result<(), NoMe
         index,
         length: 1,
     };
-    push_message(alloc, Way::ServerToLogger, &Msg { boot: 1, body }, sent)
+    push_message(alloc, Way::ServerToLogger, &Msg { boot: 1, body }, sent);
 }
 
 /// How much is logged, as an answer to bytes.
 #[tactic(auto, unfolding(seq_arith::specs::MessageGrammar::has_length, seq_arith::specs::MessageGrammar::is_sound))]
-fn push_stable(alloc: Global, length: u32, reads: u32, sent: &mut Vec<Sent>) -> Result<(), NoMemory>
+fn push_stable(alloc: Global, length: u32, reads: u32, sent: &mut Run)
     requires length { length ≤ 100000 }
     requires reads { reads ≤ 100000 }
 {
@@ -134,12 +129,12 @@ fn push_stable(alloc: Global, length: u32, reads: u32, sent: &mut Vec<Sent>) -> 
         fin: 0,
         reads,
     };
-    push_message(alloc, Way::LoggerToServer, &Msg { boot: 1, body }, sent)
+    push_message(alloc, Way::LoggerToServer, &Msg { boot: 1, body }, sent);
 }
 
 /// How much is logged, as an answer to a read.
 #[tactic(auto, unfolding(seq_arith::specs::MessageGrammar::has_length, seq_arith::specs::MessageGrammar::is_sound))]
-fn push_reads(alloc: Global, count: u32, sent: &mut Vec<Sent>) -> Result<(), NoMemory>
+fn push_reads(alloc: Global, count: u32, sent: &mut Run)
     requires { count ≤ 100000 }
 {
     let body = Body::ReadsMsg {
@@ -148,22 +143,27 @@ fn push_reads(alloc: Global, count: u32, sent: &mut Vec<Sent>) -> Result<(), NoM
         fin: 0,
         reads: count,
     };
-    push_message(alloc, Way::LoggerToServer, &Msg { boot: 1, body }, sent)
+    push_message(alloc, Way::LoggerToServer, &Msg { boot: 1, body }, sent);
 }
 
-fn push_message(alloc: Global, way: Way, m: &Msg<'_>, sent: &mut Vec<Sent>) -> Result<(), NoMemory>
+fn push_message(alloc: Global, way: Way, m: &Msg<'_>, sent: &mut Run)
     requires { IsSendable m.now }
 {
     let mut out = [0u8; 2_048];
     let len = write_msg(m, &mut out).min(2_048);
-    push(alloc, way, &out[..len], sent)
+    push(alloc, way, &out[..len], sent);
 }
 
 /// Adds a packet, unless its bytes are none.
-fn push(alloc: Global, way: Way, bytes: &[u8], sent: &mut Vec<Sent>) -> Result<(), NoMemory> {
-    if is_packet(way, bytes) {
-        let bytes = Vec::from_slice(alloc, bytes)?;
-        sent.push(Sent { way, bytes })?;
+fn push(alloc: Global, way: Way, bytes: &[u8], sent: &mut Run) {
+    if !is_packet(way, bytes) {
+        return;
     }
-    Ok(())
+    let Ok(bytes) = Vec::from_slice(alloc, bytes) else {
+        sent.is_lost = true;
+        return;
+    };
+    if sent.packets.push(Sent { way, bytes }).is_err() {
+        sent.is_lost = true;
+    }
 }

@@ -9,7 +9,7 @@
 #![tactic(auto)]
 
 use anyhow::{Result, bail};
-use ft_io::Source;
+use ft_io::{Key, Source};
 use ft_system::WriteSink;
 use std::io;
 use std::net::Net;
@@ -21,6 +21,12 @@ mod link;
 mod log;
 mod messages;
 mod packets;
+
+/// The address and the port of the client.
+const CLIENT: Key = Key {
+    ip: 0xC000_0201,
+    port: 40_000,
+};
 
 /// Does what the words of a command ask for, and prints what came of it. A schedule is read from the input.
 pub fn run<R: AllocGlobal + Print + Net + Clock, I: Source>(

@@ -4,7 +4,7 @@
 
 ghost use Rattle.std.specs.Prelude.{◌≤◌, ◌<◌};
 
-use crate::cycle::{SENT, Sent, push_cycles};
+use crate::cycle::{Run, SENT, Sent, push_cycles};
 use anyhow::{Context, Result, bail, ensure};
 use ft_io::{NoMemory, Sink, Source, read_to_limit, write_all};
 use ft_model::Event;
@@ -29,7 +29,10 @@ pub(crate) fn write<O: Sink>(alloc: Global, words: &[&str], out: &mut O) -> Resu
     ensure!(cycles <= CYCLES, "CYCLES is at most 100,000");
     let rounds: u32 = rounds.parse().context("ROUNDS")?;
     let mut lines = Vec::with_capacity(alloc, 2 * GATHERED)?;
-    let mut sent = Vec::new(alloc);
+    let mut sent = Run {
+        packets: Vec::new(alloc),
+        is_lost: false,
+    };
     write_rounds(alloc, cycles, rounds, &mut sent, &mut lines, out)
 }
 
@@ -56,16 +59,17 @@ fn write_rounds<O: Sink>(
     alloc: Global,
     cycles: u32,
     rounds: u32,
-    sent: &mut Vec<Sent>,
+    sent: &mut Run,
     lines: &mut Vec<u8>,
     out: &mut O,
 ) -> Result<()>
     requires { cycles ≤ 100000 }
 {
-    ensure!(push_cycles(alloc, cycles, sent).is_ok(), "no memory");
+    push_cycles(alloc, cycles, sent);
+    ensure!(!sent.is_lost, "no memory");
     for _ in 0..rounds {
         ensure!(
-            write_cycles(alloc, sent, cycles, lines, out).is_ok(),
+            write_cycles(alloc, &sent.packets, cycles, lines, out).is_ok(),
             "no memory, or a fault"
         );
     }

@@ -14,8 +14,9 @@
 ghost use Rattle.std.specs.Prelude.{◌≡◌, ◌≤◌, ◌<◌, ◌+◌, ◌^◌, length};
 ghost use Rattle.logger_wire.specs.Value.{IsSendable};
 
+use crate::CLIENT;
 use anyhow::{Context, Result, bail, ensure};
-use ft_io::{Key, NoMemory};
+use ft_io::NoMemory;
 use logger_store::{LogStore, MsgOut};
 use logger_wire::{Body, Msg, read_msg, write_msg};
 use mark_store::MarkStore;
@@ -26,11 +27,6 @@ use twins::run_twins;
 
 mod marking;
 mod twins;
-
-const KEY: Key = Key {
-    ip: 0xC000_0201,
-    port: 40_000,
-};
 
 /// The most bytes of a Data.
 const DATA: u32 = 1_460;
@@ -85,6 +81,7 @@ fn play(alloc: Global, reads: &str, bytes: u32, rounds: u32, is_marked: bool) ->
             datagram: [0; 2_048],
             out: MsgOut::new(),
             tally,
+            is_lost: false,
         };
         let Ok(after) = fill_and_fetch(alloc, &mut talk, bytes, reads == "other") else {
             bail!("no memory");
@@ -143,26 +140,27 @@ struct Talk {
     datagram: [u8; 2_048],
     out: MsgOut,
     tally: Tally,
+    /// Whether the log was refused memory for a message.
+    is_lost: bool,
 }
 
 impl Talk {
     /// Spells a message, and gives it to the log.
-    fn say(&mut self, alloc: Global, m: &Msg<'_>) -> Result<(), NoMemory>
+    fn say(&mut self, alloc: Global, m: &Msg<'_>)
         requires { IsSendable m.now }
     {
         let len = write_msg(m, &mut self.datagram).min(2_048);
         let bytes = &self.datagram[..len];
-        match &mut self.ear {
-            Ear::Nobody => {}
-            Ear::Log(log) => {
-                if let Ok(message) = read_msg(bytes) {
-                    log.answer(alloc, &message, &mut self.out)?;
-                }
-            }
-            Ear::Marked(log) => log.answer(alloc, bytes, &mut self.out)?,
-        }
+        let taken = match &mut self.ear {
+            Ear::Nobody => Ok(()),
+            Ear::Log(log) => match read_msg(bytes) {
+                Ok(message) => log.answer(alloc, &message, &mut self.out),
+                Err(_) => Ok(()),
+            },
+            Ear::Marked(log) => log.answer(alloc, bytes, &mut self.out),
+        };
+        self.is_lost = self.is_lost || taken.is_err();
         self.tally.count(self.out.bytes());
-        Ok(())
     }
 }
 
@@ -175,91 +173,102 @@ fn fill_and_fetch(
 ) -> Result<Tally, NoMemory>
     requires { bytes ≤ 2 ^ 24 }
 {
-    open(alloc, talk)?;
+    talk.say(alloc, &hello());
+    talk.say(alloc, &opening());
     let text = [b'a'; 1_460];
     let mut read = 0u32;
     for i in 0..bytes.div_ceil(DATA) {
         let offset = i * DATA;
         let len = DATA.min(bytes.saturating_sub(offset));
-        give_bytes(alloc, talk, offset, &text[..len as usize])?;
+        give_bytes(alloc, talk, offset, &text[..len as usize]);
         let other = if i % 2 == 0 { DATA - 1 } else { DATA + 1 };
         let wanted = if alternates { other } else { len };
         let next = wanted.min((offset + len).saturating_sub(read));
-        give_read(alloc, talk, i, next)?;
+        give_read(alloc, talk, i, next);
         read += next;
     }
     for i in 0..bytes.div_ceil(PART) {
-        fetch_bytes(alloc, talk, i * PART)?;
+        fetch_bytes(alloc, talk, i * PART);
     }
     for i in 0..bytes.div_ceil(DATA).div_ceil(LENS) {
-        fetch_lengths(alloc, talk, i * LENS)?;
+        fetch_lengths(alloc, talk, i * LENS);
+    }
+    if talk.is_lost {
+        return Err(NoMemory);
     }
     Ok(talk.tally)
 }
 
+/// The first message.
 #[tactic(auto, unfolding(seq_arith::specs::MessageGrammar::has_length, seq_arith::specs::MessageGrammar::is_sound))]
-fn open(alloc: Global, talk: &mut Talk) -> Result<(), NoMemory> {
-    talk.say(
-        alloc,
-        &Msg {
-            boot: 1,
-            body: Body::HelloMsg,
+fn hello() -> Msg<'static>
+    ensures { IsSendable result }
+{
+    Msg {
+        boot: 1,
+        body: Body::HelloMsg,
+    }
+}
+
+/// The message that opens the entry.
+#[tactic(auto, unfolding(seq_arith::specs::MessageGrammar::has_length, seq_arith::specs::MessageGrammar::is_sound))]
+fn opening() -> Msg<'static>
+    ensures { IsSendable result }
+{
+    Msg {
+        boot: 1,
+        body: Body::OpenMsg {
+            key: CLIENT,
+            cisn: 1_000,
+            sisn: 5_000,
+            mss: 1_460,
         },
-    )?;
-    talk.say(
-        alloc,
-        &Msg {
-            boot: 1,
-            body: Body::OpenMsg {
-                key: KEY,
-                cisn: 1_000,
-                sisn: 5_000,
-                mss: 1_460,
-            },
-        },
-    )
+    }
 }
 
 #[tactic(auto, unfolding(seq_arith::specs::MessageGrammar::has_length, seq_arith::specs::MessageGrammar::is_sound))]
-fn give_bytes(alloc: Global, talk: &mut Talk, offset: u32, bytes: &[u8]) -> Result<(), NoMemory>
+fn give_bytes(alloc: Global, talk: &mut Talk, offset: u32, bytes: &[u8])
     requires few { length bytes.now ≤ 1460 }
     requires within { offset + length bytes.now ≤ 2 ^ 24 }
 {
     let body = Body::DataMsg {
-        key: KEY,
+        key: CLIENT,
         offset,
         acked: 0,
         fin: 0,
         bytes,
     };
-    talk.say(alloc, &Msg { boot: 1, body })
+    talk.say(alloc, &Msg { boot: 1, body });
 }
 
 #[tactic(auto, unfolding(seq_arith::specs::MessageGrammar::has_length, seq_arith::specs::MessageGrammar::is_sound))]
-fn give_read(alloc: Global, talk: &mut Talk, index: u32, len: u32) -> Result<(), NoMemory>
+fn give_read(alloc: Global, talk: &mut Talk, index: u32, len: u32)
     requires index { index ≤ 2 ^ 24 }
     requires len { len ≤ 2048 }
 {
     let body = Body::ReadMsg {
-        key: KEY,
+        key: CLIENT,
         index,
         length: len as u16,
     };
-    talk.say(alloc, &Msg { boot: 1, body })
+    talk.say(alloc, &Msg { boot: 1, body });
 }
 
 #[tactic(auto, unfolding(seq_arith::specs::MessageGrammar::has_length, seq_arith::specs::MessageGrammar::is_sound))]
-fn fetch_bytes(alloc: Global, talk: &mut Talk, offset: u32) -> Result<(), NoMemory>
+fn fetch_bytes(alloc: Global, talk: &mut Talk, offset: u32)
     requires { offset ≤ 2 ^ 24 }
 {
-    let body = Body::BytesMsg { key: KEY, offset };
-    talk.say(alloc, &Msg { boot: 1, body })
+    let body = Body::BytesMsg {
+        key: CLIENT,
+        offset,
+    };
+    talk.say(alloc, &Msg { boot: 1, body });
 }
 
 #[tactic(auto, unfolding(seq_arith::specs::MessageGrammar::has_length, seq_arith::specs::MessageGrammar::is_sound))]
-fn fetch_lengths(alloc: Global, talk: &mut Talk, first: u32) -> Result<(), NoMemory>
+fn fetch_lengths(alloc: Global, talk: &mut Talk, first: u32)
     requires { first ≤ 2 ^ 24 }
 {
-    let body = Body::CutsMsg { key: KEY, first };
-    talk.say(alloc, &Msg { boot: 1, body })
+    let body = Body::CutsMsg { key: CLIENT, first };
+    talk.say(alloc, &Msg { boot: 1, body });
 }

@@ -5,17 +5,12 @@
 ghost use Rattle.std.specs.Prelude.{◌≡◌, ◌<◌, ◌≤◌, length};
 ghost use Rattle.logger_wire.specs.Value.{IsSendable};
 
+use crate::CLIENT;
 use anyhow::{Context, Result, bail};
-use ft_io::Key;
 use logger_wire::{Body, Msg, read_msg, write_msg};
 use std::alloc::{AllocError, Global};
 
 const MESSAGES: u32 = 64;
-
-const KEY: Key = Key {
-    ip: 0xC000_0201,
-    port: 40_000,
-};
 
 /// What the messages of these words add up to.
 pub(crate) fn total(alloc: Global, words: &[&str]) -> Result<u64> {
@@ -43,7 +38,7 @@ fn message(is_data: bool, i: u32, text: &[u8]) -> Msg<'_>
         return Msg {
             boot: 1,
             body: Body::DataMsg {
-                key: KEY,
+                key: CLIENT,
                 offset: i,
                 acked: 0,
                 fin: 0,
@@ -54,7 +49,7 @@ fn message(is_data: bool, i: u32, text: &[u8]) -> Msg<'_>
     Msg {
         boot: 1,
         body: Body::ReadMsg {
-            key: KEY,
+            key: CLIENT,
             index: i,
             length: 5,
         },

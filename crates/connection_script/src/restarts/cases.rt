@@ -1,8 +1,9 @@
 //! The restarts that are played.
 
+use crate::peers::CLIENT;
 use crate::restarts::hostile::attack;
 use crate::restarts::logged::{Logged, NO_MARK, head_of, lens_of};
-use crate::restarts::marked::marked_cases;
+use crate::restarts::marked::{at_the_ends, hostile_marks, with_marks};
 use crate::restarts::play::{BOOT, begin, fetch, hand, restore};
 use ft_io::{Key, NoMemory};
 use reincarnate::Fetching;
@@ -14,40 +15,38 @@ pub(crate) const ECHO: u8 = 1;
 
 pub(crate) const METER: u8 = 4;
 
-pub(crate) const KEY: Key = Key {
-    ip: 0xC000_0201,
-    port: 40_000,
-};
-
 /// One connection that is restored, with what is asked for it.
 fn one(
     alloc: Global,
-    name: &str,
     kind: u8,
+    marks: bool,
     entry: Logged<'_>,
     said: &mut Said,
-) -> Result<(), NoMemory> {
-    restart(alloc, name, begin(alloc, kind, 1, false)?, entry, said)
+) -> Result<u32, NoMemory> {
+    let mut fetching = begin(alloc, kind, 1, marks)?;
+    fetch(alloc, &mut fetching, &[entry], said)?;
+    restore(alloc, fetching, said)
 }
 
-/// One connection that is restored by this restart, with what is asked for it.
+/// One connection that is restored, from marks if the log has them, with its name and what is asked for it.
 pub(crate) fn restart(
     alloc: Global,
     name: &str,
-    mut fetching: Fetching<AnyService>,
+    kind: u8,
+    marks: bool,
     entry: Logged<'_>,
     said: &mut Said,
-) -> Result<(), NoMemory> {
+) {
     write!(said, "case {name}\n");
-    fetch(alloc, &mut fetching, &[entry], said)?;
-    restore(alloc, fetching, said)?;
-    Ok(())
+    if one(alloc, kind, marks, entry, said).is_err() {
+        said.note(Err(NoMemory));
+    }
 }
 
 /// An entry of the worked runs' client.
 pub(crate) fn logged<'a>(bytes: &'a [u8], fin: u8, reads: &'a [u16], acked: u32) -> Logged<'a> {
     Logged {
-        key: KEY,
+        key: CLIENT,
         bytes,
         fin,
         done: 0,
@@ -112,63 +111,32 @@ fn hostile(alloc: Global, bytes: &[u8], said: &mut Said) -> Result<(), NoMemory>
     Ok(())
 }
 
-/// Connections whose client continues to send.
-fn open_cases(alloc: Global, long: &[u8], said: &mut Said) -> Result<(), NoMemory> {
-    one(
-        alloc,
-        "streaming_questions",
-        METER,
-        logged(long, 0, &[2_048, 452], 5),
-        said,
-    )?;
-    one(
-        alloc,
-        "crash_after_logged",
-        ECHO,
-        logged(b"hello", 0, &[5], 0),
-        said,
-    )?;
-    one(
-        alloc,
-        "cuts_and_swallowing",
-        METER,
-        logged(b"abc", 0, &[2, 1], 2),
-        said,
-    )?;
-    one(alloc, "nothing", ECHO, logged(b"", 0, &[], 0), said)
-}
-
-/// Connections whose client has sent its FIN: the server's FIN is acknowledged, isn't, or isn't due before the rest is read.
-fn ending_cases(alloc: Global, said: &mut Said) -> Result<(), NoMemory> {
-    one(
-        alloc,
-        "acknowledged_fin",
-        ECHO,
-        logged(b"", 1, &[0], 1),
-        said,
-    )?;
-    one(
-        alloc,
-        "fin_not_acknowledged",
-        ECHO,
-        logged(b"hello", 1, &[5, 0], 2),
-        said,
-    )?;
-    one(
-        alloc,
-        "fin_behind_the_rest",
-        METER,
-        logged(b"hello", 1, &[2], 0),
-        said,
-    )
+/// Connections whose client continues to send, and then some whose client has sent its FIN: the server's FIN is acknowledged, isn't, or isn't due before the rest
+/// is read.
+fn open_and_ending(alloc: Global, long: &[u8], said: &mut Said) {
+    let long = logged(long, 0, &[2_048, 452], 5);
+    restart(alloc, "streaming_questions", METER, false, long, said);
+    let hello = logged(b"hello", 0, &[5], 0);
+    restart(alloc, "crash_after_logged", ECHO, false, hello, said);
+    let abc = logged(b"abc", 0, &[2, 1], 2);
+    restart(alloc, "cuts_and_swallowing", METER, false, abc, said);
+    let none = logged(b"", 0, &[], 0);
+    restart(alloc, "nothing", ECHO, false, none, said);
+    let ended = logged(b"", 1, &[0], 1);
+    restart(alloc, "acknowledged_fin", ECHO, false, ended, said);
+    let ending = logged(b"hello", 1, &[5, 0], 2);
+    restart(alloc, "fin_not_acknowledged", ECHO, false, ending, said);
+    let unread = logged(b"hello", 1, &[2], 0);
+    restart(alloc, "fin_behind_the_rest", METER, false, unread, said);
 }
 
 /// All of them.
 pub(crate) fn play_all(alloc: Global, said: &mut Said) -> Result<(), NoMemory> {
     let long = vec![in alloc; b'a'; 2_500]?;
-    open_cases(alloc, &long, said)?;
-    ending_cases(alloc, said)?;
+    open_and_ending(alloc, &long, said);
     many(alloc, said)?;
     hostile(alloc, &long, said)?;
-    marked_cases(alloc, said)
+    with_marks(alloc, said);
+    at_the_ends(alloc, said);
+    hostile_marks(alloc, said)
 }

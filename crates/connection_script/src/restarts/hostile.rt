@@ -1,6 +1,6 @@
 //! Messages that answer no question.
 
-use crate::restarts::letters::Fields;
+use crate::restarts::letters::{LOG, begin_letter, end_letter};
 use crate::restarts::logged::{Logged, head_of, lens_of, part_of};
 use crate::restarts::play::{BOOT, hand};
 use ft_io::{Key, NoMemory};
@@ -22,12 +22,12 @@ fn letter(alloc: Global, entry: &Logged<'_>, drawn: u32, place: u32) -> Result<V
         3 => lens_of(alloc, BOOT, entry, 0),
         4 => head_of(alloc, BOOT, (place % 64) as u16, entry),
         5 => head_of(alloc, BOOT, (place % 64) as u16, &other),
-        6 => Fields::new(alloc).letter(alloc, (place % 19) as u8, BOOT),
+        6 => end_letter(alloc, &begin_letter(alloc, LOG, (place % 19) as u8, BOOT)),
         _ => {
-            let mut noise = Fields::new(alloc);
-            noise.long(drawn)?;
-            noise.long(place)?;
-            noise.letter(alloc, (place % 256) as u8, BOOT)
+            let mut noise = begin_letter(alloc, LOG, (place % 256) as u8, BOOT);
+            noise.add(&drawn.to_be_bytes());
+            noise.add(&place.to_be_bytes());
+            end_letter(alloc, &noise)
         }
     }
 }

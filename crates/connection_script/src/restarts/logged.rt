@@ -1,6 +1,7 @@
 //! A log in memory, as far as a restart asks for it.
 
-use crate::restarts::letters::Fields;
+use crate::peers::{CISN, SISN};
+use crate::restarts::letters::{LOG, MARK, add_key, begin_letter, end_letter};
 use ft_io::{Key, NoMemory};
 use logger_wire::{Body, MarkBody, MarkMsg, Msg};
 use reincarnate::AnyMsg;
@@ -14,6 +15,9 @@ const LENS: u8 = 8;
 
 /// The kind of a Held, among the messages about marks.
 const HELD: u8 = 4;
+
+/// The size of segments in each entry.
+const MSS: u16 = 536;
 
 /// A mark, of no reads where there is none.
 #[derive(Clone, Copy)]
@@ -100,18 +104,19 @@ pub(crate) fn head_of(
     index: u16,
     entry: &Logged<'_>,
 ) -> Result<Vec<u8>, NoMemory> {
-    let mut fields = Fields::new(alloc);
-    fields.word(index)?;
-    fields.key(entry.key)?;
-    fields.long(1_000)?;
-    fields.long(5_000)?;
-    fields.word(536)?;
-    fields.long((entry.bytes.len() & 0xff_ffff) as u32)?;
-    fields.byte(entry.fin)?;
-    fields.byte(entry.done)?;
-    fields.long((entry.reads.len() & 0xff_ffff) as u32)?;
-    fields.long(entry.acked)?;
-    fields.letter(alloc, ENTRY, boot)
+    let length = (entry.bytes.len() & 0xff_ffff) as u32;
+    let reads = (entry.reads.len() & 0xff_ffff) as u32;
+    let mut fields = begin_letter(alloc, LOG, ENTRY, boot);
+    fields.add(&index.to_be_bytes());
+    add_key(&mut fields, entry.key);
+    fields.add(&CISN.0.to_be_bytes());
+    fields.add(&SISN.0.to_be_bytes());
+    fields.add(&MSS.to_be_bytes());
+    fields.add(&length.to_be_bytes());
+    fields.add(&[entry.fin, entry.done]);
+    fields.add(&reads.to_be_bytes());
+    fields.add(&entry.acked.to_be_bytes());
+    end_letter(alloc, &fields)
 }
 
 /// At most 1,024 bytes from an offset on.
@@ -123,11 +128,11 @@ pub(crate) fn part_of(
 ) -> Result<Vec<u8>, NoMemory> {
     let from = (offset as usize).min(entry.bytes.len());
     let rest = &entry.bytes[from..];
-    let mut fields = Fields::new(alloc);
-    fields.key(entry.key)?;
-    fields.long(offset)?;
-    fields.all(&rest[..rest.len().min(1_024)])?;
-    fields.letter(alloc, PART, boot)
+    let mut fields = begin_letter(alloc, LOG, PART, boot);
+    add_key(&mut fields, entry.key);
+    fields.add(&offset.to_be_bytes());
+    fields.add(&rest[..rest.len().min(1_024)]);
+    end_letter(alloc, &fields)
 }
 
 /// At most 512 lengths from one on.
@@ -137,13 +142,13 @@ pub(crate) fn lens_of(
     entry: &Logged<'_>,
     first: u32,
 ) -> Result<Vec<u8>, NoMemory> {
-    let mut fields = Fields::new(alloc);
-    fields.key(entry.key)?;
-    fields.long(first)?;
+    let mut fields = begin_letter(alloc, LOG, LENS, boot);
+    add_key(&mut fields, entry.key);
+    fields.add(&first.to_be_bytes());
     for length in entry.reads.iter().skip(first as usize).take(512) {
-        fields.word(*length)?;
+        fields.add(&(*length).to_be_bytes());
     }
-    fields.letter(alloc, LENS, boot)
+    end_letter(alloc, &fields)
 }
 
 /// The mark of a connection.
@@ -153,11 +158,11 @@ pub(crate) fn held_of(
     key: Key,
     mark: Marked<'_>,
 ) -> Result<Vec<u8>, NoMemory> {
-    let mut fields = Fields::new(alloc);
-    fields.key(key)?;
-    fields.long(mark.reads)?;
-    fields.long(mark.length)?;
-    fields.long(mark.made)?;
-    fields.all(mark.state)?;
-    fields.mark_letter(alloc, HELD, boot)
+    let mut fields = begin_letter(alloc, MARK, HELD, boot);
+    add_key(&mut fields, key);
+    fields.add(&mark.reads.to_be_bytes());
+    fields.add(&mark.length.to_be_bytes());
+    fields.add(&mark.made.to_be_bytes());
+    fields.add(mark.state);
+    end_letter(alloc, &fields)
 }

@@ -1,6 +1,7 @@
 //! Restarts that begin at marks.
 
-use crate::restarts::cases::{ECHO, KEY, METER, logged, restart};
+use crate::peers::CLIENT;
+use crate::restarts::cases::{ECHO, METER, logged, restart};
 use crate::restarts::logged::{Logged, Marked, head_of, held_of, lens_of, part_of};
 use crate::restarts::play::{BOOT, begin, fetch, hand, restore};
 use ft_io::{Key, NoMemory};
@@ -39,13 +40,13 @@ fn from_mark(
     entry: Logged<'_>,
     mark: Marked<'_>,
     said: &mut Said,
-) -> Result<(), NoMemory> {
+) {
     let entry = Logged { mark, ..entry };
-    restart(alloc, name, begin(alloc, kind, 1, true)?, entry, said)
+    restart(alloc, name, kind, true, entry, said);
 }
 
 /// Connections with a mark, whose reads end at it or continue.
-fn with_marks(alloc: Global, said: &mut Said) -> Result<(), NoMemory> {
+pub(crate) fn with_marks(alloc: Global, said: &mut Said) {
     from_mark(
         alloc,
         "restart_from_mark",
@@ -53,7 +54,7 @@ fn with_marks(alloc: Global, said: &mut Said) -> Result<(), NoMemory> {
         logged(b"hello", 0, &[5], 5),
         ECHOED,
         said,
-    )?;
+    );
     from_mark(
         alloc,
         "reads_above_the_mark",
@@ -66,7 +67,7 @@ fn with_marks(alloc: Global, said: &mut Said) -> Result<(), NoMemory> {
             state: b"",
         },
         said,
-    )?;
+    );
     from_mark(
         alloc,
         "state_with_held_bytes",
@@ -74,7 +75,7 @@ fn with_marks(alloc: Global, said: &mut Said) -> Result<(), NoMemory> {
         logged(REQUESTS, 0, &[6, 2], 302),
         CUT_IN_TWO,
         said,
-    )?;
+    );
     from_mark(
         alloc,
         "state_with_a_count",
@@ -87,11 +88,11 @@ fn with_marks(alloc: Global, said: &mut Said) -> Result<(), NoMemory> {
             state: &[0, 0, 0, 0, 0, 0, 0, 2],
         },
         said,
-    )
+    );
 }
 
 /// Connections whose end or rest is above the mark, or that have none.
-fn at_the_ends(alloc: Global, said: &mut Said) -> Result<(), NoMemory> {
+pub(crate) fn at_the_ends(alloc: Global, said: &mut Said) {
     from_mark(
         alloc,
         "closing_read_above_the_mark",
@@ -99,7 +100,7 @@ fn at_the_ends(alloc: Global, said: &mut Said) -> Result<(), NoMemory> {
         logged(b"hello", 1, &[5, 0], 5),
         ECHOED,
         said,
-    )?;
+    );
     from_mark(
         alloc,
         "rest_above_the_mark",
@@ -107,16 +108,16 @@ fn at_the_ends(alloc: Global, said: &mut Said) -> Result<(), NoMemory> {
         logged(b"helloworld", 0, &[5], 5),
         ECHOED,
         said,
-    )?;
+    );
     let none = logged(b"hello", 0, &[5], 0);
-    from_mark(alloc, "no_mark", ECHO, none, none.mark, said)?;
+    from_mark(alloc, "no_mark", ECHO, none, none.mark, said);
     let unread = logged(b"", 0, &[], 0);
-    from_mark(alloc, "no_reads", ECHO, unread, unread.mark, said)?;
+    from_mark(alloc, "no_reads", ECHO, unread, unread.mark, said);
     let ended = Logged {
         done: 1,
         ..logged(b"hello", 1, &[5, 0], 6)
     };
-    from_mark(alloc, "ended", ECHO, ended, ECHOED, said)
+    from_mark(alloc, "ended", ECHO, ended, ECHOED, said);
 }
 
 /// A message that isn't the awaited mark: one of another boot or another key, one that the entry can't have, one whose state isn't read back, or another answer.
@@ -157,34 +158,8 @@ fn wrong(alloc: Global, entry: &Logged<'_>, drawn: u32) -> Result<Vec<u8>, NoMem
     held_of(alloc, BOOT, entry.key, wrong)
 }
 
-/// How many of 1,000 such messages are taken.
-fn attack(
-    alloc: Global,
-    fetching: &mut Fetching<AnyService>,
-    entry: &Logged<'_>,
-) -> Result<u32, NoMemory> {
-    let mut fitted = 0u32;
-    for drawn in 0..1_000u32 {
-        if hand(alloc, fetching, &wrong(alloc, entry, drawn)?)? {
-            fitted = fitted.saturating_add(1);
-        }
-    }
-    Ok(fitted)
-}
-
-/// How many of three equal marks are taken.
-fn hand_thrice(alloc: Global, fetching: &mut Fetching<AnyService>) -> Result<u32, NoMemory> {
-    let held = held_of(alloc, BOOT, KEY, CUT_IN_TWO)?;
-    let mut fitted = 0u32;
-    for _ in 0..3u32 {
-        if hand(alloc, fetching, &held)? {
-            fitted = fitted.saturating_add(1);
-        }
-    }
-    Ok(fitted)
-}
-
-/// 1,000 such messages while a mark is awaited. The restart continues as if they hadn't arrived. Once the mark has come, it is no answer any more.
+/// 1,000 such messages while a mark is awaited, and then three equal marks. The restart continues as if the former hadn't arrived. Once the mark has come, it is no
+/// answer any more. How many of all are taken is said.
 fn hostile_fetch(
     alloc: Global,
     fetching: &mut Fetching<AnyService>,
@@ -195,24 +170,26 @@ fn hostile_fetch(
         ..logged(REQUESTS, 0, &[6, 2], 302)
     };
     hand(alloc, fetching, &head_of(alloc, BOOT, 0, &entry)?)?;
-    let wrong = attack(alloc, fetching, &entry)?;
-    let right = hand_thrice(alloc, fetching)?;
-    let fitted = wrong.saturating_add(right);
+    let mut fitted = 0u32;
+    for drawn in 0..1_000u32 {
+        if hand(alloc, fetching, &wrong(alloc, &entry, drawn)?)? {
+            fitted = fitted.saturating_add(1);
+        }
+    }
+    let held = held_of(alloc, BOOT, CLIENT, CUT_IN_TWO)?;
+    for _ in 0..3u32 {
+        if hand(alloc, fetching, &held)? {
+            fitted = fitted.saturating_add(1);
+        }
+    }
     write!(said, "case hostile_marks\nfitted {fitted}\n");
     fetch(alloc, fetching, &[entry], said)
 }
 
 /// A restart that hostile marks meet.
-fn hostile(alloc: Global, said: &mut Said) -> Result<(), NoMemory> {
+pub(crate) fn hostile_marks(alloc: Global, said: &mut Said) -> Result<(), NoMemory> {
     let mut fetching = begin(alloc, TRANSFER, 1, true)?;
     hostile_fetch(alloc, &mut fetching, said)?;
     restore(alloc, fetching, said)?;
     Ok(())
-}
-
-/// All of them.
-pub(crate) fn marked_cases(alloc: Global, said: &mut Said) -> Result<(), NoMemory> {
-    with_marks(alloc, said)?;
-    at_the_ends(alloc, said)?;
-    hostile(alloc, said)
 }

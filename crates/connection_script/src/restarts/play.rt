@@ -1,10 +1,11 @@
 //! One restart.
 
+use crate::peers::SERVER;
 use crate::restarts::logged::{Logged, any_answer};
 use crate::restarts::text::tell_question;
-use ft_io::{Addr, NoMemory};
+use ft_io::NoMemory;
 use logger_wire::{read_mark, read_msg};
-use reincarnate::{AnyMsg, Asked, Entries, Fetching, LostIn, Replayed, Spliced};
+use reincarnate::{AnyMsg, Asked, Entries, Fetching, Replayed};
 use sample_servers::AnyService;
 use seq_arith::Seq;
 use std::alloc::Global;
@@ -16,18 +17,8 @@ pub(crate) const BOOT: u8 = 2;
 
 const ISN: Seq = Seq(900_000);
 
-const LOCAL: Addr = Addr {
-    ip: 0xC000_0264,
-    port: 7,
-};
-
 /// More questions than any log here needs.
 const QUESTIONS: u32 = 100_000;
-
-/// Memory ran out somewhere.
-pub(crate) fn lost(_lost: LostIn) -> NoMemory {
-    NoMemory
-}
 
 pub(crate) fn begin(
     alloc: Global,
@@ -39,7 +30,7 @@ pub(crate) fn begin(
     let count = count.min(64) as u16;
     match asked.on_summary(alloc, kind, count, marks) {
         Ok(fetching) => Ok(fetching),
-        Err(end) => Err(lost(end)),
+        Err(_) => Err(NoMemory),
     }
 }
 
@@ -58,26 +49,7 @@ pub(crate) fn hand(
     }
 }
 
-/// What is asked next is printed, and answered; whether anything was asked.
-fn step(
-    alloc: Global,
-    fetching: &mut Fetching<AnyService>,
-    entries: &[Logged<'_>],
-    said: &mut Said,
-) -> Result<bool, NoMemory> {
-    let bytes = match fetching.question() {
-        Some(question) => {
-            tell_question(&question, said);
-            any_answer(alloc, BOOT, entries, &question)?
-        }
-        None => return Ok(false),
-    };
-    hand(alloc, fetching, &bytes)?;
-    write!(said, "held {}\n", fetching.held());
-    Ok(true)
-}
-
-/// Asks and answers until nothing is missing.
+/// Asks and answers until nothing is missing. What is asked is said.
 pub(crate) fn fetch(
     alloc: Global,
     fetching: &mut Fetching<AnyService>,
@@ -85,43 +57,41 @@ pub(crate) fn fetch(
     said: &mut Said,
 ) -> Result<(), NoMemory> {
     for _ in 0..QUESTIONS {
-        if !step(alloc, fetching, entries, said)? {
-            return Ok(());
-        }
+        let bytes = match fetching.question() {
+            Some(question) => {
+                tell_question(&question, said);
+                any_answer(alloc, BOOT, entries, &question)?
+            }
+            None => return Ok(()),
+        };
+        hand(alloc, fetching, &bytes)?;
+        write!(said, "held {}\n", fetching.held());
     }
     Ok(())
 }
 
-fn state_of(name: StateName) -> &'static str {
-    match name {
-        StateName::Established => "established",
-        StateName::CloseWait => "close-wait",
-        _ => "another",
-    }
-}
-
-/// Where a connection continues: delta, and the number, acknowledgement and window of the first segment that it would send.
-fn tell(spliced: &Spliced<AnyService>, pending: &str, said: &mut Said) {
-    let delta = spliced.south().delta();
-    let number = spliced.endpoint().sent().add(delta).0;
-    let told = spliced.south().ack_now();
-    let (ack, window) = (told.ack.0, told.window);
-    let state = state_of(spliced.endpoint().state().name);
-    write!(
-        said,
-        "delta {delta}\nseq {number}\nack {ack}\nwindow {window}\n"
-    );
-    write!(said, "state {state}\npending {pending}\n");
-}
-
+/// Joins a connection that is replayed, and says where it continues: delta, and the number, acknowledgement and window of the first segment that it would send.
 fn join(alloc: Global, replayed: Replayed<AnyService>, said: &mut Said) -> Result<(), NoMemory> {
     let pending = hex::encode(alloc, replayed.pending())?;
-    match replayed.splice(alloc, u64::from(BOOT), LOCAL, ISN) {
+    match replayed.splice(alloc, u64::from(BOOT), SERVER, ISN) {
         Ok(spliced) => {
-            tell(&spliced, pending.as_str(), said);
+            let delta = spliced.south().delta();
+            let number = spliced.endpoint().sent().add(delta).0;
+            let told = spliced.south().ack_now();
+            let (ack, window) = (told.ack.0, told.window);
+            let state = match spliced.endpoint().state().name {
+                StateName::Established => "established",
+                StateName::CloseWait => "close-wait",
+                _ => "another",
+            };
+            write!(
+                said,
+                "delta {delta}\nseq {number}\nack {ack}\nwindow {window}\n"
+            );
+            write!(said, "state {state}\npending {}\n", pending.as_str());
             Ok(())
         }
-        Err(end) => Err(lost(end)),
+        Err(_) => Err(NoMemory),
     }
 }
 

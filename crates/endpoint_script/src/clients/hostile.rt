@@ -2,10 +2,9 @@
 
 ghost use Rattle.std.specs.Prelude.{◌≤◌, ◌^◌, length, IfOk};
 
-use crate::clients::rules::{Kept, Rule, SERVERS, anything, may_follow};
+use crate::clients::rules::{Kept, Rule, SERVERS, may_follow};
 use crate::hostile::flags;
 use crate::joined::{CLIENT, SERVER};
-use crate::rules::require;
 use ft_io::{Key, NoMemory};
 use ft_model::Event;
 use peer_client::{Client, LiveClient, Phase};
@@ -13,7 +12,7 @@ use segment_codec::{Head, read_packet, write_packet};
 use seq_arith::{ACK, RST, SYN, Seq, has};
 use std::alloc::Global;
 use tcp_endpoint::Outbox;
-use test_data::Draws;
+use test_data::{Draws, require, require_all};
 
 const SEED: u64 = 1;
 
@@ -112,7 +111,7 @@ fn syn_ack(out: &mut [u8; 1_500]) -> usize
 /// Every second datagram is a packet.
 fn datagram(draws: &mut Draws, number: u32, known: Known, out: &mut [u8; 1_500]) -> usize {
     if number % 2 == 0 {
-        anything(draws, out)
+        draws.anything(&mut out[..])
     } else {
         packet(draws, known, out)
     }
@@ -130,15 +129,6 @@ fn script(alloc: Global) -> Result<Vec<u8>, NoMemory>
     ensures { IfOk result (λ script. length script.items ≤ 2 ^ 24) }
 {
     Ok(SCRIPT.to_vec(alloc)?)
-}
-
-/// A scripted client that hasn't begun.
-fn scripted(alloc: Global) -> Result<Client, NoMemory> {
-    let key = Key {
-        ip: CLIENT.ip,
-        port: CLIENT.port,
-    };
-    Ok(Client::new(alloc, key, SERVER, ISN, script(alloc)?))
 }
 
 /// A scripted client sends its SYN and, where it is open, gets the server's and sends some of its script.
@@ -187,16 +177,16 @@ fn readers_of(client: &Client) -> Told {
 /// The rules on a delivery to a scripted client.
 fn check_scripted(before: Told, client: &Client, is_packet: bool) -> Kept {
     let after = readers_of(client);
-    require(is_packet || after == before, Rule::Silence)?;
-    require(before.accepted <= after.accepted, Rule::Text)?;
-    require(SERVERS.is_part(0, client.accepted()), Rule::Text)?;
-    require(after.accepted <= usize::from(WINDOW), Rule::Window)?;
-    require(
-        after.sent == before.sent && before.acked <= after.acked,
-        Rule::Numbers,
-    )?;
-    require(after.acked <= after.sent, Rule::Numbers)?;
-    require(may_follow(before.phase, after.phase), Rule::End)
+    let is_sent = after.sent == before.sent && before.acked <= after.acked;
+    require_all(&[
+        (is_packet || after == before, Rule::Silence),
+        (before.accepted <= after.accepted, Rule::Text),
+        (SERVERS.is_part(0, client.accepted()), Rule::Text),
+        (after.accepted <= usize::from(WINDOW), Rule::Window),
+        (is_sent, Rule::Numbers),
+        (after.acked <= after.sent, Rule::Numbers),
+        (may_follow(before.phase, after.phase), Rule::End),
+    ])
 }
 
 /// A scripted client begins, and meets datagrams until it is reset or has got as many as one gets.
@@ -238,7 +228,11 @@ fn attack_one_scripted(
     draws: &mut Draws,
     tally: &mut Tally,
 ) -> Result<(), NoMemory> {
-    let mut client = scripted(alloc)?;
+    let key = Key {
+        ip: CLIENT.ip,
+        port: CLIENT.port,
+    };
+    let mut client = Client::new(alloc, key, SERVER, ISN, script(alloc)?);
     meet_all(alloc, &mut client, is_open, draws, tally)
 }
 
@@ -276,51 +270,29 @@ impl Target {
         })
     }
 
-    /// The client sends its SYN, and in three of four cases it gets the server's.
-    fn begin(&mut self, draws: &mut Draws, out: &mut Outbox) {
-        self.flush(out);
-        if draws.below(4) > 0 {
-            let mut packet = [0u8; 1_500];
-            let len = syn_ack(&mut packet);
-            self.client.on_packet(&packet[..len]);
-            self.flush(out);
-            self.base = Some(Seq(SERVER_ISN));
-        }
-    }
-
     fn flush(&mut self, out: &mut Outbox) {
         out.clear();
         self.client.flush(out);
     }
 
-    /// Checks that the bytes handed out are those that the server sends at that place, and returns how many they are.
-    fn accept_some(&mut self, draws: &mut Draws) -> Result<usize, Rule> {
+    /// A datagram comes, some bytes are accepted, which must be those that the server sends at that place, and the turn ends.
+    fn meet(&mut self, bytes: &[u8], is_packet: bool, draws: &mut Draws, out: &mut Outbox) -> Kept {
+        let before = self.client.outcome();
+        self.client.on_packet(bytes);
+        self.base = self.base.or(opening(bytes));
+        let is_same = self.client.outcome() == before;
+        require_all(&[
+            (before.is_none() || is_same, Rule::End),
+            (is_packet || is_same, Rule::Silence),
+        ])?;
         let mut buf = [0u8; 50];
         let most = draws.below(51) as usize;
         let count = self.client.accept(&mut buf[..most]).min(most);
         require(SERVERS.is_part(self.handed, &buf[..count]), Rule::Text)?;
         self.handed = self.handed.saturating_add(count as u32);
-        Ok(count)
-    }
-
-    /// A datagram comes.
-    fn hear(&mut self, bytes: &[u8], is_packet: bool) -> Kept {
-        let before = self.client.outcome();
-        self.client.on_packet(bytes);
-        self.base = self.base.or(opening(bytes));
-        let after = self.client.outcome();
-        require(before.is_none() || after == before, Rule::End)?;
-        require(is_packet || after == before, Rule::Silence)
-    }
-
-    /// A datagram comes, some bytes are accepted, and the turn ends.
-    fn meet(&mut self, bytes: &[u8], is_packet: bool, draws: &mut Draws, out: &mut Outbox) -> Kept {
-        let is_over = self.client.outcome().is_some();
-        self.hear(bytes, is_packet)?;
-        let count = self.accept_some(draws)?;
         self.flush(out);
         require(is_packet || count > 0 || out.is_empty(), Rule::Silence)?;
-        if !is_over {
+        if before.is_none() {
             check_leaving(out)?;
         }
         if draws.below(20) == 0 {
@@ -330,10 +302,16 @@ impl Target {
         Ok(())
     }
 
-    /// The client begins, and meets as many datagrams as one gets.
+    /// The client sends its SYN, gets the server's in three of four cases, and meets as many datagrams as one gets.
     fn meet_all(&mut self, draws: &mut Draws, out: &mut Outbox, tally: &mut Tally) {
-        self.begin(draws, out);
+        self.flush(out);
         let mut packet = [0u8; 1_500];
+        if draws.below(4) > 0 {
+            let len = syn_ack(&mut packet);
+            self.client.on_packet(&packet[..len]);
+            self.flush(out);
+            self.base = Some(Seq(SERVER_ISN));
+        }
         for _ in 0..AGE {
             let base = self.base.unwrap_or(Seq(SERVER_ISN));
             let known = Known {
@@ -354,21 +332,19 @@ impl Target {
 
 /// The rules on a packet that leaves.
 fn check_packet(bytes: &[u8]) -> Kept {
-    let sent = read_packet(bytes).map_err(|_| Rule::Packet)?;
-    let head = sent.head;
-    require(
-        head.src == CLIENT.ip && head.dst == SERVER.ip && head.dport == SERVER.port,
-        Rule::Packet,
-    )?;
+    let Ok(sent) = read_packet(bytes) else {
+        return Err(Rule::Packet);
+    };
+    let (head, text) = (sent.head, sent.payload);
     let first = head.seq.minus(Seq(ISN).add(1)) as usize;
-    let text = sent.payload;
-    require(
-        text.is_empty()
-            || SCRIPT
-                .get(first..)
-                .is_some_and(|rest| rest.starts_with(text)),
-        Rule::Script,
-    )
+    let rest = SCRIPT.get(first..).unwrap_or(b"");
+    require_all(&[
+        (
+            head.src == CLIENT.ip && head.dst == SERVER.ip && head.dport == SERVER.port,
+            Rule::Packet,
+        ),
+        (rest.starts_with(text), Rule::Script),
+    ])
 }
 
 /// The rules on what leaves.

@@ -1,7 +1,7 @@
 //! What must hold of a client whatever arrives.
 
 use peer_client::Phase;
-use test_data::{Draws, Pattern};
+use test_data::Pattern;
 
 /// A rule that a hostile datagram broke.
 #[derive(Clone, Copy, Debug)]
@@ -36,11 +36,4 @@ pub(crate) fn may_follow(before: Phase, after: Phase) -> bool {
         Phase::Established => after != Phase::New && after != Phase::Opening,
         Phase::Ended => after == Phase::Ended || after == Phase::Reset,
     }
-}
-
-/// Fills a datagram of 0 to 100 bytes with anything, and returns its length.
-pub(crate) fn anything(draws: &mut Draws, out: &mut [u8; 1_500]) -> usize {
-    let len = draws.below(101) as usize;
-    draws.fill(&mut out[..len]);
-    len
 }

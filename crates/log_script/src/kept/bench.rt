@@ -1,9 +1,7 @@
 //! A file in memory, and the log that is kept in it.
 
 use crate::kept::datagrams::long_data;
-use crate::kept::text::{
-    call_count, tell_bytes, tell_calls, tell_kept_entry, tell_log, tell_opening,
-};
+use crate::kept::text::{call_count, tell_calls, tell_kept_entry, tell_log, tell_opening};
 use crate::readers::two_numbers;
 use disk::{Death, MemDisk};
 use ft_io::NoMemory;
@@ -34,8 +32,9 @@ pub(crate) struct Bench {
 /// The death of a line.
 fn death_of(text: &str) -> Option<Death> {
     let (calls, rest) = text.split_once(' ')?;
-    let calls = calls.parse::<u32>().ok()?;
-    let (kept, put) = two_numbers(rest)?;
+    let (Ok(calls), Some((kept, put))) = (calls.parse::<u32>(), two_numbers(rest)) else {
+        return None;
+    };
     Some(Death {
         calls: calls as usize,
         kept: kept as usize,
@@ -101,18 +100,62 @@ impl Bench {
         }
     }
 
+    /// Plays a line on the file, and says what it prints.
+    pub(crate) fn play(
+        &mut self,
+        alloc: Global,
+        line: &str,
+        said: &mut Said,
+    ) -> Result<(), NoMemory> {
+        let (word, rest) = line.split_once(' ').unwrap_or((line, ""));
+        let played = match word {
+            "file" => self.set_file(alloc, rest, said),
+            "more" => self.lengthen(rest, said),
+            "open" => self.open(alloc, said),
+            "cuts" => self.open_cuts(alloc, said),
+            "flips" => self.open_flips(alloc, said),
+            "in" => self.take(alloc, rest, said),
+            "long" => self.take_long(alloc, rest, said),
+            "commit" => self.commit(alloc, said),
+            "death" => self.die(rest, said),
+            _ => {
+                self.set_or_tell(word, rest, said);
+                Ok(())
+            }
+        };
+        said.end_line();
+        played
+    }
+
+    /// Plays a line that wants no memory.
+    fn set_or_tell(&mut self, word: &str, rest: &str, said: &mut Said) {
+        match word {
+            "fail" => match two_numbers(rest) {
+                Some((read, call)) => {
+                    self.fails = Fails { read, call };
+                    write!(said, "fail {read} {call}");
+                }
+                None => said.add(b"no such line"),
+            },
+            "state" => match &self.log {
+                Some(log) => tell_log(log, said),
+                None => said.add(b"no log"),
+            },
+            "entry" => match (&self.log, rest.parse::<u16>()) {
+                (Some(log), Ok(place)) => tell_kept_entry(log.log(), place, said),
+                _ => said.add(b"no log"),
+            },
+            _ => said.add(b"no such line"),
+        }
+    }
+
     /// Says how long the next file is.
     fn tell_file(&self, said: &mut Said) {
         let len = self.file.len();
         write!(said, "file {len}");
     }
 
-    pub(crate) fn set_file(
-        &mut self,
-        alloc: Global,
-        text: &str,
-        said: &mut Said,
-    ) -> Result<(), NoMemory> {
+    fn set_file(&mut self, alloc: Global, text: &str, said: &mut Said) -> Result<(), NoMemory> {
         match bytes_of_hex(alloc, text)? {
             Some(file) => {
                 self.file = file;
@@ -123,7 +166,7 @@ impl Bench {
         Ok(())
     }
 
-    pub(crate) fn lengthen(&mut self, text: &str, said: &mut Said) -> Result<(), NoMemory> {
+    fn lengthen(&mut self, text: &str, said: &mut Said) -> Result<(), NoMemory> {
         let Some((count, byte)) = two_numbers(text) else {
             said.add(b"no such line");
             return Ok(());
@@ -135,17 +178,7 @@ impl Bench {
         Ok(())
     }
 
-    pub(crate) fn set_fails(&mut self, text: &str, said: &mut Said) {
-        match two_numbers(text) {
-            Some((read, call)) => {
-                self.fails = Fails { read, call };
-                write!(said, "fail {read} {call}");
-            }
-            None => said.add(b"no such line"),
-        }
-    }
-
-    pub(crate) fn open(&mut self, alloc: Global, said: &mut Said) -> Result<(), NoMemory> {
+    fn open(&mut self, alloc: Global, said: &mut Said) -> Result<(), NoMemory> {
         said.add(b"open ");
         let mut disk = disk_of(alloc, &self.file, self.fails)?;
         let opened = KeptLog::open(alloc, &mut disk);
@@ -156,7 +189,7 @@ impl Bench {
         told
     }
 
-    pub(crate) fn open_cuts(&self, alloc: Global, said: &mut Said) -> Result<(), NoMemory> {
+    fn open_cuts(&self, alloc: Global, said: &mut Said) -> Result<(), NoMemory> {
         said.add(b"cuts");
         for len in 0..=self.file.len() {
             write!(said, "\n{len} ");
@@ -166,7 +199,7 @@ impl Bench {
     }
 
     /// Opens the file with each of its bits changed in turn.
-    pub(crate) fn open_flips(&self, alloc: Global, said: &mut Said) -> Result<(), NoMemory> {
+    fn open_flips(&self, alloc: Global, said: &mut Said) -> Result<(), NoMemory> {
         said.add(b"flips");
         for at in 0..self.file.len() {
             for bit in 0..8u8 {
@@ -181,12 +214,7 @@ impl Bench {
         Ok(())
     }
 
-    pub(crate) fn take(
-        &mut self,
-        alloc: Global,
-        text: &str,
-        said: &mut Said,
-    ) -> Result<(), NoMemory> {
+    fn take(&mut self, alloc: Global, text: &str, said: &mut Said) -> Result<(), NoMemory> {
         let (datagram, log) = match (bytes_of_hex(alloc, text)?, &mut self.log) {
             (Some(datagram), Some(log)) => (datagram, log),
             (None, _) => {
@@ -211,12 +239,7 @@ impl Bench {
     }
 
     /// Gives the log long messages until its round is full, and at most as many as a line says.
-    pub(crate) fn take_long(
-        &mut self,
-        alloc: Global,
-        text: &str,
-        said: &mut Said,
-    ) -> Result<(), NoMemory> {
+    fn take_long(&mut self, alloc: Global, text: &str, said: &mut Said) -> Result<(), NoMemory> {
         let (Some(log), Ok(count)) = (&mut self.log, text.parse::<u32>()) else {
             said.add(b"no log");
             return Ok(());
@@ -233,7 +256,7 @@ impl Bench {
         Ok(())
     }
 
-    pub(crate) fn commit(&mut self, alloc: Global, said: &mut Said) -> Result<(), NoMemory> {
+    fn commit(&mut self, alloc: Global, said: &mut Said) -> Result<(), NoMemory> {
         let Some(log) = &mut self.log else {
             said.add(b"no log");
             return Ok(());
@@ -252,21 +275,7 @@ impl Bench {
         Ok(())
     }
 
-    pub(crate) fn state(&self, said: &mut Said) {
-        match &self.log {
-            Some(log) => tell_log(log, said),
-            None => said.add(b"no log"),
-        }
-    }
-
-    pub(crate) fn entry(&self, text: &str, said: &mut Said) {
-        match (&self.log, text.parse::<u16>()) {
-            (Some(log), Ok(place)) => tell_kept_entry(log.log(), place, said),
-            _ => said.add(b"no log"),
-        }
-    }
-
-    pub(crate) fn die(&mut self, text: &str, said: &mut Said) -> Result<(), NoMemory> {
+    fn die(&mut self, text: &str, said: &mut Said) -> Result<(), NoMemory> {
         let Some(death) = death_of(text) else {
             said.add(b"no such line");
             return Ok(());
@@ -274,7 +283,7 @@ impl Bench {
         self.file = self.disk.after_death(death)?;
         self.log = None;
         said.add(b"left ");
-        tell_bytes(&self.file, said);
+        said.brief(&self.file);
         Ok(())
     }
 }

@@ -1,6 +1,6 @@
 //! Long Data messages, of which a round has room for 256.
 
-use logger_wire::checksum_of;
+use test_data::seal;
 
 /// How long the longest message is, in bytes.
 const LONGEST: usize = 1_491;
@@ -8,7 +8,7 @@ const LONGEST: usize = 1_491;
 /// The Data message of the numbered piece of 1,460 bytes of the stream of the client at 192.0.2.1:40000: each byte is its place modulo 251.
 pub(crate) fn long_data(boot: u64, piece: u32) -> [u8; LONGEST] {
     let mut bytes = [0u8; LONGEST];
-    bytes[..6].copy_from_slice(&[70, 84, 1, 11, 5, 211]);
+    bytes[..4].copy_from_slice(&[70, 84, 1, 11]);
     bytes[8..16].copy_from_slice(&boot.to_be_bytes());
     bytes[16..22].copy_from_slice(&[192, 0, 2, 1, 156, 64]);
     let offset = piece.wrapping_mul(1_460);
@@ -16,7 +16,6 @@ pub(crate) fn long_data(boot: u64, piece: u32) -> [u8; LONGEST] {
     for (i, byte) in bytes[31..].iter_mut().enumerate() {
         *byte = (offset.wrapping_add(i as u32) % 251) as u8;
     }
-    let check = checksum_of(&bytes);
-    bytes[6..8].copy_from_slice(&check.to_be_bytes());
+    seal(&mut bytes[..]);
     bytes
 }

@@ -5,48 +5,32 @@ use disk::{DeskCall, DiskCall, MemDisk};
 use ft_io::NoMemory;
 use kept_log::{KeptLog, OpenEnd};
 use logger_store::LogStore;
-use test_data::{Said, hashed};
+use test_data::Said;
 
-/// Up to how many bytes are printed in full.
-const SHOWN: usize = 256;
-
-/// Says bytes in hexadecimal, or how many they are and their hash.
-pub(crate) fn tell_bytes(bytes: &[u8], said: &mut Said) {
-    if bytes.len() <= SHOWN {
-        return said.digits(bytes);
-    }
-    let (len, hash) = (bytes.len(), hashed(0, bytes));
-    write!(said, "{len} bytes {hash}");
-}
-
-/// Says a call that changes a file, after a semicolon.
-fn tell_call(call: &DiskCall, said: &mut Said) {
-    let failed = match call {
-        DiskCall::Appended(_, failed)
-        | DiskCall::Put(_, _, failed)
-        | DiskCall::Cut(_, failed)
-        | DiskCall::Synced(failed) => *failed,
-    };
-    said.add(if failed { b"; failed " } else { b"; " });
-    match call {
-        DiskCall::Appended(bytes, _) => {
-            said.add(b"append ");
-            tell_bytes(bytes.as_slice(), said);
-        }
-        DiskCall::Put(at, byte, _) => write!(said, "put {at} {byte}"),
-        DiskCall::Cut(at, _) => write!(said, "cut {at}"),
-        DiskCall::Synced(_) => said.add(b"sync"),
-    }
-}
-
-/// Says the calls on a disk from one of them on.
+/// Says the calls on a disk that change its file, from one of them on, each after a semicolon.
 pub(crate) fn tell_calls(disk: &MemDisk, from: usize, said: &mut Said) {
     let Some(calls) = disk.told() else {
         return said.add(b"; untold");
     };
     for call in calls.iter().skip(from) {
-        if let DeskCall::OnDisk(call) = call {
-            tell_call(call, said);
+        let DeskCall::OnDisk(call) = call else {
+            continue;
+        };
+        let failed = match call {
+            DiskCall::Appended(_, failed)
+            | DiskCall::Put(_, _, failed)
+            | DiskCall::Cut(_, failed)
+            | DiskCall::Synced(failed) => *failed,
+        };
+        said.add(if failed { b"; failed " } else { b"; " });
+        match call {
+            DiskCall::Appended(bytes, _) => {
+                said.add(b"append ");
+                said.brief(bytes.as_slice());
+            }
+            DiskCall::Put(at, byte, _) => write!(said, "put {at} {byte}"),
+            DiskCall::Cut(at, _) => write!(said, "cut {at}"),
+            DiskCall::Synced(_) => said.add(b"sync"),
         }
     }
 }

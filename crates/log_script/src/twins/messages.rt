@@ -2,8 +2,7 @@
 
 ghost use Rattle.std.specs.Prelude.{◌≡◌, ◌<◌, ◌≤◌, length};
 
-use seq_arith::Sum16;
-use test_data::Draws;
+use test_data::{Draws, seal};
 
 /// Room for the longest message that is drawn.
 pub(crate) const ROOM: usize = 64;
@@ -31,17 +30,6 @@ impl Draft {
             }
         }
     }
-
-    /// Puts the length and the checksum in their places.
-    fn seal(&mut self) {
-        let len = self.len.min(ROOM);
-        self.bytes[5] = len as u8;
-        let mut sum = Sum16::new();
-        sum.take(&self.bytes[..len]);
-        let check = sum.check().to_be_bytes();
-        self.bytes[6] = check[0];
-        self.bytes[7] = check[1];
-    }
 }
 
 /// The header of a message of a kind and a boot number, without its length and checksum.
@@ -64,47 +52,42 @@ pub(crate) fn any_message(draws: &mut Draws, bytes: &mut [u8; ROOM]) -> usize
     let draft = drawn(draws, kind, port);
     let message = draft.bytes;
     *bytes = message;
-    draft.len.min(ROOM)
+    let len = draft.len.min(ROOM);
+    seal(&mut bytes[..len]);
+    len
 }
 
-/// A message of a kind, of the connection with this port.
+/// A message of a kind, of the connection with this port, without its length and checksum.
 fn drawn(draws: &mut Draws, kind: u8, port: u32) -> Draft {
     if kind == 1 {
-        let mut draft = begin(1, 1 + (draws.below(8) / 7) as u8);
-        draft.seal();
-        return draft;
+        return begin(1, 1 + (draws.below(8) / 7) as u8);
     }
     let mut draft = begin(kind, 1);
     draft.put(0xC000_0201, 4);
     draft.put(port, 2);
     match kind {
-        9 => put_numbers(draws, &mut draft),
+        // The numbers of a connection.
+        9 => {
+            draft.put(draws.below(256), 4);
+            draft.put(draws.below(256), 4);
+            draft.put(536, 2);
+        }
         13 => {
             draft.put(draws.below(4), 4);
             draft.put(draws.below(8), 2);
         }
         5 => draft.put(draws.below(16), 4),
         7 => draft.put(draws.below(4), 4),
-        11 => put_data(draws, &mut draft),
+        // A part of a stream.
+        11 => {
+            draft.put(draws.below(16), 4);
+            draft.put(draws.below(64), 4);
+            draft.put(draws.below(8) / 7, 1);
+            for _more in 0..draws.below(12) {
+                draft.put(97 + draws.below(26), 1);
+            }
+        }
         _ => (),
     }
-    draft.seal();
     draft
-}
-
-/// The numbers of a connection.
-fn put_numbers(draws: &mut Draws, draft: &mut Draft) {
-    draft.put(draws.below(256), 4);
-    draft.put(draws.below(256), 4);
-    draft.put(536, 2);
-}
-
-/// A part of a stream.
-fn put_data(draws: &mut Draws, draft: &mut Draft) {
-    draft.put(draws.below(16), 4);
-    draft.put(draws.below(64), 4);
-    draft.put(draws.below(8) / 7, 1);
-    for _more in 0..draws.below(12) {
-        draft.put(97 + draws.below(26), 1);
-    }
 }

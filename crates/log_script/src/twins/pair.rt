@@ -27,12 +27,6 @@ impl Pair {
         })
     }
 
-    /// Begins with a new head and a new tail. Where memory is refused the old ones stay.
-    pub(crate) fn begin_anew(&mut self, alloc: Global) -> Result<(), NoMemory> {
-        *self = Pair::new(alloc)?;
-        Ok(())
-    }
-
     pub(crate) fn logger(&self, part: Part) -> &TwinLog {
         match part {
             Part::Head => &self.head,

@@ -35,15 +35,6 @@ impl Tally {
     }
 }
 
-/// To which part a server's message is sent: mostly the head, and the tail once the head has stopped.
-fn part_asked(draws: &mut Draws, pair: &Pair) -> Part {
-    if pair.stopped() == Some(Part::Head) || draws.below(16) == 0 {
-        Part::Tail
-    } else {
-        Part::Head
-    }
-}
-
 /// The place of what is delivered to a part of so many datagrams, from 0: mostly the next in order, now and then without the one before it, and
 /// else any.
 fn place_of(draws: &mut Draws, pair: &mut Pair, part: Part, count: u32) -> usize
@@ -101,7 +92,12 @@ fn deliver_one(
         return Ok(());
     }
     if kind < 8 {
-        let part = part_asked(draws, pair);
+        // A server's message is sent to the head mostly, and to the tail once the head has stopped.
+        let part = if pair.stopped() == Some(Part::Head) || draws.below(16) == 0 {
+            Part::Tail
+        } else {
+            Part::Head
+        };
         let mut bytes = [0; ROOM];
         let len = any_message(draws, &mut bytes);
         return pair.deliver(alloc, part, Side::Server, &bytes[..len], out);
@@ -135,7 +131,14 @@ fn play_list(
 fn numbers(text: &str) -> Option<(u32, u32, u64)> {
     let (count, rest) = text.split_once(' ')?;
     let (len, seed) = rest.split_once(' ')?;
-    Some((count.parse().ok()?, len.parse().ok()?, seed.parse().ok()?))
+    let (Ok(count), Ok(len), Ok(seed)) = (
+        count.parse::<u32>(),
+        len.parse::<u32>(),
+        seed.parse::<u64>(),
+    ) else {
+        return None;
+    };
+    Some((count, len, seed))
 }
 
 /// Plays one list with a new pair.

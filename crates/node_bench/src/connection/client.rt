@@ -1,6 +1,6 @@
 //! A client: an endpoint whose user writes a stream and compares what comes back. One segment is under way at a time.
 
-use crate::connection::server::SERVER;
+use crate::SERVER;
 use crate::logger::CLIENT_ISN;
 use ft_io::{Addr, Key, NoMemory};
 use segment_codec::read_packet;
@@ -70,28 +70,15 @@ impl Client {
         self.segments = self.segments.saturating_add(out.len() as u64);
     }
 
-    /// The user's turn: what came is read and answered.
+    /// The user's turn: what came back is read, and the next bytes are written where all came back. After the last the user closes.
     pub(crate) fn turn(&mut self) {
-        self.compare();
-        if self.written == self.echoed {
-            self.write_more();
-        }
-    }
-
-    pub(crate) fn tick(&mut self) {
-        self.endpoint.on_tick();
-    }
-
-    /// Reads what came back.
-    fn compare(&mut self) {
         let count = self.endpoint.read(&mut self.buf);
         let expected = self.pattern.part(self.echoed, count);
         self.differs = self.differs || &self.buf[..count] != expected;
         self.echoed = self.echoed.saturating_add(count as u32);
-    }
-
-    /// Writes the next bytes, or closes after the last.
-    fn write_more(&mut self) {
+        if self.written != self.echoed {
+            return;
+        }
         let left = self.work.bytes.saturating_sub(self.written);
         if left == 0 {
             self.endpoint.close();
@@ -102,6 +89,10 @@ impl Client {
             .part(self.written, self.work.write.min(left as usize));
         let count = self.endpoint.write(next);
         self.written = self.written.saturating_add(count as u32);
+    }
+
+    pub(crate) fn tick(&mut self) {
+        self.endpoint.on_tick();
     }
 
     /// Whether all bytes came back as they were written, and the connection is closed.

@@ -3,20 +3,16 @@
 ghost use Rattle.std.specs.Prelude.{◌<◌, length, IfOk, OnOk};
 ghost use Rattle.wrapped_conn.specs.Sound.{IsSound};
 
+use crate::SERVER;
 use crate::connection::client::Client;
 use crate::logger::{BOOT, CLIENT_ISN, Logger, MSS, SERVER_ISN};
-use ft_io::{Addr, Key, NoMemory};
+use ft_io::{Key, NoMemory};
 use logger_wire::read_msg;
 use sample_servers::Echo;
 use segment_codec::read_packet;
 use std::alloc::Global;
 use tcp_endpoint::Outbox;
 use wrapped_conn::{Conn, ConnStage, TurnOut};
-
-pub(crate) const SERVER: Addr = Addr {
-    ip: 0xC000_0264,
-    port: 7,
-};
 
 /// The kind of the echo service.
 const ECHO: u8 = 1;

@@ -1,6 +1,7 @@
 //! Two connected endpoints that hand their packets to one another, and their users. A user's turn is: what came is taken, read and
 //! answered, and the turn's segments go out. One segment is under way at a time, and it acknowledges the one before; or a window of them is.
 
+use crate::SERVER;
 use ft_io::{Addr, NoMemory};
 use segment_codec::read_packet;
 use seq_arith::Seq;
@@ -12,11 +13,6 @@ use test_data::PatternTable;
 const CLIENT: Addr = Addr {
     ip: 0xC000_0201,
     port: 40_000,
-};
-
-const SERVER: Addr = Addr {
-    ip: 0xC000_0264,
-    port: 7,
 };
 
 /// The right edge of a connection's receive window never passes this many bytes.
@@ -42,11 +38,6 @@ pub(crate) enum Way {
 }
 
 impl Way {
-    /// The bytes that may be under way before the next write.
-    fn window(self) -> u32 {
-        if self == Way::Single { 1 } else { WINDOW }
-    }
-
     /// The most reads and writes of a turn.
     fn calls(self) -> u32 {
         if self == Way::Single { 1 } else { 45 }
@@ -168,10 +159,16 @@ impl Exchange {
             self.client_turn();
             self.server_turn();
             if self.client.out.is_empty() && self.server.out.is_empty() {
-                if self.way != Way::Lossy || self.is_over() || self.ticks >= TICKS {
+                // Both ends have closed, and the client's wait is all that is left.
+                let client = self.client.state().name;
+                let is_over = self.server.state().name == StateName::Closed
+                    && (client == StateName::TimeWait || client == StateName::Closed);
+                if self.way != Way::Lossy || is_over || self.ticks >= TICKS {
                     break;
                 }
-                self.tick();
+                self.ticks = self.ticks.wrapping_add(1);
+                self.client.endpoint.on_tick();
+                self.server.endpoint.on_tick();
             }
         }
         for _ in 0..4 {
@@ -180,73 +177,47 @@ impl Exchange {
         }
     }
 
-    /// A tick passes at both ends.
-    fn tick(&mut self) {
-        self.ticks = self.ticks.wrapping_add(1);
-        self.client.endpoint.on_tick();
-        self.server.endpoint.on_tick();
-    }
-
-    /// Whether both ends have closed, and the client's wait is all that is left.
-    fn is_over(&self) -> bool {
-        let client = self.client.state().name;
-        self.server.state().name == StateName::Closed
-            && (client == StateName::TimeWait || client == StateName::Closed)
-    }
-
+    /// Reads what came back, and writes the next bytes, or closes after the last.
     fn client_turn(&mut self) {
         self.client.hear(&self.server.out, self.way);
         for _ in 0..self.way.calls() {
-            if self.compare() == 0 {
+            let count = self.client.endpoint.read(&mut self.buf);
+            let expected = self.pattern.part(self.echoed, count);
+            self.differs = self.differs || &self.buf[..count] != expected;
+            self.echoed = self.echoed.saturating_add(count as u32);
+            if count == 0 {
                 break;
             }
         }
+        // The bytes that may be under way before the next write.
+        let window = if self.way == Way::Single { 1 } else { WINDOW };
         for _ in 0..self.way.calls() {
-            if self.written.saturating_sub(self.echoed) >= self.way.window() {
+            if self.written.saturating_sub(self.echoed) >= window {
                 break;
             }
-            self.write_more();
+            let left = self.bytes.saturating_sub(self.written);
+            if left == 0 {
+                self.client.endpoint.close();
+                continue;
+            }
+            let next = self
+                .pattern
+                .part(self.written, self.write.min(left as usize));
+            let count = self.client.endpoint.write(next);
+            self.written = self.written.saturating_add(count as u32);
         }
         self.client.flush();
     }
 
-    /// Reads what came back. How many bytes that are.
-    fn compare(&mut self) -> usize {
-        let count = self.client.endpoint.read(&mut self.buf);
-        let expected = self.pattern.part(self.echoed, count);
-        self.differs = self.differs || &self.buf[..count] != expected;
-        self.echoed = self.echoed.saturating_add(count as u32);
-        count
-    }
-
-    /// Writes the next bytes, or closes after the last.
-    fn write_more(&mut self) {
-        let left = self.bytes.saturating_sub(self.written);
-        if left == 0 {
-            self.client.endpoint.close();
-            return;
-        }
-        let next = self
-            .pattern
-            .part(self.written, self.write.min(left as usize));
-        let count = self.client.endpoint.write(next);
-        self.written = self.written.saturating_add(count as u32);
-    }
-
-    /// Echoes what came, as far as there is room to write it. How many bytes that are.
-    fn echo(&mut self) -> usize {
-        let room = self.server.endpoint.room().min(1_460);
-        let buf = &mut self.buf[..];
-        let count = self.server.endpoint.read(&mut buf[..room]).min(1_460);
-        let _written = self.server.endpoint.write(&self.buf[..count]);
-        count
-    }
-
-    /// Echoes all that came, and closes after the peer's end.
+    /// Echoes all that came, as far as there is room to write it, and closes after the peer's end.
     fn server_turn(&mut self) {
         self.server.hear(&self.client.out, self.way);
         for _ in 0..self.way.calls() {
-            if self.echo() == 0 {
+            let room = self.server.endpoint.room().min(1_460);
+            let buf = &mut self.buf[..];
+            let count = self.server.endpoint.read(&mut buf[..room]).min(1_460);
+            let _written = self.server.endpoint.write(&self.buf[..count]);
+            if count == 0 {
                 break;
             }
         }

@@ -2,7 +2,8 @@
 
 ghost use Rattle.std.specs.Prelude.{◌≡◌, ◌≤◌, None};
 
-use ft_io::{Addr, Key, NoMemory};
+use crate::{CLIENT, SERVER};
+use ft_io::NoMemory;
 use logger_store::{LogStore, MsgOut};
 use logger_wire::read_msg;
 use sample_servers::AnyService;
@@ -12,18 +13,6 @@ use server_node::{Input, Node, OutPacket, To};
 use std::alloc::Global;
 use tcp_endpoint::Outbox;
 use wrapped_conn::Inside;
-
-/// The server's address.
-const LOCAL: Addr = Addr {
-    ip: 0xC000_0264,
-    port: 7,
-};
-
-/// The clients' address, and the port of the first.
-const CLIENTS: Key = Key {
-    ip: 0xC000_0201,
-    port: 40_000,
-};
 
 /// The clients' initial sequence number, and that from which the server's are counted.
 const CLIENT_ISN: Seq = Seq(1_000);
@@ -82,7 +71,7 @@ impl Host {
         Ok(Host {
             kind,
             letters: Outbox::new(alloc)?,
-            node: Node::boot(alloc, 1, SERVER_ISN, kind, LOCAL)?,
+            node: Node::boot(alloc, 1, SERVER_ISN, kind, SERVER)?,
             log: LogStore::new(alloc),
             answer: MsgOut::new(),
             counts: Counts::NONE,
@@ -169,7 +158,7 @@ impl Host {
 
     /// The numbers of the first client's connection.
     pub(crate) fn first(&self) -> Option<Inside> {
-        match self.node.conn(CLIENTS) {
+        match self.node.conn(CLIENT) {
             Some(conn) => Some(conn.inside()),
             None => None,
         }
@@ -231,10 +220,10 @@ fn head_of(i: u16, place: u32, acked: u32, flags: u8) -> Head
     ensures { result.mss ≡ None }
 {
     Head {
-        src: CLIENTS.ip,
-        dst: LOCAL.ip,
-        sport: CLIENTS.port.saturating_add(i),
-        dport: LOCAL.port,
+        src: CLIENT.ip,
+        dst: SERVER.ip,
+        sport: CLIENT.port.saturating_add(i),
+        dport: SERVER.port,
         seq: CLIENT_ISN.add(place),
         ack: Seq(SERVER_ISN)
             .add(STRIDE.wrapping_mul(u32::from(i)))

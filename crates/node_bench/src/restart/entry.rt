@@ -2,18 +2,13 @@
 
 ghost use Rattle.std.specs.Prelude.{◌≤◌, ◌+◌, ◌^◌, length};
 
-use crate::STREAM;
 use crate::logger::{BOOT, Logger};
-use ft_io::{Key, NoMemory};
+use crate::{CLIENT, STREAM};
+use ft_io::NoMemory;
 use logger_wire::{Body, MarkBody, MarkMsg, Msg};
 use sample_servers::AnyService;
 use server_trait::Service;
 use std::alloc::Global;
-
-const KEY: Key = Key {
-    ip: 0xC000_0201,
-    port: 40_000,
-};
 
 /// The most bytes of a Data.
 const DATA: u32 = 1_460;
@@ -28,7 +23,7 @@ pub(crate) fn fill(
     requires bytes { bytes ≤ 2 ^ 24 }
     requires read { read ≤ 2048 }
 {
-    logger.open(alloc, KEY)?;
+    logger.open(alloc, CLIENT)?;
     let text = [b'a'; 1_460];
     for i in 0..bytes.div_ceil(DATA) {
         let offset = i * DATA;
@@ -61,7 +56,7 @@ fn give_bytes(alloc: Global, logger: &mut Logger, offset: u32, bytes: &[u8]) -> 
     requires within { offset + length bytes.now ≤ 2 ^ 24 }
 {
     let body = Body::DataMsg {
-        key: KEY,
+        key: CLIENT,
         offset,
         acked: STREAM,
         fin: 0,
@@ -76,7 +71,7 @@ fn give_read(alloc: Global, logger: &mut Logger, index: u32, len: u32) -> Result
     requires len { len ≤ 2048 }
 {
     let body = Body::ReadMsg {
-        key: KEY,
+        key: CLIENT,
         index,
         length: len as u16,
     };
@@ -96,7 +91,7 @@ pub(crate) fn mark(
 {
     let output = output_of(alloc, kind, read)?;
     let body = MarkBody::Mark {
-        key: KEY,
+        key: CLIENT,
         reads: reads.max(1).min(STREAM),
         length: reads.saturating_mul(u32::from(read)).min(STREAM),
         made: reads.saturating_mul(output).min(STREAM),

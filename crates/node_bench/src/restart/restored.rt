@@ -3,21 +3,17 @@
 ghost use Rattle.std.specs.Prelude.{◌≤◌, IfSome};
 ghost use Rattle.reincarnate.specs.Marking.{IsAnySendable};
 
+use crate::SERVER;
 use crate::logger::Logger;
-use ft_io::{Addr, NoMemory};
+use ft_io::NoMemory;
 use logger_wire::{Body, Msg, read_mark, read_msg};
-use reincarnate::{AnyMsg, Asked, Entries, Fetching, LostIn, Replayed};
+use reincarnate::{AnyMsg, Asked, Entries, Fetching, Replayed};
 use sample_servers::AnyService;
 use seq_arith::Seq;
 use std::alloc::Global;
 
-/// The server's initial sequence number, and its address.
+/// The server's initial sequence number.
 const ISN: Seq = Seq(900_000);
-
-const LOCAL: Addr = Addr {
-    ip: 0xC000_0264,
-    port: 7,
-};
 
 /// More questions than any log here needs.
 const QUESTIONS: u32 = 100_000;
@@ -38,10 +34,6 @@ impl Restored {
         pending: 0,
         delta: 0,
     };
-}
-
-fn lost(_lost: LostIn) -> NoMemory {
-    NoMemory
 }
 
 /// Restarts a server of this boot number from the log, and from its marks if it has marks.
@@ -70,7 +62,7 @@ pub(crate) fn restart(
     let marks = logger.has_marks();
     match asked.on_summary(alloc, kind, count, marks) {
         Ok(fetching) => restore(alloc, logger, fetching, boot, restored),
-        Err(end) => Err(lost(end)),
+        Err(_) => Err(NoMemory),
     }
 }
 
@@ -151,13 +143,13 @@ fn join(
     requires { 1 ≤ boot }
 {
     let pending = replayed.pending().len();
-    match replayed.splice(alloc, boot, LOCAL, ISN) {
+    match replayed.splice(alloc, boot, SERVER, ISN) {
         Ok(spliced) => {
             restored.connections = restored.connections.saturating_add(1);
             restored.pending = pending;
             restored.delta = spliced.south().delta();
             Ok(())
         }
-        Err(end) => Err(lost(end)),
+        Err(_) => Err(NoMemory),
     }
 }

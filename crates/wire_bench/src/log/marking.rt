@@ -3,9 +3,9 @@
 ghost use Rattle.std.specs.Prelude.{◌≤◌, ◌+◌, ◌^◌, length};
 ghost use Rattle.logger_wire.specs.Value.{IsSendable};
 
-use crate::log::KEY;
+use crate::CLIENT;
+use crate::log::{hello, opening};
 use anyhow::{Context, Result, bail, ensure};
-use ft_io::NoMemory;
 use logger_store::MsgOut;
 use logger_wire::{Body, MarkBody, MarkMsg, Msg, write_mark, write_msg};
 use mark_store::MarkStore;
@@ -27,60 +27,43 @@ struct Talk {
     log: MarkStore,
     datagram: [u8; 2_048],
     out: MsgOut,
+    /// Whether the log was refused memory for a message.
+    is_lost: bool,
 }
 
 impl Talk {
     /// Spells a message, and gives it to the log.
-    fn say(&mut self, alloc: Global, m: &Msg<'_>) -> Result<(), NoMemory>
+    fn say(&mut self, alloc: Global, m: &Msg<'_>)
         requires { IsSendable m.now }
     {
         let len = write_msg(m, &mut self.datagram).min(2_048);
-        self.log.answer(alloc, &self.datagram[..len], &mut self.out)
+        let taken = self.log.answer(alloc, &self.datagram[..len], &mut self.out);
+        self.is_lost = self.is_lost || taken.is_err();
     }
-}
-
-/// Opens a connection in the log.
-#[tactic(auto, unfolding(seq_arith::specs::MessageGrammar::has_length, seq_arith::specs::MessageGrammar::is_sound))]
-fn open(alloc: Global, talk: &mut Talk) -> Result<(), NoMemory> {
-    talk.say(
-        alloc,
-        &Msg {
-            boot: 1,
-            body: Body::HelloMsg,
-        },
-    )?;
-    let body = Body::OpenMsg {
-        key: KEY,
-        cisn: 1_000,
-        sisn: 5_000,
-        mss: 1_460,
-    };
-    talk.say(alloc, &Msg { boot: 1, body })
 }
 
 /// The bytes for the reads up to the next mark, and these reads.
 #[tactic(auto, unfolding(seq_arith::specs::MessageGrammar::has_length, seq_arith::specs::MessageGrammar::is_sound))]
-fn give_reads(alloc: Global, talk: &mut Talk, first: u32) -> Result<(), NoMemory>
+fn give_reads(alloc: Global, talk: &mut Talk, first: u32)
     requires { first + 64 ≤ 2 ^ 20 }
 {
     let text = [b'a'; 1_024];
     let body = Body::DataMsg {
-        key: KEY,
+        key: CLIENT,
         offset: 16 * first,
         acked: 0,
         fin: 0,
         bytes: &text,
     };
-    talk.say(alloc, &Msg { boot: 1, body })?;
+    talk.say(alloc, &Msg { boot: 1, body });
     for i in 0..EVERY {
         let body = Body::ReadMsg {
-            key: KEY,
+            key: CLIENT,
             index: first + i,
             length: if i % 2 == 0 { 15 } else { 17 },
         };
-        talk.say(alloc, &Msg { boot: 1, body })?;
+        talk.say(alloc, &Msg { boot: 1, body });
     }
-    Ok(())
 }
 
 /// The bytes of a mark of so many reads, and how many they are.
@@ -90,7 +73,7 @@ fn mark_after(reads: u32, datagram: &mut [u8; 2_048]) -> usize
     ensures { result ≤ 2048 }
 {
     let body = MarkBody::Mark {
-        key: KEY,
+        key: CLIENT,
         reads,
         length: 16 * reads,
         made: 0,
@@ -140,6 +123,7 @@ pub(crate) fn run_marks<C: Clock>(clock: &C, alloc: Global, words: &[&str]) -> R
             log: MarkStore::new(alloc),
             datagram: [0; 2_048],
             out: MsgOut::new(),
+            is_lost: false,
         };
         give_marks(clock, alloc, &mut talk, reads / EVERY, &mut seen)?;
     }
@@ -156,10 +140,10 @@ fn give_marks<C: Clock>(
 ) -> Result<()>
     requires { marks ≤ 2 ^ 14 }
 {
-    ensure!(open(alloc, talk).is_ok(), "no memory");
+    talk.say(alloc, &hello());
+    talk.say(alloc, &opening());
     for i in 0..marks {
-        let given = give_reads(alloc, talk, EVERY * i);
-        ensure!(given.is_ok(), "no memory");
+        give_reads(alloc, talk, EVERY * i);
         seen.kept = seen.kept.max(talk.log.kept(0));
         let took = time_mark(clock, alloc, talk, EVERY * (i + 1))?;
         if i < TIMED {
@@ -169,5 +153,6 @@ fn give_marks<C: Clock>(
             seen.last = seen.last.min(took);
         }
     }
+    ensure!(!talk.is_lost, "no memory");
     Ok(())
 }

@@ -3,7 +3,8 @@
 ghost use Rattle.std.specs.Prelude.{◌≤◌, ◌<◌, ◌+◌, ◌^◌, length};
 ghost use Rattle.logger_wire.specs.Value.{IsSendable};
 
-use crate::log::KEY;
+use crate::CLIENT;
+use crate::log::{hello, opening};
 use anyhow::{Context, Result, bail, ensure};
 use ft_io::NoMemory;
 use logger_store::{LogStore, MsgOut};
@@ -26,7 +27,7 @@ pub(crate) fn run_twins(alloc: Global, words: &[&str]) -> Result<Tally> {
     let burst: u32 = burst.parse().context("BURST")?;
     ensure!(count <= MESSAGES, "COUNT is at most 100,000");
     let said = if *who == "one" {
-        to_one(alloc, count)
+        give_all(alloc, &mut LogStore::new(alloc), count)
     } else {
         to_pair(alloc, count, burst)
     };
@@ -76,24 +77,12 @@ fn spelled(m: &Msg<'_>) -> Datagram
 }
 
 /// The message of a place: Hello, Open, and then Data of 100 bytes, one after another.
-#[tactic(auto, unfolding(seq_arith::specs::MessageGrammar::has_length, seq_arith::specs::MessageGrammar::is_sound))]
 fn message(i: u32) -> Datagram
     requires { i < 100002 }
 {
     match i {
-        0 => spelled(&Msg {
-            boot: 1,
-            body: Body::HelloMsg,
-        }),
-        1 => spelled(&Msg {
-            boot: 1,
-            body: Body::OpenMsg {
-                key: KEY,
-                cisn: 1_000,
-                sisn: 5_000,
-                mss: 1_460,
-            },
-        }),
+        0 => spelled(&hello()),
+        1 => spelled(&opening()),
         _ => data(i - 2),
     }
 }
@@ -106,7 +95,7 @@ fn data(i: u32) -> Datagram
     spelled(&Msg {
         boot: 1,
         body: Body::DataMsg {
-            key: KEY,
+            key: CLIENT,
             offset: i * DATA,
             acked: 0,
             fin: 0,
@@ -115,14 +104,7 @@ fn data(i: u32) -> Datagram
     })
 }
 
-/// Gives one log the messages.
-fn to_one(alloc: Global, count: u32) -> Result<Tally, NoMemory>
-    requires { count ≤ 100000 }
-{
-    give_all(alloc, &mut LogStore::new(alloc), count)
-}
-
-/// .. this one, which is empty.
+/// Gives one log, which is empty, the messages.
 fn give_all(alloc: Global, log: &mut LogStore, count: u32) -> Result<Tally, NoMemory>
     requires { count ≤ 100000 }
 {
