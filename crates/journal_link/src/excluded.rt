@@ -2,6 +2,7 @@
 //! false. It is proved from the other's contract alone, so it is no longer proved once that contract lets the wrong body pass.
 
 ghost use Rattle.std.specs.Prelude.{◌≡◌, Some, map, string_bytes};
+ghost use Rattle.journal_parts.specs.Outcome.{MayEnd};
 ghost use Rattle.journal_parts.specs.Words.{journal_of};
 ghost use Rattle.journal_parts.specs.declared.role.JournalRole.{JournalRole};
 
@@ -11,7 +12,7 @@ use ft_io::{Link, Sink, Source, Spawner};
 use link_parts::Status;
 use std::alloc::Global;
 
-/// The words of a logger with a journal start one, which calls the desk, and neither link, input nor children: the clause `alone` of `node_with`.
+/// The words of a logger with a journal start one, and it ends with a status of such a logger: the clause `kept` of `node_with`.
 fn keeps_no_journal<L: Link, I: Source, O: Sink, E: Sink, P: Spawner, K: Desk>(
     alloc: Global,
     words: &[String],
@@ -22,8 +23,7 @@ fn keeps_no_journal<L: Link, I: Source, O: Sink, E: Sink, P: Spawner, K: Desk>(
     kids: &mut P,
     desk: &mut K,
 ) -> Status
-    ensures { (role : JournalRole) → journal_of (map string_bytes words.now) ≡ Some role
-        → (link.new ≡ link.old) × (input.new ≡ input.old) × (kids.new ≡ kids.old) }
+    ensures { (role : JournalRole) → journal_of (map string_bytes words.now) ≡ Some role → MayEnd result.code }
 {
     node_with(alloc, words, link, input, out, err, kids, desk)
 }
