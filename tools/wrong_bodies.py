@@ -35,8 +35,8 @@ HEAD = """# What stands for each wrong body
 - *nothing*: the tool alone tries it. The clause that its first line names is proved, as all are, and what it says is compared with nothing.
 
 Of each function it was seen that it isn't proved once its clause is taken out or weakened, unless the last column says otherwise. The gate refused each edit that a
-function stands for on 30 November 2026, when it still tried them; those of `schedule_text` and `plain_world` and `takes_every_word_for_a_run` it had refused on
-earlier days.
+function stands for on 30 November 2026, when it still tried them; those of `schedule_text` and `plain_world`, `takes_every_word_for_a_run` and
+`a_stray_packet_counts` it had refused earlier.
 """
 
 
