@@ -14,6 +14,7 @@ mod files;
 mod links;
 mod memory;
 mod processes;
+mod queues;
 mod reading;
 mod sockets;
 mod streams;
@@ -59,6 +60,7 @@ fn play<R: Net + Clock + Files<File = File> + Processes>(
         "unbound" => links::send_two(alloc, rest, true, said),
         "bind" => links::bind_three(alloc, rest, said),
         "process" => processes::run_three(system, alloc, said),
+        "queues" => queues::echo_thrice(alloc, said),
         "clock" => ticks::by_the_list(system, alloc, rest, said),
         _ => {
             play_system(system, line, said);

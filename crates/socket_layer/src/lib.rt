@@ -7,8 +7,6 @@ ghost use Rattle.std.specs.Prelude.{◌≡◌, ℕ, ◌-◌, ◌==◌, ◌&&◌,
 pub use mem_socket::MemSocket;
 
 mod mem_socket;
-#[cfg(test)]
-mod tests;
 
 /// A connection's two queues. Lengths and rooms are in bytes.
 pub trait Socket {

@@ -1,4 +1,4 @@
-//! A socket in memory, for tests of code that uses a socket: what the peer sent is given, and what is written to the peer is stored.
+//! A socket in memory, for cases of code that uses a socket: what the peer sent is given, and what is written to the peer is stored.
 
 ghost use Rattle.std.specs.Prelude.{◌≡◌, ◌-◌, ◌==◌, ◌&&◌, ◌++◌, [], false, length, min, take, drop, IfOk};
 
