@@ -74,7 +74,7 @@ true_after service start trace j =
       faithful_goes_on service (script_of start) (isn_of start) before sent after (short_scripts start s) o.0.1 o.1 h,
     )) trace j
 
-fit_acknowledges : (script : Key → List ℕ) (isn : Key → ℕ) (log : Log) (clients : List Client) (packet : Packet) → AllByRecursion (ClientFits script isn) clients
+pub fit_acknowledges : (script : Key → List ℕ) (isn : Key → ℕ) (log : Log) (clients : List Client) (packet : Packet) → AllByRecursion (ClientFits script isn) clients
     → IsFit script isn log packet → AcknowledgesLogged log clients packet
 fit_acknowledges script isn log clients (To_client segment) a f = λ ack rst.
     all_weaker (ClientFits script isn) _ clients

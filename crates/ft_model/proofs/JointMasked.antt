@@ -100,7 +100,7 @@ received_seen service script log c segment k speaks s =
 abbrev pub AllSee : {State : Type 0} → Machine State → (Key → List ℕ) → World → Type 0
 AllSee service script w = AllByRecursion (IsSeen service script w.log) w.clients
 
-sees_on : {State : Type 0} (service : Machine State) (script : Key → List ℕ) (before : World) (sent : List Packet) (after : World)
+pub sees_on : {State : Type 0} (service : Machine State) (script : Key → List ℕ) (before : World) (sent : List Packet) (after : World)
     → HasAuthor service script before → AllSee service script before → Happened service before sent after → AllSee service script after
 sees_on service script before sent after a s (log_heard message under t e) =
     subst (AllSee service script) (sym e)
