@@ -16,16 +16,16 @@ use Rattle.ft_model.specs.declared.schedule.ClientLine.{ClientLine}
 use Rattle.ft_model.specs.declared.schedule.Schedule.{Schedule}
 use Rattle.ft_model.specs.Client.{Client}
 use Rattle.ft_model.specs.Log.{Entry}
-use Rattle.ft_model.specs.World.{World, Moment}
+use Rattle.ft_model.specs.World.{World}
 use Rattle.ft_model.specs.Texts.{spaced, line, address_text, key_text, hex_text, service_text, script_text, phase_text}
-use Rattle.ft_model.specs.Report.{schedule_line, schedule_lines, twin_line, marks_line, header, event_lines, phase_line, client_line, client_lines, entry_line, log_line, end_line, closing_lines}
+use Rattle.ft_model.specs.Report.{schedule_line, schedule_lines, twin_line, marks_line, header, phase_line, client_line, client_lines, entry_line, log_line, end_line, closing_lines}
 use Rattle.ft_model.specs.Readable.{IsWord, FitsU64, FitsOption, FitsKey, FitsScript, FitsClient, FitsSchedule}
 use Rattle.ft_model.proofs.ReportWords.{cut, all_append, IsDigit, digits_decimal, word_decimal}
 use Rattle.ft_model.proofs.ReportParts.{address_same}
 use Rattle.ft_model.proofs.ReportContent.{lit, word_key, word_encoded}
 use Rattle.ft_model.proofs.ReportPackets.{key_same}
 use Rattle.ft_model.proofs.ReportLines.{mark, verb, line_cut, numbered_cut, numbered_then}
-use Rattle.ft_model.proofs.ReportTurns.{NoPacket, NoEvent, events_lead}
+use Rattle.ft_model.proofs.ReportTurns.{NoPacket, NoEvent, Telling, lines_of, events_lead}
 
 -- services and scripts
 word_service : (k : ServiceKind) → IsWord (service_text k)
@@ -276,17 +276,17 @@ pub closing_ends : (w : World) (n : ℕ) → IsClosing (closing_lines w n)
 closing_ends w n = ends w.clients w.log.entries n
 
 -- after the header stands an event's line, or how the run ends
-pub no_client : (clients : List Client) (trace : List Moment) (r : List ℕ) → NoClient r → NoClient (event_lines clients trace ++ r)
-no_client clients [] r h = h
-no_client clients (m ∷ earlier) r h = let at = events_lead clients m earlier r in other_mark (event_lines clients (m ∷ earlier) ++ r) (λ f. omega (arith, at, f))
+pub no_client : {Turn Told : Type 0} (by : Telling Turn Told) (turns : List Turn) (r : List ℕ) → NoClient r → NoClient (lines_of by turns ++ r)
+no_client by [] r h = h
+no_client by (m ∷ earlier) r h = let at = events_lead by m earlier r in other_mark (lines_of by (m ∷ earlier) ++ r) (λ f. omega (arith, at, f))
 
-pub no_twin : (clients : List Client) (trace : List Moment) (r : List ℕ) → NoTwin r → NoTwin (event_lines clients trace ++ r)
-no_twin clients [] r h = h
-no_twin clients (m ∷ earlier) r h = let at = events_lead clients m earlier r in λ f. omega (arith, at, f)
+pub no_twin : {Turn Told : Type 0} (by : Telling Turn Told) (turns : List Turn) (r : List ℕ) → NoTwin r → NoTwin (lines_of by turns ++ r)
+no_twin by [] r h = h
+no_twin by (m ∷ earlier) r h = let at = events_lead by m earlier r in λ f. omega (arith, at, f)
 
-pub no_marks : (clients : List Client) (trace : List Moment) (r : List ℕ) → NoMarks r → NoMarks (event_lines clients trace ++ r)
-no_marks clients [] r h = h
-no_marks clients (m ∷ earlier) r h = let at = events_lead clients m earlier r in λ f. omega (arith, at, f)
+pub no_marks : {Turn Told : Type 0} (by : Telling Turn Told) (turns : List Turn) (r : List ℕ) → NoMarks r → NoMarks (lines_of by turns ++ r)
+no_marks by [] r h = h
+no_marks by (m ∷ earlier) r h = let at = events_lead by m earlier r in λ f. omega (arith, at, f)
 
 -- the whole header
 header_then : (schedule : Schedule) (r : List ℕ)

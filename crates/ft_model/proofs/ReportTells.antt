@@ -1,60 +1,112 @@
 -- A report tells its trace: its header and its event lines tell the schedule, and that the packets; or its packet lines tell the packets.
-use Rattle.std.proofs.Common.{◌≡◌, ℕ, List, ◌∷◌, ◌++◌, length, sym, ap, ap₂, ◌∙◌, subst, subst₂}
+use Rattle.std.proofs.Common.{◌≡◌, ℕ, ◌+◌, List, [], ◌∷◌, ◌++◌, length, map, refl, sym, ap, ap₂, ◌∙◌, subst, subst₂}
 use Rattle.std.specs.List.{AllByRecursion}
-use Rattle.std.proofs.lemmas.List.{append_cancel_left}
+use Rattle.std.proofs.lemmas.List.{append_cancel_left, map-id}
 use Rattle.server_trait.specs.Service.{Machine}
 use Rattle.ft_io.specs.declared.Addr.{Addr}
+use Rattle.ft_model.specs.declared.event.Event.{Event}
 use Rattle.ft_model.specs.declared.schedule.Schedule.{Schedule}
 use Rattle.ft_model.specs.Client.{Client}
+use Rattle.ft_model.specs.Network.{Packet}
 use Rattle.ft_model.specs.Schedule.{kind_of, clients_of}
 use Rattle.ft_model.specs.World.{World, Moment, Joint, world_after, events_of}
 use Rattle.ft_model.specs.Legal.{start_of, AllAllowed, Legal}
-use Rattle.ft_model.specs.Report.{packet_lines, event_lines, closing_lines, report, turns_of}
+use Rattle.ft_model.specs.Report.{header, event_line, packet_lines, packet_count, event_lines, closing_lines, report, turns_of}
 use Rattle.ft_model.specs.Readable.{FitsEvent, FitsSchedule, IsReadableTurn}
-use Rattle.ft_model.proofs.OneTrace.{traces_once, moment_once}
+use Rattle.ft_model.proofs.OneTrace.{traces_once}
 use Rattle.ft_model.proofs.ReportLines.{packets_cut}
-use Rattle.ft_model.proofs.ReportTurns.{HasFront, TellsPackets, turns_same, events_same}
+use Rattle.ft_model.proofs.ReportTurns.{Telling, sent_in, lines_of, HasFront, TellsPackets, turns_same}
 use Rattle.ft_model.proofs.ReportHeader.{IsClosing, closing_ends, no_client, no_twin, no_marks, IsSameHeader, header_cut}
 use Rattle.ft_model.proofs.Lists.{all_front}
 
--- the report of a trace after its header
-abbrev behind : Schedule → List Moment → List ℕ
-behind schedule trace = closing_lines (world_after (start_of schedule) trace) (length trace)
+-- the clients of a schedule
+abbrev pub its_clients : Schedule → List Client
+its_clients schedule = clients_of schedule.server schedule.clients
 
-same_clients : (schedule other : Schedule) → IsSameHeader schedule other → clients_of schedule.server schedule.clients ≡ clients_of other.server other.clients
+same_clients : (schedule other : Schedule) → IsSameHeader schedule other → its_clients schedule ≡ its_clients other
 same_clients schedule other h = ap₂ clients_of h.server h.clients
 
--- reports tell header and turns, of traces whose packet lines tell the packets
-told : (schedule other : Schedule) (P : List Moment → Type 0) → FitsSchedule schedule → FitsSchedule other → HasFront P
-    → TellsPackets (clients_of schedule.server schedule.clients) P → (trace also : List Moment) → P trace → (IsSameHeader schedule other → P also)
-    → report schedule trace ≡ report other also → IsSameHeader schedule other × (turns_of trace ≡ turns_of also)
-told schedule other P fits too front tells trace also p q e =
-    let cs : List Client = clients_of schedule.server schedule.clients in
-    let ds : List Client = clients_of other.server other.clients in
-    let one : IsClosing (behind schedule trace) = closing_ends (world_after (start_of schedule) trace) (length trace) in
-    let two : IsClosing (behind other also) = closing_ends (world_after (start_of other) also) (length also) in
-    let head = header_cut schedule other (event_lines cs trace ++ behind schedule trace) (event_lines ds also ++ behind other also) fits too
-    (no_client cs trace (behind schedule trace) one.client) (no_client ds also (behind other also) two.client)
-    (no_twin cs trace (behind schedule trace) one.twin) (no_twin ds also (behind other also) two.twin)
-    (no_marks cs trace (behind schedule trace) one.marks) (no_marks ds also (behind other also) two.marks) e in
+pub same_schedule : (schedule other : Schedule) → IsSameHeader schedule other → schedule.events ≡ other.events → schedule ≡ other
+same_schedule schedule other h e = λ i. record { service = h.service i; server = h.server i; twin = h.twin i; marks = h.marks i; clients = h.clients i; events = e i }
+
+-- the report of some turns that end in a world
+abbrev pub text_of : {Turn Told : Type 0} → (List Client → Telling Turn Told) → Schedule → List Turn → World → List ℕ
+text_of by schedule turns w = header schedule ++ (lines_of (by (its_clients schedule)) turns ++ closing_lines w (length turns))
+
+-- reports tell header and turns, of turns whose packet lines tell the packets
+told : {Turn Told : Type 0} (by : List Client → Telling Turn Told) (schedule other : Schedule) (P : List Turn → Type 0) → FitsSchedule schedule → FitsSchedule other
+    → HasFront (by (its_clients schedule)) P → TellsPackets (by (its_clients schedule)) P → (turns also : List Turn) (w x : World) → P turns → (IsSameHeader schedule other → P also)
+    → text_of by schedule turns w ≡ text_of by other also x
+    → IsSameHeader schedule other × (map (by (its_clients schedule)).told turns ≡ map (by (its_clients schedule)).told also)
+told {Turn} {Told} by schedule other P fits too front tells turns also w x p q e =
+    let one_by : Telling Turn Told = by (its_clients schedule) in
+    let two_by : Telling Turn Told = by (its_clients other) in
+    let r : List ℕ = closing_lines w (length turns) in
+    let s : List ℕ = closing_lines x (length also) in
+    let one : IsClosing r = closing_ends w (length turns) in
+    let two : IsClosing s = closing_ends x (length also) in
+    let head = header_cut schedule other (lines_of one_by turns ++ r) (lines_of two_by also ++ s) fits too
+    (no_client one_by turns r one.client) (no_client two_by also s two.client) (no_twin one_by turns r one.twin) (no_twin two_by also s two.twin)
+    (no_marks one_by turns r one.marks) (no_marks two_by also s two.marks) e in
     let same : IsSameHeader schedule other = head.0 in
-    let lines : event_lines cs trace ++ behind schedule trace ≡ event_lines cs also ++ behind other also =
-    head.1 ∙ ap (λ l. event_lines l also ++ behind other also) (sym (same_clients schedule other same)) in
-    (same, (turns_same cs P front tells trace also (behind schedule trace) (behind other also) p (q same) one.packet one.event two.packet two.event lines).0)
+    let lines : lines_of one_by turns ++ r ≡ lines_of one_by also ++ s = head.1 ∙ ap (λ l. lines_of (by l) also ++ s) (sym (same_clients schedule other same)) in
+    (same, (turns_same one_by P front tells turns also r s p (q same) one.packet one.event two.packet two.event lines).0)
+
+-- turns that their events determine
+pub record AreDetermined {Turn : Type 0} (event_in : Turn → Event) (events_in : List Turn → List Event) (P : List Turn → Type 0) : Type 0 where
+  pub pushed : (m : Turn) (earlier : List Turn) → events_in (m ∷ earlier) ≡ events_in earlier ++ event_in m ∷ []
+  pub front : (m : Turn) (earlier : List Turn) → P (m ∷ earlier) → P earlier × FitsEvent (event_in m)
+  pub once : (turns also : List Turn) → P turns → P also → events_in turns ≡ events_in also → turns ≡ also
+
+-- .. are told whatever is written of their packets
+abbrev pub all_told : {Turn : Type 0} → (Turn → Event) → (Turn → ℕ) → (List Client → ℕ → Turn → List ℕ) → List Client → Telling Turn Turn
+all_told event_in count sent_lines clients = record { event_in = event_in; told = λ m. m; count = count; sent_lines = sent_lines clients }
+
+module _ {Turn : Type 0} (event_in : Turn → Event) (events_in : List Turn → List Event) (count : Turn → ℕ) (sent_lines : List Client → ℕ → Turn → List ℕ) where
+  determined_tells : (clients : List Client) (P : List Turn → Type 0) → AreDetermined event_in events_in P → TellsPackets (all_told event_in count sent_lines clients) P
+  determined_tells clients P d = λ m n earlier older k r s p q same event nr ns e.
+      let before : earlier ≡ older = sym (map-id earlier) ∙ (same ∙ map-id older) in
+      let events : events_in (m ∷ earlier) ≡ events_in (n ∷ older) =
+      d.pushed m earlier ∙ (ap₂ (λ l x. events_in l ++ x ∷ []) before event ∙ sym (d.pushed n older)) in
+      let all : m ∷ earlier ≡ n ∷ older = d.once (m ∷ earlier) (n ∷ older) p q events in
+      let last : m ≡ n = cc in
+      (last, append_cancel_left (sent_lines clients k m) r s (e ∙ ap (λ x. sent_lines clients k x ++ s) (sym last)))
+
+  pub determined_told : (schedule other : Schedule) (P : List Turn → Type 0) → FitsSchedule schedule → FitsSchedule other → AreDetermined event_in events_in P
+      → (turns also : List Turn) (w x : World) → P turns → (IsSameHeader schedule other → P also)
+      → text_of (all_told event_in count sent_lines) schedule turns w ≡ text_of (all_told event_in count sent_lines) other also x
+      → IsSameHeader schedule other × (turns ≡ also)
+  determined_told schedule other P fits too d turns also w x p q e =
+      let all = told (all_told event_in count sent_lines) schedule other P fits too d.front (determined_tells (its_clients schedule) P d) turns also w x p q e in
+      (all.0, sym (map-id turns) ∙ (all.1 ∙ map-id also))
+
+-- with one log
+module _ {Told : Type 0} (told_in : Moment → Told) (size : Told → ℕ) (sized : (m : Moment) → size (told_in m) ≡ length m.sent) where
+  abbrev moments : List Client → Telling Moment Told
+  moments clients = record { event_in = λ m. m.event; told = told_in; count = size; sent_lines = λ k m. packet_lines clients k m.sent }
+
+  counted : (clients : List Client) (trace : List Moment) → packet_count trace ≡ sent_in (moments clients) trace
+  counted clients [] = refl
+  counted clients (m ∷ earlier) = ap₂ (λ k l. k + l) (counted clients earlier) (sym (sized m))
+
+  lines_are : (clients : List Client) (trace : List Moment) → event_lines clients trace ≡ lines_of (moments clients) trace
+  lines_are clients [] = refl
+  lines_are clients (m ∷ earlier) =
+      ap₂ (λ l k. l ++ (event_line (length earlier + 1) m.event ++ packet_lines clients (k + 1) m.sent)) (lines_are clients earlier) (counted clients earlier)
+
+  report_is : (schedule : Schedule) (trace : List Moment) → report schedule trace ≡ text_of moments schedule trace (world_after (start_of schedule) trace)
+  report_is schedule trace = ap (λ l. header schedule ++ (l ++ closing_lines (world_after (start_of schedule) trace) (length trace))) (lines_are (its_clients schedule) trace)
 
 -- legal traces of some events
 abbrev IsPlayed : {State : Type 0} → Machine State → World → List Moment → Type 0
 IsPlayed service start trace = Joint service start trace × AllAllowed start trace × AllByRecursion FitsEvent (events_of trace)
 
-played_front : {State : Type 0} (service : Machine State) (start : World) → HasFront (IsPlayed service start)
-played_front service start = λ m earlier p. let events = all_front FitsEvent (events_of earlier) m.event p.2 in ((p.0.0, p.1.0, events.0), events.1)
-
-played_tells : {State : Type 0} (service : Machine State) (start : World) (clients : List Client) → TellsPackets clients (IsPlayed service start)
-played_tells service start clients = λ m n earlier older k r s p q same event nr ns e.
-    let before : earlier ≡ older = traces_once service start earlier older p.0.0 q.0.0 p.1.0 q.1.0 (events_same earlier older same) in
-    let there : IsPlayed service start (n ∷ earlier) = subst (λ l. IsPlayed service start (n ∷ l)) (sym before) q in
-    let sent : m.sent ≡ n.sent = ap (λ x. x.sent) (moment_once service (world_after start earlier) m n event p.0.1 there.0.1 p.1.1 there.1.1) in
-    (sent, append_cancel_left (packet_lines clients k m.sent) r s (e ∙ ap (λ l. packet_lines clients k l ++ s) (sym sent)))
+played_determined : {State : Type 0} (service : Machine State) (start : World) → AreDetermined (λ (m : Moment). m.event) events_of (IsPlayed service start)
+played_determined service start = record {
+  pushed = λ m earlier. refl;
+  front = λ m earlier p. let events = all_front FitsEvent (events_of earlier) m.event p.2 in ((p.0.0, p.1.0, events.0), events.1);
+  once = λ trace also p q e. traces_once service start trace also p.0 q.0 p.1 q.1 e;
+}
 
 played : {State : Type 0} (service : ℕ → Machine State) (schedule : Schedule) (trace : List Moment) → FitsSchedule schedule → Legal service schedule trace
     → IsPlayed (service (kind_of schedule.service)) (start_of schedule) trace
@@ -63,37 +115,45 @@ played service schedule trace fits l = (l.joint, l.allowed, subst (AllByRecursio
 same_start : (schedule other : Schedule) → IsSameHeader schedule other → start_of schedule ≡ start_of other
 same_start schedule other h = λ i. start_of (record { service = h.service i; server = h.server i; twin = h.twin i; marks = h.marks i; clients = h.clients i; events = schedule.events })
 
-same_schedule : (schedule other : Schedule) → IsSameHeader schedule other → schedule.events ≡ other.events → schedule ≡ other
-same_schedule schedule other h e = λ i. record { service = h.service i; server = h.server i; twin = h.twin i; marks = h.marks i; clients = h.clients i; events = e i }
-
 pub legal_told : {State : Type 0} (service : ℕ → Machine State) (schedule other : Schedule) (trace also : List Moment) → FitsSchedule schedule → FitsSchedule other
     → Legal service schedule trace → Legal service other also → report schedule trace ≡ report other also → (schedule ≡ other) × (trace ≡ also)
 legal_told {State} service schedule other trace also fits too l k e =
     let start : World = start_of schedule in
     let runs : Machine State = service (kind_of schedule.service) in
-    let one : IsPlayed runs start trace = played service schedule trace fits l in
     let same : IsSameHeader schedule other → IsPlayed runs start also =
     λ h. subst₂ (λ name w. IsPlayed (service (kind_of name)) w also) (sym h.service) (sym (same_start schedule other h)) (played service other also too k) in
-    let all = told schedule other (IsPlayed runs start) fits too (played_front runs start) (played_tells runs start (clients_of schedule.server schedule.clients)) trace also one same e in
-    let two : IsPlayed runs start also = same all.0 in
-    let events : events_of trace ≡ events_of also = events_same trace also all.1 in
-    (same_schedule schedule other all.0 (sym l.events_are ∙ (events ∙ k.events_are)), traces_once runs start trace also one.0 two.0 one.1 two.1 events)
+    let size : Moment → ℕ = λ m. length m.sent in
+    let texts = sym (report_is (λ m. m) size (λ m. refl) schedule trace) ∙ (e ∙ report_is (λ m. m) size (λ m. refl) other also) in
+    let all = determined_told (λ m. m.event) events_of size (λ clients k m. packet_lines clients k m.sent) schedule other (IsPlayed runs start) fits too (played_determined runs start)
+    trace also (world_after start trace) (world_after (start_of other) also) (played service schedule trace fits l) same texts in
+    (same_schedule schedule other all.0 (sym l.events_are ∙ (ap events_of all.1 ∙ k.events_are)), all.1)
 
 -- readable turns
-readable_front : (server : Addr) (clients : List Client) → HasFront (AllByRecursion (IsReadableTurn server clients))
-readable_front server clients = λ m earlier p. (p.1, p.0.0)
-
-readable_tells : (server : Addr) (clients : List Client) → TellsPackets clients (AllByRecursion (IsReadableTurn server clients))
-readable_tells server clients = λ m n earlier older k r s p q same event nr ns e. packets_cut server clients k m.sent n.sent r s p.0.1 q.0.1 nr ns e
+readable_front : (server : Addr) (clients : List Client) (m : Moment) (earlier : List Moment) → AllByRecursion (IsReadableTurn server clients) (m ∷ earlier)
+    → AllByRecursion (IsReadableTurn server clients) earlier × FitsEvent m.event
+readable_front server clients m earlier p = (p.1, p.0.0)
 
 abbrev AreReadable : Schedule → List Moment → Type 0
-AreReadable schedule trace = AllByRecursion (IsReadableTurn schedule.server (clients_of schedule.server schedule.clients)) trace
+AreReadable schedule trace = AllByRecursion (IsReadableTurn schedule.server (its_clients schedule)) trace
+
+-- what a turn tells, and the number of its packets
+abbrev turn_of : Moment → Event × List Packet
+turn_of m = (m.event, m.sent)
+
+abbrev size_of : Event × List Packet → ℕ
+size_of turn = length turn.1
+
+readable_tells : (server : Addr) (clients : List Client) → TellsPackets (moments turn_of size_of (λ m. refl) clients) (AllByRecursion (IsReadableTurn server clients))
+readable_tells server clients = λ m n earlier older k r s p q same event nr ns e.
+    let sent = packets_cut server clients k m.sent n.sent r s p.0.1 q.0.1 nr ns e in
+    (ap₂ (λ x y. (x, y)) event sent.0, sent.1)
 
 pub readable_told : (schedule other : Schedule) (trace also : List Moment) → FitsSchedule schedule → FitsSchedule other
     → AreReadable schedule trace → AreReadable other also → report schedule trace ≡ report other also
     → (schedule.service ≡ other.service) × (schedule.server ≡ other.server) × (schedule.twin ≡ other.twin) × (schedule.marks ≡ other.marks) × (schedule.clients ≡ other.clients) × (turns_of trace ≡ turns_of also)
 readable_told schedule other trace also fits too p q e =
-    let all = told schedule other (AreReadable schedule) fits too (readable_front schedule.server (clients_of schedule.server schedule.clients))
-    (readable_tells schedule.server (clients_of schedule.server schedule.clients)) trace also p
-    (λ h. subst₂ (λ server clients. AllByRecursion (IsReadableTurn server clients) also) (sym h.server) (sym (same_clients schedule other h)) q) e in
+    let texts = sym (report_is turn_of size_of (λ m. refl) schedule trace) ∙ (e ∙ report_is turn_of size_of (λ m. refl) other also) in
+    let all = told (moments turn_of size_of (λ m. refl)) schedule other (AreReadable schedule) fits too (readable_front schedule.server (its_clients schedule))
+    (readable_tells schedule.server (its_clients schedule)) trace also (world_after (start_of schedule) trace) (world_after (start_of other) also) p
+    (λ h. subst₂ (λ server clients. AllByRecursion (IsReadableTurn server clients) also) (sym h.server) (sym (same_clients schedule other h)) q) texts in
     (all.0.service, all.0.server, all.0.twin, all.0.marks, all.0.clients, all.1)
