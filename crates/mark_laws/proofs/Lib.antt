@@ -16,6 +16,7 @@ pub mod Traces
 mod OneTurn
 mod OneWorld
 mod OneOutcome
+mod OneTrace
 mod WorkedTrace
 mod WorkedLegal
 mod LawOfMarks

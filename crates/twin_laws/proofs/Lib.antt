@@ -8,6 +8,7 @@ pub mod StoredParts
 mod Noise
 pub mod Numbering
 mod OneOutcome
+mod OneTrace
 pub mod OneTurn
 mod Steps
 mod WorkedPair

@@ -13,6 +13,7 @@ ghost use Rattle.server_trait.specs.Service.{machine};
 ghost use Rattle.ft_model.specs.Legal.{machines, start_of, IsLegalFor};
 ghost use Rattle.ft_model.specs.Masked.{Masked};
 ghost use Rattle.ft_model.specs.Network.{Packet};
+ghost use Rattle.ft_model.specs.Readable.{FitsSchedule};
 ghost use Rattle.ft_model.specs.Schedule.{kind_of};
 ghost use Rattle.ft_model.specs.World.{Joint, WasSent, events_of, world_after};
 ghost use Rattle.ft_model.specs.declared.event.Event.{Event};
@@ -23,8 +24,9 @@ ghost use Rattle.twin_laws.specs.StoredState.{kept_head, kept_tail, kept_does, c
 ghost use Rattle.twin_laws.specs.Twin.{Request, Head, Tail, head_does, tail_does, from_other_logger, bytes_of};
 ghost use Rattle.twin_laws.specs.Twin.Between.{Forward, Got};
 ghost use Rattle.twin_laws.specs.Twin.Comes.{Tells, Is_noise};
-ghost use Rattle.twin_laws.specs.TwinLegal.{IsTwinLegalFor, twin_start};
+ghost use Rattle.twin_laws.specs.TwinLegal.{IsTwinLegalFor, TwinLegal, twin_start};
 ghost use Rattle.twin_laws.specs.TwinOutcome.{IsTwinWhole, IsTwinRefused, IsTwinPastPackets};
+ghost use Rattle.twin_laws.specs.TwinReport.{twin_report};
 ghost use Rattle.twin_laws.specs.TwinWorld.{TwinWorld, TwinMoment, TwinJoint, seen, parcel_at, twin_after};
 ghost use Rattle.twin_laws.specs.TwinWorld.Parcel.{Outside};
 ghost use Rattle.twin_laws.specs.SentBytes.{IsWritten};
@@ -107,7 +109,8 @@ pub fn worked_pair_is_joint<S: Service>()
     ensures flat { events_in (flat at_first worked).trace ≡ flat_events }
 {}
 
-/// A schedule with two loggers has at most one of the three outcomes.
+/// A schedule with two loggers has only one outcome: no two of the three hold of it, and the event that is refused or exceeds the limit is determined, and so is
+/// the cause.
 pub fn twin_schedules_have_one_outcome<S: Service>()
     ensures whole_or_refused { (schedule : Schedule)
         → IsTwinWhole (machines S.started S.after) schedule → IsTwinRefused (machines S.started S.after) schedule → ⊥ }
@@ -115,4 +118,21 @@ pub fn twin_schedules_have_one_outcome<S: Service>()
         → IsTwinWhole (machines S.started S.after) schedule → IsTwinPastPackets (machines S.started S.after) schedule → ⊥ }
     ensures refused_or_past { (schedule : Schedule)
         → IsTwinRefused (machines S.started S.after) schedule → IsTwinPastPackets (machines S.started S.after) schedule → ⊥ }
+    ensures refused_once { (schedule : Schedule) (a b : IsTwinRefused (machines S.started S.after) schedule)
+        → (a.played ≡ b.played) × (a.event ≡ b.event) × (a.why ≡ b.why) }
+    ensures past_once { (schedule : Schedule) (a b : IsTwinPastPackets (machines S.started S.after) schedule) → (a.played ≡ b.played) × (a.event ≡ b.event) }
+{}
+
+/// A schedule with two loggers has at most one legal trace: its events, the scripted clients and the definitions of server and loggers leave nothing open.
+pub fn legal_twin_traces_are_determined<S: Service>()
+    ensures { (schedule : Schedule) (trace other : List TwinMoment)
+        → TwinLegal (machines S.started S.after) schedule trace → TwinLegal (machines S.started S.after) schedule other → trace ≡ other }
+{}
+
+/// A report with two loggers determines its schedule and its trace: two legal traces have the same report only where their schedules are the same, and the
+/// traces too.
+pub fn twin_reports_tell_their_traces<S: Service>()
+    ensures { (schedule other : Schedule) (trace also : List TwinMoment) → FitsSchedule schedule → FitsSchedule other
+        → TwinLegal (machines S.started S.after) schedule trace → TwinLegal (machines S.started S.after) other also
+        → twin_report schedule trace ≡ twin_report other also → (schedule ≡ other) × (trace ≡ also) }
 {}

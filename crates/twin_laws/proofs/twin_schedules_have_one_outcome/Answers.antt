@@ -7,4 +7,6 @@ returns g c = record {
   whole_or_refused = λ schedule. outcome.whole_or_refused (machines g.S.Service.started g.S.Service.after) schedule;
   whole_or_past = λ schedule. outcome.whole_or_past (machines g.S.Service.started g.S.Service.after) schedule;
   refused_or_past = λ schedule. outcome.refused_or_past (machines g.S.Service.started g.S.Service.after) schedule;
+  refused_once = λ schedule. outcome.refused_once (machines g.S.Service.started g.S.Service.after) schedule;
+  past_once = λ schedule. outcome.past_once (machines g.S.Service.started g.S.Service.after) schedule;
 }
