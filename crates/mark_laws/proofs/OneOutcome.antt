@@ -1,15 +1,18 @@
 -- A schedule with marks has one outcome: of two legal traces the longer begins with the shorter.
-use Rattle.std.proofs.Common.{◌≡◌, ◌∙◌, ℕ, ◌+◌, ◌<◌, ◌≤◌, refl, sym, ap, subst, arith, None, List, [], ◌∷◌, ◌++◌, length, length-append, append_assoc}
+use Rattle.std.proofs.Common.{◌≡◌, ◌∙◌, ℕ, ◌+◌, ◌<◌, ◌≤◌, refl, sym, ap, ap₂, subst, arith, Some, None, List, [], ◌∷◌, ◌++◌, length, length-append, append_assoc, append-nil}
+use Rattle.std.proofs.lemmas.List.{same_from_push}
 use Rattle.std.proofs.lemmas.Option.{none-some}
 use Rattle.ft_model.specs.Schedule.{kind_of}
 use Rattle.ft_model.specs.declared.event.Event.{Event}
 use Rattle.ft_model.specs.declared.schedule.Schedule.{Schedule}
+use Rattle.ft_model.proofs.Lists.{some_is}
 use Rattle.ft_model.proofs.Outcomes.{Fronts, fronts}
 use Rattle.ft_model.proofs.Outcomes.Fronts.{longer, shorter}
 use Rattle.mark_laws.specs.MarkedNode.{Marker}
 use Rattle.mark_laws.specs.MarkedWorld.{MarkedWorld, MarkedMoment, MarkedHappens, MarkedJoint, marked_after}
 use Rattle.mark_laws.specs.MarkedLegal.{marked_start, marked_refusal, marked_events_of, IsMarkedAllowed, AllMarkedAllowed, IsMarkedLegalFor, marked_packets_sent}
 use Rattle.mark_laws.specs.MarkedOutcome.{IsMarkedWhole, IsMarkedRefused, IsMarkedPastPackets}
+use Rattle.mark_laws.proofs.OneTrace.{legal_once}
 use Rattle.mark_laws.proofs.OneWorld.{marked_once, marked_goes_on}
 
 -- an allowed event is done by scripted clients
@@ -146,3 +149,54 @@ module _ {State : Type 0} (markers : ℕ → Marker State) (schedule : Schedule)
       by_fronts : Fronts a.played (a.event ∷ a.others) b.played b.others → ⊥
       by_fronts (longer middle p q) = on_from middle q (runs_split by a.played middle start refused passed one (subst (λ es. Runs by start es passed) p other))
       by_fronts (shorter middle p q) = over (runs_on by middle passed refused (runs_split by b.played middle start passed refused other (subst (λ es. Runs by start es refused) p one)))
+
+  -- a schedule is refused at one event, for one cause
+  refused_on : (a b : IsMarkedRefused markers schedule) (middle : List Event) → b.played ≡ a.played ++ middle → a.event ∷ a.others ≡ middle ++ b.event ∷ b.others
+      → (a.played ≡ b.played) × (a.event ≡ b.event) × (a.why ≡ b.why)
+  refused_on a b [] p q =
+      let played : b.played ≡ a.played = p ∙ append-nil a.played in
+      let event : a.event ≡ b.event = cc in
+      let trace : a.trace ≡ b.trace = legal_once markers schedule a.played a.trace b.trace a.legal (subst (λ es. IsMarkedLegalFor markers schedule es b.trace) played b.legal) in
+      let same : Some a.why ≡ Some b.why = sym a.refused ∙ (ap₂ (λ t x. marked_refusal (marked_after start t) x) trace event ∙ b.refused) in
+      (sym played, event, some_is a.why b.why same)
+  refused_on a b (e ∷ middle) p q =
+      let one = runs_legal a.played a.trace a.legal in
+      let other = subst (λ es. Runs by start es (marked_after start b.trace)) p (runs_legal b.played b.trace b.legal) in
+      let rest = runs_split by a.played (e ∷ middle) start (marked_after start a.trace) (marked_after start b.trace) one other in
+      let same : e ≡ a.event = cc in
+      absurd (none-some a.why (sym (subst (λ x. marked_refusal (marked_after start a.trace) x ≡ None) same (is_allowed by e (marked_after start a.trace) rest.0 rest.1)) ∙ a.refused))
+
+  pub refused_once : (a b : IsMarkedRefused markers schedule) → (a.played ≡ b.played) × (a.event ≡ b.event) × (a.why ≡ b.why)
+  refused_once a b = by_fronts (fronts a.played (a.event ∷ a.others) b.played (b.event ∷ b.others) (sym a.events ∙ b.events))
+    where
+      by_fronts : Fronts a.played (a.event ∷ a.others) b.played (b.event ∷ b.others) → (a.played ≡ b.played) × (a.event ≡ b.event) × (a.why ≡ b.why)
+      by_fronts (longer middle p q) = refused_on a b middle p q
+      by_fronts (shorter middle p q) = let back = refused_on b a middle p q in (sym back.0, sym back.1, sym back.2)
+
+  -- .. and passes the limit with one
+  runs_before : (b : IsMarkedPastPackets markers schedule) → Runs by start b.played (marked_after start b.earlier)
+  runs_before b =
+      let same : (marked_events_of b.earlier ≡ b.played) × (b.moment.event ≡ b.event) =
+      same_from_push (marked_events_of b.earlier) b.played b.moment.event b.event b.legal.events_are in
+      runs_legal b.played b.earlier (record { joint = b.legal.joint.0; events_are = same.0; allowed = b.legal.allowed.0 })
+
+  past_on : (a b : IsMarkedPastPackets markers schedule) (middle : List Event) → b.played ≡ a.played ++ middle → a.event ∷ a.others ≡ middle ++ b.event ∷ b.others
+      → (a.played ≡ b.played) × (a.event ≡ b.event)
+  past_on a b [] p q = let event : a.event ≡ b.event = cc in (sym (p ∙ append-nil a.played), event)
+  past_on a b (e ∷ middle) p q =
+      let same : e ≡ a.event = cc in
+      let played : b.played ≡ (a.played ++ a.event ∷ []) ++ middle = p ∙ (ap (λ x. a.played ++ x ∷ middle) same ∙ sym (append_assoc a.played (a.event ∷ []) middle)) in
+      let one = runs_legal (a.played ++ a.event ∷ []) (a.moment ∷ a.earlier) a.legal in
+      let other = subst (λ es. Runs by start es (marked_after start b.earlier)) played (runs_before b) in
+      let rest = runs_split by (a.played ++ a.event ∷ []) middle start a.moment.world (marked_after start b.earlier) one other in
+      let more : length a.moment.world.parcels ≤ length (marked_after start b.earlier).parcels = runs_on by middle a.moment.world (marked_after start b.earlier) rest in
+      let low : marked_packets_sent schedule b.earlier ≤ 200000 = b.within in
+      let high : 200000 < marked_packets_sent schedule (a.moment ∷ a.earlier) = a.over in
+      absurd (omega (arith, more, low, high))
+
+  pub past_once : (a b : IsMarkedPastPackets markers schedule) → (a.played ≡ b.played) × (a.event ≡ b.event)
+  past_once a b = by_fronts (fronts a.played (a.event ∷ a.others) b.played (b.event ∷ b.others) (sym a.events ∙ b.events))
+    where
+      by_fronts : Fronts a.played (a.event ∷ a.others) b.played (b.event ∷ b.others) → (a.played ≡ b.played) × (a.event ≡ b.event)
+      by_fronts (longer middle p q) = past_on a b middle p q
+      by_fronts (shorter middle p q) = let back = past_on b a middle p q in (sym back.0, sym back.1)

@@ -100,9 +100,9 @@ legal_told {State} by every often schedule other trace also fits too here there 
     let runs : Marker State = by every (kind_of schedule.service) in
     let same : IsSameHeader schedule other → IsPlayed runs start also =
     λ h.
-        let number : every ≡ often = some_is every often (sym here ∙ (h.marks ∙ there)) in
-        let marker : runs ≡ by often (kind_of other.service) = ap₂ (λ n name. by n (kind_of name)) number h.service in
-        subst₂ (λ m w. IsPlayed m w also) (sym marker) (sym (same_start schedule other h)) (played (by often) other also too k) in
+    let number : every ≡ often = some_is every often (sym here ∙ (h.marks ∙ there)) in
+    let marker : runs ≡ by often (kind_of other.service) = ap₂ (λ n name. by n (kind_of name)) number h.service in
+    subst₂ (λ m w. IsPlayed m w also) (sym marker) (sym (same_start schedule other h)) (played (by often) other also too k) in
     let texts = sym (report_is schedule trace) ∙ (e ∙ report_is other also) in
     let all = determined_told (λ (m : MarkedMoment). m.event) marked_events_of size lines schedule other (IsPlayed runs start) fits too (played_determined runs start)
     trace also (seen (marked_after start trace)) (seen (marked_after (marked_start other) also)) (played (by every) schedule trace fits l) same texts in

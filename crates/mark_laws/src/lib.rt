@@ -220,7 +220,8 @@ pub fn marked_premises_hold<S: Saved>()
     true_marks_are_read_back::<S>();
 }
 
-/// A schedule with marks has at most one of the three outcomes.
+/// A schedule with marks has only one outcome: no two of the three hold of it, and the event that is refused or exceeds the limit is determined, and so is the
+/// cause.
 pub fn marked_schedules_have_one_outcome<S: Saved>()
     ensures whole_or_refused { (every : ℕ) (schedule : Schedule) → IsMarkedWhole (markers (machines S.started S.after) S.form S.state_of every) schedule
         → IsMarkedRefused (markers (machines S.started S.after) S.form S.state_of every) schedule → ⊥ }
@@ -228,6 +229,10 @@ pub fn marked_schedules_have_one_outcome<S: Saved>()
         → IsMarkedPastPackets (markers (machines S.started S.after) S.form S.state_of every) schedule → ⊥ }
     ensures refused_or_past { (every : ℕ) (schedule : Schedule) → IsMarkedRefused (markers (machines S.started S.after) S.form S.state_of every) schedule
         → IsMarkedPastPackets (markers (machines S.started S.after) S.form S.state_of every) schedule → ⊥ }
+    ensures refused_once { (every : ℕ) (schedule : Schedule) (a b : IsMarkedRefused (markers (machines S.started S.after) S.form S.state_of every) schedule)
+        → (a.played ≡ b.played) × (a.event ≡ b.event) × (a.why ≡ b.why) }
+    ensures past_once { (every : ℕ) (schedule : Schedule) (a b : IsMarkedPastPackets (markers (machines S.started S.after) S.form S.state_of every) schedule)
+        → (a.played ≡ b.played) × (a.event ≡ b.event) }
 {}
 
 /// A schedule with marks has at most one legal trace: its events, the scripted clients and the definitions of server and log leave nothing open, not even which
