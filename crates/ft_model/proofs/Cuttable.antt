@@ -16,10 +16,10 @@ use Rattle.ft_model.proofs.Happened.Happened.{log_heard, client_heard, client_mo
 use Rattle.ft_io.proofs.Booleans.{not_true}
 use Rattle.ft_io.proofs.Choices.{holds_if}
 
-abbrev IsCut : Entry → Type 0
+abbrev pub IsCut : Entry → Type 0
 IsCut e = CanCut e.bytes e.lengths
 
-abbrev AreCut : Log → Type 0
+abbrev pub AreCut : Log → Type 0
 AreCut log = AllByRecursion IsCut log.entries
 
 -- one more length may follow where none so far is the closing one
@@ -84,7 +84,7 @@ log_cut log message a =
     holds_if AreCut (is_answer message.body || nat_lt message.boot log.boot) log _ (λ t. a)
     (λ t. holds_if AreCut (is_hello message.body) _ _ (λ s. a) (λ s. holds_if AreCut (message.boot == log.boot) _ _ (λ u. kept_cut message.body log a) (λ u. a)))
 
-cut_goes_on : {State : Type 0} (service : Machine State) (before : World) (sent : List Packet) (after : World) → AreCut before.log → Happened service before sent after → AreCut after.log
+pub cut_goes_on : {State : Type 0} (service : Machine State) (before : World) (sent : List Packet) (after : World) → AreCut before.log → Happened service before sent after → AreCut after.log
 cut_goes_on service before sent after a (log_heard message under sent_is e) = subst AreCut (sym (ap (λ w. w.log) e)) (log_cut before.log message a)
 cut_goes_on service before sent after a (client_heard segment under sent_is e) = subst AreCut (sym (ap (λ w. w.log) e)) a
 cut_goes_on service before sent after a (client_moved number m) = subst AreCut (sym (ap (λ w. w.log) m.after_is)) a

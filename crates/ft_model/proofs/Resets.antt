@@ -233,7 +233,7 @@ moved_knowing service start w number sent after o k m =
     (knowing_still w _ sent k (subst (AllByRecursion IsSegment) (sym m.sent_is) (tt, tt)) (subst (AllByRecursion (HasCaller (entry_keys w.log))) (sym m.sent_is) (calls, tt))
     (subst (AllByRecursion (ResetsEnded w.log)) (sym m.sent_is) (tt, tt)))
 
-knowing_goes_on : {State : Type 0} (service : Machine State) (start before : World) (sent : List Packet) (after : World)
+pub knowing_goes_on : {State : Type 0} (service : Machine State) (start before : World) (sent : List Packet) (after : World)
     → JointInvariant service start before → KnowsLog before → Happened service before sent after → KnowsLog after
 knowing_goes_on service start before sent after o k (log_heard message under s e) =
     subst KnowsLog (sym (e ∙ ap (λ x. record before { log = log_after before.log message; packets = before.packets ++ x }) s)) (heard_knowing before message o.fenced k under)
@@ -259,7 +259,7 @@ knowing_goes_on service start before sent after o k (server_down s e) =
       stage = λ n g. none_is_some n g;
     })
 
-start_knowing : (w : World) → IsStart w → KnowsLog w
+pub start_knowing : (w : World) → IsStart w → KnowsLog w
 start_knowing w s = record {
   says = subst (AllByRecursion (Says w.log)) (sym s.packets) tt;
   calls = subst (AllByRecursion (HasCaller (entry_keys w.log))) (sym s.packets) tt;
@@ -278,7 +278,7 @@ none_logged : (log : Log) (key : Key) (o : Option Entry) → entry_of key log �
 none_logged log key (Some e) f h = absurd (true≢false (sym (found_has_key (λ x. x.key) key log.entries e f) ∙ h))
 none_logged log key None f h = tt
 
-ended_spares : (log : Log) (packet : Packet) → ResetsEnded log packet → ResetsNoLogged log packet
+pub ended_spares : (log : Log) (packet : Packet) → ResetsEnded log packet → ResetsNoLogged log packet
 ended_spares log (To_client segment) e = λ r.
     ⊎_elim (λ d. subst (λ o. IfSome o (λ x. x.done ≡ true)) (sym d.1) d.2)
     (λ s. none_logged log (destination_of segment) (entry_of (destination_of segment) log) refl s.0) (e r)

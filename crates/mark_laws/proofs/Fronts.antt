@@ -31,6 +31,7 @@ use Rattle.ft_model.proofs.Fenced.{IsLogged}
 use Rattle.ft_model.proofs.Happened.Happened.{server_turned}
 use Rattle.ft_model.proofs.Keys.{finds_itself}
 use Rattle.ft_model.proofs.Lists.{none_is_some, some_is, same_key, key_is, take_first, all_weaker}
+use Rattle.ft_model.proofs.Refused.{BodySays}
 use Rattle.ft_model.proofs.Services.{sum_append, sum_more}
 use Rattle.ft_model.proofs.Unfenced.{NamesAtMost}
 use Rattle.mark_laws.specs.MarkedLog.{has_closing}
@@ -82,8 +83,8 @@ follow size fin before (n ∷ later) b m h =
 
 -- what agrees with the log may be told to its own incarnation
 told_stands : {State : Type 0} (service : Machine State) (start u : World) (message : Message) (author : Key → List ℕ) → Sound service start u → message.boot ≡ u.log.boot → AgreesWith u.log.entries message.body
-    → AnswerFits u.log message.body → NamesAtMost u.boot message.body → MayStand service start u author (From_logger message)
-told_stands service start u message author s own agrees fits names =
+    → AnswerFits u.log message.body → NamesAtMost u.boot message.body → BodySays u.log message.body → MayStand service start u author (From_logger message)
+told_stands service start u message author s own agrees fits names says =
     let low = s.joint.fenced.log in
     record {
       boot = (omega (arith, own, low), λ c. le_of_eq own);
@@ -98,6 +99,10 @@ told_stands service start u message author s own agrees fits names =
       near = tt;
       stale = names;
       own = tt;
+      says = says;
+      calls = tt;
+      resets = tt;
+      asks = λ b places. tt;
     }
 
 -- it doesn't matter what a restarting server had fetched before the turn that ends the restart
@@ -205,13 +210,13 @@ whole_front by start u node count head earlier e bytes lengths marking out later
     (subst (λ w. PlainContinues service node.plain count middle w (Fetching count middle) asks) (sym (wants_bytes count head earlier lengths may some)) (refl, refl))) in
     let u1 : World = with_packets u (u.packets ++ From_logger first ∷ []) in
     let s1 : Sound service start u1 =
-    more service start u (From_logger first) at.sound (told_stands service start u first at.sound.joint.author.author at.sound (sym own) (e, found, of_lengths) tt tt) in
+    more service start u (From_logger first) at.sound (told_stands service start u first at.sound.joint.author.author at.sound (sym own) (e, found, of_lengths) tt tt tt) in
     let step_one : Stepped service start u1 asks (turned u1 half asks) =
     went service at.small start u1 asks (turned u1 half asks) at.starts s1 (server_turned (Message_comes first) node.plain half (last_under_way u (From_logger first)) at.up turn_one refl) in
     let w1 : World = turned u1 half asks in
     let u2 : World = with_packets w1 (w1.packets ++ From_logger second ∷ []) in
     let s2 : Sound service start u2 =
-    more service start w1 (From_logger second) step_one.sound (told_stands service start w1 second step_one.sound.joint.author.author step_one.sound (sym own) (e, found, of_bytes) tt tt) in
+    more service start w1 (From_logger second) step_one.sound (told_stands service start w1 second step_one.sound.joint.author.author step_one.sound (sym own) (e, found, of_bytes) tt tt tt) in
     let g : GoesOn service node.plain count now out later = goes_on by node count now marking out later (wanted count now) refl t in
     let next : Node = record node.plain { stage = g.stage } in
     let turn_two : LawfulTurn service half (Message_comes second) sent next =

@@ -8,7 +8,6 @@ use Rattle.seq_arith.specs.declared.kinds.BadMsg.{BadMsg}
 use Rattle.seq_arith.specs.declared.kinds.BadMsg.TheVariants as bad_msg
 use Rattle.seq_arith.specs.declared.kinds.Kind.{Kind}
 use Rattle.seq_arith.specs.declared.mark.BadMark.{BadMark}
-use Rattle.seq_arith.specs.declared.mark.BadMark.TheVariants as bad_mark
 use Rattle.seq_arith.specs.Mark.{MarkMessage}
 use Rattle.seq_arith.specs.Message.{Message}
 use Rattle.seq_arith.specs.MarkGrammar as marks

@@ -3,6 +3,7 @@ use Rattle.std.proofs.Common.{◌≡◌, ℕ, true, sym, ap, ◌∙◌, Some, No
 use Rattle.std.specs.List.{AllByRecursion}
 use Rattle.ft_io.specs.declared.Key.{Key}
 use Rattle.server_trait.specs.Service.{Machine}
+use Rattle.ft_model.specs.Log.{Log}
 use Rattle.ft_model.specs.Masked.{told_to, last_told, or_before}
 use Rattle.ft_model.specs.Network.{Packet}
 use Rattle.ft_model.specs.Node.{Node, Place, Stage}
@@ -10,15 +11,18 @@ use Rattle.ft_model.specs.Node.Place.{Lives, Opens, Ended}
 use Rattle.ft_model.specs.Node.Stage.{Asking, Fetching, Serving, Fenced}
 use Rattle.ft_model.specs.World.{World}
 use Rattle.ft_model.specs.Masked.{is_restarting}
-use Rattle.ft_model.proofs.Asked.{IsAsked, Agrees}
+use Rattle.ft_model.proofs.Asked.{IsAsked, Agrees, entry_keys}
 use Rattle.ft_model.proofs.Authored.{Speaks}
 use Rattle.ft_model.proofs.AuthorOver.{ReadOf}
 use Rattle.ft_model.proofs.Backed.{PacketBacked}
+use Rattle.ft_model.proofs.Cuttable.{AreCut}
 use Rattle.ft_model.proofs.Faithful.{PacketFits}
 use Rattle.ft_model.proofs.FaithfulOver.{script_of, isn_of}
 use Rattle.ft_model.proofs.Fenced.{IsFenced, IsNoChange, HasBoot}
 use Rattle.ft_model.proofs.JointMasked.{JointInvariant}
+use Rattle.ft_model.proofs.KnownKeys.{Asks, StageKnows, KnowsLog}
 use Rattle.ft_model.proofs.Lists.{all_append, all_weaker}
+use Rattle.ft_model.proofs.Refused.{HasCaller, ResetsEnded, Says}
 use Rattle.ft_model.proofs.ToldLast.{IsSilentTo, WasTold, last_append, or_none}
 use Rattle.ft_model.proofs.ToldOver.{IsTelling, StageTold}
 use Rattle.ft_model.proofs.Unfenced.{Unfenced, StaleWithin}
@@ -36,6 +40,8 @@ pub record Sound {State : Type 0} (service : Machine State) (start w : World) : 
   pub near : SendsNear (isn_of start) w
   pub unfenced : Unfenced w
   pub owns : Owns start w
+  pub knows : KnowsLog w
+  pub cut : AreCut w.log
 
 abbrev pub with_packets : World → List Packet → World
 with_packets w packets = record w { packets = packets }
@@ -75,6 +81,20 @@ asked_fewer w xs hs ys a = record {
   node = λ n e r. let x = a.node n e r in record { packets = all_without (Agrees n.boot w.log.entries) xs hs ys x.packets; fetched = x.fetched };
 }
 
+stage_fewer : (log : Log) (xs hs ys : List Packet) (boot : ℕ) (stage : Stage) → StageKnows log (xs ++ (hs ++ ys)) boot stage → StageKnows log (xs ++ ys) boot stage
+stage_fewer log xs hs ys boot (Serving opened places) k = record { asks = all_without (Asks boot (entry_keys log) places) xs hs ys k.asks; keys = k.keys; ends = k.ends }
+stage_fewer log xs hs ys boot Asking k = tt
+stage_fewer log xs hs ys boot (Fetching count fetched) k = tt
+stage_fewer log xs hs ys boot (Fenced newer) k = tt
+
+knows_fewer : (w : World) (xs hs ys : List Packet) → KnowsLog (with_packets w (xs ++ (hs ++ ys))) → KnowsLog (with_packets w (xs ++ ys))
+knows_fewer w xs hs ys k = record {
+  says = all_without (Says w.log) xs hs ys k.says;
+  calls = all_without (HasCaller (entry_keys w.log)) xs hs ys k.calls;
+  resets = all_without (ResetsEnded w.log) xs hs ys k.resets;
+  stage = λ n e. stage_fewer w.log xs hs ys n.boot n.stage (k.stage n e);
+}
+
 pub fewer : {State : Type 0} (service : Machine State) (start w : World) (xs hs ys : List Packet) → ((key : Key) → IsSilentTo key hs)
     → Sound service start (with_packets w (xs ++ (hs ++ ys))) → Sound service start (with_packets w (xs ++ ys))
 fewer service start w xs hs ys silent s = record {
@@ -108,6 +128,8 @@ fewer service start w xs hs ys silent s = record {
   near = record { clients = s.near.clients; packets = all_without (PacketNear (isn_of start) w.log) xs hs ys s.near.packets };
   unfenced = record { packets = all_without (StaleWithin w.boot) xs hs ys s.unfenced.packets; node = s.unfenced.node };
   owns = λ scripted. record { packets = all_without (OwnNear (isn_of start)) xs hs ys (s.owns scripted).packets; clients = (s.owns scripted).clients };
+  knows = knows_fewer w xs hs ys s.knows;
+  cut = s.cut;
 }
 
 -- more packets
@@ -126,12 +148,24 @@ pub record MayStand {State : Type 0} (service : Machine State) (start w : World)
   pub near : PacketNear (isn_of start) w.log packet
   pub stale : StaleWithin w.boot packet
   pub own : OwnNear (isn_of start) packet
+  pub says : Says w.log packet
+  pub calls : HasCaller (entry_keys w.log) packet
+  pub resets : ResetsEnded w.log packet
+  pub asks : (boot : ℕ) (places : List Place) → Asks boot (entry_keys w.log) places packet
 
 one_silent : (packet : Packet) → ((key : Key) → told_to key packet ≡ None) → (key : Key) → IsSilentTo key (packet ∷ [])
 one_silent packet silent key = silent key
 
 last_with : (key : Key) (xs : List Packet) (packet : Packet) → told_to key packet ≡ None → last_told key xs ≡ last_told key (xs ++ packet ∷ [])
 last_with key xs packet silent = sym (last_append key xs (packet ∷ []) ∙ ap (λ o. or_before o (last_told key xs)) silent)
+
+stage_more : (log : Log) (packets : List Packet) (packet : Packet) (boot : ℕ) (stage : Stage) → ((places : List Place) → Asks boot (entry_keys log) places packet) → StageKnows log packets boot stage
+    → StageKnows log (packets ++ packet ∷ []) boot stage
+stage_more log packets packet boot (Serving opened places) asks k =
+    record { asks = all_append (Asks boot (entry_keys log) places) packets (packet ∷ []) k.asks (asks places, tt); keys = k.keys; ends = k.ends }
+stage_more log packets packet boot Asking asks k = tt
+stage_more log packets packet boot (Fetching count fetched) asks k = tt
+stage_more log packets packet boot (Fenced newer) asks k = tt
 
 pub more : {State : Type 0} (service : Machine State) (start w : World) (packet : Packet) → (s : Sound service start w) → MayStand service start w s.joint.author.author packet
     → Sound service start (with_packets w (w.packets ++ packet ∷ []))
@@ -174,4 +208,11 @@ more service start w packet s m = record {
   near = record { clients = s.near.clients; packets = all_append (PacketNear (isn_of start) w.log) w.packets (packet ∷ []) s.near.packets (m.near, tt) };
   unfenced = record { packets = all_append (StaleWithin w.boot) w.packets (packet ∷ []) s.unfenced.packets (m.stale, tt); node = s.unfenced.node };
   owns = λ scripted. record { packets = all_append (OwnNear (isn_of start)) w.packets (packet ∷ []) (s.owns scripted).packets (m.own, tt); clients = (s.owns scripted).clients };
+  knows = record {
+    says = all_append (Says w.log) w.packets (packet ∷ []) s.knows.says (m.says, tt);
+    calls = all_append (HasCaller (entry_keys w.log)) w.packets (packet ∷ []) s.knows.calls (m.calls, tt);
+    resets = all_append (ResetsEnded w.log) w.packets (packet ∷ []) s.knows.resets (m.resets, tt);
+    stage = λ n e. stage_more w.log w.packets packet n.boot n.stage (m.asks n.boot) (s.knows.stage n e);
+  };
+  cut = s.cut;
 }

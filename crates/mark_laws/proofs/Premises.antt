@@ -1,5 +1,5 @@
 -- The premises of the turn of a server that marks hold in every trace with marks.
-use Rattle.std.proofs.Common.{◌≡◌, inl, inr, ⊎_elim, ℕ, ◌==◌, ◌&&◌, Bool, true, refl, sym, ap, ◌∙◌, subst, subst₂, eqb-true, Option, Some, None, List, [], ◌∷◌, find, length}
+use Rattle.std.proofs.Common.{◌≡◌, inl, inr, ⊎_elim, ℕ, ◌==◌, ◌&&◌, Bool, refl, sym, ap, ◌∙◌, subst, subst₂, eqb-true, Option, Some, None, List, [], ◌∷◌, find, length}
 use Rattle.std.specs.List.{AllByRecursion}
 use Rattle.std.specs.Option.{option_map_or}
 use Rattle.std.proofs.lemmas.Bool.{and_parts}
@@ -28,7 +28,7 @@ use Rattle.ft_model.proofs.Formed.{bytes_take, bytes_left}
 use Rattle.ft_model.proofs.Asked.{StageAgrees, progress_agrees}
 use Rattle.ft_model.proofs.Faithful.{units_within}
 use Rattle.ft_model.proofs.FaithfulOver.{script_of, isn_of, script_in}
-use Rattle.ft_model.proofs.Fetching.{AreFetched, IsFront as IsEntryFront}
+use Rattle.ft_model.proofs.Fetching.{AreFetched}
 use Rattle.ft_model.proofs.Happened.{all_sent}
 use Rattle.ft_model.proofs.Keys.{finds_itself}
 use Rattle.ft_model.proofs.Lists.{all_map, all_of, all_find, none_is_some, some_is, same_key, take_first}

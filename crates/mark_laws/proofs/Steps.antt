@@ -17,11 +17,13 @@ use Rattle.ft_model.specs.Node.{Node}
 use Rattle.ft_model.specs.World.{World, IsStart}
 use Rattle.ft_model.proofs.Acknowledged.{acknowledged_moment, short_scripts}
 use Rattle.ft_model.proofs.Backed.{logged_output}
+use Rattle.ft_model.proofs.Cuttable.{cut_goes_on}
 use Rattle.ft_model.proofs.Exact.{exact_moment, same_exact}
 use Rattle.ft_model.proofs.FaithfulOver.{script_of, isn_of}
 use Rattle.ft_model.proofs.Happened.{Happened, IsUnderWay, answers}
 use Rattle.ft_model.proofs.Happened.Happened.{log_heard}
 use Rattle.ft_model.proofs.JointMasked.{sound_goes_on}
+use Rattle.ft_model.proofs.Resets.{knowing_goes_on}
 use Rattle.ft_model.proofs.Running.{HasSmallOutputs}
 use Rattle.ft_model.proofs.ToldLast.{IsSilentTo, silent_append}
 use Rattle.ft_model.proofs.ToldOver.{telling_goes_on, answers_silent}
@@ -49,6 +51,8 @@ went service small start before sent after starts s h = record {
     near = near_goes_on service start before sent after s.joint s.near h;
     unfenced = unfenced_goes_on service before sent after s.joint.fenced s.unfenced h;
     owns = owns_goes_on service start before sent after s.joint s.near s.owns h;
+    knows = knowing_goes_on service start before sent after s.joint s.knows h;
+    cut = cut_goes_on service before sent after s.cut h;
   };
   acknowledged = acknowledged_moment service start before sent after starts ((s.joint.fenced, s.joint.asked), s.joint.faithful) h;
   restart = exact_moment service before sent after (s.joint.fenced, s.joint.asked) h;
@@ -123,6 +127,10 @@ data_stands service start w key offset units s above backed = record {
   near = tt;
   stale = tt;
   own = tt;
+  says = tt;
+  calls = tt;
+  resets = tt;
+  asks = λ b places e. tt;
 }
 
 -- the log's acknowledged units of a key rise, to no more than the output over its reads
@@ -169,6 +177,10 @@ stale_told service start w boot s older =
             near = tt;
             stale = low;
             own = tt;
+            says = tt;
+            calls = tt;
+            resets = tt;
+            asks = λ b places. tt;
           });
       acknowledged = (tt, tt);
       restart = same_exact service w.log w.node;

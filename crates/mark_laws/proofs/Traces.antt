@@ -25,6 +25,8 @@ use Rattle.ft_model.proofs.FaithfulOver.{script_of, isn_of}
 use Rattle.ft_model.proofs.Happened.Happened.{server_booted, server_down}
 use Rattle.ft_model.proofs.JointMasked.{start_sound}
 use Rattle.ft_model.proofs.Lists.{all_both, all_append, all_weaker, none_is_some, some_is}
+use Rattle.ft_model.proofs.Cuttable.{AreCut}
+use Rattle.ft_model.proofs.Resets.{start_knowing}
 use Rattle.ft_model.proofs.Running.{HasSmallOutputs}
 use Rattle.ft_model.proofs.Seen.{IsSeen}
 use Rattle.ft_model.proofs.ToldOver.{node_told}
@@ -175,7 +177,7 @@ start_of_joint by first (moment ∷ earlier) j = start_of_joint by first earlier
 
 start_kept : {State : Type 0} (by : Marker State) (first : MarkedWorld) → IsMarkedStart first → Kept by (seen first) first
 start_kept by first s = record {
-  sound = record { joint = start_sound by.service (seen first) s.start; telling = λ n e. none_is_some n (sym s.start.node ∙ e); below = start_below (script_of (seen first)) (seen first) s.start; near = start_near (isn_of (seen first)) (seen first) s.start; unfenced = start_unfenced (seen first) s.start; owns = start_owns (seen first) s.start };
+  sound = record { joint = start_sound by.service (seen first) s.start; telling = λ n e. none_is_some n (sym s.start.node ∙ e); below = start_below (script_of (seen first)) (seen first) s.start; near = start_near (isn_of (seen first)) (seen first) s.start; unfenced = start_unfenced (seen first) s.start; owns = start_owns (seen first) s.start; knows = start_knowing (seen first) s.start; cut = subst AreCut (sym s.start.log) tt };
   marks = record {
     under_way = subst (AllByRecursion (HasTrueMark by first.log.log)) (sym s.parcels) tt;
     kept = λ key. subst (λ l. IsTrueOrNone by l.log key (l.marks key)) (sym s.log) (inl refl);

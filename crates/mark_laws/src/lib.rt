@@ -3,8 +3,8 @@
 //! masked; all that is sent in it can be written as bytes. Nothing here runs; each function is a theorem.
 #![tactic(auto)]
 
-ghost use Rattle.std.specs.Prelude.{◌≡◌, ℕ, Bool, true, false, ◌≤◌, List, [], ◌∷◌, Some, None, length, sum, slice_get, ◌<◌, codes};
-ghost use Rattle.server_trait.specs.Service.{machine, reference, AreBytes};
+ghost use Rattle.std.specs.Prelude.{◌≡◌, ℕ, Bool, true, false, ◌≤◌, List, [], ◌∷◌, Some, None, IfSome, length, sum, slice_get, ◌<◌, codes};
+ghost use Rattle.server_trait.specs.Service.{machine, reference, AreBytes, CanCut};
 ghost use Rattle.server_trait.specs.Saved.{Writing, ReadsBack, writing};
 ghost use Rattle.seq_arith.specs.Mark.{Mark, MarkMessage};
 ghost use Rattle.ft_model.specs.Log.{Entry};
@@ -15,7 +15,7 @@ ghost use Rattle.mark_laws.specs.Runs.{IsRunOf};
 ghost use Rattle.mark_laws.specs.Quiet.{IsQuiet, mark_of};
 ghost use Rattle.mark_laws.specs.Front.{IsBelow, bytes_below, lengths_below};
 ghost use Rattle.ft_model.specs.Restart.{Fetched, wanted, point_of};
-ghost use Rattle.ft_model.specs.Lawful.{all_restored, IsNearInput, IsSoundInput, fence};
+ghost use Rattle.ft_model.specs.Lawful.{all_restored, IsNearInput, IsSoundInput, fence, is_fenced};
 ghost use Rattle.ft_model.specs.Node.Place.{Lives};
 ghost use Rattle.mark_laws.specs.Restart.{FetchedSoFar, Leads, next_question, fetched_on, mark_reported};
 ghost use Rattle.mark_laws.specs.WorkedRestart.{plain, entry_message, nothing_fetched, entry_fetched, mark, holding, mark_fetched, question_for_mark};
@@ -25,6 +25,7 @@ ghost use Rattle.mark_laws.specs.WorkedLog.{client, before, kept, marking, two_a
 ghost use Rattle.ft_io.specs.declared.Key.{Key};
 ghost use Rattle.ft_model.specs.Legal.{machines, start_of};
 ghost use Rattle.ft_model.specs.Masked.{Masked};
+ghost use Rattle.ft_model.specs.Resets.{ResetsNoLogged};
 ghost use Rattle.ft_model.specs.News.{News};
 ghost use Rattle.ft_model.specs.Node.{Input, Place};
 ghost use Rattle.ft_model.specs.Readable.{FitsSchedule};
@@ -39,7 +40,7 @@ ghost use Rattle.mark_laws.specs.Marking.{Marking, MarkingTurn, Outgoing, with_n
 ghost use Rattle.mark_laws.specs.MarkedNode.{GoesMarked, MarkedNode, ServesMarked, marks_at};
 ghost use Rattle.mark_laws.specs.MarkedLegal.{markers, marked_start, IsMarkedLegalFor, MarkedLegal};
 ghost use Rattle.mark_laws.specs.MarkedOutcome.{IsMarkedWhole, IsMarkedRefused, IsMarkedPastPackets};
-ghost use Rattle.mark_laws.specs.MarkedWorld.{MarkedWorld, MarkedMoment, MarkedJoint, seen, parcel_at, marked_after, plain_trace, CanBeRead};
+ghost use Rattle.mark_laws.specs.MarkedWorld.{MarkedWorld, MarkedMoment, MarkedJoint, seen, usual, parcel_at, marked_after, plain_trace, CanBeRead};
 ghost use Rattle.mark_laws.specs.MarkedWorld.Parcel.{Mark_answered};
 ghost use Rattle.mark_laws.specs.Premises.{IsSoundMark};
 ghost use Rattle.mark_laws.specs.TrueMarks.{MarksAreTrue};
@@ -174,6 +175,40 @@ pub fn marked_traces_are_masked<S: Saved>()
     ensures { (kind every : ℕ) (start : MarkedWorld) (trace : List MarkedMoment)
         → MarkedJoint (markers (machines S.started S.after) S.form S.state_of every kind) start trace
         → Masked (machine (S.started kind) S.after) (seen start) (plain_trace trace) }
+{
+    marks_stay_true::<S>();
+    marks_that_go_out_are_true::<S>();
+}
+
+/// In every trace with marks the sum of the lengths of an entry's logged reads is at most the number of its logged bytes, and only the last length may be 0,
+/// that of the closing read. So the server that never crashed, with which `marked_traces_are_masked` compares the trace, reads only bytes that its client sent.
+pub fn marked_traces_cut_the_bytes<S: Saved>()
+    ensures { (kind every : ℕ) (start : MarkedWorld) (trace : List MarkedMoment)
+        → MarkedJoint (markers (machines S.started S.after) S.form S.state_of every kind) start trace
+        → AllByRecursion (λ e. CanCut e.bytes e.lengths) (marked_after start trace).log.log.entries }
+{
+    marks_stay_true::<S>();
+    marks_that_go_out_are_true::<S>();
+}
+
+/// No false reset: of all RSTs that were sent so far in a trace with marks, none was sent to a client whose entry is now in the log and not done.
+pub fn marked_traces_reset_no_logged_connection<S: Saved>()
+    ensures { (kind every : ℕ) (start : MarkedWorld) (trace : List MarkedMoment)
+        → MarkedJoint (markers (machines S.started S.after) S.form S.state_of every kind) start trace
+        → AllByRecursion (ResetsNoLogged (marked_after start trace).log.log) (usual (marked_after start trace).parcels) }
+{
+    marks_stay_true::<S>();
+    marks_that_go_out_are_true::<S>();
+}
+
+/// No server of a trace with marks is ever fenced, and nothing that may arrive next fences it.
+pub fn marked_traces_fence_no_server<S: Saved>()
+    ensures stage { (kind every : ℕ) (start : MarkedWorld) (trace : List MarkedMoment)
+        → MarkedJoint (markers (machines S.started S.after) S.form S.state_of every kind) start trace
+        → IfSome (marked_after start trace).node (λ node. is_fenced node.plain.stage ≡ false) }
+    ensures input { (kind every : ℕ) (start : MarkedWorld) (trace : List MarkedMoment) (node : MarkedNode) (input : Input)
+        → MarkedJoint (markers (machines S.started S.after) S.form S.state_of every kind) start trace
+        → (marked_after start trace).node ≡ Some node → MayCome (seen (marked_after start trace)) input → fence node.plain input ≡ None }
 {
     marks_stay_true::<S>();
     marks_that_go_out_are_true::<S>();
