@@ -19,6 +19,7 @@ mod OneOutcome
 mod OneTrace
 mod WorkedTrace
 mod WorkedLegal
+mod WrongMarks
 mod LawOfMarks
 mod Premises
 mod SeenTurns

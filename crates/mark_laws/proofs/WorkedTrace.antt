@@ -172,7 +172,7 @@ goes_16 : Goes 1 (Logged (kept_in path.packet_14)) path.logged_point path.releas
 unfolding laws
 goes_16 = goes echo server 1 (Logged (kept_in path.packet_14)) path.logged_point path.released_point path.moment_16.sent refl refl refl refl
 
-turn_16 : Turn (run.marks_none (path.node_live path.logged_point)) (Message_comes (message_in path.packet_14)) (map Plain path.moment_16.sent) (run.marks_none (path.node_live path.released_point))
+pub turn_16 : Turn (run.marks_none (path.node_live path.logged_point)) (Message_comes (message_in path.packet_14)) (map Plain path.moment_16.sent) (run.marks_none (path.node_live path.released_point))
 unfolding laws
 turn_16 = record {
   live = refl;

@@ -13,5 +13,6 @@ pub mod TrueMarks
 pub mod MarkedLegal
 pub mod MarkedOutcome
 pub mod WorkedTrace
+pub mod WrongMarks
 pub mod Premises
 pub mod MarkedReport

@@ -45,6 +45,8 @@ ghost use Rattle.mark_laws.specs.MarkedWorld.Parcel.{Mark_answered};
 ghost use Rattle.mark_laws.specs.Premises.{IsSoundMark};
 ghost use Rattle.mark_laws.specs.TrueMarks.{MarksAreTrue};
 ghost use Rattle.mark_laws.specs.WorkedTrace.{marker, schedule, start, trace};
+ghost use Rattle.mark_laws.specs.WrongMarks;
+ghost use Rattle.mark_laws.specs.WrongMarks.{IsTurn, IsUnlawful};
 ghost use Rattle.std.specs.List.{AllByRecursion};
 ghost use Rattle.mark_laws.specs.MarkedReport.{marked_report};
 
@@ -283,6 +285,14 @@ pub fn legal_marked_traces_are_determined<S: Saved>()
 pub fn worked_restart_from_a_mark()
     ensures joint { MarkedJoint marker start trace }
     ensures legal { MarkedLegal (λ kind. marker) schedule trace }
+{}
+
+/// In turns of the worked run wrong marks are refused. When the read is known to be logged, its mark may not go out with the echo, which isn't acknowledged
+/// yet. While that mark is outstanding, no second one may go out, even if both echoes are acknowledged. Once the first mark is answered, the second goes out.
+pub fn wrong_marks_are_refused()
+    ensures unacknowledged { IsUnlawful WrongMarks.unmarked_node WrongMarks.read_is_logged WrongMarks.unacknowledged }
+    ensures second { IsUnlawful (WrongMarks.node_with (Some mark)) WrongMarks.second_ack_comes WrongMarks.marking_again }
+    ensures once_answered { (after : MarkedNode) × IsTurn (WrongMarks.node_with None) WrongMarks.second_ack_comes WrongMarks.marking_again after }
 {}
 
 /// All that was sent in a trace with marks can be written as bytes, and the messages about marks are read back as they were sent. The premise: a server that
