@@ -12,4 +12,5 @@ mod OneTrace
 pub mod OneTurn
 mod Steps
 mod WorkedPair
+mod WorkedStop
 mod TraceBytes

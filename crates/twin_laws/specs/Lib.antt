@@ -5,6 +5,7 @@ pub mod TwinWorld
 pub mod Flat
 pub mod WorkedPair
 pub mod TwinLegal
+pub mod WorkedStop
 pub mod TwinReport
 pub mod SentBytes
 pub mod TwinOutcome

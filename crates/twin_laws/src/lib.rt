@@ -2,7 +2,7 @@
 //! function is a theorem.
 #![tactic(auto)]
 
-ghost use Rattle.std.specs.Prelude.{ℕ, List, [], Some, ◌≡◌, ◌<◌, ◌≤◌, ◌*◌, ◌^◌, false, length, Ok};
+ghost use Rattle.std.specs.Prelude.{ℕ, List, [], ◌∷◌, Some, ◌≡◌, ◌<◌, ◌≤◌, ◌*◌, ◌^◌, false, length, Ok};
 ghost use Rattle.std.specs.List.{AllByRecursion};
 ghost use Rattle.seq_arith.specs.Damage.{flipped};
 ghost use Rattle.seq_arith.specs.Message.{is_answer};
@@ -16,21 +16,26 @@ ghost use Rattle.ft_model.specs.Network.{Packet};
 ghost use Rattle.ft_model.specs.Readable.{FitsSchedule};
 ghost use Rattle.ft_model.specs.Schedule.{kind_of};
 ghost use Rattle.ft_model.specs.World.{Joint, WasSent, events_of, world_after};
+ghost use Rattle.ft_model.specs.WorkedRuns.FirstPath;
 ghost use Rattle.ft_model.specs.declared.event.Event.{Event};
+ghost use Rattle.ft_model.specs.declared.event.Event.TheVariants.{Deliver};
 ghost use Rattle.ft_model.specs.declared.schedule.Schedule.{Schedule};
 ghost use Rattle.twin_laws.specs.Flat.{flat};
 ghost use Rattle.twin_laws.specs.Pair.{Delivery, ActsAsOne, IsPaired, pair_over, new_pair};
 ghost use Rattle.twin_laws.specs.StoredState.{kept_head, kept_tail, kept_does, comes_from, in_bytes};
-ghost use Rattle.twin_laws.specs.Twin.{Request, Head, Tail, head_does, tail_does, from_other_logger, bytes_of};
+ghost use Rattle.twin_laws.specs.declared.part.Part.{Part};
+ghost use Rattle.twin_laws.specs.Twin.{Comes, Request, Head, Tail, head_does, tail_does, from_other_logger, bytes_of};
 ghost use Rattle.twin_laws.specs.Twin.Between.{Forward, Got};
 ghost use Rattle.twin_laws.specs.Twin.Comes.{Tells, Is_noise};
 ghost use Rattle.twin_laws.specs.TwinLegal.{IsTwinLegalFor, TwinLegal, twin_start};
 ghost use Rattle.twin_laws.specs.TwinOutcome.{IsTwinWhole, IsTwinRefused, IsTwinPastPackets};
 ghost use Rattle.twin_laws.specs.TwinReport.{twin_report};
-ghost use Rattle.twin_laws.specs.TwinWorld.{TwinWorld, TwinMoment, TwinJoint, seen, parcel_at, twin_after};
+ghost use Rattle.twin_laws.specs.TwinWorld.{TwinWorld, TwinMoment, TwinJoint, TwinHappens, seen, parcel_at, twin_after};
 ghost use Rattle.twin_laws.specs.TwinWorld.Parcel.{Outside};
+ghost use Rattle.twin_laws.specs.TwinWorld.TwinEvent.{Usual, Stop};
 ghost use Rattle.twin_laws.specs.SentBytes.{IsWritten};
 ghost use Rattle.twin_laws.specs.WorkedPair.{at_first, worked, events_in, flat_events};
+ghost use Rattle.twin_laws.specs.WorkedStop;
 
 use ft_model::wire::packets_have_wires;
 pub use part::{Part, Side};
@@ -107,6 +112,27 @@ pub fn what_is_sent_is_read()
 pub fn worked_pair_is_joint<S: Service>()
     ensures joint { (kind : ℕ) → TwinJoint (machine (S.started kind) S.after) at_first worked }
     ensures flat { events_in (flat at_first worked).trace ≡ flat_events }
+{}
+
+/// A worked run with a stop: the head has taken a client's Open and forwarded it, and the tail stops before it applies it. At the next tick the server asks
+/// again, and the head, which serves alone, answers. The trace is legal, whatever the service. It ends with a connection whose entry is in the head's log, which
+/// is the one that serves, and not in that of the tail. Made flat, the stop is the delivery of that Open.
+pub fn worked_stop_is_legal<S: Service>()
+    ensures legal { TwinLegal (machines S.started S.after) WorkedStop.schedule WorkedStop.trace }
+    ensures serving { (seen (twin_after (twin_start WorkedStop.schedule) WorkedStop.trace) []).log ≡ FirstPath.log_with (FirstPath.opened_entry ∷ []) }
+    ensures stopped { (twin_after (twin_start WorkedStop.schedule) WorkedStop.trace).pair.tail.log ≡ FirstPath.log_with [] }
+    ensures node { (twin_after (twin_start WorkedStop.schedule) WorkedStop.trace).node ≡ Some (FirstPath.node_live FirstPath.begun_point) }
+    ensures flat { events_in (flat (twin_start WorkedStop.schedule) WorkedStop.trace).trace ≡ WorkedStop.flat_events }
+{}
+
+/// A head that is paired answers nothing to the server: no turn of the worked run is one in which it answers the Open that it forwards. After the tail has
+/// stopped, neither logger stops any more.
+pub fn wrong_loggers_are_refused<S: Service>()
+    ensures paired { (head : Head) (comes : Comes) → head.alone ≡ false → (head_does comes head).to_server ≡ [] }
+    ensures answers { (kind : ℕ) (after : TwinWorld)
+        → TwinHappens (machine (S.started kind) S.after) WorkedStop.moment_7.world (Usual (Deliver 6)) WorkedStop.answers_itself after → ⊥ }
+    ensures second_stop { (kind : ℕ) (part : Part) (after : TwinWorld)
+        → TwinHappens (machine (S.started kind) S.after) WorkedStop.moment_9.world (Stop part) [] after → ⊥ }
 {}
 
 /// A schedule with two loggers has only one outcome: no two of the three hold of it, and the event that is refused or exceeds the limit is determined, and so is
