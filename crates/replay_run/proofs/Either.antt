@@ -1,9 +1,11 @@
 -- What is needed of the traces of a schedule, with two loggers, with one log or with marks.
-use Rattle.std.proofs.Common.{◌≡◌, ℕ, ◌+◌, ◌≤◌, Bool, true, false, Option, None, Some, IsSome, List, [], ◌∷◌, ◌++◌, length, ◌∙◌, ap, sym, subst, refl, arith}
-use Rattle.std.specs.List.{flat_map}
+use Rattle.std.proofs.Common.{◌≡◌, ℕ, ◌+◌, ◌≤◌, Bool, true, false, Option, None, Some, IsSome, IfSome, List, [], ◌∷◌, ◌++◌, length, ◌∙◌, ap, sym, subst, refl, arith}
+use Rattle.std.specs.List.{AllByRecursion, flat_map}
 use Rattle.std.proofs.lemmas.List.{length-map}
 use Rattle.sample_servers.specs.AnyService.{any_machine}
 use Rattle.sample_servers.specs.declared.any_service.AnyService.{AnyService}
+use Rattle.server_trait.specs.Service.{CanCut}
+use Rattle.ft_model.specs.Lawful.{is_fenced}
 use Rattle.ft_model.specs.Legal.{start_of, IsLegalFor}
 use Rattle.ft_model.specs.Report.{header, client_lines, log_line, end_line}
 use Rattle.ft_model.specs.Schedule.{kind_of}
@@ -12,8 +14,9 @@ use Rattle.ft_model.specs.declared.event.Event.{Event}
 use Rattle.ft_model.specs.declared.schedule.Schedule.{Schedule}
 use Rattle.ft_model.specs.declared.way.Way.{Way}
 use Rattle.ft_model.specs.Masked.{Masked}
+use Rattle.ft_model.specs.Resets.{ResetsNoLogged}
 use Rattle.mark_laws.specs.MarkedLegal.{IsMarkedLegalFor, marked_start}
-use Rattle.mark_laws.specs.MarkedWorld.{MarkedMoment, MarkedWorld, MarkedJoint, marked_after, plain_trace}
+use Rattle.mark_laws.specs.MarkedWorld.{MarkedMoment, MarkedWorld, MarkedJoint, marked_after, plain_trace, usual}
 use Rattle.mark_laws.specs.TrueMarks.{MarksAreTrue}
 use Rattle.replay_check.specs.Safe.{IsSafe}
 use Rattle.twin_laws.specs.Flat.{flat}
@@ -194,21 +197,39 @@ pub can_be_written : KeepsAll → (w : Kept AnyService) (n : ℕ) (way : Way) (b
     → at_number w.packets.bytes n ≡ Some bytes → IsSome (content_in way bytes)
 can_be_written keeps w n way bytes i e f = can_be_read keeps n way bytes i.schedule.twin i.schedule.marks i.schedule i.events i.trace w i.stands e f
 
+-- what is proved of a trace with marks
+pub record MarkedLaws : Type 0 where
+  pub masked : (every : ℕ) (schedule : Schedule) (events : List Event) (trace : List MarkedMoment) → IsMarkedLegalFor (any_marker every) schedule events trace
+      → Masked (any_machine (kind_of schedule.service)) (start_of schedule) (plain_trace trace)
+  pub resets : (kind every : ℕ) (start : MarkedWorld) (trace : List MarkedMoment) → MarkedJoint (any_marker every kind) start trace
+      → AllByRecursion (ResetsNoLogged (marked_after start trace).log.log) (usual (marked_after start trace).parcels)
+  pub fenced : (kind every : ℕ) (start : MarkedWorld) (trace : List MarkedMoment) → MarkedJoint (any_marker every kind) start trace
+      → IfSome (marked_after start trace).node (λ node. is_fenced node.plain.stage ≡ false)
+  pub cut : (kind every : ℕ) (start : MarkedWorld) (trace : List MarkedMoment) → MarkedJoint (any_marker every kind) start trace
+      → AllByRecursion (λ e. CanCut e.bytes e.lengths) (marked_after start trace).log.log.entries
+  pub are_true : (kind every : ℕ) (start : MarkedWorld) (trace : List MarkedMoment) → MarkedJoint (any_marker every kind) start trace
+      → MarksAreTrue (any_marker every kind) (marked_after start trace)
+
 -- what is proved of a legal trace
 pub safe_in : ((kind : ℕ) (start : World) (trace : List Moment) → Joint (any_machine kind) start trace → IsSafe (any_machine kind) start trace)
     → ((schedule : Schedule) (events : List Event) (trace : List TwinMoment) → IsTwinLegalFor any_machine schedule events trace
     → IsLegalFor any_machine schedule (events_of (flat (twin_start schedule) trace).trace) (flat (twin_start schedule) trace).trace)
-    → ((every : ℕ) (schedule : Schedule) (events : List Event) (trace : List MarkedMoment) → IsMarkedLegalFor (any_marker every) schedule events trace
-    → Masked (any_machine (kind_of schedule.service)) (start_of schedule) (plain_trace trace))
-    → ((kind every : ℕ) (start : MarkedWorld) (trace : List MarkedMoment) → MarkedJoint (any_marker every kind) start trace → MarksAreTrue (any_marker every kind) (marked_after start trace))
+    → MarkedLaws
     → (twin : Bool) (marks : Option ℕ) (schedule : Schedule) (events : List Event) (trace : List (traces_of twin marks).Turn) → (traces_of twin marks).IsLegal schedule events trace
     → (traces_of twin marks).IsSafe schedule trace
-safe_in safe made masked are_true true marks schedule events trace l =
+safe_in safe made laws true marks schedule events trace l =
     let m : IsLegalFor any_machine schedule (events_of (flat (twin_start schedule) trace).trace) (flat (twin_start schedule) trace).trace = made schedule events trace l in
     record { legal = m; safe = safe (kind_of schedule.service) (start_of schedule) (flat (twin_start schedule) trace).trace m.joint }
-safe_in safe made masked are_true false None schedule events trace l = safe (kind_of schedule.service) (start_of schedule) trace l.joint
-safe_in safe made masked are_true false (Some every) schedule events trace l =
-    record { masked = masked every schedule events trace l; marks = are_true (kind_of schedule.service) every (marked_start schedule) trace l.joint }
+safe_in safe made laws false None schedule events trace l = safe (kind_of schedule.service) (start_of schedule) trace l.joint
+safe_in safe made laws false (Some every) schedule events trace l =
+    let kind = kind_of schedule.service in
+    record {
+      masked = laws.masked every schedule events trace l;
+      resets = laws.resets kind every (marked_start schedule) trace l.joint;
+      fenced = laws.fenced kind every (marked_start schedule) trace l.joint;
+      cut = laws.cut kind every (marked_start schedule) trace l.joint;
+      marks = laws.are_true kind every (marked_start schedule) trace l.joint;
+    }
 
 -- a schedule's events end in one way
 pub one_end : (A B : (twin : Bool) → (marks : Option ℕ) → Schedule → Type 0) → ((schedule : Schedule) → A false None schedule → B false None schedule → ⊥)

@@ -1,12 +1,16 @@
 -- The traces of a schedule's runs, in the world with one log, with a head and a tail, or with marks. Statements about a run and its report hold for all
 -- three.
-use Rattle.std.specs.Prelude.{ℕ, Bool, true, false, Option, None, Some, List}
+use Rattle.std.specs.Prelude.{◌≡◌, ℕ, Bool, true, false, Option, None, Some, IfSome, List}
+use Rattle.std.specs.List.{AllByRecursion}
 use Rattle.sample_servers.specs.AnyService.{any_machine, any_form, any_state_of}
 use Rattle.sample_servers.specs.declared.any_service.AnyService.{AnyService}
+use Rattle.server_trait.specs.Service.{CanCut}
+use Rattle.ft_model.specs.Lawful.{is_fenced}
 use Rattle.ft_model.specs.Legal.{start_of, refusal, IsLegalFor}
 use Rattle.ft_model.specs.Masked.{Masked}
 use Rattle.ft_model.specs.Outcome.{packets_sent}
 use Rattle.ft_model.specs.Report.{event_lines, report}
+use Rattle.ft_model.specs.Resets.{ResetsNoLogged}
 use Rattle.ft_model.specs.Schedule.{kind_of, clients_of}
 use Rattle.ft_model.specs.World.{Moment, world_after, events_of}
 use Rattle.ft_model.specs.declared.event.Event.{Event}
@@ -15,7 +19,7 @@ use Rattle.ft_model.specs.declared.schedule.Schedule.{Schedule}
 use Rattle.replay_check.specs.Safe.{IsSafe}
 use Rattle.mark_laws.specs.MarkedLegal.{markers, marked_start, marked_refusal, IsMarkedLegalFor, marked_packets_sent}
 use Rattle.mark_laws.specs.MarkedNode.{Marker}
-use Rattle.mark_laws.specs.MarkedWorld.{MarkedMoment, marked_after, plain_trace}
+use Rattle.mark_laws.specs.MarkedWorld.{MarkedMoment, marked_after, plain_trace, usual}
 use Rattle.mark_laws.specs.TrueMarks.{MarksAreTrue}
 use Rattle.mark_laws.specs.MarkedReport.{marked_event_lines, marked_report}
 use Rattle.twin_laws.specs.Flat.{flat}
@@ -64,9 +68,12 @@ of_two_loggers = record {
 abbrev pub any_marker : (every : ℕ) → ℕ → Marker AnyService
 any_marker every = markers any_machine any_form any_state_of every
 
--- With marks the moments are those of that world, and the proved property is that the trace without its marks is masked, and that the marks are true
+-- With marks the moments are those of that world, and the proved property is that of one log, for the trace without its marks, and that the marks are true
 pub record IsSafeMarked (every : ℕ) (schedule : Schedule) (trace : List MarkedMoment) : Type 0 where
   pub masked : Masked (any_machine (kind_of schedule.service)) (start_of schedule) (plain_trace trace)
+  pub resets : AllByRecursion (ResetsNoLogged (marked_after (marked_start schedule) trace).log.log) (usual (marked_after (marked_start schedule) trace).parcels)
+  pub fenced : IfSome (marked_after (marked_start schedule) trace).node (λ node. is_fenced node.plain.stage ≡ false)
+  pub cut : AllByRecursion (λ e. CanCut e.bytes e.lengths) (marked_after (marked_start schedule) trace).log.log.entries
   pub marks : MarksAreTrue (any_marker every (kind_of schedule.service)) (marked_after (marked_start schedule) trace)
 
 abbrev pub of_marks : (every : ℕ) → Traces

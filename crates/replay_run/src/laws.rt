@@ -7,12 +7,16 @@ ghost use Rattle.replay_run.specs.Causes.{AllHappen, OneIsRefused, PacketsExceed
 ghost use Rattle.replay_run.specs.Traces.{traces};
 
 use ft_model::laws::schedules_have_one_outcome;
-use mark_laws::{marked_schedules_are_masked, marked_schedules_have_one_outcome, marks_are_true};
+use mark_laws::{
+    marked_schedules_are_masked, marked_schedules_have_one_outcome, marked_traces_cut_the_bytes,
+    marked_traces_fence_no_server, marked_traces_reset_no_logged_connection, marks_are_true,
+};
 use replay_check::joint_traces_are_safe;
 use sample_servers::AnyService;
 use twin_laws::{legal_traces_are_masked, twin_schedules_have_one_outcome};
 
-/// Every legal trace is safe. With one log the trace is joint; with two loggers its reduction to one log is; and with marks the trace is masked.
+/// Every legal trace is safe. With one log the trace is joint; with two loggers its reduction to one log is; and with marks the
+/// laws of `mark_laws` say of the trace what those of `ft_model` say without them, and that the marks are true.
 pub(crate) fn legal_traces_are_safe()
     ensures { (schedule : Schedule) (events : List Event) (trace : List (traces schedule).Turn) → (traces schedule).IsLegal schedule events trace
         → (traces schedule).IsSafe schedule trace }
@@ -20,6 +24,9 @@ pub(crate) fn legal_traces_are_safe()
     joint_traces_are_safe();
     legal_traces_are_masked::<AnyService>();
     marked_schedules_are_masked::<AnyService>();
+    marked_traces_reset_no_logged_connection::<AnyService>();
+    marked_traces_fence_no_server::<AnyService>();
+    marked_traces_cut_the_bytes::<AnyService>();
     marks_are_true::<AnyService>();
 }
 
