@@ -2,12 +2,13 @@
 use Rattle.std.proofs.Common.{◌≡◌, ◌≤◌, ℕ, suc, ◌+◌, ◌-◌, ◌==◌, Bool, true, false, true≢false, not, ◌&&◌, refl, sym, ap, ap₂, subst, arith, ◌∙◌, Option, Some, None, List, [], ◌∷◌, ◌++◌, length, take, drop, map, sum, length-append, append-nil, append_assoc, if◌then◌else◌}
 use Rattle.std.specs.Prelude.{nat_lt, nat_le, is_none}
 use Rattle.std.specs.Bool.{MatchBool}
+use Rattle.std.specs.List.{AllByRecursion}
 use Rattle.std.specs.Option.{option_map_or}
 use Rattle.std.proofs.lemmas.List.{take-append-drop, map-append}
 use Rattle.std.proofs.Math.Seq.{take-append_seam, drop-append_seam}
 use Rattle.ft_io.specs.declared.Addr.{Addr}
 use Rattle.ft_io.specs.declared.Key.{Key}
-use Rattle.ft_io.proofs.Choices.{by_cases, holds_if}
+use Rattle.ft_io.proofs.Choices.{by_cases, holds_if, if_false}
 use Rattle.seq_arith.specs.Mark.{Mark}
 use Rattle.seq_arith.specs.Message.{Body}
 use Rattle.server_trait.specs.Service.{Machine}
@@ -283,3 +284,21 @@ tells_truth service writing every news script m q e taken within fits enough fro
           (new_ones_true service writing every m q e is_true);
       outstanding = outstanding_true service writing every m q e is_true held;
     }
+
+-- a new mark counts what is acknowledged and logged
+pub counts_answered : {State : Type 0} (service : Machine State) (writing : Writing State) (every : ℕ) (m : Marking) (p : Point)
+    → AllByRecursion (λ mark. (mark.made ≡ p.una) × (mark.reads ≡ p.reads_answered)) (new_marks service writing every m p)
+counts_answered service writing every m p =
+    holds_if (AllByRecursion (λ (mark : Mark). (mark.made ≡ p.una) × (mark.reads ≡ p.reads_answered))) (is_due service every m p) (mark_of service writing p ∷ []) []
+    (λ due. let q : IsQuiet service p = quiet_where_it_is service p (quiet_of (nat_lt 0 every) (is_none m.outstanding) (nat_le (m.last + every) (length p.lengths)) (is_quiet service p) due) in
+    ((sym q.acknowledged, sym q.answered), tt)) (λ off. tt)
+
+not_while : (a b c d : Bool) → b ≡ false → (a && b && c && d) ≡ false
+not_while a b c d h = grind (arith, h)
+
+-- .. and none is made while one is outstanding
+pub none_while_outstanding : {State : Type 0} (service : Machine State) (writing : Writing State) (every : ℕ) (m : Marking) (p : Point) (mark : Mark) → m.outstanding ≡ Some mark
+    → new_marks service writing every m p ≡ []
+none_while_outstanding service writing every m p mark is =
+    if_false (is_due service every m p) (mark_of service writing p ∷ []) []
+    (not_while (nat_lt 0 every) (is_none m.outstanding) (is_quiet service p) (nat_le (m.last + every) (length p.lengths)) (ap is_none is))

@@ -1,7 +1,9 @@
 //! Laws of the marks that a node sends: when a mark is sent, at which place of a turn, and that each is true.
 
-ghost use Rattle.std.specs.Prelude.{◌≡◌, ℕ, ◌≤◌, ◌++◌, ◌↔◌, true, None, List, length, map, sum};
+ghost use Rattle.std.specs.Prelude.{◌≡◌, ℕ, ◌≤◌, ◌++◌, ◌↔◌, true, None, Some, List, [], length, map, sum};
+ghost use Rattle.std.specs.List.{AllByRecursion};
 ghost use Rattle.ft_io.specs.declared.Addr.{Addr};
+ghost use Rattle.seq_arith.specs.Mark.{Mark};
 ghost use Rattle.server_trait.specs.Service.{machine};
 ghost use Rattle.server_trait.specs.Saved.{Writing};
 ghost use Rattle.ft_model.specs.Connection.{ConnectionTurn, sent_by, told_by};
@@ -16,7 +18,7 @@ ghost use Rattle.ft_model.specs.Point.{Point};
 ghost use Rattle.ft_model.specs.Reads.{reads_told};
 ghost use Rattle.ft_model.specs.Segments.{segments_of};
 ghost use Rattle.mark_laws.specs.Quiet.{IsQuiet, is_quiet};
-ghost use Rattle.mark_laws.specs.Marking.{Marking, outstanding_in, Outgoing, with_marks, without_marks, MarkingTurn, MarkedTurn, IsSettled, MarksNothing, OnlyRepeats};
+ghost use Rattle.mark_laws.specs.Marking.{Marking, new_marks, outstanding_in, Outgoing, with_marks, without_marks, MarkingTurn, MarkedTurn, IsSettled, MarksNothing, OnlyRepeats};
 ghost use Rattle.mark_laws.specs.Marking.{AreTrue, TellsTruth};
 ghost use Rattle.mark_laws.specs.Marking.Outgoing.{Plain};
 
@@ -55,6 +57,15 @@ pub fn turns_leave_no_mark_due<S: Service>()
     ensures answer { (fresh : S) (writing : Writing S) (every boot reads : ℕ) (p : Point) (m n : Marking) (sent : List Outgoing)
         → IsSettled (machine fresh S.after) every m p
         → MarkedTurn (machine fresh S.after) writing every boot reads p m n sent → IsSettled (machine fresh S.after) every n p }
+{}
+
+/// A new mark counts exactly the output that the client has acknowledged and the reads that are known to be logged. While a mark is outstanding, no new one is
+/// made.
+pub fn new_marks_wait_for_answers<S: Service>()
+    ensures acknowledged { (fresh : S) (writing : Writing S) (every : ℕ) (m : Marking) (p : Point)
+        → AllByRecursion (λ mark. (mark.made ≡ p.una) × (mark.reads ≡ p.reads_answered)) (new_marks (machine fresh S.after) writing every m p) }
+    ensures outstanding { (fresh : S) (writing : Writing S) (every : ℕ) (m : Marking) (p : Point) (mark : Mark) → m.outstanding ≡ Some mark
+        → new_marks (machine fresh S.after) writing every m p ≡ [] }
 {}
 
 /// At a tick no new mark is made: only the mark that isn't answered is sent again.
