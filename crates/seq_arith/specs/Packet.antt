@@ -23,10 +23,6 @@ pub record Segment : Type 0 where
 abbrev pub has : (flags flag : ℕ) → Bool
 has flags flag = flags / flag % 2 == 1
 
--- `has` with the flag first
-abbrev pub is_flagged : (flag flags : ℕ) → Bool
-is_flagged flag flags = has flags flag
-
 abbrev pub has_fin : Segment → Bool
 has_fin segment = has segment.head.flags FIN
 
