@@ -29,7 +29,8 @@ use Rattle.ft_model.proofs.Happened.Happened.{log_heard, client_heard, client_mo
 use Rattle.ft_model.proofs.StageTurns.{Progress, StageWent, stage_went}
 use Rattle.ft_model.proofs.StageTurns.StageWent.{was_fenced, waited, held_off, asked_on, resumed, served}
 use Rattle.ft_model.proofs.Fenced.{IsFenced, IsLogged, IsOurs, IsSegment, IsNoChange, HasBoot, is_change, is_stale, turn_ours, was_restarting}
-use Rattle.ft_model.proofs.Fetching.{AgreesWith, AreFetched, told_agrees, fetched_agrees}
+use Rattle.ft_model.specs.FetchedFronts.{AreFetched}
+use Rattle.ft_model.proofs.Fetching.{AgreesWith, told_agrees, fetched_agrees}
 use Rattle.ft_io.proofs.Choices.{holds_if}
 
 abbrev pub entry_keys : Log → List Key

@@ -18,7 +18,7 @@ use Rattle.ft_model.specs.Growth.{IsPrefix}
 use Rattle.ft_model.specs.World.{World}
 use Rattle.ft_model.proofs.Lists.{all_of, all_slice_get}
 use Rattle.ft_model.proofs.Keys.{finds_itself, all_from_get}
-use Rattle.ft_model.proofs.Fetching.{IsWhole, AreFetched}
+use Rattle.ft_model.specs.FetchedFronts.{IsWhole, AreFetched}
 use Rattle.ft_model.proofs.Asked.{entry_keys}
 use Rattle.ft_model.proofs.Resumed.{nothing_missing}
 use Rattle.ft_model.proofs.Scripts.{EntryFits}

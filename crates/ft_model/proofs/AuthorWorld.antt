@@ -20,7 +20,7 @@ use Rattle.ft_model.proofs.Happened.Happened.{log_heard, client_heard, client_mo
 use Rattle.ft_model.proofs.StageTurns.{StageWent, stage_went}
 use Rattle.ft_model.proofs.StageTurns.StageWent.{was_fenced, waited, held_off, asked_on, resumed, served}
 use Rattle.ft_model.proofs.Fenced.{IsFenced}
-use Rattle.ft_model.proofs.Fetching.{AreFetched}
+use Rattle.ft_model.specs.FetchedFronts.{AreFetched}
 use Rattle.ft_model.proofs.Asked.{IsAsked, StageAgrees, progress_agrees}
 use Rattle.ft_model.proofs.Faithful.{PlaceFits, StageFits}
 use Rattle.server_trait.specs.Service.{reference}

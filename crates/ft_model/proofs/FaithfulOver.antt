@@ -29,7 +29,8 @@ use Rattle.ft_model.proofs.Happened.Happened.{log_heard, client_heard, client_mo
 use Rattle.ft_model.proofs.PlaceTurns.{all_go_on, serving_goes_on}
 use Rattle.ft_model.proofs.StageTurns.{StageWent, stage_went}
 use Rattle.ft_model.proofs.StageTurns.StageWent.{was_fenced, waited, held_off, asked_on, resumed, served}
-use Rattle.ft_model.proofs.Fetching.{IsFront, IsWhole, AreFetched, whole_is}
+use Rattle.ft_model.specs.FetchedFronts.{IsFront, IsWhole, AreFetched}
+use Rattle.ft_model.proofs.Fetching.{whole_is}
 use Rattle.ft_model.proofs.Asked.{IsAsked, StageAgrees, entry_keys, progress_agrees}
 use Rattle.ft_model.proofs.Resumed.{nothing_missing}
 use Rattle.ft_model.proofs.Services.{prefix_length}

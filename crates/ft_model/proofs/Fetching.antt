@@ -9,6 +9,7 @@ use Rattle.seq_arith.specs.Message.Body.{HelloMsg, SummaryMsg, ListMsg, EntryMsg
 use Rattle.ft_model.specs.Log.{Log, Entry, entry_of, head_of, part_of, lens_of, on_entry, opened_answer, kept_of, answer_from}
 use Rattle.ft_model.specs.Restart.{Wanted, Fetched, wanted, next_entry, lacks_read_bytes, lacks_bytes, lacks_lengths, is_fetched, fetched_by, fetched_after, all_follow, entry_in}
 use Rattle.ft_model.specs.Restart.Wanted.{An_entry, Its_bytes, Its_lengths}
+use Rattle.ft_model.specs.FetchedFronts.{IsFront, IsWhole, AreFetched}
 use Rattle.ft_model.specs.Growth.{IsPrefix}
 use Rattle.ft_model.specs.Keys.{AreDistinct}
 use Rattle.ft_model.proofs.Lists.{take_first, found_passes, same_key, none_is_some, some_is}
@@ -23,21 +24,6 @@ AgreesWith entries (EntryMsg index head) = (e : Entry) × (slice_get entries ind
 AgreesWith entries (PartMsg key offset bytes) = (e : Entry) × (find (λ x. key_eq x.key key) entries ≡ Some e) × IsPrefix bytes (drop offset e.bytes)
 AgreesWith entries (LensMsg key first lens) = (e : Entry) × (find (λ x. key_eq x.key key) entries ≡ Some e) × IsPrefix lens (drop first e.lengths)
 AgreesWith entries _ = Unit {0}
-
--- a fetched entry is the front of this one
-pub record IsFront (f : Fetched) (e : Entry) : Type 0 where
-  pub head : f.head ≡ head_of e
-  pub bytes : IsPrefix f.bytes e.bytes
-  pub lengths : IsPrefix f.lengths e.lengths
-
-abbrev pub IsWhole : Fetched → Type 0
-IsWhole f = (lacks_bytes f ≡ false) × (lacks_lengths f ≡ false)
-
--- so many entries are fetched, the newest first; all but the newest are whole
-abbrev pub AreFetched : List Entry → List Fetched → Type 0
-AreFetched entries [] = Unit {0}
-AreFetched entries (f ∷ earlier) =
-    (e : Entry) × (slice_get entries (length earlier) ≡ Some e) × IsFront f e × AllByRecursion IsWhole earlier × AreFetched entries earlier
 
 pub on_some : (o : Option Entry) (tell : Entry → Option Body) (answer : Body) → on_entry tell o ≡ Some answer → (e : Entry) × (o ≡ Some e) × (tell e ≡ Some answer)
 on_some (Some e) tell answer t = (e, refl, t)

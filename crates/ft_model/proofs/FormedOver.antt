@@ -21,7 +21,7 @@ use Rattle.ft_model.specs.World.{World}
 use Rattle.ft_model.proofs.Lists.{all_weaker, all_both, all_find, all_slice_get, none_is_some, some_is}
 use Rattle.ft_model.proofs.Services.{prefix_length}
 use Rattle.ft_model.proofs.Happened.{IsBrought, all_sent}
-use Rattle.ft_model.proofs.Fetching.{AreFetched}
+use Rattle.ft_model.specs.FetchedFronts.{AreFetched}
 use Rattle.ft_model.proofs.Asked.{StageAgrees, progress_agrees}
 use Rattle.ft_model.proofs.Resumed.{nothing_missing}
 use Rattle.ft_model.proofs.PlaceTurns.{all_go_on, serving_goes_on}

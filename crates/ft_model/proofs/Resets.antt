@@ -34,7 +34,8 @@ use Rattle.ft_model.proofs.PlaceTurns.{all_go_on}
 use Rattle.ft_model.proofs.StageTurns.{StageWent, stage_went}
 use Rattle.ft_model.proofs.StageTurns.StageWent.{was_fenced, waited, held_off, asked_on, resumed, served}
 use Rattle.ft_model.proofs.Fenced.{IsFenced, IsOurs, IsSegment, IsNoChange, is_change, turn_ours, was_restarting, all_opt}
-use Rattle.ft_model.proofs.Fetching.{AreFetched, full_front}
+use Rattle.ft_model.specs.FetchedFronts.{AreFetched}
+use Rattle.ft_model.proofs.Fetching.{full_front}
 use Rattle.ft_model.proofs.Asked.{IsAsked, entry_keys, progress_agrees}
 use Rattle.ft_model.proofs.Resumed.{nothing_missing, restored_keys, restored_length, length_map, revived_keys}
 use Rattle.ft_model.proofs.Faithful.{StageFits}

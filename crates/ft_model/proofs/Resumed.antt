@@ -27,7 +27,8 @@ use Rattle.ft_model.proofs.Keys.{distinct_front, finds_itself, front_more, all_f
 use Rattle.ft_model.proofs.Happened.{IsBrought}
 use Rattle.ft_model.proofs.StageTurns.{StageWent, stage_went, either_turn}
 use Rattle.ft_model.proofs.StageTurns.StageWent.{was_fenced, waited, held_off, asked_on, resumed, served}
-use Rattle.ft_model.proofs.Fetching.{IsFront, IsWhole, AreFetched, whole_is}
+use Rattle.ft_model.specs.FetchedFronts.{IsFront, IsWhole, AreFetched}
+use Rattle.ft_model.proofs.Fetching.{whole_is}
 use Rattle.ft_model.proofs.Asked.{IsAsked, progress_agrees}
 use Rattle.ft_io.proofs.Choices.{holds_if}
 

@@ -26,6 +26,7 @@ pub mod World
 pub mod Image
 pub mod Schedule
 pub mod Growth
+pub mod FetchedFronts
 pub mod Keys
 pub mod Masked
 pub mod Resets

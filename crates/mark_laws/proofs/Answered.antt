@@ -17,7 +17,8 @@ use Rattle.ft_model.specs.Node.Place.{Lives}
 use Rattle.ft_model.proofs.Resumed.{nothing_missing, restored_at}
 use Rattle.std.proofs.lemmas.Option.{slice_get_within}
 use Rattle.ft_model.proofs.Lists.{none_is_some, some_is, same_key, take_first, all_slice_get}
-use Rattle.ft_model.proofs.Fetching.{AgreesWith, AreFetched, told_agrees, fetched_agrees, chosen_is}
+use Rattle.ft_model.specs.FetchedFronts.{AreFetched}
+use Rattle.ft_model.proofs.Fetching.{AgreesWith, told_agrees, fetched_agrees, chosen_is}
 use Rattle.mark_laws.specs.MarkedLog.{MarkedLog, AnyMessage, no_mark, after_mark, answer_above, answer_to_mark, is_below, is_mark_answer, told_of_mark, about_mark}
 use Rattle.mark_laws.specs.MarkedLog.AnyMessage.{About_mark, Of_log}
 use Rattle.mark_laws.specs.Runs.{IsRunOf}

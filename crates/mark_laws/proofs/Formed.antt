@@ -24,7 +24,7 @@ use Rattle.ft_model.specs.World.{World, Happens}
 use Rattle.ft_model.specs.declared.event.Event.{Event}
 use Rattle.ft_model.proofs.Faithful.{EntriesFit, PlaceFits}
 use Rattle.ft_model.proofs.FaithfulOver.{script_of, isn_of, points_fit, restored_all}
-use Rattle.ft_model.proofs.Fetching.{AreFetched}
+use Rattle.ft_model.specs.FetchedFronts.{AreFetched}
 use Rattle.ft_model.proofs.Formed.{HasClient, IsBoot, PacketFormed, StartFormed, EntryFormed, PlaceFormed, StageFormed, NodeFormed, WorldFormed}
 use Rattle.ft_model.proofs.FormedLog.{EntryTells, AckedWithin, entries_tell}
 use Rattle.ft_model.proofs.FormedOver.{Knows, turn_formed, no_places, point_formed, revived_formed, wanted_formed}

@@ -26,7 +26,8 @@ use Rattle.ft_model.specs.Restart.Wanted.{Its_bytes, Its_lengths}
 use Rattle.ft_model.specs.World.{World}
 use Rattle.ft_model.proofs.Asked.{StageAgrees}
 use Rattle.ft_model.proofs.Faithful.{AnswerFits, prefix_length}
-use Rattle.ft_model.proofs.Fetching.{AgreesWith, AreFetched}
+use Rattle.ft_model.specs.FetchedFronts.{AreFetched}
+use Rattle.ft_model.proofs.Fetching.{AgreesWith}
 use Rattle.ft_model.proofs.Fenced.{IsLogged}
 use Rattle.ft_model.proofs.Happened.Happened.{server_turned}
 use Rattle.ft_model.proofs.Keys.{finds_itself}

@@ -28,7 +28,7 @@ use Rattle.ft_model.proofs.Formed.{bytes_take, bytes_left}
 use Rattle.ft_model.proofs.Asked.{StageAgrees, progress_agrees}
 use Rattle.ft_model.proofs.Faithful.{units_within}
 use Rattle.ft_model.proofs.FaithfulOver.{script_of, isn_of, script_in}
-use Rattle.ft_model.proofs.Fetching.{AreFetched}
+use Rattle.ft_model.specs.FetchedFronts.{AreFetched}
 use Rattle.ft_model.proofs.Happened.{all_sent}
 use Rattle.ft_model.proofs.Keys.{finds_itself}
 use Rattle.ft_model.proofs.Lists.{all_map, all_of, all_find, none_is_some, some_is, same_key, take_first}

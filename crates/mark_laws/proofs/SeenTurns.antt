@@ -25,7 +25,7 @@ use Rattle.ft_model.specs.Restart.{Fetched, Wanted, wanted, question}
 use Rattle.ft_model.specs.ServingTurn.{newcomers}
 use Rattle.ft_model.specs.World.{World}
 use Rattle.ft_model.proofs.Asked.{IsAsked, StageAgrees}
-use Rattle.ft_model.proofs.Fetching.{AreFetched}
+use Rattle.ft_model.specs.FetchedFronts.{AreFetched}
 use Rattle.ft_model.proofs.Happened.{IsBrought}
 use Rattle.ft_model.proofs.Keys.{finds_itself}
 use Rattle.ft_model.proofs.Lists.{none_is_some, same_key, take_first}

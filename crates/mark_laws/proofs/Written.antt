@@ -39,7 +39,7 @@ use Rattle.ft_model.proofs.AuthorOver.{HasAuthor, EntryOf}
 use Rattle.ft_model.proofs.Backed.{PacketBacked}
 use Rattle.ft_model.proofs.Faithful.{units_within}
 use Rattle.ft_model.proofs.FaithfulOver.{script_of, isn_of}
-use Rattle.ft_model.proofs.Fetching.{AreFetched}
+use Rattle.ft_model.specs.FetchedFronts.{AreFetched}
 use Rattle.ft_model.proofs.Formed.{IsBoot, PacketFormed, StartFormed, NodeFormed, WorldFormed, bytes_cut}
 use Rattle.ft_model.proofs.FormedLog.{EntryTells, entries_tell}
 use Rattle.ft_model.proofs.FormedOver.{Knows, newest_formed}

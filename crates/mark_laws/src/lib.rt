@@ -20,7 +20,7 @@ ghost use Rattle.ft_model.specs.Node.Place.{Lives};
 ghost use Rattle.mark_laws.specs.Restart.{FetchedSoFar, Leads, next_question, fetched_on, mark_reported};
 ghost use Rattle.mark_laws.specs.WorkedRestart.{plain, entry_message, nothing_fetched, entry_fetched, mark, holding, mark_fetched, question_for_mark};
 ghost use Rattle.mark_laws.specs.Answers.{answer_of, IsQuestion, HasTrueMarks};
-ghost use Rattle.ft_model.proofs.Fetching.{AreFetched};
+ghost use Rattle.ft_model.specs.FetchedFronts.{AreFetched};
 ghost use Rattle.mark_laws.specs.WorkedLog.{client, before, kept, marking, two_are_marked, asking, held, bytes_from, lengths_from, last_part, last_length};
 ghost use Rattle.ft_io.specs.declared.Key.{Key};
 ghost use Rattle.ft_model.specs.Legal.{machines, start_of};

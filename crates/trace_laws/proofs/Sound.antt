@@ -16,7 +16,8 @@ use Rattle.ft_model.proofs.Lists.{prefix_trans, all_slice_get}
 use Rattle.ft_model.proofs.Keys.{all_from_get}
 use Rattle.ft_model.proofs.Happened.{holds_after}
 use Rattle.ft_model.proofs.StageTurns.{Progress}
-use Rattle.ft_model.proofs.Fetching.{IsFront, AreFetched, whole_is}
+use Rattle.ft_model.specs.FetchedFronts.{IsFront, AreFetched}
+use Rattle.ft_model.proofs.Fetching.{whole_is}
 use Rattle.ft_model.proofs.Asked.{progress_agrees}
 use Rattle.ft_model.proofs.Scripts.{EntryFits}
 use Rattle.ft_model.proofs.Services.{reads_go_on, more_bytes, prefix_length}
