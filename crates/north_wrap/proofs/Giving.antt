@@ -5,7 +5,7 @@ use Rattle.server_trait.specs.Service.{Machine, reference}
 use Rattle.ft_model.specs.Point.{Point, made, released, whole_run, answered_run}
 use Rattle.ft_model.proofs.Services.{prefix_length, drop_within}
 use Rattle.north_wrap.specs.RunState.{given_count, gives}
-use Rattle.north_wrap.specs.NorthState.{NorthState, unreleased, given_north, given_socket, shut_north, shut_socket, closes}
+use Rattle.north_wrap.specs.NorthState.{NorthState, unstable, given_north, given_socket, shut_north, shut_socket, closes}
 use Rattle.north_wrap.specs.Sockets.{Writer}
 use Rattle.north_wrap.specs.Refinement.{NorthStands, RecordsRun, given_more, given_text, written}
 use Rattle.north_wrap.proofs.Logged.{answered_front}
@@ -15,7 +15,7 @@ pub last_keeps : {S : Type 0} (service : Machine S) (p : Point) (given : ℕ) (n
 last_keeps service p given n st = let e : p.reads_answered + 0 ≡ p.reads_answered = omega arith in
     subst (λ a. RecordsRun n.last (reference service p.taken (take a p.lengths))) e (st.keeps 0 (omega arith))
 
-pub count_is : {S : Type 0} (service : Machine S) (p : Point) (given room : ℕ) (n : NorthState S) → NorthStands service p given n → given_count room (unreleased n) n.run ≡ given_more service p room given
+pub count_is : {S : Type 0} (service : Machine S) (p : Point) (given room : ℕ) (n : NorthState S) → NorthStands service p given n → given_count room (unstable n) n.run ≡ given_more service p room given
 count_is service p given room n st =
     let last : n.last.made ≡ released service p = (last_keeps service p given n st).made in
     let pending : length n.run.pending ≡ made service p - given = ap length st.run.pending ∙ length-drop given (whole_run service p).output in
@@ -28,7 +28,7 @@ front_same xs ys given k h =
     ap (take k) (drop_within given xs ys (omega (arith, h))) ∙ take-append-le k (drop given xs) ys (let size = length-drop given xs in omega (arith, h, size))
 
 pub text_is : {S : Type 0} (service : Machine S) (p : Point) (given room : ℕ) (n : NorthState S) → NorthStands service p given n → given ≤ released service p
-    → gives room (unreleased n) n.run ≡ take (given_more service p room given) (drop given (answered_run service p).output)
+    → gives room (unstable n) n.run ≡ take (given_more service p room given) (drop given (answered_run service p).output)
 text_is service p given room n st may =
     let front = (answered_front service p).output in
     (λ j. take (count_is service p given room n st j) (st.run.pending j))

@@ -77,15 +77,15 @@ pub record HasRead {S K : Type 0} (after : S → List ℕ → Served S) (r : Rea
   pub reads : now.reads ≡ start.reads ++ news
 
 -- the output of reads that aren't known to be logged
-abbrev pub unreleased : {S : Type 0} → NorthState S → ℕ
-unreleased n = n.run.made - n.last.made
+abbrev pub unstable : {S : Type 0} → NorthState S → ℕ
+unstable n = n.run.made - n.last.made
 
--- output is given, except the unreleased, as much as there is room for
+-- output is given, except the unstable, as much as there is room for
 abbrev pub given_north : {S K : Type 0} → Writer K → NorthState S → K → NorthState S
-given_north w n s = record n { run = given_to (w.room s) (unreleased n) n.run }
+given_north w n s = record n { run = given_to (w.room s) (unstable n) n.run }
 
 abbrev pub given_socket : {S K : Type 0} → Writer K → NorthState S → K → K
-given_socket w n s = w.after_write s (gives (w.room s) (unreleased n) n.run)
+given_socket w n s = w.after_write s (gives (w.room s) (unstable n) n.run)
 
 -- the socket is closed where the read that closed the service is known to be logged and all output is given
 abbrev pub closes : {S : Type 0} → NorthState S → Bool

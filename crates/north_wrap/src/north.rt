@@ -7,7 +7,7 @@ ghost use Rattle.ft_model.specs.Point.{Point, released, whole_run};
 ghost use Rattle.north_wrap.specs.Refinement.{NorthStands, SocketStands, NorthTurn, with_answered};
 ghost use Rattle.north_wrap.specs.RunState.{run_on};
 ghost use Rattle.north_wrap.specs.Sockets.{reader, writer};
-ghost use Rattle.north_wrap.specs.NorthState.{fresh_north, resumed_north, unreleased, given_north, given_socket, shut_north, shut_socket, Turns, answered_on};
+ghost use Rattle.north_wrap.specs.NorthState.{fresh_north, resumed_north, unstable, given_north, given_socket, shut_north, shut_socket, Turns, answered_on};
 ghost use Rattle.north_wrap.specs.NorthState.{Allows, record_of, chunk_of, next_length, next_at, is_free_to_read, noted, read_on, socket_on, Reads, lengths_of};
 ghost use Rattle.north_wrap.specs.NorthState.{is_empty};
 
@@ -255,8 +255,8 @@ impl<S: Service> North<S> {
     }
 
     /// How many bytes of output may not be sent yet: those of reads that aren't known to be logged.
-    pub fn unreleased(&self) -> u32
-        ensures { result ≡ unreleased self.now }
+    pub fn unstable(&self) -> u32
+        ensures { result ≡ unstable self.now }
     {
         self.run.made().saturating_sub(self.last.made)
     }
@@ -267,8 +267,8 @@ impl<S: Service> North<S> {
         ensures socket { sock.new ≡ given_socket (writer K.write_room K.is_closed K.after_write K.after_close) self.old sock.old }
         ensures unread { K.unread sock.new ≡ K.unread sock.old }
     {
-        let unreleased = self.unreleased();
-        self.run.give(sock, unreleased);
+        let unstable = self.unstable();
+        self.run.give(sock, unstable);
     }
 
     /// Closes the socket once the read that closed the service is known to be logged and all output is given.

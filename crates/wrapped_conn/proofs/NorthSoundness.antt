@@ -7,7 +7,7 @@ use Rattle.server_trait.specs.Service.{Served}
 use Rattle.ft_model.proofs.Lists.{some_is, none_is_some, or_second}
 use Rattle.north_wrap.specs.declared.read_record.ReadRecord.{ReadRecord}
 use Rattle.north_wrap.specs.RunState.{RunState, run_on, served_on, given_count, gives}
-use Rattle.north_wrap.specs.NorthState.{NorthState, Reads, Turns, Allows, next_length, next_at, is_free_to_read, length_of_next, read_on, socket_on, chunk_of, noted, record_of, unreleased, given_north, given_socket, shut_north, shut_socket, closes, lengths_of}
+use Rattle.north_wrap.specs.NorthState.{NorthState, Reads, Turns, Allows, next_length, next_at, is_free_to_read, length_of_next, read_on, socket_on, chunk_of, noted, record_of, unstable, given_north, given_socket, shut_north, shut_socket, closes, lengths_of}
 use Rattle.tcp_endpoint.specs.declared.states.StateName.{StateName}
 use Rattle.tcp_endpoint.specs.declared.states.StateName.TheVariants.{Closed, Listen, SynSent, SynReceived, Established, FinWait1, FinWait2, CloseWait, Closing, LastAck, TimeWait}
 use Rattle.tcp_endpoint.specs.States.{after_close}
@@ -191,16 +191,16 @@ all_reads after una fetched n e (k ∷ ks) m t short s reads =
     on_and fetched n e _ _ m t one (all_reads after una fetched (read_on after e.receiving.unread k n) (socket_on tcp_reader k n e) ks m t short one.sound reads.1)
 
 written_few : {S : Type 0} (fetched : ℕ) (n : NorthState S) (e : Tcb) → AreSound fetched n e
-    → e.sending.una + length e.sending.held + length (gives (write_room e) (unreleased n) n.run) ≤ 2 ^ 24 + one_if e.sending.fin_sent
+    → e.sending.una + length e.sending.held + length (gives (write_room e) (unstable n) n.run) ≤ 2 ^ 24 + one_if e.sending.fin_sent
 written_few fetched n e s = by_closed e.sending.closed refl
   where
-    by_closed : (c : Bool) → e.sending.closed ≡ c → e.sending.una + length e.sending.held + length (gives (write_room e) (unreleased n) n.run) ≤ 2 ^ 24 + one_if e.sending.fin_sent
-    by_closed true h = let room : write_room e ≡ 0 = room_none e.sending.closed e.reset _ h in omega (arith, room, s.tcp.bounds.written, length-take (given_count (write_room e) (unreleased n) n.run) n.run.pending)
-    by_closed false h = omega (arith, s.written h, s.made, length-take (given_count (write_room e) (unreleased n) n.run) n.run.pending)
+    by_closed : (c : Bool) → e.sending.closed ≡ c → e.sending.una + length e.sending.held + length (gives (write_room e) (unstable n) n.run) ≤ 2 ^ 24 + one_if e.sending.fin_sent
+    by_closed true h = let room : write_room e ≡ 0 = room_none e.sending.closed e.reset _ h in omega (arith, room, s.tcp.bounds.written, length-take (given_count (write_room e) (unstable n) n.run) n.run.pending)
+    by_closed false h = omega (arith, s.written h, s.made, length-take (given_count (write_room e) (unstable n) n.run) n.run.pending)
 
 given_on : {S : Type 0} (fetched : ℕ) (n : NorthState S) (e : Tcb) → AreSound fetched n e → AreSound fetched (given_north tcp_writer n e) (given_socket tcp_writer n e)
 given_on fetched n e s =
-    let count : ℕ = given_count (write_room e) (unreleased n) n.run in
+    let count : ℕ = given_count (write_room e) (unstable n) n.run in
     let bytes : List ℕ = take count n.run.pending in
     record {
       tcp = record { bounds = bounded_by_more e bytes (written_few fetched n e s) s.tcp.bounds; buffered = s.tcp.buffered; begun = s.tcp.begun; fin_last = s.tcp.fin_last };

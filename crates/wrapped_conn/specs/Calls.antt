@@ -1,7 +1,7 @@
 -- The calls to TCP that a turn of the north wrapper makes.
 use Rattle.std.specs.Prelude.{ℕ, List, [], ◌∷◌, length, if◌then◌else◌}
 use Rattle.north_wrap.specs.RunState.{gives}
-use Rattle.north_wrap.specs.NorthState.{NorthState, unreleased, closes, given_north}
+use Rattle.north_wrap.specs.NorthState.{NorthState, unstable, closes, given_north}
 use Rattle.north_wrap.specs.Refinement.{off_socket}
 use Rattle.tcp_endpoint.specs.Tcb.{Tcb}
 use Rattle.tcp_endpoint.specs.UserCalls.{write_room}
@@ -17,4 +17,4 @@ reads_of (k ∷ ks) = Reads k ∷ reads_of ks
 abbrev pub calls_of : {S : Type 0} → NorthState S → Tcb → List ℕ → List Call
 calls_of n e lengths =
     let reads : List Call = reads_of (off_socket (length n.rest) lengths)
-    in Writes (gives (write_room e) (unreleased n) n.run) ∷ (if closes (given_north tcp_writer n e) then Closes ∷ reads else reads)
+    in Writes (gives (write_room e) (unstable n) n.run) ∷ (if closes (given_north tcp_writer n e) then Closes ∷ reads else reads)
