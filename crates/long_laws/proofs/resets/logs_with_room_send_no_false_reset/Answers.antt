@@ -1,0 +1,6 @@
+use Rattle.long_laws.proofs.resets.logs_with_room_send_no_false_reset.Goals as goal
+use Rattle.server_trait.specs.Service.{machine}
+use Rattle.long_laws.proofs.Room.{room_spares}
+
+pub returns : goal.returns
+returns g c = λ kind start moment earlier joint room. room_spares (machine (g.S.Service.started kind) g.S.Service.after) g.met.S.Service.is_short start moment earlier joint room

@@ -1,0 +1,6 @@
+use Rattle.long_laws.proofs.resets.no_logged_connection_is_sent_a_reset.Goals as goal
+use Rattle.server_trait.specs.Service.{machine}
+use Rattle.long_laws.proofs.Spared.{moment_spares}
+
+pub returns : goal.returns
+returns g c = λ kind start moment earlier joint full. moment_spares (machine (g.S.Service.started kind) g.S.Service.after) g.met.S.Service.is_short start moment earlier joint full

@@ -1,0 +1,13 @@
+pub mod LongTrace
+pub mod Snapshot
+pub mod Forgetting
+pub mod WorkedTrace
+pub mod Refusals
+pub mod LongResets
+pub mod EarlyReturn
+pub mod LateReturn
+pub mod ForgetGrammar
+pub mod Quarantine
+pub mod QuarantineWorld
+pub mod Over
+pub mod LateRefusal
