@@ -27,6 +27,7 @@ use indexmap::IndexMap;
 use logger_wire::{Body, Msg};
 use seq_arith::Seq;
 use server_trait::Service;
+use std::mem;
 
 fn tell_slot<S: Service>(
     who: Identity,
@@ -74,7 +75,7 @@ fn end_slot<S: Service>(slot: &mut Slot<S>)
     ensures { slot.new ≡ ended_lem slot.old }
 {
     match slot {
-        Slot::Live(_) => *slot = Slot::Done,
+        Slot::Live(_) => drop(mem::replace(slot, Slot::Done)),
         Slot::Pending(_) | Slot::Done => {}
     }
 }
@@ -116,16 +117,15 @@ fn put_slot<S: Service>(key: Key, slots: &mut IndexMap<Key, Slot<S>>, slot: Slot
     requires { IsSome (lookup (key_eq key) slots.old.entries) }
     ensures { slots.new.entries ≡ set_value (key_eq key) slots.old.entries slot }
 {
-    if let Some(place) = slots.get_mut(&key) {
-        *place = slot;
-    }
+    let place = slots.get_mut(&key).unwrap();
+    drop(mem::replace(place, slot));
 }
 
 /// Removes the slot of a key. The others keep their order.
 fn drop_slot<S: Service>(key: Key, slots: &mut IndexMap<Key, Slot<S>>)
     ensures { slots.new.entries ≡ remove_entry (key_eq key) slots.old.entries }
 {
-    let _ = slots.shift_remove(&key);
+    drop(slots.shift_remove(&key));
 }
 
 /// Handles the message that the log has an entry for a key, with these numbers: a pending opening with the same initial sequence number of the client becomes

@@ -46,8 +46,14 @@ pub(crate) fn begin_live<S: Service>(
         who.kind,
     )?;
     turn.out.clear();
-    conn.start(turn.alloc, &mut turn.out)?;
-    send_all(key, turn)?;
+    if let Err(lack) = conn.start(turn.alloc, &mut turn.out) {
+        drop(conn);
+        return Err(lack);
+    }
+    if let Err(lack) = send_all(key, turn) {
+        drop(conn);
+        return Err(lack);
+    }
     Ok(conn)
 }
 

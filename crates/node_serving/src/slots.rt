@@ -90,6 +90,6 @@ pub fn add_slot<S: Service>(
     ensures added { OnOk result (lookup (key_eq key) slots.old.entries ≡ None → slots.new.entries ≡ slots.old.entries ++ (key, slot) ∷ []) }
     ensures sound { OnOk result ((who : Incarnation) → AllSound who slots.old.entries → IsSoundSlot who key slot → AllSound who slots.new.entries) }
 {
-    slots.insert(key, slot)?;
+    drop(slots.insert(key, slot)?);
     Ok(())
 }

@@ -1,4 +1,5 @@
-use Rattle.std.proofs.Common.{rules, ◌≡◌, ◌∙◌, refl, sym, subst, Some, None}
+use Rattle.std.proofs.Common.{ap, ◌≡◌, ◌∙◌, refl, sym, subst, Some, None}
+use Rattle.std.specs.Option.{option_copied_mut}
 use Rattle.std.specs.Map.{lookup, set_value}
 use Rattle.ft_io.specs.Key.{key_eq}
 use Rattle.seq_arith.specs.Message.{Message}
@@ -19,7 +20,7 @@ pub returns-in-Some-clause-turn : goal.returns-in-Some-clause-turn
 returns-in-Some-clause-turn g c = λ service node places message told is st.
     let ended : Message = record { boot = node.boot; body = EndedMsg c.args.key } in
     let es = c.args.slots.now.entries in
-    let found : lookup (key_eq c.args.key) es ≡ Some c.in-Some.slot.now = search rules in
+    let found : lookup (key_eq c.args.key) es ≡ Some c.in-Some.slot.now = sym c.get_mut.ensures.value ∙ ap option_copied_mut c.in-Some.is in
     subst (λ xs. AllSlotsGo service node (Message_comes message) places xs told told) (sym (c.get_mut.follows.holds c.end_slot.new.slot).0)
     (subst (λ m. AllSlotsGo service node (Message_comes m) places (set_value (key_eq c.args.key) es c.end_slot.new.slot) told told) (sym is)
     (one_goes service node (Message_comes ended) c.args.key (only_its_key node ended c.args.key (λ k. refl)) (λ place. Unit {0}) es places c.in-Some.slot.now c.end_slot.new.slot told told
@@ -30,7 +31,7 @@ returns-in-Some-clause-turn g c = λ service node places message told is st.
 pub returns-in_default-clause-turn : goal.returns-in_default-clause-turn
 returns-in_default-clause-turn g c = λ service node places message told is st.
     let ended : Message = record { boot = node.boot; body = EndedMsg c.args.key } in
-    let nothing : lookup (key_eq c.args.key) c.args.slots.now.entries ≡ None = search rules in
+    let nothing : lookup (key_eq c.args.key) c.args.slots.now.entries ≡ None = sym c.get_mut.ensures.value ∙ ap option_copied_mut c.in_default.is in
     subst (λ m. AllSlotsGo service node (Message_comes m) places c.get_mut.follows.lender-at-none.entries told told) (sym is)
     (subst (λ m. AllSlotsGo service node (Message_comes ended) places m.entries told told) (sym c.get_mut.follows.holds-at-none)
     (none_goes service node (Message_comes ended) c.args.key (only_its_key node ended c.args.key (λ k. refl)) c.args.slots.now.entries places told st
@@ -38,7 +39,7 @@ returns-in_default-clause-turn g c = λ service node places message told is st.
 
 pub returns-in-Some-clause-sound : goal.returns-in-Some-clause-sound
 returns-in-Some-clause-sound g c = λ who sound.
-    let found : lookup (key_eq c.args.key) c.args.slots.now.entries ≡ Some c.in-Some.slot.now = search rules in
+    let found : lookup (key_eq c.args.key) c.args.slots.now.entries ≡ Some c.in-Some.slot.now = sym c.get_mut.ensures.value ∙ ap option_copied_mut c.in-Some.is in
     subst (AllSound who) (sym (c.get_mut.follows.holds c.end_slot.new.slot).0)
     (sound_set who c.args.key c.args.slots.now.entries c.end_slot.new.slot sound
     (subst (IsSoundSlot who c.args.key) (sym c.end_slot.ensures)
@@ -48,7 +49,7 @@ pub returns-in-Some-clause-alone : goal.returns-in-Some-clause-alone
 returns-in-Some-clause-alone g c = λ service node message told is.
     let ended : Message = record { boot = node.boot; body = EndedMsg c.args.key } in
     let es = c.args.slots.now.entries in
-    let found : lookup (key_eq c.args.key) es ≡ Some c.in-Some.slot.now = search rules in
+    let found : lookup (key_eq c.args.key) es ≡ Some c.in-Some.slot.now = sym c.get_mut.ensures.value ∙ ap option_copied_mut c.in-Some.is in
     subst (λ xs. SlotsAlone service node (Message_comes message) es xs told told) (sym (c.get_mut.follows.holds c.end_slot.new.slot).0)
     (subst (λ m. SlotsAlone service node (Message_comes m) es (set_value (key_eq c.args.key) es c.end_slot.new.slot) told told) (sym is)
     (set_alone service node (Message_comes ended) c.args.key (only_its_key node ended c.args.key (λ k. refl)) (its_key node ended c.args.key refl (λ k. refl) c.args.key refl)
@@ -60,7 +61,7 @@ pub returns-in_default-clause-alone : goal.returns-in_default-clause-alone
 returns-in_default-clause-alone g c = λ service node message told is.
     let ended : Message = record { boot = node.boot; body = EndedMsg c.args.key } in
     let es = c.args.slots.now.entries in
-    let nothing : lookup (key_eq c.args.key) es ≡ None = search rules in
+    let nothing : lookup (key_eq c.args.key) es ≡ None = sym c.get_mut.ensures.value ∙ ap option_copied_mut c.in_default.is in
     subst (λ m. SlotsAlone service node (Message_comes m) es c.get_mut.follows.lender-at-none.entries told told) (sym is)
     (subst (λ m. SlotsAlone service node (Message_comes ended) es m.entries told told) (sym c.get_mut.follows.holds-at-none)
     (same_alone service node (Message_comes ended) c.args.key (only_its_key node ended c.args.key (λ k. refl)) (its_key node ended c.args.key refl (λ k. refl) c.args.key refl) es told

@@ -1,4 +1,5 @@
-use Rattle.std.proofs.Common.{rules, ◌≡◌, ◌∙◌, refl, sym, ap, subst, Some, None}
+use Rattle.std.proofs.Common.{ap, ◌≡◌, ◌∙◌, refl, sym, subst, Some, None}
+use Rattle.std.specs.Option.{option_copied_mut}
 use Rattle.std.specs.Map.{lookup}
 use Rattle.ft_io.specs.Key.{key_eq}
 use Rattle.server_trait.specs.Service.{machine}
@@ -17,7 +18,7 @@ use Rattle.node_serving.proofs.hearing.tell_known.Goals as goal
 
 pub tell_slot-requires-clause-sound : goal.tell_slot-requires-clause-sound
 tell_slot-requires-clause-sound g c =
-    let found : lookup (key_eq c.args.key) c.args.slots.now.entries ≡ Some c.in-Some.slot.now = search rules in
+    let found : lookup (key_eq c.args.key) c.args.slots.now.entries ≡ Some c.in-Some.slot.now = sym c.get_mut.ensures.value ∙ ap option_copied_mut c.in-Some.is in
     sound_found c.args.who c.args.key c.args.slots.now.entries c.in-Some.slot.now c.requires.sound found
 
 pub returns-in_ok-tell_slot-clause-turn : goal.returns-in_ok-tell_slot-clause-turn
@@ -25,7 +26,7 @@ returns-in_ok-tell_slot-clause-turn g c = λ kept log stage places near st.
     let service = machine (g.S.Service.started c.args.who.kind) g.S.Service.after in
     let node = node_of c.args.who stage in
     let message = message_of c.args.m.now in
-    let found : lookup (key_eq c.args.key) c.args.slots.now.entries ≡ Some c.in-Some.slot.now = search rules in
+    let found : lookup (key_eq c.args.key) c.args.slots.now.entries ≡ Some c.in-Some.slot.now = sym c.get_mut.ensures.value ∙ ap option_copied_mut c.in-Some.is in
     subst (λ es. AllSlotsGo service node (Message_comes message) places es c.args.turn.now.sent.items c.tell_slot.new.turn.sent.items)
     (sym (c.get_mut.follows.holds c.tell_slot.new.slot).0)
     (one_goes service node (Message_comes message) c.args.key (only_its_key node message c.args.key (λ k. logged_names message.body kept log.says k ∙ ap (λ x. key_eq x k) log.client))
@@ -43,7 +44,7 @@ returns-in_default-clause-turn g c = λ kept log stage places near st.
     let service = machine (g.S.Service.started c.args.who.kind) g.S.Service.after in
     let node = node_of c.args.who stage in
     let message = message_of c.args.m.now in
-    let nothing : lookup (key_eq c.args.key) c.args.slots.now.entries ≡ None = search rules in
+    let nothing : lookup (key_eq c.args.key) c.args.slots.now.entries ≡ None = sym c.get_mut.ensures.value ∙ ap option_copied_mut c.in_default.is in
     subst (λ m. AllSlotsGo service node (Message_comes message) places m.entries c.args.turn.now.sent.items c.args.turn.now.sent.items) (sym c.get_mut.follows.holds-at-none)
     (none_goes service node (Message_comes message) c.args.key (only_its_key node message c.args.key (λ k. logged_names message.body kept log.says k ∙ ap (λ x. key_eq x k) log.client))
     c.args.slots.now.entries places c.args.turn.now.sent.items st (none_found (key_eq c.args.key) c.args.slots.now.entries nothing))
@@ -53,7 +54,7 @@ returns-in_ok-tell_slot-clause-alone g c = λ kept log stage.
     let service = machine (g.S.Service.started c.args.who.kind) g.S.Service.after in
     let node = node_of c.args.who stage in
     let message = message_of c.args.m.now in
-    let found : lookup (key_eq c.args.key) c.args.slots.now.entries ≡ Some c.in-Some.slot.now = search rules in
+    let found : lookup (key_eq c.args.key) c.args.slots.now.entries ≡ Some c.in-Some.slot.now = sym c.get_mut.ensures.value ∙ ap option_copied_mut c.in-Some.is in
     subst (λ es. SlotsAlone service node (Message_comes message) c.args.slots.now.entries es c.args.turn.now.sent.items c.tell_slot.new.turn.sent.items)
     (sym (c.get_mut.follows.holds c.tell_slot.new.slot).0)
     (set_alone service node (Message_comes message) c.args.key (only_its_key node message c.args.key (λ k. logged_names message.body kept log.says k ∙ ap (λ x. key_eq x k) log.client))
@@ -66,7 +67,7 @@ returns-in_default-clause-alone g c = λ kept log stage.
     let service = machine (g.S.Service.started c.args.who.kind) g.S.Service.after in
     let node = node_of c.args.who stage in
     let message = message_of c.args.m.now in
-    let nothing : lookup (key_eq c.args.key) c.args.slots.now.entries ≡ None = search rules in
+    let nothing : lookup (key_eq c.args.key) c.args.slots.now.entries ≡ None = sym c.get_mut.ensures.value ∙ ap option_copied_mut c.in_default.is in
     subst (λ m. SlotsAlone service node (Message_comes message) c.args.slots.now.entries m.entries c.args.turn.now.sent.items c.args.turn.now.sent.items) (sym c.get_mut.follows.holds-at-none)
     (same_alone service node (Message_comes message) c.args.key (only_its_key node message c.args.key (λ k. logged_names message.body kept log.says k ∙ ap (λ x. key_eq x k) log.client))
     (its_key node message c.args.key log.boot (λ k. logged_names message.body kept log.says k ∙ ap (λ x. key_eq x k) log.client) c.args.key refl)

@@ -1,4 +1,5 @@
-use Rattle.std.proofs.Common.{rules, ◌≡◌, ◌∙◌, refl, sym, subst, Some, None}
+use Rattle.std.proofs.Common.{ap, ◌≡◌, ◌∙◌, refl, sym, subst, Some, None}
+use Rattle.std.specs.Option.{option_copied_mut}
 use Rattle.std.specs.Map.{lookup, set_value}
 use Rattle.ft_io.specs.Key.{key_eq}
 use Rattle.server_trait.specs.Service.{machine}
@@ -19,7 +20,7 @@ use Rattle.node_serving.proofs.slots.give_known.Goals as goal
 pub give_slot-requires-clause-sound : goal.give_slot-requires-clause-sound
 give_slot-requires-clause-sound g c =
     let key = source_of (segment_of c.args.segment.now) in
-    let there : lookup (key_eq c.sender.result) c.args.slots.now.entries ≡ Some c.in-Some.slot.now = search rules in
+    let there : lookup (key_eq c.sender.result) c.args.slots.now.entries ≡ Some c.in-Some.slot.now = sym c.get_mut.ensures.value ∙ ap option_copied_mut c.in-Some.is in
     sound_found c.args.who key c.args.slots.now.entries c.in-Some.slot.now c.requires.sound
     (subst (λ k. lookup (key_eq k) c.args.slots.now.entries ≡ Some c.in-Some.slot.now) c.sender.ensures there)
 
@@ -29,7 +30,7 @@ returns-in_ok-give_slot-clause-turn g c = λ mine stage places near st.
     let node = node_of c.args.who stage in
     let segment = segment_of c.args.segment.now in
     let es = c.args.slots.now.entries in
-    let there : lookup (key_eq c.sender.result) es ≡ Some c.in-Some.slot.now = search rules in
+    let there : lookup (key_eq c.sender.result) es ≡ Some c.in-Some.slot.now = sym c.get_mut.ensures.value ∙ ap option_copied_mut c.in-Some.is in
     let goes = one_goes service node (Packet_comes segment) (source_of segment) (only_its_client node segment) (IsNearTo node.server segment) es places c.in-Some.slot.now c.give_slot.new.slot
     c.args.turn.now.sent.items c.give_slot.new.turn.sent.items st c.get_mut.ensures.unique (subst (λ k. lookup (key_eq k) es ≡ Some c.in-Some.slot.now) c.sender.ensures there) near
     (λ place close stands. c.in_ok-give_slot.ensures.turn mine stage place close stands) in
@@ -51,7 +52,7 @@ returns-in_default-clause-turn g c = λ mine stage places near st.
     let node = node_of c.args.who stage in
     let segment = segment_of c.args.segment.now in
     let es = c.args.slots.now.entries in
-    let nothing : lookup (key_eq c.sender.result) es ≡ None = search rules in
+    let nothing : lookup (key_eq c.sender.result) es ≡ None = sym c.get_mut.ensures.value ∙ ap option_copied_mut c.in_default.is in
     let goes = none_goes service node (Packet_comes segment) (source_of segment) (only_its_client node segment) es places c.args.turn.now.sent.items st
     (none_found (key_eq (source_of segment)) es (subst (λ k. lookup (key_eq k) es ≡ None) c.sender.ensures nothing)) in
     subst (λ m. AllSlotsGo service node (Packet_comes segment) places m.entries c.args.turn.now.sent.items c.args.turn.now.sent.items) (sym c.get_mut.follows.holds-at-none) goes
@@ -62,7 +63,7 @@ returns-in_ok-give_slot-clause-alone g c = λ mine stage.
     let node = node_of c.args.who stage in
     let segment = segment_of c.args.segment.now in
     let es = c.args.slots.now.entries in
-    let there : lookup (key_eq c.sender.result) es ≡ Some c.in-Some.slot.now = search rules in
+    let there : lookup (key_eq c.sender.result) es ≡ Some c.in-Some.slot.now = sym c.get_mut.ensures.value ∙ ap option_copied_mut c.in-Some.is in
     subst (λ xs. SlotsAlone service node (Packet_comes segment) es xs c.args.turn.now.sent.items c.give_slot.new.turn.sent.items) (sym (c.get_mut.follows.holds c.give_slot.new.slot).0)
     (subst (λ k. SlotsAlone service node (Packet_comes segment) es (set_value (key_eq k) es c.give_slot.new.slot) c.args.turn.now.sent.items c.give_slot.new.turn.sent.items)
     (sym c.sender.ensures)
@@ -77,7 +78,7 @@ returns-in_default-clause-alone g c = λ mine stage.
     let node = node_of c.args.who stage in
     let segment = segment_of c.args.segment.now in
     let es = c.args.slots.now.entries in
-    let nothing : lookup (key_eq c.sender.result) es ≡ None = search rules in
+    let nothing : lookup (key_eq c.sender.result) es ≡ None = sym c.get_mut.ensures.value ∙ ap option_copied_mut c.in_default.is in
     subst (λ m. SlotsAlone service node (Packet_comes segment) es m.entries c.args.turn.now.sent.items c.args.turn.now.sent.items) (sym c.get_mut.follows.holds-at-none)
     (same_alone service node (Packet_comes segment) (source_of segment) (only_its_client node segment) (its_client node segment (source_of segment) mine refl)
     es c.args.turn.now.sent.items (λ s found. none_is_some s (sym (subst (λ k. lookup (key_eq k) es ≡ None) c.sender.ensures nothing) ∙ found)))
