@@ -1,4 +1,5 @@
 use Rattle.std.proofs.Common.{rules, ◌≡◌, ◌∙◌, true, false, sym}
+use Rattle.std.proofs.lemmas.Bool.{false≢true}
 use Rattle.std.proofs.lemmas.Result.{on_ok_weaker}
 use Rattle.segment_codec.specs.Value.{segment_of}
 use Rattle.server_trait.specs.Service.{machine}
@@ -41,3 +42,13 @@ pub returns-else-contains_key-clause-alone : goal.returns-else-contains_key-clau
 returns-else-contains_key-clause-alone g c =
     let mine : is_for c.args.who.local (segment_of c.args.segment.now) ≡ true = sym c.is_for.ensures ∙ search rules in
     on_ok_weaker c.serve_strange.result (λ h. h mine) c.serve_strange.ensures.alone
+
+pub returns-then-contains_key-clause-untouched : goal.returns-then-contains_key-clause-untouched
+returns-then-contains_key-clause-untouched g c =
+    let mine : is_for c.args.who.local (segment_of c.args.segment.now) ≡ true = sym c.is_for.ensures ∙ search rules in
+    on_ok_weaker c.serve_known.result (λ h other. absurd (false≢true (sym other ∙ mine))) c.serve_known.ensures.sound
+
+pub returns-else-contains_key-clause-untouched : goal.returns-else-contains_key-clause-untouched
+returns-else-contains_key-clause-untouched g c =
+    let mine : is_for c.args.who.local (segment_of c.args.segment.now) ≡ true = sym c.is_for.ensures ∙ search rules in
+    on_ok_weaker c.serve_strange.result (λ h other. absurd (false≢true (sym other ∙ mine))) c.serve_strange.ensures.sound
