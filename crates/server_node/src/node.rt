@@ -81,8 +81,8 @@ impl<S: Saved> Node<S> {
             local,
         };
         let mut turn = Turn::new(alloc)?;
-        let stage = Stage::begun(alloc, every);
         send_hello(who, &mut turn)?;
+        let stage = Stage::begun(alloc, every);
         Ok(Node { who, stage, turn })
     }
 
