@@ -92,7 +92,7 @@ settled_goes_on Goes key step (place ∷ places) after sent (now, later, first, 
 pub one_settled : (key : Key) (place : Place) → settles key place ≡ true → is_settled key (place ∷ []) ≡ true
 one_settled key place e = or_left (settles key place) false e
 
-place_settled : {State : Type 0} (service : Machine State) (node : Node) (input : Input) (key : Key) (place : Place) (now : List Place) (sent : List Packet)
+pub place_settled : {State : Type 0} (service : Machine State) (node : Node) (input : Input) (key : Key) (place : Place) (now : List Place) (sent : List Packet)
     → PlaceWent service node input place now sent → settles key place ≡ true → is_settled key now ≡ true
 place_settled service node input key place now sent (stayed n s) e = ap (is_settled key) n ∙ one_settled key place e
 place_settled service node input key place now sent (went_on news p after i w n t) e =

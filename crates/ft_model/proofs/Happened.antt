@@ -75,7 +75,7 @@ quiet : (before : World) (sent : List Packet) (after : World) → NothingHappens
 quiet before sent after n = (n.0, n.1 ∙ (ap (λ ps. record before { packets = before.packets ++ ps }) n.0 ∙ ap (λ ps. record before { packets = ps }) (append-nil before.packets)))
 
 -- a packet with a changed bit is noise
-bit_changed : (bit : ℕ) (segment : Segment) → CanBeSent segment → bit < 8 * length (segments.spelling segment) → IsErr (segments.reading (flipped bit (segments.spelling segment)))
+pub bit_changed : (bit : ℕ) (segment : Segment) → CanBeSent segment → bit < 8 * length (segments.spelling segment) → IsErr (segments.reading (flipped bit (segments.spelling segment)))
 bit_changed bit segment w h = flipped_packet_is_refused bit (segments.spelling segment) segment (spelling_is_read segment w.0) h
 
 pub message_bit_changed : (bit : ℕ) (message : Message) → CanBeTold message → bit < 8 * length (messages.spelling message) → IsErr (messages.reading (flipped bit (messages.spelling message)))

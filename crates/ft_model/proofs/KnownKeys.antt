@@ -94,13 +94,13 @@ has_key_either key xs y e =
     ⊎_elim (λ h. inl h) (λ h. ⊎_elim (λ k. inr (same_key y key k)) (λ k. absurd (true≢false (sym k))) (or_cases (key_eq y key) false h))
     (or_cases (has_key key xs) (has_key key (y ∷ [])) (sym (list_any-append (λ k. key_eq k key) xs (y ∷ [])) ∙ e))
 
-knows_append : (xs ys : List Place) (key : Key) → has_key key (map key_of (xs ++ ys)) ≡ (has_key key (map key_of xs) || has_key key (map key_of ys))
+pub knows_append : (xs ys : List Place) (key : Key) → has_key key (map key_of (xs ++ ys)) ≡ (has_key key (map key_of xs) || has_key key (map key_of ys))
 knows_append xs ys key = ap (has_key key) (map_append key_of xs ys) ∙ list_any-append (λ k. key_eq k key) (map key_of xs) (map key_of ys)
 
-knows_front : (xs ys : List Place) (key : Key) → Knows xs key → Knows (xs ++ ys) key
+pub knows_front : (xs ys : List Place) (key : Key) → Knows xs key → Knows (xs ++ ys) key
 knows_front xs ys key k = knows_append xs ys key ∙ or_left (has_key key (map key_of xs)) (has_key key (map key_of ys)) k
 
-knows_behind : (xs ys : List Place) (key : Key) → Knows ys key → Knows (xs ++ ys) key
+pub knows_behind : (xs ys : List Place) (key : Key) → Knows ys key → Knows (xs ++ ys) key
 knows_behind xs ys key k = knows_append xs ys key ∙ or_right (has_key key (map key_of xs)) (has_key key (map key_of ys)) k
 
 each_known : (places : List Place) → AllByRecursion (λ place. Knows places (key_of place)) places

@@ -29,7 +29,7 @@ use Rattle.ft_model.specs.ResetAndEnd.{dones}
 use Rattle.ft_model.specs.Resets.{ResetsNoLogged}
 use Rattle.ft_model.specs.Segments.{segments_of}
 use Rattle.ft_model.specs.ServingTurn.{PlaceTurn, newcomers, refusals, is_strange, opens_at, ServingTurn}
-use Rattle.ft_model.proofs.AuthorTurns.{all_split, all_go_then, settles, is_settled, settled_append, settled_goes_on, one_settled, one_of}
+use Rattle.ft_model.proofs.AuthorTurns.{all_split, all_go_then, settles, is_settled, settled_append, settled_goes_on, one_of, place_settled}
 use Rattle.ft_model.proofs.Faithful.{AnswerFits, HasEntry, PlaceFits, EntriesFit, units_within}
 use Rattle.ft_model.proofs.FaithfulKept.{InputFits}
 use Rattle.ft_model.proofs.Keys.{absent_key, all_from_get, finds_itself}
@@ -97,18 +97,6 @@ InputHeard places _ = Unit {0}
 abbrev pub is_full_input : Input → Bool
 is_full_input (Message_comes message) = says_full message.body
 is_full_input _ = false
-
--- a connection that is live or done stays so in a turn
-place_settled : {State : Type 0} (service : Machine State) (node : Node) (input : Input) (key : Key) (place : Place) (now : List Place) (sent : List Packet)
-    → PlaceWent service node input place now sent → settles key place ≡ true → is_settled key now ≡ true
-place_settled service node input key place now sent (stayed n s) e = ap (is_settled key) n ∙ one_settled key place e
-place_settled service node input key place now sent (went_on news p after i w n t) e =
-    let same : after.key ≡ p.key = either_turn service node.server node.boot news p after sent (λ r. ap (λ x. x.key) r.point) (λ l. l.same.key) t in
-    ap (is_settled key) n ∙ one_settled key (Lives after) (ap (λ k. key_eq k key) same ∙ (sym (ap (settles key) i) ∙ e))
-place_settled service node input key place now sent (began asked kept after i h n t) e = absurd (true≢false (sym e ∙ ap (settles key) i))
-place_settled service node input key place now sent (dropped asked i d n s) e = absurd (true≢false (sym e ∙ ap (settles key) i))
-place_settled service node input key place now sent (ended p i h n s) e = ap (is_settled key) n ∙ one_settled key (Ended p.key) (sym (ap (settles key) i) ∙ e)
-place_settled service node input key place now sent (refused k segment i c m n s) e = ap (is_settled key) n ∙ one_settled key (Ended k) (sym (ap (settles key) i) ∙ e)
 
 -- each place that is live or done settles its own key
 abbrev pub IsThere : List Place → Place → Type 0

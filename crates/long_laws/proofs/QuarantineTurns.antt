@@ -1,7 +1,6 @@
 -- In a turn of a server a place that is done stays, and nothing is said to the log about its key.
-use Rattle.std.proofs.Common.{◌≡◌, ⊎_elim, ℕ, ◌+◌, Bool, true, false, ◌&&◌, ◌||◌, not, nat_lt, refl, sym, ap, ◌∙◌, subst, true≢false, List, [], ◌∷◌, ◌++◌, map, drop}
-use Rattle.std.proofs.lemmas.List.Folds.{list_any-append}
-use Rattle.std.proofs.lemmas.Bool.{and_parts, or_right}
+use Rattle.std.proofs.Common.{◌≡◌, ⊎_elim, ℕ, ◌+◌, Bool, true, false, ◌&&◌, not, nat_lt, refl, sym, ap, ◌∙◌, subst, true≢false, List, [], ◌∷◌, ◌++◌, map, drop}
+use Rattle.std.proofs.lemmas.Bool.{and_parts}
 use Rattle.std.specs.List.{AllByRecursion}
 use Rattle.ft_io.specs.declared.Addr.{Addr}
 use Rattle.ft_io.specs.declared.Key.{Key}
@@ -36,8 +35,7 @@ use Rattle.ft_model.proofs.PlaceTurns.PlaceWent.{stayed, went_on, began, dropped
 use Rattle.ft_model.proofs.StageTurns.{StageWent, either_turn}
 use Rattle.ft_model.proofs.StageTurns.StageWent.{was_fenced, waited, held_off, asked_on, resumed, served}
 use Rattle.ft_model.proofs.Fenced.{was_restarting}
-use Rattle.ft_model.proofs.KnownKeys.{Knows}
-use Rattle.ft_model.proofs.Resumed.{map_append}
+use Rattle.ft_model.proofs.KnownKeys.{Knows, knows_front, knows_behind}
 use Rattle.ft_model.specs.Masked.{is_restarting}
 use Rattle.ft_io.proofs.Choices.{holds_if}
 use Rattle.long_laws.specs.LongTrace.{is_about, asks_about, IsEnded}
@@ -46,15 +44,6 @@ use Rattle.long_laws.proofs.Recycled.{AreClear}
 never_true : (b : Bool) → (b ≡ true → ⊥) → b ≡ false
 never_true true f = absurd (f refl)
 never_true false f = refl
-
-knows_append : (xs ys : List Place) (key : Key) → has_key key (map key_of (xs ++ ys)) ≡ (has_key key (map key_of xs) || has_key key (map key_of ys))
-knows_append xs ys key = ap (has_key key) (map_append key_of xs ys) ∙ list_any-append (λ k. key_eq k key) (map key_of xs) (map key_of ys)
-
-knows_front : (xs ys : List Place) (key : Key) → Knows xs key → Knows (xs ++ ys) key
-knows_front xs ys key k = knows_append xs ys key ∙ or_left (has_key key (map key_of xs)) (has_key key (map key_of ys)) k
-
-knows_behind : (xs ys : List Place) (key : Key) → Knows ys key → Knows (xs ++ ys) key
-knows_behind xs ys key k = knows_append xs ys key ∙ or_right (has_key key (map key_of xs)) (has_key key (map key_of ys)) k
 
 -- nothing of this is said to the log about the key
 abbrev pub Unasked : Key → Packet → Type 0

@@ -1,5 +1,5 @@
 -- No RST goes to a client whose entry is in the log and not done, in any moment of a long trace in which the server doesn't hear that the log is full.
-use Rattle.std.proofs.Common.{◌≡◌, ℕ, suc, Bool, true, false, refl, sym, ap, ◌∙◌, subst, true≢false, inl, inr, ⊎_elim, Result, Ok, Err, ◌*◌, ◌<◌, IsErr, Option, Some, None, option_to_list, List, [], ◌∷◌, ◌++◌, length}
+use Rattle.std.proofs.Common.{◌≡◌, ℕ, suc, Bool, true, false, refl, sym, ap, ◌∙◌, subst, true≢false, inl, inr, ⊎_elim, Result, Ok, Err, IsErr, Option, Some, None, option_to_list, List, [], ◌∷◌, ◌++◌, length}
 use Rattle.std.specs.List.{AllByRecursion, list_any}
 use Rattle.std.proofs.lemmas.Bool.{or_parts}
 use Rattle.ft_io.specs.declared.Addr.{Addr}
@@ -8,12 +8,8 @@ use Rattle.ft_io.specs.Key.{key_eq}
 use Rattle.seq_arith.specs.Packet.{Segment}
 use Rattle.seq_arith.specs.Message.{Body, Message}
 use Rattle.seq_arith.specs.Message.Body.{OpenMsg, EndedMsg}
-use Rattle.seq_arith.specs.PacketGrammar as segments
-use Rattle.seq_arith.specs.Damage.{flipped}
 use Rattle.seq_arith.specs.declared.BadPacket.{BadPacket}
 use Rattle.seq_arith.specs.declared.kinds.BadMsg.{BadMsg}
-use Rattle.seq_arith.proofs.Spelling.{spelling_is_read}
-use Rattle.seq_arith.proofs.Refused.{flipped_packet_is_refused}
 use Rattle.server_trait.specs.Service.{Machine}
 use Rattle.ft_model.specs.Client.{Client}
 use Rattle.ft_model.specs.Log.{Log, Entry, entry_of}
@@ -25,14 +21,13 @@ use Rattle.ft_model.specs.Node.Stage.{Asking, Fetching, Serving, Fenced}
 use Rattle.ft_model.specs.Node.Input.{Packet_comes, Message_comes, Noise_comes, Tick_comes}
 use Rattle.ft_model.specs.Point.{Point}
 use Rattle.ft_model.specs.Resets.{ResetsNoLogged}
-use Rattle.ft_model.specs.Wire.{CanBeSent}
 use Rattle.ft_model.specs.World.{World, Happens, IsStart, ServerTurn, ServerMoves, Delivered, Flipped, ClientReads, Moves, message_or_noise}
 use Rattle.ft_model.specs.declared.event.Event.{Event}
 use Rattle.ft_model.specs.declared.event.Event.TheVariants.{Boot, Crash, Tick, Deliver, Flip, Begin, Send, Fin, Ack, Reset, Stop}
 use Rattle.ft_model.proofs.Authored.{Speaks}
 use Rattle.ft_model.proofs.AuthorTurns.{is_settled}
 use Rattle.ft_model.proofs.Backed.{PacketBacked}
-use Rattle.ft_model.proofs.Happened.{Happened, IsBrought, IsUnderWay, happened, flip_is_quiet, message_bit_changed, segment_is_noise}
+use Rattle.ft_model.proofs.Happened.{Happened, IsBrought, IsUnderWay, happened, flip_is_quiet, bit_changed, message_bit_changed, segment_is_noise}
 use Rattle.ft_model.proofs.Happened.Happened.{server_turned}
 use Rattle.ft_model.proofs.Lists.{all_both, all_weaker, all_append, all_find, none_is_some, some_is, same_key}
 use Rattle.ft_model.proofs.LogAnswers.{all_answers}
@@ -282,9 +277,6 @@ module _ {State : Type 0} (service : Machine State) (before : World) (o : Stands
   client_silent : (key : Key) (r : Result Segment BadPacket) → ClientReads key r before sent after → sent ≡ []
   client_silent key (Ok segment) n = n.0
   client_silent key (Err why) n = n.0
-
-  bit_changed : (bit : ℕ) (segment : Segment) → CanBeSent segment → bit < 8 * length (segments.spelling segment) → IsErr (segments.reading (flipped bit (segments.spelling segment)))
-  bit_changed bit segment w h = flipped_packet_is_refused bit (segments.spelling segment) segment (spelling_is_read segment w.0) h
 
   flipped_spares : (packet : Packet) (bit : ℕ) → Flipped service before packet bit sent after → All
   flipped_spares (To_server segment) bit f = noise_spares _ (segment_is_noise _ (bit_changed bit segment f.wire f.within)) f.comes
