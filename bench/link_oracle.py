@@ -119,6 +119,13 @@ refused += [PARTED + more for more in (" --journal a", " --part tail", " --other
 refused += [ALONE + more for more in (" --turns 1", " --to 127.0.0.1:7041", " --part head", " --", " 3")] + ["alone", "Alone" + ALONE[5:], without(ALONE, "to") + " --to 127.0.0.1"]
 refused += [SERVER + " --second" + text for text in ("", " ''", "=", " 127.0.0.1", " 127.0.0.1:65536", " 1")] + [DOUBLE + " --second 127.0.0.1:7009"]
 refused += [words + " --second 127.0.0.1:7009" for words in (LOGGER, CLIENT, ALONE)] + [words + " --part head --other 127.0.0.1:7041" for words in (SERVER, CLIENT, PAIR)]
+# how many times the turns are taken: an option of a server and of each logger, which may be left out
+KEPT = LOGGER + " --journal a"
+refused += [words + " --times" + text for words in (LOGGER, SERVER) for text in (" 0", " 4000000000001", " 04000000000001", " x", " ''", "=", "")]
+refused += [words + " --times 2 --times 2" for words in (LOGGER, SERVER, PARTED, KEPT)] + [words + " --times 2" for words in (CLIENT, PAIR, ALONE)]
+refused += [without(LOGGER, "turns") + " --times 3"]
+allowed += [(words + more, name) for words, name in ((LOGGER, "logger"), (SERVER, "server"), (PARTED, "head"), (KEPT, "journal")) for more in (" --times 1", " --times=4000000000000")]
+allowed += [(KEPT, "journal"), ("logger --times=004000000000000 --turns=1000000 --local=127.0.0.1:7040", "logger")]
 allowed += [(PARTED, "head"), ("logger --other=127.0.0.1:7041 --part=tail --turns=3 --local=127.0.0.1:7040", "tail")]
 allowed += [(ALONE, "alone"), ("alone --to=127.0.0.1:7041 --local=127.0.0.1:7050", "alone"), (DOUBLE, "server"), (SERVER + " --second=127.0.0.1:7008", "server")]
 
@@ -228,7 +235,7 @@ AT = {"logger": "127.0.0.1:7040", "server": "127.0.0.1:7007", "alone": "127.0.0.
 def run(words, come, bind=0, second_bind=False, send=0, receive=0, write=0, error=0, way="run"):
     role, *given = words.replace("=", " ").split(" ")
     options = dict(zip(given[::2], given[1::2]))
-    turns = int(options.get("--turns", 0))
+    turns = int(options.get("--turns", 0)) * int(options.get("--times", 1))
     for came in come:
         script.append("nothing" if came is None else f"come {came[0]} {came[1]}".rstrip())
     for call, number in (("bind", bind), ("bind", 2 * second_bind), ("send", send), ("receive", receive), ("write", write), ("error", error)):
@@ -504,6 +511,33 @@ run(OWN, [], write=1, way="own")
 run(SIX, peers, way="own")
 run(LOGGER, [], bind=1, way="own")
 
+line("# a service of one's own with two loggers, and as one of them", "# a service of one's own with two loggers, and as one of them")
+run(OWN + " --second 127.0.0.1:7009", six, way="own")
+run(OWN + " --second=127.0.0.1:7009", [("127.0.0.1:7009", stale(1, 2))], way="own")
+run(without(PARTED, "turns") + " --turns 6", peers, way="own")
+run(ALONE, [], way="own")
+line("# two turns three times, each role that takes the option", "# two turns three times, each role that takes the option")
+TWICE = " --turns 2 --times 3"
+for way in ("run", "own"):
+    run(without(OWN if way == "own" else SERVER, "turns") + TWICE, six, way=way)
+    run(without(LOGGER, "turns") + TWICE, peers, way=way)
+    for name in ("head", "tail"):
+        run(without(without(PARTED, "turns"), "part") + f" --part {name}" + TWICE, peers, way=way)
+    line(f"{way} {LOGGER} --times 0", "status 2", "ftnode: usage")
+line("# `node` has neither this option nor the roles beside its own", "# `node` has neither this option nor the roles beside its own")
+for words in (SERVER + " --times 2", LOGGER + " --times 2", KEPT, PARTED, ALONE):
+    line("node " + words, "status 2", "ftnode: usage")
+run(SERVER, six, way="node")
+run(DOUBLE, six, way="node")
+run(SIX, peers, way="node")
+for n in (1, 3):
+    run(SERVER, six, send=n, way="node")
+    run(SIX, peers, receive=n, way="node")
+run(SERVER, [("127.0.0.1:7008", stale(1, 2))], way="node")
+run(SERVER, [("127.0.0.1:7008", stale(1, 2))], error=1, way="node")
+run(LOGGER, [], bind=1, way="node")
+run(LOGGER, [], write=1, way="node")
+
 # One client of Counter, at 192.0.2.1:40000, whose number is 1000, and the server at 127.0.0.1:7007, which gives it 5000. A key is an address and a port
 PEER, LOG, KEY = "192.0.2.1:40000", "127.0.0.1:7008", bytes([192, 0, 2, 1]) + (40000).to_bytes(2, "big")
 OPENING = KEY + (1000).to_bytes(4, "big") + (5000).to_bytes(4, "big") + (536).to_bytes(2, "big")
@@ -720,6 +754,8 @@ start(PROCESS_LOGGER, 0, TWO_TICKS)
 start(PROCESS_LOGGER, 0, TWO_TICKS, shell='exec timeout 15 "$0" "$@"')
 start(PROCESS_LOGGER + " --journal kept", 0, TWO_TICKS, shell='exec timeout 15 "$0" "$@"')
 start(PROCESS_LOGGER + " --journal kept", 0, TWO_TICKS)
+for more in ("", " --journal kept"):
+    start(without(PROCESS_LOGGER, "turns") + " --turns 1 --times 2" + more, 0, TWO_TICKS)
 closing = answered((SYN | ACK, 5000, 1001), (FIN | ACK, 5001, 1004, b"yes\n"))
 start(f"{PROCESS_CLIENT} 1000", 0, "yes", answers=closing, shell='printf hi | "$0" "$@"')
 start(f"{PROCESS_CLIENT} 1000 --script hex:6869", 0, "yes", answers=closing)

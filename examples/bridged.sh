@@ -14,6 +14,7 @@ command -v python3 >/dev/null || missing "python3 is missing"
 clean_up() {
     exec 2>/dev/null
     for process in "${started[@]}"; do kill -9 "$process"; done
+    ip netns pids "$outside" | xargs -r kill -9
     wait
     ip netns del "$inside"
     ip netns del "$outside"
@@ -42,10 +43,15 @@ start_bridge() {
     grep -q up "$room/bridge" || missing "the bridge doesn't start: $(cat "$room/bridge")"
 }
 
-start_all() {
+begin_logger() { # WORDS..
+    ip netns exec "$outside" "$program" "${own[@]}" logger --local "$logger" --turns 1000000 "$@" >>"$room/logger" 2>&1 &
+    logger_process=$!
+    started+=("$logger_process")
+}
+
+start_all() { # WORDS.. of the logger
     add_spaces
-    ip netns exec "$outside" "$program" "${own[@]}" logger --local "$logger" --turns 1000000 >"$room/logger" 2>&1 &
-    started+=("$!")
+    begin_logger "$@"
     start_server 1
     start_bridge
 }

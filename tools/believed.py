@@ -32,9 +32,7 @@ CALLS = [
     ("ft_model::every_joint_trace_is_masked", "the headline"),
     ("trace_check::check_trace", "`check_trace`"),
     ("node_link::node", "`node`"),
-    ("node_link::node_of", "`node_of`"),
-    ("journal_link::node_with", "`node_with`"),
-    ("journal_link::node_in_pair", "`node_in_pair`"),
+    ("node_process::run", "`run`"),
 ]
 
 INTRODUCTION = """# What the contracts lead to
@@ -226,15 +224,16 @@ def block(lines, start):
 def contract(lines, start):
     """The signature and the clauses of the function that begins at this line."""
     indent = len(lines[start]) - len(lines[start].lstrip())
-    taken = []
+    taken, open_braces = [], 0
     for line in lines[start:]:
-        if taken and line.strip() in ("{", "{}") and len(line) - len(line.lstrip()) == indent:
+        at_its_head = len(line) - len(line.lstrip()) == indent
+        if taken and at_its_head and line.strip() in ("{", "{}"):
             break
         taken.append(line)
-        clause = line.lstrip().startswith(("requires", "ensures"))
-        if line.rstrip().endswith(";") and line.count("{") == line.count("}"):
+        open_braces += line.count("{") - line.count("}")
+        if line.rstrip().endswith(";") and open_braces == 0:
             break
-        if not clause and line.rstrip().endswith((" {", " {}")):
+        if at_its_head and line.rstrip().endswith((" {", " {}")):
             break
     return taken
 

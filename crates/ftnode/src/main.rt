@@ -2,7 +2,7 @@
 //! keep its log in a journal file, or two loggers may act as one. `main` passes the system and the standard streams to `run_ftnode`, which does the rest.
 #![tactic(auto)]
 
-use journal_link::run_ftnode;
+use node_process::run_ftnode;
 use std::io;
 use std::process::ExitCode;
 

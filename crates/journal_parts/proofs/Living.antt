@@ -25,8 +25,8 @@ use Rattle.journal_parts.specs.LoggerLife.{IsKeeper, IsCutKeeper, KeeperStops, I
 use Rattle.journal_parts.specs.Rounds.{Place, calls_of}
 use Rattle.journal_parts.specs.RoundParts.{HasServed, IsCutServing, HasLived, ServingStops}
 use Rattle.journal_parts.specs.declared.role.JournalRole.{JournalRole}
-use Rattle.journal_parts.specs.declared.status.JournalEnd.{JournalEnd}
-use Rattle.journal_parts.specs.declared.status.JournalEnd.TheVariants.{Node, JournalFault, BadJournal, InUse}
+use Rattle.journal_parts.specs.declared.status.ProcessEnd.{ProcessEnd}
+use Rattle.journal_parts.specs.declared.status.ProcessEnd.TheVariants.{Node, JournalFault, BadJournal, InUse}
 
 -- a file was opened by its name, and the journal in it wasn't
 pub opening_stops : (file left : Option (List ℕ)) (old mid new : Option (List DeskCall)) (end : OpenEnd) → left ≡ file → Tells old mid [] → HasStopped left mid new end
@@ -82,7 +82,7 @@ line_stops count start at old new counts out_old out_new ends.ReadFault s t = ab
 line_stops count start at old new counts out_old out_new ends.ChildFault s t = absurd t
 
 -- the error that a part's error became
-pub said_end : {T : Type 0} (r : Result T JournalEnd) (end : JournalEnd) (P : JournalEnd → Type 0) → IsErrAnd r (λ e. e ≡ end) → P end → IfErr r P
+pub said_end : {T : Type 0} (r : Result T ProcessEnd) (end : ProcessEnd) (P : ProcessEnd → Type 0) → IsErrAnd r (λ e. e ≡ end) → P end → IfErr r P
 said_end (Ok x) end P is p = tt
 said_end (Err e) end P is p = subst P (sym is) p
 
@@ -120,7 +120,7 @@ module _ (role : JournalRole) (file : Option (List ℕ)) (start : Place) (old op
     tells = begun opening (calls_of start s.rounds ++ s.cut) o b s.tells;
   }
 
-  pub serving_stops : (out_old out_new : Option (List ℕ)) (end : JournalEnd) → IsOpen file start old opened → Tells opened bound (OnLink (Bound role.logger.local) ∷ [])
+  pub serving_stops : (out_old out_new : Option (List ℕ)) (end : ProcessEnd) → IsOpen file start old opened → Tells opened bound (OnLink (Bound role.logger.local) ∷ [])
       → ServingStops role.logger.turns start bound new out_old out_new end → KeeperStops role file old new out_old out_new end
   serving_stops out_old out_new (Node ends.NoMemory) o b (s, same) = (inr (cut o b s), same)
   serving_stops out_old out_new (Node ends.WriteFault) o b s = kept (AppendsFront out_old out_new) o b s

@@ -21,6 +21,7 @@ use Rattle.journal_parts.specs.PartTurns.{Standing, Outgoing, addressed, sending
 use Rattle.journal_parts.specs.PartSteps.{HasSent, HasTurned, IsServing, HasServed, IsCutServing}
 use Rattle.journal_parts.specs.declared.pair_role.PartRole.{PartRole}
 use Rattle.journal_parts.proofs.Handing.{length_addressed, length_sent}
+use Rattle.link_parts.specs.Ranges.{most_turns}
 
 -- a turn in which no datagram came
 pub quiet : (other : Addr) (s : Standing) (old new : Option (List LinkCall)) (c counts : Counts) (r : Received) → Tells old new (received_as r ∷ []) → counts ≡ with_calls c (received_as r ∷ [])
@@ -81,7 +82,7 @@ serving_on role i s after old mid new c counts h t =
       counts_are = t.counts_are ∙ (ap (λ x. with_calls x (turn_calls t.turn)) h.counts_are ∙ sym (counts_on (calls_of h.turns) (turn_calls t.turn)));
     }
 
-pub room_in_turn : (role : PartRole) (i most : ℕ) (s : Standing) (old new : Option (List LinkCall)) (counts : Counts) → i < most → most ≤ 1000000 → IsServing role i s old new counts
+pub room_in_turn : (role : PartRole) (i most : ℕ) (s : Standing) (old new : Option (List LinkCall)) (counts : Counts) → i < most → most ≤ most_turns → IsServing role i s old new counts
     → HasRoom (2 ^ 64) counts
 room_in_turn role i most s old new counts lt le h =
     let few : IsFew (length (calls_of h.turns)) (counts_of (calls_of h.turns)) = few_calls (calls_of h.turns) in

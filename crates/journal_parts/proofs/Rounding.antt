@@ -27,6 +27,7 @@ use Rattle.journal_parts.specs.LoggerLife.{IsUnanswered}
 use Rattle.journal_parts.specs.Rounds.{Place, Round, IsRound, received_in, receives, changes_in, log_behind, answers_in, after_receives, round_calls, place_after, calls_of, turns_in}
 use Rattle.journal_parts.specs.RoundParts.{place_of, with_all_received, reply_to, replies_to, AreHanded, HasAnswered, HasGathered, IsCutGathering, HasTurned, IsCutRound, HasServed, IsCutServing}
 use Rattle.journal_parts.proofs.Gathering.{receives_count}
+use Rattle.link_parts.specs.Ranges.{most_turns}
 
 -- the calls on the network among those of a desk
 pub link_calls-append : (xs ys : List DeskCall) → link_calls (xs ++ ys) ≡ link_calls xs ++ link_calls ys
@@ -255,11 +256,11 @@ links_few start (last ∷ earlier) =
     omega (arith, few, all, this, came, told)
 
 -- there is room for the counts of a round
-pub room_for_round : (i : ℕ) (start at : Place) (old new : Option (List DeskCall)) (c : Counts) → i ≤ 1000000 → HasServed i start at old new c → HasRoom 512 c
+pub room_for_round : (i : ℕ) (start at : Place) (old new : Option (List DeskCall)) (c : Counts) → i ≤ most_turns → HasServed i start at old new c → HasRoom 512 c
 room_for_round i start at old new c le s =
     let calls = few_calls (link_calls (calls_of start s.rounds)) in
     let few = links_few start s.rounds in
-    let most : length (link_calls (calls_of start s.rounds)) ≤ 2000000 = omega (arith, few, s.count_is) in
+    let most : length (link_calls (calls_of start s.rounds)) ≤ 2 * most_turns = omega (arith, few, s.count_is) in
     subst (HasRoom 512) (sym s.counts_are) (record {
       turns = omega (arith, calls.turns, most);
       datagrams = omega (arith, calls.datagrams, most);

@@ -12,49 +12,49 @@ use Rattle.kept_log.specs.declared.opening.OpenEnd.{OpenEnd}
 use Rattle.kept_log.specs.declared.opening.OpenEnd.TheVariants as open_end
 use Rattle.link_parts.specs.Ends as node
 use Rattle.link_parts.specs.declared.status.NodeEnd.TheVariants as node_end
-use Rattle.journal_parts.specs.declared.status.JournalEnd.{JournalEnd}
-use Rattle.journal_parts.specs.declared.status.JournalEnd.TheVariants.{Node, JournalFault, BadJournal, InUse}
+use Rattle.journal_parts.specs.declared.status.ProcessEnd.{ProcessEnd}
+use Rattle.journal_parts.specs.declared.status.ProcessEnd.TheVariants.{Node, JournalFault, BadJournal, InUse}
 
-abbrev pub code_of : JournalEnd → ℕ
+abbrev pub code_of : ProcessEnd → ℕ
 code_of (Node end) = node.code_of end
 code_of JournalFault = 11
 code_of (BadJournal at) = 12
 code_of InUse = 13
 
 -- the faults of `node`; a failed call on the journal is none of them
-abbrev pub is_fault : JournalEnd → Bool
+abbrev pub is_fault : ProcessEnd → Bool
 is_fault (Node end) = node.is_fault end
 is_fault _ = false
 
 -- P, unless such a fault ended the process
-abbrev pub UnlessFault : {T : Type 0} → Result T JournalEnd → Type 0 → Type 0
+abbrev pub UnlessFault : {T : Type 0} → Result T ProcessEnd → Type 0 → Type 0
 UnlessFault result P = MatchResult result (λ _. P) (λ end. is_fault end ≡ false → P)
 
 abbrev pub place_text : ℕ → List ℕ
 place_text at = codes "ftnode: journal: byte " ++ (decimal at ++ codes "\n")
 
-abbrev pub text_of : JournalEnd → List ℕ
+abbrev pub text_of : ProcessEnd → List ℕ
 text_of (Node end) = node.text_of end
 text_of JournalFault = codes "ftnode: journal fault\n"
 text_of (BadJournal at) = place_text at
 text_of InUse = codes "ftnode: journal in use\n"
 
 -- the complete line is written and the status is the end's; or that write failed, and the status is that of a failed write
-abbrev pub TellsEnd : JournalEnd → (err_old err_new : Option (List ℕ)) → (faults_old faults_new : ℕ) → (code : ℕ) → Type 0
+abbrev pub TellsEnd : ProcessEnd → (err_old err_new : Option (List ℕ)) → (faults_old faults_new : ℕ) → (code : ℕ) → Type 0
 TellsEnd end err_old err_new faults_old faults_new code =
     ((code ≡ code_of end) × Appends err_old err_new (text_of end))
     ⊎ ((code ≡ 5) × AppendsFront err_old err_new (text_of end) × Rose faults_old faults_new)
 
 -- what stops the parts stops the process
-abbrev pub from_shelf : ShelfEnd → JournalEnd
+abbrev pub from_shelf : ShelfEnd → ProcessEnd
 from_shelf shelf.Failed = JournalFault
 from_shelf shelf.InUse = InUse
 
-abbrev pub from_open : OpenEnd → JournalEnd
+abbrev pub from_open : OpenEnd → ProcessEnd
 from_open open_end.NoMemory = Node node_end.NoMemory
 from_open open_end.Failed = JournalFault
 from_open (open_end.Wrong at) = BadJournal at
 
-abbrev pub from_keep : KeepEnd → JournalEnd
+abbrev pub from_keep : KeepEnd → ProcessEnd
 from_keep keep.NoMemory = Node node_end.NoMemory
 from_keep keep.Failed = JournalFault

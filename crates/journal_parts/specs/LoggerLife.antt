@@ -16,8 +16,8 @@ use Rattle.link_parts.specs.Receipt.{Received}
 use Rattle.link_parts.specs.declared.status.NodeEnd.TheVariants.{LinkFault, NoMemory, WriteFault}
 use Rattle.journal_parts.specs.Rounds.{Place, Round, IsRound, received_in, receives, changes_in, place_after, calls_of, turns_in}
 use Rattle.journal_parts.specs.declared.role.JournalRole.{JournalRole}
-use Rattle.journal_parts.specs.declared.status.JournalEnd.{JournalEnd}
-use Rattle.journal_parts.specs.declared.status.JournalEnd.TheVariants.{Node, JournalFault, BadJournal, InUse}
+use Rattle.journal_parts.specs.declared.status.ProcessEnd.{ProcessEnd}
+use Rattle.journal_parts.specs.declared.status.ProcessEnd.TheVariants.{Node, JournalFault, BadJournal, InUse}
 
 -- Where a process starts: at the log of the blocks that its file has. By these calls it cuts off what a death has left after them, or completes a new journal
 -- in a file that has only a prefix of the magic, or nothing
@@ -83,7 +83,7 @@ abbrev pub IsRefused : Option (List ℕ) → ℕ → Type 0
 IsRefused file at = (bytes : List ℕ) → file ≡ Some bytes → IsDamaged at bytes
 
 -- how the opening stops: a file that is refused is unchanged
-abbrev pub OpeningStops : (file : Option (List ℕ)) → (old new : Option (List DeskCall)) → JournalEnd → Type 0
+abbrev pub OpeningStops : (file : Option (List ℕ)) → (old new : Option (List DeskCall)) → ProcessEnd → Type 0
 OpeningStops file old new InUse = Tells old new []
 OpeningStops file old new (BadJournal at) = Tells old new [] × IsRefused file at
 OpeningStops file old new JournalFault = Tells old new [] ⊎ IsCutOpening file old new
@@ -91,7 +91,7 @@ OpeningStops file old new (Node NoMemory) = Tells old new []
 OpeningStops file old new _ = ⊥
 
 -- How such a logger stops early. No message of the round in which it stops is answered. A file that is refused is unchanged
-abbrev pub KeeperStops : JournalRole → (file : Option (List ℕ)) → (old new : Option (List DeskCall)) → (out_old out_new : Option (List ℕ)) → JournalEnd → Type 0
+abbrev pub KeeperStops : JournalRole → (file : Option (List ℕ)) → (old new : Option (List DeskCall)) → (out_old out_new : Option (List ℕ)) → ProcessEnd → Type 0
 KeeperStops role file old new out_old out_new InUse = Tells old new [] × (out_new ≡ out_old)
 KeeperStops role file old new out_old out_new (BadJournal at) = Tells old new [] × IsRefused file at × (out_new ≡ out_old)
 KeeperStops role file old new out_old out_new JournalFault =

@@ -36,9 +36,9 @@ alone_from _ _ = None
 abbrev pub alone_in : List Use → Option AloneRole
 alone_in uses = alone_from (addr_at uses option.Local) (addr_at uses option.To)
 
--- the options of a logger of a pair, all of which are required
+-- the options of a logger of a pair
 abbrev pub part_options : List OptionName
-part_options = option.Local ∷ option.Turns ∷ option.Part ∷ option.Other ∷ []
+part_options = option.Local ∷ option.Turns ∷ option.Times ∷ option.Part ∷ option.Other ∷ []
 
 abbrev pub alone_options : List OptionName
 alone_options = option.Local ∷ option.To ∷ []

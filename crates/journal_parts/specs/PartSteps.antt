@@ -11,9 +11,10 @@ use Rattle.journal_parts.specs.declared.part.Twin.{Twin}
 use Rattle.journal_parts.specs.declared.pair_role.PartRole.{PartRole}
 use Rattle.journal_parts.specs.declared.pair_role.TwinRole.{TwinRole}
 use Rattle.journal_parts.specs.declared.pair_role.TwinRole.TheVariants.{Logger, Alone}
+use Rattle.link_parts.specs.Ranges.{most_turns}
 
 abbrev pub InRange : TwinRole → Type 0
-InRange (Logger role) = role.logger.turns ≤ 1000000
+InRange (Logger role) = role.logger.turns ≤ most_turns
 InRange (Alone role) = Unit {0}
 
 abbrev pub standing_of : Twin → Standing

@@ -17,8 +17,8 @@ use Rattle.link_parts.specs.LoggerTurns.{log_then, log_with, answer_for}
 use Rattle.link_parts.specs.Receipt.{Received, datagram, silence, failure, received_as}
 use Rattle.link_parts.specs.declared.status.NodeEnd.TheVariants.{NoMemory, WriteFault}
 use Rattle.journal_parts.specs.declared.answers.Answer.{Answer}
-use Rattle.journal_parts.specs.declared.status.JournalEnd.{JournalEnd}
-use Rattle.journal_parts.specs.declared.status.JournalEnd.TheVariants.{Node, JournalFault}
+use Rattle.journal_parts.specs.declared.status.ProcessEnd.{ProcessEnd}
+use Rattle.journal_parts.specs.declared.status.ProcessEnd.TheVariants.{Node, JournalFault}
 use Rattle.journal_parts.specs.LoggerLife.{IsUnanswered}
 use Rattle.journal_parts.specs.Rounds.{Place, Round, IsDatagram, IsRound, received_in, log_behind, receives, change_in, change_by, changes_in, after_receives, round_calls, place_after, calls_of, turns_in}
 
@@ -145,12 +145,12 @@ pub record HasLived (count : ℕ) (start : Place) (old new : Option (List DeskCa
   pub written : Writes (count_line (counts_of (link_calls (calls_of start rounds))))
 
 -- how rounds and their line stop
-abbrev pub ServingStops : ℕ → Place → (old new : Option (List DeskCall)) → (out_old out_new : Option (List ℕ)) → JournalEnd → Type 0
+abbrev pub ServingStops : ℕ → Place → (old new : Option (List DeskCall)) → (out_old out_new : Option (List ℕ)) → ProcessEnd → Type 0
 ServingStops most start old new out_old out_new (Node NoMemory) = IsCutServing most start old new × (out_new ≡ out_old)
 ServingStops most start old new out_old out_new (Node WriteFault) = HasLived most start old new (AppendsFront out_old out_new)
 ServingStops most start old new out_old out_new JournalFault = IsCutServing most start old new × (out_new ≡ out_old)
 ServingStops most start old new out_old out_new _ = ⊥
 
 -- how rounds may stop
-abbrev pub IsServeEnd : JournalEnd → Type 0
+abbrev pub IsServeEnd : ProcessEnd → Type 0
 IsServeEnd end = (end ≡ Node NoMemory) ⊎ (end ≡ JournalFault)

@@ -10,7 +10,7 @@ use Rattle.link_parts.specs.Roles.{is_name, logger_in}
 use Rattle.journal_parts.specs.declared.role.JournalRole.{JournalRole}
 
 abbrev pub journal_options : List OptionName
-journal_options = option.Local ∷ option.Turns ∷ option.Journal ∷ []
+journal_options = option.Local ∷ option.Turns ∷ option.Times ∷ option.Journal ∷ []
 
 abbrev pub journal_from : Option LoggerRole → Option Text → Option JournalRole
 journal_from (Some logger) (Some journal) = Some (record { logger = logger; journal = journal })

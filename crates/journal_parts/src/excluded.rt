@@ -16,7 +16,7 @@ use crate::answers::Answer;
 use crate::part::{Twin, take};
 use crate::rounds::take_round;
 use crate::sending::address_for;
-use crate::status::JournalEnd;
+use crate::status::ProcessEnd;
 use disk::Desk;
 use ft_io::{Addr, NoMemory};
 use kept_log::KeptLog;
@@ -31,8 +31,8 @@ fn answers_before_the_commit<K: Desk>(
     kept: &mut KeptLog,
     counts: &mut Counts,
     answers: &mut Vec<Answer>,
-    most: u32,
-) -> Result<u32, JournalEnd>
+    most: u64,
+) -> Result<u64, ProcessEnd>
     requires most { (1 ≤ most) × (most ≤ 256) }
     requires idle { kept.old.round ≡ [] }
     requires counts { HasRoom 512 counts.old }

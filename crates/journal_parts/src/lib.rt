@@ -7,7 +7,7 @@ pub use keeper::run_keeper;
 pub use pair_role::{AloneRole, PartRole, TwinRole, read_twin_role};
 pub use part::run_part;
 pub use role::{FileName, JournalRole, read_journal_role};
-pub use status::{JournalEnd, tell};
+pub use status::{ProcessEnd, tell};
 pub use teller::run_teller;
 
 mod answers;

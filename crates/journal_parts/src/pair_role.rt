@@ -4,6 +4,7 @@ ghost use Rattle.std.specs.Prelude.{◌≡◌, ◌≤◌, List, map, string_byte
 ghost use Rattle.link_parts.specs.Options.{Use, HasValues};
 ghost use Rattle.journal_parts.specs.PairWords.{part_named, part_at as part_at_lem, part_in, alone_in, part_of, alone_of, twin_of};
 ghost use Rattle.journal_parts.specs.PartSteps.{InRange};
+ghost use Rattle.link_parts.specs.Ranges.{most_turns};
 
 use clap::ArgMatches;
 use ft_io::{Addr, NoMemory};
@@ -11,9 +12,10 @@ use link_parts::{LoggerRole, OptionName, addr_at, logger_role, read_options};
 use std::alloc::Global;
 use twin_log::Part;
 
-const PART_OPTIONS: [OptionName; 4] = [
+const PART_OPTIONS: [OptionName; 5] = [
     OptionName::Local,
     OptionName::Turns,
+    OptionName::Times,
     OptionName::Part,
     OptionName::Other,
 ];
@@ -62,7 +64,7 @@ fn part_at(matches: &ArgMatches<'_>, option: OptionName) -> Option<Part>
 }
 
 fn part_role(matches: &ArgMatches<'_>) -> Option<PartRole>
-    ensures range { IfSome result (λ role. role.logger.turns ≤ 1000000) }
+    ensures range { IfSome result (λ role. role.logger.turns ≤ most_turns) }
     ensures value { (uses : List Use) → HasValues uses matches.now → result ≡ part_in uses }
 {
     Some(PartRole {

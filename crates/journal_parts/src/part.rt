@@ -14,6 +14,7 @@ ghost use Rattle.twin_laws.specs.StoredState.{left_alone};
 ghost use Rattle.journal_parts.specs.PartTurns.{says_alone as says_alone_lem, side_of as side_of_lem, server_after, at_start, heard};
 ghost use Rattle.journal_parts.specs.PartLife.{IsPart, PartStops};
 ghost use Rattle.journal_parts.specs.PartSteps.{standing_of, HasTurned, HasServed, IsCutServing};
+ghost use Rattle.link_parts.specs.Ranges.{most_turns};
 
 use crate::pair_role::PartRole;
 use crate::sending::send_all;
@@ -124,7 +125,7 @@ fn new_twin(alloc: Global, part: Part) -> Result<Twin, NoMemory>
 
 /// Takes all turns of a new logger, and returns the counts of their calls.
 fn serve<L: Link>(alloc: Global, role: &PartRole, link: &mut L) -> Result<Counts, NoMemory>
-    requires { role.now.logger.turns ≤ 1000000 }
+    requires { role.now.logger.turns ≤ most_turns }
     ensures served { IfOk result (λ counts. HasServed role.now (L.told link.old) (L.told link.new) counts) }
     ensures cut_off { OnErr result (IsCutServing role.now (L.told link.old) (L.told link.new)) }
     ensures no_bind_fault { L.bind_fault_count link.new ≡ L.bind_fault_count link.old }
@@ -144,7 +145,7 @@ fn serve_and_tell<L: Link, O: Sink>(
     link: &mut L,
     out: &mut O,
 ) -> Result<(), NodeEnd>
-    requires { role.now.logger.turns ≤ 1000000 }
+    requires { role.now.logger.turns ≤ most_turns }
     ensures done { OnOk result ((before : Option (List LinkCall)) → Tells before (L.told link.old) (Bound role.now.logger.local ∷ [])
         → IsPart role.now before (L.told link.new) (Appends (O.taken out.old) (O.taken out.new))) }
     ensures stops { IfErr result (λ end. (before : Option (List LinkCall)) → Tells before (L.told link.old) (Bound role.now.logger.local ∷ [])
@@ -167,7 +168,7 @@ pub fn run_part<L: Link, O: Sink>(
     link: &mut L,
     out: &mut O,
 ) -> Result<(), NodeEnd>
-    requires { role.now.logger.turns ≤ 1000000 }
+    requires { role.now.logger.turns ≤ most_turns }
     ensures done { OnOk result (IsPart role.now (L.told link.old) (L.told link.new) (Appends (O.taken out.old) (O.taken out.new))) }
     ensures stops { IfErr result (PartStops role.now (L.told link.old) (L.told link.new) (O.taken out.old) (O.taken out.new)) }
     ensures bind_cause { IsErrOf result NodeEnd.LinkFault → Rose (L.bind_fault_count link.old) (L.bind_fault_count link.new) }

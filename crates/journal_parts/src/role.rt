@@ -3,6 +3,7 @@
 ghost use Rattle.std.specs.Prelude.{◌≡◌, ◌≤◌, List, map, string_bytes, IfOk, IfSome};
 ghost use Rattle.link_parts.specs.Options.{Use, HasValues};
 ghost use Rattle.journal_parts.specs.Words.{file_of, journal_in, journal_of};
+ghost use Rattle.link_parts.specs.Ranges.{most_turns};
 
 use clap::ArgMatches;
 use ft_io::NoMemory;
@@ -10,9 +11,10 @@ use link_parts::{LoggerRole, OptionName, is_name, logger_role, read_options};
 use std::alloc::Global;
 use std::marker::Model;
 
-const JOURNAL_OPTIONS: [OptionName; 3] = [
+const JOURNAL_OPTIONS: [OptionName; 4] = [
     OptionName::Local,
     OptionName::Turns,
+    OptionName::Times,
     OptionName::Journal,
 ];
 
@@ -60,7 +62,7 @@ pub struct JournalRole {
 }
 
 fn journal_role(alloc: Global, matches: &ArgMatches<'_>) -> Result<Option<JournalRole>, NoMemory>
-    ensures range { IfOk result (λ role. IfSome role (λ r. r.logger.turns ≤ 1000000)) }
+    ensures range { IfOk result (λ role. IfSome role (λ r. r.logger.turns ≤ most_turns)) }
     ensures value { IfOk result (λ role. (uses : List Use) → HasValues uses matches.now → role ≡ journal_in uses) }
 {
     let Some(logger) = logger_role(matches) else {
@@ -79,7 +81,7 @@ fn journal_role(alloc: Global, matches: &ArgMatches<'_>) -> Result<Option<Journa
 #[tactic(auto, unfolding(crate::specs::Words::journal_of))]
 pub fn read_journal_role(alloc: Global, words: &[String]) -> Result<Option<JournalRole>, NoMemory>
     ensures role { IfOk result (λ role. role ≡ journal_of (map string_bytes words.now)) }
-    ensures range { IfOk result (λ role. IfSome role (λ r. r.logger.turns ≤ 1000000)) }
+    ensures range { IfOk result (λ role. IfSome role (λ r. r.logger.turns ≤ most_turns)) }
 {
     let Some((name, words)) = words.split_first() else {
         return Ok(None);

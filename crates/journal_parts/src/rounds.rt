@@ -11,9 +11,10 @@ ghost use Rattle.logger_store.specs.StoreState.{answer_bytes};
 ghost use Rattle.kept_log.specs.JournaledLog.{is_full};
 ghost use Rattle.link_parts.specs.LoggerTurns.{answer_for};
 ghost use Rattle.journal_parts.specs.RoundParts.{place_of, with_bytes, HasTaken, HasGathered, IsCutGathering, HasTurned, IsCutRound, HasServed, IsCutServing, IsServeEnd};
+ghost use Rattle.link_parts.specs.Ranges.{most_turns};
 
 use crate::answers::{Answer, reply_to_all};
-use crate::status::JournalEnd;
+use crate::status::ProcessEnd;
 use disk::Desk;
 use ft_io::{Addr, Heard, NoMemory};
 use kept_log::KeptLog;
@@ -26,7 +27,7 @@ use std::alloc::Global;
 const DATAGRAM_ROOM: usize = 2_048;
 
 /// The most turns of a round.
-const MOST: u32 = 256;
+const MOST: u64 = 256;
 
 /// Receives once. Returns the length of the datagram, which is at the beginning of the buffer, and its sender. `None`: no datagram. It waits only if `waits`.
 fn receive<K: Desk>(
@@ -101,8 +102,8 @@ fn gather<K: Desk>(
     kept: &mut KeptLog,
     counts: &mut Counts,
     answers: &mut Vec<Answer>,
-    most: u32,
-) -> Result<u32, NoMemory>
+    most: u64,
+) -> Result<u64, NoMemory>
     requires some { 1 ≤ most }
     requires within { most ≤ 256 }
     requires idle { kept.old.round ≡ [] }
@@ -132,8 +133,8 @@ pub(crate) fn take_round<K: Desk>(
     kept: &mut KeptLog,
     counts: &mut Counts,
     answers: &mut Vec<Answer>,
-    most: u32,
-) -> Result<u32, JournalEnd>
+    most: u64,
+) -> Result<u64, ProcessEnd>
     requires some { 1 ≤ most }
     requires within { most ≤ 256 }
     requires idle { kept.old.round ≡ [] }
@@ -142,7 +143,7 @@ pub(crate) fn take_round<K: Desk>(
     ensures turned { IfOk result (λ count. HasTurned count kept.old kept.new (K.told desk.old) (K.told desk.new) counts.old counts.new) }
     ensures stopped { OnErr result (IsCutRound most (place_of kept.old) (K.told desk.old) (K.told desk.new)) }
     ensures ends { IfErr result IsServeEnd }
-    ensures cause { IsErrOf result JournalEnd.JournalFault → Rose (K.fault_count desk.old) (K.fault_count desk.new) }
+    ensures cause { IsErrOf result ProcessEnd.JournalFault → Rose (K.fault_count desk.old) (K.fault_count desk.new) }
     ensures never_falls { K.fault_count desk.old ≤ K.fault_count desk.new }
     ensures no_bind_fault { (K.beside desk.new).bind_faults ≡ (K.beside desk.old).bind_faults }
 {
@@ -157,14 +158,14 @@ pub(crate) fn serve<K: Desk>(
     alloc: Global,
     desk: &mut K,
     kept: &mut KeptLog,
-    turns: u32,
-) -> Result<Counts, JournalEnd>
-    requires within { turns ≤ 1000000 }
+    turns: u64,
+) -> Result<Counts, ProcessEnd>
+    requires within { turns ≤ most_turns }
     requires idle { kept.old.round ≡ [] }
     ensures served { IfOk result (λ counts. HasServed turns (place_of kept.old) (place_of kept.new) (K.told desk.old) (K.told desk.new) counts) }
     ensures stopped { OnErr result (IsCutServing turns (place_of kept.old) (K.told desk.old) (K.told desk.new)) }
     ensures ends { IfErr result IsServeEnd }
-    ensures cause { IsErrOf result JournalEnd.JournalFault → Rose (K.fault_count desk.old) (K.fault_count desk.new) }
+    ensures cause { IsErrOf result ProcessEnd.JournalFault → Rose (K.fault_count desk.old) (K.fault_count desk.new) }
     ensures never_falls { K.fault_count desk.old ≤ K.fault_count desk.new }
     ensures no_bind_fault { (K.beside desk.new).bind_faults ≡ (K.beside desk.old).bind_faults }
 {

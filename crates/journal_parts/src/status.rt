@@ -6,7 +6,7 @@ ghost use Rattle.ft_io.specs.Faults.{Rose};
 ghost use Rattle.ft_io.specs.Sink.{AppendsFront};
 ghost use Rattle.link_parts.specs.Ends.{is_fault_status};
 ghost use Rattle.link_parts.specs.declared.status.NodeEnd.TheVariants as node_ends;
-ghost use Rattle.journal_parts.specs.declared.status.JournalEnd.TheVariants as ends;
+ghost use Rattle.journal_parts.specs.declared.status.ProcessEnd.TheVariants as ends;
 ghost use Rattle.journal_parts.specs.Ends.{place_text, from_shelf, from_open, from_keep, TellsEnd, is_fault};
 
 use disk::ShelfEnd;
@@ -17,7 +17,7 @@ use link_parts::{NodeEnd, Status};
 
 /// How a logger with a journal ends before its turns are done.
 #[derive(Clone, Copy)]
-pub enum JournalEnd {
+pub enum ProcessEnd {
     /// An end that any role may have.
     Node(NodeEnd),
     /// A call on the journal's file failed.
@@ -28,52 +28,52 @@ pub enum JournalEnd {
     InUse,
 }
 
-impl From<NoMemory> for JournalEnd {
+impl From<NoMemory> for ProcessEnd {
     ghost from_gives = { λ _ e. e ≡ ends.Node node_ends.NoMemory };
 
-    fn from(_error: NoMemory) -> JournalEnd {
-        JournalEnd::Node(NodeEnd::NoMemory)
+    fn from(_error: NoMemory) -> ProcessEnd {
+        ProcessEnd::Node(NodeEnd::NoMemory)
     }
 }
 
-impl From<NodeEnd> for JournalEnd {
+impl From<NodeEnd> for ProcessEnd {
     ghost from_gives = { λ end e. e ≡ ends.Node end };
 
-    fn from(end: NodeEnd) -> JournalEnd {
-        JournalEnd::Node(end)
+    fn from(end: NodeEnd) -> ProcessEnd {
+        ProcessEnd::Node(end)
     }
 }
 
-impl From<ShelfEnd> for JournalEnd {
+impl From<ShelfEnd> for ProcessEnd {
     ghost from_gives = { λ end e. e ≡ from_shelf end };
 
-    fn from(end: ShelfEnd) -> JournalEnd {
+    fn from(end: ShelfEnd) -> ProcessEnd {
         match end {
-            ShelfEnd::Failed => JournalEnd::JournalFault,
-            ShelfEnd::InUse => JournalEnd::InUse,
+            ShelfEnd::Failed => ProcessEnd::JournalFault,
+            ShelfEnd::InUse => ProcessEnd::InUse,
         }
     }
 }
 
-impl From<OpenEnd> for JournalEnd {
+impl From<OpenEnd> for ProcessEnd {
     ghost from_gives = { λ end e. e ≡ from_open end };
 
-    fn from(end: OpenEnd) -> JournalEnd {
+    fn from(end: OpenEnd) -> ProcessEnd {
         match end {
-            OpenEnd::NoMemory => JournalEnd::Node(NodeEnd::NoMemory),
-            OpenEnd::Failed => JournalEnd::JournalFault,
-            OpenEnd::Wrong(at) => JournalEnd::BadJournal { at },
+            OpenEnd::NoMemory => ProcessEnd::Node(NodeEnd::NoMemory),
+            OpenEnd::Failed => ProcessEnd::JournalFault,
+            OpenEnd::Wrong(at) => ProcessEnd::BadJournal { at },
         }
     }
 }
 
-impl From<KeepEnd> for JournalEnd {
+impl From<KeepEnd> for ProcessEnd {
     ghost from_gives = { λ end e. e ≡ from_keep end };
 
-    fn from(end: KeepEnd) -> JournalEnd {
+    fn from(end: KeepEnd) -> ProcessEnd {
         match end {
-            KeepEnd::NoMemory => JournalEnd::Node(NodeEnd::NoMemory),
-            KeepEnd::Failed => JournalEnd::JournalFault,
+            KeepEnd::NoMemory => ProcessEnd::Node(NodeEnd::NoMemory),
+            KeepEnd::Failed => ProcessEnd::JournalFault,
         }
     }
 }
@@ -103,16 +103,16 @@ fn status_of(code: u8, written: Result<(), Failed>) -> Status
 }
 
 /// Writes the line of an end, and returns its status: 5 if that write failed.
-pub fn tell<E: Sink>(err: &mut E, end: JournalEnd) -> Status
+pub fn tell<E: Sink>(err: &mut E, end: ProcessEnd) -> Status
     ensures told { TellsEnd end (E.taken err.old) (E.taken err.new) (E.fault_count err.old) (E.fault_count err.new) result.code }
     ensures early { result.code ≡ 0 → ⊥ }
     ensures fault { is_fault_status result.code ≡ false → is_fault end ≡ false }
     ensures no_fault { is_fault_status result.code ≡ false → E.fault_count err.new ≡ E.fault_count err.old }
 {
     match end {
-        JournalEnd::Node(end) => link_parts::tell(err, end),
-        JournalEnd::JournalFault => status_of(11, write_all(err, b"ftnode: journal fault\n")),
-        JournalEnd::BadJournal { at } => status_of(12, write_place(err, at)),
-        JournalEnd::InUse => status_of(13, write_all(err, b"ftnode: journal in use\n")),
+        ProcessEnd::Node(end) => link_parts::tell(err, end),
+        ProcessEnd::JournalFault => status_of(11, write_all(err, b"ftnode: journal fault\n")),
+        ProcessEnd::BadJournal { at } => status_of(12, write_place(err, at)),
+        ProcessEnd::InUse => status_of(13, write_all(err, b"ftnode: journal in use\n")),
     }
 }

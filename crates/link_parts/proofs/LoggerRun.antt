@@ -20,6 +20,7 @@ use Rattle.link_parts.specs.Receipt.{Received, datagram, silence, failure, recei
 use Rattle.link_parts.specs.LineOutput.{TellStops}
 use Rattle.link_parts.specs.LoggerParts.{IsLogger, IsCutLogger, LoggerStops, handing_bytes, Replies, HasTurned, HasServed, HasCounted, IsCutOff, IsCutServing}
 use Rattle.link_parts.proofs.Calls.{counts_on, with_both, IsFew}
+use Rattle.link_parts.specs.Ranges.{most_turns}
 
 few_received : (r : Received) → IsFew 1 (counts_of (received_as r ∷ []))
 few_received (datagram from bytes) = record { turns = omega arith; datagrams = omega arith; sent = omega arith; lost = omega arith; failed = omega arith }
@@ -55,7 +56,7 @@ few_turns (turn ∷ earlier) =
     (few_sum (length earlier) (counts_of (calls_of earlier)) (counts_of (turn_calls (log_at earlier) turn)) (few_turns earlier) (few_turn (log_at earlier) turn))
 
 -- there is room for the counts of a turn, and of what follows its receive
-room_for : (n : ℕ) (c : Counts) → n ≤ 1000000 → IsFew n c → HasRoom 2 c
+room_for : (n : ℕ) (c : Counts) → n ≤ most_turns → IsFew n c → HasRoom 2 c
 room_for n c lt few = record {
   turns = omega (arith, few.turns);
   datagrams = omega (arith, few.datagrams);
@@ -64,7 +65,7 @@ room_for n c lt few = record {
   failed = omega (arith, few.failed);
 }
 
-pub room_in_turn : (i most : ℕ) (old new : Option (List LinkCall)) (log : Log) (counts : Counts) → i < most → most ≤ 1000000 → HasServed i old new log counts → HasRoom 2 counts
+pub room_in_turn : (i most : ℕ) (old new : Option (List LinkCall)) (log : Log) (counts : Counts) → i < most → most ≤ most_turns → HasServed i old new log counts → HasRoom 2 counts
 room_in_turn i most old new log counts lt le s =
     subst (HasRoom 2) (sym s.counts_are) (room_for (length s.turns) (counts_of (calls_of s.turns)) (omega (arith, s.count_is)) (few_turns s.turns))
 

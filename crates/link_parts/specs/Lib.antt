@@ -8,7 +8,6 @@ pub mod Ends
 pub mod LoggerTurns
 pub mod LoggerParts
 pub mod Options
-pub mod OwnRoles
 pub mod Pair
 pub mod PairParts
 pub mod Ranges

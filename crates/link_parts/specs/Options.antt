@@ -6,7 +6,7 @@ use Rattle.clap.specs.Lexer.{long_of, short_of}
 use Rattle.clap.specs.Matches.{found_of, first_value}
 use Rattle.clap.specs.declared.parser.matches.ArgMatches.{ArgMatches}
 use Rattle.link_parts.specs.declared.options.OptionName.{OptionName}
-use Rattle.link_parts.specs.declared.options.OptionName.TheVariants.{Local, Logger, SecondLogger, Server, Service, Boot, Isn, Turns, Script, Program, Base, First, Second, Journal, Part, Other, To}
+use Rattle.link_parts.specs.declared.options.OptionName.TheVariants.{Local, Logger, SecondLogger, Server, Service, Boot, Isn, Turns, Times, Script, Program, Base, First, Second, Journal, Part, Other, To}
 
 abbrev pub Text : Type 0
 Text = List ℕ
@@ -25,6 +25,7 @@ name_of Service = codes "service"
 name_of Boot = codes "boot"
 name_of Isn = codes "isn"
 name_of Turns = codes "turns"
+name_of Times = codes "times"
 name_of Script = codes "script"
 name_of Program = codes "program"
 name_of Base = codes "base"
@@ -39,6 +40,7 @@ name_of To = codes "to"
 abbrev pub is_required : OptionName → Bool
 is_required Script = false
 is_required SecondLogger = false
+is_required Times = false
 is_required _ = true
 
 -- `--`, or a word other than `-` that begins with exactly one hyphen

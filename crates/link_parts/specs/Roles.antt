@@ -1,5 +1,5 @@
 -- A role as words: its name, then its options. Each value is spelled as in a schedule's text.
-use Rattle.std.specs.Prelude.{ℕ, ◌^◌, ◌-◌, Bool, true, false, not, Option, Some, None, is_none, option_map, List, [], ◌∷◌, codes, if◌then◌else◌, ◌==◌}
+use Rattle.std.specs.Prelude.{ℕ, ◌*◌, ◌^◌, ◌-◌, Bool, true, false, not, Option, Some, None, is_none, option_map, List, [], ◌∷◌, codes, if◌then◌else◌, ◌==◌}
 use Rattle.std.specs.Option.{option_and_then}
 use Rattle.std.specs.Str.{bytes_eq}
 use Rattle.ft_io.specs.declared.Addr.{Addr}
@@ -13,8 +13,8 @@ use Rattle.link_parts.specs.declared.role.ServerRole.{ServerRole}
 use Rattle.link_parts.specs.declared.role.LoggerRole.{LoggerRole}
 use Rattle.link_parts.specs.declared.role.ClientRole.{ClientRole}
 use Rattle.link_parts.specs.declared.role.PairRole.{PairRole}
-use Rattle.link_parts.specs.declared.role.Role.{Role}
-use Rattle.link_parts.specs.declared.role.Role.TheVariants.{Server, Logger, Client, Pair}
+use Rattle.link_parts.specs.declared.role.NodeRole.{NodeRole}
+use Rattle.link_parts.specs.declared.role.NodeRole.TheVariants.{Server, Logger, Client, Pair}
 use Rattle.link_parts.specs.Options.{Text, Use, allowed_uses, value_of}
 
 -- the values of options, where their words spell them
@@ -64,6 +64,18 @@ isn_in uses = number_at 0 (2 ^ 32 - 1) uses option.Isn
 abbrev pub turns_in : List Use → Option ℕ
 turns_in uses = number_at 1 1000000 uses option.Turns
 
+-- a server or a logger takes its turns so many times: once, if `--times` is left out
+abbrev pub times_in : Option Text → Option ℕ
+times_in None = Some 1
+times_in (Some word) = number_of 1 4000000000000 word
+
+abbrev pub all_turns : Option ℕ → Option ℕ → Option ℕ
+all_turns (Some turns) (Some times) = Some (turns * times)
+all_turns _ _ = None
+
+abbrev pub all_turns_in : List Use → Option ℕ
+all_turns_in uses = all_turns (turns_in uses) (times_in (value_of uses option.Times))
+
 abbrev pub server_from : Option ServiceKind → Option Addr → Option Loggers → Option ℕ → Option ℕ → Option ℕ → Option ServerRole
 server_from service (Some local) (Some loggers) (Some boot) (Some isn) (Some turns) =
     Some (record { local = local; loggers = loggers; service = service; boot = boot; isn = isn; turns = turns })
@@ -71,7 +83,7 @@ server_from _ _ _ _ _ _ = None
 
 abbrev pub server_with : List Use → Option ServiceKind → Option ServerRole
 server_with uses service =
-    server_from service (addr_at uses option.Local) (loggers_in uses) (number_at 1 (2 ^ 64 - 1) uses option.Boot) (isn_in uses) (turns_in uses)
+    server_from service (addr_at uses option.Local) (loggers_in uses) (number_at 1 (2 ^ 64 - 1) uses option.Boot) (isn_in uses) (all_turns_in uses)
 
 abbrev pub server_in : List Use → Option ServerRole
 server_in uses = option_and_then (λ service. server_with uses (Some service)) (service_at uses option.Service)
@@ -85,7 +97,7 @@ logger_from (Some local) (Some turns) = Some (record { local = local; turns = tu
 logger_from _ _ = None
 
 abbrev pub logger_in : List Use → Option LoggerRole
-logger_in uses = logger_from (addr_at uses option.Local) (turns_in uses)
+logger_in uses = logger_from (addr_at uses option.Local) (all_turns_in uses)
 
 abbrev pub client_from : Option Addr → Option Addr → Option ℕ → Option ℕ → Option (Option Script) → Option ClientRole
 client_from (Some local) (Some server) (Some isn) (Some turns) (Some script) =
@@ -107,12 +119,9 @@ pair_in uses =
     pair_from (program_at uses option.Program) (number_at 1 65533 uses option.Base)
     (number_at 1 1000000 uses option.First) (number_at 1 1000000 uses option.Second) (turns_in uses)
 
--- the options of each role
+-- the options of each role of `node`
 abbrev pub server_options : List OptionName
 server_options = option.Local ∷ option.Logger ∷ option.SecondLogger ∷ option.Service ∷ option.Boot ∷ option.Isn ∷ option.Turns ∷ []
-
-abbrev pub own_server_options : List OptionName
-own_server_options = option.Local ∷ option.Logger ∷ option.Boot ∷ option.Isn ∷ option.Turns ∷ []
 
 abbrev pub logger_options : List OptionName
 logger_options = option.Local ∷ option.Turns ∷ []
@@ -123,44 +132,65 @@ client_options = option.Local ∷ option.Server ∷ option.Isn ∷ option.Turns 
 abbrev pub pair_options : List OptionName
 pair_options = option.Program ∷ option.Base ∷ option.First ∷ option.Second ∷ option.Turns ∷ []
 
-unfoldable pub server_of : List Text → Option Role
-server_of words = option_map Server (option_and_then server_in (allowed_uses server_options words))
+-- in a process that isn't `node`, a server and a logger may take their turns several times. A server of a service of one's own names none
+abbrev pub lasting_server_options : List OptionName
+lasting_server_options =
+    option.Local ∷ option.Logger ∷ option.SecondLogger ∷ option.Service ∷ option.Boot ∷ option.Isn ∷ option.Turns ∷ option.Times ∷ []
 
-unfoldable pub own_server_of : List Text → Option Role
+abbrev pub own_server_options : List OptionName
+own_server_options = option.Local ∷ option.Logger ∷ option.SecondLogger ∷ option.Boot ∷ option.Isn ∷ option.Turns ∷ option.Times ∷ []
+
+abbrev pub lasting_logger_options : List OptionName
+lasting_logger_options = option.Local ∷ option.Turns ∷ option.Times ∷ []
+
+unfoldable pub server_of : List OptionName → List Text → Option NodeRole
+server_of options words = option_map Server (option_and_then server_in (allowed_uses options words))
+
+unfoldable pub own_server_of : List Text → Option NodeRole
 own_server_of words = option_map Server (option_and_then own_server_in (allowed_uses own_server_options words))
 
-unfoldable pub logger_of : List Text → Option Role
-logger_of words = option_map Logger (option_and_then logger_in (allowed_uses logger_options words))
+unfoldable pub logger_of : List OptionName → List Text → Option NodeRole
+logger_of options words = option_map Logger (option_and_then logger_in (allowed_uses options words))
 
-unfoldable pub client_of : List Text → Option Role
+unfoldable pub client_of : List Text → Option NodeRole
 client_of words = option_map Client (option_and_then client_in (allowed_uses client_options words))
 
-unfoldable pub pair_of : List Text → Option Role
+unfoldable pub pair_of : List Text → Option NodeRole
 pair_of words = option_map Pair (option_and_then pair_in (allowed_uses pair_options words))
 
 -- the role that words ask for, where they are allowed
-unfoldable pub role_of : List Text → Option Role
+unfoldable pub role_of : List Text → Option NodeRole
 role_of [] = None
 role_of (name ∷ words) =
-    if bytes_eq name (codes "server") then server_of words
-    else (if bytes_eq name (codes "logger") then logger_of words
+    if bytes_eq name (codes "server") then server_of server_options words
+    else (if bytes_eq name (codes "logger") then logger_of logger_options words
     else (if bytes_eq name (codes "client") then client_of words
     else (if bytes_eq name (codes "pair") then pair_of words
     else None)))
 
--- the role that words ask for in a program with a service of its own: a server or a logger
-unfoldable pub own_role_of : List Text → Option Role
+-- the same in a process that isn't `node`
+unfoldable pub lasting_role_of : List Text → Option NodeRole
+lasting_role_of [] = None
+lasting_role_of (name ∷ words) =
+    if bytes_eq name (codes "server") then server_of lasting_server_options words
+    else (if bytes_eq name (codes "logger") then logger_of lasting_logger_options words
+    else (if bytes_eq name (codes "client") then client_of words
+    else (if bytes_eq name (codes "pair") then pair_of words
+    else None)))
+
+-- and where its service is its own: a server or a logger
+unfoldable pub own_role_of : List Text → Option NodeRole
 own_role_of [] = None
 own_role_of (name ∷ words) =
     if bytes_eq name (codes "server") then own_server_of words
-    else (if bytes_eq name (codes "logger") then logger_of words
+    else (if bytes_eq name (codes "logger") then logger_of lasting_logger_options words
     else None)
 
-abbrev pub is_pair : Option Role → Bool
+abbrev pub is_pair : Option NodeRole → Bool
 is_pair (Some (Pair role)) = true
 is_pair _ = false
 
 -- a client whose words give no script
-abbrev pub reads_input : Option Role → Bool
+abbrev pub reads_input : Option NodeRole → Bool
 reads_input (Some (Client role)) = is_none role.script
 reads_input _ = false

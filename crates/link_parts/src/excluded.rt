@@ -1,15 +1,20 @@
 //! Wrong results that the contracts of this crate exclude. Each function calls another one of the crate, and promises of its result what a wrong body would make
 //! false. It is proved from the other's contract alone, so it is no longer proved once that contract lets the wrong body pass.
 
-ghost use Rattle.std.specs.Prelude.{◌≡◌, ◌<◌, ◌≤◌, ◌-◌, ◌^◌, [], Some, slice_get, IfOk, IsErrOf};
+ghost use Rattle.std.specs.Prelude.{◌≡◌, ◌<◌, ◌≤◌, ◌-◌, ◌^◌, [], Some, slice_get, List, IfOk, IsErrOf};
 ghost use Rattle.ft_io.specs.Told.{Tells};
+ghost use Rattle.link_parts.specs.Options.{Use, HasValues, value_of};
+ghost use Rattle.link_parts.specs.Roles.{turns_in, times_in};
+ghost use Rattle.link_parts.specs.declared.options.OptionName.TheVariants as option;
 ghost use Rattle.link_parts.specs.declared.pair.ChildName.TheVariants as children;
 ghost use Rattle.link_parts.specs.declared.pair.PairStep.TheVariants as steps;
+ghost use Rattle.link_parts.specs.Ranges.{most_turns};
 
 use crate::logger::run_logger;
 use crate::pair::{PairStep, steps};
-use crate::role::{LoggerRole, PairRole};
+use crate::role::{LoggerRole, PairRole, all_turns_at};
 use crate::status::NodeEnd;
+use clap::ArgMatches;
 use ft_io::{Link, NoMemory, Sink};
 use std::alloc::Global;
 
@@ -20,7 +25,7 @@ fn always_faults_at_the_bind<L: Link, O: Sink>(
     link: &mut L,
     out: &mut O,
 ) -> Result<(), NodeEnd>
-    requires turns { role.now.turns ≤ 1000000 }
+    requires turns { role.now.turns ≤ most_turns }
     requires countable { L.bind_fault_count link.old < 2 ^ 64 - 1 }
     ensures failed { IsErrOf result NodeEnd.LinkFault → L.bind_fault_count link.old < L.bind_fault_count link.new }
     ensures untold { IsErrOf result NodeEnd.LinkFault → Tells (L.told link.old) (L.told link.new) [] }
@@ -37,4 +42,11 @@ fn starts_the_second_server_beside_the_first(
     ensures { IfOk result (λ taken. slice_get taken 3 ≡ Some (steps.Wait 2 children.Server)) }
 {
     steps(alloc, role)
+}
+
+/// Three turns, twice, are six: the clause `value` of `all_turns_at`.
+fn takes_its_turns_once(matches: &ArgMatches<'_>) -> Option<u64>
+    ensures { (uses : List Use) → HasValues uses matches.now → turns_in uses ≡ Some 3 → times_in (value_of uses option.Times) ≡ Some 2 → result ≡ Some 6 }
+{
+    all_turns_at(matches)
 }

@@ -13,8 +13,8 @@ pub use pair::run_pair;
 pub use program::{Program, is_name};
 pub use receiving::{DATAGRAM_ROOM, receive};
 pub use role::{
-    ClientRole, LoggerRole, Loggers, OwnRole, PairRole, Role, ServerRole, addr_at, logger_role,
-    read_own_role, read_role,
+    ClientRole, LoggerRole, Loggers, NodeRole, PairRole, ServerRole, addr_at, logger_role,
+    read_lasting_role, read_own_role, read_role,
 };
 pub use status::{NodeEnd, Status};
 pub use telling::tell;

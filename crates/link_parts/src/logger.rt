@@ -13,6 +13,7 @@ ghost use Rattle.link_parts.specs.Counts.{HasRoom};
 ghost use Rattle.link_parts.specs.Ends.{UnlessFault};
 ghost use Rattle.link_parts.specs.LoggerTurns.{log_with, answer_for};
 ghost use Rattle.link_parts.specs.LoggerParts.{HasTurned, IsCutOff, Replies, HasCounted, IsCutServing, IsLogger, LoggerStops};
+ghost use Rattle.link_parts.specs.Ranges.{most_turns};
 
 use crate::counts::{Counts, tell_counts};
 use crate::receiving::{DATAGRAM_ROOM, receive};
@@ -71,8 +72,8 @@ fn take_turn<L: Link>(
 }
 
 /// Takes this many turns, beginning with an empty log, and returns the counts of their calls.
-fn serve<L: Link>(alloc: Global, link: &mut L, turns: u32) -> Result<Counts, NoMemory>
-    requires { turns ≤ 1000000 }
+fn serve<L: Link>(alloc: Global, link: &mut L, turns: u64) -> Result<Counts, NoMemory>
+    requires { turns ≤ most_turns }
     ensures served { IfOk result (λ counts. HasCounted turns (L.told link.old) (L.told link.new) counts) }
     ensures cut_off { OnErr result (IsCutServing turns (L.told link.old) (L.told link.new)) }
     ensures no_bind_fault { L.bind_fault_count link.new ≡ L.bind_fault_count link.old }
@@ -92,7 +93,7 @@ fn serve_and_tell<L: Link, O: Sink>(
     link: &mut L,
     out: &mut O,
 ) -> Result<(), NodeEnd>
-    requires { role.now.turns ≤ 1000000 }
+    requires { role.now.turns ≤ most_turns }
     ensures done { OnOk result ((before : Option (List LinkCall)) → Tells before (L.told link.old) (Bound role.now.local ∷ [])
         → IsLogger role.now before (L.told link.new) (Appends (O.taken out.old) (O.taken out.new))) }
     ensures stops { IfErr result (λ end. (before : Option (List LinkCall)) → Tells before (L.told link.old) (Bound role.now.local ∷ [])
@@ -115,7 +116,7 @@ pub fn run_logger<L: Link, O: Sink>(
     link: &mut L,
     out: &mut O,
 ) -> Result<(), NodeEnd>
-    requires { role.now.turns ≤ 1000000 }
+    requires { role.now.turns ≤ most_turns }
     ensures done { OnOk result (IsLogger role.now (L.told link.old) (L.told link.new) (Appends (O.taken out.old) (O.taken out.new))) }
     ensures stops { IfErr result (LoggerStops role.now (L.told link.old) (L.told link.new) (O.taken out.old) (O.taken out.new)) }
     ensures bind_cause { IsErrOf result NodeEnd.LinkFault → Rose (L.bind_fault_count link.old) (L.bind_fault_count link.new) }

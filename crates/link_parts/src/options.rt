@@ -26,6 +26,8 @@ pub enum OptionName {
     Boot,
     Isn,
     Turns,
+    /// How many times a server or a logger takes its turns. No role of `node` has this option.
+    Times,
     Script,
     Program,
     Base,
@@ -56,6 +58,7 @@ impl OptionName {
             OptionName::Boot => "boot",
             OptionName::Isn => "isn",
             OptionName::Turns => "turns",
+            OptionName::Times => "times",
             OptionName::Script => "script",
             OptionName::Program => "program",
             OptionName::Base => "base",
@@ -72,7 +75,10 @@ impl OptionName {
     fn is_required(self) -> bool
         ensures { result ≡ is_required_lem self }
     {
-        !matches!(self, OptionName::Script | OptionName::SecondLogger)
+        !matches!(
+            self,
+            OptionName::Script | OptionName::SecondLogger | OptionName::Times
+        )
     }
 
     fn arg<'a>(self, alloc: Global) -> Arg<'a>

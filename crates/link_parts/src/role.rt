@@ -1,14 +1,14 @@
 //! What the words ask for: a role, and the values of its options.
 
 ghost use Rattle.std.specs.Prelude.{◌≡◌, ◌≤◌, List, map, string_bytes, option_map, IfOk, IfSome};
-ghost use Rattle.link_parts.specs.declared.role.Role.TheVariants as roles;
-ghost use Rattle.link_parts.specs.Options.{Use, HasValues};
-ghost use Rattle.link_parts.specs.Ranges.{ServerInRange, IsShort, ClientInRange, InRange};
+ghost use Rattle.link_parts.specs.declared.role.NodeRole.TheVariants as roles;
+ghost use Rattle.link_parts.specs.Options.{Use, HasValues, value_of};
+ghost use Rattle.link_parts.specs.declared.options.OptionName.TheVariants as option;
+ghost use Rattle.link_parts.specs.Ranges.{most_turns, ServerInRange, IsShort, ClientInRange, InRange};
 ghost use Rattle.link_parts.specs.Roles.{addr_at as addr_lem, number_at as number_lem, service_at as service_lem, script_at as script_lem};
 ghost use Rattle.link_parts.specs.Roles.{program_at as program_lem};
-ghost use Rattle.link_parts.specs.Roles.{loggers_in, server_with as server_lem, server_in, own_server_in, logger_in, client_in, pair_in};
-ghost use Rattle.link_parts.specs.Roles.{server_of, own_server_of, logger_of, client_of, pair_of, role_of, own_role_of};
-ghost use Rattle.link_parts.specs.OwnRoles.{as_role};
+ghost use Rattle.link_parts.specs.Roles.{loggers_in, times_in, all_turns_in, server_with as server_lem, server_in, own_server_in, logger_in, client_in, pair_in};
+ghost use Rattle.link_parts.specs.Roles.{server_of, own_server_of, logger_of, client_of, pair_of, role_of, lasting_role_of, own_role_of};
 ghost use Rattle.link_parts.specs.ServiceNumber.{kind_in};
 
 use crate::options::{OptionName, read_options};
@@ -29,15 +29,34 @@ const SERVER_OPTIONS: [OptionName; 7] = [
     OptionName::Turns,
 ];
 
-const OWN_SERVER_OPTIONS: [OptionName; 5] = [
+const LASTING_SERVER_OPTIONS: [OptionName; 8] = [
     OptionName::Local,
     OptionName::Logger,
+    OptionName::SecondLogger,
+    OptionName::Service,
     OptionName::Boot,
     OptionName::Isn,
     OptionName::Turns,
+    OptionName::Times,
+];
+
+const OWN_SERVER_OPTIONS: [OptionName; 7] = [
+    OptionName::Local,
+    OptionName::Logger,
+    OptionName::SecondLogger,
+    OptionName::Boot,
+    OptionName::Isn,
+    OptionName::Turns,
+    OptionName::Times,
 ];
 
 const LOGGER_OPTIONS: [OptionName; 2] = [OptionName::Local, OptionName::Turns];
+
+const LASTING_LOGGER_OPTIONS: [OptionName; 3] = [
+    OptionName::Local,
+    OptionName::Turns,
+    OptionName::Times,
+];
 
 const CLIENT_OPTIONS: [OptionName; 5] = [
     OptionName::Local,
@@ -61,6 +80,9 @@ const LAST_BASE: u64 = 65_533;
 /// The most turns of a role.
 const TURN_LIMIT: u64 = 1_000_000;
 
+/// How many times a server or a logger may take its turns: at most 4 * 10^18 in all.
+const TIMES_LIMIT: u64 = 4_000_000_000_000;
+
 /// The loggers of a server: one, or two that act as one.
 #[derive(Clone, Copy)]
 pub struct Loggers {
@@ -82,8 +104,8 @@ pub struct ServerRole {
     pub boot: u64,
     /// The number from which its connections' initial sequence numbers are counted.
     pub isn: u32,
-    /// How many turns it takes, 1 to 1,000,000.
-    pub turns: u32,
+    /// How many turns it takes, 1 to 4 * 10^18.
+    pub turns: u64,
 }
 
 /// A logger that starts with an empty log.
@@ -91,8 +113,8 @@ pub struct ServerRole {
 pub struct LoggerRole {
     /// Its own address and port.
     pub local: Addr,
-    /// How many turns it takes, 1 to 1,000,000.
-    pub turns: u32,
+    /// How many turns it takes, 1 to 4 * 10^18.
+    pub turns: u64,
 }
 
 /// A client that sends a script.
@@ -139,18 +161,11 @@ impl ServerRole {
 
 /// The role of a process.
 #[derive(Drop)]
-pub enum Role {
+pub enum NodeRole {
     Server(ServerRole),
     Logger(LoggerRole),
     Client(ClientRole),
     Pair(PairRole),
-}
-
-/// The role of a process whose program has a service of its own.
-#[derive(Clone, Copy)]
-pub enum OwnRole {
-    Server(ServerRole),
-    Logger(LoggerRole),
 }
 
 /// Returns the address that an option gives, or `None` where the option is missing or its value spells no address.
@@ -165,6 +180,27 @@ fn number_at(matches: &ArgMatches<'_>, option: OptionName, least: u64, most: u64
     ensures range { IfSome result (λ n. (least ≤ n) × (n ≤ most)) }
 {
     read_number(matches.get_str(option.word())?.as_bytes(), least, most)
+}
+
+/// Returns how many times the turns are taken.
+fn times_at(matches: &ArgMatches<'_>) -> Option<u64>
+    ensures value { (uses : List Use) → HasValues uses matches.now → result ≡ times_in (value_of uses option.Times) }
+    ensures range { IfSome result (λ n. n ≤ 4000000000000) }
+{
+    match matches.get_str(OptionName::Times.word()) {
+        None => Some(1),
+        Some(word) => read_number(word.as_bytes(), 1, TIMES_LIMIT),
+    }
+}
+
+/// Returns how many turns a server or a logger takes in all.
+pub(crate) fn all_turns_at(matches: &ArgMatches<'_>) -> Option<u64>
+    ensures value { (uses : List Use) → HasValues uses matches.now → result ≡ all_turns_in uses }
+    ensures range { IfSome result (λ n. n ≤ most_turns) }
+{
+    let turns = number_at(matches, OptionName::Turns, 1, TURN_LIMIT)?;
+    let times = times_at(matches)?;
+    Some(turns * times)
 }
 
 fn service_at(matches: &ArgMatches<'_>, option: OptionName) -> Option<ServiceKind>
@@ -232,7 +268,7 @@ fn server_with(matches: &ArgMatches<'_>, service: Option<ServiceKind>) -> Option
         service,
         boot: number_at(matches, OptionName::Boot, 1, u64::MAX)?,
         isn: number_at(matches, OptionName::Isn, 0, u64::from(u32::MAX))? as u32,
-        turns: number_at(matches, OptionName::Turns, 1, TURN_LIMIT)? as u32,
+        turns: all_turns_at(matches)?,
     })
 }
 
@@ -246,12 +282,12 @@ fn server_role(matches: &ArgMatches<'_>) -> Option<ServerRole>
 
 /// Returns the role of a logger with these values of its options, or `None` where a value is missing or isn't allowed.
 pub fn logger_role(matches: &ArgMatches<'_>) -> Option<LoggerRole>
-    ensures range { IfSome result (λ role. role.turns ≤ 1000000) }
+    ensures range { IfSome result (λ role. role.turns ≤ most_turns) }
     ensures value { (uses : List Use) → HasValues uses matches.now → result ≡ logger_in uses }
 {
     Some(LoggerRole {
         local: addr_at(matches, OptionName::Local)?,
-        turns: number_at(matches, OptionName::Turns, 1, TURN_LIMIT)? as u32,
+        turns: all_turns_at(matches)?,
     })
 }
 
@@ -299,40 +335,48 @@ fn pair_with(matches: &ArgMatches<'_>, program: Option<Program>) -> Option<PairR
 }
 
 #[tactic(auto, unfolding(crate::specs::Roles::server_of))]
-fn read_server(alloc: Global, words: &[String]) -> Result<Option<Role>, NoMemory>
-    ensures role { IfOk result (λ role. role ≡ server_of (map string_bytes words.now)) }
+fn read_server(
+    alloc: Global,
+    options: &[OptionName],
+    words: &[String],
+) -> Result<Option<NodeRole>, NoMemory>
+    ensures role { IfOk result (λ role. role ≡ server_of options.now (map string_bytes words.now)) }
     ensures range { IfOk result (λ role. IfSome role InRange) }
 {
-    let Some(matches) = read_options(alloc, &SERVER_OPTIONS, words)? else {
+    let Some(matches) = read_options(alloc, options, words)? else {
         return Ok(None);
     };
-    Ok(server_role(&matches).map(Role::Server))
+    Ok(server_role(&matches).map(NodeRole::Server))
 }
 
 #[tactic(auto, unfolding(crate::specs::Roles::own_server_of))]
-fn read_own_server(alloc: Global, words: &[String]) -> Result<Option<ServerRole>, NoMemory>
-    ensures role { IfOk result (λ role. option_map roles.Server role ≡ own_server_of (map string_bytes words.now)) }
-    ensures range { IfOk result (λ role. IfSome role ServerInRange) }
+fn read_own_server(alloc: Global, words: &[String]) -> Result<Option<NodeRole>, NoMemory>
+    ensures role { IfOk result (λ role. role ≡ own_server_of (map string_bytes words.now)) }
+    ensures range { IfOk result (λ role. IfSome role InRange) }
 {
-    match read_options(alloc, &OWN_SERVER_OPTIONS, words)? {
-        Some(matches) => Ok(server_with(&matches, None)),
-        None => Ok(None),
-    }
+    let Some(matches) = read_options(alloc, &OWN_SERVER_OPTIONS, words)? else {
+        return Ok(None);
+    };
+    Ok(server_with(&matches, None).map(NodeRole::Server))
 }
 
 #[tactic(auto, unfolding(crate::specs::Roles::logger_of))]
-fn read_logger(alloc: Global, words: &[String]) -> Result<Option<LoggerRole>, NoMemory>
-    ensures role { IfOk result (λ role. option_map roles.Logger role ≡ logger_of (map string_bytes words.now)) }
-    ensures range { IfOk result (λ role. IfSome role (λ r. r.turns ≤ 1000000)) }
+fn read_logger(
+    alloc: Global,
+    options: &[OptionName],
+    words: &[String],
+) -> Result<Option<NodeRole>, NoMemory>
+    ensures role { IfOk result (λ role. role ≡ logger_of options.now (map string_bytes words.now)) }
+    ensures range { IfOk result (λ role. IfSome role InRange) }
 {
-    match read_options(alloc, &LOGGER_OPTIONS, words)? {
-        Some(matches) => Ok(logger_role(&matches)),
-        None => Ok(None),
-    }
+    let Some(matches) = read_options(alloc, options, words)? else {
+        return Ok(None);
+    };
+    Ok(logger_role(&matches).map(NodeRole::Logger))
 }
 
 #[tactic(auto, unfolding(crate::specs::Roles::client_of))]
-fn read_client(alloc: Global, words: &[String]) -> Result<Option<Role>, NoMemory>
+fn read_client(alloc: Global, words: &[String]) -> Result<Option<NodeRole>, NoMemory>
     ensures role { IfOk result (λ role. role ≡ client_of (map string_bytes words.now)) }
     ensures range { IfOk result (λ role. IfSome role InRange) }
 {
@@ -340,13 +384,13 @@ fn read_client(alloc: Global, words: &[String]) -> Result<Option<Role>, NoMemory
         return Ok(None);
     };
     match client_role(alloc, &matches)? {
-        Some(role) => Ok(Some(Role::Client(role))),
+        Some(role) => Ok(Some(NodeRole::Client(role))),
         None => Ok(None),
     }
 }
 
 #[tactic(auto, unfolding(crate::specs::Roles::pair_of))]
-fn read_pair(alloc: Global, words: &[String]) -> Result<Option<Role>, NoMemory>
+fn read_pair(alloc: Global, words: &[String]) -> Result<Option<NodeRole>, NoMemory>
     ensures role { IfOk result (λ role. role ≡ pair_of (map string_bytes words.now)) }
     ensures range { IfOk result (λ role. IfSome role InRange) }
 {
@@ -354,15 +398,15 @@ fn read_pair(alloc: Global, words: &[String]) -> Result<Option<Role>, NoMemory>
         return Ok(None);
     };
     match pair_role(alloc, &matches)? {
-        Some(role) => Ok(Some(Role::Pair(role))),
+        Some(role) => Ok(Some(NodeRole::Pair(role))),
         None => Ok(None),
     }
 }
 
-/// Reads a role from the words: its name, then its options in any order, each as `--NAME VALUE` or `--NAME=VALUE`. Returns `None` where the words
+/// Reads a role of `node` from the words: its name, then its options in any order, each as `--NAME VALUE` or `--NAME=VALUE`. Returns `None` where the words
 /// aren't allowed.
 #[tactic(auto, unfolding(crate::specs::Roles::role_of))]
-pub fn read_role(alloc: Global, words: &[String]) -> Result<Option<Role>, NoMemory>
+pub fn read_role(alloc: Global, words: &[String]) -> Result<Option<NodeRole>, NoMemory>
     ensures role { IfOk result (λ role. role ≡ role_of (map string_bytes words.now)) }
     ensures range { IfOk result (λ role. IfSome role InRange) }
 {
@@ -370,32 +414,44 @@ pub fn read_role(alloc: Global, words: &[String]) -> Result<Option<Role>, NoMemo
         return Ok(None);
     };
     match name.as_str() {
-        "server" => read_server(alloc, words),
-        "logger" => Ok(read_logger(alloc, words)?.map(Role::Logger)),
+        "server" => read_server(alloc, &SERVER_OPTIONS, words),
+        "logger" => read_logger(alloc, &LOGGER_OPTIONS, words),
         "client" => read_client(alloc, words),
         "pair" => read_pair(alloc, words),
         _ => Ok(None),
     }
 }
 
-/// Reads the role of a program with a service of its own. The words are those of a server, without `--service` and `--second`, or those of a logger.
-#[tactic(auto, unfolding(crate::specs::Roles::own_role_of))]
-pub fn read_own_role(alloc: Global, words: &[String]) -> Result<Option<OwnRole>, NoMemory>
-    ensures role { IfOk result (λ role. option_map as_role role ≡ own_role_of (map string_bytes words.now)) }
-    ensures range { IfOk result (λ role. IfSome role (λ r. InRange (as_role r))) }
+/// Reads a role as [`read_role`] does. The words of a server and of a logger may have `--times` too.
+#[tactic(auto, unfolding(crate::specs::Roles::lasting_role_of))]
+pub fn read_lasting_role(alloc: Global, words: &[String]) -> Result<Option<NodeRole>, NoMemory>
+    ensures role { IfOk result (λ role. role ≡ lasting_role_of (map string_bytes words.now)) }
+    ensures range { IfOk result (λ role. IfSome role InRange) }
 {
     let Some((name, words)) = words.split_first() else {
         return Ok(None);
     };
     match name.as_str() {
-        "server" => match read_own_server(alloc, words)? {
-            Some(role) => Ok(Some(OwnRole::Server(role))),
-            None => Ok(None),
-        },
-        "logger" => match read_logger(alloc, words)? {
-            Some(role) => Ok(Some(OwnRole::Logger(role))),
-            None => Ok(None),
-        },
+        "server" => read_server(alloc, &LASTING_SERVER_OPTIONS, words),
+        "logger" => read_logger(alloc, &LASTING_LOGGER_OPTIONS, words),
+        "client" => read_client(alloc, words),
+        "pair" => read_pair(alloc, words),
+        _ => Ok(None),
+    }
+}
+
+/// Reads the role of a program with a service of its own: a server, without `--service`, or a logger. Both may have `--times`.
+#[tactic(auto, unfolding(crate::specs::Roles::own_role_of))]
+pub fn read_own_role(alloc: Global, words: &[String]) -> Result<Option<NodeRole>, NoMemory>
+    ensures role { IfOk result (λ role. role ≡ own_role_of (map string_bytes words.now)) }
+    ensures range { IfOk result (λ role. IfSome role InRange) }
+{
+    let Some((name, words)) = words.split_first() else {
+        return Ok(None);
+    };
+    match name.as_str() {
+        "server" => read_own_server(alloc, words),
+        "logger" => read_logger(alloc, &LASTING_LOGGER_OPTIONS, words),
         _ => Ok(None),
     }
 }

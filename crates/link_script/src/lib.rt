@@ -1,4 +1,4 @@
-//! Runs of `node_in_pair` over a link in memory, by the lines of a script: it is said how each run ends. The lines of a script:
+//! Runs of a process over a link in memory, by the lines of a script: it is said how each run ends. The lines of a script:
 //!
 //! - `# ..` is printed as it is;
 //! - `ask WORDS` prints which role the words ask for. In words `~` means a space, and `''` an empty word;
@@ -7,9 +7,9 @@
 //! - `child N` gives the next child of the next run the status N; without this line it is 0;
 //! - `fail CALL N` makes the call with number N, from 1, of the next run fail: CALL is `bind`, `send`, `receive`, `read`, `write`, `error` or `child`: the
 //!   writes are on out and err, and starts of children and waits for them have one numbering;
-//! - `run WORDS` runs `node_in_pair`, and prints its status, what it wrote to out and to err, and the calls that the link and the spawner recorded; `brief WORDS`
+//! - `run WORDS` runs a process with the four services, and prints its status, what it wrote to out and to err, and the calls that the link and the spawner recorded; `brief WORDS`
 //!   prints of the link's calls only how many were receives and how many sends;
-//! - `own WORDS` is the same as `run`, for `node_of` with the service Counter;
+//! - `own WORDS` is the same as `run`, with the service Counter, and `node WORDS` is the same for `node`;
 //! - `start WORDS` starts `ftnode` as a process, and prints its exit status and what it wrote to both outputs. Its shell's command is that of a line `shell
 //!   TEXT` before it, where `$0` is the program and `$@` are its words. `answer HEX` is what a peer at 127.0.0.1:7461 answers to the datagrams that reach it,
 //!   one after another, and `hold FILE` keeps this journal open meanwhile.
@@ -20,8 +20,8 @@
 use faults::Faults;
 use ft_io::{NoMemory, Octets};
 use ft_system::Arrival;
-use journal_link::{TwinRole, read_twin_role};
-use node_link::{Role, read_role};
+use node_link::NodeRole;
+use node_process::{Role, Services, TwinRole, read_role};
 use process::Meeting;
 use runs::{Setting, Way};
 use schedule_text::read_addr;
@@ -91,6 +91,7 @@ impl Script {
             "run" => return self.run(alloc, rest, Way::Node),
             "brief" => return self.run(alloc, rest, Way::Brief),
             "own" => return self.run(alloc, rest, Way::Own),
+            "node" => return self.run(alloc, rest, Way::Specified),
             "start" => return self.start(system, rest),
             // What the next run or the next process meets.
             "come" => return self.come(alloc, rest),
@@ -176,32 +177,26 @@ impl Script {
 /// Says which role the words ask for.
 fn ask(alloc: Global, text: &str, said: &mut Said) -> Result<(), NoMemory> {
     let words = words_of(alloc, text)?;
-    match read_twin_role(alloc, words.as_slice())? {
-        Some(twin) => said.line(name_of_twin(&twin)),
-        None => said.line(name_of(&read_role(alloc, words.as_slice())?)),
+    match read_role(alloc, Services::Named, words.as_slice())? {
+        None => said.line("none"),
+        Some(role) => said.line(name_of(&role)),
     }
     Ok(())
 }
 
-/// The name of a role that has to do with two loggers.
-fn name_of_twin<'a>(role: &TwinRole) -> &'a str {
+/// The name of a role.
+fn name_of<'a>(role: &Role) -> &'a str {
     match role {
-        TwinRole::Logger(role) => match role.part {
+        Role::Node(NodeRole::Server(_)) => "server",
+        Role::Node(NodeRole::Logger(_)) => "logger",
+        Role::Node(NodeRole::Client(_)) => "client",
+        Role::Node(NodeRole::Pair(_)) => "pair",
+        Role::Journal(_) => "journal",
+        Role::Twin(TwinRole::Logger(role)) => match role.part {
             Part::Head => "head",
             Part::Tail => "tail",
         },
-        TwinRole::Alone(_) => "alone",
-    }
-}
-
-/// The name of a role that `node` has.
-fn name_of<'a>(role: &Option<Role>) -> &'a str {
-    match role {
-        None => "none",
-        Some(Role::Server(_)) => "server",
-        Some(Role::Logger(_)) => "logger",
-        Some(Role::Client(_)) => "client",
-        Some(Role::Pair(_)) => "pair",
+        Role::Twin(TwinRole::Alone(_)) => "alone",
     }
 }
 

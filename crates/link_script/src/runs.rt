@@ -1,4 +1,4 @@
-//! One run of `node_in_pair` over a link and a spawner in memory, or of `node_of` over a link.
+//! One run of a process over a link, streams and a spawner in memory.
 
 use crate::children::say_children;
 use crate::faults::Faults;
@@ -6,20 +6,23 @@ use counter_service::Counter;
 use disk::{MemDesk, MemDisk};
 use ft_io::{Addr, LinkCall, SpawnCall};
 use ft_system::{Arrival, MemLink, MemSink, MemSource, MemSpawner};
-use journal_link::node_in_pair;
-use node_link::node_of;
+use node_link::node;
+use node_process::{Process, Services, run as run_process};
+use sample_servers::AnyService;
 use std::alloc::Global;
 use test_data::Said;
 
 /// What is run, and how its calls on the link are printed.
 #[derive(Clone, Copy, Debug, PartialEq, Eq)]
 pub enum Way {
-    /// `node_in_pair`, each call.
+    /// A program with the four services, each call.
     Node,
-    /// `node_in_pair`, how many calls there were.
+    /// A program with the four services, how many calls there were.
     Brief,
-    /// `node_of` with Counter, each call.
+    /// A program with the service Counter, each call.
     Own,
+    /// `node`, each call.
+    Specified,
 }
 
 /// What a run meets.
@@ -65,29 +68,36 @@ pub fn run(alloc: Global, words: &[String], setting: Setting, said: &mut Said) {
         errors,
         children,
     } = faults;
-    let mut link = MemLink::with_bind_fails(alloc, arrivals, sends, receives, binds);
-    let mut input = MemSource::new(input, reads);
-    let mut out = MemSink::new(alloc, writes);
-    let mut err = MemSink::new(alloc, errors);
-    let mut kids = MemSpawner::new(alloc, statuses, children);
+    let mut process = Process {
+        link: MemLink::with_bind_fails(alloc, arrivals, sends, receives, binds),
+        input: MemSource::new(input, reads),
+        out: MemSink::new(alloc, writes),
+        err: MemSink::new(alloc, errors),
+        children: MemSpawner::new(alloc, statuses, children),
+        desk: idle_desk(alloc),
+    };
     let status = match way {
-        Way::Node | Way::Brief => node_in_pair(
+        Way::Specified => node(
             alloc,
             words,
-            &mut link,
-            &mut input,
-            &mut out,
-            &mut err,
-            &mut kids,
-            &mut idle_desk(alloc),
+            &mut process.link,
+            &mut process.input,
+            &mut process.out,
+            &mut process.err,
+            &mut process.children,
         ),
-        Way::Own => node_of::<Counter, _, _, _>(alloc, words, &mut link, &mut out, &mut err),
+        Way::Node | Way::Brief => {
+            run_process::<AnyService, _, _, _, _, _, _>(alloc, Services::Named, words, &mut process)
+        }
+        Way::Own => {
+            run_process::<Counter, _, _, _, _, _, _>(alloc, Services::Own, words, &mut process)
+        }
     };
     let code = status.code;
     write!(said, "status {code}\n");
-    said.add(out.written());
-    said.add(err.written());
-    say_told(link.told(), kids.told(), way, said);
+    said.add(process.out.written());
+    said.add(process.err.written());
+    say_told(process.link.told(), process.children.told(), way, said);
 }
 
 /// Says what was called on the link and on the spawner.
@@ -97,7 +107,7 @@ fn say_told(calls: Option<&[LinkCall]>, children: Option<&[SpawnCall]>, way: Way
     };
     match way {
         Way::Brief => say_counts(calls, said),
-        Way::Node | Way::Own => say_calls(calls, said),
+        Way::Node | Way::Own | Way::Specified => say_calls(calls, said),
     }
     say_children(children, said);
 }

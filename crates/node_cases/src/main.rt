@@ -12,7 +12,7 @@
 
 use anyhow::{Result, bail};
 use ft_system::{MemSink, MemSource, ReadSource};
-use journal_link::run_ftnode;
+use node_process::run_ftnode;
 use replay_script::{Tool, is_ftreplay};
 use replay_tool::{replay, run_ftreplay};
 use std::alloc::Global;

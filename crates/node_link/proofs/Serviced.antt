@@ -41,6 +41,7 @@ use Rattle.node_link.specs.ServerLife.{IsServer, IsCutServer, ServerStops}
 use Rattle.node_link.specs.ServerParts.{Standing, HasHanded, HasSent, identity_of, HasBooted, Goes, HasTurned, EndsTurn, TurnStops, IsAfterTurns, StandsForKey, IsServing, HasServed, IsCutServing, ServeStops}
 use Rattle.node_link.proofs.KeyGoing.{GoesFor, begins_for, key_goes}
 use Rattle.link_parts.proofs.Calls.{counts_on, with_both, with_none, few_calls, IsFew}
+use Rattle.link_parts.specs.Ranges.{most_turns}
 
 -- what came, as an input
 pub message_in : (loggers : Loggers) (from : Addr) (bytes : List ℕ) (r : Received) → r ≡ datagram from bytes → is_from_logger loggers from ≡ true
@@ -275,7 +276,7 @@ module _ {State : Type 0} (services : ℕ → Machine State) where
         each_key = keys;
       }
 
-  pub room_for_turn : (role : ServerRole) (i most : ℕ) (s : Standing State) (old new : Option (List LinkCall)) (counts : Counts) → i < most → most ≤ 1000000 → IsServing services role i s old new counts
+  pub room_for_turn : (role : ServerRole) (i most : ℕ) (s : Standing State) (old new : Option (List LinkCall)) (counts : Counts) → i < most → most ≤ most_turns → IsServing services role i s old new counts
       → HasRoom (2 ^ 65) counts
   room_for_turn role i most s old new counts lt le h =
       let few : IsFew (length (server_calls role.loggers h.at_boot h.turns)) (counts_of (server_calls role.loggers h.at_boot h.turns)) = few_calls (server_calls role.loggers h.at_boot h.turns) in

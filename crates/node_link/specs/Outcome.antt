@@ -4,8 +4,8 @@ use Rattle.std.specs.Io.KnownBytes.{Appends}
 use Rattle.ft_io.specs.declared.link_call.LinkCall.{LinkCall}
 use Rattle.ft_io.specs.declared.spawn_call.SpawnCall.{SpawnCall}
 use Rattle.ft_io.specs.Faults.{Rose}
-use Rattle.link_parts.specs.declared.role.Role.{Role}
-use Rattle.link_parts.specs.declared.role.Role.TheVariants.{Server, Logger, Client, Pair}
+use Rattle.link_parts.specs.declared.role.NodeRole.{NodeRole}
+use Rattle.link_parts.specs.declared.role.NodeRole.TheVariants.{Server, Logger, Client, Pair}
 use Rattle.link_parts.specs.declared.status.NodeEnd.{NodeEnd}
 use Rattle.link_parts.specs.declared.status.NodeEnd.TheVariants.{Usage, NoMemory}
 use Rattle.server_trait.specs.Service.{Machine}
@@ -43,7 +43,7 @@ HasScript None left faults_old faults_new = (bytes : List ℕ) × (left ≡ Some
 
 module _ {State : Type 0} (services : ℕ → Machine State) where
   -- what a role did. Only a client reads the input. A pair makes no call on the link
-  abbrev pub LivesAs : Role → Result (Unit {0}) NodeEnd → (before after : Given) → Type 0
+  abbrev pub LivesAs : NodeRole → Result (Unit {0}) NodeEnd → (before after : Given) → Type 0
   LivesAs (Server role) (Ok _) before after = (after.left ≡ before.left) × IsServer services role before.calls after.calls (Appends before.out after.out)
   LivesAs (Server role) (Err end) before after = (after.left ≡ before.left) × ServerStops services role before.calls after.calls before.out after.out end
   LivesAs (Logger role) (Ok _) before after = (after.left ≡ before.left) × IsLogger role before.calls after.calls (Appends before.out after.out)
@@ -56,18 +56,18 @@ module _ {State : Type 0} (services : ℕ → Machine State) where
       (after.left ≡ before.left) × (after.calls ≡ before.calls) × PairStops role before.started before.spawned after.spawned before.out after.out end
 
   -- what was done, by the role that the words ask for. Words that aren't allowed are reported as such, and reading them may run out of memory
-  abbrev pub Lives : Option Role → Result (Unit {0}) NodeEnd → (before after : Given) → Type 0
+  abbrev pub Lives : Option NodeRole → Result (Unit {0}) NodeEnd → (before after : Given) → Type 0
   Lives None end before after = ((end ≡ Err Usage) ⊎ (end ≡ Err NoMemory)) × HasDoneNothing before after
   Lives (Some role) end before after = LivesAs role end before after ⊎ ((end ≡ Err NoMemory) × HasDoneNothing before after)
 
   -- what was done and what was reported agree
-  pub record HasEndedWith (role : Option Role) (before after : Given) (err_old err_new : Option (List ℕ)) (code : ℕ) : Type 0 where
+  pub record HasEndedWith (role : Option NodeRole) (before after : Given) (err_old err_new : Option (List ℕ)) (code : ℕ) : Type 0 where
     pub end : Result (Unit {0}) NodeEnd
     pub lives : Lives role end before after
     pub told : IsTold end err_old err_new code
 
 -- the same for a program with the four services
-abbrev pub HasEnded : Option Role → (before after : Given) → (err_old err_new : Option (List ℕ)) → (code : ℕ) → Type 0
+abbrev pub HasEnded : Option NodeRole → (before after : Given) → (err_old err_new : Option (List ℕ)) → (code : ℕ) → Type 0
 HasEnded = HasEndedWith (machines any_started any_after)
 
 -- a process with nothing but a link and a sink

@@ -1,28 +1,60 @@
-//! The entry points: `node`, and `node_of` for a service of your own.
+//! The entry point `node`, and the roles that it runs, with any service.
 
-ghost use Rattle.std.specs.Prelude.{◌≡◌, ◌≤◌, ◌^◌, ◌⊎◌, ℕ, List, length, map, string_bytes, None, Some, Ok, Err, OnOk, IfErr, IsErrOf, false};
+ghost use Rattle.std.specs.Prelude.{◌≡◌, ◌≤◌, ◌^◌, ◌⊎◌, ℕ, List, length, map, string_bytes, None, Some, Ok, Err, OnOk, IfErr, IsErrOf, true, false};
 ghost use Rattle.ft_io.specs.Faults.{Rose};
 ghost use Rattle.ft_io.specs.Source.{ConsumesAtMost};
 ghost use Rattle.link_parts.specs.declared.role.ServerRole.{ServerRole};
 ghost use Rattle.link_parts.specs.declared.role.ClientRole.{ClientRole};
 ghost use Rattle.link_parts.specs.declared.role.LoggerRole.{LoggerRole};
 ghost use Rattle.link_parts.specs.declared.role.PairRole.{PairRole};
-ghost use Rattle.link_parts.specs.declared.role.Role.TheVariants as roles;
+ghost use Rattle.link_parts.specs.declared.role.NodeRole.TheVariants as roles;
 ghost use Rattle.ft_model.specs.Legal.{machines};
 ghost use Rattle.sample_servers.specs.AnyService.{any_started, any_after};
 ghost use Rattle.link_parts.specs.Ends.{is_fault_status, UnlessFault};
-ghost use Rattle.node_link.specs.Outcome.{Lives, HasEndedWith, HasEnded, with_link, IsStill, HasScript};
-ghost use Rattle.link_parts.specs.Roles.{role_of, own_role_of, is_pair, reads_input};
+ghost use Rattle.node_link.specs.Outcome.{Lives, LivesAs, HasEnded, IsStill, HasScript};
+ghost use Rattle.link_parts.specs.Ranges.{InRange};
+ghost use Rattle.link_parts.specs.Roles.{role_of, is_pair, reads_input};
 
 use crate::server::run_server;
 use ft_io::{Link, Sink, Source, Spawner};
-use link_parts::{
-    NodeEnd, OwnRole, Role, Status, read_own_role, read_role, run_client, run_logger, run_pair,
-    tell,
-};
+use link_parts::{NodeEnd, NodeRole, Status, read_role, run_client, run_logger, run_pair, tell};
 use sample_servers::AnyService;
 use server_trait::Saved;
 use std::alloc::Global;
+
+/// Runs a role, with the service `S` where it is a server.
+pub fn run_role<S: Saved, L: Link, I: Source, O: Sink, P: Spawner>(
+    alloc: Global,
+    role: &NodeRole,
+    link: &mut L,
+    input: &mut I,
+    out: &mut O,
+    kids: &mut P,
+) -> Result<(), NodeEnd>
+    requires { InRange role.now }
+    ensures lives { LivesAs (machines S.started S.after) role.now result
+        (record { left = I.left input.old; calls = L.told link.old; started = P.started kids.old; spawned = P.told kids.old; out = O.taken out.old })
+        (record { left = I.left input.new; calls = L.told link.new; started = P.started kids.new; spawned = P.told kids.new; out = O.taken out.new }) }
+    ensures same_kids { is_pair (Some role.now) ≡ false → kids.new ≡ kids.old }
+    ensures unread { reads_input (Some role.now) ≡ false → input.new ≡ input.old }
+    ensures same_link { is_pair (Some role.now) ≡ true → link.new ≡ link.old }
+    ensures taken { ConsumesAtMost 16777217 (I.left input.old) (I.left input.new) }
+    ensures read_cause { IsErrOf result NodeEnd.ReadFault → Rose (I.fault_count input.old) (I.fault_count input.new) }
+    ensures bind_cause { IsErrOf result NodeEnd.LinkFault → Rose (L.bind_fault_count link.old) (L.bind_fault_count link.new) }
+    ensures write_cause { IsErrOf result NodeEnd.WriteFault → Rose (O.fault_count out.old) (O.fault_count out.new) }
+    ensures child_cause { IsErrOf result NodeEnd.ChildFault → Rose (P.fault_count kids.old) (P.fault_count kids.new) }
+    ensures no_read_fault { UnlessFault result (I.fault_count input.new ≡ I.fault_count input.old) }
+    ensures no_bind_fault { UnlessFault result (L.bind_fault_count link.new ≡ L.bind_fault_count link.old) }
+    ensures no_write_fault { UnlessFault result (O.fault_count out.new ≡ O.fault_count out.old) }
+    ensures no_child_fault { UnlessFault result (P.fault_count kids.new ≡ P.fault_count kids.old) }
+{
+    match role {
+        NodeRole::Server(role) => run_server::<S, L, O>(alloc, role, link, out),
+        NodeRole::Logger(role) => run_logger(alloc, role, link, out),
+        NodeRole::Client(role) => run_client(alloc, role, link, input, out),
+        NodeRole::Pair(role) => run_pair(alloc, role, kids, out),
+    }
+}
 
 /// Runs the role that the words ask for.
 fn run<L: Link, I: Source, O: Sink, P: Spawner>(
@@ -50,10 +82,7 @@ fn run<L: Link, I: Source, O: Sink, P: Spawner>(
 {
     match read_role(alloc, words)? {
         None => Err(NodeEnd::Usage),
-        Some(Role::Server(role)) => run_server::<AnyService, L, O>(alloc, &role, link, out),
-        Some(Role::Logger(role)) => run_logger(alloc, &role, link, out),
-        Some(Role::Client(role)) => run_client(alloc, &role, link, input, out),
-        Some(Role::Pair(role)) => run_pair(alloc, &role, kids, out),
+        Some(role) => { run_role::<AnyService, L, I, O, P>(alloc, &role, link, input, out, kids) }
     }
 }
 
@@ -113,63 +142,6 @@ pub fn node<L: Link, I: Source, O: Sink, E: Sink, P: Spawner>(
         → IsStill (E.fault_count err.old) (E.fault_count err.new) → (result.code ≡ 0) ⊎ (result.code ≡ 3) }
 {
     match run(alloc, words, link, input, out, kids) {
-        Ok(()) => Status { code: 0 },
-        Err(end) => tell(err, end),
-    }
-}
-
-/// Runs the role that the words ask for, in a program with this service.
-fn run_own<S: Saved, L: Link, O: Sink>(
-    alloc: Global,
-    words: &[String],
-    link: &mut L,
-    out: &mut O,
-) -> Result<(), NodeEnd>
-    ensures lives { Lives (machines S.started S.after) (own_role_of (map string_bytes words.now)) result
-        (with_link (L.told link.old) (O.taken out.old)) (with_link (L.told link.new) (O.taken out.new)) }
-    ensures bind_cause { IsErrOf result NodeEnd.LinkFault → Rose (L.bind_fault_count link.old) (L.bind_fault_count link.new) }
-    ensures write_cause { IsErrOf result NodeEnd.WriteFault → Rose (O.fault_count out.old) (O.fault_count out.new) }
-    ensures no_bind_fault { UnlessFault result (L.bind_fault_count link.new ≡ L.bind_fault_count link.old) }
-    ensures no_write_fault { UnlessFault result (O.fault_count out.new ≡ O.fault_count out.old) }
-{
-    match read_own_role(alloc, words)? {
-        None => Err(NodeEnd::Usage),
-        Some(OwnRole::Server(role)) => run_server::<S, L, O>(alloc, &role, link, out),
-        Some(OwnRole::Logger(role)) => run_logger(alloc, &role, link, out),
-    }
-}
-
-/// Runs a server with a service of your own, or its logger, over the link. The words are those of a server or a logger of [`node`], without `--service` and
-/// `--second`. The service is `S`, whose kind is 0. If it stops early, it writes the reason to `err`, unless a write failed. The status is 0 if all turns were
-/// taken, 2 if the words aren't allowed, 3 if an allocation failed, 4 if the bind failed, 5 if a write failed, and 6 if a newer server fenced this one.
-pub fn node_of<S: Saved, L: Link, O: Sink, E: Sink>(
-    alloc: Global,
-    words: &[String],
-    link: &mut L,
-    out: &mut O,
-    err: &mut E,
-) -> Status
-    // The role decides which calls are made on the link, and what is written to out; the end decides what is written to err.
-    ensures ended { HasEndedWith (machines S.started S.after) (own_role_of (map string_bytes words.now))
-        (with_link (L.told link.old) (O.taken out.old)) (with_link (L.told link.new) (O.taken out.new)) (E.taken err.old) (E.taken err.new) result.code }
-
-    ensures link_fault { result.code ≡ 4 → Rose (L.bind_fault_count link.old) (L.bind_fault_count link.new) }
-    ensures write_fault { result.code ≡ 5 → Rose (O.fault_count out.old) (O.fault_count out.new) ⊎ Rose (E.fault_count err.old) (E.fault_count err.new) }
-    ensures silent { result.code ≡ 0 → err.new ≡ err.old }
-    // At every other status no bind and no write has failed.
-    ensures no_bind_fault { is_fault_status result.code ≡ false → L.bind_fault_count link.new ≡ L.bind_fault_count link.old }
-    ensures no_write_fault { is_fault_status result.code ≡ false → O.fault_count out.new ≡ O.fault_count out.old }
-    ensures no_err_fault { is_fault_status result.code ≡ false → E.fault_count err.new ≡ E.fault_count err.old }
-
-    // Where the words are allowed, the bind succeeded and no sink failed, only a fence or a failed allocation ends a role early.
-    ensures server { (role : ServerRole) → own_role_of (map string_bytes words.now) ≡ Some (roles.Server role)
-        → IsStill (L.bind_fault_count link.old) (L.bind_fault_count link.new) → IsStill (O.fault_count out.old) (O.fault_count out.new)
-        → IsStill (E.fault_count err.old) (E.fault_count err.new) → (result.code ≡ 0) ⊎ ((result.code ≡ 6) ⊎ (result.code ≡ 3)) }
-    ensures logger { (role : LoggerRole) → own_role_of (map string_bytes words.now) ≡ Some (roles.Logger role)
-        → IsStill (L.bind_fault_count link.old) (L.bind_fault_count link.new) → IsStill (O.fault_count out.old) (O.fault_count out.new)
-        → IsStill (E.fault_count err.old) (E.fault_count err.new) → (result.code ≡ 0) ⊎ (result.code ≡ 3) }
-{
-    match run_own::<S, L, O>(alloc, words, link, out) {
         Ok(()) => Status { code: 0 },
         Err(end) => tell(err, end),
     }

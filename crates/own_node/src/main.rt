@@ -1,10 +1,10 @@
-//! `own_node` runs a service of your own as a process over UDP: a server, or its logger. The first word is the service, and the others are those of `node_of`, which
-//! `main` gives the socket, standard output and standard error too. To run your service, add a line for it.
+//! `own_node` runs a service of your own as a process over UDP: a server or its logger, by the words of [`run`](node_process::run). The first word is the service.
+//! To run your service, add a line for it.
 #![tactic(auto)]
 
 use counter_service::Counter;
-use ft_system::{UdpLink, WriteSink};
-use node_link::node_of;
+use node_process::{Services, run_program};
+use server_trait::Saved;
 use std::process::ExitCode;
 use std::{env, io};
 use web_service::Web;
@@ -14,15 +14,23 @@ fn main(rt: HostRuntime) -> io::Result<ExitCode> {
     let Some((service, words)) = words.split_first() else {
         return without_service(&rt);
     };
-    let mut link = UdpLink::new(&rt);
-    let mut out = WriteSink::new(rt.stdout());
-    let mut err = WriteSink::new(rt.stderr());
-    let status = match service.as_str() {
-        "counter" => node_of::<Counter, _, _, _>(rt.alloc(), words, &mut link, &mut out, &mut err),
-        "web" => node_of::<Web, _, _, _>(rt.alloc(), words, &mut link, &mut out, &mut err),
-        _ => return without_service(&rt),
-    };
-    Ok(ExitCode::from(status.code))
+    match service.as_str() {
+        "counter" => Ok(run_own::<Counter>(&rt, words)),
+        "web" => Ok(run_own::<Web>(&rt, words)),
+        _ => without_service(&rt),
+    }
+}
+
+/// Runs a process whose service is `S`.
+fn run_own<S: Saved>(rt: &HostRuntime, words: &[String]) -> ExitCode {
+    run_program::<S, _, _, _, _>(
+        rt,
+        Services::Own,
+        words,
+        rt.stdin(),
+        rt.stdout(),
+        rt.stderr(),
+    )
 }
 
 /// Says which services there are. The status is that of words that aren't allowed.

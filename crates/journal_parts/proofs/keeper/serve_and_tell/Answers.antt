@@ -1,5 +1,5 @@
 use Rattle.journal_parts.specs.RoundParts.{place_of, ServingStops}
-use Rattle.journal_parts.specs.declared.status.JournalEnd.TheVariants.{Node}
+use Rattle.journal_parts.specs.declared.status.ProcessEnd.TheVariants.{Node}
 use Rattle.journal_parts.proofs.Living.{line_stops, said_end}
 use Rattle.journal_parts.proofs.keeper.serve_and_tell.Goals as goal
 

@@ -1,4 +1,4 @@
-use Rattle.journal_parts.specs.declared.status.JournalEnd.TheVariants.{JournalFault, BadJournal, InUse}
+use Rattle.journal_parts.specs.declared.status.ProcessEnd.TheVariants.{JournalFault, BadJournal, InUse}
 use Rattle.journal_parts.proofs.EndReport.{told_end}
 use Rattle.journal_parts.proofs.status.tell.Goals as goal
 

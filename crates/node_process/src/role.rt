@@ -1,0 +1,64 @@
+//! The role that the words of a process ask for.
+
+ghost use Rattle.std.specs.Prelude.{◌≡◌, List, map, string_bytes, IfOk, IfSome};
+ghost use Rattle.link_parts.specs.Ranges as node;
+ghost use Rattle.node_process.specs.Asked.{InRange, asked_of, node_role_of};
+
+use ft_io::NoMemory;
+use journal_parts::{JournalRole, TwinRole, read_journal_role, read_twin_role};
+use link_parts::{NodeRole, read_lasting_role, read_own_role};
+use std::alloc::Global;
+
+/// Which services a program has.
+#[derive(Clone, Copy)]
+pub enum Services {
+    /// The four services of `sample_servers`. The option `--service` of a server names one.
+    Named,
+    /// A service of its own. A server has no option `--service`.
+    Own,
+}
+
+/// The role of a process.
+#[derive(Drop)]
+pub enum Role {
+    /// A role of `node`: a server, a logger, a client or a pair.
+    Node(NodeRole),
+    /// A logger that keeps its log in a journal.
+    Journal(JournalRole),
+    /// The head or the tail of two loggers that act as one, or `alone`.
+    Twin(TwinRole),
+}
+
+fn read_node_role(
+    alloc: Global,
+    services: Services,
+    words: &[String],
+) -> Result<Option<NodeRole>, NoMemory>
+    ensures role { IfOk result (λ role. role ≡ node_role_of services (map string_bytes words.now)) }
+    ensures range { IfOk result (λ role. IfSome role node.InRange) }
+{
+    match services {
+        Services::Named => read_lasting_role(alloc, words),
+        Services::Own => read_own_role(alloc, words),
+    }
+}
+
+/// Reads a role from the words: its name, then its options in any order, each as `--NAME VALUE` or `--NAME=VALUE`. Returns `None` where the words
+/// aren't allowed.
+#[tactic(auto, unfolding(crate::specs::Asked::asked_of))]
+pub fn read_role(
+    alloc: Global,
+    services: Services,
+    words: &[String],
+) -> Result<Option<Role>, NoMemory>
+    ensures role { IfOk result (λ role. role ≡ asked_of services (map string_bytes words.now)) }
+    ensures range { IfOk result (λ role. IfSome role InRange) }
+{
+    if let Some(role) = read_twin_role(alloc, words)? {
+        return Ok(Some(Role::Twin(role)));
+    }
+    if let Some(role) = read_journal_role(alloc, words)? {
+        return Ok(Some(Role::Journal(role)));
+    }
+    Ok(read_node_role(alloc, services, words)?.map(Role::Node))
+}
