@@ -19,10 +19,6 @@ is_up f o none e n = same_there f o ∙ (e ∙ ap not n)
 pub is_down : {X Y : Type 0} (f : X → Y) (o : Option X) (none : Bool) → is_some o ≡ not none → none ≡ true → is_some (option_map f o) ≡ false
 is_down f o none e n = same_there f o ∙ (e ∙ ap not n)
 
-pub none_there : {X : Type 0} (o : Option X) (none : Bool) → is_some o ≡ not none → none ≡ true → o ≡ None
-none_there None none e n = refl
-none_there (Some x) none e n = absurd (true≢false (e ∙ ap not n))
-
 -- the error that a conversion gives
 pub converted : (r : Result (Unit {0}) StepEnd) (why : EventWhy) (Q : StepEnd → Type 0) → IsErrAnd r (λ e. e ≡ BadEvent why) → Q (BadEvent why) → IfErr r Q
 converted (Ok x) why Q h q = tt

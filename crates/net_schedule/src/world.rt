@@ -189,9 +189,12 @@ impl<S: Saved> World<S> {
             return Err(StepEnd::BadEvent(EventWhy::Boot));
         }
         let node = Node::boot_marked(alloc, boot, isn, self.kind, self.server, self.every)?;
-        keep_sent(&self.keys, node.sent(), &mut self.packets)?;
+        if let Err(NoMemory) = keep_sent(&self.keys, node.sent(), &mut self.packets) {
+            drop(node);
+            return Err(StepEnd::NoMemory);
+        }
         self.boot = boot;
-        self.node = Some(node);
+        drop(self.node.replace(node));
         Ok(())
     }
 
@@ -201,9 +204,10 @@ impl<S: Saved> World<S> {
         ensures ends { IfErr result (ActorsDecline (saving S.form S.state_of S.is_savable) Crash self.old self.new) }
         ensures same { self.new.packets ≡ self.old.packets }
     {
-        if self.node.take().is_none() {
+        if self.node.is_none() {
             return Err(StepEnd::BadEvent(EventWhy::Down));
         }
+        drop(self.node.take());
         Ok(())
     }
 
@@ -218,7 +222,7 @@ impl<S: Saved> World<S> {
             Ok(sent) => keep_sent(&self.keys, sent, &mut self.packets),
             Err(TurnEnd::NoMemory) => Err(NoMemory),
             Err(TurnEnd::Fenced { .. }) => {
-                self.node = None;
+                drop(self.node.take());
                 Ok(())
             }
         }

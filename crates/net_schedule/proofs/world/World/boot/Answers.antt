@@ -1,4 +1,4 @@
-use Rattle.std.proofs.Common.{◌≡◌, ◌∙◌, ◌≤◌, ap, sym, subst, refl, arith, true, false, is_some, Some, option_map, length}
+use Rattle.std.proofs.Common.{◌≡◌, ◌∙◌, ◌≤◌, sym, subst, refl, arith, true, false, is_some, option_map, length}
 use Rattle.node_serving.specs.Markers.{saving}
 use Rattle.net_schedule.specs.MarkedTurns.{marker_in}
 use Rattle.schedule_network.specs.StoredPackets.{with_wires}
@@ -36,15 +36,15 @@ returns-then-boot-self-clause-ends g c =
 pub returns-clause-done : goal.returns-clause-done
 returns-clause-done g c =
     let w = c.args.self.now in
-    let kept_is : c.keep_sent.new.packets ≡ with_wires w.keys.items w.packets c.in_ok-node.node.turn.sent.items = cc (c.in_ok-keep_sent.ensures) in
+    let kept_is : c.keep_sent.new.packets ≡ with_wires w.keys.items w.packets c.in_ok-node.node.turn.sent.items = cc (c.in_default.ensures) in
     record {
       continues = record { same_kind = refl; grew = subst (λ ps. length w.packets.bytes ≤ length ps.bytes) (sym kept_is) (wires_grow w.keys.items w.packets c.in_ok-node.node.turn.sent.items) };
       advances = λ v st p.
           boots (service_of w) (kept w) _ v c.args.boot c.args.isn (server_of c.in_ok-node.node) c.in_ok-node.node.turn.sent.items st
           (not_there server_of w.node (cc)) (omega arith) (omega arith) (c.in_ok-node.ensures.plain st.unmarked) c.in_ok-node.ensures.hello c.in_ok-node.ensures.same
-          (ap (λ ps. record (kept w) { packets = ps; boot = c.args.boot; node = Some (server_of c.in_ok-node.node) }) kept_is);
+          (λ j. record (kept w) { packets = kept_is j; boot = c.args.boot; node = option_map server_of (c.replace.ensures.after j) });
       marked = λ savable every v st p.
           boots_marked g.S.Service (saving g.S.Saved.form g.S.Saved.state_of g.S.Saved.is_savable) every (kept w) _ v c.args.boot c.args.isn c.in_ok-node.node c.in_ok-node.node.turn.sent.items savable st
           (not_there server_of w.node (cc)) (omega arith) (omega arith) c.in_ok-node.ensures.marked c.in_ok-node.ensures.hello c.in_ok-node.ensures.same
-          (ap (λ ps. record (kept w) { packets = ps; boot = c.args.boot; node = Some (server_of c.in_ok-node.node) }) kept_is);
+          (λ j. record (kept w) { packets = kept_is j; boot = c.args.boot; node = option_map server_of (c.replace.ensures.after j) });
     }
