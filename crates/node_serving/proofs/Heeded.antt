@@ -1,5 +1,5 @@
 -- Which messages a server heeds, and what those say.
-use Rattle.std.proofs.Common.{◌≡◌, ℕ, ◌≤◌, true, false, ◌&&◌, nat_le, refl, ap₂, subst, length}
+use Rattle.std.proofs.Common.{◌≡◌, ℕ, ◌≤◌, true, false, ◌&&◌, nat_le, refl, ap₂, subst, length, List}
 use Rattle.std.proofs.lemmas.Bool.{leb-true, and_parts}
 use Rattle.ft_io.specs.declared.Key.{Key}
 use Rattle.seq_arith.specs.Message.{Body as said, Message}
@@ -9,6 +9,7 @@ use Rattle.ft_model.specs.ServingTurn.{names}
 use Rattle.logger_wire.specs.declared.Body.{Body}
 use Rattle.logger_wire.specs.declared.Body.TheVariants as body
 use Rattle.logger_wire.specs.Value.{body_of, IsSendable}
+use Rattle.node_serving.specs.Clients.{Known, known_after}
 
 -- a message by its parts
 pub message_is : (message : Message) (boot : ℕ) (says : said) → message.boot ≡ boot → message.body ≡ says → message ≡ record { boot = boot; body = says }
@@ -47,3 +48,25 @@ others_unheard (body.DataMsg key n acked fin bytes) opened stable reads ended fu
 others_unheard (body.ReadMsg key n length) opened stable reads ended full k = refl
 others_unheard (body.DoneMsg key) opened stable reads ended full k = refl
 others_unheard (body.StaleMsg n) opened stable reads ended full k = refl
+
+-- other messages end no opening
+pub others_keep : (b : Body) → ((key : Key) (cisn sisn mss : ℕ) → b ≡ body.OpenedMsg key cisn sisn mss → ⊥) → ((key : Key) → b ≡ body.FullMsg key → ⊥) → (known : List (Key × Known))
+    → known_after (body_of b) known ≡ known
+others_keep (body.OpenedMsg key cisn sisn mss) opened full known = absurd (opened key cisn sisn mss refl)
+others_keep (body.FullMsg key) opened full known = absurd (full key refl)
+others_keep (body.StableMsg key length fin count) opened full known = refl
+others_keep (body.ReadsMsg key length fin count) opened full known = refl
+others_keep (body.EndedMsg key) opened full known = refl
+others_keep body.HelloMsg opened full known = refl
+others_keep (body.SummaryMsg n) opened full known = refl
+others_keep (body.ListMsg n) opened full known = refl
+others_keep (body.EntryMsg n key cisn sisn mss length fin done count acked) opened full known = refl
+others_keep (body.BytesMsg key n) opened full known = refl
+others_keep (body.PartMsg key n bytes) opened full known = refl
+others_keep (body.CutsMsg key n) opened full known = refl
+others_keep (body.LensMsg key n lens) opened full known = refl
+others_keep (body.OpenMsg key cisn sisn mss) opened full known = refl
+others_keep (body.DataMsg key n acked fin bytes) opened full known = refl
+others_keep (body.ReadMsg key n length) opened full known = refl
+others_keep (body.DoneMsg key) opened full known = refl
+others_keep (body.StaleMsg n) opened full known = refl

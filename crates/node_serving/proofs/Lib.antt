@@ -25,6 +25,7 @@ pub mod Keyed
 pub mod Ticked
 pub mod Knocking
 pub mod MarkedApart
+pub mod Known
 pub mod Strange
 pub mod MarkedTicks
 pub mod MarkedServed

@@ -1,5 +1,5 @@
 -- A packet at a node that serves, as each key has it: of a client that is known, of one that isn't, and for another server.
-use Rattle.std.proofs.Common.{◌≡◌, ◌∙◌, ◌≤◌, ℕ, Bool, true, false, ◌&&◌, eq-eqb, not, nat_lt, refl, sym, ap, ap₂, subst, true≢false, arith, List, [], ◌∷◌, ◌++◌, map, append_assoc, append-nil, Option, Some, None, inl, inr, if◌then◌else◌}
+use Rattle.std.proofs.Common.{◌≡◌, ◌∙◌, ◌<◌, ◌≤◌, ℕ, Bool, true, false, ◌&&◌, eq-eqb, not, nat_lt, refl, sym, ap, ap₂, subst, true≢false, arith, List, [], ◌∷◌, ◌++◌, map, append_assoc, append-nil, get_or, Option, Some, None, inl, inr, if◌then◌else◌}
 use Rattle.std.proofs.lemmas.List.{map-append}
 use Rattle.std.specs.List.{AllByRecursion, IsDistinct, flat_map}
 use Rattle.std.specs.Bool.{MatchBool}
@@ -25,11 +25,11 @@ use Rattle.ft_model.proofs.Lists.{same_key, key_is, all_append, all_weaker}
 use Rattle.node_serving.specs.declared.serving.Serving.{Serving}
 use Rattle.node_serving.specs.declared.slot.Slot.{Slot}
 use Rattle.node_serving.specs.declared.slot.Slot.TheVariants as slot
-use Rattle.node_serving.specs.Alone.{StandsFor, IsForSubject, KeyGoes, SlotsAlone, ServesAlone, coming_to, slot_of}
+use Rattle.node_serving.specs.Alone.{StandsFor, IsForSubject, KeyTurn, KeyGoes, SlotsAlone, ServesAlone, coming_to, slot_of}
 use Rattle.node_serving.specs.Openings.{ArePut, Opened, Waits, Knocks, all_opens, pending_slots}
 use Rattle.node_serving.specs.RefusalPackets.{AreSent}
 use Rattle.node_serving.specs.Slots.{numbers_of}
-use Rattle.node_serving.specs.Ownership.{IsFor, IsOnlyFor}
+use Rattle.node_serving.specs.Ownership.{of_key, IsFor, IsOnlyFor}
 use Rattle.node_serving.proofs.MarkedApart.{open_for, opens_of_key, rests_key, served_alone, comes}
 use Rattle.node_serving.proofs.SegmentArrival.{only_its_client, its_client}
 use Rattle.node_serving.proofs.Found.{other_last, found_last}
@@ -93,7 +93,21 @@ module _ {S : Type 0} (service : Machine S) (node : Node) (segment : Segment) wh
     refused_alone : refusals node (Packet_comes segment) [] ≡ map To_client (as_listen node.server segment)
     refused_alone = ap (λ b. if b then map To_client (as_listen node.server segment) else []) stranger
 
-    -- the turn of a server that has no key, at a SYN, ..
+    -- what a SYN makes at a server that has no key, and what another segment does
+    came : (opened : ℕ) → is_syn segment ≡ true → newcomers node (Packet_comes segment) opened [] ≡ Opens (numbers_for node.isn opened segment) ∷ []
+    came opened syn = ap₂ (λ x y. if x && y && true then Opens (numbers_for node.isn opened segment) ∷ [] else []) stranger syn
+
+    none_came : (opened : ℕ) → is_syn segment ≡ false → newcomers node (Packet_comes segment) opened [] ≡ []
+    none_came opened other = ap₂ (λ x y. if x && y && true then Opens (numbers_for node.isn opened segment) ∷ [] else []) stranger other
+
+    asked : (opened : ℕ) → is_syn segment ≡ true
+        → flat_map (opens_at node (Packet_comes segment)) (Opens (numbers_for node.isn opened segment) ∷ []) ≡ told_by node.boot (OpenMsg (numbers_for node.isn opened segment)) ∷ []
+    asked opened syn = ap (λ b. (if b then told_by node.boot (OpenMsg (numbers_for node.isn opened segment)) ∷ [] else []) ++ []) asks
+      where
+        asks : is_asked node (Packet_comes segment) (numbers_for node.isn opened segment) ≡ true
+        asks = rw (mine, syn, key_is (source_of segment), eq-eqb segment.head.seq segment.head.seq refl) refl
+
+    -- the turn of such a server, at a SYN, ..
     opened_alone : (opened : ℕ) → is_syn segment ≡ true
         → ServingTurn service node (Packet_comes segment) opened [] (Opens (numbers_for node.isn opened segment) ∷ [])
         (map To_client (as_listen node.server segment) ++ told_by node.boot (OpenMsg (numbers_for node.isn opened segment)) ∷ [])
@@ -101,18 +115,9 @@ module _ {S : Type 0} (service : Machine S) (node : Node) (segment : Segment) wh
       went = [];
       by_places = [];
       all_go = (refl, refl);
-      places = sym came;
-      packets = ap₂ ◌++◌ (sym refused_alone) (sym asked);
+      places = sym (came opened syn);
+      packets = ap₂ ◌++◌ (sym refused_alone) (sym (asked opened syn));
     }
-      where
-        came : newcomers node (Packet_comes segment) opened [] ≡ Opens (numbers_for node.isn opened segment) ∷ []
-        came = ap₂ (λ x y. if x && y && true then Opens (numbers_for node.isn opened segment) ∷ [] else []) stranger syn
-
-        asks : is_asked node (Packet_comes segment) (numbers_for node.isn opened segment) ≡ true
-        asks = rw (mine, syn, key_is (source_of segment), eq-eqb segment.head.seq segment.head.seq refl) refl
-
-        asked : flat_map (opens_at node (Packet_comes segment)) (Opens (numbers_for node.isn opened segment) ∷ []) ≡ told_by node.boot (OpenMsg (numbers_for node.isn opened segment)) ∷ []
-        asked = ap (λ b. (if b then told_by node.boot (OpenMsg (numbers_for node.isn opened segment)) ∷ [] else []) ++ []) asks
 
     -- .. and at another segment
     refused_only : (opened : ℕ) → is_syn segment ≡ false → ServingTurn service node (Packet_comes segment) opened [] [] (map To_client (as_listen node.server segment))
@@ -120,12 +125,33 @@ module _ {S : Type 0} (service : Machine S) (node : Node) (segment : Segment) wh
       went = [];
       by_places = [];
       all_go = (refl, refl);
-      places = sym came;
+      places = sym (none_came opened other);
       packets = sym refused_alone ∙ sym (append-nil (refusals node (Packet_comes segment) []));
     }
+
+    -- .. at which the law leaves no choice
+    refused_by : (opened : ℕ) (after : List Place) (sent : List Packet) → is_syn segment ≡ false → ServingTurn service node (Packet_comes segment) opened [] after sent
+        → sent ≡ map To_client (as_listen node.server segment)
+    refused_by opened after sent other t =
+        t.packets ∙ (ap₂ (λ xs ys. xs ++ (refusals node (Packet_comes segment) [] ++ flat_map (opens_at node (Packet_comes segment)) ys)) t.all_go.1 none
+        ∙ (append-nil (refusals node (Packet_comes segment) []) ∙ refused_alone))
       where
-        came : newcomers node (Packet_comes segment) opened [] ≡ []
-        came = ap₂ (λ x y. if x && y && true then Opens (numbers_for node.isn opened segment) ∷ [] else []) stranger other
+        none : after ≡ []
+        none = t.places ∙ ap₂ ◌++◌ t.all_go.0 (none_came opened other)
+
+    pub answers_stranger : (was now : Serving S) (told : List Wire) → is_syn segment ≡ false → KeyGoes service node (Packet_comes segment) key None was now told
+        → of_key key told ≡ map wire_of (map To_client (as_listen node.server segment))
+    answers_stranger was now told other g = g.wires ∙ ap (map wire_of) (go g.turn)
+      where
+        its : coming_to node key (Packet_comes segment) ≡ Packet_comes segment
+        its = comes service node (Packet_comes segment) key (its_client node segment key mine from)
+
+        go : KeyTurn service node (Packet_comes segment) key g.opened (pending_slots was.slots.entries) None g.after g.packets
+            → g.packets ≡ map To_client (as_listen node.server segment)
+        go (inl t) =
+            refused_by g.opened (option_to_list g.after) g.packets other
+            (subst (λ i. ServingTurn service node i g.opened [] (option_to_list g.after) g.packets) its t)
+        go (inr p) = absurd (true≢false (sym (Rattle.std.proofs.lemmas.Bool.and_parts (concerns node (Packet_comes segment) key) (is_syn segment) p.syn).1 ∙ other))
 
     -- a SYN has no acknowledgement, so it is never refused
     silent_syn : is_syn segment ≡ true → map To_client (as_listen node.server segment) ≡ []
@@ -135,6 +161,34 @@ module _ {S : Type 0} (service : Machine S) (node : Node) (segment : Segment) wh
         go s false r e = refl
         go true true r e = absurd (true≢false (sym e))
         go false true r e = absurd (true≢false (sym e))
+
+    -- so the law leaves no choice at a SYN either
+    opened_by : (opened : ℕ) (after : List Place) (sent : List Packet) → is_syn segment ≡ true → ServingTurn service node (Packet_comes segment) opened [] after sent
+        → (after ≡ Opens (numbers_for node.isn opened segment) ∷ []) × (sent ≡ told_by node.boot (OpenMsg (numbers_for node.isn opened segment)) ∷ [])
+    opened_by opened after sent syn t = (
+      one,
+      t.packets ∙ (ap₂ (λ xs ys. xs ++ (refusals node (Packet_comes segment) [] ++ flat_map (opens_at node (Packet_comes segment)) ys)) t.all_go.1 one
+          ∙ ap₂ ◌++◌ (refused_alone ∙ silent_syn syn) (asked opened syn)),
+    )
+      where
+        one : after ≡ Opens (numbers_for node.isn opened segment) ∷ []
+        one = t.places ∙ ap₂ ◌++◌ t.all_go.0 (came opened syn)
+
+    pub opens_newcomer : (opened pending : ℕ) (after : Option Place) (sent : List Packet) → is_syn segment ≡ true → pending < 64
+        → KeyTurn service node (Packet_comes segment) key opened pending None after sent
+        → (after ≡ Some (Opens (numbers_for node.isn opened segment))) × (sent ≡ told_by node.boot (OpenMsg (numbers_for node.isn opened segment)) ∷ [])
+    opens_newcomer opened pending after sent syn few (inl t) =
+        let by = opened_by opened (option_to_list after) sent syn
+        (subst (λ i. ServingTurn service node i opened [] (option_to_list after) sent) (comes service node (Packet_comes segment) key (its_client node segment key mine from)) t) in
+        (only after by.0, by.1)
+      where
+        only : (o : Option Place) → option_to_list o ≡ Opens (numbers_for node.isn opened segment) ∷ [] → o ≡ Some (Opens (numbers_for node.isn opened segment))
+        only None e = absurd (no e)
+          where
+            no : [] ≡ Opens (numbers_for node.isn opened segment) ∷ [] → ⊥
+            no e = cc
+        only (Some q) e = ap Some (ap (λ xs. get_or xs 0 q) e)
+    opens_newcomer opened pending after sent syn few (inr p) = absurd (omega (arith, few, p.full))
 
     -- what the other keys have of it
     rest_alone : (was now : Serving S) (old new : List Wire) (opened : ℕ) → was.next.0 ≡ initial_number node.isn opened → (put : IsOnlyFor key old new)
@@ -181,7 +235,7 @@ module _ {S : Type 0} (service : Machine S) (node : Node) (segment : Segment) wh
 
         -- no opening is made
         waits : Waits was.next.0 now.next.0 was.slots.entries now.slots.entries mid new
-            → Rattle.node_serving.specs.Alone.KeyTurn service node (Packet_comes segment) key opened (pending_slots was.slots.entries) None None rsts
+            → KeyTurn service node (Packet_comes segment) key opened (pending_slots was.slots.entries) None None rsts
             → ServesAlone service node (Packet_comes segment) was now old new
         waits w turn = rest_alone was now old new opened number put (λ k t. ap (lookup (key_eq k)) w.slots) (λ place st. at place (subst (λ s. StandsFor service node key s place) gone st))
           where
@@ -253,7 +307,7 @@ module _ {S : Type 0} (service : Machine S) (node : Node) (segment : Segment) wh
         go false few s f h = waits (h false (ap₂ ◌&&◌ s f))
             (inl (subst (λ i. ServingTurn service node i opened [] [] rsts) (sym its) (refused_only opened s)))
         go true false s f h = waits (h false (ap₂ ◌&&◌ s f))
-            (inr (record { full = many (pending_slots was.slots.entries) f; unknown = refl; still = refl; silent = silent_syn s }))
+            (inr (record { syn = ap₂ ◌&&◌ (its_client node segment key mine from) s; full = many (pending_slots was.slots.entries) f; unknown = refl; still = refl; silent = silent_syn s }))
           where
             many : (n : ℕ) → nat_lt n 64 ≡ false → 64 ≤ n
             many n e = grind (arith, e)

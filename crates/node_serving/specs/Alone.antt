@@ -1,6 +1,6 @@
 -- What a turn is for one key, whatever the clients of the other keys send and in whatever state their connections are: it is the turn of a server
 -- that serves this key alone.
-use Rattle.std.specs.Prelude.{◌≡◌, ◌≤◌, ◌⊎◌, ℕ, true, false, Option, Some, None, List, [], ◌++◌, map, if◌then◌else◌}
+use Rattle.std.specs.Prelude.{◌≡◌, ◌≤◌, ◌&&◌, ◌⊎◌, ℕ, Bool, true, false, Option, Some, None, List, [], ◌++◌, map, if◌then◌else◌}
 use Rattle.std.specs.List.{AllByRecursion}
 use Rattle.std.specs.Option.{option_to_list}
 use Rattle.std.specs.Map.{lookup}
@@ -12,7 +12,7 @@ use Rattle.ft_model.specs.Lawful.{IsNearTo}
 use Rattle.ft_model.specs.Network.{Packet}
 use Rattle.ft_model.specs.Node.{Node, Place, Input}
 use Rattle.ft_model.specs.Node.Input.{Packet_comes, Noise_comes}
-use Rattle.ft_model.specs.Opening.{initial_number}
+use Rattle.ft_model.specs.Opening.{initial_number, is_syn}
 use Rattle.ft_model.specs.ServingTurn.{PlaceTurn, ServingTurn, concerns}
 use Rattle.ft_model.specs.Wire.{Wire, wire_of, HasWire}
 use Rattle.node_serving.specs.declared.serving.Serving.{Serving}
@@ -50,8 +50,14 @@ IsNearFor server _ _ = Unit {0}
 abbrev pub coming_to : Node → Key → Input → Input
 coming_to node key input = if concerns node input key then input else Noise_comes
 
--- a SYN is ignored while 64 openings are pending
-pub record IsPassedOver (pending : ℕ) (place after : Option Place) (sent : List Packet) : Type 0 where
+-- an input is a SYN, without ACK and RST, from the key's client to this server
+abbrev pub is_syn_of : Node → Key → Input → Bool
+is_syn_of node key (Packet_comes segment) = concerns node (Packet_comes segment) key && is_syn segment
+is_syn_of node key _ = false
+
+-- a SYN of an unknown client is ignored while 64 openings are pending. Nothing else is
+pub record IsPassedOver (node : Node) (key : Key) (input : Input) (pending : ℕ) (place after : Option Place) (sent : List Packet) : Type 0 where
+  pub syn : is_syn_of node key input ≡ true
   pub full : 64 ≤ pending
   pub unknown : place ≡ None
   pub still : after ≡ None
@@ -61,7 +67,7 @@ pub record IsPassedOver (pending : ℕ) (place after : Option Place) (sent : Lis
 -- ignored because of the openings of others
 abbrev pub KeyTurn : {S : Type 0} → Machine S → Node → Input → Key → (opened pending : ℕ) → Option Place → Option Place → List Packet → Type 0
 KeyTurn service node input key opened pending place after sent =
-    ServingTurn service node (coming_to node key input) opened (option_to_list place) (option_to_list after) sent ⊎ IsPassedOver pending place after sent
+    ServingTurn service node (coming_to node key input) opened (option_to_list place) (option_to_list after) sent ⊎ IsPassedOver node key input pending place after sent
 
 -- a key's turn before the Opens: its slot corresponds to what the law makes of its place, and the key's packets among those sent are that place's
 abbrev pub MeetsFor : {S : Type 0} → Machine S → Node → Input → Option Place → Option Place → List Packet → Type 0

@@ -9,6 +9,7 @@ pub mod Slots
 pub mod Openings
 pub mod ServingStage
 pub mod Loan
+pub mod Clients
 pub mod Ownership
 pub mod Alone
 pub mod Turns

@@ -1,12 +1,28 @@
 //! Wrong results that the contracts of this crate exclude. Each function calls another one of the crate, and promises of its result what a wrong body would make
 //! false. It is proved from the other's contract alone, so it is no longer proved once that contract lets the wrong body pass.
 
-ghost use Rattle.std.specs.Prelude.{◌≡◌, false};
+ghost use Rattle.std.specs.Prelude.{◌≡◌, ◌≤◌, [], map, Ok, None, true, false, OnOk};
+ghost use Rattle.std.specs.Map.{lookup};
+ghost use Rattle.ft_io.specs.Key.{key_eq};
+ghost use Rattle.seq_arith.specs.PacketGrammar.{reading};
+ghost use Rattle.segment_codec.specs.Value.{segment_of};
+ghost use Rattle.ft_model.specs.Network.{source_of};
+ghost use Rattle.ft_model.specs.Network.Packet.{To_client};
+ghost use Rattle.ft_model.specs.Node.{is_for};
+ghost use Rattle.ft_model.specs.Opening.{is_syn};
+ghost use Rattle.ft_model.specs.Refusal.{as_listen};
+ghost use Rattle.ft_model.specs.Wire.{wire_of};
+ghost use Rattle.node_serving.specs.Openings.{IsCounted, pending_slots};
+ghost use Rattle.node_serving.specs.Ownership.{of_key};
+ghost use Rattle.node_serving.specs.Slots.{AllSound};
 
-use crate::serving::is_for;
-use ft_io::Addr;
+use crate::identity::Identity;
+use crate::serving::{Serving, is_for, serve_packet};
+use crate::turn::Turn;
+use ft_io::{Addr, NoMemory};
 use segment_codec::{Head, PacketRef};
 use seq_arith::{ACK, Seq};
+use server_trait::Service;
 
 /// A packet for another port of the server's address isn't for the server: the contract of `is_for`.
 fn a_stray_packet_counts() -> bool
@@ -24,4 +40,27 @@ fn a_stray_packet_counts() -> bool
         mss: None,
     };
     is_for(Addr { ip: 1, port: 7 }, &PacketRef { head, payload: &[] })
+}
+
+/// A segment of an unknown client that is no SYN is answered as the law says, an acknowledgement by a RST, also while 64 openings are pending: the clause
+/// `alone` of `serve_packet`.
+fn ignores_an_acknowledgement_while_openings_are_pending<S: Service>(
+    who: Identity,
+    segment: &PacketRef<'_>,
+    packet: &mut [u8],
+    serving: &mut Serving<S>,
+    turn: &mut Turn,
+) -> Result<(), NoMemory>
+    requires boot { 1 ≤ who.boot }
+    requires read { reading packet.old ≡ Ok (segment_of segment.now) }
+    requires sound { AllSound who serving.old.slots.entries }
+    requires counted { IsCounted who.isn serving.old.next.0 }
+    requires mine { is_for who.local (segment_of segment.now) ≡ true }
+    requires strange { lookup (key_eq (source_of (segment_of segment.now))) serving.old.slots.entries ≡ None }
+    requires full { 64 ≤ pending_slots serving.old.slots.entries }
+    requires other { is_syn (segment_of segment.now) ≡ false }
+    requires empty { turn.old.sent.items ≡ [] }
+    ensures { OnOk result (of_key (source_of (segment_of segment.now)) turn.new.sent.items ≡ map wire_of (map To_client (as_listen who.local (segment_of segment.now)))) }
+{
+    serve_packet(who, segment, packet, serving, turn)
 }

@@ -7,11 +7,12 @@ ghost use Rattle.ft_io.specs.Key.{key_eq};
 ghost use Rattle.seq_arith.specs.Message.{Kept, Message};
 ghost use Rattle.seq_arith.specs.Message.Body.{OpenedMsg, EndedMsg, FullMsg};
 ghost use Rattle.server_trait.specs.Service.{Machine};
-ghost use Rattle.logger_wire.specs.Value.{message_of, IsSendable};
+ghost use Rattle.logger_wire.specs.Value.{body_of, message_of, IsSendable};
 ghost use Rattle.ft_model.specs.Node.{Node, Place};
 ghost use Rattle.ft_model.specs.Node.Input.{Message_comes};
 ghost use Rattle.ft_model.specs.Wire.{Wire};
 ghost use Rattle.node_serving.specs.Alone.{SlotsAlone};
+ghost use Rattle.node_serving.specs.Clients.{known_after, known_as, known_in};
 ghost use Rattle.node_serving.specs.LogMessages.{IsLogged, opening_in, ended as ended_lem};
 ghost use Rattle.node_serving.specs.declared.identity.Identity.{Identity as Incarnation};
 ghost use Rattle.node_serving.specs.Slots.{numbers_of, IsSoundSlot, AllStand, AllSlotsGo, AllSound};
@@ -41,6 +42,7 @@ fn tell_slot<S: Service>(
     ensures turn { OnOk result ((kept : Kept) → IsLogged who.boot (message_of m.now) key kept
         → SlotTurns S.Service who (Message_comes (message_of m.now)) key slot.old slot.new turn.old turn.new) }
     ensures alone { OnOk result (SendsFor key turn.old turn.new) }
+    ensures known { OnOk result (known_as slot.new ≡ known_as slot.old) }
     ensures sound { OnOk result (IsSoundSlot who key slot.new) }
 {
     match slot {
@@ -63,6 +65,7 @@ pub(crate) fn tell_known<S: Service>(
         → SlotsTurn S.Service who (Message_comes (message_of m.now)) slots.old.entries slots.new.entries turn.old turn.new) }
     ensures alone { OnOk result ((kept : Kept) → IsLogged who.boot (message_of m.now) key kept
         → SlotsTurnAlone S.Service who (Message_comes (message_of m.now)) slots.old.entries slots.new.entries turn.old turn.new) }
+    ensures known { OnOk result (known_in slots.new.entries ≡ known_in slots.old.entries) }
     ensures sound { OnOk result (AllSound who slots.new.entries) }
 {
     if let Some(slot) = slots.get_mut(&key) {
@@ -87,6 +90,7 @@ pub(crate) fn end_known<S: Service>(key: Key, slots: &mut IndexMap<Key, Slot<S>>
         → AllStand service node slots.old.entries places → AllSlotsGo service node (Message_comes message) places slots.new.entries told told }
     ensures alone { (service : Machine S) (node : Node) (message : Message) (told : List Wire) → message ≡ record { boot = node.boot; body = EndedMsg key }
         → SlotsAlone service node (Message_comes message) slots.old.entries slots.new.entries told told }
+    ensures known { known_in slots.new.entries ≡ known_in slots.old.entries }
     ensures sound { (who : Incarnation) → AllSound who slots.old.entries → AllSound who slots.new.entries }
 {
     if let Some(slot) = slots.get_mut(&key) {
@@ -145,6 +149,7 @@ pub(crate) fn open_known<S: Service>(
         → SlotsTurn S.Service who (Message_comes message) slots.old.entries slots.new.entries turn.old turn.new) }
     ensures alone { OnOk result ((message : Message) → message ≡ record { boot = who.boot; body = OpenedMsg (numbers_of key numbers) }
         → SlotsTurnAlone S.Service who (Message_comes message) slots.old.entries slots.new.entries turn.old turn.new) }
+    ensures known { OnOk result (known_in slots.new.entries ≡ known_after (OpenedMsg (numbers_of key numbers)) (known_in slots.old.entries)) }
     ensures sound { OnOk result (AllSound who slots.new.entries) }
 {
     let Some(opening) = opening_at(key, slots) else {
@@ -171,6 +176,7 @@ pub(crate) fn refuse_known<S: Service>(
         → SlotsTurn S.Service who (Message_comes message) slots.old.entries slots.new.entries turn.old turn.new) }
     ensures alone { OnOk result ((message : Message) → message ≡ record { boot = who.boot; body = FullMsg key }
         → SlotsTurnAlone S.Service who (Message_comes message) slots.old.entries slots.new.entries turn.old turn.new) }
+    ensures known { OnOk result (known_in slots.new.entries ≡ known_after (FullMsg key) (known_in slots.old.entries)) }
     ensures sound { OnOk result (AllSound who slots.new.entries) }
 {
     let Some(opening) = opening_at(key, slots) else {
@@ -195,6 +201,7 @@ pub(crate) fn hear<S: Service>(
         → SlotsTurn S.Service who (Message_comes (message_of m.now)) slots.old.entries slots.new.entries turn.old turn.new) }
     ensures alone { OnOk result (m.now.boot ≡ who.boot
         → SlotsTurnAlone S.Service who (Message_comes (message_of m.now)) slots.old.entries slots.new.entries turn.old turn.new) }
+    ensures known { OnOk result (known_in slots.new.entries ≡ known_after (body_of m.now.body) (known_in slots.old.entries)) }
     ensures sound { OnOk result (AllSound who slots.new.entries) }
 {
     match m.body {

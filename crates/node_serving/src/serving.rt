@@ -7,8 +7,10 @@ ghost use Rattle.seq_arith.specs.PacketGrammar.{reading};
 ghost use Rattle.segment_codec.specs.Value.{segment_of};
 ghost use Rattle.logger_wire.specs.Value.{message_of, IsSendable};
 ghost use Rattle.ft_model.specs.Network.{source_of};
-ghost use Rattle.ft_model.specs.Node.{is_for};
+ghost use Rattle.ft_model.specs.Node.{Stage as Standing, is_for};
 ghost use Rattle.ft_model.specs.Node.Input.{Packet_comes, Message_comes, Tick_comes};
+ghost use Rattle.node_serving.specs.Clients.{KnowsOn};
+ghost use Rattle.node_serving.specs.Identity.{node_of};
 ghost use Rattle.node_serving.specs.Openings.{IsCounted};
 ghost use Rattle.node_serving.specs.Slots.{AllSound};
 ghost use Rattle.node_serving.specs.Turns.{ServingTurns, ServingTurnsAlone};
@@ -49,6 +51,7 @@ pub fn serve_tick<S: Service>(
     requires counted { IsCounted who.isn serving.old.next.0 }
     ensures turn { OnOk result (ServingTurns S.Service who Tick_comes serving.old serving.new turn.old turn.new) }
     ensures alone { OnOk result (ServingTurnsAlone S.Service who Tick_comes serving.old serving.new turn.old turn.new) }
+    ensures known { OnOk result ((standing : Standing) → KnowsOn (node_of who standing) Tick_comes serving.old serving.new) }
     ensures sound { OnOk result (AllSound who serving.new.slots.entries) }
     ensures counted { OnOk result (IsCounted who.isn serving.new.next.0) }
 {
@@ -71,6 +74,8 @@ pub fn serve_message<S: Service>(
         → ServingTurns S.Service who (Message_comes (message_of m.now)) serving.old serving.new turn.old turn.new) }
     ensures alone { OnOk result (m.now.boot ≡ who.boot
         → ServingTurnsAlone S.Service who (Message_comes (message_of m.now)) serving.old serving.new turn.old turn.new) }
+    ensures known { OnOk result (m.now.boot ≡ who.boot
+        → (standing : Standing) → KnowsOn (node_of who standing) (Message_comes (message_of m.now)) serving.old serving.new) }
     ensures sound { OnOk result (AllSound who serving.new.slots.entries) }
     ensures counted { OnOk result (IsCounted who.isn serving.new.next.0) }
 {
@@ -101,6 +106,7 @@ pub fn serve_bytes<S: Service>(
     requires counted { IsCounted who.isn serving.old.next.0 }
     ensures turn { OnOk result (ServingTurns S.Service who (Packet_comes (segment_of segment.now)) serving.old serving.new turn.old turn.new) }
     ensures alone { OnOk result (ServingTurnsAlone S.Service who (Packet_comes (segment_of segment.now)) serving.old serving.new turn.old turn.new) }
+    ensures known { OnOk result ((standing : Standing) → KnowsOn (node_of who standing) (Packet_comes (segment_of segment.now)) serving.old serving.new) }
     ensures untouched { OnOk result (is_for who.local (segment_of segment.now) ≡ false
         → (serving.new ≡ serving.old) × (turn.new.sent.items ≡ turn.old.sent.items)) }
     ensures sound { OnOk result (AllSound who serving.new.slots.entries) }
@@ -136,6 +142,7 @@ pub(crate) fn serve_packet<S: Service>(
     requires counted { IsCounted who.isn serving.old.next.0 }
     ensures turn { OnOk result (ServingTurns S.Service who (Packet_comes (segment_of segment.now)) serving.old serving.new turn.old turn.new) }
     ensures alone { OnOk result (ServingTurnsAlone S.Service who (Packet_comes (segment_of segment.now)) serving.old serving.new turn.old turn.new) }
+    ensures known { OnOk result ((standing : Standing) → KnowsOn (node_of who standing) (Packet_comes (segment_of segment.now)) serving.old serving.new) }
     ensures untouched { OnOk result (is_for who.local (segment_of segment.now) ≡ false
         → (serving.new ≡ serving.old) × (turn.new.sent.items ≡ turn.old.sent.items)) }
     ensures sound { OnOk result (AllSound who serving.new.slots.entries) }
@@ -168,6 +175,8 @@ fn serve_known<S: Service>(
         → ServingTurns S.Service who (Packet_comes (segment_of segment.now)) serving.old serving.new turn.old turn.new) }
     ensures alone { OnOk result (is_for who.local (segment_of segment.now) ≡ true
         → ServingTurnsAlone S.Service who (Packet_comes (segment_of segment.now)) serving.old serving.new turn.old turn.new) }
+    ensures known { OnOk result (is_for who.local (segment_of segment.now) ≡ true
+        → (standing : Standing) → KnowsOn (node_of who standing) (Packet_comes (segment_of segment.now)) serving.old serving.new) }
     ensures sound { OnOk result (AllSound who serving.new.slots.entries) }
     ensures counted { OnOk result (IsCounted who.isn serving.new.next.0) }
 {
@@ -190,6 +199,8 @@ fn serve_strange<S: Service>(
         → ServingTurns S.Service who (Packet_comes (segment_of segment.now)) serving.old serving.new turn.old turn.new) }
     ensures alone { OnOk result (is_for who.local (segment_of segment.now) ≡ true
         → ServingTurnsAlone S.Service who (Packet_comes (segment_of segment.now)) serving.old serving.new turn.old turn.new) }
+    ensures known { OnOk result (is_for who.local (segment_of segment.now) ≡ true
+        → (standing : Standing) → KnowsOn (node_of who standing) (Packet_comes (segment_of segment.now)) serving.old serving.new) }
     ensures sound { OnOk result (AllSound who serving.new.slots.entries) }
     ensures counted { OnOk result (IsCounted who.isn serving.new.next.0) }
 {

@@ -6,6 +6,7 @@ ghost use Rattle.segment_codec.specs.Value.{segment_of};
 ghost use Rattle.ft_model.specs.Network.{source_of};
 ghost use Rattle.ft_model.specs.Node.{is_for};
 ghost use Rattle.ft_model.specs.Node.Input.{Packet_comes, Tick_comes};
+ghost use Rattle.node_serving.specs.Clients.{known_as};
 ghost use Rattle.node_serving.specs.Loan.{conn_in};
 ghost use Rattle.node_serving.specs.Slots.{IsSoundSlot};
 ghost use Rattle.node_serving.specs.Turns.{SendsFor, SlotTurns};
@@ -50,6 +51,7 @@ pub(crate) fn tick_slot<S: Service>(
     requires { IsSoundSlot who key slot.old }
     ensures turn { OnOk result (SlotTurns S.Service who Tick_comes key slot.old slot.new turn.old turn.new) }
     ensures alone { OnOk result (SendsFor key turn.old turn.new) }
+    ensures known { OnOk result (known_as slot.new ≡ known_as slot.old) }
     ensures sound { OnOk result (IsSoundSlot who key slot.new) }
 {
     match slot {
@@ -71,6 +73,7 @@ pub(crate) fn give_slot<S: Service>(
     ensures turn { OnOk result (is_for who.local (segment_of segment.now) ≡ true → SlotTurns S.Service who (Packet_comes (segment_of segment.now))
         (source_of (segment_of segment.now)) slot.old slot.new turn.old turn.new) }
     ensures alone { OnOk result (SendsFor (source_of (segment_of segment.now)) turn.old turn.new) }
+    ensures known { OnOk result (known_as slot.new ≡ known_as slot.old) }
     ensures sound { OnOk result (IsSoundSlot who (source_of (segment_of segment.now)) slot.new) }
 {
     match slot {

@@ -8,6 +8,7 @@ ghost use Rattle.seq_arith.specs.PacketGrammar.{reading};
 ghost use Rattle.segment_codec.specs.Value.{segment_of};
 ghost use Rattle.ft_model.specs.Node.{Node, Place, is_for, place_at};
 ghost use Rattle.ft_model.specs.Node.Input.{Packet_comes, Tick_comes};
+ghost use Rattle.node_serving.specs.Clients.{known_in};
 ghost use Rattle.node_serving.specs.Conn.{IsSound};
 ghost use Rattle.node_serving.specs.declared.identity.Identity.{Identity as Incarnation};
 ghost use Rattle.node_serving.specs.Loan.{IsConnAt};
@@ -41,6 +42,7 @@ pub(crate) fn tick_all<S: Service>(
     requires { AllSound who slots.old.entries }
     ensures turn { OnOk result (SlotsTurn S.Service who Tick_comes slots.old.entries slots.new.entries turn.old turn.new) }
     ensures alone { OnOk result (SlotsTurnAlone S.Service who Tick_comes slots.old.entries slots.new.entries turn.old turn.new) }
+    ensures known { OnOk result (known_in slots.new.entries ≡ known_in slots.old.entries) }
     ensures sound { OnOk result (AllSound who slots.new.entries) }
 {
     for i in 0..slots.len() {
@@ -64,6 +66,7 @@ pub(crate) fn give_known<S: Service>(
         slots.old.entries slots.new.entries turn.old turn.new) }
     ensures alone { OnOk result (is_for who.local (segment_of segment.now) ≡ true → SlotsTurnAlone S.Service who (Packet_comes (segment_of segment.now))
         slots.old.entries slots.new.entries turn.old turn.new) }
+    ensures known { OnOk result (known_in slots.new.entries ≡ known_in slots.old.entries) }
     ensures sound { OnOk result (AllSound who slots.new.entries) }
 {
     if let Some(slot) = slots.get_mut(&segment.head.sender()) {

@@ -14,6 +14,8 @@ use Rattle.node_serving.proofs.OneKey.{one_goes, none_goes, none_found}
 use Rattle.ft_model.proofs.ToldOver.{all_unit}
 use Rattle.node_serving.proofs.Opened.{ends}
 use Rattle.node_serving.proofs.Sound.{sound_found, sound_set, sound_ended}
+use Rattle.node_serving.specs.Clients.{known_as, known_in}
+use Rattle.node_serving.proofs.Known.{same_known, known_ended}
 use Rattle.node_serving.proofs.hearing.end_known.Goals as goal
 
 pub returns-in-Some-clause-turn : goal.returns-in-Some-clause-turn
@@ -66,3 +68,13 @@ returns-in_default-clause-alone g c = λ service node message told is.
     (subst (λ m. SlotsAlone service node (Message_comes ended) es m.entries told told) (sym c.get_mut.follows.holds-at-none)
     (same_alone service node (Message_comes ended) c.args.key (only_its_key node ended c.args.key (λ k. refl)) (its_key node ended c.args.key refl (λ k. refl) c.args.key refl) es told
     (λ s found. none_is_some s (sym nothing ∙ found))))
+
+pub returns-in-Some-clause-known : goal.returns-in-Some-clause-known
+returns-in-Some-clause-known g c =
+    let es = c.args.slots.now.entries in
+    let found : lookup (key_eq c.args.key) es ≡ Some c.in-Some.slot.now = sym c.get_mut.ensures.value ∙ ap option_copied_mut c.in-Some.is in
+    subst (λ xs. known_in xs ≡ known_in es) (sym (c.get_mut.follows.holds c.end_slot.new.slot).0)
+    (same_known c.args.key es c.in-Some.slot.now c.end_slot.new.slot found (ap known_as c.end_slot.ensures ∙ known_ended c.in-Some.slot.now))
+
+pub returns-in_default-clause-known : goal.returns-in_default-clause-known
+returns-in_default-clause-known g c = subst (λ m. known_in m.entries ≡ known_in c.args.slots.now.entries) (sym c.get_mut.follows.holds-at-none) refl

@@ -1,4 +1,4 @@
-use Rattle.std.proofs.Common.{◌==◌, refl, ap}
+use Rattle.std.proofs.Common.{◌==◌, refl, ap, ◌∙◌, sym}
 use Rattle.std.proofs.lemmas.Result.{on_ok_weaker}
 use Rattle.std.proofs.lemmas.Bool.{and_right}
 use Rattle.server_trait.specs.Service.{machine}
@@ -7,9 +7,10 @@ use Rattle.ft_model.specs.Node.Input.{Message_comes}
 use Rattle.ft_model.specs.ServingTurn.{names}
 use Rattle.node_serving.specs.LogMessages.{logged_in}
 use Rattle.node_serving.specs.Identity.{node_of}
-use Rattle.node_serving.proofs.Heeded.{message_is, opened_range, others_unheard}
+use Rattle.node_serving.proofs.Heeded.{message_is, opened_range, others_unheard, others_keep}
 use Rattle.node_serving.proofs.OneKey.{none_concerned}
 use Rattle.node_serving.proofs.Keyed.{none_alone}
+use Rattle.node_serving.specs.Clients.{known_after, known_in}
 use Rattle.node_serving.proofs.hearing.hear.Goals as goal
 
 pub returns-in-StableMsg-clause-turn : goal.returns-in-StableMsg-clause-turn
@@ -80,3 +81,25 @@ returns-in_default-clause-alone g c = λ boot stage.
     none_alone (machine (g.S.Service.started c.args.who.kind) g.S.Service.after) node (Message_comes message) c.args.slots.now.entries c.args.turn.now.sent.items
     (λ k. and_right (message.boot == node.boot) (names message.body k)
     (others_unheard c.args.m.now.body other.not-OpenedMsg other.not-StableMsg other.not-ReadsMsg other.not-EndedMsg other.not-FullMsg k))
+
+pub returns-in-StableMsg-clause-known : goal.returns-in-StableMsg-clause-known
+returns-in-StableMsg-clause-known g c =
+    on_ok_weaker c.tell_known.result (λ same. same ∙ sym (ap (λ b. known_after (body_of b) (known_in c.args.slots.now.entries)) c.in-StableMsg.is)) c.tell_known.ensures.known
+
+pub returns-in-ReadsMsg-clause-known : goal.returns-in-ReadsMsg-clause-known
+returns-in-ReadsMsg-clause-known g c =
+    on_ok_weaker c.tell_known-in-ReadsMsg.result (λ same. same ∙ sym (ap (λ b. known_after (body_of b) (known_in c.args.slots.now.entries)) c.in-ReadsMsg.is)) c.tell_known-in-ReadsMsg.ensures.known
+
+pub returns-in-OpenedMsg-clause-known : goal.returns-in-OpenedMsg-clause-known
+returns-in-OpenedMsg-clause-known g c =
+    on_ok_weaker c.open_known.result (λ same. same ∙ sym (ap (λ b. known_after (body_of b) (known_in c.args.slots.now.entries)) c.in-OpenedMsg.is)) c.open_known.ensures.known
+
+pub returns-in-FullMsg-clause-known : goal.returns-in-FullMsg-clause-known
+returns-in-FullMsg-clause-known g c =
+    on_ok_weaker c.refuse_known.result (λ same. same ∙ sym (ap (λ b. known_after (body_of b) (known_in c.args.slots.now.entries)) c.in-FullMsg.is)) c.refuse_known.ensures.known
+
+pub returns-in-EndedMsg-clause-known : goal.returns-in-EndedMsg-clause-known
+returns-in-EndedMsg-clause-known g c = c.end_known.ensures.known ∙ sym (ap (λ b. known_after (body_of b) (known_in c.args.slots.now.entries)) c.in-EndedMsg.is)
+
+pub returns-in_default-clause-known : goal.returns-in_default-clause-known
+returns-in_default-clause-known g c = sym (others_keep c.args.m.now.body c.in_default.not-OpenedMsg c.in_default.not-FullMsg (known_in c.args.slots.now.entries))

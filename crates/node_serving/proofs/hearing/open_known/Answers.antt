@@ -1,4 +1,4 @@
-use Rattle.std.proofs.Common.{rules, ◌≡◌, ◌∙◌, ◌==◌, false, refl, sym, subst, None}
+use Rattle.std.proofs.Common.{rules, ◌≡◌, ◌∙◌, ◌==◌, false, refl, sym, subst, None, true, eq-eqb}
 use Rattle.std.proofs.lemmas.Bool.{ne_eqb}
 use Rattle.std.specs.Map.{lookup}
 use Rattle.ft_io.specs.Key.{key_eq}
@@ -17,6 +17,8 @@ use Rattle.node_serving.proofs.OneKey.{one_goes, one_leaves}
 use Rattle.ft_model.proofs.ToldOver.{all_unit}
 use Rattle.node_serving.proofs.Opened.{none_pending, none_pending_alone, pending_found, opening_drops, opening_lives}
 use Rattle.node_serving.proofs.Sound.{sound_set, sound_drop}
+use Rattle.node_serving.specs.Clients.{known_after, known_in}
+use Rattle.node_serving.proofs.Known.{unanswered, answered_live, answered_none}
 use Rattle.node_serving.proofs.hearing.open_known.Goals as goal
 
 pub returns-in_default-clause-turn : goal.returns-in_default-clause-turn
@@ -102,3 +104,25 @@ returns-clause-alone g c = λ message is stage.
     es (slot.Pending c.in-Some.opening) (slot.Live c.in_ok-conn.conn) c.args.turn.now.sent.items c.begin_live.new.turn.sent.items found c.in_ok-conn.ensures.alone
     (λ place near at. opening_lives service node opened refl c.args.key (λ k. refl) c.args.numbers refl place c.in-Some.opening c.in_ok-conn.conn
     c.args.turn.now.sent.items c.begin_live.new.turn.sent.items at (search rules) c.in_ok-conn.ensures.turn)))
+
+pub returns-in_default-clause-known : goal.returns-in_default-clause-known
+returns-in_default-clause-known g c =
+    let none : opening_in (lookup (key_eq c.args.key) c.args.slots.now.entries) ≡ None = search rules in
+    unanswered c.args.key (λ cisn. c.args.numbers.cisn.0 == cisn) c.args.slots.now.entries none
+
+pub returns-then-opening-numbers-clause-known : goal.returns-then-opening-numbers-clause-known
+returns-then-opening-numbers-clause-known g c =
+    let es = c.args.slots.now.entries in
+    let found = pending_found (lookup (key_eq c.args.key) es) c.in-Some.opening (sym c.opening_at.ensures.found ∙ c.in-Some.is) in
+    let differ : (c.args.numbers.cisn.0 == c.in-Some.opening.cisn.0) ≡ false = ne_eqb _ _ (λ e. c.if-opening-numbers.true (sym e)) in
+    subst (λ xs. known_in xs ≡ known_after (OpenedMsg (numbers_of c.args.key c.args.numbers)) (known_in es)) (sym c.drop_slot.ensures)
+    (answered_none c.args.key (λ cisn. c.args.numbers.cisn.0 == cisn) es c.in-Some.opening found differ)
+
+pub returns-clause-known : goal.returns-clause-known
+returns-clause-known g c =
+    let es = c.args.slots.now.entries in
+    let found = pending_found (lookup (key_eq c.args.key) es) c.in-Some.opening (sym c.opening_at.ensures.found ∙ c.in-Some.is) in
+    let same : c.in-Some.opening.cisn.0 ≡ c.args.numbers.cisn.0 = search rules in
+    subst (λ xs. known_in xs ≡ known_after (OpenedMsg (numbers_of c.args.key c.args.numbers)) (known_in es)) (sym c.put_slot.ensures)
+    (answered_live c.args.key (λ cisn. c.args.numbers.cisn.0 == cisn) es c.in-Some.opening found (slot.Live c.in_ok-conn.conn) refl
+    (eq-eqb c.args.numbers.cisn.0 c.in-Some.opening.cisn.0 (sym same)))

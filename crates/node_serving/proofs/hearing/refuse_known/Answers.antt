@@ -1,4 +1,4 @@
-use Rattle.std.proofs.Common.{rules, ◌≡◌, ◌∙◌, ◌∷◌, [], refl, sym, subst, None}
+use Rattle.std.proofs.Common.{rules, ◌≡◌, ◌∙◌, ◌∷◌, [], false, refl, sym, subst, None}
 use Rattle.std.specs.Map.{lookup}
 use Rattle.ft_io.specs.Key.{key_eq}
 use Rattle.server_trait.specs.Service.{machine}
@@ -16,6 +16,8 @@ use Rattle.node_serving.proofs.Keyed.{drop_alone, refused_for, full_back}
 use Rattle.node_serving.proofs.OneKey.{one_leaves}
 use Rattle.node_serving.proofs.Opened.{none_pending, none_pending_alone, pending_found, opening_refused}
 use Rattle.node_serving.proofs.Sound.{sound_drop}
+use Rattle.node_serving.specs.Clients.{known_after, known_in}
+use Rattle.node_serving.proofs.Known.{unanswered, answered_none}
 use Rattle.node_serving.proofs.hearing.refuse_known.Goals as goal
 
 pub returns-in_default-clause-turn : goal.returns-in_default-clause-turn
@@ -71,3 +73,15 @@ returns-clause-alone g c = λ message is stage.
     (refused_for c.args.key (full_rst c.args.who.local (numbers_of c.args.key c.in-Some.opening) ∷ []) c.args.turn.now.sent.items c.refuse_full.new.turn.sent.items
     (full_back c.args.who.local c.args.key c.in-Some.opening) told)
     (λ place at. opening_refused service node full refl c.args.key (λ k. refl) refl place c.in-Some.opening c.args.turn.now.sent.items c.refuse_full.new.turn.sent.items at told)))
+
+pub returns-in_default-clause-known : goal.returns-in_default-clause-known
+returns-in_default-clause-known g c =
+    let none : opening_in (lookup (key_eq c.args.key) c.args.slots.now.entries) ≡ None = search rules in
+    unanswered c.args.key (λ cisn. false) c.args.slots.now.entries none
+
+pub returns-clause-known : goal.returns-clause-known
+returns-clause-known g c =
+    let es = c.args.slots.now.entries in
+    let found = pending_found (lookup (key_eq c.args.key) es) c.in-Some.opening (sym c.opening_at.ensures.found ∙ c.in-Some.is) in
+    subst (λ xs. known_in xs ≡ known_after (FullMsg c.args.key) (known_in es)) (sym c.drop_slot.ensures)
+    (answered_none c.args.key (λ cisn. false) es c.in-Some.opening found refl)

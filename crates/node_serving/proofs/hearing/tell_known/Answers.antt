@@ -14,6 +14,8 @@ use Rattle.ft_model.proofs.Lists.{none_is_some}
 use Rattle.node_serving.proofs.Heard.{only_its_key, its_key, logged_names}
 use Rattle.node_serving.proofs.Keyed.{set_alone, same_alone}
 use Rattle.node_serving.proofs.Sound.{sound_found, sound_set}
+use Rattle.node_serving.specs.Clients.{known_in}
+use Rattle.node_serving.proofs.Known.{same_known}
 use Rattle.node_serving.proofs.hearing.tell_known.Goals as goal
 
 pub tell_slot-requires-clause-sound : goal.tell_slot-requires-clause-sound
@@ -72,3 +74,13 @@ returns-in_default-clause-alone g c = λ kept log stage.
     (same_alone service node (Message_comes message) c.args.key (only_its_key node message c.args.key (λ k. logged_names message.body kept log.says k ∙ ap (λ x. key_eq x k) log.client))
     (its_key node message c.args.key log.boot (λ k. logged_names message.body kept log.says k ∙ ap (λ x. key_eq x k) log.client) c.args.key refl)
     c.args.slots.now.entries c.args.turn.now.sent.items (λ s found. none_is_some s (sym nothing ∙ found)))
+
+pub returns-in_ok-tell_slot-clause-known : goal.returns-in_ok-tell_slot-clause-known
+returns-in_ok-tell_slot-clause-known g c =
+    let es = c.args.slots.now.entries in
+    let found : lookup (key_eq c.args.key) es ≡ Some c.in-Some.slot.now = sym c.get_mut.ensures.value ∙ ap option_copied_mut c.in-Some.is in
+    subst (λ xs. known_in xs ≡ known_in es) (sym (c.get_mut.follows.holds c.tell_slot.new.slot).0)
+    (same_known c.args.key es c.in-Some.slot.now c.tell_slot.new.slot found c.in_ok-tell_slot.ensures.known)
+
+pub returns-in_default-clause-known : goal.returns-in_default-clause-known
+returns-in_default-clause-known g c = subst (λ m. known_in m.entries ≡ known_in c.args.slots.now.entries) (sym c.get_mut.follows.holds-at-none) refl

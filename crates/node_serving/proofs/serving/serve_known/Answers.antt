@@ -10,6 +10,8 @@ use Rattle.node_serving.specs.Identity.{node_of}
 use Rattle.node_serving.proofs.Knocking.{counted_by}
 use Rattle.node_serving.proofs.Served.{known_packet}
 use Rattle.node_serving.proofs.Strange.{known_alone}
+use Rattle.node_serving.proofs.Known.{known_knows}
+use Rattle.node_serving.proofs.Turned.{at_ok}
 use Rattle.node_serving.proofs.serving.serve_known.Goals as goal
 
 pub returns-clause-turn : goal.returns-clause-turn
@@ -34,3 +36,10 @@ returns-clause-alone g c =
     known_alone (machine (g.S.Service.started c.args.who.kind) g.S.Service.after) (node_of c.args.who stage) segment (source_of segment) c.args.serving.now _
     c.args.turn.now.sent.items c.give_known.new.turn.sent.items c.ask_again.new.turn.sent.items count.0 count.1 refl there c.ask_again.ensures.unique (told mine stage)
     (asked mine stage)) c.ask_again.ensures.asked
+
+pub returns-clause-known : goal.returns-clause-known
+returns-clause-known g c =
+    let segment = segment_of c.args.segment.now in
+    let told = rw c.in_ok-give_known.was at c.give_known.ensures.known in
+    let there : is_some (lookup (key_eq (source_of segment)) c.args.serving.now.slots.entries) ≡ true = search rules in
+    at_ok c.ask_again.result (λ mine standing. known_knows (node_of c.args.who standing) segment mine c.args.serving.now _ there refl told)

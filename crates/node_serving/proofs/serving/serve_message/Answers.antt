@@ -1,4 +1,4 @@
-use Rattle.std.proofs.Common.{rules}
+use Rattle.std.proofs.Common.{rules, refl}
 use Rattle.std.proofs.lemmas.Result.{on_ok_weaker}
 use Rattle.server_trait.specs.Service.{machine}
 use Rattle.logger_wire.specs.Value.{message_of}
@@ -6,6 +6,7 @@ use Rattle.node_serving.specs.Identity.{node_of}
 use Rattle.node_serving.proofs.MarkedApart.{message_alone}
 use Rattle.node_serving.proofs.Knocking.{counted_by}
 use Rattle.node_serving.proofs.Served.{message_goes}
+use Rattle.node_serving.proofs.Known.{message_knows}
 use Rattle.node_serving.proofs.serving.serve_message.Goals as goal
 
 pub returns-clause-turn : goal.returns-clause-turn
@@ -20,3 +21,8 @@ returns-clause-alone g c =
     on_ok_weaker c.hear.result
     (λ heard boot stage. message_alone (machine (g.S.Service.started c.args.who.kind) g.S.Service.after) (node_of c.args.who stage) (message_of c.args.m.now) c.args.serving.now _
     c.args.turn.now.sent.items c.hear.new.turn.sent.items count.0 count.1 (heard boot stage)) c.hear.ensures.alone
+
+pub returns-clause-known : goal.returns-clause-known
+returns-clause-known g c =
+    on_ok_weaker c.hear.result
+    (λ heard boot standing. message_knows (node_of c.args.who standing) (message_of c.args.m.now) c.args.serving.now _ boot refl heard) c.hear.ensures.known

@@ -8,6 +8,7 @@ use Rattle.node_serving.specs.Identity.{node_of}
 use Rattle.node_serving.proofs.Knocking.{counted_by}
 use Rattle.node_serving.proofs.Served.{others_packet}
 use Rattle.node_serving.proofs.Strange.{others_alone}
+use Rattle.node_serving.proofs.Known.{other_knows}
 use Rattle.node_serving.proofs.serving.serve_packet.Goals as goal
 
 pub returns-then-not-is_for-clause-turn : goal.returns-then-not-is_for-clause-turn
@@ -52,3 +53,18 @@ pub returns-else-contains_key-clause-untouched : goal.returns-else-contains_key-
 returns-else-contains_key-clause-untouched g c =
     let mine : is_for c.args.who.local (segment_of c.args.segment.now) ≡ true = sym c.is_for.ensures ∙ search rules in
     on_ok_weaker c.serve_strange.result (λ h other. absurd (false≢true (sym other ∙ mine))) c.serve_strange.ensures.sound
+
+pub returns-then-not-is_for-clause-known : goal.returns-then-not-is_for-clause-known
+returns-then-not-is_for-clause-known g c = λ standing.
+    let other : is_for c.args.who.local (segment_of c.args.segment.now) ≡ false = sym c.is_for.ensures ∙ search rules in
+    other_knows (node_of c.args.who standing) (segment_of c.args.segment.now) c.args.serving.now other
+
+pub returns-then-contains_key-clause-known : goal.returns-then-contains_key-clause-known
+returns-then-contains_key-clause-known g c =
+    let mine : is_for c.args.who.local (segment_of c.args.segment.now) ≡ true = sym c.is_for.ensures ∙ search rules in
+    on_ok_weaker c.serve_known.result (λ h. h mine) c.serve_known.ensures.known
+
+pub returns-else-contains_key-clause-known : goal.returns-else-contains_key-clause-known
+returns-else-contains_key-clause-known g c =
+    let mine : is_for c.args.who.local (segment_of c.args.segment.now) ≡ true = sym c.is_for.ensures ∙ search rules in
+    on_ok_weaker c.serve_strange.result (λ h. h mine) c.serve_strange.ensures.known

@@ -7,6 +7,7 @@ use Rattle.node_serving.specs.Identity.{node_of}
 use Rattle.node_serving.proofs.Knocking.{counted_by}
 use Rattle.node_serving.proofs.Served.{strange_packet}
 use Rattle.node_serving.proofs.Strange.{strange_alone}
+use Rattle.node_serving.proofs.Known.{strange_knows}
 use Rattle.node_serving.proofs.serving.serve_strange.Goals as goal
 
 pub returns-clause-turn : goal.returns-clause-turn
@@ -31,3 +32,9 @@ returns-clause-alone g c =
 
 pub returns-clause-counted : goal.returns-clause-counted
 returns-clause-counted g c = on_ok_weaker c.admit.result (λ counts. counts c.requires.counted) c.admit.ensures.counted
+
+pub returns-clause-known : goal.returns-clause-known
+returns-clause-known g c =
+    on_ok_weaker c.admit.result
+    (λ knocks mine standing. strange_knows (node_of c.args.who standing) (segment_of c.args.segment.now) mine c.args.serving.now _
+    c.refuse_unknown.new.turn.sent.items c.admit.new.turn.sent.items c.requires.strange (knocks standing)) c.admit.ensures.alone

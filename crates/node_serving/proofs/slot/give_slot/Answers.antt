@@ -1,4 +1,4 @@
-use Rattle.std.proofs.Common.{◌∙◌, refl, subst, sym}
+use Rattle.std.proofs.Common.{◌∙◌, refl, subst, sym, ap}
 use Rattle.std.proofs.lemmas.Result.{on_ok_weaker}
 use Rattle.server_trait.specs.Service.{machine}
 use Rattle.segment_codec.specs.Value.{segment_of}
@@ -12,6 +12,8 @@ use Rattle.node_serving.specs.Ownership.{IsOnlyFor}
 use Rattle.node_serving.proofs.Came.{text_fits}
 use Rattle.node_serving.proofs.SegmentArrival.{live_comes, done_answers}
 use Rattle.node_serving.proofs.Keyed.{quiet_for, refused_for, closed_back}
+use Rattle.node_serving.specs.Clients.{known_as}
+use Rattle.node_serving.proofs.Turned.{at_ok}
 use Rattle.node_serving.proofs.slot.give_slot.Goals as goal
 
 pub give_live-requires-clause-sound : goal.give_live-requires-clause-sound
@@ -53,3 +55,6 @@ returns-in-Done-clause-alone g c = on_ok_weaker c.refuse_closed.result
     let segment = segment_of c.args.segment.now in
     refused_for (source_of segment) (as_closed c.args.who.local segment) c.args.turn.now.sent.items c.refuse_closed.new.turn.sent.items
     (closed_back c.args.who.local segment (source_of segment) refl) told) c.refuse_closed.ensures
+
+pub returns-in-Live-clause-known : goal.returns-in-Live-clause-known
+returns-in-Live-clause-known g c = at_ok c.give_live.result (sym (ap known_as c.in-Live.is))

@@ -1,10 +1,12 @@
-use Rattle.std.proofs.Common.{subst}
+use Rattle.std.proofs.Common.{subst, sym, ap}
 use Rattle.std.proofs.lemmas.Result.{on_ok_weaker}
 use Rattle.server_trait.specs.Service.{machine}
 use Rattle.node_serving.specs.Identity.{node_of}
 use Rattle.node_serving.specs.Slots.{SlotStands}
 use Rattle.node_serving.proofs.AllSlots.{live_ticks}
 use Rattle.node_serving.proofs.Keyed.{quiet_for}
+use Rattle.node_serving.specs.Clients.{known_as}
+use Rattle.node_serving.proofs.Turned.{at_ok}
 use Rattle.node_serving.proofs.slot.tick_slot.Goals as goal
 
 pub returns-in-Live-clause-turn : goal.returns-in-Live-clause-turn
@@ -16,3 +18,6 @@ returns-in-Live-clause-turn g c = on_ok_weaker c.tick_live.result
 
 pub returns-in-Pending-clause-alone : goal.returns-in-Pending-clause-alone
 returns-in-Pending-clause-alone g c = quiet_for c.args.key c.args.turn.now.sent.items
+
+pub returns-in-Live-clause-known : goal.returns-in-Live-clause-known
+returns-in-Live-clause-known g c = at_ok c.tick_live.result (sym (ap known_as c.in-Live.is))

@@ -15,6 +15,8 @@ use Rattle.node_serving.proofs.OneKey.{one_goes, none_goes, none_found}
 use Rattle.node_serving.proofs.SegmentArrival.{only_its_client, its_client}
 use Rattle.node_serving.proofs.Keyed.{set_alone, same_alone}
 use Rattle.node_serving.proofs.Sound.{sound_found, sound_set}
+use Rattle.node_serving.specs.Clients.{known_in}
+use Rattle.node_serving.proofs.Known.{same_known}
 use Rattle.node_serving.proofs.slots.give_known.Goals as goal
 
 pub give_slot-requires-clause-sound : goal.give_slot-requires-clause-sound
@@ -82,3 +84,13 @@ returns-in_default-clause-alone g c = λ mine stage.
     subst (λ m. SlotsAlone service node (Packet_comes segment) es m.entries c.args.turn.now.sent.items c.args.turn.now.sent.items) (sym c.get_mut.follows.holds-at-none)
     (same_alone service node (Packet_comes segment) (source_of segment) (only_its_client node segment) (its_client node segment (source_of segment) mine refl)
     es c.args.turn.now.sent.items (λ s found. none_is_some s (sym (subst (λ k. lookup (key_eq k) es ≡ None) c.sender.ensures nothing) ∙ found)))
+
+pub returns-in_ok-give_slot-clause-known : goal.returns-in_ok-give_slot-clause-known
+returns-in_ok-give_slot-clause-known g c =
+    let es = c.args.slots.now.entries in
+    let there : lookup (key_eq c.sender.result) es ≡ Some c.in-Some.slot.now = sym c.get_mut.ensures.value ∙ ap option_copied_mut c.in-Some.is in
+    subst (λ xs. known_in xs ≡ known_in es) (sym (c.get_mut.follows.holds c.give_slot.new.slot).0)
+    (same_known c.sender.result es c.in-Some.slot.now c.give_slot.new.slot there c.in_ok-give_slot.ensures.known)
+
+pub returns-in_default-clause-known : goal.returns-in_default-clause-known
+returns-in_default-clause-known g c = subst (λ m. known_in m.entries ≡ known_in c.args.slots.now.entries) (sym c.get_mut.follows.holds-at-none) refl

@@ -8,6 +8,7 @@ use Rattle.node_serving.proofs.AllSlots.{first_more, first_all, value_at, key_is
 use Rattle.node_serving.proofs.Collecting.{entry_at}
 use Rattle.node_serving.proofs.Sound.{sound_at, sound_put}
 use Rattle.node_serving.proofs.Ticked.{ticks_slot, ticks_more, ticks_alone}
+use Rattle.node_serving.proofs.Known.{same_known_at}
 use Rattle.node_serving.proofs.slots.tick_all.Goals as goal
 
 pub key_at-key-requires : goal.key_at-key-requires
@@ -42,6 +43,7 @@ loop-i-preserved g c =
                 (ticks_slot service (node_of c.args.who stage) c.key_at-key.result c.index_mut.result.now c.tick_slot.new.slot c.loop-i.turn.sent.items c.tick_slot.new.turn.sent.items told.alone
                 (λ q stands. told.turn stage q tt stands))),
           ),
+      same_known_at c.loop-i.slots.entries c.loop-i.i c.index_mut.result.now c.tick_slot.new.slot c.index_mut.ensures.value told.known ∙ c.loop-i.invariant.4,
     )
 
 pub returns-clause-turn : goal.returns-clause-turn
@@ -69,6 +71,7 @@ loop-i-init g c = (
     spelled = tt;
   },
   λ stage. ([], sym (append-nil c.args.turn.now.sent.items), (refl, refl)),
+  refl,
 )
 
 pub returns-clause-alone : goal.returns-clause-alone
@@ -77,3 +80,6 @@ returns-clause-alone g c =
     λ stage.
     let all = c.loop-i.invariant.3 stage in
     ticks_alone service (node_of c.args.who stage) c.loop-i.i c.args.slots.now.entries c.loop-i.slots.entries c.args.turn.now.sent.items c.loop-i.turn.sent.items all.0 (search rules) c.len-i-end.ensures.unique all.1 all.2
+
+pub returns-clause-known : goal.returns-clause-known
+returns-clause-known g c = c.loop-i.invariant.4

@@ -3,6 +3,7 @@ use Rattle.server_trait.specs.Service.{machine}
 use Rattle.ft_model.specs.Node.{Stage, Place}
 use Rattle.ft_model.specs.Node.Input.{Tick_comes}
 use Rattle.ft_model.specs.Wire.{Wire}
+use Rattle.node_serving.specs.Clients.{known_in}
 use Rattle.node_serving.specs.Identity.{node_of}
 use Rattle.node_serving.specs.Slots.{AllStand, AllSound, FirstGo}
 use Rattle.node_serving.proofs.Ticked.{TicksUpTo}
@@ -15,3 +16,4 @@ invariant-loop-i g l = (length l.slots.entries ≡ l.i-end)
     → FirstGo (machine (g.S.Service.started l.who.kind) g.S.Service.after) (node_of l.who stage) Tick_comes places l.i l.slots.entries l.initial.turn.sent.items l.turn.sent.items)
     × ((stage : Stage) → (told : List Wire) × (l.turn.sent.items ≡ l.initial.turn.sent.items ++ told)
     × TicksUpTo (machine (g.S.Service.started l.who.kind) g.S.Service.after) (node_of l.who stage) l.i l.initial.slots.entries l.slots.entries told)
+    × (known_in l.slots.entries ≡ known_in l.initial.slots.entries)
