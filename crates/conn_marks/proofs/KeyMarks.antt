@@ -10,7 +10,7 @@ use Rattle.ft_io.proofs.Choices.{by_cases}
 use Rattle.ft_model.proofs.Keys.{key_eq_turns}
 use Rattle.ft_model.proofs.Lists.{same_key}
 use Rattle.mark_laws.specs.Marking.{Marking}
-use Rattle.conn_marks.specs.KeyMarks.{KeyMarks, marking_in, no_marking, Changes}
+use Rattle.conn_marks.specs.KeyMarks.{KeyMarks, marking_in, no_marking, KeepsOthers, Changes}
 
 chosen : {A : Type 0} (b : Bool) (x y : A) (o : Option A) → cond b (Some x) o ≡ (if b then Some x else cond b (Some y) o)
 chosen true x y o = refl
@@ -88,3 +88,6 @@ changes_new f was now every es after key next view there is put now_is =
     (subst (λ x. Changes key (f x) (record { every = every; of = es }) now) (sym (marking_none every es key there))
     (subst (λ x. Changes key x (record { every = every; of = es }) now) is
     (subst (λ n. Changes key next (record { every = every; of = es }) n) (sym (now_is ∙ ap (λ l. record { every = every; of = l }) put)) (changes_put every es key next))))
+
+pub others_kept : (key : Key) (m : Marking) (was now : KeyMarks) → Changes key m was now → KeepsOthers key was now
+others_kept key m was now changes = λ k other. changes.marking k ∙ ap (λ b. if b then m else marking_in was k) other

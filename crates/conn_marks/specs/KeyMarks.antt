@@ -1,5 +1,5 @@
 -- What is stored of the marks of all connections of a node.
-use Rattle.std.specs.Prelude.{◌≡◌, ℕ, Bool, None, List, unwrap_or, if◌then◌else◌}
+use Rattle.std.specs.Prelude.{◌≡◌, ℕ, Bool, false, None, List, unwrap_or, if◌then◌else◌}
 use Rattle.std.specs.Map.{lookup}
 use Rattle.ft_io.specs.declared.Key.{Key}
 use Rattle.ft_io.specs.Key.{key_eq}
@@ -20,6 +20,10 @@ marking_in m key = unwrap_or (lookup (key_eq key) m.of) no_marking
 -- no marks are made of a service whose states can't be saved
 abbrev pub every_for : (savable : Bool) → ℕ → ℕ
 every_for savable every = if savable then every else 0
+
+-- the markings of the other connections stay
+abbrev pub KeepsOthers : Key → (old new : KeyMarks) → Type 0
+KeepsOthers key old new = (k : Key) → key_eq k key ≡ false → marking_in new k ≡ marking_in old k
 
 -- one connection's marking becomes this, and the others stay
 pub record Changes (key : Key) (next : Marking) (old new : KeyMarks) : Type 0 where

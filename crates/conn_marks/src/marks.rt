@@ -10,7 +10,7 @@ ghost use Rattle.logger_wire.specs.MarkValue.{message_of};
 ghost use Rattle.mark_laws.specs.Marking.{with_new, marking_answered};
 ghost use Rattle.wrapped_conn.specs.Sound.{IsSound};
 ghost use Rattle.wrapped_conn.specs.Refinement.{Stands};
-ghost use Rattle.conn_marks.specs.KeyMarks.{marking_in, every_for, Changes};
+ghost use Rattle.conn_marks.specs.KeyMarks.{marking_in, every_for, KeepsOthers, Changes};
 
 use crate::marking::Marking;
 use ft_io::{Key, NoMemory};
@@ -63,7 +63,7 @@ impl Marks {
         Ok(())
     }
 
-    /// Makes a connection's mark after its turn, other than a tick, if one is due.
+    /// Makes a connection's mark after its turn, other than a tick, if one is due. What is stored of other connections stays.
     pub fn advance<S: Saved>(
         &mut self,
         alloc: Global,
@@ -71,7 +71,8 @@ impl Marks {
         conn: &Conn<S>,
     ) -> Result<(), NoMemory>
         requires { IsSound conn.now }
-        ensures { OnOk result ((0 < self.old.every → S.is_savable ≡ true) → (kind : ℕ) (p : Point) → Stands (machine (S.started kind) S.after) conn.now p → AreBytes p.taken
+        ensures others { OnOk result (KeepsOthers key self.old self.new) }
+        ensures law { OnOk result ((0 < self.old.every → S.is_savable ≡ true) → (kind : ℕ) (p : Point) → Stands (machine (S.started kind) S.after) conn.now p → AreBytes p.taken
             → Changes key (with_new (machine (S.started kind) S.after) (writing S.form (S.state_of kind)) self.old.every p (marking_in self.old key)) self.old self.new) }
     {
         if let Some(marking) = self.of.get_mut(&key) {
