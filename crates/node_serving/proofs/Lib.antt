@@ -26,6 +26,7 @@ pub mod Ticked
 pub mod Knocking
 pub mod MarkedApart
 pub mod Known
+pub mod Among
 pub mod Strange
 pub mod MarkedTicks
 pub mod MarkedServed

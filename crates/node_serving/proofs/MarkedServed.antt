@@ -1,5 +1,5 @@
 -- The turn of a node that marks, while it serves, from that without marks.
-use Rattle.std.proofs.Common.{◌≡◌, ◌∙◌, ℕ, Bool, false, refl, sym, ap, ap₂, subst, Ok, Option, Some, None, MatchOption, List, [], ◌∷◌, ◌++◌, map, append-nil, if◌then◌else◌}
+use Rattle.std.proofs.Common.{◌≡◌, ◌∙◌, ℕ, Bool, false, ◌&&◌, not, nat_lt, refl, sym, ap, ap₂, subst, Ok, Option, Some, None, MatchOption, List, [], ◌∷◌, ◌++◌, map, append-nil, if◌then◌else◌}
 use Rattle.std.specs.List.{AllByRecursion, IsDistinct}
 use Rattle.std.specs.Map.{keys_of}
 use Rattle.std.proofs.lemmas.Bool.{or_from}
@@ -9,8 +9,10 @@ use Rattle.ft_io.proofs.Choices.{by_cases}
 use Rattle.seq_arith.specs.Mark.{MarkMessage}
 use Rattle.seq_arith.specs.Mark.MarkBody.{MarkedMsg}
 use Rattle.server_trait.specs.Service.{AreBytes}
-use Rattle.ft_model.specs.Network.{Packet}
-use Rattle.ft_model.specs.Node.{Node, Place, Stage as law_stage, Input, key_of, place_at}
+use Rattle.ft_model.specs.Network.{Packet, source_of}
+use Rattle.ft_model.specs.Node.{Node, Place, Stage as law_stage, Input, key_of, place_at, is_for, is_known, pending_count}
+use Rattle.ft_model.specs.Node.Input.{Packet_comes}
+use Rattle.ft_model.specs.Opening.{is_syn, numbers_for}
 use Rattle.ft_model.specs.Node.Place.{Opens, Lives, Ended}
 use Rattle.ft_model.specs.Point.{Point}
 use Rattle.seq_arith.specs.Packet.{Segment}
@@ -194,6 +196,15 @@ served_unmarked by who standing awaits marking input key opened places es now m 
       settled = r.settled;
       out = r.out;
     }
+
+-- a packet for another server
+pub served_elsewhere : {S : Type 0} (by : Marker S) (who : Identity) (standing : law_stage) (awaits : Bool) (marking : Key → Marking) (segment : Segment) (opened : ℕ) (places : List Place)
+    (es : List (Key × Slot S)) (now : CodeServing S) (m : KeyMarks) (mid : List Wire) → is_for who.local segment ≡ false → AreBytes segment.payload
+    → AllStand by.service (node_of who standing) es places → IsDistinct key_eq (keys_of es) → Keeps by marking m → AllSettled by marking places
+    → ServingGoes by.service (node_of who standing) (Packet_comes segment) opened places now [] mid → ServingGoesMarked by (node_at who standing awaits marking) (Packet_comes segment) opened places now m [] mid
+served_elsewhere by who standing awaits marking segment opened places es now m mid other bytes =
+    served_unmarked by who standing awaits marking (Packet_comes segment) (source_of segment) opened places es now m mid (λ k. ap (λ b. b && key_eq (source_of segment) k) other)
+    (ap (λ b. if (b && not (is_known (source_of segment) places)) && is_syn segment && nat_lt (pending_count places) 64 then Opens (numbers_for who.isn opened segment) ∷ [] else []) other) refl bytes
 
 -- the payload of bytes
 pub payload_bytes : (bytes : List ℕ) (segment : Segment) → reading bytes ≡ Ok segment → AreBytes bytes → AreBytes segment.payload

@@ -15,3 +15,4 @@ pub mod Alone
 pub mod Turns
 pub mod Markers
 pub mod MarkedServing
+pub mod MarkedAlone

@@ -15,14 +15,19 @@ ghost use Rattle.ft_model.specs.Wire.{wire_of};
 ghost use Rattle.node_serving.specs.Openings.{IsCounted, pending_slots};
 ghost use Rattle.node_serving.specs.Ownership.{of_key};
 ghost use Rattle.node_serving.specs.Slots.{AllSound};
+ghost use Rattle.conn_marks.specs.KeyMarks.{marking_in};
 
 use crate::identity::Identity;
+use crate::marked_serving::{mark_key, serve_packet_marked};
 use crate::serving::{Serving, is_for, serve_packet};
+use crate::slot::Slot;
 use crate::turn::Turn;
-use ft_io::{Addr, NoMemory};
+use conn_marks::Marks;
+use ft_io::{Addr, Key, NoMemory};
+use indexmap::IndexMap;
 use segment_codec::{Head, PacketRef};
 use seq_arith::{ACK, Seq};
-use server_trait::Service;
+use server_trait::{Saved, Service};
 
 /// A packet for another port of the server's address isn't for the server: the contract of `is_for`.
 fn a_stray_packet_counts() -> bool
@@ -63,4 +68,42 @@ fn ignores_an_acknowledgement_while_openings_are_pending<S: Service>(
     ensures { OnOk result (of_key (source_of (segment_of segment.now)) turn.new.sent.items ≡ map wire_of (map To_client (as_listen who.local (segment_of segment.now)))) }
 {
     serve_packet(who, segment, packet, serving, turn)
+}
+
+/// A packet for another server leads to no mark, even if its sender has a connection here of which one is due: the clause `untouched` of
+/// `serve_packet_marked`.
+fn marks_at_a_stray_packet<S: Saved>(
+    who: Identity,
+    segment: &PacketRef<'_>,
+    packet: &[u8],
+    serving: &mut Serving<S>,
+    marks: &mut Marks,
+    turn: &mut Turn,
+) -> Result<(), NoMemory>
+    requires boot { 1 ≤ who.boot }
+    requires read { reading packet.now ≡ Ok (segment_of segment.now) }
+    requires sound { AllSound who serving.old.slots.entries }
+    requires counted { IsCounted who.isn serving.old.next.0 }
+    requires empty { turn.old.sent.items ≡ [] }
+    requires stray { is_for who.local (segment_of segment.now) ≡ false }
+    ensures { OnOk result ((marks.new ≡ marks.old) × (turn.new.sent.items ≡ [])) }
+{
+    serve_packet_marked(who, segment, packet, serving, marks, turn)
+}
+
+/// After a turn of one client another client's marks are as before, even if one is due: the clause `alone` of `mark_key`.
+fn marks_the_next_key<S: Saved>(
+    who: Identity,
+    key: Key,
+    other: Key,
+    slots: &IndexMap<Key, Slot<S>>,
+    marks: &mut Marks,
+    turn: &mut Turn,
+) -> Result<(), NoMemory>
+    requires boot { 1 ≤ who.boot }
+    requires sound { AllSound who slots.now.entries }
+    requires other { key_eq other key ≡ false }
+    ensures { OnOk result (marking_in marks.new other ≡ marking_in marks.old other) }
+{
+    mark_key(who, key, slots, marks, turn)
 }

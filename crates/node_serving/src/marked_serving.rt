@@ -11,9 +11,12 @@ ghost use Rattle.seq_arith.specs.Mark.MarkBody.{MarkedMsg};
 ghost use Rattle.segment_codec.specs.Value.{segment_of};
 ghost use Rattle.logger_wire.specs.Value.{body_of, message_of, IsSendable};
 ghost use Rattle.logger_wire.specs.MarkValue.{message_of as mark_message_of};
+ghost use Rattle.ft_model.specs.Node.{is_for};
 ghost use Rattle.ft_model.specs.Node.Input.{Packet_comes, Message_comes, Tick_comes};
 ghost use Rattle.ft_model.specs.ServingTurn.{names};
+ghost use Rattle.mark_laws.specs.MarkedNode.MarkedInput.{Plain_comes, Mark_comes};
 ghost use Rattle.node_serving.specs.Markers.{saving};
+ghost use Rattle.node_serving.specs.MarkedAlone.{MarksOnly, SlotTickBeside, SlotsTickBeside, ServingTurnsBeside};
 ghost use Rattle.node_serving.specs.MarkedServing.{SlotTicksMarked, AllTickMarked, KeyMarked, ServingTurnsMarked, ServingHears};
 ghost use Rattle.node_serving.specs.Openings.{IsCounted};
 ghost use Rattle.node_serving.specs.Slots.{AllSound, IsSoundSlot};
@@ -22,7 +25,7 @@ use crate::identity::Identity;
 use crate::marking::{send_new, send_outstanding};
 use crate::opening::ask_all;
 use crate::sent::fit;
-use crate::serving::{Serving, serve_bytes, serve_message};
+use crate::serving::{Serving, is_for, serve_bytes, serve_message};
 use crate::slot::{Slot, live_conn, tick_slot};
 use crate::slots::{conn_at, key_at};
 use crate::turn::Turn;
@@ -45,6 +48,7 @@ fn tick_marked<S: Saved>(
     requires boot { 1 ≤ who.boot }
     requires sound { IsSoundSlot who key slot.old }
     ensures turn { OnOk result (SlotTicksMarked S.Service (saving S.form S.state_of S.is_savable) who marks.now key slot.old slot.new turn.old turn.new) }
+    ensures alone { OnOk result (SlotTickBeside S.Service who key slot.old slot.new turn.old turn.new) }
     ensures sound { OnOk result (IsSoundSlot who key slot.new) }
 {
     outstanding_marks_go_out_again::<S>();
@@ -66,6 +70,7 @@ fn tick_all_marked<S: Saved>(
     requires boot { 1 ≤ who.boot }
     requires sound { AllSound who slots.old.entries }
     ensures turn { OnOk result (AllTickMarked S.Service (saving S.form S.state_of S.is_savable) who marks.now slots.old.entries slots.new.entries turn.old turn.new) }
+    ensures alone { OnOk result (SlotsTickBeside S.Service who slots.old.entries slots.new.entries turn.old turn.new) }
     ensures sound { OnOk result (AllSound who slots.new.entries) }
 {
     for i in 0..slots.len() {
@@ -86,6 +91,7 @@ pub fn serve_tick_marked<S: Saved>(
     requires sound { AllSound who serving.old.slots.entries }
     requires counted { IsCounted who.isn serving.old.next.0 }
     ensures turn { OnOk result (ServingTurnsMarked S.Service (saving S.form S.state_of S.is_savable) who Tick_comes serving.old serving.new marks.now marks.now turn.old turn.new) }
+    ensures alone { OnOk result (ServingTurnsBeside S.Service who (Plain_comes Tick_comes) serving.old serving.new marks.now marks.now turn.old turn.new) }
     ensures sound { OnOk result (AllSound who serving.new.slots.entries) }
     ensures counted { OnOk result (IsCounted who.isn serving.new.next.0) }
 {
@@ -94,7 +100,7 @@ pub fn serve_tick_marked<S: Saved>(
 }
 
 /// Sends the mark of a key's connection, if it is live and a mark is due, after a turn other than a tick that concerned the key.
-fn mark_key<S: Saved>(
+pub(crate) fn mark_key<S: Saved>(
     who: Identity,
     key: Key,
     slots: &IndexMap<Key, Slot<S>>,
@@ -103,7 +109,8 @@ fn mark_key<S: Saved>(
 ) -> Result<(), NoMemory>
     requires boot { 1 ≤ who.boot }
     requires sound { AllSound who slots.now.entries }
-    ensures { OnOk result (KeyMarked S.Service (saving S.form S.state_of S.is_savable) who key slots.now.entries marks.old marks.new turn.old turn.new) }
+    ensures turn { OnOk result (KeyMarked S.Service (saving S.form S.state_of S.is_savable) who key slots.now.entries marks.old marks.new turn.old turn.new) }
+    ensures alone { OnOk result (MarksOnly who.boot key marks.old marks.new turn.old.sent.items turn.new.sent.items) }
 {
     match conn_at(slots, key) {
         Some(conn) => send_new(who, key, conn, marks, 0, turn),
@@ -118,7 +125,7 @@ pub fn apart<S: Saved>(slots: &IndexMap<Key, Slot<S>>)
     let _count = slots.len();
 }
 
-/// Handles a packet that the codec has read. `packet` has its bytes.
+/// Handles a packet that the codec has read. `packet` has its bytes. One for another server changes nothing.
 pub fn serve_packet_marked<S: Saved>(
     who: Identity,
     segment: &PacketRef<'_>,
@@ -133,12 +140,18 @@ pub fn serve_packet_marked<S: Saved>(
     requires counted { IsCounted who.isn serving.old.next.0 }
     requires empty { turn.old.sent.items ≡ [] }
     ensures turn { OnOk result (ServingTurnsMarked S.Service (saving S.form S.state_of S.is_savable) who (Packet_comes (segment_of segment.now)) serving.old serving.new marks.old marks.new turn.old turn.new) }
+    ensures alone { OnOk result (ServingTurnsBeside S.Service who (Plain_comes (Packet_comes (segment_of segment.now))) serving.old serving.new marks.old marks.new turn.old turn.new) }
+    ensures untouched { OnOk result (is_for who.local (segment_of segment.now) ≡ false
+        → (serving.new ≡ serving.old) × (marks.new ≡ marks.old) × (turn.new.sent.items ≡ turn.old.sent.items)) }
     ensures sound { OnOk result (AllSound who serving.new.slots.entries) }
     ensures counted { OnOk result (IsCounted who.isn serving.new.next.0) }
 {
     fit(packet);
     apart(&serving.slots);
     serve_bytes(who, segment, packet, serving, turn)?;
+    if !is_for(who.local, segment) {
+        return Ok(());
+    }
     mark_key(who, segment.head.sender(), &serving.slots, marks, turn)
 }
 
@@ -171,6 +184,8 @@ pub fn serve_message_marked<S: Saved>(
     requires empty { turn.old.sent.items ≡ [] }
     ensures turn { OnOk result (m.now.boot ≡ who.boot
         → ServingTurnsMarked S.Service (saving S.form S.state_of S.is_savable) who (Message_comes (message_of m.now)) serving.old serving.new marks.old marks.new turn.old turn.new) }
+    ensures alone { OnOk result (m.now.boot ≡ who.boot
+        → ServingTurnsBeside S.Service who (Plain_comes (Message_comes (message_of m.now))) serving.old serving.new marks.old marks.new turn.old turn.new) }
     ensures sound { OnOk result (AllSound who serving.new.slots.entries) }
     ensures counted { OnOk result (IsCounted who.isn serving.new.next.0) }
 {
@@ -192,9 +207,12 @@ pub fn serve_mark<S: Saved>(
 ) -> Result<(), NoMemory>
     requires boot { 1 ≤ who.boot }
     requires sound { AllSound who serving.now.slots.entries }
+    requires counted { IsCounted who.isn serving.now.next.0 }
     requires empty { turn.old.sent.items ≡ [] }
-    ensures { OnOk result (m.now.boot ≡ who.boot
+    ensures turn { OnOk result (m.now.boot ≡ who.boot
         → ServingHears S.Service (saving S.form S.state_of S.is_savable) who (mark_message_of m.now) serving.now marks.old marks.new turn.old turn.new) }
+    ensures alone { OnOk result (m.now.boot ≡ who.boot
+        → ServingTurnsBeside S.Service who (Mark_comes (mark_message_of m.now)) serving.now serving.now marks.old marks.new turn.old turn.new) }
 {
     match m.body {
         MarkBody::Marked { key, reads } => hear_marked(who, key, reads, serving, marks, turn),
@@ -216,7 +234,8 @@ fn hear_marked<S: Saved>(
     requires boot { 1 ≤ who.boot }
     requires sound { AllSound who serving.now.slots.entries }
     requires empty { turn.old.sent.items ≡ [] }
-    ensures { OnOk result ((boot : ℕ) → ServingHears S.Service (saving S.form S.state_of S.is_savable) who (record { boot = boot; body = MarkedMsg key reads })
+    ensures alone { OnOk result (MarksOnly who.boot key marks.old marks.new turn.old.sent.items turn.new.sent.items) }
+    ensures turn { OnOk result ((boot : ℕ) → ServingHears S.Service (saving S.form S.state_of S.is_savable) who (record { boot = boot; body = MarkedMsg key reads })
         serving.now marks.old marks.new turn.old turn.new) }
 {
     apart(&serving.slots);

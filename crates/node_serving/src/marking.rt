@@ -9,6 +9,7 @@ ghost use Rattle.node_serving.specs.Conn.{IsSound, IsOursAt};
 ghost use Rattle.node_serving.specs.Identity.{service_of};
 ghost use Rattle.conn_marks.specs.MarkSends.{SendsMarks};
 ghost use Rattle.conn_marks.specs.Settled.{MarksNew};
+ghost use Rattle.node_serving.specs.MarkedAlone.{MarksOnly};
 ghost use Rattle.node_serving.specs.Markers.{saving, marker_of};
 
 use crate::identity::Identity;
@@ -42,7 +43,8 @@ pub(crate) fn send_outstanding(
     turn.sent.put(turn.alloc, behind, To::Logger, &text[..len])
 }
 
-/// Makes a key's next mark after a turn of its connection other than a tick, if one is due, and sends it at the same place as `send_outstanding`.
+/// Makes a key's next mark after a turn of its connection other than a tick, if one is due, and sends it at the same place as `send_outstanding`. In whatever
+/// state the connection is, only marks of this key are sent.
 pub fn send_new<S: Saved>(
     who: Identity,
     key: Key,
@@ -54,7 +56,8 @@ pub fn send_new<S: Saved>(
     requires boot { 1 ≤ who.boot }
     requires sound { IsSound conn.now }
     requires from { from ≤ length turn.old.sent.items }
-    ensures { OnOk result ((every : ℕ) (p : Point) → marks.old.every ≡ every_for S.is_savable every
+    ensures alone { OnOk result (MarksOnly who.boot key marks.old marks.new turn.old.sent.items turn.new.sent.items) }
+    ensures law { OnOk result ((every : ℕ) (p : Point) → marks.old.every ≡ every_for S.is_savable every
         → IsOursAt (service_of S.Service who) who.local who.boot conn.now p → AreBytes p.taken
         → MarksNew (marker_of S.Service (saving S.form S.state_of S.is_savable) who every) who.boot key p marks.old marks.new from turn.old.sent.items turn.new.sent.items) }
 {

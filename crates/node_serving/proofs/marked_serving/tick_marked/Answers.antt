@@ -6,6 +6,9 @@ use Rattle.conn_marks.specs.MarkSends.{SendsMarks}
 use Rattle.node_serving.specs.Identity.{node_of}
 use Rattle.node_serving.specs.Markers.{saving, marker_of}
 use Rattle.node_serving.proofs.MarkedTicks.{slot_ticks, again_live, again_none, TickLaw}
+use Rattle.conn_marks.specs.KeyMarks.{marking_in}
+use Rattle.node_serving.specs.MarkedAlone.{IsMarkOf}
+use Rattle.node_serving.proofs.Among.{among_none, marks_among}
 use Rattle.node_serving.proofs.marked_serving.tick_marked.Goals as goal
 
 pub returns-in-Some-clause-turn : goal.returns-in-Some-clause-turn
@@ -33,3 +36,24 @@ returns-in-None-clause-turn g c = λ every standing marking place keeps settled 
     (told standing place tt st)
     (again_none c.args.who.boot c.args.key (length c.args.turn.now.sent.items) c.tick_slot.new.slot (marking c.args.key) c.tick_slot.new.turn.sent.items
     (sym (ap option_copied c.in-None.is) ∙ c.live_conn.ensures))
+
+pub returns-in-Some-clause-alone : goal.returns-in-Some-clause-alone
+returns-in-Some-clause-alone g c =
+    let told = rw c.in_ok-tick_slot.was at c.tick_slot.ensures in
+    on_ok_weaker c.send_outstanding.result
+    (λ sends. record {
+      mid = c.tick_slot.new.turn.sent.items;
+      only = told.alone;
+      goes = λ standing place st. told.turn standing place tt st;
+      among = marks_among c.args.who.boot c.args.key c.len-from.result (outstanding_in (marking_in c.args.marks.now c.args.key)) c.tick_slot.new.turn.sent.items c.send_outstanding.new.turn.sent.items sends;
+    }) c.send_outstanding.ensures
+
+pub returns-in-None-clause-alone : goal.returns-in-None-clause-alone
+returns-in-None-clause-alone g c =
+    let told = rw c.in_ok-tick_slot.was at c.tick_slot.ensures in
+    record {
+      mid = c.tick_slot.new.turn.sent.items;
+      only = told.alone;
+      goes = λ standing place st. told.turn standing place tt st;
+      among = among_none (IsMarkOf c.args.who.boot c.args.key) c.tick_slot.new.turn.sent.items;
+    }
