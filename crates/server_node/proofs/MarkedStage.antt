@@ -25,7 +25,7 @@ use Rattle.server_node.specs.StageTurns.{StageTurns}
 use Rattle.server_node.specs.Restarts.{Restarts}
 use Rattle.server_node.specs.Stages.{StageStands, IsSoundStage, NodeGoes, is_marked}
 use Rattle.server_node.proofs.Staged.{noise_rests}
-use Rattle.server_node.proofs.StagedApart.{rest_apart}
+use Rattle.server_node.proofs.StagedApart.{rest_apart, noise_knows}
 use Rattle.server_node.specs.Marked.{IsBareQuestion}
 use Rattle.server_node.proofs.FetchAnswer.{IsSame, heard_same}
 use Rattle.server_node.proofs.Questions.{question_is_bare}
@@ -58,6 +58,7 @@ marked_apart service who input (stage.Marked m) now sent h = record {
   untouched = λ standing. tt;
   alone = λ standing. tt;
   restarts = λ standing. restarts_any service (node_of who standing) input (stage.Marked m) now sent h;
+  known = λ standing. tt;
 }
 
 -- what a node without marks doesn't read changes nothing
@@ -73,7 +74,7 @@ pub unheard_apart : {S : Type 0} (service : Machine S) (who : Identity) (input :
 unheard_apart service who input was now sent noise same silent low sound =
     subst (λ i. TurnsApart service who i was now sent) (sym noise)
     (subst (λ n. TurnsApart service who Noise_comes was n sent) (sym same)
-    (subst (TurnsApart service who Noise_comes was was) (sym silent) (rest_apart service who Noise_comes was low sound (λ standing key. refl) (λ standing. tt))))
+    (subst (TurnsApart service who Noise_comes was was) (sym silent) (rest_apart service who Noise_comes was low sound (λ standing key. refl) (λ standing. tt) (λ standing. noise_knows (node_of who standing) was))))
 
 -- a question that isn't about marks is the one of a restart without them
 abbrev said_in : ℕ → Body → Message

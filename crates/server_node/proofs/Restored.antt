@@ -104,10 +104,10 @@ module _ {S : Type 0} (service : Machine S) (node : Node) where
         spelled = all.spelled;
       }
 
-  counted : (f : Fetched) (fetched : List Fetched) (b : Bool) → f.head.done ≡ b → restored_count (f ∷ fetched) ≡ length (if not b then f ∷ filter (λ x. not x.head.done) fetched else filter (λ x. not x.head.done) fetched)
+  pub counted : (f : Fetched) (fetched : List Fetched) (b : Bool) → f.head.done ≡ b → restored_count (f ∷ fetched) ≡ length (if not b then f ∷ filter (λ x. not x.head.done) fetched else filter (λ x. not x.head.done) fetched)
   counted f fetched b e = ap (λ d. length (if not d then f ∷ filter (λ x. not x.head.done) fetched else filter (λ x. not x.head.done) fetched)) e
 
-  plus_one : (n : ℕ) → n + 1 ≡ suc n
+  pub plus_one : (n : ℕ) → n + 1 ≡ suc n
   plus_one n = omega arith
 
   -- one that is done has its slot as ended

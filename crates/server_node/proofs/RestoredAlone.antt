@@ -1,14 +1,16 @@
 -- The entries of a restart, each by itself.
-use Rattle.std.proofs.Common.{◌≡◌, ◌∙◌, Bool, true, false, refl, sym, ap, subst, true≢false, List, [], ◌∷◌, ◌++◌, append_assoc, append-nil, Some, None, if◌then◌else◌}
+use Rattle.std.proofs.Common.{◌≡◌, ◌∙◌, ◌+◌, ◌%◌, ◌^◌, Bool, true, false, refl, sym, ap, ap₂, subst, true≢false, List, [], ◌∷◌, ◌++◌, append_assoc, append-nil, Some, None, if◌then◌else◌}
 use Rattle.std.specs.List.{AllByRecursion}
 use Rattle.std.specs.Map.{lookup}
 use Rattle.std.proofs.lemmas.Bool.{or_parts, or_right}
+use Rattle.std.proofs.lemmas.List.{map-append}
 use Rattle.ft_io.specs.declared.Key.{Key}
 use Rattle.ft_io.specs.Key.{key_eq}
 use Rattle.server_trait.specs.Service.{Machine}
-use Rattle.ft_model.specs.Lawful.{restored}
+use Rattle.ft_model.specs.Lawful.{restored, restored_count}
 use Rattle.ft_model.specs.Node.{Node}
 use Rattle.ft_model.specs.Node.Place.{Lives, Ended}
+use Rattle.ft_model.specs.Opening.{initial_number}
 use Rattle.ft_model.specs.Restart.{Fetched, IsSoundEntry, entry_in, is_fetched, point_of}
 use Rattle.ft_model.specs.Wire.{Wire}
 use Rattle.ft_model.proofs.Keys.{key_eq_turns}
@@ -17,12 +19,15 @@ use Rattle.node_serving.specs.declared.serving.Serving.{Serving}
 use Rattle.node_serving.specs.declared.slot.Slot.{Slot}
 use Rattle.node_serving.specs.declared.slot.Slot.TheVariants as slot
 use Rattle.node_serving.specs.Alone.{slot_of, StandsFor}
+use Rattle.node_serving.specs.Clients.{known_as, known_in}
+use Rattle.node_serving.specs.Clients.Known.{Is_connected}
+use Rattle.node_serving.proofs.Admitted.{next_number}
 use Rattle.server_node.specs.Restarts.{IsRestorable, KeyRevives, IsForFetched, RestoredAlone}
 use Rattle.server_node.specs.RestartEnd.{SlotRevives}
 use Rattle.node_serving.specs.Ownership.{of_key, IsFor, IsOnlyFor}
 use Rattle.node_serving.proofs.Found.{other_last, found_last}
 use Rattle.node_serving.proofs.Keyed.{none_of, quiet_for, told_is, told_its}
-use Rattle.server_node.proofs.Restored.{behind_others}
+use Rattle.server_node.proofs.Restored.{behind_others, counted, plus_one}
 use Rattle.node_serving.proofs.Ticked.{of_both}
 
 -- a key that isn't fetched is none of these
@@ -43,16 +48,23 @@ silent_fetched key fetched (w ∷ ws) fresh whose = one whose.0 (silent_fetched 
 
 module _ {S : Type 0} (service : Machine S) (node : Node) where
   -- before any
-  pub none_restored : (now : Serving S) (told : List Wire) → now.slots.entries ≡ [] → RestoredAlone service node [] now told told
-  none_restored now told none = record { told = []; put = sym (append-nil told); each = tt; others = λ key e. ap (lookup (key_eq key)) none; whose = tt }
+  pub none_restored : (now : Serving S) (told : List Wire) → now.next.0 ≡ initial_number node.isn 0 → now.slots.entries ≡ [] → RestoredAlone service node [] now told told
+  none_restored now told number none = record {
+    told = [];
+    put = sym (append-nil told);
+    each = tt;
+    others = λ key e. ap (lookup (key_eq key)) none;
+    whose = tt;
+    known = record { number = number; known = ap known_in none };
+  }
 
   -- an entry more, the newest
   more_restored : (f : Fetched) (fetched : List Fetched) (before after : Serving S) (now : Slot S) (old mid new : List Wire) → is_fetched f.head.key fetched ≡ false
       → RestoredAlone service node fetched before old mid → IsOnlyFor f.head.key mid new
       → (IsRestorable service f → SlotRevives service node f.head.key (restored service f) now mid new)
       → (lookup (key_eq f.head.key) before.slots.entries ≡ None → after.slots.entries ≡ before.slots.entries ++ (f.head.key, now) ∷ [])
-      → RestoredAlone service node (f ∷ fetched) after old new
-  more_restored f fetched before after now old mid new fresh r p revives added = record {
+      → after.next.0 ≡ initial_number node.isn (restored_count (f ∷ fetched)) → known_as now ≡ Is_connected → RestoredAlone service node (f ∷ fetched) after old new
+  more_restored f fetched before after now old mid new fresh r p revives added number kind = record {
     told = r.told ++ p.told;
     put = p.put ∙ (ap (λ ws. ws ++ p.told) r.put ∙ append_assoc old r.told p.told);
     each = (
@@ -66,6 +78,11 @@ module _ {S : Type 0} (service : Machine S) (node : Node) where
     whose = all_append (IsForFetched (f ∷ fetched)) r.told p.told
         (all_weaker (IsForFetched fetched) (IsForFetched (f ∷ fetched)) r.told (λ w (k, there, its). (k, or_right (key_eq f.head.key k) (is_fetched k fetched) there, its)) r.whose)
         (all_weaker (IsFor f.head.key) (IsForFetched (f ∷ fetched)) p.told (λ w its. (f.head.key, or_left (key_eq f.head.key f.head.key) (is_fetched f.head.key fetched) (key_is f.head.key), its)) p.alone);
+    known = record {
+      number = number;
+      known = ap known_in is ∙ (map-append (λ (e : Key × Slot S). (e.0, known_as e.1)) before.slots.entries ((f.head.key, now) ∷ [])
+          ∙ ap₂ (λ xs k. xs ++ (f.head.key, k) ∷ []) r.known.known kind);
+    };
   }
     where
       none : lookup (key_eq f.head.key) before.slots.entries ≡ None
@@ -104,24 +121,28 @@ module _ {S : Type 0} (service : Machine S) (node : Node) where
 
   -- one that is done, ..
   pub ended_alone : (f : Fetched) (fetched : List Fetched) (key : Key) (before after : Serving S) (old mid : List Wire) → f.head.done ≡ true → key ≡ f.head.key → is_fetched f.head.key fetched ≡ false
-      → RestoredAlone service node fetched before old mid
+      → RestoredAlone service node fetched before old mid → after.next.0 ≡ before.next.0
       → (lookup (key_eq key) before.slots.entries ≡ None → after.slots.entries ≡ before.slots.entries ++ (key, slot.Done) ∷ [])
       → RestoredAlone service node (f ∷ fetched) after old mid
-  ended_alone f fetched key before after old mid done is fresh r added =
+  ended_alone f fetched key before after old mid done is fresh r same added =
       let place : restored service f ≡ Ended f.head.key = ap (λ b. if b then Ended f.head.key else Lives (point_of service (entry_in f))) done in
       more_restored f fetched before after slot.Done old mid mid fresh r (quiet_for f.head.key mid)
       (λ ok. subst (λ p. SlotRevives service node f.head.key p slot.Done mid mid) (sym place)
       (record { after = Ended f.head.key; packets = []; stands = refl; turn = (refl, refl); wires = sym (append-nil mid); spelled = tt }))
       (subst (λ k. lookup (key_eq k) before.slots.entries ≡ None → after.slots.entries ≡ before.slots.entries ++ (k, slot.Done) ∷ []) is added)
+      (same ∙ (r.known.number ∙ ap (initial_number node.isn) (sym (counted service node f fetched true done)))) refl
 
   -- .. and one that isn't
   pub live_alone : (f : Fetched) (fetched : List Fetched) (key : Key) (before after : Serving S) (now : Slot S) (old mid new : List Wire) → f.head.done ≡ false → key ≡ f.head.key
       → is_fetched f.head.key fetched ≡ false → RestoredAlone service node fetched before old mid → IsOnlyFor key mid new
       → (IsSoundEntry service (entry_in f) → SlotRevives service node f.head.key (Lives (point_of service (entry_in f))) now mid new)
+      → after.next.0 ≡ (before.next.0 + 65536) % 2 ^ 32 → known_as now ≡ Is_connected
       → (lookup (key_eq key) before.slots.entries ≡ None → after.slots.entries ≡ before.slots.entries ++ (key, now) ∷ [])
       → RestoredAlone service node (f ∷ fetched) after old new
-  live_alone f fetched key before after now old mid new live is fresh r p revives added =
+  live_alone f fetched key before after now old mid new live is fresh r p revives next kind added =
       let place : restored service f ≡ Lives (point_of service (entry_in f)) = ap (λ b. if b then Ended f.head.key else Lives (point_of service (entry_in f))) live in
       more_restored f fetched before after now old mid new fresh r (subst (λ k. IsOnlyFor k mid new) is p)
       (λ ok. subst (λ q. SlotRevives service node f.head.key q now mid new) (sym place) (revives (ok live)))
       (subst (λ k. lookup (key_eq k) before.slots.entries ≡ None → after.slots.entries ≡ before.slots.entries ++ (k, now) ∷ []) is added)
+      (next ∙ (ap (λ n. (n + 65536) % 2 ^ 32) r.known.number ∙ (next_number node.isn (restored_count fetched)
+      ∙ ap (initial_number node.isn) (plus_one service node (restored_count fetched) ∙ sym (counted service node f fetched false live))))) kind

@@ -134,7 +134,7 @@ module _ {S : Type 0} (service : Machine S) (who : Identity) where
       go (Some w) is e p = absurd (true≢false e)
       go None is e p = (
         is,
-        record { told = r.told; put = r.put ∙ ap (λ ws. ws ++ r.told) (p.wires ∙ append-nil old); each = r.each; others = r.others; whose = r.whose },
+        record { told = r.told; put = r.put ∙ ap (λ ws. ws ++ r.told) (p.wires ∙ append-nil old); each = r.each; others = r.others; whose = r.whose; known = r.known },
       )
 
   -- a message that answers nothing changes nothing, and an answer leads on, whatever the entries are

@@ -1,12 +1,16 @@
 -- A turn of a node in each stage, as those have it whom its input isn't about.
 use Rattle.std.proofs.Common.{◌≡◌, ◌∙◌, ◌<◌, ◌^◌, ℕ, false, ◌&&◌, ◌==◌, refl, sym, ap, subst, Option, Some, None, MatchOption, List, [], ◌++◌, eq-eqb, if◌then◌else◌}
 use Rattle.std.specs.List.{AllByRecursion}
+use Rattle.std.proofs.lemmas.Bool.{and_parts}
 use Rattle.ft_io.specs.declared.Key.{Key}
+use Rattle.ft_io.specs.Key.{key_eq}
 use Rattle.seq_arith.specs.Message.{Message}
+use Rattle.seq_arith.specs.Packet.{Segment}
 use Rattle.server_trait.specs.Service.{Machine}
 use Rattle.ft_model.specs.Node as law
 use Rattle.ft_model.specs.Lawful.{count_told, summary_count, fetched_then}
-use Rattle.ft_model.specs.Node.{Node}
+use Rattle.ft_model.specs.Network.{source_of}
+use Rattle.ft_model.specs.Node.{Node, is_for}
 use Rattle.ft_model.specs.Restart.{wanted, fetched_after}
 use Rattle.ft_model.specs.Node.Input.{Packet_comes, Message_comes, Noise_comes, Tick_comes}
 use Rattle.ft_model.specs.ServingTurn.{concerns, names}
@@ -16,8 +20,9 @@ use Rattle.node_serving.specs.declared.identity.Identity.{Identity}
 use Rattle.node_serving.specs.declared.serving.Serving.{Serving}
 use Rattle.server_node.specs.declared.stage.Stage.{Stage}
 use Rattle.server_node.specs.declared.stage.Stage.TheVariants as stage
-use Rattle.node_serving.specs.Alone.{LeavesOthers, ServesAlone, GoAlone}
-use Rattle.server_node.specs.StageAlone.{HoldsOthers, Others, Alone, IsUntouched}
+use Rattle.node_serving.specs.Alone.{IsForSubject, LeavesOthers, ServesAlone, GoAlone}
+use Rattle.node_serving.specs.Clients.{Clients, known_after, Knows, KnowsOn}
+use Rattle.server_node.specs.StageAlone.{HoldsOthers, Others, Alone, IsUntouched, KnowsTurn}
 use Rattle.server_node.specs.Apart.{TurnsApart}
 use Rattle.node_serving.specs.Identity.{node_of}
 use Rattle.server_node.specs.Restarts.{Restarts, RestartGoes, MessageRestarts}
@@ -25,6 +30,7 @@ use Rattle.server_node.specs.Stages.{IsSoundStage}
 use Rattle.node_serving.specs.Ownership.{IsFor, IsOnlyFor}
 use Rattle.node_serving.proofs.MarkedApart.{rests_key}
 use Rattle.node_serving.proofs.Knocking.{counted_by}
+use Rattle.ft_model.proofs.Lists.{same_key, all_weaker}
 
 module _ {S : Type 0} (service : Machine S) (node : Node) (input : law.Input) (was now : Serving S) (old new : List Wire) (first : old ≡ []) (s : ServesAlone service node input was now old new) where
   all_told : new ≡ s.told
@@ -38,6 +44,19 @@ module _ {S : Type 0} (service : Machine S) (node : Node) (input : law.Input) (w
 
 pub only_for : (key : Key) (old new : List Wire) → old ≡ [] → IsOnlyFor key old new → AllByRecursion (IsFor key) new
 only_for key old new first put = subst (AllByRecursion (IsFor key)) (sym (put.put ∙ ap (λ o. o ++ put.told) first)) put.alone
+
+-- a packet makes a node that serves send only what is its client's
+pub only_its_senders : {S : Type 0} (node : Node) (segment : Segment) (was : Serving S) (now : Stage S) (sent : List Wire) → Others node (Packet_comes segment) (stage.Serving was) now sent
+    → AllByRecursion (IsFor (source_of segment)) sent
+only_its_senders node segment was (stage.Serving now) sent others = all_weaker (IsForSubject node (Packet_comes segment)) (IsFor (source_of segment)) sent one others.whose
+  where
+    one : (w : Wire) → IsForSubject node (Packet_comes segment) w → IsFor (source_of segment) w
+    one w (key, about, its) =
+        subst (λ k. IsFor k w) (sym (same_key (source_of segment) key (and_parts (is_for node.server segment) (key_eq (source_of segment) key) about).1)) its
+only_its_senders node segment was (stage.Fetching f) sent others = absurd others
+only_its_senders node segment was stage.Asking sent others = absurd others
+only_its_senders node segment was (stage.Marked m) sent others = absurd others
+only_its_senders node segment was stage.Lost sent others = absurd others
 
 -- an input that is about no key changes nothing
 noise_holds : {S : Type 0} (input : law.Input) (f : FetchingState S) → HoldsOthers input f (stage.Fetching f) []
@@ -75,27 +94,48 @@ module _ {S : Type 0} (service : Machine S) (who : Identity) (input : law.Input)
   pub serving_apart : (was now : Serving S) (old new : List Wire) → old ≡ [] → ((standing : law.Stage) → ServesAlone service (node_of who standing) input was now old new)
       → ((standing : law.Stage) → IsUntouched (node_of who standing) input (stage.Serving was) (stage.Serving now) new)
       → ((standing : law.Stage) → Restarts service (node_of who standing) input (stage.Serving was) (stage.Serving now) new)
+      → ((standing : law.Stage) → KnowsOn (node_of who standing) input was now)
       → TurnsApart service who input (stage.Serving was) (stage.Serving now) new
-  serving_apart was now old new first alone untouched restarts = record {
+  serving_apart was now old new first alone untouched restarts known = record {
     others = λ standing. serving_others service (node_of who standing) input was now old new first (alone standing);
     untouched = untouched;
     alone = λ standing. serving_alone service (node_of who standing) input was now old new first (alone standing);
     restarts = restarts;
+    known = known;
   }
 
   -- an input that is for no key leaves everything as it is
   pub rest_apart : (at : Stage S) → who.isn < 2 ^ 32 → IsSoundStage who at → ((standing : law.Stage) (key : Key) → concerns (node_of who standing) input key ≡ false)
-      → ((standing : law.Stage) → Restarts service (node_of who standing) input at at []) → TurnsApart service who input at at []
-  rest_apart at low sound none restarts = record {
+      → ((standing : law.Stage) → Restarts service (node_of who standing) input at at []) → ((standing : law.Stage) → KnowsTurn (node_of who standing) input at at)
+      → TurnsApart service who input at at []
+  rest_apart at low sound none restarts known = record {
     others = λ standing. rest_others (node_of who standing) input at;
     untouched = λ standing. rest_untouched (node_of who standing) input at;
     alone = λ standing. rest_alone service who standing input at low sound (none standing);
     restarts = restarts;
+    known = known;
   }
 
 -- so does a message of another boot
 pub other_boot : (node : Node) (message : Message) → (message.boot == node.boot) ≡ false → (key : Key) → concerns node (Message_comes message) key ≡ false
 other_boot node message other key = ap (λ b. b && names message.body key) other
+
+-- neither noise nor such a message opens anything, or ends an opening
+pub noise_knows : {S : Type 0} (node : Node) (at : Stage S) → KnowsTurn node Noise_comes at at
+noise_knows node (stage.Serving s) = λ clients k. k
+noise_knows node (stage.Fetching f) = tt
+noise_knows node stage.Asking = tt
+noise_knows node (stage.Marked m) = tt
+noise_knows node stage.Lost = tt
+
+pub other_knows : {S : Type 0} (node : Node) (message : Message) (at : Stage S) → (message.boot == node.boot) ≡ false → KnowsTurn node (Message_comes message) at at
+other_knows node message (stage.Serving s) other = λ clients k.
+    let after : Clients = record { opened = clients.opened; known = known_after message.body clients.known } in
+    subst (λ b. Knows node (if b then after else clients) s) (sym other) k
+other_knows node message (stage.Fetching f) other = tt
+other_knows node message stage.Asking other = tt
+other_knows node message (stage.Marked m) other = tt
+other_knows node message stage.Lost other = tt
 
 -- where a message leads nothing on, nothing changes
 rests_if_none : {X S : Type 0} (o : Option X) (was now : Stage S) (sent : List Wire) (Goes : X → Type 0) → o ≡ None → now ≡ was → sent ≡ []

@@ -16,6 +16,7 @@ use Rattle.node_serving.specs.declared.slot.Slot.{Slot}
 use Rattle.server_node.specs.declared.stage.Stage.{Stage}
 use Rattle.server_node.specs.declared.stage.Stage.TheVariants as stage
 use Rattle.node_serving.specs.Alone.{slot_of, StandsFor}
+use Rattle.node_serving.specs.Clients.{Knows, clients_restored}
 use Rattle.server_node.specs.FetchStage.{FetchingStands}
 use Rattle.node_serving.specs.SentBytes.{ArePut}
 use Rattle.node_serving.specs.Ownership.{of_key, IsFor}
@@ -38,13 +39,14 @@ pub record KeyRevives {S : Type 0} (service : Machine S) (node : Node) (f : Fetc
 abbrev pub IsForFetched : List Fetched → Wire → Type 0
 IsForFetched fetched wire = (key : Key) × (is_fetched key fetched ≡ true) × IsFor key wire
 
--- these entries have had their first turn, each by itself, and no other key has a slot or a packet
+-- these entries have had their first turn, each by itself, and no other key has a slot or a packet. The node knows the clients of these entries
 pub record RestoredAlone {S : Type 0} (service : Machine S) (node : Node) (fetched : List Fetched) (now : Serving S) (old new : List Wire) : Type 0 where
   pub told : List Wire
   pub put : new ≡ old ++ told
   pub each : AllByRecursion (λ f. IsRestorable service f → KeyRevives service node f (slot_of f.head.key now) told) fetched
   pub others : (key : Key) → is_fetched key fetched ≡ false → slot_of key now ≡ None
   pub whose : AllByRecursion (IsForFetched fetched) told
+  pub known : Knows node (clients_restored fetched) now
 
 -- the restart asks for what is missing next
 pub record StillAsks {S : Type 0} (service : Machine S) (node : Node) (count : ℕ) (fetched : List Fetched) (now : FetchingState S) (old new : List Wire) : Type 0 where

@@ -13,6 +13,7 @@ use Rattle.server_node.specs.declared.stage.Stage.{Stage}
 use Rattle.server_node.specs.declared.stage.Stage.TheVariants as stage
 use Rattle.node_serving.specs.Ownership.{IsFor}
 use Rattle.node_serving.specs.Alone.{slot_of, LeavesOthers, GoAlone}
+use Rattle.node_serving.specs.Clients.{KnowsOn}
 
 -- a node that doesn't serve has nothing
 abbrev pub slot_in : {S : Type 0} → Key → Stage S → Option (Slot S)
@@ -35,6 +36,12 @@ abbrev pub Alone : {S : Type 0} → Machine S → Node → Input → (was now : 
 Alone service node input (stage.Serving was) (stage.Serving now) sent = GoAlone service node input was now sent
 Alone service node input (stage.Serving was) _ sent = ⊥
 Alone service node input _ _ sent = Unit {0}
+
+-- while it serves, what it knows of its clients and their openings follows from what arrives. Of a node that marks nothing is said
+abbrev pub KnowsTurn : {S : Type 0} → Node → Input → (was now : Stage S) → Type 0
+KnowsTurn node input (stage.Serving was) (stage.Serving now) = KnowsOn node input was now
+KnowsTurn node input (stage.Serving was) _ = ⊥
+KnowsTurn node input _ _ = Unit {0}
 
 -- what arrives is for nobody here: bytes that spell nothing, a packet for another server, a message of another boot
 abbrev pub is_for_nobody : Node → Input → Bool

@@ -1,13 +1,17 @@
 //! Wrong results that the contracts of this crate exclude. Each function calls another one of the crate, and promises of its result what a wrong body would make
 //! false. It is proved from the other's contract alone, so it is no longer proved once that contract lets the wrong body pass.
 
-ghost use Rattle.std.specs.Prelude.{◌≡◌, ◌≢◌, ◌≤◌, [], List, None, false, IfOk, OnOk};
+ghost use Rattle.std.specs.Prelude.{◌≡◌, ◌≢◌, ◌≤◌, [], List, Ok, None, false, IfOk, OnOk};
+ghost use Rattle.std.specs.List.{AllByRecursion};
 ghost use Rattle.std.specs.Map.{lookup};
 ghost use Rattle.ft_io.specs.Key.{key_eq};
+ghost use Rattle.seq_arith.specs.PacketGrammar.{reading};
+ghost use Rattle.segment_codec.specs.Value.{segment_of};
 ghost use Rattle.logger_wire.specs.Value.{IsSendable};
 ghost use Rattle.reincarnate.specs.Questions.{asked};
 ghost use Rattle.reincarnate.specs.Refinement.{RestoredIs};
 ghost use Rattle.ft_model.specs.Lawful.{restored_count};
+ghost use Rattle.ft_model.specs.Network.{source_of};
 ghost use Rattle.ft_model.specs.Node.{Stage as Standing};
 ghost use Rattle.ft_model.specs.Opening.{initial_number};
 ghost use Rattle.ft_model.specs.Restart.{Fetched, IsSoundEntry, entry_in, is_fetched};
@@ -17,16 +21,19 @@ ghost use Rattle.node_serving.specs.Identity.{node_of, service_of};
 ghost use Rattle.node_serving.specs.Loan.{conn_in};
 ghost use Rattle.server_node.specs.RestartEnd.{AreRestored};
 ghost use Rattle.server_node.specs.RestartNumbers.{IsNumbered};
+ghost use Rattle.node_serving.specs.Ownership.{IsFor};
 ghost use Rattle.node_serving.specs.Slots.{AllSound};
+ghost use Rattle.server_node.specs.Stages.{IsSoundStage};
 
 use crate::input::TurnEnd;
 use crate::restarting::ask;
 use crate::reviving::restore;
-use crate::stage::{Stage, hear, newer_than};
+use crate::stage::{Stage, hear, newer_than, on_packet};
 use ft_io::NoMemory;
 use logger_wire::{Body, Msg};
 use node_serving::{Identity, Serving, Turn};
 use reincarnate::{Fetching, Restored};
+use segment_codec::PacketRef;
 use server_trait::{Saved, Service};
 
 /// A Stale that names a smaller boot number fences no server: the contract of `newer_than`.
@@ -79,4 +86,22 @@ fn uses_a_message_of_another_boot<S: Saved>(
     ensures { IfOk result (λ after. (after ≡ Stage.Asking) × (turn.new.sent.items ≡ [])) }
 {
     hear(who, Stage::Asking, m, turn)
+}
+
+/// While a node serves, a packet of one client makes it send nothing to another client, and nothing about another to the logger: the clause `apart` of
+/// `on_packet`.
+fn sends_another_clients_segment<S: Saved>(
+    who: Identity,
+    serving: Serving<S>,
+    segment: &PacketRef<'_>,
+    packet: &[u8],
+    turn: &mut Turn,
+) -> Result<Stage<S>, NoMemory>
+    requires boot { 1 ≤ who.boot }
+    requires read { reading packet.now ≡ Ok (segment_of segment.now) }
+    requires sound { IsSoundStage who (Stage.Serving serving) }
+    requires empty { turn.old.sent.items ≡ [] }
+    ensures { IfOk result (λ after. AllByRecursion (IsFor (source_of (segment_of segment.now))) turn.new.sent.items) }
+{
+    on_packet(who, Stage::Serving(serving), segment, packet, turn)
 }

@@ -1,6 +1,8 @@
 //! The turn that ends a restart: every entry of the log gets its slot, in the log's order, and those that aren't done become live.
 
-ghost use Rattle.std.specs.Prelude.{◌≤◌, IfOk, OnOk};
+ghost use Rattle.std.specs.Prelude.{◌≡◌, ◌≤◌, IfOk, OnOk};
+ghost use Rattle.node_serving.specs.Clients.{known_as};
+ghost use Rattle.node_serving.specs.Clients.Known.{Is_connected};
 ghost use Rattle.node_serving.specs.Openings.{IsCounted};
 ghost use Rattle.server_node.specs.RestartTurns.{LogRevives, LogRevivesAlone, EntryRevives, EntryRevivesAlone, SlotRevivesFrom, IsNumberedFrom};
 ghost use Rattle.node_serving.specs.Slots.{AllSound, IsSoundSlot};
@@ -71,6 +73,7 @@ pub(crate) fn revive<S: Service>(
     ensures turn { IfOk result (λ slot. SlotRevivesFrom S.Service who replayed slot turn.old turn.new) }
     ensures number { IfOk result (λ slot. IsNumberedFrom S.Service who replayed isn.0 slot) }
     ensures alone { OnOk result (SendsFor replayed.head.key turn.old turn.new) }
+    ensures known { IfOk result (λ slot. known_as slot ≡ Is_connected) }
     ensures sound { IfOk result (λ slot. IsSoundSlot who replayed.head.key slot) }
 {
     let key = replayed.head().key;

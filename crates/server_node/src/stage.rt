@@ -249,7 +249,7 @@ fn hear_of_mark<S: Saved>(
 }
 
 /// Handles a segment; `packet` has its bytes. Until the logger has said how many entries it has, clients get no answer.
-fn on_packet<S: Saved>(
+pub(crate) fn on_packet<S: Saved>(
     who: Identity,
     stage: Stage<S>,
     segment: &PacketRef<'_>,

@@ -52,7 +52,7 @@ returns-in-Ended-clause-alone g c =
     (λ added standing f fetched first is fresh r.
     let here = subst (RestoredIs service f) c.in-Ended.is is in
     ended_alone service (node_of c.args.who standing) f fetched c.in-Ended.key c.args.serving.now (record { next = c.args.serving.now.next; slots = c.add_slot.new.slots }) first c.args.turn.now.sent.items
-    here.0 here.1 fresh r added) c.add_slot.ensures.added
+    here.0 here.1 fresh r refl added) c.add_slot.ensures.added
 
 pub returns-in_ok-slot-in-Live-clause-alone : goal.returns-in_ok-slot-in-Live-clause-alone
 returns-in_ok-slot-in-Live-clause-alone g c =
@@ -64,5 +64,5 @@ returns-in_ok-slot-in-Live-clause-alone g c =
     let key : c.head.result.key ≡ f.head.key = ap (λ h. h.key) c.head.ensures ∙ ap (λ h. h.key) here.1.head in
     live_alone service (node_of c.args.who standing) f fetched c.head.result.key c.args.serving.now (record { next = c.add-serving.result; slots = c.add_slot-in-Live.new.slots }) c.in_ok-slot-in-Live.slot
     first c.args.turn.now.sent.items c.revive.new.turn.sent.items here.0 key fresh r (subst (λ h. IsOnlyFor h.key c.args.turn.now.sent.items c.revive.new.turn.sent.items) (sym c.head.ensures) alone)
-    (λ sound. c.in_ok-slot-in-Live.ensures.turn standing (entry_in f) here.1 sound) added)
+    (λ sound. c.in_ok-slot-in-Live.ensures.turn standing (entry_in f) here.1 sound) c.add-serving.ensures c.in_ok-slot-in-Live.ensures.known added)
     c.add_slot-in-Live.ensures.added

@@ -23,7 +23,7 @@ loop-entry-init g c =
           (restored_none service (node_of c.args.who standing) (record { next = record { 0 = c.args.who.isn }; slots = c.new.result }) c.args.turn.now.sent.items number c.new.ensures.empty),
       λ standing fetched st distinct. restores_none service (RestoredAlone service (node_of c.args.who standing)) fetched c.args.entries
           (record { next = record { 0 = c.args.who.isn }; slots = c.new.result }) c.args.turn.now.sent.items st
-          (none_restored service (node_of c.args.who standing) (record { next = record { 0 = c.args.who.isn }; slots = c.new.result }) c.args.turn.now.sent.items c.new.ensures.empty),
+          (none_restored service (node_of c.args.who standing) (record { next = record { 0 = c.args.who.isn }; slots = c.new.result }) c.args.turn.now.sent.items number c.new.ensures.empty),
     )
 
 pub loop-entry-preserved : goal.loop-entry-preserved

@@ -11,7 +11,7 @@ use Rattle.server_node.specs.Apart.{TurnsApart}
 use Rattle.server_node.specs.Inputs.{input_of}
 use Rattle.server_node.specs.StageTurns.{StageTurns, IsUnfenced, IsFenceOf}
 use Rattle.server_node.proofs.Staged.{noise_rests}
-use Rattle.server_node.proofs.StagedApart.{rest_apart}
+use Rattle.server_node.proofs.StagedApart.{rest_apart, noise_knows}
 use Rattle.ft_io.proofs.Choices.{by_cases}
 use Rattle.node_serving.specs.Identity.{node_of}
 use Rattle.server_node.specs.Stages.{is_marked}
@@ -62,7 +62,8 @@ returns-in-Err-clause-apart g c =
     let noise : input_of c.args.input ≡ Noise_comes = ap input_of c.in-Packet.is ∙ ap segment_or_noise (sym c.read_packet.ensures ∙ ap packets.seen c.in-Err.is) in
     subst (λ i. TurnsApart service c.args.who i c.args.stage c.args.stage c.args.turn.now.sent.items) (sym noise)
     (subst (λ xs. TurnsApart service c.args.who Noise_comes c.args.stage c.args.stage xs) (sym c.requires.empty)
-    (rest_apart service c.args.who Noise_comes c.args.stage (search rules) c.requires.sound (λ standing key. refl) (λ standing. tt)))
+    (rest_apart service c.args.who Noise_comes c.args.stage (search rules) c.requires.sound (λ standing key. refl) (λ standing. tt)
+    (λ standing. noise_knows (node_of c.args.who standing) c.args.stage)))
 
 pub returns-in_ok-hear_of_mark-in-Err-read_msg-clause-turn : goal.returns-in_ok-hear_of_mark-in-Err-read_msg-clause-turn
 returns-in_ok-hear_of_mark-in-Err-read_msg-clause-turn g c = λ standing near sound st.

@@ -7,7 +7,7 @@ use Rattle.server_node.specs.Apart.{TurnsApart}
 use Rattle.node_serving.specs.Identity.{node_of}
 use Rattle.server_node.specs.Stages.{NodeGoes}
 use Rattle.server_node.proofs.Staged.{others_message}
-use Rattle.server_node.proofs.StagedApart.{rest_apart, other_boot, other_restarts}
+use Rattle.server_node.proofs.StagedApart.{rest_apart, other_boot, other_restarts, other_knows}
 use Rattle.node_serving.specs.Markers.{saving}
 use Rattle.server_node.proofs.MarkedNodes.{other_turn}
 use Rattle.server_node.proofs.stage.hear.Goals as goal
@@ -44,7 +44,8 @@ returns-then-m-who-clause-apart g c =
     let other : (c.args.m.now.boot == c.args.who.boot) ≡ false = ne_eqb c.args.m.now.boot c.args.who.boot c.if-m-who.true in
     subst (λ xs. TurnsApart service c.args.who (Message_comes message) c.args.stage c.args.stage xs) (sym c.requires.empty)
     (rest_apart service c.args.who (Message_comes message) c.args.stage (search rules) c.requires.sound (λ standing. other_boot (node_of c.args.who standing) message other)
-    (λ standing. other_restarts service (node_of c.args.who standing) message c.args.stage other))
+    (λ standing. other_restarts service (node_of c.args.who standing) message c.args.stage other)
+    (λ standing. other_knows (node_of c.args.who standing) message c.args.stage other))
 
 pub returns-clause-apart : goal.returns-clause-apart
 returns-clause-apart g c = c.in_ok-on_message.ensures.apart c.if-m-who.false

@@ -56,6 +56,7 @@ returns-in-Asking-clause-apart g c = if_ok c.on_summary.result
       others = λ standing. tt;
       untouched = λ standing nobody. absurd (true≢false (sym nobody ∙ ap not (eq-eqb c.args.m.now.boot c.args.who.boot boot)));
       alone = λ standing. tt;
+      known = λ standing. tt;
       restarts = λ standing. h boot standing;
     })) c.on_summary.ensures.restarts
 
@@ -68,6 +69,7 @@ returns-in-Fetching-clause-apart g c = if_ok c.take_answer.result
       others = λ standing. tt;
       untouched = λ standing nobody. absurd (true≢false (sym nobody ∙ ap not (eq-eqb c.args.m.now.boot c.args.who.boot boot)));
       alone = λ standing. tt;
+      known = λ standing. tt;
       restarts = λ standing count fetched st.
           subst (λ xs. AnswerGoes service (node_of c.args.who standing) (message_of c.args.m.now) count fetched c.in-Fetching.fetching after xs c.take_answer.new.turn.sent.items) c.requires.empty
           (h standing count fetched st);
@@ -77,9 +79,10 @@ pub returns-in_ok-serve_message-in-Serving-clause-apart : goal.returns-in_ok-ser
 returns-in_ok-serve_message-in-Serving-clause-apart g c = λ boot.
     let service = machine (g.S.Service.started c.args.who.kind) g.S.Service.after in
     let told = rw c.in_ok-serve_message-in-Serving.was at c.serve_message.ensures.alone in
+    let known = rw c.in_ok-serve_message-in-Serving.was at c.serve_message.ensures.known in
     subst (λ s. TurnsApart service c.args.who (Message_comes (message_of c.args.m.now)) s (stage.Serving c.serve_message.new.serving) c.serve_message.new.turn.sent.items) (sym c.in-Serving.is)
     (serving_apart service c.args.who (Message_comes (message_of c.args.m.now)) c.in-Serving.serving c.serve_message.new.serving c.args.turn.now.sent.items c.serve_message.new.turn.sent.items
-    c.requires.empty (told boot) (λ standing nobody. absurd (true≢false (sym nobody ∙ ap not (eq-eqb c.args.m.now.boot c.args.who.boot boot)))) (λ standing. tt))
+    c.requires.empty (told boot) (λ standing nobody. absurd (true≢false (sym nobody ∙ ap not (eq-eqb c.args.m.now.boot c.args.who.boot boot)))) (λ standing. tt) (known boot))
 
 pub returns-in_ok-hear-in-Marked-clause-turn : goal.returns-in_ok-hear-in-Marked-clause-turn
 returns-in_ok-hear-in-Marked-clause-turn g c = λ boot unfenced standing near sound st.

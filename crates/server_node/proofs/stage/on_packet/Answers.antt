@@ -52,7 +52,7 @@ pub returns-in-Asking-clause-apart : goal.returns-in-Asking-clause-apart
 returns-in-Asking-clause-apart g c =
     let input = Packet_comes (segment_of c.args.segment.now) in
     subst (λ s. TurnsApart (machine (g.S.Service.started c.args.who.kind) g.S.Service.after) c.args.who input s stage.Asking c.args.turn.now.sent.items) (sym c.in-Asking.is)
-    (record { others = λ standing. tt; untouched = λ standing nobody. (refl, c.requires.empty); alone = λ standing. tt; restarts = λ standing. tt })
+    (record { others = λ standing. tt; untouched = λ standing nobody. (refl, c.requires.empty); alone = λ standing. tt; restarts = λ standing. tt; known = λ standing. tt })
 
 pub returns-in_ok-hold-in-Fetching-clause-apart : goal.returns-in_ok-hold-in-Fetching-clause-apart
 returns-in_ok-hold-in-Fetching-clause-apart g c =
@@ -65,6 +65,7 @@ returns-in_ok-hold-in-Fetching-clause-apart g c =
       untouched = λ standing nobody. (refl, silent (not_true (is_for c.args.who.local segment) nobody) ∙ c.requires.empty);
       alone = λ standing. tt;
       restarts = λ standing. tt;
+      known = λ standing. tt;
     })
 
 pub returns-in_ok-serve_bytes-in-Serving-clause-apart : goal.returns-in_ok-serve_bytes-in-Serving-clause-apart
@@ -73,11 +74,12 @@ returns-in_ok-serve_bytes-in-Serving-clause-apart g c =
     let segment = segment_of c.args.segment.now in
     let alone = rw c.in_ok-serve_bytes-in-Serving.was at c.serve_bytes.ensures.alone in
     let untouched = rw c.in_ok-serve_bytes-in-Serving.was at c.serve_bytes.ensures.untouched in
+    let known = rw c.in_ok-serve_bytes-in-Serving.was at c.serve_bytes.ensures.known in
     subst (λ s. TurnsApart service c.args.who (Packet_comes segment) s (stage.Serving c.serve_bytes.new.serving) c.serve_bytes.new.turn.sent.items) (sym c.in-Serving.is)
     (serving_apart service c.args.who (Packet_comes segment) c.in-Serving.serving c.serve_bytes.new.serving c.args.turn.now.sent.items c.serve_bytes.new.turn.sent.items c.requires.empty alone
     (λ standing nobody.
     let same = untouched (not_true (is_for c.args.who.local segment) nobody) in
-    (ap stage.Serving same.0, same.1 ∙ c.requires.empty)) (λ standing. tt))
+    (ap stage.Serving same.0, same.1 ∙ c.requires.empty)) (λ standing. tt) known)
 
 pub returns-in_ok-give-in-Marked-clause-turn : goal.returns-in_ok-give-in-Marked-clause-turn
 returns-in_ok-give-in-Marked-clause-turn g c = λ standing near sound st.

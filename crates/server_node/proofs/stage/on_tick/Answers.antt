@@ -48,20 +48,21 @@ returns-in_ok-ask-in-Fetching-clause-turn g c = λ standing near sound st.
 pub returns-in_ok-send_hello-in-Asking-clause-apart : goal.returns-in_ok-send_hello-in-Asking-clause-apart
 returns-in_ok-send_hello-in-Asking-clause-apart g c =
     subst (λ s. TurnsApart (machine (g.S.Service.started c.args.who.kind) g.S.Service.after) c.args.who Tick_comes s stage.Asking c.send_hello.new.turn.sent.items) (sym c.in-Asking.is)
-    (record { others = λ standing. tt; untouched = λ standing nobody. absurd (true≢false (sym nobody)); alone = λ standing. tt; restarts = λ standing. tt })
+    (record { others = λ standing. tt; untouched = λ standing nobody. absurd (true≢false (sym nobody)); alone = λ standing. tt; restarts = λ standing. tt; known = λ standing. tt })
 
 pub returns-in_ok-ask-in-Fetching-clause-apart : goal.returns-in_ok-ask-in-Fetching-clause-apart
 returns-in_ok-ask-in-Fetching-clause-apart g c =
     subst (λ s. TurnsApart (machine (g.S.Service.started c.args.who.kind) g.S.Service.after) c.args.who Tick_comes s (stage.Fetching c.in-Fetching.fetching) c.ask.new.turn.sent.items) (sym c.in-Fetching.is)
-    (record { others = λ standing. tt; untouched = λ standing nobody. absurd (true≢false (sym nobody)); alone = λ standing. tt; restarts = λ standing. tt })
+    (record { others = λ standing. tt; untouched = λ standing nobody. absurd (true≢false (sym nobody)); alone = λ standing. tt; restarts = λ standing. tt; known = λ standing. tt })
 
 pub returns-in_ok-serve_tick-in-Serving-clause-apart : goal.returns-in_ok-serve_tick-in-Serving-clause-apart
 returns-in_ok-serve_tick-in-Serving-clause-apart g c =
     let service = machine (g.S.Service.started c.args.who.kind) g.S.Service.after in
     let told = rw c.in_ok-serve_tick-in-Serving.was at c.serve_tick.ensures.alone in
+    let known = rw c.in_ok-serve_tick-in-Serving.was at c.serve_tick.ensures.known in
     subst (λ s. TurnsApart service c.args.who Tick_comes s (stage.Serving c.serve_tick.new.serving) c.serve_tick.new.turn.sent.items) (sym c.in-Serving.is)
     (serving_apart service c.args.who Tick_comes c.in-Serving.serving c.serve_tick.new.serving c.args.turn.now.sent.items c.serve_tick.new.turn.sent.items c.requires.empty told
-    (λ standing nobody. absurd (true≢false (sym nobody))) (λ standing. tt))
+    (λ standing nobody. absurd (true≢false (sym nobody))) (λ standing. tt) known)
 
 pub returns-in_ok-tick-in-Marked-clause-turn : goal.returns-in_ok-tick-in-Marked-clause-turn
 returns-in_ok-tick-in-Marked-clause-turn g c = λ standing near sound st.
