@@ -14,4 +14,5 @@ pub mod MarkedStage
 pub mod MarkedRestored
 pub mod MarkedFetch
 pub mod MarkedInputs
+pub mod MarkedApart
 pub mod MarkedNodes

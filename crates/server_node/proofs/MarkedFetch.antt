@@ -10,7 +10,7 @@ use Rattle.seq_arith.specs.Mark.MarkBody.{MarkMsg, MarkedMsg, AskMsg, HeldMsg}
 use Rattle.seq_arith.specs.Message.{Message, Body}
 use Rattle.seq_arith.specs.Message.Body.{HelloMsg, EntryMsg, PartMsg, LensMsg}
 use Rattle.seq_arith.specs.Packet.{Segment}
-use Rattle.server_trait.specs.Service.{Served, AreBytes}
+use Rattle.server_trait.specs.Service.{Machine, Served, AreBytes}
 use Rattle.ft_model.specs.Connection.{told_by}
 use Rattle.ft_model.specs.Lawful.{AreSound, StageTurn, Rests, Fetches, Continues as PlainContinues, asked, held, count_told, summary_count, fence, fetched_then, restored_count}
 use Rattle.ft_model.specs.Node.{Node, Place, Input, Stage as law_stage, place_at}
@@ -38,14 +38,16 @@ use Rattle.conn_marks.specs.MarkSends.{AreOut}
 use Rattle.conn_marks.specs.Settled.{Keeps}
 use Rattle.node_serving.specs.declared.identity.Identity.{Identity}
 use Rattle.server_node.specs.declared.marked.Marked.{Marked}
+use Rattle.server_node.specs.declared.marked.MarkedStage.{MarkedStage}
 use Rattle.server_node.specs.declared.marked.MarkedStage.TheVariants as marked
 use Rattle.node_serving.specs.declared.serving.Serving.{Serving as CodeServing}
 use Rattle.conn_marks.proofs.MarkWires.{plain_out}
 use Rattle.server_node.specs.FetchStage.{AreDistinct, FetchingStands}
 use Rattle.node_serving.specs.SentBytes.{ArePut}
 use Rattle.node_serving.specs.Identity.{node_of}
+use Rattle.server_node.specs.MarkedNumbers.{AllNumberedAt, entries_of}
 use Rattle.server_node.specs.MarkedRestart.{AllBytes, AreRestoredMarked}
-use Rattle.server_node.specs.MarkedTurns.{FetchingStandsMarked, MarkedStands, GoesOn, IsFairTo, IsSoundStart, IsUnfencedMarked, Notes, marking_noted, BodyBytes, IsPartBytes, SendsQuestion, input_of_any}
+use Rattle.server_node.specs.MarkedTurns.{FetchingStandsMarked, MarkedStands, GoesOn, TurnsOn, FetchesOn, IsFairTo, IsSoundStart, IsUnfencedMarked, Notes, marking_noted, BodyBytes, IsPartBytes, SendsQuestion, input_of_any}
 use Rattle.node_serving.specs.Markers.{node_at}
 use Rattle.server_node.proofs.FetchAnswer.{IsSame, heard_same, then_distinct}
 use Rattle.server_node.proofs.Staged.{stand_again}
@@ -150,27 +152,43 @@ kept_on {S} started after state_of message s t fits m = go (any_heard started af
 
 -- what the node then goes on with
 
-pub goes_by : {S : Type 0} (by : Marker S) (who : Identity) (P Q : List Outgoing → MarkedNode → Type 0) (now : Marked S) (lent : List Wire) → ((out : List Outgoing) (after : MarkedNode) → P out after → Q out after)
-    → GoesOn by who P now lent → GoesOn by who Q now lent
-goes_by by who P Q now lent f g = record {
+pub goes_by : {S : Type 0} (by : Marker S) (who : Identity) (few more : List Fetched) (P Q : List Outgoing → MarkedNode → Type 0) (now : Marked S) (lent : List Wire) → few ≡ more
+    → ((out : List Outgoing) (after : MarkedNode) → P out after → Q out after) → GoesOn by who few P now lent → GoesOn by who more Q now lent
+goes_by by who few more P Q now lent same f g = record {
   standing = g.standing;
   awaits = g.awaits;
   marking = g.marking;
   sent = g.sent;
   stands = g.stands;
   goes = f g.sent (node_at who g.standing g.awaits g.marking) g.goes;
+  numbers = subst (λ l. AllNumberedAt by.service who.isn l now.stage) same g.numbers;
   out = g.out;
 }
 
+-- where nothing is restored, nothing is numbered
+none_numbered : {S : Type 0} (service : Machine S) (isn : ℕ) (at : MarkedStage S) → AllNumberedAt service isn [] at
+none_numbered service isn marked.Asking = tt
+none_numbered service isn (marked.Fetching f) = tt
+none_numbered service isn (marked.Serving s) = tt
+
 pub rests_on : {S : Type 0} (by : Marker S) (who : Identity) (standing : law_stage) (awaits : Bool) (marking : Key → Marking) (now : Marked S) (lent : List Wire)
-    → MarkedStands by (node_at who standing awaits marking) now → lent ≡ [] → GoesOn by who (RestsMarked (node_at who standing awaits marking)) now lent
+    → MarkedStands by (node_at who standing awaits marking) now → lent ≡ [] → GoesOn by who [] (RestsMarked (node_at who standing awaits marking)) now lent
 rests_on by who standing awaits marking now lent st none =
-    record { standing = standing; awaits = awaits; marking = marking; sent = []; stands = st; goes = (refl, refl); out = record { wires = none; spelled = tt } }
+    record {
+      standing = standing;
+      awaits = awaits;
+      marking = marking;
+      sent = [];
+      stands = st;
+      goes = (refl, refl);
+      numbers = none_numbered by.service who.isn now.stage;
+      out = record { wires = none; spelled = tt };
+    }
 
 -- a question more
 pub asks_on : {S : Type 0} (by : Marker S) (who : Identity) (standing : law_stage) (awaits : Bool) (before marking : Key → Marking) (count : ℕ) (now : FetchedSoFar) (f : FetchingState S) (m : KeyMarks) (question : AnyMessage) (lent : List Wire)
     → Keeps by marking m → FetchingStandsMarked by count now f → next_question who.boot count now ≡ Some question → AreOut (outgoing question ∷ []) [] lent
-    → GoesOn by who (FetchesMarked by (node_at who standing awaits before) count now marking) (record { stage = marked.Fetching f; marks = m }) lent
+    → FetchesOn by who (node_at who standing awaits before) count now marking (record { stage = marked.Fetching f; marks = m }) lent
 asks_on by who standing awaits before marking count now f m question lent keeps st next out = record {
   standing = Fetching count now.entries;
   awaits = now.awaits_mark;
@@ -178,13 +196,14 @@ asks_on by who standing awaits before marking count now f m question lent keeps 
   sent = outgoing question ∷ [];
   stands = record { keeps = keeps; stage = st };
   goes = subst (λ o. Continues by (node_at who standing awaits before) count now marking o (outgoing question ∷ []) (node_at who (Fetching count now.entries) now.awaits_mark marking)) (sym next) (refl, refl);
+  numbers = tt;
   out = out;
 }
 
 -- nothing is missing any more
 pub ends_on : {S : Type 0} (by : Marker S) (who : Identity) (standing : law_stage) (awaits : Bool) (before marking : Key → Marking) (count : ℕ) (now : FetchedSoFar) (serving : CodeServing S) (m : KeyMarks) (lent : List Wire)
     → next_question who.boot count now ≡ None → AreRestoredMarked by (node_of who standing) marking now.entries serving m [] lent
-    → GoesOn by who (FetchesMarked by (node_at who standing awaits before) count now marking) (record { stage = marked.Serving serving; marks = m }) lent
+    → FetchesOn by who (node_at who standing awaits before) count now marking (record { stage = marked.Serving serving; marks = m }) lent
 ends_on by who standing awaits before marking count now serving m lent next r =
     let after : law_stage = Serving (restored_count now.entries) r.places in record {
       standing = after;
@@ -198,6 +217,7 @@ ends_on by who standing awaits before marking count now serving m lent next r =
       goes = subst
           (λ o. Continues by (node_at who standing awaits before) count now marking o r.sent
           (node_at who after false (λ key. marking_then by (place_at key r.places) (marking key)))) (sym next) (r.places, r.go, refl);
+      numbers = r.numbers;
       out = r.out;
     }
 
@@ -224,11 +244,15 @@ module _ {S : Type 0} (by : Marker S) (who : Identity) (count : ℕ) (fetched : 
   abbrev here : MarkedNode
   here = node_at who (Fetching count fetched) awaited marking
 
+  -- what is fetched where a mark is reported
+  abbrev begun_where : Option Mark → List Fetched
+  begun_where o = entries_of (option_map (λ x. begun_on bytes lengths (so_far here fetched)) o)
+
   -- what is then asked of the rest of the turn
   abbrev pub GoesOnWith : FetchingState S → KeyMarks → Marked S → List Wire → Type 0
   GoesOnWith t later now lent =
       (then_marking : Key → Marking) (more : FetchedSoFar) → Keeps by then_marking later → FetchingStandsMarked by count more t → AreSound by.service more.entries
-      → GoesOn by who (FetchesMarked by here count more then_marking) now lent
+      → FetchesOn by who here count more then_marking now lent
 
   took_log : (message : Message) (f t : FetchingState S) (fits : Bool) (m later : KeyMarks) (now : Marked S) (lent : List Wire) (o : Option FetchedSoFar)
       → fetched_on (nat_lt 0 by.every) who.boot count message (so_far here fetched) ≡ o → fence here.plain (Message_comes message) ≡ None
@@ -236,18 +260,20 @@ module _ {S : Type 0} (by : Marker S) (who : Identity) (count : ℕ) (fetched : 
       → FetchingStandsMarked by count (so_far here fetched) f → Keeps by marking m → IsKeptOn f t
       → MatchOption o ((fits ≡ false) × (t ≡ f)) (λ more. (fits ≡ true) × StandsSoFar by.service more t)
       → (fits ≡ false → (now ≡ record { stage = marked.Fetching t; marks = m }) × (lent ≡ [])) → (fits ≡ true → (later ≡ m) × GoesOnWith t later now lent)
-      → GoesOn by who (UnlessFenced by here (Message_comes message) (fence here.plain (Message_comes message))) now lent
+      → GoesOn by who (entries_of (fetched_on (nat_lt 0 by.every) who.boot count message (so_far here fetched))) (UnlessFenced by here (Message_comes message) (fence here.plain (Message_comes message))) now lent
   took_log message f t fits m later now lent None is unfenced sound distinct whole st keeps kept leads unfit fit =
       let u = unfit leads.0 in
       let stands : MarkedStands by here (record { stage = marked.Fetching t; marks = m }) =
       record { keeps = keeps; stage = subst (FetchingStandsMarked by count (so_far here fetched)) (sym leads.1) st } in
-      goes_by by who (RestsMarked here) (UnlessFenced by here (Message_comes message) (fence here.plain (Message_comes message))) now lent
+      goes_by by who [] (entries_of (fetched_on (nat_lt 0 by.every) who.boot count message (so_far here fetched))) (RestsMarked here) (UnlessFenced by here (Message_comes message) (fence here.plain (Message_comes message))) now lent
+      (sym (ap entries_of is))
       (λ out after r. subst (λ x. UnlessFenced by here (Message_comes message) x out after) (sym unfenced)
       (subst (λ x. MatchOption x (RestsMarked here out after) (λ more. FetchesMarked by here count more marking out after)) (sym is) r))
       (rests_on by who (Fetching count fetched) awaited marking now lent (subst (MarkedStands by here) (sym u.0) stands) u.1)
   took_log message f t fits m later now lent (Some more) is unfenced sound distinct whole st keeps kept leads unfit fit =
       let g = fit leads.0 in
-      goes_by by who (FetchesMarked by here count more marking) (UnlessFenced by here (Message_comes message) (fence here.plain (Message_comes message))) now lent
+      goes_by by who more.entries (entries_of (fetched_on (nat_lt 0 by.every) who.boot count message (so_far here fetched))) (FetchesMarked by here count more marking) (UnlessFenced by here (Message_comes message) (fence here.plain (Message_comes message))) now lent
+      (sym (ap entries_of is))
       (λ out after r. subst (λ x. UnlessFenced by here (Message_comes message) x out after) (sym unfenced)
       (subst (λ x. MatchOption x (RestsMarked here out after) (λ more. FetchesMarked by here count more marking out after)) (sym is) r))
       (g.1 marking more (subst (Keeps by marking) (sym g.0) keeps)
@@ -258,12 +284,13 @@ module _ {S : Type 0} (by : Marker S) (who : Identity) (count : ℕ) (fetched : 
       → FetchingStandsMarked by count (so_far here fetched) f → Keeps by marking m → IsKeptOn f t
       → MatchOption o ((fits ≡ false) × (t ≡ f)) (λ mark. (fits ≡ true) × ((bs ls : List ℕ) → IsFront by.service by.writing mark bs ls → StandsSoFar by.service (begun_on bs ls (so_far here fetched)) t))
       → (fits ≡ false → (now ≡ record { stage = marked.Fetching t; marks = m }) × (lent ≡ [])) → (fits ≡ true → marking_noted message.body m later × GoesOnWith t later now lent)
-      → GoesOn by who (MarkTurn by bytes lengths here (Fetching count fetched) message) now lent
+      → GoesOn by who (begun_where (mark_reported by.writing who.boot message (so_far here fetched))) (MarkTurn by bytes lengths here (Fetching count fetched) message) now lent
   took_mark message f t fits m later now lent None is fair st keeps kept leads unfit fit =
       let u = unfit leads.0 in
       let stands : MarkedStands by here (record { stage = marked.Fetching t; marks = m }) =
       record { keeps = keeps; stage = subst (FetchingStandsMarked by count (so_far here fetched)) (sym leads.1) st } in
-      goes_by by who (RestsMarked here) (MarkTurn by bytes lengths here (Fetching count fetched) message) now lent
+      goes_by by who [] (begun_where (mark_reported by.writing who.boot message (so_far here fetched))) (RestsMarked here) (MarkTurn by bytes lengths here (Fetching count fetched) message) now lent
+      (sym (ap begun_where is))
       (λ out after r.
       subst (λ x. MatchOption x (RestsMarked here out after) (λ mark. FetchesMarked by here count (begun_on bytes lengths (so_far here fetched)) (marking_fetched message.body marking) out after)) (sym is) r)
       (rests_on by who (Fetching count fetched) awaited marking now lent (subst (MarkedStands by here) (sym u.0) stands) u.1)
@@ -272,7 +299,9 @@ module _ {S : Type 0} (by : Marker S) (who : Identity) (count : ℕ) (fetched : 
       let waits : awaited ≡ true = some_awaited by who.boot message (so_far here fetched) mark is in
       let used : nat_lt 0 by.every ≡ true = sym st.uses_marks ∙ awaiting_uses f.marks (st.entries.awaits ∙ waits) in
       let start : IsSoundStart by bytes lengths (so_far here fetched) mark = fair (ltb-true 0 by.every used) in
-      goes_by by who (FetchesMarked by here count (begun_on bytes lengths (so_far here fetched)) (marking_fetched message.body marking)) (MarkTurn by bytes lengths here (Fetching count fetched) message) now lent
+      goes_by by who (begun_on bytes lengths (so_far here fetched)).entries (begun_where (mark_reported by.writing who.boot message (so_far here fetched)))
+      (FetchesMarked by here count (begun_on bytes lengths (so_far here fetched)) (marking_fetched message.body marking)) (MarkTurn by bytes lengths here (Fetching count fetched) message) now lent
+      (sym (ap begun_where is))
       (λ out after r.
       subst (λ x. MatchOption x (RestsMarked here out after) (λ mark. FetchesMarked by here count (begun_on bytes lengths (so_far here fetched)) (marking_fetched message.body marking) out after)) (sym is) r)
       (g.1 (marking_fetched message.body marking) (begun_on bytes lengths (so_far here fetched)) (keeps_noted by message.body marking m later keeps g.0)
@@ -287,7 +316,7 @@ module _ {S : Type 0} (by : Marker S) (who : Identity) (count : ℕ) (fetched : 
   pub took : (any : AnyMessage) (f t : FetchingState S) (fits : Bool) (m later : KeyMarks) (now : Marked S) (lent : List Wire) → IsUnfencedMarked here (input_of_any any) → IsFairTo by bytes lengths here (input_of_any any)
       → IsPartBytes any → FetchingStandsMarked by count (so_far here fetched) f → Keeps by marking m → f.boot ≡ who.boot → IsKeptOn f t → AnyLeads by.service by.writing (so_far here fetched) any fits f t
       → (fits ≡ false → (now ≡ record { stage = marked.Fetching t; marks = m }) × (lent ≡ [])) → (fits ≡ true → Notes any m later × GoesOnWith t later now lent)
-      → GoesOn by who (InputTurn by bytes lengths here (input_of_any any)) now lent
+      → TurnsOn by who bytes lengths here (input_of_any any) now lent
   took (Of_log message) f t fits m later now lent unfenced fair part st keeps boot kept leads unfit fit =
       let law = fetched_on (nat_lt 0 by.every) who.boot count message (so_far here fetched) in
       let same : fetched_on (uses f.marks) f.boot f.count message (so_far here fetched) ≡ law =
@@ -311,8 +340,8 @@ pub took_at : {S : Type 0} (by : Marker S) (who : Identity) (standing : law_stag
     → (fits ≡ false → (now ≡ record { stage = marked.Fetching t; marks = m }) × (lent ≡ []))
     → (fits ≡ true → Notes any m later
     × ((then_marking : Key → Marking) (count : ℕ) (more : FetchedSoFar) → Keeps by then_marking later → FetchingStandsMarked by count more t → AreSound by.service more.entries
-    → GoesOn by who (FetchesMarked by (node_at who standing awaited marking) count more then_marking) now lent))
-    → GoesOn by who (InputTurn by bytes lengths (node_at who standing awaited marking) (input_of_any any)) now lent
+    → FetchesOn by who (node_at who standing awaited marking) count more then_marking now lent))
+    → TurnsOn by who bytes lengths (node_at who standing awaited marking) (input_of_any any) now lent
 took_at by who (Fetching count fetched) awaited marking bytes lengths any f t fits m later now lent unfenced fair part st boot kept leads unfit fit =
     took by who count fetched awaited marking bytes lengths any f t fits m later now lent unfenced fair part st.stage st.keeps boot kept (leads (so_far (node_at who (Fetching count fetched) awaited marking) fetched) st.stage.entries)
     unfit (λ yes. let g = fit yes in (g.0, λ then_marking more keeps stands sound. g.1 then_marking count more keeps stands sound))
@@ -323,13 +352,13 @@ took_at by who (Fenced newer) awaited marking bytes lengths any f t fits m later
 -- what is asked next
 pub asked_on : {S : Type 0} (by : Marker S) (who : Identity) (standing : law_stage) (awaited : Bool) (before marking : Key → Marking) (count : ℕ) (now : FetchedSoFar) (f : FetchingState S) (m : KeyMarks) (o : Option AnyMessage) (lent : List Wire)
     → next_question who.boot count now ≡ o → SendsQuestion o true [] lent → Keeps by marking m → FetchingStandsMarked by count now f
-    → GoesOn by who (FetchesMarked by (node_at who standing awaited before) count now marking) (record { stage = marked.Fetching f; marks = m }) lent
+    → FetchesOn by who (node_at who standing awaited before) count now marking (record { stage = marked.Fetching f; marks = m }) lent
 asked_on by who standing awaited before marking count now f m (Some question) lent next s keeps st = asks_on by who standing awaited before marking count now f m question lent keeps st next s.1
 asked_on by who standing awaited before marking count now f m None lent next s keeps st = absurd (true≢false s.0)
 
 pub ended_on : {S : Type 0} (by : Marker S) (who : Identity) (standing : law_stage) (awaited : Bool) (before marking : Key → Marking) (count : ℕ) (now : FetchedSoFar) (serving : CodeServing S) (m : KeyMarks) (o : Option AnyMessage) (mid lent : List Wire)
     → next_question who.boot count now ≡ o → SendsQuestion o false [] mid → AreRestoredMarked by (node_of who standing) marking now.entries serving m mid lent
-    → GoesOn by who (FetchesMarked by (node_at who standing awaited before) count now marking) (record { stage = marked.Serving serving; marks = m }) lent
+    → FetchesOn by who (node_at who standing awaited before) count now marking (record { stage = marked.Serving serving; marks = m }) lent
 ended_on by who standing awaited before marking count now serving m (Some question) mid lent next s r = absurd (true≢false (sym s.0))
 ended_on by who standing awaited before marking count now serving m None mid lent next s r =
     ends_on by who standing awaited before marking count now serving m lent next (subst (λ l. AreRestoredMarked by (node_of who standing) marking now.entries serving m l lent) s.1 r)
@@ -337,7 +366,7 @@ ended_on by who standing awaited before marking count now serving m None mid len
 -- at a tick the question is asked again
 pub tick_asked : {S : Type 0} (by : Marker S) (who : Identity) (count : ℕ) (fetched : List Fetched) (awaited : Bool) (marking : Key → Marking) (bytes lengths : List ℕ) (f : FetchingState S) (m : KeyMarks) (asks : Bool) (o : Option AnyMessage)
     (lent : List Wire) → next_question who.boot count (so_far (node_at who (Fetching count fetched) awaited marking) fetched) ≡ o → SendsQuestion o asks [] lent → MarkedStands by (node_at who (Fetching count fetched) awaited marking) (record { stage = marked.Fetching f; marks = m })
-    → GoesOn by who (InputTurn by bytes lengths (node_at who (Fetching count fetched) awaited marking) (Plain_comes Tick_comes)) (record { stage = marked.Fetching f; marks = m }) lent
+    → TurnsOn by who bytes lengths (node_at who (Fetching count fetched) awaited marking) (Plain_comes Tick_comes) (record { stage = marked.Fetching f; marks = m }) lent
 tick_asked by who count fetched awaited marking bytes lengths f m asks (Some question) lent next s st = record {
   standing = Fetching count fetched;
   awaits = awaited;
@@ -345,6 +374,7 @@ tick_asked by who count fetched awaited marking bytes lengths f m asks (Some que
   sent = outgoing question ∷ [];
   stands = st;
   goes = (sym (ap (λ o. map outgoing (option_to_list o)) next), refl);
+  numbers = tt;
   out = s.1;
 }
 tick_asked by who count fetched awaited marking bytes lengths f m asks None lent next s st = record {
@@ -354,13 +384,14 @@ tick_asked by who count fetched awaited marking bytes lengths f m asks None lent
   sent = [];
   stands = st;
   goes = (sym (ap (λ o. map outgoing (option_to_list o)) next), refl);
+  numbers = tt;
   out = record { wires = s.1; spelled = tt };
 }
 
 pub tick_asked_at : {S : Type 0} (by : Marker S) (who : Identity) (standing : law_stage) (awaited : Bool) (marking : Key → Marking) (bytes lengths : List ℕ) (f : FetchingState S) (m : KeyMarks) (asks : Bool) (o : Option AnyMessage) (lent : List Wire)
     → ((now : FetchedSoFar) → StandsSoFar by.service now f → o ≡ next_question f.boot f.count now) → f.boot ≡ who.boot → SendsQuestion o asks [] lent
     → MarkedStands by (node_at who standing awaited marking) (record { stage = marked.Fetching f; marks = m })
-    → GoesOn by who (InputTurn by bytes lengths (node_at who standing awaited marking) (Plain_comes Tick_comes)) (record { stage = marked.Fetching f; marks = m }) lent
+    → TurnsOn by who bytes lengths (node_at who standing awaited marking) (Plain_comes Tick_comes) (record { stage = marked.Fetching f; marks = m }) lent
 tick_asked_at by who (Fetching count fetched) awaited marking bytes lengths f m asks o lent next boot s st =
     let now = so_far (node_at who (Fetching count fetched) awaited marking) fetched in
     tick_asked by who count fetched awaited marking bytes lengths f m asks o lent
@@ -373,7 +404,7 @@ tick_asked_at by who (Fenced newer) awaited marking bytes lengths f m asks o len
 pub held_at : {S : Type 0} (by : Marker S) (who : Identity) (segment : Segment) (standing : law_stage) (awaited : Bool) (marking : Key → Marking) (bytes lengths : List ℕ) (f : FetchingState S) (m : KeyMarks) (lent : List Wire)
     → ((count : ℕ) (fetched : List Fetched) → FetchingStands by.service count fetched f → ArePut (held (node_of who standing) fetched segment) [] lent)
     → MarkedStands by (node_at who standing awaited marking) (record { stage = marked.Fetching f; marks = m })
-    → GoesOn by who (InputTurn by bytes lengths (node_at who standing awaited marking) (Plain_comes (Packet_comes segment))) (record { stage = marked.Fetching f; marks = m }) lent
+    → TurnsOn by who bytes lengths (node_at who standing awaited marking) (Plain_comes (Packet_comes segment)) (record { stage = marked.Fetching f; marks = m }) lent
 held_at by who segment (Fetching count fetched) awaited marking bytes lengths f m lent holds st =
     let put = holds count fetched (record { so_many = st.stage.so_many; distinct = st.stage.distinct; entries = st.stage.entries.fetched }) in
     let packets = held (node_of who (Fetching count fetched)) fetched segment in record {
@@ -383,6 +414,7 @@ held_at by who segment (Fetching count fetched) awaited marking bytes lengths f 
       sent = map Plain packets;
       stands = st;
       goes = (Fetching count fetched, packets, (refl, refl), refl, refl);
+      numbers = tt;
       out = plain_out packets [] lent put.wires put.spelled;
     }
 held_at by who segment Asking awaited marking bytes lengths f m lent holds st = absurd st.stage
@@ -393,7 +425,7 @@ held_at by who segment (Fenced newer) awaited marking bytes lengths f m lent hol
 
 pub hello_at : {S : Type 0} (by : Marker S) (who : Identity) (standing : law_stage) (awaited : Bool) (marking : Key → Marking) (bytes lengths : List ℕ) (m : KeyMarks) (lent : List Wire)
     → ArePut (told_by who.boot HelloMsg ∷ []) [] lent → MarkedStands {S = S} by (node_at who standing awaited marking) (record { stage = marked.Asking; marks = m })
-    → GoesOn by who (InputTurn by bytes lengths (node_at who standing awaited marking) (Plain_comes Tick_comes)) (record { stage = marked.Asking; marks = m }) lent
+    → TurnsOn by who bytes lengths (node_at who standing awaited marking) (Plain_comes Tick_comes) (record { stage = marked.Asking; marks = m }) lent
 hello_at by who Asking awaited marking bytes lengths m lent put st = record {
   standing = Asking;
   awaits = awaited;
@@ -401,6 +433,7 @@ hello_at by who Asking awaited marking bytes lengths m lent put st = record {
   sent = map Plain (told_by who.boot HelloMsg ∷ []);
   stands = st;
   goes = (Asking, told_by who.boot HelloMsg ∷ [], (refl, refl), refl, refl);
+  numbers = tt;
   out = plain_out (told_by who.boot HelloMsg ∷ []) [] lent put.wires put.spelled;
 }
 hello_at by who (Fetching count fetched) awaited marking bytes lengths m lent put st = absurd st.stage
@@ -411,7 +444,7 @@ hello_at by who (Fenced newer) awaited marking bytes lengths m lent put st = abs
 pub asking_rests : {S : Type 0} (by : Marker S) (who : Identity) (i : Input) (standing : law_stage) (awaited : Bool) (marking : Key → Marking) (bytes lengths : List ℕ) (m : KeyMarks) (lent : List Wire)
     → fence (node_of who standing) i ≡ None → StageTurn by.service (node_of who Asking) Asking i Asking [] → lent ≡ []
     → MarkedStands {S = S} by (node_at who standing awaited marking) (record { stage = marked.Asking; marks = m })
-    → GoesOn by who (InputTurn by bytes lengths (node_at who standing awaited marking) (Plain_comes i)) (record { stage = marked.Asking; marks = m }) lent
+    → TurnsOn by who bytes lengths (node_at who standing awaited marking) (Plain_comes i) (record { stage = marked.Asking; marks = m }) lent
 asking_rests by who i Asking awaited marking bytes lengths m lent unfenced t none st = record {
   standing = Asking;
   awaits = awaited;
@@ -419,6 +452,7 @@ asking_rests by who i Asking awaited marking bytes lengths m lent unfenced t non
   sent = [];
   stands = st;
   goes = subst (λ o. UnlessFenced by (node_at who Asking awaited marking) i o [] (node_at who Asking awaited marking)) (sym unfenced) (Asking, [], t, refl, refl);
+  numbers = tt;
   out = record { wires = none; spelled = tt };
 }
 asking_rests by who i (Fetching count fetched) awaited marking bytes lengths m lent unfenced t none st = absurd st.stage
@@ -457,11 +491,12 @@ begun_turn by who marking message count None out after is told (places, go, same
 pub begun_at : {S : Type 0} (by : Marker S) (who : Identity) (message : Message) (count : ℕ) (standing : law_stage) (awaited : Bool) (marking : Key → Marking) (bytes lengths : List ℕ) (m : KeyMarks) (now : Marked S) (lent : List Wire)
     → fence (node_of who standing) (Message_comes message) ≡ None → count_told (node_of who Asking) message ≡ Some count
     → MarkedStands {S = S} by (node_at who standing awaited marking) (record { stage = marked.Asking; marks = m })
-    → (Keeps by marking m → GoesOn by who (FetchesMarked by (node_at who Asking false marking) count nothing_yet marking) now lent)
-    → GoesOn by who (InputTurn by bytes lengths (node_at who standing awaited marking) (Plain_comes (Message_comes message))) now lent
+    → (Keeps by marking m → FetchesOn by who (node_at who Asking false marking) count nothing_yet marking now lent)
+    → TurnsOn by who bytes lengths (node_at who standing awaited marking) (Plain_comes (Message_comes message)) now lent
 begun_at by who message count Asking awaited marking bytes lengths m now lent unfenced told st goes =
-    subst (λ a. GoesOn by who (InputTurn by bytes lengths (node_at who Asking a marking) (Plain_comes (Message_comes message))) now lent) (sym st.stage)
-    (goes_by by who (FetchesMarked by (node_at who Asking false marking) count nothing_yet marking) (InputTurn by bytes lengths (node_at who Asking false marking) (Plain_comes (Message_comes message))) now lent
+    subst (λ a. TurnsOn by who bytes lengths (node_at who Asking a marking) (Plain_comes (Message_comes message)) now lent) (sym st.stage)
+    (goes_by by who [] [] (FetchesMarked by (node_at who Asking false marking) count nothing_yet marking) (InputTurn by bytes lengths (node_at who Asking false marking) (Plain_comes (Message_comes message))) now lent
+    refl
     (λ out after c. subst (λ o. UnlessFenced by (node_at who Asking false marking) (Message_comes message) o out after) (sym unfenced) (begun_turn by who marking message count (wanted count []) out after refl told c)) (goes st.keeps))
 begun_at by who message count (Fetching n fetched) awaited marking bytes lengths m now lent unfenced told st goes = absurd st.stage
 begun_at by who message count (Serving opened places) awaited marking bytes lengths m now lent unfenced told st goes = absurd st.stage

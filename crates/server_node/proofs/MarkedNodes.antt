@@ -1,5 +1,5 @@
 -- The turn of a node that marks, as that of its stage and of the whole node.
-use Rattle.std.proofs.Common.{◌≡◌, ◌∙◌, ℕ, Bool, true, false, true≢false, ◌==◌, ◌&&◌, refl, sym, ap, subst, nat_lt, Result, Ok, Err, Option, None, MatchOption, option_map, List, [], if◌then◌else◌}
+use Rattle.std.proofs.Common.{◌≡◌, ◌∙◌, ◌<◌, ◌^◌, ℕ, Bool, true, false, true≢false, ◌==◌, ◌&&◌, refl, sym, ap, subst, nat_lt, Result, Ok, Err, Option, None, MatchOption, option_map, List, [], if◌then◌else◌}
 use Rattle.ft_io.specs.declared.Key.{Key}
 use Rattle.seq_arith.specs.Mark.{MarkMessage}
 use Rattle.seq_arith.specs.MarkGrammar as marks
@@ -31,17 +31,21 @@ use Rattle.server_node.specs.declared.marked.MarkedStage.TheVariants as marked
 use Rattle.server_node.specs.declared.node.Node.{Node}
 use Rattle.server_node.specs.declared.stage.Stage.{Stage}
 use Rattle.server_node.specs.declared.stage.Stage.TheVariants as stage
-use Rattle.node_serving.specs.Identity.{node_of}
+use Rattle.node_serving.specs.Identity.{node_of, service_of}
 use Rattle.server_node.specs.Inputs.{input_of}
 use Rattle.server_node.specs.Marked.{AreApart}
-use Rattle.server_node.specs.MarkedTurns.{MarkedStands, MarkedTurns, GoesOn, IsFairTo, IsUnfencedMarked, IsTurnMarked, HasSlotsApart, NodeStandsAt, MarkedNodeGoes, MarkedNodeTurns, marked_input_of, heard_of}
+use Rattle.server_node.specs.MarkedApart.{StageTurnsApart}
+use Rattle.server_node.specs.MarkedNumbers.{AllNumberedAt, AllNumberedMarked, entries_of, fetched_by_marked}
+use Rattle.server_node.specs.MarkedTurns.{MarkedStands, MarkedTurns, TurnsOn, IsFairTo, IsUnfencedMarked, IsTurnMarked, HasSlotsApart, NodeStandsAt, MarkedNodeGoes, MarkedNodeTurns, marked_input_of, heard_of}
 use Rattle.node_serving.specs.Markers.{Saving, marker_of, node_at}
-use Rattle.server_node.specs.Stages.{is_marked}
+use Rattle.server_node.specs.Stages.{is_marked, IsSoundStage}
 use Rattle.server_node.specs.StageTurns.{IsUnfenced}
 use Rattle.server_node.proofs.MarkedFetch.{goes_by, rests_on}
 use Rattle.node_serving.proofs.MarkedServed.{served_unmarked}
 use Rattle.server_node.proofs.MarkedInputs.{fenced_never, noise_rests_marked, serving_on_marked}
 use Rattle.node_serving.proofs.OneKey.{none_concerned}
+use Rattle.server_node.proofs.MarkedApart.{marked_still}
+use Rattle.server_node.proofs.StagedApart.{other_boot}
 use Rattle.node_serving.proofs.Served.{message_goes}
 
 -- a message of another boot changes nothing
@@ -59,24 +63,24 @@ no_answer m boot count message now other = go now.awaits_mark (message.boot == b
 
 other_serves : {S : Type 0} (by : Marker S) (who : Identity) (message : Message) (opened : ℕ) (places : List Place) (awaits : Bool) (marking : Key → Marking) (at : MarkedStage S) (m : KeyMarks) (bytes lengths : List ℕ) (lent : List Wire)
     → (message.boot == who.boot) ≡ false → lent ≡ [] → AreApart at → MarkedStands by (node_at who (Serving opened places) awaits marking) (record { stage = at; marks = m })
-    → GoesOn by who (InputTurn by bytes lengths (node_at who (Serving opened places) awaits marking) (Plain_comes (Message_comes message))) (record { stage = at; marks = m }) lent
+    → TurnsOn by who bytes lengths (node_at who (Serving opened places) awaits marking) (Plain_comes (Message_comes message)) (record { stage = at; marks = m }) lent
 other_serves by who message opened places awaits marking marked.Asking m bytes lengths lent other none apart st = absurd st.stage
 other_serves by who message opened places awaits marking (marked.Fetching f) m bytes lengths lent other none apart st = absurd st.stage
 other_serves by who message opened places awaits marking (marked.Serving s) m bytes lengths lent other none apart st =
     let node = node_of who (Serving opened places) in
     let goes = message_goes by.service node message opened places s [] [] st.stage.0.number
     (none_concerned by.service node (Message_comes message) s.slots.entries places [] (λ k. ap (λ b. b && names message.body k) other) st.stage.0.slots) in
-    subst (λ l. GoesOn by who (InputTurn by bytes lengths (node_at who (Serving opened places) awaits marking) (Plain_comes (Message_comes message))) (record { stage = marked.Serving s; marks = m }) l) (sym none)
+    subst (λ l. TurnsOn by who bytes lengths (node_at who (Serving opened places) awaits marking) (Plain_comes (Message_comes message)) (record { stage = marked.Serving s; marks = m }) l) (sym none)
     (serving_on_marked by who awaits marking (Message_comes message) opened places s m bytes lengths [] (no_fence who (Serving opened places) message other)
     (served_unmarked by who (Serving opened places) awaits marking (Message_comes message) (record { ip = 0; port = 0 }) opened places s.slots.entries s m [] (λ k. ap (λ b. b && names message.body k) other)
     refl refl tt st.stage.0.slots apart st.keeps st.stage.1 goes))
 
 other_message : {S : Type 0} (by : Marker S) (who : Identity) (message : Message) (standing : law_stage) (awaits : Bool) (marking : Key → Marking) (now : Marked S) (bytes lengths : List ℕ) (lent : List Wire)
     → (message.boot == who.boot) ≡ false → lent ≡ [] → AreApart now.stage → MarkedStands by (node_at who standing awaits marking) now
-    → GoesOn by who (InputTurn by bytes lengths (node_at who standing awaits marking) (Plain_comes (Message_comes message))) now lent
+    → TurnsOn by who bytes lengths (node_at who standing awaits marking) (Plain_comes (Message_comes message)) now lent
 other_message by who message Asking awaits marking now bytes lengths lent other none apart st =
     let here : MarkedNode = node_at who Asking awaits marking in
-    goes_by by who (RestsMarked here) (InputTurn by bytes lengths here (Plain_comes (Message_comes message))) now lent
+    goes_by by who [] [] (RestsMarked here) (InputTurn by bytes lengths here (Plain_comes (Message_comes message))) now lent refl
     (λ out after r. subst (λ o. UnlessFenced by here (Message_comes message) o out after) (sym (no_fence who Asking message other)) (
       Asking,
       [],
@@ -86,7 +90,8 @@ other_message by who message Asking awaits marking now bytes lengths lent other 
     )) (rests_on by who Asking awaits marking now lent st none)
 other_message by who message (Fetching count fetched) awaits marking now bytes lengths lent other none apart st =
     let here : MarkedNode = node_at who (Fetching count fetched) awaits marking in
-    goes_by by who (RestsMarked here) (InputTurn by bytes lengths here (Plain_comes (Message_comes message))) now lent
+    goes_by by who [] (entries_of (fetched_on (nat_lt 0 by.every) who.boot count message (so_far here fetched))) (RestsMarked here) (InputTurn by bytes lengths here (Plain_comes (Message_comes message))) now lent
+    (sym (ap entries_of (no_answer (nat_lt 0 by.every) who.boot count message (so_far here fetched) other)))
     (λ out after r. subst (λ o. UnlessFenced by here (Message_comes message) o out after) (sym (no_fence who (Fetching count fetched) message other))
     (subst (λ x. MatchOption x (RestsMarked here out after) (λ more. FetchesMarked by here count more marking out after))
     (sym (no_answer (nat_lt 0 by.every) who.boot count message (so_far here fetched) other)) r))
@@ -104,22 +109,28 @@ module _ {S : Type 0} (s : Ghosts S) (v : Saving S) (who : Identity) where
   unmarked_turn i stage.Lost now sent h = tt
   unmarked_turn i (stage.Marked m) now sent h = absurd (true≢false h)
 
-  pub noise_turn : (was : Stage S) (sent : List Wire) → sent ≡ [] → HasSlotsApart was → IsTurnMarked s v who (Plain_comes Noise_comes) was was sent
-  noise_turn stage.Asking sent none apart = tt
-  noise_turn (stage.Fetching f) sent none apart = tt
-  noise_turn (stage.Serving f) sent none apart = tt
-  noise_turn stage.Lost sent none apart = tt
-  noise_turn (stage.Marked m) sent none apart = λ every standing awaits marking bytes lengths unfenced fair st.
-      noise_rests_marked (marker_of s v who every) who standing awaits marking m bytes lengths sent none apart st
+  pub noise_turn : (was : Stage S) (sent : List Wire) → sent ≡ [] → HasSlotsApart was → who.isn < 2 ^ 32 → IsSoundStage who was → IsTurnMarked s v who (Plain_comes Noise_comes) was was sent
+  noise_turn stage.Asking sent none apart low sound = tt
+  noise_turn (stage.Fetching f) sent none apart low sound = tt
+  noise_turn (stage.Serving f) sent none apart low sound = tt
+  noise_turn stage.Lost sent none apart low sound = tt
+  noise_turn (stage.Marked m) sent none apart low sound = (
+    λ every standing awaits marking bytes lengths unfenced fair st.
+        noise_rests_marked (marker_of s v who every) who standing awaits marking m bytes lengths sent none apart st,
+    λ standing. marked_still (service_of s who) who standing (Plain_comes Noise_comes) m sent none low sound (λ key. refl),
+  )
 
-  pub other_turn : (message : Message) (was : Stage S) (sent : List Wire) → (message.boot == who.boot) ≡ false → sent ≡ [] → HasSlotsApart was
+  pub other_turn : (message : Message) (was : Stage S) (sent : List Wire) → (message.boot == who.boot) ≡ false → sent ≡ [] → HasSlotsApart was → who.isn < 2 ^ 32 → IsSoundStage who was
       → IsTurnMarked s v who (Plain_comes (Message_comes message)) was was sent
-  other_turn message stage.Asking sent other none apart = tt
-  other_turn message (stage.Fetching f) sent other none apart = tt
-  other_turn message (stage.Serving f) sent other none apart = tt
-  other_turn message stage.Lost sent other none apart = tt
-  other_turn message (stage.Marked m) sent other none apart = λ every standing awaits marking bytes lengths unfenced fair st.
-      other_message (marker_of s v who every) who message standing awaits marking m bytes lengths sent other none apart st
+  other_turn message stage.Asking sent other none apart low sound = tt
+  other_turn message (stage.Fetching f) sent other none apart low sound = tt
+  other_turn message (stage.Serving f) sent other none apart low sound = tt
+  other_turn message stage.Lost sent other none apart low sound = tt
+  other_turn message (stage.Marked m) sent other none apart low sound = (
+    λ every standing awaits marking bytes lengths unfenced fair st.
+        other_message (marker_of s v who every) who message standing awaits marking m bytes lengths sent other none apart st,
+    λ standing. marked_still (service_of s who) who standing (Plain_comes (Message_comes message)) m sent none low sound (other_boot (node_of who standing) message other),
+  )
 
 -- bytes that are no message of the log are what the code of marks reads, or noise
 pub not_of_log : (bytes : List ℕ) (why : BadMsg) → messages.reading bytes ≡ Err why → marked_of (either_said (messages.reading bytes) (marks.reading bytes)) ≡ heard_of (marks.reading bytes)
@@ -167,13 +178,15 @@ module _ {S : Type 0} {s : Ghosts S} (v : Saving S) (i : MarkedInput) (was now :
         sent = g.sent;
         stands = record { who = ap (λ w. node_of w g.standing) (sym same); stage = subst (NodeStandsAt by after) (sym e) g.stands };
         turn = record { live = alive by was.who node.plain.stage node.awaits_mark node.marking m here; turn = subst (λ x. InputTurn by bytes lengths x i g.sent after) (sym is) g.goes };
+        numbers = subst (AllNumberedMarked by.service node.plain.isn (fetched_by_marked by bytes lengths node node.plain.stage i)) (sym e)
+            (subst (λ x. AllNumberedAt by.service x.plain.isn (fetched_by_marked by bytes lengths x x.plain.stage i) n.stage) (sym is) g.numbers);
         wires = g.out.wires;
         spelled = g.out.spelled;
       }
 
   by_stage : node ≡ at → now.who ≡ was.who → IsUnfencedMarked at i → IsFairTo by bytes lengths node i → (a b : Stage S) → now.stage ≡ b → IsTurnMarked s v was.who i a b lent → NodeStandsAt by node a
       → MarkedNodeGoes by bytes lengths node i now lent
-  by_stage is same unfenced fair (stage.Marked m) (stage.Marked n) e turn stands = led is same unfenced fair m n e turn stands
+  by_stage is same unfenced fair (stage.Marked m) (stage.Marked n) e turn stands = led is same unfenced fair m n e turn.0 stands
   by_stage is same unfenced fair (stage.Marked m) stage.Asking e turn stands = absurd turn
   by_stage is same unfenced fair (stage.Marked m) (stage.Fetching f) e turn stands = absurd turn
   by_stage is same unfenced fair (stage.Marked m) (stage.Serving f) e turn stands = absurd turn
@@ -189,3 +202,14 @@ pub node_goes : {S : Type 0} {s : Ghosts S} (v : Saving S) (i : MarkedInput) (wa
 node_goes v i was now lent same unfenced turns every node bytes lengths fair st =
     by_stage v i was now lent every node bytes lengths (λ j. record { plain = st.who j; awaits_mark = node.awaits_mark; marking = node.marking }) same (unfenced node.plain.stage node.awaits_mark node.marking) fair
     was.stage now.stage refl turns st.stage
+
+pub turn_apart : {S : Type 0} (s : Ghosts S) (v : Saving S) (who : Identity) (i : MarkedInput) (was now : Stage S) (sent : List Wire) → IsTurnMarked s v who i was now sent → StageTurnsApart s who i was now sent
+turn_apart s v who i (stage.Marked m) (stage.Marked n) sent turn = turn.1
+turn_apart s v who i (stage.Marked m) stage.Asking sent turn = absurd turn
+turn_apart s v who i (stage.Marked m) (stage.Fetching f) sent turn = absurd turn
+turn_apart s v who i (stage.Marked m) (stage.Serving f) sent turn = absurd turn
+turn_apart s v who i (stage.Marked m) stage.Lost sent turn = absurd turn
+turn_apart s v who i stage.Asking now sent turn = tt
+turn_apart s v who i (stage.Fetching f) now sent turn = tt
+turn_apart s v who i (stage.Serving f) now sent turn = tt
+turn_apart s v who i stage.Lost now sent turn = tt

@@ -1,7 +1,7 @@
 -- The slots of the entries that a node that marks restores, one more after another, with the marks that go out.
 use Rattle.std.proofs.Common.{◌≡◌, ◌∙◌, ℕ, suc, ◌+◌, ◌%◌, ◌^◌, Bool, true, false, not, refl, sym, ap, subst, arith, Option, Some, None, List, [], ◌∷◌, ◌++◌, map, filter, length, append-nil, cond, if◌then◌else◌}
 use Rattle.std.specs.Map.{lookup}
-use Rattle.std.proofs.lemmas.Bool.{or_parts, or_from}
+use Rattle.std.proofs.lemmas.Bool.{false≢true, or_parts, or_from}
 use Rattle.ft_io.specs.declared.Key.{Key}
 use Rattle.ft_io.specs.Key.{key_eq}
 use Rattle.ft_io.proofs.Choices.{by_cases}
@@ -34,11 +34,13 @@ use Rattle.node_serving.specs.declared.slot.Slot.{Slot}
 use Rattle.node_serving.specs.declared.slot.Slot.TheVariants as slot
 use Rattle.server_node.specs.MarkedRestart.{AllBytes, SlotRevivesWith, AreRestoredMarked, markings_then}
 use Rattle.server_node.specs.RestartEnd.{SlotRevives}
+use Rattle.server_node.specs.RestartNumbers.{IsNumbered, AreNumbered}
+use Rattle.node_serving.specs.Loan.{conn_in}
 use Rattle.node_serving.specs.Slots.{SlotStands, AllStand}
 use Rattle.node_serving.proofs.Admitted.{one_stands_more, next_number}
 use Rattle.node_serving.proofs.MarkedTicks.{go_on_marked}
 use Rattle.node_serving.proofs.OneKey.{place_key}
-use Rattle.server_node.proofs.Restored.{behind_others}
+use Rattle.server_node.proofs.Restored.{behind_others, all_numbered_more}
 
 -- a slot's first turn, with its mark
 pub revives_with : {S : Type 0} (by : Marker S) (node : Node) (e : Entry) (now : Slot S) (was marks : KeyMarks) (old mid new : List Wire) → AreBytes e.bytes
@@ -128,8 +130,9 @@ module _ {S : Type 0} (by : Marker S) (node : Node) (marking : Key → Marking) 
       → Changes f.head.key (marking_then by (Some place) (marking_in was f.head.key)) was marks
       → after.next.0 ≡ initial_number node.isn (restored_count (f ∷ fetched))
       → (lookup (key_eq f.head.key) before.slots.entries ≡ None → after.slots.entries ≡ before.slots.entries ++ (f.head.key, now) ∷ [])
+      → (f.head.done ≡ false → IsNumbered by.service (entry_in f) (initial_number node.isn (restored_count fetched)) (conn_in (Some now)))
       → AreOut more mid new → AreRestoredMarked by node marking (f ∷ fetched) after marks old new
-  more_marked f fetched before after now place more was marks old mid new fresh r st g settled changes number added out =
+  more_marked f fetched before after now place more was marks old mid new fresh r st g settled changes number added numbered out =
       let key : Key = f.head.key in
       let none : lookup (key_eq key) before.slots.entries ≡ None = r.others key fresh in
       let is : after.slots.entries ≡ before.slots.entries ++ (key, now) ∷ [] = added none in
@@ -149,6 +152,7 @@ module _ {S : Type 0} (by : Marker S) (node : Node) (marking : Key → Marking) 
           slots = subst (λ es. AllStand by.service node es (r.places ++ place ∷ [])) (sym is) (one_stands_more by.service node before.slots.entries r.places key now place r.stands.slots st);
         };
         go = go_on_marked (GoesMarked (Revives by.service node) (marks_at by node.boot false marking)) (all_restored by.service fetched) r.places r.sent more (restored by.service f) place r.go g;
+        numbers = subst (AreNumbered by.service node.isn (f ∷ fetched)) (sym is) (all_numbered_more by.service node.isn f fetched before.slots.entries now none r.numbers numbered);
         others = λ k e.
             let parts = or_parts (key_eq key k) (is_fetched k fetched) e in
             ap (lookup (key_eq k)) is ∙ behind_others k key before.slots.entries now (key_eq_turns key k parts.0) (r.others k parts.1);
@@ -176,6 +180,7 @@ module _ {S : Type 0} (by : Marker S) (node : Node) (marking : Key → Marking) 
     sent = [];
     stands = record { number = number; slots = subst (λ es. AllStand by.service node es []) (sym none) tt };
     go = (refl, refl);
+    numbers = tt;
     others = λ key e. ap (lookup (key_eq key)) none;
     keeps = record { every = keeps.every; each = keeps.each };
     settled = tt;
@@ -197,13 +202,15 @@ module _ {S : Type 0} (by : Marker S) (node : Node) (marking : Key → Marking) 
       (subst (λ p. GoesMarked (Revives by.service node) (marks_at by node.boot false marking) p (Ended f.head.key ∷ []) []) (sym place) (record { packets = []; goes = (refl, refl); sent_are = refl }))
       tt (changes_none was f.head.key (marking_in was f.head.key) refl)
       (same ∙ (r.stands.number ∙ ap (initial_number node.isn) (sym (counted f fetched true done))))
-      (subst (λ k. lookup (key_eq k) before.slots.entries ≡ None → after.slots.entries ≡ before.slots.entries ++ (k, slot.Done) ∷ []) is added) (out_none mid)
+      (subst (λ k. lookup (key_eq k) before.slots.entries ≡ None → after.slots.entries ≡ before.slots.entries ++ (k, slot.Done) ∷ []) is added)
+      (λ live. absurd (false≢true (sym live ∙ done))) (out_none mid)
 
   pub live_marked : (f : Fetched) (fetched : List Fetched) (key : Key) (before after : Serving S) (now : Slot S) (was marks : KeyMarks) (old mid new : List Wire) → f.head.done ≡ false → key ≡ f.head.key
       → is_fetched f.head.key fetched ≡ false → AreRestoredMarked by node marking fetched before was old mid → SlotRevivesWith by node (entry_in f) now was marks mid new
       → after.next.0 ≡ (before.next.0 + 65536) % 2 ^ 32
-      → (lookup (key_eq key) before.slots.entries ≡ None → after.slots.entries ≡ before.slots.entries ++ (key, now) ∷ []) → AreRestoredMarked by node marking (f ∷ fetched) after marks old new
-  live_marked f fetched key before after now was marks old mid new live is fresh r s next added =
+      → (lookup (key_eq key) before.slots.entries ≡ None → after.slots.entries ≡ before.slots.entries ++ (key, now) ∷ [])
+      → IsNumbered by.service (entry_in f) before.next.0 (conn_in (Some now)) → AreRestoredMarked by node marking (f ∷ fetched) after marks old new
+  live_marked f fetched key before after now was marks old mid new live is fresh r s next added numbered =
       let place : restored by.service f ≡ Lives (point_of by.service (entry_in f)) = ap (λ b. if b then Ended f.head.key else Lives (point_of by.service (entry_in f))) live in
       let q : Point = s.after in
       let none = r.others f.head.key fresh in
@@ -221,7 +228,7 @@ module _ {S : Type 0} (by : Marker S) (node : Node) (marking : Key → Marking) 
       s.changes
       (next ∙ (ap (λ n. (n + 65536) % 2 ^ 32) r.stands.number ∙ (next_number node.isn (restored_count fetched) ∙ ap (initial_number node.isn) (plus_one (restored_count fetched) ∙ sym (counted f fetched false live)))))
       (subst (λ k. lookup (key_eq k) before.slots.entries ≡ None → after.slots.entries ≡ before.slots.entries ++ (k, now) ∷ []) is added)
-      s.out
+      (λ also. subst (λ i. IsNumbered by.service (entry_in f) i (conn_in (Some now))) r.stands.number numbered) s.out
 
 -- what is true of all is true of one
 pub bytes_at : (front : List Fetched) (f : Fetched) (fetched : List Fetched) → AllBytes (front ++ f ∷ fetched) → AreBytes f.bytes

@@ -60,6 +60,16 @@ all_numbered_on service isn [] last es now n = tt
 all_numbered_on service isn (f ∷ earlier) last es now n =
     (λ live. numbered_on service (entry_in f) (initial_number isn (restored_count earlier)) f.head.key last es now (n.0 live), all_numbered_on service isn earlier last es now n.1)
 
+-- .. and that of the added slot has its number
+pub all_numbered_more : {S : Type 0} (service : Machine S) (isn : ℕ) (f : Fetched) (fetched : List Fetched) (es : List (Key × Slot S)) (now : Slot S)
+    → lookup (key_eq f.head.key) es ≡ None → AreNumbered service isn fetched es
+    → (f.head.done ≡ false → IsNumbered service (entry_in f) (initial_number isn (restored_count fetched)) (conn_in (Some now)))
+    → AreNumbered service isn (f ∷ fetched) (es ++ (f.head.key, now) ∷ [])
+all_numbered_more service isn f fetched es now none numbers numbered = (
+  λ live. subst (λ o. IsNumbered service (entry_in f) (initial_number isn (restored_count fetched)) (conn_in o)) (sym (found_last f.head.key es now none)) (numbered live),
+  all_numbered_on service isn fetched f.head.key es now numbers,
+)
+
 module _ {S : Type 0} (service : Machine S) (node : Node) where
   -- before any
   pub restored_none : (now : Serving S) (told : List Wire) → now.next.0 ≡ initial_number node.isn 0 → now.slots.entries ≡ [] → AreRestored service node [] now told told
@@ -93,10 +103,7 @@ module _ {S : Type 0} (service : Machine S) (node : Node) where
               (one_stands_more service node before.slots.entries r.places f.head.key now s.after r.stands.slots s.stands);
         };
         go = go_on service node Tick_comes (Revives service node) (all_restored service fetched) r.places r.packets s.packets (restored service f) s.after r.go s.turn;
-        numbers = subst (AreNumbered service node.isn (f ∷ fetched)) (sym is) (
-          λ live. subst (λ o. IsNumbered service (entry_in f) (initial_number node.isn (restored_count fetched)) (conn_in o)) (sym (found_last f.head.key before.slots.entries now none)) (numbered live),
-          all_numbered_on service node.isn fetched f.head.key before.slots.entries now r.numbers,
-        );
+        numbers = subst (AreNumbered service node.isn (f ∷ fetched)) (sym is) (all_numbered_more service node.isn f fetched before.slots.entries now none r.numbers numbered);
         others = λ key e.
             let parts = or_parts (key_eq f.head.key key) (is_fetched key fetched) e in
             ap (lookup (key_eq key)) is ∙ behind_others key f.head.key before.slots.entries now (key_eq_turns f.head.key key parts.0) (r.others key parts.1);

@@ -12,4 +12,6 @@ pub mod RestartTurns
 pub mod NodeTurns
 pub mod Marked
 pub mod MarkedRestart
+pub mod MarkedNumbers
+pub mod MarkedApart
 pub mod MarkedTurns

@@ -25,6 +25,7 @@ use Rattle.node_serving.specs.declared.serving.Serving.{Serving}
 use Rattle.node_serving.specs.declared.slot.Slot.{Slot}
 use Rattle.node_serving.specs.declared.turn.Turn.{Turn}
 use Rattle.server_node.specs.FetchStage.{AreDistinct}
+use Rattle.server_node.specs.RestartNumbers.{AreNumbered}
 use Rattle.node_serving.specs.Identity.{node_of, service_of}
 use Rattle.conn_marks.specs.MarkSends.{AreOut}
 use Rattle.conn_marks.specs.Settled.{Keeps, AllSettled, IsSettledPoint, MarksPlace}
@@ -56,6 +57,7 @@ pub record AreRestoredMarked {S : Type 0} (by : Marker S) (node : Node) (marking
   pub sent : List Outgoing
   pub stands : ServingStands by.service node (restored_count fetched) places now
   pub go : AllGoMarked (GoesMarked (Revives by.service node) (marks_at by node.boot false marking)) (all_restored by.service fetched) places sent
+  pub numbers : AreNumbered by.service node.isn fetched now.slots.entries
   pub others : (key : Key) → is_fetched key fetched ≡ false → lookup (key_eq key) now.slots.entries ≡ None
   pub keeps : Keeps by (markings_then by places marking) marks
   pub settled : AllSettled by (markings_then by places marking) places

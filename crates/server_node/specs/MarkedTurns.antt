@@ -14,6 +14,7 @@ use Rattle.ft_model.specs.Lawful.{AreSound, IsNearInput, IsSoundInput, fence}
 use Rattle.ft_model.specs.Node.{Stage as law_stage}
 use Rattle.ft_model.specs.Node.Input.{Message_comes, Noise_comes, Tick_comes}
 use Rattle.ft_model.specs.Node.Stage.{Asking, Fetching, Serving}
+use Rattle.ft_model.specs.Restart.{Fetched}
 use Rattle.ft_model.specs.Wire.{Wire}
 use Rattle.ft_model.specs.World.{segment_or_noise}
 use Rattle.mark_laws.specs.MarkedLog.{AnyMessage}
@@ -39,6 +40,8 @@ use Rattle.server_node.specs.declared.stage.Stage.TheVariants as stage
 use Rattle.server_node.specs.FetchStage.{AreDistinct}
 use Rattle.node_serving.specs.Identity.{node_of}
 use Rattle.server_node.specs.Marked.{AreApart}
+use Rattle.server_node.specs.MarkedApart.{MarkedTurnsApart, StageTurnsApart}
+use Rattle.server_node.specs.MarkedNumbers.{AllNumberedAt, AllNumberedMarked, fetched_by_marked}
 use Rattle.server_node.specs.MarkedRestart.{AllBytes}
 use Rattle.conn_marks.specs.MarkSends.{AreOut, outgoing_wire, HasOutgoingWire}
 use Rattle.conn_marks.specs.Settled.{Keeps, AllSettled}
@@ -107,15 +110,24 @@ abbrev pub IsUnfencedMarked : MarkedNode → MarkedInput → Type 0
 IsUnfencedMarked node (Plain_comes i) = fence node.plain i ≡ None
 IsUnfencedMarked node (Mark_comes message) = Unit {0}
 
--- the node corresponds to a state to which this law leads, and sends what the law says
-pub record GoesOn {S : Type 0} (by : Marker S) (who : Identity) (Goes : List Outgoing → MarkedNode → Type 0) (now : Marked S) (lent : List Wire) : Type 0 where
+-- the node corresponds to a state to which this law leads, having restored these entries if it serves then, and sends what the law says
+pub record GoesOn {S : Type 0} (by : Marker S) (who : Identity) (restored : List Fetched) (Goes : List Outgoing → MarkedNode → Type 0) (now : Marked S) (lent : List Wire) : Type 0 where
   pub standing : law_stage
   pub awaits : Bool
   pub marking : Key → Marking
   pub sent : List Outgoing
   pub stands : MarkedStands by (node_at who standing awaits marking) now
   pub goes : Goes sent (node_at who standing awaits marking)
+  pub numbers : AllNumberedAt by.service who.isn restored now.stage
   pub out : AreOut sent [] lent
+
+-- .. by the law of this input, or of what is fetched so far
+abbrev pub TurnsOn : {S : Type 0} → Marker S → Identity → (bytes lengths : List ℕ) → MarkedNode → MarkedInput → (now : Marked S) → (lent : List Wire) → Type 0
+TurnsOn by who bytes lengths node i now lent =
+    GoesOn by who (fetched_by_marked by bytes lengths node node.plain.stage i) (InputTurn by bytes lengths node i) now lent
+
+abbrev pub FetchesOn : {S : Type 0} → Marker S → Identity → MarkedNode → (count : ℕ) → FetchedSoFar → (Key → Marking) → (now : Marked S) → (lent : List Wire) → Type 0
+FetchesOn by who node count so_far marking now lent = GoesOn by who so_far.entries (FetchesMarked by node count so_far marking) now lent
 
 -- what is stored of the marks once a message is taken
 abbrev pub marking_noted : MarkBody → KeyMarks → KeyMarks → Type 0
@@ -147,7 +159,7 @@ module _ {S : Type 0} (s : Ghosts S) (v : Saving S) (who : Identity) where
       (every : ℕ) (standing : law_stage) (awaits : Bool) (marking : Key → Marking) (bytes lengths : List ℕ)
       → IsUnfencedMarked (node_at who standing awaits marking) i → IsFairTo (marker_of s v who every) bytes lengths (node_at who standing awaits marking) i
       → MarkedStands (marker_of s v who every) (node_at who standing awaits marking) was
-      → GoesOn (marker_of s v who every) who (InputTurn (marker_of s v who every) bytes lengths (node_at who standing awaits marking) i) now sent
+      → TurnsOn (marker_of s v who every) who bytes lengths (node_at who standing awaits marking) i now sent
 
   abbrev pub BytesTurnMarked : Result MarkMessage BadMark → (was now : Marked S) → (sent : List Wire) → Type 0
   BytesTurnMarked read was now sent = MarkedTurns (heard_of read) was now sent
@@ -157,11 +169,11 @@ module _ {S : Type 0} (s : Ghosts S) (v : Saving S) (who : Identity) where
   FetchesOnMarked was marks now sent =
       (every : ℕ) (standing : law_stage) (awaits : Bool) (before marking : Key → Marking) (count : ℕ) (fetched : FetchedSoFar) → Keeps (marker_of s v who every) marking marks
       → FetchingStandsMarked (marker_of s v who every) count fetched was → AreSound (marker_of s v who every).service fetched.entries
-      → GoesOn (marker_of s v who every) who (FetchesMarked (marker_of s v who every) (node_at who standing awaits before) count fetched marking) now sent
+      → FetchesOn (marker_of s v who every) who (node_at who standing awaits before) count fetched marking now sent
 
-  -- the turn of a stage. A node that marks follows its own law
+  -- the turn of a stage. A node that marks follows its own law, and leaves others alone
   abbrev pub IsTurnMarked : MarkedInput → (was now : Stage S) → (sent : List Wire) → Type 0
-  IsTurnMarked i (stage.Marked was) (stage.Marked now) sent = MarkedTurns i was now sent
+  IsTurnMarked i (stage.Marked was) (stage.Marked now) sent = MarkedTurns i was now sent × MarkedTurnsApart s who i was now sent
   IsTurnMarked i (stage.Marked was) _ sent = ⊥
   IsTurnMarked i _ now sent = Unit {0}
 
@@ -181,12 +193,13 @@ pub record MarkedNodeStands {S : Type 0} {s : Ghosts S} (by : Marker S) (node : 
   pub stage : NodeStandsAt by node n.stage
 
 -- its turn: it corresponds to a state to which the law's turn leads, and the packets that it returns are those that the law says it sends, each in its one
--- spelling
+-- spelling. If the turn ends a restart, the inner TCP of the nth restored connection has the nth initial sequence number of this incarnation
 pub record MarkedNodeGoes {S : Type 0} {s : Ghosts S} (by : Marker S) (bytes lengths : List ℕ) (node : MarkedNode) (i : MarkedInput) (now : Node S s) (lent : List Wire) : Type 0 where
   pub after : MarkedNode
   pub sent : List Outgoing
   pub stands : MarkedNodeStands by after now
   pub turn : LawfulMarkedTurn by bytes lengths node i sent after
+  pub numbers : AllNumberedMarked by.service node.plain.isn (fetched_by_marked by bytes lengths node node.plain.stage i) now.stage
   pub wires : lent ≡ map outgoing_wire sent
   pub spelled : AllByRecursion HasOutgoingWire sent
 
@@ -195,3 +208,7 @@ abbrev pub MarkedNodeTurns : {S : Type 0} {s : Ghosts S} → Saving S → Marked
 MarkedNodeTurns {S} {s} v i was now lent =
     (every : ℕ) (node : MarkedNode) (bytes lengths : List ℕ) → IsFairTo (marker_of s v was.who every) bytes lengths node i
     → MarkedNodeStands (marker_of s v was.who every) node was → MarkedNodeGoes (marker_of s v was.who every) bytes lengths node i now lent
+
+-- .. and what holds of it whatever arrives
+abbrev pub MarkedNodeApart : {S : Type 0} {s : Ghosts S} → MarkedInput → (was now : Node S s) → (lent : List Wire) → Type 0
+MarkedNodeApart {S} {s} i was now lent = StageTurnsApart s was.who i was.stage now.stage lent

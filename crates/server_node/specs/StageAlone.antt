@@ -50,7 +50,7 @@ is_for_nobody node (Message_comes message) = not (message.boot == node.boot)
 is_for_nobody node Noise_comes = true
 is_for_nobody node Tick_comes = false
 
--- it changes nothing, and nothing is sent. Of a node that marks nothing is said
+-- it changes nothing, and nothing is sent. For a node that marks `MarkedApart` says so
 abbrev pub IsUntouched : {S : Type 0} → Node → Input → (was now : Stage S) → List Wire → Type 0
 IsUntouched node input (stage.Marked m) now sent = Unit {0}
 IsUntouched node input was now sent = is_for_nobody node input ≡ true → (now ≡ was) × (sent ≡ [])

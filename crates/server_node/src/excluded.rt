@@ -1,12 +1,17 @@
 //! Wrong results that the contracts of this crate exclude. Each function calls another one of the crate, and promises of its result what a wrong body would make
 //! false. It is proved from the other's contract alone, so it is no longer proved once that contract lets the wrong body pass.
 
-ghost use Rattle.std.specs.Prelude.{◌≡◌, ◌≢◌, ◌≤◌, [], List, Ok, None, false, IfOk, OnOk};
+ghost use Rattle.std.specs.Prelude.{◌≡◌, ◌≢◌, ◌≤◌, [], List, Ok, None, false, IfOk, OnOk, ℕ};
 ghost use Rattle.std.specs.List.{AllByRecursion};
 ghost use Rattle.std.specs.Map.{lookup};
 ghost use Rattle.ft_io.specs.Key.{key_eq};
 ghost use Rattle.seq_arith.specs.PacketGrammar.{reading};
 ghost use Rattle.segment_codec.specs.Value.{segment_of};
+ghost use Rattle.ft_io.specs.declared.Key.{Key as Client};
+ghost use Rattle.server_trait.specs.Service.{AreBytes};
+ghost use Rattle.mark_laws.specs.Marking.{Marking};
+ghost use Rattle.node_serving.specs.Markers.{saving, marker_of};
+ghost use Rattle.server_node.specs.MarkedRestart.{AreRestoredMarked};
 ghost use Rattle.logger_wire.specs.Value.{IsSendable};
 ghost use Rattle.reincarnate.specs.Questions.{asked};
 ghost use Rattle.reincarnate.specs.Refinement.{RestoredIs};
@@ -26,9 +31,11 @@ ghost use Rattle.node_serving.specs.Slots.{AllSound};
 ghost use Rattle.server_node.specs.Stages.{IsSoundStage};
 
 use crate::input::TurnEnd;
+use crate::marked_reviving::restore_marked;
 use crate::restarting::ask;
 use crate::reviving::restore;
 use crate::stage::{Stage, hear, newer_than, on_packet};
+use conn_marks::Marks;
 use ft_io::NoMemory;
 use logger_wire::{Body, Msg};
 use node_serving::{Identity, Serving, Turn};
@@ -104,4 +111,24 @@ fn sends_another_clients_segment<S: Saved>(
     ensures { IfOk result (λ after. AllByRecursion (IsFor (source_of (segment_of segment.now))) turn.new.sent.items) }
 {
     on_packet(who, Stage::Serving(serving), segment, packet, turn)
+}
+
+/// Of a node that marks too, a restored connection has inside the initial sequence number that follows those of the connections restored before it: the clause
+/// `turn` of `restore_marked`.
+fn restarts_from_marks_under_one_number<S: Saved>(
+    who: Identity,
+    entry: Restored<S>,
+    serving: &mut Serving<S>,
+    marks: &mut Marks,
+    turn: &mut Turn,
+) -> Result<(), NoMemory>
+    requires boot { 1 ≤ who.boot }
+    requires sound { AllSound who serving.old.slots.entries }
+    ensures { OnOk result ((every : ℕ) (standing : Standing) (marking : Client → Marking) (f : Fetched) (earlier : List Fetched) (first : List Wire)
+        → let by = marker_of S.Service (saving S.form S.state_of S.is_savable) who every in
+        RestoredIs by.service f entry → f.head.done ≡ false → IsSoundEntry by.service (entry_in f) → AreBytes f.bytes → is_fetched f.head.key earlier ≡ false
+        → AreRestoredMarked by (node_of who standing) marking earlier serving.old marks.old first turn.old.sent.items
+        → IsNumbered by.service (entry_in f) (initial_number who.isn (restored_count earlier)) (conn_in (lookup (key_eq f.head.key) serving.new.slots.entries))) }
+{
+    restore_marked(who, entry, serving, marks, turn)
 }

@@ -22,7 +22,8 @@ ghost use Rattle.server_node.specs.Marked.{IsSoundMarked, IsBareQuestion, AreApa
 ghost use Rattle.mark_laws.specs.MarkedNode.{Marker, MarkedNode, outgoing};
 ghost use Rattle.node_serving.specs.Markers.{saving};
 ghost use Rattle.conn_marks.specs.MarkSends.{AreOut};
-ghost use Rattle.server_node.specs.MarkedTurns.{MarkedTurns, MarkedStands, BytesTurnMarked, FetchesOnMarked, Notes, SendsQuestion, IsPartBytes, input_of_any};
+ghost use Rattle.server_node.specs.MarkedApart.{MarkedTurnsApart};
+ghost use Rattle.server_node.specs.MarkedTurns.{heard_of, MarkedTurns, MarkedStands, BytesTurnMarked, FetchesOnMarked, Notes, SendsQuestion, IsPartBytes, input_of_any};
 ghost use Rattle.server_node.specs.StageTurns.{IsUnfenced};
 
 use crate::marked_reviving::restore_all_marked;
@@ -70,6 +71,7 @@ pub(crate) fn tick<S: Saved>(
     requires sound { IsSoundMarked who node }
     requires empty { turn.old.sent.items ≡ [] }
     ensures turn { IfOk result (λ after. MarkedTurns S.Service (saving S.form S.state_of S.is_savable) who (Plain_comes Tick_comes) node after turn.new.sent.items) }
+    ensures apart { IfOk result (λ after. MarkedTurnsApart S.Service who (Plain_comes Tick_comes) node after turn.new.sent.items) }
     ensures sound { IfOk result (λ after. IsSoundMarked who after) }
 {
     let Marked { stage, marks } = node;
@@ -129,6 +131,7 @@ pub(crate) fn give<S: Saved>(
     requires sound { IsSoundMarked who node }
     requires empty { turn.old.sent.items ≡ [] }
     ensures turn { IfOk result (λ after. MarkedTurns S.Service (saving S.form S.state_of S.is_savable) who (Plain_comes (Packet_comes (segment_of segment.now))) node after turn.new.sent.items) }
+    ensures apart { IfOk result (λ after. MarkedTurnsApart S.Service who (Plain_comes (Packet_comes (segment_of segment.now))) node after turn.new.sent.items) }
     ensures sound { IfOk result (λ after. IsSoundMarked who after) }
 {
     let Marked { stage, mut marks } = node;
@@ -158,6 +161,8 @@ pub(crate) fn hear<S: Saved>(
     requires empty { turn.old.sent.items ≡ [] }
     ensures turn { IfOk result (λ after. m.now.boot ≡ who.boot → IsUnfenced who (Message_comes (message_of m.now))
         → MarkedTurns S.Service (saving S.form S.state_of S.is_savable) who (Plain_comes (Message_comes (message_of m.now))) node after turn.new.sent.items) }
+    ensures apart { IfOk result (λ after. m.now.boot ≡ who.boot
+        → MarkedTurnsApart S.Service who (Plain_comes (Message_comes (message_of m.now))) node after turn.new.sent.items) }
     ensures sound { IfOk result (λ after. IsSoundMarked who after) }
 {
     let Marked { stage, mut marks } = node;
@@ -184,6 +189,7 @@ pub(crate) fn hear_bytes<S: Saved>(
     requires sound { IsSoundMarked who node }
     requires empty { turn.old.sent.items ≡ [] }
     ensures turn { IfOk result (λ after. BytesTurnMarked S.Service (saving S.form S.state_of S.is_savable) who (mark_reading bytes.now) node after turn.new.sent.items) }
+    ensures apart { IfOk result (λ after. MarkedTurnsApart S.Service who (heard_of (mark_reading bytes.now)) node after turn.new.sent.items) }
     ensures sound { IfOk result (λ after. IsSoundMarked who after) }
 {
     apart_in(&node.stage);
@@ -219,6 +225,8 @@ fn hear_mark<S: Saved>(
     requires empty { turn.old.sent.items ≡ [] }
     ensures turn { IfOk result (λ after. m.now.boot ≡ who.boot
         → MarkedTurns S.Service (saving S.form S.state_of S.is_savable) who (Mark_comes (mark_message_of m.now)) node after turn.new.sent.items) }
+    ensures apart { IfOk result (λ after. m.now.boot ≡ who.boot
+        → MarkedTurnsApart S.Service who (Mark_comes (mark_message_of m.now)) node after turn.new.sent.items) }
     ensures sound { IfOk result (λ after. IsSoundMarked who after) }
 {
     let Marked { stage, mut marks } = node;

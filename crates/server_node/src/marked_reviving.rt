@@ -4,6 +4,7 @@
 ghost use Rattle.std.specs.Prelude.{◌≤◌, length, IfOk, OnOk};
 ghost use Rattle.node_serving.specs.Markers.{saving};
 ghost use Rattle.server_node.specs.MarkedRestart.{LogRevivesMarked, EntryRevivesMarked, SlotRevivesMarked, SlotMarked};
+ghost use Rattle.server_node.specs.RestartTurns.{IsNumberedFrom};
 ghost use Rattle.node_serving.specs.Openings.{IsCounted};
 ghost use Rattle.node_serving.specs.Slots.{AllSound, IsSoundSlot};
 
@@ -39,7 +40,7 @@ pub(crate) fn restore_all_marked<S: Saved>(
 }
 
 /// Gives an entry its slot. An entry whose connection hasn't ended uses up an initial sequence number.
-fn restore_marked<S: Saved>(
+pub(crate) fn restore_marked<S: Saved>(
     who: Identity,
     entry: Restored<S>,
     serving: &mut Serving<S>,
@@ -63,7 +64,7 @@ fn restore_marked<S: Saved>(
     }
 }
 
-/// Makes the slot of an entry whose reads are replayed, and sends its mark if one is due.
+/// Makes the slot of an entry whose reads are replayed, and sends its mark if one is due. Its inner TCP has the initial sequence number `isn`.
 fn revive_marked<S: Saved>(
     who: Identity,
     isn: Seq,
@@ -73,6 +74,7 @@ fn revive_marked<S: Saved>(
 ) -> Result<Slot<S>, NoMemory>
     requires { 1 ≤ who.boot }
     ensures turn { IfOk result (λ slot. SlotRevivesMarked S.Service (saving S.form S.state_of S.is_savable) who replayed slot marks.old marks.new turn.old turn.new) }
+    ensures number { IfOk result (λ slot. IsNumberedFrom S.Service who replayed isn.0 slot) }
     ensures sound { IfOk result (λ slot. IsSoundSlot who replayed.head.key slot) }
 {
     let key = replayed.head().key;

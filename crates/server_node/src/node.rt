@@ -35,7 +35,7 @@ impl<S: Saved> Node<S> {
     ghost use Rattle.server_node.specs.NodeTurns.{NodeTurns, Leaves};
     ghost use Rattle.mark_laws.specs.MarkedNode.{MarkedNode, booted_to_mark};
     ghost use Rattle.node_serving.specs.Markers.{saving, marker_of};
-    ghost use Rattle.server_node.specs.MarkedTurns.{MarkedNodeStands, MarkedNodeTurns, marked_input_of};
+    ghost use Rattle.server_node.specs.MarkedTurns.{MarkedNodeStands, MarkedNodeTurns, MarkedNodeApart, marked_input_of};
     ghost use Rattle.server_node.specs.Stages.{StageStands};
     ghost use Rattle.server_node.specs.StageTurns.{IsUnfenced, IsFenceOf};
     ghost use Rattle.server_trait.specs.Service.{machine};
@@ -110,6 +110,7 @@ impl<S: Saved> Node<S> {
     fn advance(&mut self, alloc: Global, input: Input<'_>) -> Result<(), TurnEnd>
         ensures turn { OnOk result (NodeTurns (input_of input.entry) self.old self.new self.new.turn.sent.items) }
         ensures marked { OnOk result (MarkedNodeTurns (saving S.form S.state_of S.is_savable) (marked_input_of input.entry) self.old self.new self.new.turn.sent.items) }
+        ensures beside { OnOk result (MarkedNodeApart (marked_input_of input.entry) self.old self.new self.new.turn.sent.items) }
         ensures unfenced { OnOk result (IsUnfenced self.old.who (input_of input.entry)) }
         ensures fenced { IfErr result (IsFenceOf self.old.who (input_of input.entry)) }
         ensures memory { IsErrOf result TurnEnd.NoMemory → IsUnfenced self.old.who (input_of input.entry) }
@@ -124,12 +125,14 @@ impl<S: Saved> Node<S> {
 
     /// Takes one turn, and returns the packets that it sends. Without marks: whatever the input is, keys that it isn't about stay unchanged; the turn of each
     /// key whose own packets are near is lawful, and at the end of a restart so is that of each key whose own entry is sound. With marks the turn is lawful
-    /// under the premises `IsFairTo`. After an error the node may only be dropped. A Stale of the node's boot that names a larger boot number ends it by
-    /// `Fenced`, even if no memory is left, and nothing else ends it so.
+    /// under the premises `IsFairTo`, and while the node serves it is, but for its marks, one of a node without marks: whatever the input is, keys that it
+    /// isn't about stay unchanged, with their marks, and the turn of each key whose own packets are near is lawful. After an error the node may only be
+    /// dropped. A Stale of the node's boot that names a larger boot number ends it by `Fenced`, even if no memory is left, and nothing else ends it so.
     pub fn turn(&mut self, alloc: Global, input: Input<'_>) -> Result<&[OutPacket], TurnEnd>
         ensures* after { sem 𝓛 (Leaves S.row S.Service self.entry
             (λ node. IfOk result (λ sent. NodeTurns (input_of input.entry) self.old node sent.now
-            × MarkedNodeTurns (saving S.form S.state_of S.is_savable) (marked_input_of input.entry) self.old node sent.now))) }
+            × MarkedNodeTurns (saving S.form S.state_of S.is_savable) (marked_input_of input.entry) self.old node sent.now
+            × MarkedNodeApart (marked_input_of input.entry) self.old node sent.now))) }
         ensures unfenced { OnOk result (IsUnfenced self.old.who (input_of input.entry)) }
         ensures fenced { IfErr result (IsFenceOf self.old.who (input_of input.entry)) }
         ensures memory { IsErrOf result TurnEnd.NoMemory → IsUnfenced self.old.who (input_of input.entry) }

@@ -4,12 +4,11 @@ use Rattle.logger_wire.specs.Value.{body_of, message_of}
 use Rattle.ft_model.specs.Lawful.{summary_count}
 use Rattle.ft_model.specs.Node.Input.{Message_comes}
 use Rattle.ft_model.specs.Node.Stage.{Asking}
-use Rattle.mark_laws.specs.MarkedNode.{InputTurn}
 use Rattle.mark_laws.specs.MarkedNode.MarkedInput.{Plain_comes}
 use Rattle.server_node.specs.FetchStage.{IsOf}
 use Rattle.node_serving.specs.Identity.{node_of}
 use Rattle.node_serving.specs.Markers.{saving, marker_of, node_at}
-use Rattle.server_node.specs.MarkedTurns.{GoesOn}
+use Rattle.server_node.specs.MarkedTurns.{TurnsOn}
 use Rattle.node_serving.proofs.Outcomes.{same_ok}
 use Rattle.server_node.proofs.MarkedFetch.{asking_rests, begun_at, begun_stands, told_no_count, told_count, nothing_yet}
 use Rattle.server_node.proofs.Ranged.{count_in_range}
@@ -25,7 +24,7 @@ pub returns-in_default-clause-turn : goal.returns-in_default-clause-turn
 returns-in_default-clause-turn g c = λ boot calm every standing awaits marking bytes lengths unfenced fair st.
     let by = marker_of g.S.Service (saving g.S.Saved.form g.S.Saved.state_of g.S.Saved.is_savable) c.args.who every in
     let none : summary_count (body_of c.args.m.now.body) ≡ None = search rules in
-    subst (λ n. GoesOn by c.args.who (InputTurn by bytes lengths (node_at c.args.who standing awaits marking) (Plain_comes (Message_comes (message_of c.args.m.now)))) n c.args.turn.now.sent.items) (sym c.asking.ensures)
+    subst (λ n. TurnsOn by c.args.who bytes lengths (node_at c.args.who standing awaits marking) (Plain_comes (Message_comes (message_of c.args.m.now))) n c.args.turn.now.sent.items) (sym c.asking.ensures)
     (asking_rests by c.args.who (Message_comes (message_of c.args.m.now)) standing awaits marking bytes lengths c.args.marks c.args.turn.now.sent.items unfenced
     (told_no_count by c.args.who (message_of c.args.m.now) none) c.requires.empty st)
 

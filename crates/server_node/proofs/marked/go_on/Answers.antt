@@ -4,8 +4,7 @@ use Rattle.ft_model.specs.Wire.{Wire}
 use Rattle.mark_laws.specs.Restart.{next_question}
 use Rattle.reincarnate.specs.Questions.{any_asked}
 use Rattle.reincarnate.specs.Refinement.{StandsSoFar, StandsFetching, StandsWhole}
-use Rattle.mark_laws.specs.MarkedNode.{FetchesMarked}
-use Rattle.server_node.specs.MarkedTurns.{GoesOn, SendsQuestion}
+use Rattle.server_node.specs.MarkedTurns.{FetchesOn, SendsQuestion}
 use Rattle.node_serving.specs.Markers.{saving, marker_of, node_at}
 use Rattle.server_node.proofs.MarkedFetch.{asked_on, ended_on}
 use Rattle.server_node.proofs.marked.go_on.Goals as goal
@@ -19,7 +18,7 @@ returns-then-branch-clause-turn g c = λ every standing awaits before marking co
     ∙ (λ j. next_question (c.requires.own.boot j) (st.so_many j) fetched) in
     let sent = subst (λ (l : List Wire). SendsQuestion (any_asked c.args.fetching) true l c.ask.new.turn.sent.items) c.requires.empty
     (subst (λ b. SendsQuestion (any_asked c.args.fetching) b c.args.turn.now.sent.items c.ask.new.turn.sent.items) asks c.in_ok-ask.ensures.sent) in
-    subst (λ n. GoesOn by c.args.who (FetchesMarked by (node_at c.args.who standing awaits before) count fetched marking) n c.ask.new.turn.sent.items) (sym c.fetching_on.ensures)
+    subst (λ n. FetchesOn by c.args.who (node_at c.args.who standing awaits before) count fetched marking n c.ask.new.turn.sent.items) (sym c.fetching_on.ensures)
     (asked_on by c.args.who standing awaits before marking count fetched c.args.fetching c.args.marks (any_asked c.args.fetching) c.ask.new.turn.sent.items (sym next) sent keeps st)
 
 pub finish-requires : goal.finish-requires
@@ -37,5 +36,5 @@ returns-clause-turn g c = λ every standing awaits before marking count fetched 
     let whole = subst (λ k. StandsWhole (machine (g.S.Service.started k) g.S.Service.after) (reverse fetched.entries) c.finish.result) c.requires.own.kind
     (c.finish.ensures.law fetched.entries (subst (λ k. StandsFetching (machine (g.S.Service.started k) g.S.Service.after) fetched.entries c.args.fetching) (sym c.requires.own.kind) st.entries.fetched)) in
     let restored = c.in_ok-serving.ensures.turn every standing marking fetched.entries whole st.distinct sound st.bytes keeps in
-    subst (λ n. GoesOn by c.args.who (FetchesMarked by (node_at c.args.who standing awaits before) count fetched marking) n c.restore_all_marked.new.turn.sent.items) (sym c.serving_on.ensures)
+    subst (λ n. FetchesOn by c.args.who (node_at c.args.who standing awaits before) count fetched marking n c.restore_all_marked.new.turn.sent.items) (sym c.serving_on.ensures)
     (ended_on by c.args.who standing awaits before marking count fetched c.in_ok-serving.serving c.restore_all_marked.new.marks (any_asked c.args.fetching) c.ask.new.turn.sent.items c.restore_all_marked.new.turn.sent.items (sym next) sent restored)

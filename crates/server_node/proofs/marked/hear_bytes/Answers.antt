@@ -1,10 +1,15 @@
-use Rattle.std.proofs.Common.{◌==◌, false, ◌≡◌, subst}
+use Rattle.std.proofs.Common.{rules, ◌==◌, false, ◌≡◌, refl, subst}
 use Rattle.std.proofs.lemmas.Bool.{ne_eqb}
 use Rattle.ft_io.proofs.Outcomes.{if_ok}
 use Rattle.logger_wire.specs.MarkValue.{message_of as mark_message_of}
 use Rattle.node_serving.specs.Markers.{saving, marker_of}
-use Rattle.server_node.specs.MarkedTurns.{BytesTurnMarked}
 use Rattle.server_node.proofs.MarkedInputs.{noise_rests_marked, other_rests}
+use Rattle.mark_laws.specs.MarkedNode.MarkedInput.{Plain_comes, Mark_comes}
+use Rattle.ft_model.specs.Node.Input.{Noise_comes}
+use Rattle.node_serving.specs.Identity.{service_of}
+use Rattle.server_node.specs.MarkedApart.{MarkedTurnsApart}
+use Rattle.server_node.specs.MarkedTurns.{BytesTurnMarked, heard_of}
+use Rattle.server_node.proofs.MarkedApart.{marked_still}
 use Rattle.server_node.proofs.marked.hear_bytes.Goals as goal
 
 pub returns-in_default-clause-turn : goal.returns-in_default-clause-turn
@@ -27,3 +32,19 @@ returns-clause-turn g c = if_ok c.hear_mark.result
     (λ after told.
     subst (λ r. BytesTurnMarked g.S.Service (saving g.S.Saved.form g.S.Saved.state_of g.S.Saved.is_savable) c.args.who r c.args.node after c.hear_mark.new.turn.sent.items) c.in-Ok.ensures.value (told c.if-m-who.false))
     c.hear_mark.ensures.turn
+
+pub returns-in_default-clause-apart : goal.returns-in_default-clause-apart
+returns-in_default-clause-apart g c =
+    subst (λ r. MarkedTurnsApart g.S.Service c.args.who (heard_of r) c.args.node c.args.node c.args.turn.now.sent.items) c.in_default.ensures.value
+    (λ standing. marked_still (service_of g.S.Service c.args.who) c.args.who standing (Plain_comes Noise_comes) c.args.node c.args.turn.now.sent.items c.requires.empty (search rules) c.requires.sound (λ key. refl))
+
+pub returns-then-m-who-clause-apart : goal.returns-then-m-who-clause-apart
+returns-then-m-who-clause-apart g c =
+    subst (λ r. MarkedTurnsApart g.S.Service c.args.who (heard_of r) c.args.node c.args.node c.args.turn.now.sent.items) c.in-Ok.ensures.value
+    (λ standing. marked_still (service_of g.S.Service c.args.who) c.args.who standing (Mark_comes (mark_message_of c.in-Ok.m)) c.args.node c.args.turn.now.sent.items c.requires.empty (search rules) c.requires.sound (λ key. refl))
+
+pub returns-clause-apart : goal.returns-clause-apart
+returns-clause-apart g c = if_ok c.hear_mark.result
+    (λ after told.
+    subst (λ r. MarkedTurnsApart g.S.Service c.args.who (heard_of r) c.args.node after c.hear_mark.new.turn.sent.items) c.in-Ok.ensures.value (told c.if-m-who.false))
+    c.hear_mark.ensures.apart

@@ -32,7 +32,7 @@ returns-in_ok-slot-in-Live-clause-turn g c =
     live_marked (marker_of g.S.Service (saving g.S.Saved.form g.S.Saved.state_of g.S.Saved.is_savable) c.args.who every) (node_of c.args.who standing) marking f fetched c.head.result.key c.args.serving.now
     (record { next = c.add-serving.result; slots = c.add_slot-in-Live.new.slots }) c.in_ok-slot-in-Live.slot c.args.marks.now c.revive_marked.new.marks
     first c.args.turn.now.sent.items c.revive_marked.new.turn.sent.items here.0 key fresh r (c.in_ok-slot-in-Live.ensures.turn every standing (entry_in f) here.1 (sound here.0) bytes r.keeps.every)
-    c.add-serving.ensures added)
+    c.add-serving.ensures added (c.in_ok-slot-in-Live.ensures.number (g.S.Service.started c.args.who.kind) (entry_in f) here.1 (sound here.0)))
     c.add_slot-in-Live.ensures.added
 
 pub returns-in_ok-slot-in-Live-clause-sound : goal.returns-in_ok-slot-in-Live-clause-sound

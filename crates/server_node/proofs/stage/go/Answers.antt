@@ -128,7 +128,7 @@ pub returns-in-Err-clause-marked : goal.returns-in-Err-clause-marked
 returns-in-Err-clause-marked g c =
     let noise : marked_input_of c.args.input ≡ Plain_comes Noise_comes = ap marked_input_of c.in-Packet.is ∙ ap (λ r. Plain_comes (segment_or_noise r)) (sym c.read_packet.ensures ∙ ap packets.seen c.in-Err.is) in
     subst (λ i. IsTurnMarked g.S.Service (saving g.S.Saved.form g.S.Saved.state_of g.S.Saved.is_savable) c.args.who i c.args.stage c.args.stage c.args.turn.now.sent.items) (sym noise)
-    (noise_turn g.S.Service (saving g.S.Saved.form g.S.Saved.state_of g.S.Saved.is_savable) c.args.who c.args.stage c.args.turn.now.sent.items c.requires.empty c.fit_slots.ensures)
+    (noise_turn g.S.Service (saving g.S.Saved.form g.S.Saved.state_of g.S.Saved.is_savable) c.args.who c.args.stage c.args.turn.now.sent.items c.requires.empty c.fit_slots.ensures (search rules) c.requires.sound)
 
 pub returns-in_ok-hear_of_mark-in-Err-read_msg-clause-marked : goal.returns-in_ok-hear_of_mark-in-Err-read_msg-clause-marked
 returns-in_ok-hear_of_mark-in-Err-read_msg-clause-marked g c =

@@ -53,7 +53,7 @@ returns-clause-apart g c = c.in_ok-on_message.ensures.apart c.if-m-who.false
 pub returns-then-m-who-clause-marked : goal.returns-then-m-who-clause-marked
 returns-then-m-who-clause-marked g c =
     let other : (c.args.m.now.boot == c.args.who.boot) ≡ false = ne_eqb c.args.m.now.boot c.args.who.boot c.if-m-who.true in
-    other_turn g.S.Service (saving g.S.Saved.form g.S.Saved.state_of g.S.Saved.is_savable) c.args.who (message_of c.args.m.now) c.args.stage c.args.turn.now.sent.items other c.requires.empty c.fit_slots.ensures
+    other_turn g.S.Service (saving g.S.Saved.form g.S.Saved.state_of g.S.Saved.is_savable) c.args.who (message_of c.args.m.now) c.args.stage c.args.turn.now.sent.items other c.requires.empty c.fit_slots.ensures (search rules) c.requires.sound
 
 pub returns-clause-marked : goal.returns-clause-marked
 returns-clause-marked g c =

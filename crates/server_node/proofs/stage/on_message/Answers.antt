@@ -103,4 +103,4 @@ returns-in_ok-serve_message-in-Serving-clause-marked g c = λ boot calm. unmarke
 
 pub returns-in_ok-hear-in-Marked-clause-marked : goal.returns-in_ok-hear-in-Marked-clause-marked
 returns-in_ok-hear-in-Marked-clause-marked g c = λ boot calm.
-    subst (λ s. IsTurnMarked g.S.Service (saving g.S.Saved.form g.S.Saved.state_of g.S.Saved.is_savable) c.args.who (Plain_comes (Message_comes (message_of c.args.m.now))) s (stage.Marked c.in_ok-hear-in-Marked.field-0) c.hear.new.turn.sent.items) (sym c.in-Marked.is) (c.in_ok-hear-in-Marked.ensures.turn boot calm)
+    subst (λ s. IsTurnMarked g.S.Service (saving g.S.Saved.form g.S.Saved.state_of g.S.Saved.is_savable) c.args.who (Plain_comes (Message_comes (message_of c.args.m.now))) s (stage.Marked c.in_ok-hear-in-Marked.field-0) c.hear.new.turn.sent.items) (sym c.in-Marked.is) (c.in_ok-hear-in-Marked.ensures.turn boot calm, c.in_ok-hear-in-Marked.ensures.apart boot)

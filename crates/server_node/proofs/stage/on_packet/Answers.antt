@@ -100,4 +100,4 @@ returns-in_ok-serve_bytes-in-Serving-clause-marked g c = unmarked_turn g.S.Servi
 
 pub returns-in_ok-give-in-Marked-clause-marked : goal.returns-in_ok-give-in-Marked-clause-marked
 returns-in_ok-give-in-Marked-clause-marked g c =
-    subst (λ s. IsTurnMarked g.S.Service (saving g.S.Saved.form g.S.Saved.state_of g.S.Saved.is_savable) c.args.who (Plain_comes (Packet_comes (segment_of c.args.segment.now))) s (stage.Marked c.in_ok-give-in-Marked.field-0) c.give.new.turn.sent.items) (sym c.in-Marked.is) c.in_ok-give-in-Marked.ensures.turn
+    subst (λ s. IsTurnMarked g.S.Service (saving g.S.Saved.form g.S.Saved.state_of g.S.Saved.is_savable) c.args.who (Plain_comes (Packet_comes (segment_of c.args.segment.now))) s (stage.Marked c.in_ok-give-in-Marked.field-0) c.give.new.turn.sent.items) (sym c.in-Marked.is) (c.in_ok-give-in-Marked.ensures.turn, c.in_ok-give-in-Marked.ensures.apart)

@@ -83,4 +83,4 @@ returns-in_ok-serve_tick-in-Serving-clause-marked g c = unmarked_turn g.S.Servic
 
 pub returns-in_ok-tick-in-Marked-clause-marked : goal.returns-in_ok-tick-in-Marked-clause-marked
 returns-in_ok-tick-in-Marked-clause-marked g c =
-    subst (λ s. IsTurnMarked g.S.Service (saving g.S.Saved.form g.S.Saved.state_of g.S.Saved.is_savable) c.args.who (Plain_comes Tick_comes) s (stage.Marked c.in_ok-tick-in-Marked.field-0) c.tick.new.turn.sent.items) (sym c.in-Marked.is) c.in_ok-tick-in-Marked.ensures.turn
+    subst (λ s. IsTurnMarked g.S.Service (saving g.S.Saved.form g.S.Saved.state_of g.S.Saved.is_savable) c.args.who (Plain_comes Tick_comes) s (stage.Marked c.in_ok-tick-in-Marked.field-0) c.tick.new.turn.sent.items) (sym c.in-Marked.is) (c.in_ok-tick-in-Marked.ensures.turn, c.in_ok-tick-in-Marked.ensures.apart)
