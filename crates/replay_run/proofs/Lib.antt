@@ -7,3 +7,4 @@ pub mod Either
 pub mod Playing
 pub mod RunEnds
 pub mod Settling
+pub mod OneReading

@@ -95,3 +95,15 @@ traces_of false (Some every) = of_marks every
 
 abbrev pub traces : Schedule → Traces
 traces schedule = traces_of schedule.twin schedule.marks
+
+-- a schedule and a trace of its kind
+pub record Traced : Type 0 where
+  pub schedule : Schedule
+  pub trace : List (traces schedule).Turn
+
+-- the trace is legal, up to the schedule's last event
+abbrev pub IsLegalTraced : Traced → Type 0
+IsLegalTraced traced = (traces traced.schedule).IsLegal traced.schedule traced.schedule.events traced.trace
+
+abbrev pub report_of : Traced → List ℕ
+report_of traced = (traces traced.schedule).report traced.schedule traced.trace
