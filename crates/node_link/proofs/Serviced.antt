@@ -31,15 +31,15 @@ use Rattle.link_parts.specs.declared.status.NodeEnd.{NodeEnd}
 use Rattle.link_parts.specs.declared.status.NodeEnd.TheVariants as ends
 use Rattle.link_parts.specs.Counts.{count_line, counts_of, with_calls, HasRoom}
 use Rattle.node_link.specs.KeyLife.{AreFairFor}
-use Rattle.node_link.specs.KeyLife.KeyStage.{Asks}
+use Rattle.node_link.specs.ServerStages.{stage_after}
 use Rattle.link_parts.specs.Receipt.{Received, datagram, received_as, IsQuiet}
 use Rattle.link_parts.specs.LineOutput.{TellStops}
 use Rattle.node_link.specs.ServerTurns.{is_from_logger, input_from, Sent, wires_in, address_of, second_for, sent_second, sent_as, sending, ServerTurn, turn_calls, server_calls}
 use Rattle.link_parts.specs.ServiceNumber.{kind_in}
 use Rattle.node_link.specs.Incarnation.{service_of, first_of, input_in, IsFairAt, AreFair, fence_in}
 use Rattle.node_link.specs.ServerLife.{IsServer, IsCutServer, ServerStops}
-use Rattle.node_link.specs.ServerParts.{Standing, HasHanded, HasSent, identity_of, HasBooted, Goes, HasTurned, EndsTurn, TurnStops, IsAfterTurns, StandsForKey, IsServing, HasServed, IsCutServing, ServeStops}
-use Rattle.node_link.proofs.KeyGoing.{GoesFor, begins_for, key_goes}
+use Rattle.node_link.specs.ServerParts.{Standing, HasHanded, HasSent, identity_of, HasBooted, Goes, HasTurned, EndsTurn, TurnStops, IsAfterTurns, StandsAt, StandsForKey, IsServing, HasServed, IsCutServing, ServeStops}
+use Rattle.node_link.proofs.KeyGoing.{ServerGoes, GoesFor, begins_at, none_asking, server_goes}
 use Rattle.link_parts.proofs.Calls.{counts_on, with_both, with_none, few_calls, IsFew}
 use Rattle.link_parts.specs.Ranges.{most_turns}
 
@@ -197,12 +197,17 @@ module _ {State : Type 0} (services : ℕ → Machine State) where
         turns = [];
         count_is = refl;
         tells = b.tells;
-        serves = record { boots = b.wires_are; lawful = tt; each_key = λ key. tt; unfenced = tt };
+        serves = record { boots = b.wires_are; lawful = tt; sends = tt; each_key = λ key. tt; unfenced = tt };
         counts_are = b.counts_are ∙ (ap (λ x. with_calls x (sending role.loggers b.at_boot)) none ∙ sym (counts_on [] (sending role.loggers b.at_boot)));
         total = omega (arith, length_sending role.loggers b.at_boot, b.few);
         who = b.who;
         stands = λ fair. record { turns_by_law = []; standing = law.Stage.Asking; incarnation = record { turns_are = tt; lawful = tt }; node = refl; stands = b.stands };
-        each_key = λ key fair. record { at = Asks; run = refl; stands = begins_for services (first_of role) (first_of role) key s.stage (kind_in role.service) b.stands refl };
+        at = begins_at services (first_of role) (first_of role) s.stage (kind_in role.service) b.stands refl;
+        each_key = λ key fair. record {
+          place = None;
+          run = refl;
+          has = none_asking services (first_of role) key s.stage (kind_in role.service) (begins_at services (first_of role) (first_of role) s.stage (kind_in role.service) b.stands refl);
+        };
       }
 
   -- .. and one more
@@ -237,25 +242,36 @@ module _ {State : Type 0} (services : ℕ → Machine State) where
       let st : IsAfterTurns services role turns s = stands fair.0 in
       stands_on role turns turn s s' who goes st (fair.1 st.turns_by_law st.incarnation)
 
-  key_on : (role : ServerRole) (turns : List ServerTurn) (turn : ServerTurn) (s s' : Standing State) (key : Key) → s.who ≡ identity_of role
+  -- whatever has come, the server is as far as what has come says, and sends what it may send
+  goes_on : (role : ServerRole) (turns : List ServerTurn) (turn : ServerTurn) (s s' : Standing State) → s.who ≡ identity_of role
       → Goes services s (input_in role turn.received) s' (wires_in turn.sent) → TurnsApart (services s.who.kind) s.who (input_in role turn.received) s.stage s'.stage (wires_in turn.sent)
+      → StandsAt services (first_of role) (stage_after (first_of role) role.loggers turns) s.stage (kind_in role.service)
+      → ServerGoes services (identity_of role) (input_in role turn.received) (stage_after (first_of role) role.loggers turns) s.stage (wires_in turn.sent) s'.stage
+  goes_on role turns turn s s' who goes apart at =
+      server_goes services (identity_of role) (input_in role turn.received) s.stage s'.stage (wires_in turn.sent)
+      (goes_by role s (input_in role turn.received) s' (wires_in turn.sent) who goes)
+      (subst (λ w. TurnsApart (services w.kind) w (input_in role turn.received) s.stage s'.stage (wires_in turn.sent)) who apart)
+      (stage_after (first_of role) role.loggers turns) at
+
+  key_on : (role : ServerRole) (turns : List ServerTurn) (turn : ServerTurn) (s s' : Standing State) (key : Key)
+      → ServerGoes services (identity_of role) (input_in role turn.received) (stage_after (first_of role) role.loggers turns) s.stage (wires_in turn.sent) s'.stage
       → (AreFairFor (service_of services role) (first_of role) key role.loggers turns → StandsForKey services role key turns s)
       → AreFairFor (service_of services role) (first_of role) key role.loggers (turn ∷ turns) → StandsForKey services role key (turn ∷ turns) s'
-  key_on role turns turn s s' key who goes apart stands fair =
+  key_on role turns turn s s' key g stands fair =
       let st : StandsForKey services role key turns s = stands fair.0 in
-      let next : GoesFor services (identity_of role) key (input_in role turn.received) st.at (wires_in turn.sent) s'.stage =
-      key_goes services (identity_of role) key (input_in role turn.received) s.stage s'.stage (wires_in turn.sent)
-      (goes_by role s (input_in role turn.received) s' (wires_in turn.sent) who goes)
-      (subst (λ w. TurnsApart (services w.kind) w (input_in role turn.received) s.stage s'.stage (wires_in turn.sent)) who apart) st.at st.stands (fair.1 st.at st.run) in
-      record { at = next.after; run = (st.at, st.run, next.goes); stands = next.stands }
+      let next : GoesFor services (identity_of role) key (input_in role turn.received) (stage_after (first_of role) role.loggers turns) st.place (wires_in turn.sent) s'.stage =
+      g.keys key st.place st.has (fair.1 st.place st.run) in
+      record { place = next.after; run = (st.place, st.run, next.goes); has = next.has }
 
   pub serving_on : (role : ServerRole) (i : ℕ) (s s' : Standing State) (old mid new : Option (List LinkCall)) (c counts : Counts) → IsServing services role i s old mid c
       → HasTurned services role.loggers s s' mid new c counts → IsServing services role (i + 1) s' old new counts
   serving_on role i s s' old mid new c counts h t =
       let calls : List LinkCall = server_calls role.loggers h.at_boot h.turns in
+      let g : ServerGoes services (identity_of role) (input_in role t.turn.received) (stage_after (first_of role) role.loggers h.turns) s.stage (wires_in t.turn.sent) s'.stage =
+      goes_on role h.turns t.turn s s' h.who t.goes t.apart h.at in
       let stands : AreFair services role (t.turn ∷ h.turns) → IsAfterTurns services role (t.turn ∷ h.turns) s' = lawful_on role h.turns t.turn s s' h.who t.goes h.stands in
       let keys : (key : Key) → AreFairFor (service_of services role) (first_of role) key role.loggers (t.turn ∷ h.turns) → StandsForKey services role key (t.turn ∷ h.turns) s' =
-      λ key. key_on role h.turns t.turn s s' key h.who t.goes t.apart (h.each_key key) in
+      λ key. key_on role h.turns t.turn s s' key g (h.each_key key) in
       let none : fence_in role t.turn.received ≡ None =
       subst (λ w. fence (node_of w law.Stage.Asking) (input_in role t.turn.received) ≡ None) h.who (t.unfenced law.Stage.Asking) in
       record {
@@ -266,13 +282,15 @@ module _ {State : Type 0} (services : ℕ → Machine State) where
         serves = record {
           boots = h.serves.boots;
           lawful = (h.serves.lawful, λ fair. ((stands fair).turns_by_law, (stands fair).incarnation));
-          each_key = λ key. (h.serves.each_key key, λ fair. ((keys key fair).at, (keys key fair).run));
+          sends = (h.serves.sends, g.sends);
+          each_key = λ key. (h.serves.each_key key, λ fair. ((keys key fair).place, (keys key fair).run));
           unfenced = (none, h.serves.unfenced);
         };
         counts_are = t.counts_are ∙ (ap (λ x. with_calls x (turn_calls role.loggers t.turn)) h.counts_are ∙ sym (counts_on (server_calls role.loggers h.at_boot h.turns) (turn_calls role.loggers t.turn)));
         total = longer role h.at_boot h.turns t.turn i h.total t.few;
         who = t.who ∙ h.who;
         stands = stands;
+        at = g.stands;
         each_key = keys;
       }
 

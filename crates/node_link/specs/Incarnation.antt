@@ -8,6 +8,7 @@ use Rattle.ft_model.specs.Lawful.{Turn, IsLawful, node_after, hello, fence, IsNe
 use Rattle.ft_model.specs.Wire.{wire_of, HasWire}
 use Rattle.link_parts.specs.declared.role.ServerRole.{ServerRole}
 use Rattle.node_link.specs.KeyLife.{AreLawfulFor}
+use Rattle.node_link.specs.ServerStages.{AllSend}
 use Rattle.link_parts.specs.Receipt.{Received}
 use Rattle.node_link.specs.ServerTurns.{Sent, wires_in, ServerTurn, input_from}
 use Rattle.link_parts.specs.ServiceNumber.{kind_in}
@@ -59,10 +60,11 @@ module _ {State : Type 0} (services : ℕ → Machine State) where
   AreLawful role [] = Unit {0}
   AreLawful role (turn ∷ earlier) = AreLawful role earlier × (AreFair role (turn ∷ earlier) → (law : List Turn) × IsIncarnation role (turn ∷ earlier) law)
 
-  -- A server from its boot on: it says Hello, its turns are lawful, the turns of each key are lawful as long as the premises hold of that key alone, and
-  -- nothing that it received fences it
+  -- A server from its boot on: it says Hello, its turns are lawful, each of them sends nothing but what it may send whatever has come, the turns of each key are
+  -- lawful as long as the premises hold of that key alone, and nothing that it received fences it
   pub record Serves (role : ServerRole) (at_boot : List Sent) (turns : List ServerTurn) : Type 0 where
     pub boots : wires_in at_boot ≡ map wire_of (hello (first_of role))
     pub lawful : AreLawful role turns
+    pub sends : AllSend (service_of role) (first_of role) role.loggers turns
     pub each_key : (key : Key) → AreLawfulFor (service_of role) (first_of role) key role.loggers turns
     pub unfenced : AllByRecursion (λ turn. fence_in role turn.received ≡ None) turns

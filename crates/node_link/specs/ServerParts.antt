@@ -17,6 +17,7 @@ use Rattle.server_node.specs.declared.node.Node.{Node}
 use Rattle.server_node.specs.declared.stage.Stage.{Stage}
 use Rattle.server_node.specs.declared.stage.Stage.TheVariants as stage
 use Rattle.node_serving.specs.Alone.{slot_of, StandsFor}
+use Rattle.node_serving.specs.Clients.{Knows}
 use Rattle.server_node.specs.Apart.{TurnsApart}
 use Rattle.node_serving.specs.Identity.{node_of}
 use Rattle.server_node.specs.FetchStage.{FetchingStands}
@@ -25,8 +26,9 @@ use Rattle.link_parts.specs.declared.counts.Counts.{Counts}
 use Rattle.link_parts.specs.declared.role.Loggers.{Loggers}
 use Rattle.link_parts.specs.declared.role.ServerRole.{ServerRole}
 use Rattle.link_parts.specs.Counts.{with_calls, counts_of}
-use Rattle.node_link.specs.KeyLife.{KeyStage, KeyRun, AreFairFor}
-use Rattle.node_link.specs.KeyLife.KeyStage.{Asks, Fetches, Has}
+use Rattle.node_link.specs.KeyLife.{KeyRun, AreFairFor}
+use Rattle.node_link.specs.ServerStages.{ServerStage, stage_after}
+use Rattle.node_link.specs.ServerStages.ServerStage.{Asks, Fetches, Serves_with}
 use Rattle.link_parts.specs.Receipt.{Received, received_as}
 use Rattle.node_link.specs.ServerTurns.{Sent, wires_in, sending, ServerTurn, turn_calls, server_calls, input_from}
 use Rattle.link_parts.specs.ServiceNumber.{kind_in}
@@ -102,18 +104,23 @@ module _ {State : Type 0} (services : ℕ → Machine State) where
     pub node : node_after (first_of role) turns_by_law ≡ node_of (identity_of role) standing
     pub stands : StageStands (service_of services role) (node_of (identity_of role) standing) s.stage
 
-  -- how far it is for a key
-  abbrev pub StandsAt : law.Node → Key → KeyStage → Stage State → ℕ → Type 0
-  StandsAt node key Asks stage.Asking kind = Unit {0}
-  StandsAt node key (Fetches count fetched) (stage.Fetching f) kind = FetchingStands (services kind) count fetched f
-  StandsAt node key (Has place) (stage.Serving s) kind = StandsFor (services kind) node key (slot_of key s) place
-  StandsAt node key _ _ kind = ⊥
+  -- how far it is, whatever has come
+  abbrev pub StandsAt : law.Node → ServerStage → Stage State → ℕ → Type 0
+  StandsAt node Asks stage.Asking kind = Unit {0}
+  StandsAt node (Fetches count fetched) (stage.Fetching f) kind = FetchingStands (services kind) count fetched f
+  StandsAt node (Serves_with clients) (stage.Serving s) kind = Knows node clients s
+  StandsAt node _ _ kind = ⊥
 
-  -- where it is for a key after these turns, as long as the premises hold of that key
+  -- what it has for a key, once it serves
+  abbrev pub HasFor : law.Node → Key → Option law.Place → Stage State → ℕ → Type 0
+  HasFor node key place (stage.Serving s) kind = StandsFor (services kind) node key (slot_of key s) place
+  HasFor node key place _ kind = Unit {0}
+
+  -- .. after these turns, as long as the premises hold of that key
   pub record StandsForKey (role : ServerRole) (key : Key) (turns : List ServerTurn) (s : Standing State) : Type 0 where
-    pub at : KeyStage
-    pub run : KeyRun (service_of services role) (first_of role) key role.loggers turns at
-    pub stands : StandsAt (first_of role) key at s.stage (kind_in role.service)
+    pub place : Option law.Place
+    pub run : KeyRun (service_of services role) (first_of role) key role.loggers turns place
+    pub has : HasFor (first_of role) key place s.stage (kind_in role.service)
 
   -- so many turns were done
   pub record IsServing (role : ServerRole) (count : ℕ) (s : Standing State) (old new : Option (List LinkCall)) (counts : Counts) : Type 0 where
@@ -126,6 +133,7 @@ module _ {State : Type 0} (services : ℕ → Machine State) where
     pub total : length (server_calls role.loggers at_boot turns) ≤ (count + 1) * (2 ^ 65 + 1)
     pub who : s.who ≡ identity_of role
     pub stands : AreFair services role turns → IsAfterTurns role turns s
+    pub at : StandsAt (first_of role) (stage_after (first_of role) role.loggers turns) s.stage (kind_in role.service)
     pub each_key : (key : Key) → AreFairFor (service_of services role) (first_of role) key role.loggers turns → StandsForKey role key turns s
 
   -- the same, whatever the node's stage

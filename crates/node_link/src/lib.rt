@@ -13,5 +13,6 @@ pub use link_parts::{
 pub use top::{node, run_role};
 
 mod excluded;
+pub mod laws;
 mod server;
 mod top;
