@@ -124,7 +124,7 @@ pub record MayArrive (c : Client) (w : World) : Type 0 where
   pub clear : IsClear c.key w
   pub unheard : AllByRecursion (λ p. concerns c.key p ≡ false) w.packets
 
--- The server lets go of a client that is silent for too long (RFC 9293, 3.8.3: R2 is reached; 3.8.4: keep-alives stay unanswered), half-open or established.
+-- The server lets go of a client that is silent for too long (RFC 9293, 3.8.3: the second threshold is reached; 3.8.4: keep-alives stay unanswered), half-open or established.
 -- It takes the turn of a RST at exactly the next number, which nobody sent: the connection is reset, and the client isn't told
 abbrev pub last_rst : Addr → Point → Segment
 last_rst server p = record {
