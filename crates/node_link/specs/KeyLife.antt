@@ -51,7 +51,7 @@ module _ {State : Type 0} (service : Machine State) (node : Node) (key : Key) wh
   RestartsKey before input (Serves_with clients) after sent = EndsRestart before input after sent
 
   -- while the server serves, the key's turn is that of a server that has this key alone, but for the openings of all clients: they use up initial sequence
-  -- numbers, and while 64 of them are pending, a SYN of an unknown client is ignored
+  -- numbers, and while 64 of them are pending, a SYN of an unknown client may be ignored
   pub record ServesKey (clients : Clients) (before : Option Place) (input : Input) (after : Option Place) (sent : List Wire) : Type 0 where
     pub packets : List Packet
     pub turn : KeyTurn service node input key clients.opened (pending_of clients.known) before after packets
