@@ -19,7 +19,7 @@ use Rattle.ft_model.specs.Network.Packet.{To_server, To_client, To_logger, From_
 use Rattle.ft_model.specs.Point.{Point}
 use Rattle.ft_model.specs.News.{News}
 use Rattle.ft_model.specs.News.News.{Comes, Logged, Ticks, Begins}
-use Rattle.ft_model.specs.Taken.{uses, counts}
+use Rattle.ft_model.specs.Taken.{uses, acknowledges_unsent, counts}
 use Rattle.ft_model.specs.Sending.{acknowledges, acknowledged_by, acknowledged_after}
 use Rattle.ft_model.specs.Segments.{segments_of}
 use Rattle.ft_model.specs.Copy.{copies}
@@ -157,7 +157,8 @@ una_backed service script log (Comes segment) p n h =
     let N : ℕ = logged_output service script log p.key in
     holds_if (λ u. u ≤ N) (acknowledges p segment) (una_after p.una (acknowledged_by p segment)) p.una
     (λ t. let two = and_parts (counts p segment) (int_le (pos 0) (ack_of p.sisn segment)) t in
-    let all = and_parts (has_ack segment && not (has_syn segment) && not (has_rst segment) && uses p segment) (p.syn_acked || int_le (pos 0) (ack_of p.sisn segment)) two.0 in
+    let sent = and_parts (has_ack segment && not (has_syn segment) && not (has_rst segment) && uses p segment && (p.syn_acked || int_le (pos 0) (ack_of p.sisn segment))) (not (acknowledges_unsent p segment)) two.0 in
+    let all = and_parts (has_ack segment && not (has_syn segment) && not (has_rst segment) && uses p segment) (p.syn_acked || int_le (pos 0) (ack_of p.sisn segment)) sent.0 in
     let flags = and_parts (has_ack segment && not (has_syn segment) && not (has_rst segment)) (uses p segment) all.0 in
     let ack = and_parts (has_ack segment && not (has_syn segment)) (not (has_rst segment)) flags.0 in
     let low : nat_abs (ack_of p.sisn segment) ≤ N = at_most (ack_of p.sisn segment) N two.1 (n (and_parts (has_ack segment) (not (has_syn segment)) ack.0).0) in

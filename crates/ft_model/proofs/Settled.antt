@@ -18,6 +18,7 @@ noted news p lengths sent interval rest end_ticks = record {
   sisn = p.sisn;
   mss = p.mss;
   fetched = p.fetched;
+  fetched_output = p.fetched_output;
   taken = taken_after news p;
   fin = fin_after news p;
   early = early_after news p;

@@ -8,7 +8,7 @@ use Rattle.seq_arith.specs.Congestion.{with_new_data, is_third, with_duplicate, 
 use Rattle.seq_arith.specs.Coming.{comes, new_text, with_text, holds_fin, with_fin, continued, with_fin_taken}
 use Rattle.server_trait.specs.Service.{Machine, reference}
 use Rattle.ft_model.specs.Log.{log_after, answer_to}
-use Rattle.ft_model.specs.Taken.{accepts, uses, counts, came, taken_after, early_after, fin_after}
+use Rattle.ft_model.specs.Taken.{accepts, uses, acknowledges_unsent, counts, came, taken_after, early_after, fin_after}
 use Rattle.ft_model.specs.Answered.{answered_after, reads_answered_after}
 use Rattle.ft_model.specs.Reads.{next_length, may_read, reads_told}
 use Rattle.ft_model.specs.Timer.{must_run, interval_after, rest_after}
@@ -35,7 +35,7 @@ use Rattle.ft_model.proofs.LiveTurns.{turned, live_turn}
 
 -- names all laws that a run computes: `unfolding laws` opens them
 unfoldable pub laws : Type 0
-unfolding turned reference offset_of log_after answer_to accepts uses is_at_right_edge is_allowed_at_zero counts came comes new_text with_text holds_fin with_fin continued with_fin_taken laid runs_behind held_with front_run behind_front_run holds_some taken_after early_after fin_after answered_after reads_answered_after next_length may_read reads_told must_run interval_after rest_after syn_acked_after acknowledged_after edge_after wl1_after wl2_after is_duplicate is_third_duplicate with_new_data is_third with_duplicate with_expiry congestion_after sent_at_once sent_after copies own_data further_data datas reset_after end_ticks_after dones needs_ack is_ack_pending resent new_texts new_fin full_segments segments_of
+unfolding turned reference offset_of log_after answer_to accepts uses is_at_right_edge is_allowed_at_zero acknowledges_unsent counts came comes new_text with_text holds_fin with_fin continued with_fin_taken laid runs_behind held_with front_run behind_front_run holds_some taken_after early_after fin_after answered_after reads_answered_after next_length may_read reads_told must_run interval_after rest_after syn_acked_after acknowledged_after edge_after wl1_after wl2_after is_duplicate is_third_duplicate with_new_data is_third with_duplicate with_expiry congestion_after sent_at_once sent_after copies own_data further_data datas reset_after end_ticks_after dones needs_ack is_ack_pending resent new_texts new_fin full_segments segments_of
 laws = Unit {0}
 
 -- a server with one place: what it does there is the whole turn

@@ -34,6 +34,7 @@ pub record IsSameConnection (before after : Point) : Type 0 where
   pub sisn : after.sisn ≡ before.sisn
   pub mss : after.mss ≡ before.mss
   pub fetched : after.fetched ≡ before.fetched
+  pub fetched_output : after.fetched_output ≡ before.fetched_output
 
 -- a turn of a connection that its client has not reset
 pub record LiveTurn {State : Type 0} (service : Machine State) (server : Addr) (boot : ℕ) (news : News) (before after : Point) (sent : List Packet) : Type 0 where

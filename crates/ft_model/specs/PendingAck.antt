@@ -7,19 +7,24 @@ use Rattle.ft_model.specs.Offset.{first_of, ack_of, length_of}
 use Rattle.ft_model.specs.Point.{Point, taken_units, advertised_edge, is_over}
 use Rattle.ft_model.specs.News.{News}
 use Rattle.ft_model.specs.News.News.{Comes, Logged, Ticks, Begins}
-use Rattle.ft_model.specs.Taken.{accepts}
+use Rattle.ft_model.specs.Taken.{accepts, acknowledges_unsent}
 
--- while the SYN is unacknowledged, TCP answers an acknowledgement of less than the SYN by a RST and no ACK. The server doesn't send that RST either
+-- while the SYN is unacknowledged, TCP answers an acknowledgement of anything but the SYN by a RST and no ACK. The server doesn't send that RST either
 abbrev pub is_refused : Point → Segment → Bool
-is_refused p segment = not p.syn_acked && has_ack segment && int_lt (ack_of p.sisn segment) (pos 0)
+is_refused p segment = not p.syn_acked && has_ack segment && (int_lt (ack_of p.sisn segment) (pos 0) || acknowledges_unsent p segment)
 
--- which acceptable segments TCP answers: a SYN, and a RST that isn't at the next number, get a challenge ACK, and a segment whose length isn't 0 gets an ACK.
--- A segment of length 0 past the next number gets no answer: otherwise two ends that each miss a segment would answer each other forever
+-- an acknowledgement of what was never sent
+abbrev pub is_unsent_ack : Point → Segment → Bool
+is_unsent_ack p segment = has_ack segment && acknowledges_unsent p segment
+
+-- which acceptable segments TCP answers: a SYN, and a RST that isn't at the next number, get a challenge ACK. A segment whose length isn't 0 gets an ACK, and so
+-- does one that acknowledges what was never sent. Any other segment of length 0 past the next number gets no answer: otherwise two ends that each miss a segment
+-- would answer each other forever
 abbrev pub needs_ack_if_acceptable : Point → Segment → Bool
 needs_ack_if_acceptable p segment =
     if has_rst segment then not (int_eq (first_of p.cisn segment) (pos (taken_units p)))
     else (if has_syn segment then true
-    else (if is_refused p segment then false else nat_lt 0 (length_of segment)))
+    else (if is_refused p segment then false else nat_lt 0 (length_of segment) || is_unsent_ack p segment))
 
 -- whether TCP answers a segment with an ACK. One that isn't acceptable always gets one, unless it has RST
 unfoldable pub needs_ack : Point → Segment → Bool

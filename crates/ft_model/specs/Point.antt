@@ -14,6 +14,7 @@ pub record Point : Type 0 where
   pub sisn : ℕ  -- the server's initial sequence number, as the client knows it
   pub mss : ℕ  -- the segment size
   pub fetched : ℕ  -- the client's bytes that a restart fetched from the log; else 0
+  pub fetched_output : ℕ  -- the units of output that the reads make which a restart fetched; else 0. An earlier incarnation may have sent these
   pub taken : List ℕ  -- the client's bytes that are taken, the fetched ones first
   pub fin : Bool  -- whether the client's FIN is taken
   pub early : Early  -- the client's text after the bytes taken, and its FIN, that are held until the gap before them is filled
@@ -40,6 +41,7 @@ blank_point key cisn sisn mss = record {
   sisn = sisn;
   mss = mss;
   fetched = 0;
+  fetched_output = 0;
   taken = [];
   fin = false;
   early = nothing_early;
@@ -90,6 +92,10 @@ released service p = length (answered_run service p).output
 -- the units that may be sent: a FIN follows the output once an answered read has closed the service
 abbrev pub target : {State : Type 0} → Machine State → Point → ℕ
 target service p = released service p + one_if (answered_run service p).closed
+
+-- all that the client can have been sent: what this incarnation sent and, after a restart, what an earlier one may have sent
+abbrev pub most : Point → ℕ
+most p = max p.sent p.fetched_output
 
 -- the right edge of the receive window: 65,535 bytes are buffered past what is read, the fetched bytes are there already, and a stream has at most 2^24 bytes
 abbrev pub receive_edge : Point → ℕ

@@ -128,6 +128,10 @@ entry_in f = record {
 abbrev pub run_of : {State : Type 0} → Machine State → Entry → Run State
 run_of service e = reference service e.bytes e.lengths
 
+-- the units of output of an entry: what its reads make, and one more where they close the service
+abbrev pub output_units : {State : Type 0} → Machine State → Entry → ℕ
+output_units service e = length (run_of service e).output + one_if (run_of service e).closed
+
 -- where the output continues: after what the client acknowledged of it. The server's FIN is retransmitted even if it was acknowledged
 abbrev pub resumed_at : {State : Type 0} → Machine State → Entry → ℕ
 resumed_at service e = min e.acknowledged (length (run_of service e).output)
@@ -136,6 +140,7 @@ resumed_at service e = min e.acknowledged (length (run_of service e).output)
 abbrev pub point_of : {State : Type 0} → Machine State → Entry → Point
 point_of service e = record (blank_point e.key e.cisn e.sisn e.mss) {
   fetched = length e.bytes;
+  fetched_output = output_units service e;
   taken = e.bytes;
   fin = e.fin;
   answered = length e.bytes + one_if e.fin;

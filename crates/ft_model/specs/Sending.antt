@@ -16,7 +16,7 @@ use Rattle.ft_model.specs.Timer.{expires, probes}
 abbrev pub acknowledges : Point → Segment → Bool
 acknowledges p segment = counts p segment && int_le (pos 0) (ack_of p.sisn segment)
 
--- what a segment acknowledges, but at most what this incarnation sent. The client may have received more from an earlier one ..
+-- what a segment that counts acknowledges, but at most what this incarnation sent. The client may have received more from an earlier one ..
 abbrev pub acknowledged_by : Point → Segment → ℕ
 acknowledged_by p segment = min (nat_abs (ack_of p.sisn segment)) p.sent
 

@@ -1,11 +1,11 @@
 -- The law Taken: which bytes of a segment are taken, which are held, and when its FIN is taken (RFC 9293, 3.10.7.4: first, seventh and eighth check). All tests
 -- are made at the point before the turn.
 use Rattle.std.specs.Prelude.{ℕ, ℤ, Bool, pos, ◌+ℤ◌, ◌&&◌, ◌||◌, not, int_le, List, ◌++◌, length, if◌then◌else◌}
-use Rattle.seq_arith.specs.Arrival.{is_acceptable_or_at_edge, is_usable}
+use Rattle.seq_arith.specs.Arrival.{is_acceptable_or_at_edge, is_usable, is_beyond}
 use Rattle.seq_arith.specs.Packet.{Segment, has_syn, has_rst, has_ack}
 use Rattle.seq_arith.specs.Coming.{Early, Came, nothing_came, comes}
 use Rattle.ft_model.specs.Offset.{first_of, ack_of, text_of, fin_of, length_of}
-use Rattle.ft_model.specs.Point.{Point, taken_units, receive_edge, room}
+use Rattle.ft_model.specs.Point.{Point, taken_units, most, receive_edge, room}
 use Rattle.ft_model.specs.News.{News}
 use Rattle.ft_model.specs.News.News.{Comes, Logged, Ticks, Begins}
 
@@ -17,10 +17,15 @@ accepts p segment = is_acceptable_or_at_edge (taken_units p) (room p) (first_of 
 unfoldable pub uses : Point → Segment → Bool
 uses p segment = is_usable (taken_units p) (room p) (first_of p.cisn segment) (length_of segment)
 
--- The segment counts: it is used, and has ACK and neither SYN nor RST. The first one to count acknowledges the SYN
+-- the segment acknowledges something that was never sent (RFC 9293, 3.10.7.4, fifth check), neither by this incarnation nor by an earlier one
+unfoldable pub acknowledges_unsent : Point → Segment → Bool
+acknowledges_unsent p segment = is_beyond (most p) (ack_of p.sisn segment)
+
+-- The segment counts: it is used, has ACK and neither SYN nor RST, and acknowledges nothing that was never sent. The first one to count acknowledges the SYN
 unfoldable pub counts : Point → Segment → Bool
 counts p segment =
     has_ack segment && not (has_syn segment) && not (has_rst segment) && uses p segment && (p.syn_acked || int_le (pos 0) (ack_of p.sisn segment))
+    && not (acknowledges_unsent p segment)
 
 -- where the segment's text ends
 abbrev pub end_of : Point → Segment → ℤ

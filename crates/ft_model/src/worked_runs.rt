@@ -99,7 +99,7 @@ pub fn restart_in_turns_is_lawful()
     ensures { Lawful echo server 2 900000 (hello (booted server 2 900000)) RestartInTurns.turns }
 {}
 
-/// An acknowledgement of more than this incarnation sent counts as one of all that it sent.
+/// An acknowledgement of more than this incarnation sent, and of no more than an earlier one may have sent, counts as one of all that this one sent.
 pub fn client_knows_more_is_lawful()
     ensures { Lawful echo server 2 900000 (hello (booted server 2 900000)) ClientKnowsMore.restart_turns }
 {}

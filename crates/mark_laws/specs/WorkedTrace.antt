@@ -136,6 +136,7 @@ moment_27 = moment (Deliver 24) (Mark_answered (about 2 (HeldMsg key mark)) ∷ 
 abbrev pub restarted : Point
 restarted = record (blank_point key 1000 5000 536) {
   fetched = 5;
+  fetched_output = 5;
   taken = hello_text;
   answered = 5;
   lengths = 5 ∷ [];

@@ -52,7 +52,7 @@ bare_entry = fetched_with head [] []
 
 -- the connection when it is restarted, when its FIN is retransmitted, when that is acknowledged, and at the end ticks
 abbrev pub restarted : Point
-restarted = record logged { reads_answered = 1; edge = 0; rest = 1 }
+restarted = record logged { fetched_output = 1; reads_answered = 1; edge = 0; rest = 1 }
 
 abbrev pub closed_again : Point
 closed_again = record restarted { edge = 65535; wl1 = pos 1; sent = 1 }

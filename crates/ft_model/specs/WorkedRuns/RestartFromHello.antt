@@ -22,6 +22,7 @@ entry_with_lengths = fetched_with head [] (5 ∷ [])
 abbrev pub restarted : Point
 restarted = record (blank_point key 1000 5000 536) {
   fetched = 5;
+  fetched_output = 5;
   taken = hello_text;
   answered = 5;
   lengths = 5 ∷ [];

@@ -15,7 +15,7 @@ head = head_with 5 false 2 0
 
 -- the connection when everything is fetched: the bytes after the logged reads are read in the same turn
 abbrev pub restarted : Point
-restarted = record one_read { lengths = 2 ∷ 1 ∷ 2 ∷ []; reads_answered = 2 }
+restarted = record one_read { fetched_output = 3; lengths = 2 ∷ 1 ∷ 2 ∷ []; reads_answered = 2 }
 
 abbrev pub turn_1 : Turn
 turn_1 = asks_entry
