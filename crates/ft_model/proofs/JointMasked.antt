@@ -1,5 +1,5 @@
 -- The headline: every joint trace is masked.
-use Rattle.std.proofs.Common.{◌≡◌, ℕ, Bool, true, false, ◌==◌, ◌&&◌, refl, sym, ap, ◌∙◌, subst, true≢false, ◌⊎◌, Option, Some, None, List, [], ◌∷◌, if◌then◌else◌, ◌+◌, ◌≤◌, length}
+use Rattle.std.proofs.Common.{◌≡◌, ℕ, Bool, true, false, ◌==◌, ◌&&◌, refl, sym, ap, ◌∙◌, subst, true≢false, ◌⊎◌, Option, Some, None, List, [], ◌∷◌, if◌then◌else◌, ◌+◌, ◌≤◌, ◌≤ℤ◌, pos, length}
 use Rattle.ft_model.proofs.Services.{more_bytes}
 use Rattle.ft_model.proofs.Scripts.{EntryFits}
 use Rattle.ft_model.proofs.Keys.{finds_itself, all_from_get}
@@ -7,19 +7,21 @@ use Rattle.ft_model.specs.Restart.{run_of}
 use Rattle.std.specs.List.{AllByRecursion}
 use Rattle.std.proofs.lemmas.Bool.{false_from_ne_true}
 use Rattle.ft_io.specs.declared.Key.{Key}
+use Rattle.ft_io.specs.Key.{key_eq}
 use Rattle.seq_arith.specs.Number.{number_at}
 use Rattle.seq_arith.specs.Packet.{Segment, has_syn, has_rst, has_ack}
 use Rattle.server_trait.specs.Service.{Machine, reference}
-use Rattle.ft_model.specs.Offset.{fin_of, text_of, one_if}
+use Rattle.ft_model.specs.Offset.{ack_of, fin_of, text_of, one_if}
 use Rattle.ft_model.specs.Client.{Client, received, opened_by, arrived, is_opening, is_open, is_ended}
 use Rattle.ft_model.specs.declared.phase.Phase.TheVariants as phases
 use Rattle.ft_model.specs.Log.{Log, Entry, entry_of, log_after}
-use Rattle.ft_model.specs.Network.{Packet, destination_of}
-use Rattle.ft_model.specs.Network.Packet.{To_client}
+use Rattle.ft_model.specs.Network.{Packet, source_of, destination_of}
+use Rattle.ft_model.specs.Network.Packet.{To_server, To_client, To_logger, From_logger}
 use Rattle.ft_model.specs.Growth.{IsPrefix, logged_lengths, lengths_in}
 use Rattle.ft_model.specs.Masked.{SeesFront, unfailing, Masked}
+use Rattle.ft_model.specs.Made.{AcknowledgesMade}
 use Rattle.ft_model.specs.World.{World, Moment, Joint, IsStart, IsNewClient, world_after}
-use Rattle.ft_model.proofs.Lists.{all_both, all_weaker, all_slice_get, none_is_some, some_is}
+use Rattle.ft_model.proofs.Lists.{all_both, all_weaker, all_find, all_slice_get, found_passes, same_key, none_is_some, some_is}
 use Rattle.ft_model.proofs.Grows.{log_grows}
 use Rattle.ft_model.proofs.Happened.{Happened, holds_after, all_sent}
 use Rattle.ft_model.proofs.Happened.Happened.{log_heard, client_heard, client_moved, server_turned, server_booted, server_down}
@@ -35,7 +37,7 @@ use Rattle.ft_model.proofs.Running.{HasSmallOutputs}
 use Rattle.ft_model.proofs.Authored.{Speaks, IsSpoken, CarriesOutput, logged_run}
 use Rattle.ft_model.proofs.AuthorOver.{HasAuthor, EntryOf}
 use Rattle.ft_model.proofs.AuthorWorld.{author_goes_on, start_author}
-use Rattle.ft_model.proofs.Backed.{EntryBacked, IsBacked}
+use Rattle.ft_model.proofs.Backed.{PacketBacked, EntryBacked, IsBacked}
 use Rattle.ft_model.proofs.BackedOver.{start_backed, backed_goes_on}
 use Rattle.ft_model.proofs.Seen.{HoldsOf, Sees, IsSeen, SaysRun, seen_later, received_sees, moved_seen}
 use Rattle.ft_io.proofs.Choices.{holds_if}
@@ -173,6 +175,35 @@ sees_front service small start trace j =
       accepted = subst (λ r. IsPrefix c.accepted r.output) same s.front;
       ended = λ e. subst (λ r. (r.closed ≡ true) × (c.accepted ≡ r.output)) same (s.ended e);
     }) o.sees o.faithful.clients
+
+-- the run over an entry's own bytes and reads is that over its client's script
+run_logged : {State : Type 0} (service : Machine State) (start w : World) → JointInvariant service start w → (key : Key) (e : Entry) → entry_of key w.log ≡ Some e
+    → logged_run service (script_of start) w.log key ≡ run_of service e
+run_logged service start w o key e found =
+    let same : e.key ≡ key = same_key e.key key (found_passes (λ x. key_eq x.key key) w.log.entries e found) in
+    let f : EntryFits (script_of start e.key) (isn_of start e.key) e =
+    all_find (λ x. EntryFits (script_of start x.key) (isn_of start x.key) x) (λ x. key_eq x.key key) w.log.entries e o.faithful.entries found in
+    let g : EntryOf o.author.author e = all_find (EntryOf o.author.author) (λ x. key_eq x.key key) w.log.entries e o.author.entries found in
+    ap (λ x. reference service (script_of start key) (lengths_in x)) found ∙ ap (λ k. reference service (script_of start k) e.lengths) (sym same)
+    ∙ more_bytes service e.bytes (script_of start e.key) e.lengths f.front g.1
+
+packet_made : {State : Type 0} (service : Machine State) (start w : World) → JointInvariant service start w → (packet : Packet) → PacketBacked service (script_of start) w.log packet
+    → AcknowledgesMade service w.log packet
+packet_made service start w o (To_server segment) b = λ a.
+    let x = b a in
+    let same : logged_run service (script_of start) w.log (source_of segment) ≡ run_of service x.0 = run_logged service start w o (source_of segment) x.0 x.1 in
+    (x.0, x.1, subst (λ r. ack_of x.0.sisn segment ≤ℤ pos (length r.output + one_if r.closed)) same x.2)
+packet_made service start w o (To_client segment) b = tt
+packet_made service start w o (To_logger message) b = tt
+packet_made service start w o (From_logger message) b = tt
+
+-- what a client acknowledges was made
+pub made_packets : {State : Type 0} (service : Machine State) → HasSmallOutputs service → (start : World) (trace : List Moment) → Joint service start trace
+    → AllByRecursion (AcknowledgesMade service (world_after start trace).log) (world_after start trace).packets
+made_packets service small start trace j =
+    let w : World = world_after start trace in
+    let o : JointInvariant service start w = sound_after service small start trace j in
+    all_weaker (PacketBacked service (script_of start) w.log) (AcknowledgesMade service w.log) w.packets (packet_made service start w o) o.backed.packets
 
 -- what the log says is acknowledged was output
 pub backed_entries : {State : Type 0} (service : Machine State) → HasSmallOutputs service → (start : World) (trace : List Moment) → Joint service start trace

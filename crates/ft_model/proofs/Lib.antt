@@ -53,6 +53,7 @@ pub mod BeyondNext
 pub mod HeldSegments
 pub mod CongestionWindow
 pub mod ShutWindow
+pub mod Unsent
 pub mod Scripts
 pub mod Spoken
 pub mod FinsClosed

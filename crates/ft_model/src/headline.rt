@@ -8,6 +8,7 @@ ghost use Rattle.ft_model.specs.Restart.{run_of};
 ghost use Rattle.ft_model.specs.Log.{Log, is_hello, log_after};
 ghost use Rattle.ft_model.specs.Growth.{IsPrefix, LogGrows};
 ghost use Rattle.ft_model.specs.Masked.{SeesFront, AcknowledgesLogged, RestartIsExact, AllAreTold, Masked};
+ghost use Rattle.ft_model.specs.Made.{AcknowledgesMade};
 ghost use Rattle.ft_model.specs.Resets.{ResetsNoLogged};
 ghost use Rattle.std.specs.List.{AllByRecursion};
 ghost use Rattle.ft_io.specs.Key.{key_eq};
@@ -87,6 +88,13 @@ pub fn acknowledged_output_was_made<S: Service>()
         → AllByRecursion (λ e.
         e.acknowledged ≤ length (run_of (machine (S.started kind) S.after) e).output + one_if (run_of (machine (S.started kind) S.after) e).closed)
         (world_after start trace).log.entries }
+{}
+
+/// No client acknowledges more than was made: each segment with ACK that was sent to a server acknowledges at most the uncrashed server's output over the
+/// logged reads of its client's entry, plus one unit where that run has closed.
+pub fn acknowledgements_are_at_most<S: Service>()
+    ensures { (kind : ℕ) (start : World) (trace : List Moment) → Joint (machine (S.started kind) S.after) start trace
+        → AllByRecursion (AcknowledgesMade (machine (S.started kind) S.after) (world_after start trace).log) (world_after start trace).packets }
 {}
 
 /// No false reset: of all RSTs that were sent so far, none was sent to a client whose entry is now in the log and not done. So whenever one of them is

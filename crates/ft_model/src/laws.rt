@@ -10,11 +10,12 @@ ghost use Rattle.ft_model.specs.News.News.{Comes, Begins};
 ghost use Rattle.ft_model.specs.Reads.{next_read};
 ghost use Rattle.ft_model.specs.Segments.{fin_segment, sends_fin, new_fin};
 ghost use Rattle.ft_model.specs.Acknowledgement.{is_segment, IsTold};
-ghost use Rattle.ft_model.specs.Point.{Point, taken_units, HoldsBehind, room};
-ghost use Rattle.ft_model.specs.Offset.{first_of, length_of};
-ghost use Rattle.ft_model.specs.Taken.{accepts, uses, taken_after, fin_after};
+ghost use Rattle.ft_model.specs.Point.{Point, taken_units, most, HoldsBehind, room};
+ghost use Rattle.ft_model.specs.Offset.{first_of, ack_of, length_of};
+ghost use Rattle.ft_model.specs.Taken.{accepts, uses, acknowledges_unsent, counts, taken_after, early_after, fin_after};
+ghost use Rattle.ft_model.specs.Sending.{syn_acked_after, acknowledged_after, edge_after, wl1_after, wl2_after, congestion_after};
 ghost use Rattle.ft_model.specs.PendingAck.{needs_ack};
-ghost use Rattle.seq_arith.specs.Packet.{Segment, has_rst};
+ghost use Rattle.seq_arith.specs.Packet.{Segment, has_syn, has_rst, has_ack};
 ghost use Rattle.ft_model.specs.Connection.{LiveTurn};
 ghost use Rattle.ft_model.specs.Node.{Node, Input, AllCount, points_at};
 ghost use Rattle.ft_model.specs.Lawful.{LawfulTurn, is_fenced};
@@ -78,6 +79,27 @@ pub fn shut_windows_pass_acknowledgements()
     ensures used { (p : Point) (segment : Segment) → room p ≡ 0 → first_of p.cisn segment ≡ pos (taken_units p) → uses p segment ≡ true }
     ensures not_taken { (p : Point) (segment : Segment) → HoldsBehind p → room p ≡ 0 → (taken_after (Comes segment) p ≡ p.taken) × (fin_after (Comes segment) p ≡ p.fin) }
     ensures ack_pending { (p : Point) (segment : Segment) → room p ≡ 0 → 0 < length_of segment → has_rst segment ≡ false → needs_ack p segment ≡ true }
+{}
+
+/// A segment that acknowledges what was never sent changes nothing of its connection: neither its text nor its FIN is taken or held, and neither its
+/// acknowledgement nor its window is used. An established connection answers it with an ACK. While the SYN is unacknowledged, it is dropped if it is acceptable.
+pub fn unsent_acknowledgements_change_nothing()
+    ensures not_taken { (p : Point) (segment : Segment) → acknowledges_unsent p segment ≡ true
+        → (taken_after (Comes segment) p ≡ p.taken) × (early_after (Comes segment) p ≡ p.early) × (fin_after (Comes segment) p ≡ p.fin) }
+    ensures syn_stays { (p : Point) (segment : Segment) → acknowledges_unsent p segment ≡ true → syn_acked_after (Comes segment) p ≡ p.syn_acked }
+    ensures not_used { (p : Point) (segment : Segment) → acknowledges_unsent p segment ≡ true → acknowledged_after (Comes segment) p ≡ p.una }
+    ensures window_stays { (p : Point) (segment : Segment) → acknowledges_unsent p segment ≡ true
+        → (edge_after (Comes segment) p ≡ p.edge) × (wl1_after (Comes segment) p ≡ p.wl1) × (wl2_after (Comes segment) p ≡ p.wl2) }
+    ensures congestion_stays { (p : Point) (segment : Segment) → acknowledges_unsent p segment ≡ true → congestion_after (Comes segment) p ≡ p.congestion }
+    ensures answered { (p : Point) (segment : Segment) → p.syn_acked ≡ true → has_ack segment ≡ true → has_rst segment ≡ false
+        → acknowledges_unsent p segment ≡ true → needs_ack p segment ≡ true }
+    ensures dropped { (p : Point) (segment : Segment) → p.syn_acked ≡ false → accepts p segment ≡ true → has_ack segment ≡ true → has_syn segment ≡ false
+        → has_rst segment ≡ false → acknowledges_unsent p segment ≡ true → needs_ack p segment ≡ false }
+{}
+
+/// A handshake can't be guessed: in a new connection, which has sent nothing but its SYN, the first segment that counts acknowledges exactly the SYN.
+pub fn handshakes_acknowledge_the_syn()
+    ensures { (p : Point) (segment : Segment) → p.syn_acked ≡ false → most p ≡ 0 → counts p segment ≡ true → ack_of p.sisn segment ≡ pos 0 }
 {}
 
 /// In every joint trace the data that a live connection holds is after a gap and below the right edge of the receive window, and nothing is held once the FIN
