@@ -1,11 +1,12 @@
 -- The headline: every joint trace is masked.
-use Rattle.std.proofs.Common.{◌≡◌, ℕ, Bool, true, false, ◌==◌, ◌&&◌, refl, sym, ap, ◌∙◌, subst, true≢false, ◌⊎◌, Option, Some, None, List, [], ◌∷◌, if◌then◌else◌, ◌+◌, ◌≤◌, ◌≤ℤ◌, pos, length}
+use Rattle.std.proofs.Common.{◌≡◌, ℕ, Bool, true, false, ◌==◌, ◌&&◌, refl, sym, ap, ◌∙◌, subst, true≢false, ◌⊎◌, Option, Some, None, List, [], ◌∷◌, if◌then◌else◌, ◌+◌, ◌≤◌, ℤ, ◌≤ℤ◌, int_lt, pos, negsuc, max, length, arith}
 use Rattle.ft_model.proofs.Services.{more_bytes}
 use Rattle.ft_model.proofs.Scripts.{EntryFits}
 use Rattle.ft_model.proofs.Keys.{finds_itself, all_from_get}
-use Rattle.ft_model.specs.Restart.{run_of}
+use Rattle.ft_model.specs.Restart.{run_of, point_of, resumed_at, output_units}
 use Rattle.std.specs.List.{AllByRecursion}
 use Rattle.std.proofs.lemmas.Bool.{false_from_ne_true}
+use Rattle.std.proofs.lemmas.Int.{ints}
 use Rattle.ft_io.specs.declared.Key.{Key}
 use Rattle.ft_io.specs.Key.{key_eq}
 use Rattle.seq_arith.specs.Number.{number_at}
@@ -19,7 +20,8 @@ use Rattle.ft_model.specs.Network.{Packet, source_of, destination_of}
 use Rattle.ft_model.specs.Network.Packet.{To_server, To_client, To_logger, From_logger}
 use Rattle.ft_model.specs.Growth.{IsPrefix, logged_lengths, lengths_in}
 use Rattle.ft_model.specs.Masked.{SeesFront, unfailing, Masked}
-use Rattle.ft_model.specs.Made.{AcknowledgesMade}
+use Rattle.ft_model.specs.Taken.{acknowledges_unsent}
+use Rattle.ft_model.specs.Made.{AcknowledgesMade, AcknowledgesSent}
 use Rattle.ft_model.specs.World.{World, Moment, Joint, IsStart, IsNewClient, world_after}
 use Rattle.ft_model.proofs.Lists.{all_both, all_weaker, all_find, all_slice_get, found_passes, same_key, none_is_some, some_is}
 use Rattle.ft_model.proofs.Grows.{log_grows}
@@ -204,6 +206,33 @@ made_packets service small start trace j =
     let w : World = world_after start trace in
     let o : JointInvariant service start w = sound_after service small start trace j in
     all_weaker (PacketBacked service (script_of start) w.log) (AcknowledgesMade service w.log) w.packets (packet_made service start w o) o.backed.packets
+
+not_beyond : (z : ℤ) (a b : ℕ) → z ≤ℤ pos b → int_lt (pos (max a b)) z ≡ false
+not_beyond (pos k) a b h = grind (arith, ints, h)
+not_beyond (negsuc k) a b h = grind (arith, ints)
+
+packet_sent : {State : Type 0} (service : Machine State) (log : Log) (e : Entry) → entry_of e.key log ≡ Some e → (packet : Packet) → AcknowledgesMade service log packet
+    → AcknowledgesSent (point_of service e) packet
+unfolding acknowledges_unsent
+packet_sent service log e found (To_server segment) m = λ same has.
+    let x = m has in
+    let key : source_of segment ≡ e.key = same_key (source_of segment) e.key same in
+    let one : x.0 ≡ e = some_is x.0 e (sym x.1 ∙ (ap (λ k. entry_of k log) key ∙ found)) in
+    not_beyond (ack_of e.sisn segment) (resumed_at service e) (output_units service e)
+    (subst (λ y. ack_of y.sisn segment ≤ℤ pos (output_units service y)) one x.2)
+packet_sent service log e found (To_client segment) m = tt
+packet_sent service log e found (To_logger message) m = tt
+packet_sent service log e found (From_logger message) m = tt
+
+-- at the points of the log's entries nothing that a client acknowledges was never sent
+pub sent_packets : {State : Type 0} (service : Machine State) → HasSmallOutputs service → (start : World) (trace : List Moment) → Joint service start trace
+    → AllByRecursion (λ e. AllByRecursion (AcknowledgesSent (point_of service e)) (world_after start trace).packets) (world_after start trace).log.entries
+sent_packets service small start trace j =
+    let w : World = world_after start trace in
+    let o : JointInvariant service start w = sound_after service small start trace j in
+    all_from_get (λ e. AllByRecursion (AcknowledgesSent (point_of service e)) w.packets) w.log.entries
+    (λ i e at. all_weaker (AcknowledgesMade service w.log) (AcknowledgesSent (point_of service e)) w.packets
+    (packet_sent service w.log e (finds_itself (λ x. x.key) w.log.entries i e o.asked.distinct at)) (made_packets service small start trace j))
 
 -- what the log says is acknowledged was output
 pub backed_entries : {State : Type 0} (service : Machine State) → HasSmallOutputs service → (start : World) (trace : List Moment) → Joint service start trace

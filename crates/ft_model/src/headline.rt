@@ -4,11 +4,11 @@ ghost use Rattle.std.specs.Prelude.{◌≡◌, ℕ, ◌+◌, ◌<◌, ◌≤◌,
 ghost use Rattle.server_trait.specs.Service.{CanCut, machine};
 ghost use Rattle.seq_arith.specs.Message.{Message};
 ghost use Rattle.ft_model.specs.Offset.{one_if};
-ghost use Rattle.ft_model.specs.Restart.{run_of};
+ghost use Rattle.ft_model.specs.Restart.{run_of, point_of};
 ghost use Rattle.ft_model.specs.Log.{Log, is_hello, log_after};
 ghost use Rattle.ft_model.specs.Growth.{IsPrefix, LogGrows};
 ghost use Rattle.ft_model.specs.Masked.{SeesFront, AcknowledgesLogged, RestartIsExact, AllAreTold, Masked};
-ghost use Rattle.ft_model.specs.Made.{AcknowledgesMade};
+ghost use Rattle.ft_model.specs.Made.{AcknowledgesMade, AcknowledgesSent};
 ghost use Rattle.ft_model.specs.Resets.{ResetsNoLogged};
 ghost use Rattle.std.specs.List.{AllByRecursion};
 ghost use Rattle.ft_io.specs.Key.{key_eq};
@@ -95,6 +95,14 @@ pub fn acknowledged_output_was_made<S: Service>()
 pub fn acknowledgements_are_at_most<S: Service>()
     ensures { (kind : ℕ) (start : World) (trace : List Moment) → Joint (machine (S.started kind) S.after) start trace
         → AllByRecursion (AcknowledgesMade (machine (S.started kind) S.after) (world_after start trace).log) (world_after start trace).packets }
+{}
+
+/// A restart knows what its clients may acknowledge: whenever the server restarts, at no entry's point does a segment of its client acknowledge what was never
+/// sent.
+pub fn restarts_know_what_was_sent<S: Service>()
+    ensures { (kind : ℕ) (start : World) (trace : List Moment) → Joint (machine (S.started kind) S.after) start trace
+        → AllByRecursion (λ e. AllByRecursion (AcknowledgesSent (point_of (machine (S.started kind) S.after) e)) (world_after start trace).packets)
+        (world_after start trace).log.entries }
 {}
 
 /// No false reset: of all RSTs that were sent so far, none was sent to a client whose entry is now in the log and not done. So whenever one of them is
