@@ -250,7 +250,7 @@ class Connection(Stream):
         super().__init__()
         self.key, self.cisn, self.sisn, self.mss = key, cisn, sisn, mss
         self.service, self.output, self.after_read = Service(service), bytearray(), [(0, False)]
-        self.fetched, self.answered = 0, 0
+        self.fetched, self.fetched_output, self.answered = 0, 0, 0
         self.lengths, self.consumed, self.reads_answered = [], 0, 0
         self.una = self.sent = self.edge = self.wl1 = self.wl2 = 0
         self.counted, self.interval, self.rest = False, 1, 1
@@ -268,6 +268,7 @@ class Connection(Stream):
         for length in entry["lengths"]:
             it.read(length)
         it.reads_answered = len(it.lengths)
+        it.fetched_output = it.target()
         it.una = it.sent = it.edge = it.wl2 = min(entry["acked"], it.released())
         it.wl1, it.counted = it.fetched, True
         it.rest = int(it.must_run())
@@ -385,12 +386,13 @@ class Connection(Stream):
         if "S" in came.flags:
             return True, False, []
         acked = gap(came.ack, self.sisn + 1)
+        unsent = "A" in came.flags and acked > max(self.sent, self.fetched_output)
         below_syn = not self.counted and acked < 0
-        if fits and "A" in came.flags and below_syn:
+        if fits and "A" in came.flags and (below_syn or unsent and not self.counted):
             return False, True, self.copies(came, first, had, had_fin)
-        if "A" in came.flags and not below_syn and (fits or is_at_zero_window(came, first, following, edge)):
+        if "A" in came.flags and not below_syn and not unsent and (fits or is_at_zero_window(came, first, following, edge)):
             self.take(came, first, acked)
-        return not fits or length > 0, False, self.copies(came, first, had, had_fin)
+        return not fits or length > 0 or unsent, False, self.copies(came, first, had, had_fin)
 
     def take(self, came, first, acked):
         """A segment that counts: its text and FIN, its acknowledgement and window."""

@@ -334,6 +334,22 @@ class Congestions(unittest.TestCase):
         self.assertEqual(self.sent(place, knows), [[(0, 536), (536, 536), (1072, 536), (1608, 536)]])
         self.assertEqual(self.sent(place, knows), [[(2144, 536), (2680, 536), (3216, 464)]])
 
+    def test_unsent(self):
+        """An acknowledgement of what was never sent doesn't count: a guessed handshake is dropped, an open connection answers it, and after a restart it counts
+        only up to what the earlier server may have sent, and its FIN."""
+        place = Connection(KEY, 1000, 5000, 536, "echo")
+        place.turn("start")
+        for guess in (5000, 5002, 6001, 5001 + 2**31 - 1):
+            self.assertEqual((place.turn("segment", text(0, b"hello", guess)), place.counted, place.taken()), (([], []), False, 0))
+        self.assertEqual(self.sent(place, text(0, b""), text(0, b"hello", 5002)), [[], [(0, 0)]])
+        self.assertEqual((place.counted, place.taken(), place.una), (True, 0, 0))
+        for fin, most in (0, 5), (1, 6):
+            lengths = [5, 0] if fin else [5]
+            entry = {"key": KEY, "cisn": 1000, "sisn": 5000, "mss": 536, "length": 5, "fin": fin, "acked": 0, "data": bytearray(b"hello"), "lengths": lengths}
+            place = Connection.of_entry(entry, "echo")
+            self.assertEqual(self.sent(place, "live", text(5 + fin, b"", 5001 + most + 1)), [[(0, 0)], [(0, 0)]])
+            self.assertEqual(self.sent(place, text(5 + fin, b"", 5001 + most)), [[(0, 5), (5, 0)] if fin else [(0, 5)]])
+
     def test_duplicates(self):
         """Of 6,141 bytes 2,144 are sent. Neither text, FIN nor another window is in a duplicate, and the third in a row sends the first segment again."""
         place = Connection(KEY, 1000, 5000, 536, "transfer")
