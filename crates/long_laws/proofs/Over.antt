@@ -27,7 +27,7 @@ use Rattle.ft_model.specs.Reads.{reads_told, read_messages, first_told}
 use Rattle.ft_model.specs.ResetAndEnd.{reset_after, is_end_tick, end_ticks_after, tells_done, dones}
 use Rattle.ft_model.specs.Segments.{segments_of}
 use Rattle.ft_model.specs.Sending.{acknowledges, acknowledged_by, acknowledged_after}
-use Rattle.ft_model.specs.Taken.{uses, counts}
+use Rattle.ft_model.specs.Taken.{acknowledges_unsent, uses, counts}
 use Rattle.ft_model.specs.Timer.{is_tick}
 use Rattle.ft_model.proofs.Copied.{all_copies}
 use Rattle.ft_model.proofs.Lists.{all_of, all_map, all_append, or_cases}
@@ -101,7 +101,9 @@ module _ {State : Type 0} (service : Machine State) (B : Key → ℕ → Type 0)
   una_over (Comes segment) p n h =
       holds_if (B p.key) (acknowledges p segment) (una_after p.una (acknowledged_by p segment)) p.una
       (λ t. let two = and_parts (counts p segment) (int_le (pos 0) (ack_of p.sisn segment)) t in
-      let all = and_parts (has_ack segment && not (has_syn segment) && not (has_rst segment) && uses p segment) (p.syn_acked || int_le (pos 0) (ack_of p.sisn segment)) two.0 in
+      let sent = and_parts (has_ack segment && not (has_syn segment) && not (has_rst segment) && uses p segment && (p.syn_acked || int_le (pos 0) (ack_of p.sisn segment)))
+      (not (acknowledges_unsent p segment)) two.0 in
+      let all = and_parts (has_ack segment && not (has_syn segment) && not (has_rst segment) && uses p segment) (p.syn_acked || int_le (pos 0) (ack_of p.sisn segment)) sent.0 in
       let flags = and_parts (has_ack segment && not (has_syn segment) && not (has_rst segment)) (uses p segment) all.0 in
       let ack = and_parts (has_ack segment && not (has_syn segment)) (not (has_rst segment)) flags.0 in
       let most : B p.key (nat_abs (ack_of p.sisn segment)) = n.0 (and_parts (has_ack segment) (not (has_syn segment)) ack.0).0 two.1 in
