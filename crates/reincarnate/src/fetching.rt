@@ -36,6 +36,7 @@ use logger_wire::{Body, MarkBody, MarkMsg, Msg};
 use server_trait::{Saved, Service};
 use std::alloc::Global;
 use std::marker::Model;
+use std::mem;
 
 /// A restart that asks for the log's entries, one after another, and replays the reads of each as soon as they are complete. In contracts it has, of each
 /// entry, the head, the counts of what is fetched, and the service with what it still holds.
@@ -299,7 +300,8 @@ impl<S: Service> Fetching<S> {
             return Ok(false);
         }
         set_aside(&mut self.newest, &mut self.earlier)?;
-        self.newest = Some(FetchedEntry::begin(alloc, self.kind, head));
+        let entry = FetchedEntry::begin(alloc, self.kind, head);
+        drop(self.newest.replace(entry));
         Ok(true)
     }
 
@@ -320,11 +322,11 @@ impl<S: Service> Fetching<S> {
     {
         match self.newest.take() {
             Some(entry) if entry.part_fits(key, offset, bytes.len()) => {
-                self.newest = Some(entry.with_bytes(bytes)?);
+                drop(self.newest.replace(entry.with_bytes(bytes)?));
                 Ok(true)
             }
             kept => {
-                self.newest = kept;
+                drop(mem::replace(&mut self.newest, kept));
                 Ok(false)
             }
         }
@@ -341,11 +343,11 @@ impl<S: Service> Fetching<S> {
         };
         match entry.cuts_with(key, first, lens) {
             Some(cuts) => {
-                self.newest = Some(entry.with_lengths(cuts, lens)?);
+                drop(self.newest.replace(entry.with_lengths(cuts, lens)?));
                 Ok(true)
             }
             None => {
-                self.newest = Some(entry);
+                drop(self.newest.replace(entry));
                 Ok(false)
             }
         }
@@ -433,7 +435,7 @@ impl<S: Saved> Fetching<S> {
         let Some(entry) = self.begun_from(alloc, key, mark)? else {
             return Ok(false);
         };
-        self.newest = Some(entry);
+        drop(self.newest.replace(entry));
         self.marks = Marks::Used;
         Ok(true)
     }

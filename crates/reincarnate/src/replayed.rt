@@ -100,6 +100,7 @@ impl<S: Service> Replayed<S> {
         let endpoint = match spliced_endpoint(alloc, &head, local, isn) {
             Ok(endpoint) => endpoint,
             Err(_) => {
+                drop(replay);
                 return Err(LostIn {
                     stage: Stage::Replayed,
                 });
