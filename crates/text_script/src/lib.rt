@@ -19,8 +19,8 @@ use logger_wire::read_msg;
 use percent_encoding::percent_decode;
 use report_lines::{ask_event, ask_header, ask_packet, ask_service};
 use schedule_text::{
-    ScheduleEnd, Script, Way, is_packet, read_schedule, read_script, write_event, write_header,
-    write_packet_line,
+    Schedule, ScheduleEnd, Script, Way, is_packet, read_schedule, read_script, write_event,
+    write_header, write_packet_line,
 };
 use segment_codec::read_packet;
 use std::alloc::Global;
@@ -31,36 +31,56 @@ mod report_lines;
 
 const HEAD: &[u8] = b"service echo\nserver 192.0.2.100:7\n";
 
-/// Plays the lines of a script, and says what they print. The status, which is 0. The schedule is that of the packets whose lines follow.
+/// Plays the lines of a script, and says what they print. The status, which is 0.
 pub fn run(alloc: Global, text: &str, said: &mut Said) -> Result<u8, NoMemory> {
     let mut schedule = Vec::new(alloc);
+    play_lines(alloc, text, &mut schedule, said)
+}
+
+/// Plays the lines of a script, where this is the schedule of the packets whose lines follow. The status, which is 0.
+fn play_lines(
+    alloc: Global,
+    text: &str,
+    schedule: &mut Vec<u8>,
+    said: &mut Said,
+) -> Result<u8, NoMemory> {
     for line in text.lines() {
-        let (word, rest) = line.split_once(' ').unwrap_or((line, ""));
-        let played = match word {
-            "#" => {
-                said.line(line);
-                Ok(())
-            }
-            "read" => read(alloc, rest, said),
-            "many" => read_many(alloc, rest, said),
-            "script" => say_script(alloc, rest, said),
-            "packet" => say_packet(alloc, rest, said),
-            "schedule" => {
-                schedule = bytes_of(alloc, rest)?;
-                Ok(())
-            }
-            "line" => ask_packet(alloc, schedule.as_slice(), rest, said),
-            "event" => ask_event(alloc, rest, said),
-            "service" => ask_service(alloc, rest, said),
-            "header" => ask_header(alloc, rest, said),
-            _ => {
-                said.line("no such line");
-                Ok(())
-            }
-        };
-        played?;
+        play(alloc, line, schedule, said)?;
     }
     Ok(0)
+}
+
+/// Plays a line.
+fn play(
+    alloc: Global,
+    line: &str,
+    schedule: &mut Vec<u8>,
+    said: &mut Said,
+) -> Result<(), NoMemory> {
+    let (word, rest) = line.split_once(' ').unwrap_or((line, ""));
+    match word {
+        "#" => {
+            said.line(line);
+            Ok(())
+        }
+        "read" => read(alloc, rest, said),
+        "many" => read_many(alloc, rest, said),
+        "script" => say_script(alloc, rest, said),
+        "packet" => say_packet(alloc, rest, said),
+        "schedule" => {
+            schedule.clear();
+            percent_decode(rest.as_bytes()).append_to(schedule)?;
+            Ok(())
+        }
+        "line" => ask_packet(alloc, schedule.as_slice(), rest, said),
+        "event" => ask_event(alloc, rest, said),
+        "service" => ask_service(alloc, rest, said),
+        "header" => ask_header(alloc, rest, said),
+        _ => {
+            said.line("no such line");
+            Ok(())
+        }
+    }
 }
 
 fn bytes_of(alloc: Global, escaped: &str) -> Result<Vec<u8>, NoMemory> {
@@ -83,16 +103,26 @@ fn read(alloc: Global, escaped: &str, said: &mut Said) -> Result<(), NoMemory> {
     let text = bytes_of(alloc, escaped)?;
     match read_schedule(alloc, text.as_slice()) {
         Ok(schedule) => {
-            let mut lines = Vec::new(alloc);
-            write_header(alloc, &schedule, &mut lines)?;
-            for event in schedule.events.as_slice() {
-                write_event(alloc, 1, event, &mut lines)?;
-            }
-            said.add(lines.as_slice());
+            say_schedule(alloc, &schedule, said);
             Ok(())
         }
         Err(end) => say_end(end, said),
     }
+}
+
+/// Says a schedule's header and its events.
+fn say_schedule(alloc: Global, schedule: &Schedule, said: &mut Said) {
+    let mut lines = Vec::new(alloc);
+    said.note(write_schedule(alloc, schedule, &mut lines));
+    said.add(lines.as_slice());
+}
+
+fn write_schedule(alloc: Global, schedule: &Schedule, lines: &mut Vec<u8>) -> Result<(), NoMemory> {
+    write_header(alloc, schedule, lines)?;
+    for event in schedule.events.as_slice() {
+        write_event(alloc, 1, event, lines)?;
+    }
+    Ok(())
 }
 
 /// Says why a text is refused.
@@ -105,17 +135,24 @@ fn say_end(end: ScheduleEnd, said: &mut Said) -> Result<(), NoMemory> {
     Ok(())
 }
 
+/// Writes a schedule's header and copies of a line.
+fn write_many(text: &mut Vec<u8>, count: u32, line: &str) -> Result<(), NoMemory> {
+    text.extend_from_slice(HEAD)?;
+    for _ in 0..count {
+        text.extend_from_slice(line.as_bytes())?;
+        text.push(b'\n')?;
+    }
+    Ok(())
+}
+
 /// Reads a schedule of a header and many copies of a line, and says how many events it has.
 fn read_many(alloc: Global, rest: &str, said: &mut Said) -> Result<(), NoMemory> {
     let Some((count, line)) = number_of(rest) else {
         said.line("no count");
         return Ok(());
     };
-    let mut text = Vec::from_slice(alloc, HEAD)?;
-    for _ in 0..count {
-        text.extend_from_slice(line.as_bytes())?;
-        text.push(b'\n')?;
-    }
+    let mut text = Vec::new(alloc);
+    said.note(write_many(&mut text, count, line));
     match read_schedule(alloc, text.as_slice()) {
         Ok(schedule) => {
             let count = schedule.events.as_slice().len();
@@ -151,15 +188,20 @@ fn say_packet(alloc: Global, rest: &str, said: &mut Said) -> Result<(), NoMemory
         _ => Way::LoggerToServer,
     };
     match bytes_of_hex(alloc, text)? {
-        Some(bytes) if is_packet(way, bytes.as_slice()) => {
-            let mut line = Vec::new(alloc);
-            write_packet_line(alloc, 7, way, bytes.as_slice(), &mut line)?;
-            said.add(line.as_slice());
-        }
-        Some(bytes) => say_refusal(way, bytes.as_slice(), said),
+        Some(bytes) => say_bytes(alloc, way, bytes.as_slice(), said),
         None => said.line("no bytes"),
     }
     Ok(())
+}
+
+/// Says the line of the packet that these bytes are, or why they are none.
+fn say_bytes(alloc: Global, way: Way, bytes: &[u8], said: &mut Said) {
+    if !is_packet(way, bytes) {
+        return say_refusal(way, bytes, said);
+    }
+    let mut line = Vec::new(alloc);
+    said.note(write_packet_line(alloc, 7, way, bytes, &mut line));
+    said.add(line.as_slice());
 }
 
 /// Says which test of its grammar a segment or a message fails.
