@@ -9,6 +9,7 @@ south_at delta p = record {
   sisn = p.sisn;
   delta = delta;
   fetched = p.fetched;
+  fetched_output = p.fetched_output;
   taken = length p.taken;
   fin = p.fin;
   answered = p.answered;

@@ -4,8 +4,9 @@ ghost use Rattle.std.specs.Prelude.{◌≡◌, ◌≤◌, ◌+◌, ℕ, max, len
 ghost use Rattle.seq_arith.specs.Packet.{Segment};
 ghost use Rattle.ft_model.specs.Point.{Point, acknowledgement};
 ghost use Rattle.ft_model.specs.Copy.{copy_start, copied_text, copies_fin};
+ghost use Rattle.ft_model.specs.Taken.{acknowledges_unsent};
 ghost use Rattle.ft_model.specs.Segments as model;
-ghost use Rattle.south_wrap.specs.SouthState.{acknowledged, window, with_stable};
+ghost use Rattle.south_wrap.specs.SouthState.{acknowledged, acknowledges_unsent as is_unsent, window, with_stable};
 ghost use Rattle.south_wrap.specs.Translation.{repeats_syn, copied};
 ghost use Rattle.south_wrap.specs.SouthPoint.{south_at};
 
@@ -25,6 +26,12 @@ pub fn it_copies_what_the_law_says()
 /// It answers with the SYN-ACK of the logged numbers where the law on segments does.
 pub fn it_repeats_the_syn_ack_as_the_law_says()
     ensures { (delta : ℕ) (p : Point) (segment : Segment) → repeats_syn (south_at delta p) segment ≡ model.repeats_syn p segment }
+{}
+
+/// It knows which acknowledgements are of what was never sent, as the law Taken does.
+#[tactic(auto, unfolding(ft_model::specs::Taken::acknowledges_unsent))]
+pub fn it_knows_what_was_never_sent()
+    ensures { (delta : ℕ) (p : Point) (segment : Segment) → is_unsent (south_at delta p) segment.head.ack ≡ acknowledges_unsent p segment }
 {}
 
 /// What is known to be logged rises as the law Answered says.

@@ -8,6 +8,7 @@ pub use south::South;
 
 mod answers;
 mod copying;
+mod excluded;
 pub mod laws;
 mod passing;
 mod patching;

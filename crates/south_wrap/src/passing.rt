@@ -13,8 +13,9 @@ use segment_codec::read_accepted;
 use seq_arith::{RST, has};
 
 impl South {
-    /// Changes a segment of the client into the one for TCP. SEG.ACK is lowered by delta. If SEG.ACK exceeds what is sent, it is first lowered to that, and
-    /// SEG.WND raised equally, to at most 65,535. A repeated SYN stays unchanged, and gives `Repeat`.
+    /// Changes a segment of the client into the one for TCP. SEG.ACK is lowered by delta. If SEG.ACK exceeds what is sent, and an earlier incarnation may have
+    /// sent what is above, it is first lowered to what is sent, and SEG.WND raised equally, to at most 65,535. An acknowledgement of what was never sent stays
+    /// above, and TCP refuses it. A repeated SYN stays unchanged, and gives `Repeat`.
     pub fn inward(&mut self, packet: &mut [u8]) -> Inward
         requires { IsOk (reading packet.old) }
         ensures answer { IfOk (reading packet.old) (λ segment. result ≡ answer_in self.old segment) }

@@ -5,7 +5,8 @@ ghost use Rattle.seq_arith.specs.Arrival.{int_eq};
 ghost use Rattle.segment_codec.specs.Value.{said};
 ghost use Rattle.seq_arith.specs.Number.{number_at, offset_of};
 ghost use Rattle.seq_arith.specs.Offset.{one_if};
-ghost use Rattle.south_wrap.specs.SouthState.{acknowledged, receive_edge, window, first_south, resumed_south, with_stable, is_high, inner_ack, inner_window};
+ghost use Rattle.south_wrap.specs.SouthState.{acknowledged, receive_edge, window, first_south, resumed_south, with_stable};
+ghost use Rattle.south_wrap.specs.SouthState.{most, acknowledges_unsent, is_high, inner_ack, inner_window};
 ghost use Rattle.south_wrap.specs.Translation.{repeats_syn};
 
 use crate::answers::AckOut;
@@ -30,6 +31,8 @@ pub struct South {
     delta: u32,
     /// The client's bytes that a restart fetched; else 0.
     fetched: u32,
+    /// The units of output of the reads that a restart fetched, which an earlier incarnation may have sent; else 0.
+    fetched_output: u32,
     /// The client's bytes that are taken.
     taken: u32,
     /// Whether the client's FIN is taken.
@@ -56,6 +59,7 @@ impl Model for South {
       sisn = s.sisn.0;
       delta = s.delta;
       fetched = s.fetched;
+      fetched_output = s.fetched_output;
       taken = s.taken;
       fin = s.fin;
       answered = s.answered;
@@ -64,8 +68,8 @@ impl Model for South {
       sent = s.sent;
     } };
 
-    ghost invariant = { λ s. (s.fetched ≤ 2 ^ 24) × (s.taken ≤ 2 ^ 24) × (s.answered ≤ 2 ^ 24 + 1) × (s.read ≤ 2 ^ 24) × (s.una ≤ 2 ^ 24 + 1)
-        × (s.sent ≤ 2 ^ 25 + 1) };
+    ghost invariant = { λ s. (s.fetched ≤ 2 ^ 24) × (s.fetched_output ≤ 2 ^ 24 + 1) × (s.taken ≤ 2 ^ 24) × (s.answered ≤ 2 ^ 24 + 1)
+        × (s.read ≤ 2 ^ 24) × (s.una ≤ 2 ^ 24 + 1) × (s.sent ≤ 2 ^ 25 + 1) };
 }
 
 impl South {
@@ -78,6 +82,7 @@ impl South {
             sisn,
             delta: 0,
             fetched: 0,
+            fetched_output: 0,
             taken: 0,
             fin: false,
             answered: 0,
@@ -87,18 +92,29 @@ impl South {
         }
     }
 
-    /// The wrapper of a connection at the end of a restart. The log has `length` bytes of the client, and its FIN if `fin`. The client had acknowledged `acked`
-    /// units of output. The new TCP has the initial sequence number `inner`, from which it counts the output after these.
-    pub fn resumed(cisn: Seq, sisn: Seq, length: u32, fin: bool, acked: u32, inner: Seq) -> South
+    /// The wrapper of a connection at the end of a restart. The log has `length` bytes of the client, and its FIN if `fin`. Its reads make `fetched_output` units
+    /// of output, all of which an earlier incarnation may have sent. The client had acknowledged `acked` units. The new TCP has the initial sequence number
+    /// `inner`, from which it counts the output after these.
+    pub fn resumed(
+        cisn: Seq,
+        sisn: Seq,
+        length: u32,
+        fetched_output: u32,
+        fin: bool,
+        acked: u32,
+        inner: Seq,
+    ) -> South
         requires length { length ≤ 2 ^ 24 }
+        requires fetched_output { fetched_output ≤ 2 ^ 24 + 1 }
         requires acked { acked ≤ 2 ^ 24 }
-        ensures { result ≡ resumed_south cisn.0 sisn.0 length fin acked inner.0 }
+        ensures { result ≡ resumed_south cisn.0 sisn.0 length fetched_output fin acked inner.0 }
     {
         South {
             cisn,
             sisn,
             delta: sisn.add(acked).minus(inner),
             fetched: length,
+            fetched_output,
             taken: length,
             fin,
             answered: length + u32::from(fin),
@@ -267,7 +283,21 @@ impl South {
         ack.signed_gap(self.sisn.add(1))
     }
 
-    /// How much more the client acknowledges than this incarnation has sent, where it does.
+    /// All that the client can have been sent, by this incarnation or by an earlier one.
+    fn most(&self) -> u32
+        ensures { result ≡ most self.now }
+    {
+        self.sent.max(self.fetched_output)
+    }
+
+    /// Whether this acknowledges something that was never sent, neither by this incarnation nor by an earlier one (RFC 9293, 3.10.7.4, fifth check).
+    pub fn acknowledges_unsent(&self, ack: Seq) -> bool
+        ensures { result ≡ acknowledges_unsent self.now ack.0 }
+    {
+        i64::from(self.most()) < self.offset_acknowledged(ack)
+    }
+
+    /// How much more the client acknowledges than this incarnation has sent, where an earlier one may have sent it.
     fn excess(&self, ack: Seq) -> Option<u64>
         ensures some { IfSome result (λ n. n ≡ nat_abs (offset_of self.now.sisn ack.0) - self.now.sent) }
         ensures high { is_some result ≡ is_high self.now ack.0 }
@@ -278,7 +308,7 @@ impl South {
             return None;
         }
         let units = offset as u64;
-        if units <= u64::from(self.sent) {
+        if units <= u64::from(self.sent) || u64::from(self.most()) < units {
             return None;
         }
         Some(units - u64::from(self.sent))

@@ -1,4 +1,4 @@
-use Rattle.std.proofs.Common.{◌≡◌, ℕ, ◌&&◌, ◌||◌, ◌+ℤ◌, pos, min, max, nat_lt, nat_le, ◌∙◌, subst, sym, length, arith, rules}
+use Rattle.std.proofs.Common.{◌≡◌, ◌&&◌, ◌||◌, ◌+ℤ◌, pos, min, max, nat_lt, nat_le, ◌∙◌, subst, sym, length, arith, rules}
 use Rattle.std.proofs.lemmas.Int.{to_z-of_z}
 use mir.Syntax.{w64}
 use mir.Val.{SFits}
@@ -6,7 +6,6 @@ use Rattle.seq_arith.specs.Arrival.{below, int_eq}
 use Rattle.seq_arith.specs.Offset.{fin_of}
 use Rattle.ft_model.specs.Copy.{from_start}
 use Rattle.std.specs.Prelude.{IfOk, IfSome, is_some, Some, None, Option}
-use Rattle.seq_arith.specs.Packet.{Segment}
 use Rattle.seq_arith.specs.PacketGrammar.{reading}
 use Rattle.segment_codec.specs.Value.{segment_of}
 use Rattle.south_wrap.specs.declared.answers.CopyPart.{CopyPart}

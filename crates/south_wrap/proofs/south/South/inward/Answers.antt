@@ -1,12 +1,9 @@
-use Rattle.std.proofs.Common.{◌≡◌, List, Bool, true, false, sym, ap, ◌∙◌, subst, if◌then◌else◌}
-use Rattle.std.specs.Prelude.{Ok}
+use Rattle.std.proofs.Common.{◌≡◌, true, false, sym, ap, ◌∙◌, if◌then◌else◌}
 use Rattle.seq_arith.specs.Packet.{Segment, with_ack, with_window}
 use Rattle.seq_arith.specs.PacketGrammar.{reading, spelling}
 use Rattle.segment_codec.specs.Change.{changed}
 use Rattle.segment_codec.specs.Value.{segment_of}
-use Rattle.south_wrap.specs.declared.answers.Inward.{Inward}
 use Rattle.south_wrap.specs.declared.answers.Inward.TheVariants.{Pass, Repeat}
-use Rattle.south_wrap.specs.SouthState.{inner_ack, inner_window}
 use Rattle.south_wrap.specs.Translation.{repeats_syn, answer_in, passed_in, inward}
 use Rattle.south_wrap.proofs.Heads.{changed_twice, changed_once, if_read, one_reading}
 use Rattle.south_wrap.proofs.south.South.inward.Goals as goal

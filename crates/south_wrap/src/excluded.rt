@@ -1,0 +1,25 @@
+//! Wrong results that the contracts of this crate exclude. Each function calls another one of the crate, and promises of its result what a wrong body would make
+//! false. It is proved from the other's contract alone, so it is no longer proved once that contract lets the wrong body pass.
+
+ghost use Rattle.std.specs.Prelude.{◌≡◌, ◌≤◌, ◌+◌, ◌^◌, true};
+ghost use Rattle.south_wrap.specs.SouthState.{acknowledges_unsent, lowered};
+
+use crate::south::South;
+use seq_arith::Seq;
+
+/// An acknowledgement of what was never sent is lowered by delta alone, and not to what is sent: the contract of `South::inner_ack`.
+fn lowers_without_a_bound(south: &South, ack: Seq) -> Seq
+    requires { acknowledges_unsent south.now ack.0 ≡ true }
+    ensures { result.0 ≡ lowered south.now ack.0 }
+{
+    south.inner_ack(ack)
+}
+
+/// The wrapper at the end of a restart knows how much output an earlier incarnation may have sent: the contract of `South::resumed`.
+fn forgets_the_fetched_output(fetched_output: u32, acked: u32) -> South
+    requires most { fetched_output ≤ 2 ^ 24 + 1 }
+    requires acked { acked ≤ 2 ^ 24 }
+    ensures { result.fetched_output ≡ fetched_output }
+{
+    South::resumed(Seq(0), Seq(0), 0, fetched_output, false, acked, Seq(0))
+}
