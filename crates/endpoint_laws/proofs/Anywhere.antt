@@ -71,6 +71,7 @@ stands_somewhere e fits between =
       };
       sends = record { sisn = refl; mss = refl; syn_acked = refl; una = refl; edge = refl; wl1 = λ h. refl; wl2 = refl; congestion = refl };
       sent = refl;
+      fetched_output = refl;
       interval = refl;
       rest = refl;
     }

@@ -22,7 +22,7 @@ use Rattle.tcp_endpoint.specs.Tcb.{Tcb}
 use Rattle.tcp_endpoint.specs.Arrival.{first, ack_at, rst, received, with_reset_reply}
 use Rattle.tcp_endpoint.specs.Output.{reset_reply_segments, reset_reply_out}
 use Rattle.tcp_endpoint.specs.UserCalls.{after_tick, timer_ticked, waited}
-use Rattle.endpoint_laws.specs.Laws.{accepts, counts, acknowledges, congestion_ticked, acknowledges_less, is_refused, needs_ack, IsSentBy, IsBounded, IsUsual, ProbesRightly, last_advertised}
+use Rattle.endpoint_laws.specs.Laws.{accepts, counts, acknowledges, congestion_ticked, misses_syn, is_refused, is_unsent_ack, needs_ack, IsSentBy, IsBounded, IsUsual, ProbesRightly, last_advertised}
 use Rattle.endpoint_laws.specs.Turn.{IsUsualNews, IsBetweenTurns, arrived}
 use Rattle.endpoint_laws.specs.Refinement.{ReceivesAt, SendsAt, StandsAt, news_needs_ack, refuses, refusals}
 use Rattle.endpoint_laws.proofs.TakenLaw.{same_if, if_when}
@@ -33,7 +33,7 @@ use Rattle.endpoint_laws.proofs.OwedLaw.{ack_pending_law}
 use Rattle.endpoint_laws.proofs.ToldLaw.{told_by_segment, probed_by_tick}
 use Rattle.endpoint_laws.proofs.ResetReply.{Beside, IsApart, apart_beside, beside_is, reset_reply_is}
 use Rattle.endpoint_laws.proofs.Calls.{FinIsLast}
-use Rattle.endpoint_laws.proofs.StandingLaw.{Meets, next_is, accepts_is, first_is, ack_is, third_is, received_receives, received_sends}
+use Rattle.endpoint_laws.proofs.StandingLaw.{Meets, next_is, accepts_is, first_is, ack_is, unsent_is, third_is, received_receives, received_sends}
 use Rattle.ft_io.proofs.Booleans.{false_or, or_false}
 use Rattle.ft_io.proofs.Choices.{of_if}
 use Rattle.seq_arith.proofs.Shifts.{point_shift}
@@ -70,34 +70,34 @@ pub record Arrived (news : News) (before : Point) (e m : Tcb) : Type 0 where
   pub una : e.sending.una ≤ m.sending.una
 
 -- a segment: the parts that nothing of the checks has a part in
-kept_is : {X : Type 0} (f : Tcb → X) (e : Tcb) (p : Segment) → IsApart f → ((r : Tcb) → f (with_reset_reply r p) ≡ f r) → has_begun e.name ≡ true → IsBounded e → IsUsual e p
+kept_is : {X : Type 0} (f : Tcb → X) (e : Tcb) (p : Segment) → IsApart f → ((r : Tcb) → f (with_reset_reply r p) ≡ f r) → has_begun e.name ≡ true → IsBounded e
     → f (received e p) ≡ f e
-kept_is f e p apart refuses begun b usual =
+kept_is f e p apart refuses begun b =
     let beside : Beside f = apart_beside f apart in
-    beside_is f e p beside begun b usual
+    beside_is f e p beside begun b
     ∙ ap (λ x. if is_refused e p then x else f e) (refuses _ ∙ beside.aside.pending _ _ ∙ beside.aside.waiting e p)
     ∙ same_if (is_refused e p) (f e)
 
-local_is : (e : Tcb) (p : Segment) → has_begun e.name ≡ true → IsBounded e → IsUsual e p → (received e p).local ≡ e.local
+local_is : (e : Tcb) (p : Segment) → has_begun e.name ≡ true → IsBounded e → (received e p).local ≡ e.local
 unfolding with_reset_reply
-local_is e p begun b usual =
+local_is e p begun b =
     kept_is (λ t. t.local) e p
     (record { waits = λ e n. refl; enters = λ e m n. refl; dies = λ e. refl; needs_ack = λ e o. refl; takes = λ e r. refl; uses = λ e s b. refl; opens = λ e m s. refl })
-    (λ r. refl) begun b usual
+    (λ r. refl) begun b
 
-remote_is : (e : Tcb) (p : Segment) → has_begun e.name ≡ true → IsBounded e → IsUsual e p → (received e p).remote ≡ e.remote
+remote_is : (e : Tcb) (p : Segment) → has_begun e.name ≡ true → IsBounded e → (received e p).remote ≡ e.remote
 unfolding with_reset_reply
-remote_is e p begun b usual =
+remote_is e p begun b =
     kept_is (λ t. t.remote) e p
     (record { waits = λ e n. refl; enters = λ e m n. refl; dies = λ e. refl; needs_ack = λ e o. refl; takes = λ e r. refl; uses = λ e s b. refl; opens = λ e m s. refl })
-    (λ r. refl) begun b usual
+    (λ r. refl) begun b
 
-probe_is : (e : Tcb) (p : Segment) → has_begun e.name ≡ true → IsBounded e → IsUsual e p → (received e p).probe ≡ e.probe
+probe_is : (e : Tcb) (p : Segment) → has_begun e.name ≡ true → IsBounded e → (received e p).probe ≡ e.probe
 unfolding with_reset_reply
-probe_is e p begun b usual =
+probe_is e p begun b =
     kept_is (λ t. t.probe) e p
     (record { waits = λ e n. refl; enters = λ e m n. refl; dies = λ e. refl; needs_ack = λ e o. refl; takes = λ e r. refl; uses = λ e s b. refl; opens = λ e m s. refl })
-    (λ r. refl) begun b usual
+    (λ r. refl) begun b
 
 -- the parts of the sending half that an acknowledgement leaves
 sending_keeps : {X : Type 0} (g : Sending → X) (e : Tcb) (p : Segment) → (g (later_by e p) ≡ g e.sending)
@@ -165,19 +165,19 @@ fin_last_kept s m fin closed sent order una held last = λ h.
     )
 
 -- the model's words for what is refused and pending
-less_is : (p : Point) (e : Tcb) (segment : Segment) → Meets p e segment → rule.is_refused p segment ≡ acknowledges_less e segment
-less_is p e segment m = λ i. not (m.sends.syn_acked i) && has_ack segment && int_lt (ack_is p e segment m i) (pos 0)
+misses_is : (p : Point) (e : Tcb) (segment : Segment) → Meets p e segment → rule.is_refused p segment ≡ misses_syn e segment
+misses_is p e segment m = λ i. not (m.sends.syn_acked i) && has_ack segment && (int_lt (ack_is p e segment m i) (pos 0) || unsent_is p e segment m i)
 
 pub refuses_is : (p : Point) (e : Tcb) (segment : Segment) → Meets p e segment → refuses p segment ≡ is_refused e segment
-refuses_is p e segment m = λ i. accepts_is p e segment m i && not (has_rst segment) && not (has_syn segment) && less_is p e segment m i
+refuses_is p e segment m = λ i. accepts_is p e segment m i && not (has_rst segment) && not (has_syn segment) && misses_is p e segment m i
 
--- an acceptable segment that isn't refused acknowledges no less than the SYN, unless it has SYN or RST
-unrefused_by : (rst syn less some place place' : Bool) → (true && not rst && not syn && less) ≡ false → place ≡ place'
-    → (if rst then not place else (if syn then true else (if less then false else some))) ≡ (if rst then not place' else (if syn then true else some))
-unrefused_by true syn less some place place' none p = ap not p
-unrefused_by false true less some place place' none p = refl
-unrefused_by false false true some place place' none p = absurd (false≢true (sym none))
-unrefused_by false false false some place place' none p = refl
+-- an acceptable segment that isn't refused acknowledges nothing but the SYN, while that is unacknowledged, unless it has SYN or RST
+unrefused_by : (rst syn misses owed owed' place place' : Bool) → (true && not rst && not syn && misses) ≡ false → place ≡ place' → owed ≡ owed'
+    → (if rst then not place else (if syn then true else (if misses then false else owed))) ≡ (if rst then not place' else (if syn then true else owed'))
+unrefused_by true syn misses owed owed' place place' none p o = ap not p
+unrefused_by false true misses owed owed' place place' none p o = refl
+unrefused_by false false true owed owed' place place' none p o = absurd (false≢true (sym none))
+unrefused_by false false false owed owed' place place' none p o = o
 
 needs_ack_is : (p : Point) (e : Tcb) (segment : Segment) → Meets p e segment → is_refused e segment ≡ false → rule.needs_ack p segment ≡ needs_ack e segment
 unfolding rule.needs_ack
@@ -191,10 +191,11 @@ needs_ack_is p e segment m unrefused =
     let z : first_of p.cisn segment ≡ first e segment +ℤ pos k = first_is p e segment m (or_left (accepts e segment) _ acceptable) in
     let place : int_eq (first_of p.cisn segment) (pos (taken_units p)) ≡ int_eq (first e segment) (pos n) =
     (λ i. int_eq (z i) (pos (units i))) ∙ point_shift n k (first e segment) in
-    unrefused_by (has_rst segment) (has_syn segment) (rule.is_refused p segment) (nat_lt 0 (length_of segment)) _ _
-    (ap (λ v. true && not (has_rst segment) && not (has_syn segment) && v) (less_is p e segment m)
-    ∙ ap (λ v. v && not (has_rst segment) && not (has_syn segment) && acknowledges_less e segment) (sym acceptable) ∙ unrefused)
-    place)
+    unrefused_by (has_rst segment) (has_syn segment) (rule.is_refused p segment) (nat_lt 0 (length_of segment) || rule.is_unsent_ack p segment)
+    (nat_lt 0 (length_of segment) || is_unsent_ack e segment) _ _
+    (ap (λ v. true && not (has_rst segment) && not (has_syn segment) && v) (misses_is p e segment m)
+    ∙ ap (λ v. v && not (has_rst segment) && not (has_syn segment) && misses_syn e segment) (sym acceptable) ∙ unrefused)
+    place (λ i. nat_lt 0 (length_of segment) || (has_ack segment && unsent_is p e segment m i)))
     (λ h. refl)
 
 -- a list with something in it
@@ -216,7 +217,7 @@ segment_reset_reply : (p : Point) (e : Tcb) (segment : Segment) → Meets p e se
     → reset_reply_out (received e segment) ≡ refusals e.local (Comes segment) p
 unfolding reset_reply_out
 segment_reset_reply p e segment m begun none =
-    ap reset_reply_segments (reset_reply_is e segment begun m.bounds m.usual)
+    ap reset_reply_segments (reset_reply_is e segment begun m.bounds)
     ∙ reset_reply_of (is_refused e segment) (rst e segment segment.head.ack 0 4) e.reset_reply none
     ∙ ap (λ b. if b then reset_reply_segments (Some (rst e segment segment.head.ack 0 4)) else []) (sym (refuses_is p e segment m))
 
@@ -229,7 +230,7 @@ pub ack_pending_is : (news : News) (p : Point) (e : Tcb) → has_begun e.name �
     → refusals e.local news p ≡ [] → (arrived news e).ack_pending ≡ news_needs_ack news p
 unfolding after_tick timer_ticked waited
 ack_pending_is (Comes segment) p e begun between stands usual none =
-    let m : Meets p e segment = record { receives = stands.receives; sends = stands.sends; sent = stands.sent; bounds = between.bounds; usual = usual } in
+    let m : Meets p e segment = record { receives = stands.receives; sends = stands.sends; sent = stands.sent; fetched_output = stands.fetched_output; bounds = between.bounds; usual = usual } in
     let unrefused : is_refused e segment ≡ false = sym (refuses_is p e segment m) ∙ none_chosen (refuses p segment) _ none in
     ack_pending_law e segment begun between.bounds usual between.ack_pending unrefused ∙ sym (needs_ack_is p e segment m unrefused)
 ack_pending_is (Logged kept) p e begun between stands usual none = between.ack_pending
@@ -241,13 +242,13 @@ segment_arrives : (p : Point) (e : Tcb) (segment : Segment) → has_begun e.name
     → Arrived (Comes segment) p e (received e segment)
 segment_arrives p e segment begun between stands usual =
     let b : IsBounded e = between.bounds in
-    let m : Meets p e segment = record { receives = stands.receives; sends = stands.sends; sent = stands.sent; bounds = b; usual = usual } in
+    let m : Meets p e segment = record { receives = stands.receives; sends = stands.sends; sent = stands.sent; fetched_output = stands.fetched_output; bounds = b; usual = usual } in
     let by : IsSentBy e segment (received e segment).sending = sending_law e segment begun b usual in
     let una : e.sending.una ≤ (received e segment).sending.una =
     omega (arith, by.una, rises (acknowledges e segment) e.sending.una (nat_abs (ack_at e segment))) in
     record {
-      local = local_is e segment begun b usual;
-      remote = remote_is e segment begun b usual;
+      local = local_is e segment begun b;
+      remote = remote_is e segment begun b;
       receives = received_receives p e segment begun m;
       sends = received_sends p e segment begun m (mss_is e segment begun b usual);
       sent = by.sent;
@@ -256,8 +257,8 @@ segment_arrives p e segment begun between stands usual =
           between.fin_last;
       told = told_by_segment e segment begun;
       retransmission_due = retransmission_law e segment begun b usual ∙ false_or e.retransmission_due _ between.retransmission_due ∙ sym (third_is p e segment m);
-      probe = probe_is e segment begun b usual ∙ between.probe;
-      probes = no_probe (received e segment) (probe_is e segment begun b usual ∙ between.probe);
+      probe = probe_is e segment begun b ∙ between.probe;
+      probes = no_probe (received e segment) (probe_is e segment begun b ∙ between.probe);
       reset_reply = segment_reset_reply p e segment m begun between.reset_reply;
       target = target_is e segment begun b usual;
       una = una;

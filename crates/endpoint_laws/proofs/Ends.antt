@@ -11,7 +11,7 @@ use Rattle.ft_model.specs.Point.{Point}
 use Rattle.ft_model.specs.Point as point
 use Rattle.ft_model.specs.News.{News}
 use Rattle.ft_model.specs.News.News.{Comes, Logged, Ticks, Begins}
-use Rattle.ft_model.specs.Taken.{accepts, uses, counts}
+use Rattle.ft_model.specs.Taken.{accepts, uses, acknowledges_unsent, counts}
 use Rattle.ft_model.specs.PendingAck.{is_refused}
 use Rattle.ft_model.specs.Sending.{syn_acked_after, sent_at_once, sent_after}
 use Rattle.ft_model.specs.Timer as timer
@@ -31,6 +31,7 @@ use Rattle.endpoint_laws.proofs.AnswersAlone.{reset_reply_none, closed_sends}
 use Rattle.endpoint_laws.proofs.EndingLaw.{IsPlaced, FollowsAt, unreset_follows}
 use Rattle.endpoint_laws.proofs.TurnEnd.{sent_at}
 use Rattle.endpoint_laws.proofs.Turns.{receives_of, sends_of, probes_by}
+use Rattle.ft_io.proofs.Booleans.{not_true, false_or}
 
 record IsEnded (name : StateName) (o c f a : Bool) : Type 0 where
   name_is : name ≡ Closed
@@ -73,10 +74,13 @@ off_three false b c h = refl
 pub less_is : (z : ℤ) → int_lt z (pos 0) ≡ not (int_le (pos 0) z)
 less_is z = grind (arith, ints)
 
-unrefused : (used_by_place rst syn syn_acked ack low neg : Bool) → neg ≡ not low → (syn_acked || (ack && not syn && not rst && used_by_place && (syn_acked || low))) ≡ true
-    → (not syn_acked && ack && neg) ≡ false
-unrefused used_by_place rst syn true ack low neg is h = refl
-unrefused used_by_place rst syn false ack low neg is h = off_three true ack neg (is ∙ ap not (last_of ack (not syn) (not rst) used_by_place low h))
+unrefused : (used_by_place rst syn syn_acked ack low neg unsent : Bool) → neg ≡ not low
+    → (syn_acked || (ack && not syn && not rst && used_by_place && (syn_acked || low) && not unsent)) ≡ true → (not syn_acked && ack && (neg || unsent)) ≡ false
+unrefused used_by_place rst syn true ack low neg unsent is h = refl
+unrefused used_by_place rst syn false ack low neg unsent is h =
+    let two = and_parts (ack && not syn && not rst && used_by_place && low) (not unsent) h in
+    let not_neg : neg ≡ false = is ∙ ap not (last_of ack (not syn) (not rst) used_by_place low two.0) in
+    off_three true ack (neg || unsent) (false_or neg unsent not_neg ∙ not_true unsent two.1)
 
 pub none_if : (b : Bool) (x : Segment) → b ≡ false → (if b then x ∷ [] else []) ≡ []
 none_if true x h = absurd (false≢true (sym h))
@@ -87,7 +91,7 @@ unfolding syn_acked_after counts
 no_reset_reply server (Comes segment) before h =
     none_if (refuses before segment) _ (off_four (accepts before segment) (not (has_rst segment)) (not (has_syn segment)) (is_refused before segment)
     (unrefused (uses before segment) (has_rst segment) (has_syn segment) before.syn_acked (has_ack segment) (int_le (pos 0) (ack_of before.sisn segment))
-    (int_lt (ack_of before.sisn segment) (pos 0)) (less_is (ack_of before.sisn segment)) h))
+    (int_lt (ack_of before.sisn segment) (pos 0)) (acknowledges_unsent before segment) (less_is (ack_of before.sisn segment)) h))
 no_reset_reply server (Logged kept) before h = refl
 no_reset_reply server Ticks before h = refl
 no_reset_reply server Begins before h = refl

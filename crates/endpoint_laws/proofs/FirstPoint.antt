@@ -188,6 +188,7 @@ opened_turn local iss limit cisn fetched syn m u o a bounds whole number =
         sends = flushed_sends p u sends;
         sent = sent_none u.sending.sent (target u.sending) (send_edge u.sending) u.probe (a.sends.sent ∙ o.sent) (omega (arith, a.sends.edge, o.edge)) probe
             ∙ sym (sent_law u begun bounds probes);
+        fetched_output = refl;
         interval = sym interval;
         rest = sym rest;
       },

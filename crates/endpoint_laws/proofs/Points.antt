@@ -43,7 +43,7 @@ point_after service news before n =
 after_meets_laws : {State : Type 0} (service : Machine State) (news : News) (before : Point) (n : ℕ) → MeetsLaws service news before (point_after service news before n)
 unfolding sent_after sent_at_once interval_after rest_after must_run
 after_meets_laws service news before n = record {
-  same = record { key = refl; cisn = refl; sisn = refl; mss = refl; fetched = refl };
+  same = record { key = refl; cisn = refl; sisn = refl; mss = refl; fetched = refl; fetched_output = refl };
   taken = refl;
   fin = refl;
   early = refl;

@@ -1,7 +1,7 @@
 -- The RST that answers a segment, and what a segment leaves of what else is due.
 use Rattle.std.proofs.Common.{◌≡◌, ℕ, Bool, true, false, not, Some, refl, sym, ap, arith, ◌∙◌}
-use Rattle.std.specs.Prelude.{ℤ, pos, ◌≤ℤ◌, ◌&&◌, ◌||◌, nat_lt, int_lt, if◌then◌else◌}
-use Rattle.seq_arith.specs.Arrival.{int_eq, is_allowed_at_zero}
+use Rattle.std.specs.Prelude.{ℤ, pos, ◌&&◌, ◌||◌, nat_lt, int_lt, if◌then◌else◌}
+use Rattle.seq_arith.specs.Arrival.{int_eq, is_allowed_at_zero, is_beyond}
 use Rattle.seq_arith.specs.Packet.{Segment, has_syn, has_rst, has_ack}
 use Rattle.seq_arith.specs.Offset.{length_of}
 use Rattle.std.proofs.lemmas.Int.{ints}
@@ -14,7 +14,7 @@ use Rattle.tcp_endpoint.specs.SendHalf.{Sending, with_syn_acked, fin_acked}
 use Rattle.tcp_endpoint.specs.Tcb.{Tcb}
 use Rattle.tcp_endpoint.specs.Arrival.{first, ack_at, rst, with_reset, with_ack_pending_if, entering, with_text_and_fin, with_fin_acked, with_first_ack, with_ack_used, with_ack, with_time_wait_restarted, received, with_reset_reply}
 use Rattle.tcp_endpoint.specs.Arrival as check
-use Rattle.endpoint_laws.specs.Laws.{accepts, acknowledges_less, is_refused, IsBounded, IsUsual}
+use Rattle.endpoint_laws.specs.Laws.{accepts, acknowledges_unsent, misses_syn, is_refused, IsBounded}
 use Rattle.endpoint_laws.proofs.TakenLaw.{same_if, if_when, begun_is, Aside, at_ack, others_part, segment_taken, accepts_same}
 
 -- a part of the endpoint that only the checks on state, numbers and buffers leave
@@ -35,7 +35,7 @@ later_part f e p b =
     (λ h. b.aside.pending true e) (λ h. b.text (with_fin_acked used) p ∙ b.acked used ∙ b.using e p)
     ∙ same_if beyond (f e)
 
--- .. but for the first acknowledgement of less than the SYN, which is refused
+-- .. but for a first acknowledgement of anything but the SYN, which is refused
 first_part : {X : Type 0} (f : Tcb → X) (e : Tcb) (p : Segment) → Beside f
     → f (with_first_ack e p) ≡ (if int_eq (ack_at e p) (pos 0) then f e else f (with_reset_reply e p))
 unfolding with_first_ack
@@ -57,44 +57,45 @@ off_zero true false false true false false x y = refl
 off_zero false false false true false false x y = refl
 
 -- by all checks, in the law's one test
-refused_by : {X : Type 0} (acceptable at_zero rst syn ack syn_acked acked less : Bool) (x y : X) → (ack ≡ true → syn_acked ≡ false → acked ≡ not less) → (ack ≡ false → less ≡ false) → (syn_acked ≡ true → less ≡ false)
+refused_by : {X : Type 0} (acceptable at_zero rst syn ack syn_acked acked misses : Bool) (x y : X) → (ack ≡ true → syn_acked ≡ false → acked ≡ not misses) → (ack ≡ false → misses ≡ false) → (syn_acked ≡ true → misses ≡ false)
     → (if acceptable || (at_zero && (syn_acked || acked)) then (if rst then x else (if syn then x else (if ack then (if syn_acked then x else (if acked then x else y)) else x))) else x)
-    ≡ (if acceptable && not rst && not syn && less then y else x)
-refused_by true z true syn ack syn_acked acked less x y same p q = refl
-refused_by true z false true ack syn_acked acked less x y same p q = refl
-refused_by true z false false false syn_acked acked less x y same p q = ap (λ v. if v then y else x) (sym (p refl))
-refused_by true z false false true true acked less x y same p q = ap (λ v. if v then y else x) (sym (q refl))
+    ≡ (if acceptable && not rst && not syn && misses then y else x)
+refused_by true z true syn ack syn_acked acked misses x y same p q = refl
+refused_by true z false true ack syn_acked acked misses x y same p q = refl
+refused_by true z false false false syn_acked acked misses x y same p q = ap (λ v. if v then y else x) (sym (p refl))
+refused_by true z false false true true acked misses x y same p q = ap (λ v. if v then y else x) (sym (q refl))
 refused_by true z false false true false acked true x y same p q = ap (λ v. if v then x else y) (same refl refl)
 refused_by true z false false true false acked false x y same p q = ap (λ v. if v then x else y) (same refl refl)
-refused_by false z rst syn ack syn_acked acked less x y same p q = off_zero z rst syn ack syn_acked acked x y
+refused_by false z rst syn ack syn_acked acked misses x y same p q = off_zero z rst syn ack syn_acked acked x y
 
 off_middle : (a b : Bool) → (a && false && b) ≡ false
 off_middle true b = refl
 off_middle false b = refl
 
-no_ack_less : (e : Tcb) (p : Segment) → has_ack p ≡ false → acknowledges_less e p ≡ false
-no_ack_less e p h =
-    ap (λ v. not e.sending.syn_acked && v && int_lt (ack_at e p) (pos 0)) h ∙ off_middle (not e.sending.syn_acked) (int_lt (ack_at e p) (pos 0))
+abbrev acknowledges_other : Tcb → Segment → Bool
+acknowledges_other e p = int_lt (ack_at e p) (pos 0) || acknowledges_unsent e p
 
-syn_acked_not_less : (e : Tcb) (p : Segment) → e.sending.syn_acked ≡ true → acknowledges_less e p ≡ false
-syn_acked_not_less e p h = ap (λ v. not v && has_ack p && int_lt (ack_at e p) (pos 0)) h
+no_ack_misses : (e : Tcb) (p : Segment) → has_ack p ≡ false → misses_syn e p ≡ false
+no_ack_misses e p h = ap (λ v. not e.sending.syn_acked && v && acknowledges_other e p) h ∙ off_middle (not e.sending.syn_acked) (acknowledges_other e p)
 
-exactly : (z : ℤ) (sent : ℕ) → z ≤ℤ pos sent → sent ≡ 0 → int_eq z (pos 0) ≡ not (not false && true && int_lt z (pos 0))
-exactly z sent h none = grind (arith, ints)
+syn_acked_misses : (e : Tcb) (p : Segment) → e.sending.syn_acked ≡ true → misses_syn e p ≡ false
+syn_acked_misses e p h = ap (λ v. not v && has_ack p && acknowledges_other e p) h
 
--- while the SYN is unacknowledged, what acknowledges not less acknowledges just it
-syn_or_less : (e : Tcb) (p : Segment) → IsBounded e → IsUsual e p → has_ack p ≡ true → e.sending.syn_acked ≡ false
-    → int_eq (ack_at e p) (pos 0) ≡ not (acknowledges_less e p)
-syn_or_less e p b usual is_ack syn_unacked =
-    exactly (ack_at e p) e.sending.sent (usual.sent is_ack) (b.syn_unacked syn_unacked)
-    ∙ ap (λ v. not (not v && true && int_lt (ack_at e p) (pos 0))) (sym syn_unacked)
-    ∙ ap (λ v. not (not e.sending.syn_acked && v && int_lt (ack_at e p) (pos 0))) (sym is_ack)
+exactly : (sent : ℕ) (ack : ℤ) → sent ≡ 0 → int_eq ack (pos 0) ≡ not (not false && true && (int_lt ack (pos 0) || is_beyond sent ack))
+exactly sent ack none = grind (arith, ints)
+
+-- while the SYN is unacknowledged, an acknowledgement meets it or misses it
+meets_or_misses : (e : Tcb) (p : Segment) → IsBounded e → has_ack p ≡ true → e.sending.syn_acked ≡ false → int_eq (ack_at e p) (pos 0) ≡ not (misses_syn e p)
+meets_or_misses e p b is_ack syn_unacked =
+    exactly e.sending.sent (ack_at e p) (b.syn_unacked syn_unacked)
+    ∙ ap (λ v. not (not v && true && acknowledges_other e p)) (sym syn_unacked)
+    ∙ ap (λ v. not (not e.sending.syn_acked && v && acknowledges_other e p)) (sym is_ack)
 
 -- what the checks leave of such a part
-pub beside_is : {X : Type 0} (f : Tcb → X) (e : Tcb) (p : Segment) → Beside f → has_begun e.name ≡ true → IsBounded e → IsUsual e p
+pub beside_is : {X : Type 0} (f : Tcb → X) (e : Tcb) (p : Segment) → Beside f → has_begun e.name ≡ true → IsBounded e
     → f (received e p) ≡ (if is_refused e p then f (with_reset_reply (at_ack e p) p) else f e)
 unfolding received with_time_wait_restarted check.is_allowed
-beside_is {X = X} f e p b begun bounded usual =
+beside_is {X = X} f e p b begun bounded =
     let e1 : Tcb = at_ack e p in
     let back : f e1 ≡ f e = b.aside.pending (nat_lt 0 (length_of p)) (with_time_wait_restarted e p) ∙ b.aside.waiting e p in
     let refused : X = f (with_reset_reply e1 p) in
@@ -105,8 +106,7 @@ beside_is {X = X} f e p b begun bounded usual =
     else (if has_ack p then (if e.sending.syn_acked then (later_part f e1 p b ∙ back) i else (first_part f e1 p b ∙ ap (λ x. if is_syn then x else refused) back) i) else f e)))
     else f e)
     ∙ refused_by (accepts e p) (is_allowed_at_zero (next e.receiving) (window e.receiving) (first e p)) (has_rst p) (has_syn p) (has_ack p) e.sending.syn_acked is_syn
-    (acknowledges_less e p) (f e) refused
-    (λ is_ack syn_unacked. syn_or_less e p bounded usual is_ack syn_unacked) (no_ack_less e p) (syn_acked_not_less e p)
+    (misses_syn e p) (f e) refused (meets_or_misses e p bounded) (no_ack_misses e p) (syn_acked_misses e p)
 
 -- such parts: the RST that answers, what else is due in the turn, what was last advertised, and the numbers of the connection
 text_of : {X : Type 0} (f : Tcb → X) (e : Tcb) (p : Segment) → ((r : Tcb) → (name : StateName) → f (entering name r) ≡ f r)
@@ -155,8 +155,7 @@ reset_reply_apart = record {
   opens = λ e m s. refl;
 }
 
-pub reset_reply_is : (e : Tcb) (p : Segment) → has_begun e.name ≡ true → IsBounded e → IsUsual e p
+pub reset_reply_is : (e : Tcb) (p : Segment) → has_begun e.name ≡ true → IsBounded e
     → (received e p).reset_reply ≡ (if is_refused e p then Some (rst e p p.head.ack 0 4) else e.reset_reply)
 unfolding with_reset_reply with_time_wait_restarted
-reset_reply_is e p begun b usual =
-    beside_is (λ t. t.reset_reply) e p (apart_beside (λ t. t.reset_reply) reset_reply_apart) begun b usual
+reset_reply_is e p begun b = beside_is (λ t. t.reset_reply) e p (apart_beside (λ t. t.reset_reply) reset_reply_apart) begun b

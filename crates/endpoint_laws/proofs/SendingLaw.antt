@@ -17,9 +17,9 @@ use Rattle.tcp_endpoint.specs.SendHalf as sender
 use Rattle.tcp_endpoint.specs.Tcb.{Tcb}
 use Rattle.tcp_endpoint.specs.Arrival.{first, ack_at, with_ack_pending_if, entering, with_text_and_fin, with_fin_acked, with_first_ack, is_bare, with_ack_used, with_ack, with_time_wait_restarted, in_others, received, with_reset_reply}
 use Rattle.tcp_endpoint.specs.UserCalls.{after_tick, timer_ticked, waited}
-use Rattle.endpoint_laws.specs.Laws.{uses, counts, acknowledges, uses_window, is_duplicate, is_third_duplicate, congestion_by, congestion_ticked, IsSentBy, IsBounded, IsUsual}
+use Rattle.endpoint_laws.specs.Laws.{counts, acknowledges, uses_window, is_duplicate, is_third_duplicate, congestion_by, congestion_ticked, IsSentBy, IsBounded, IsUsual}
 use Rattle.tcp_endpoint.proofs.Places.{near_of_usable}
-use Rattle.endpoint_laws.proofs.TakenLaw.{same_if, if_when, by_checks, begun_is, Aside, at_ack, goes_on, others_part, segment_taken, sent_bool, few_sent, counts_plain, text_whole, fin_whole, chosen_is, dull, dull_more, dull_most}
+use Rattle.endpoint_laws.proofs.TakenLaw.{same_if, if_when, by_checks, begun_is, Aside, at_ack, goes_on, others_part, segment_taken, few_sent, text_whole, fin_whole, IsCounted, counted, chosen_is}
 use Rattle.ft_io.proofs.Booleans.{or_false, and_false}
 use Rattle.ft_io.proofs.Choices.{of_if}
 
@@ -39,13 +39,13 @@ acked_part e =
 abbrev pub answered_at : Tcb → Segment → Sending
 answered_at e p = answered_by e.sending (is_bare p) p.head.seq (ack_at e p) p.head.window
 
-later_ack_part : (e : Tcb) (p : Segment) → is_ahead e.sending.sent (ack_at e p) ≡ false → (with_ack e p).sending ≡ answered_at e p
+later_ack_part : (e : Tcb) (p : Segment) → (with_ack e p).sending ≡ (if is_ahead e.sending.sent (ack_at e p) then e.sending else answered_at e p)
 unfolding with_ack with_ack_used
-later_ack_part e p sent =
-    let used : Tcb = with_ack_used e p
-    in ap (λ b. (if b then with_ack_pending_if true e else with_text_and_fin (with_fin_acked used) p).sending) sent
-    ∙ text_part (with_fin_acked used) p
-    ∙ acked_part used
+later_ack_part e p =
+    let used : Tcb = with_ack_used e p in
+    let ahead : Bool = is_ahead e.sending.sent (ack_at e p) in
+    of_if (λ (t : Tcb). t.sending) ahead (with_ack_pending_if true e) (with_text_and_fin (with_fin_acked used) p)
+    ∙ ap (λ s. if ahead then e.sending else s) (text_part (with_fin_acked used) p ∙ acked_part used)
 
 first_ack_part : (e : Tcb) (p : Segment)
     → (with_first_ack e p).sending ≡ (if int_eq (ack_at e p) (pos 0) then with_syn_acked e.sending p.head.seq p.head.window else e.sending)
@@ -59,31 +59,21 @@ sending_aside : Aside (λ (e : Tcb). e.sending)
 unfolding with_time_wait_restarted
 sending_aside = record { with_reset = λ e. refl; pending = λ b e. refl; waiting = λ e p. refl }
 
-checks_use : (e : Tcb) (p : Segment) → IsBounded e → IsUsual e p
+checks_use : (e : Tcb) (p : Segment)
     → (in_others e p).sending
     ≡ by_checks (goes_on e p) (has_rst p) (has_syn p) (has_ack p) e.sending.syn_acked
-    (int_eq (ack_at e p) (pos 0)) (answered_at e p) (with_syn_acked e.sending p.head.seq p.head.window) e.sending
+    (int_eq (ack_at e p) (pos 0)) (is_ahead e.sending.sent (ack_at e p)) (answered_at e p) (with_syn_acked e.sending p.head.seq p.head.window) e.sending
 unfolding with_time_wait_restarted
-checks_use e p bounded usual =
+checks_use e p =
     others_part (λ (t : Tcb). t.sending) e p sending_aside ∙ if_when (goes_on e p) _ _ _ _
     (λ goes. if_when (has_rst p) _ _ _ _ (λ h. refl)
     (λ no_rst. if_when (has_syn p) _ _ _ _ (λ h. refl)
     (λ no_syn. if_when (has_ack p) _ _ _ _
     (λ is_ack. if_when e.sending.syn_acked _ _ _ _
-    (λ h. later_ack_part (at_ack e p) p (sent_bool e p bounded usual is_ack))
+    (λ h. later_ack_part (at_ack e p) p)
     (λ h. first_ack_part (at_ack e p) p))
     (λ h. refl))))
     (λ h. refl)
-
--- what counts has ACK, and acknowledges the SYN where that is the first
-pub counts_ack : (ack syn rst used syn_acked acked : Bool) → (ack && not syn && not rst && used && (syn_acked || acked)) ≡ true
-    → (ack ≡ true) × (syn_acked ≡ false → acked ≡ true)
-counts_ack true false false true true acked h = (refl, λ e. cc)
-counts_ack true false false true false acked h = (refl, λ e. h)
-counts_ack true false false false syn_acked acked h = cc
-counts_ack true false true used syn_acked acked h = absurd (false≢true (dull used (syn_acked || acked) h))
-counts_ack true true rst used syn_acked acked h = absurd (false≢true (dull_more rst used (syn_acked || acked) h))
-counts_ack false syn rst used syn_acked acked h = absurd (false≢true (dull_most syn rst used (syn_acked || acked) h))
 
 -- the fields of an acknowledgement that was sent, of a connection whose SYN is acknowledged
 una_field : (una sent : ℕ) (z : ℤ) → z ≤ℤ pos sent
@@ -110,10 +100,6 @@ length_by false true fin n h = omega arith
 length_by false false true n h = omega arith
 length_by false false false n h = omega arith
 
-dull_end : (a b : Bool) → (a && false && b) ≡ true → false ≡ true
-dull_end true b h = h
-dull_end false b h = h
-
 next_by : (fin : Bool) (t limit : ℕ) → limit ≤ 2 ^ 24 → t ≤ limit → t + (if fin then 1 else 0) ≤ 2 ^ 30 + 1
 next_by true t limit small within = omega arith
 next_by false t limit small within = omega arith
@@ -131,24 +117,19 @@ window_short r = window_by r.read r.limit (length r.unread) (if r.fin then 1 els
 pub length_short : (p : Segment) → length p.payload ≤ 65535 → length_of p ≤ 2 ^ 16
 length_short p h = length_by (has_rst p) (has_syn p) (has_fin p) (length p.payload) h
 
-pub used_of : (ack syn rst used acked : Bool) → (ack && not syn && not rst && used && acked) ≡ true → used ≡ true
-used_of ack syn rst true acked h = refl
-used_of ack syn rst false acked h = absurd (false≢true (dull_end (ack && not syn && not rst) acked h))
-
 -- what counts is used by its place, and so begins near
 pub near_of_counts : (e : Tcb) (p : Segment) → IsBounded e → IsUsual e p → counts e p ≡ true → IsNearFirst (first e p)
 near_of_counts e p bounded usual does_count =
     near_of_usable (next e.receiving) (advertised_edge e.receiving - next e.receiving) (first e p) (length_of p)
-    (next_near e.receiving bounded.limit bounded.taken) (window_short e.receiving) (length_short p usual.text)
-    (used_of (has_ack p) (has_syn p) (has_rst p) (uses e p) (e.sending.syn_acked || int_le (pos 0) (ack_at e p)) does_count)
+    (next_near e.receiving bounded.limit bounded.taken) (window_short e.receiving) (length_short p usual.text) (counted e p does_count).used
 
 -- the test on a window, as the law says it
 abbrev is_newer : Tcb → Segment → Bool
 is_newer e p = updates_window e.sending.una (offset_of e.receiving.irs e.sending.wl1) e.sending.wl2 (first e p) (nat_abs (ack_at e p))
 
 window_is_used : (e : Tcb) (p : Segment) → IsBounded e → IsUsual e p → e.sending.syn_acked ≡ true → counts e p ≡ true
-    → ack_at e p ≤ℤ pos e.sending.sent → moves_edge e.sending p.head.seq (ack_at e p) ≡ uses_window e p
-window_is_used e p bounded usual is_syn_acked does_count sent =
+    → moves_edge e.sending p.head.seq (ack_at e p) ≡ uses_window e p
+window_is_used e p bounded usual is_syn_acked does_count =
     let s : Sending = e.sending in
     let z : ℤ = ack_at e p in
     let irs : ℕ = e.receiving.irs in
@@ -159,7 +140,7 @@ window_is_used e p bounded usual is_syn_acked does_count sent =
     let same : (s.wl1 == seq) ≡ int_eq (offset_of irs s.wl1) (offset_of irs seq) = same_is irs s.wl1 seq wl1_fits usual.seq (bounded.wl1 is_syn_acked) near in
     ap (λ b. int_le (pos s.una) z && int_le z (pos s.sent) && (b || (s.wl1 == seq && nat_le s.wl2 (nat_abs z)))) later
     ∙ ap (λ b. int_le (pos s.una) z && int_le z (pos s.sent) && (int_lt (offset_of irs s.wl1) (offset_of irs seq) || (b && nat_le s.wl2 (nat_abs z)))) same
-    ∙ window_test s.una s.sent s.wl2 z (int_lt (offset_of irs s.wl1) (offset_of irs seq)) (int_eq (offset_of irs s.wl1) (offset_of irs seq)) sent
+    ∙ window_test s.una s.sent s.wl2 z (int_lt (offset_of irs s.wl1) (offset_of irs seq)) (int_eq (offset_of irs s.wl1) (offset_of irs seq)) (counted e p does_count).sent
     ∙ ap (λ b. (b && int_le (pos 0) z) && (false || is_newer e p)) (sym does_count)
     ∙ ap (λ o. (counts e p && int_le (pos 0) z) && (not o || is_newer e p)) (sym is_syn_acked)
 
@@ -177,12 +158,11 @@ unfolding sender.is_duplicate
 duplicate_is e p does_count =
     let s : Sending = e.sending in
     let z : ℤ = ack_at e p in
-    let plain : (has_syn p ≡ false) × (has_rst p ≡ false) =
-    counts_plain (has_ack p) (has_syn p) (has_rst p) (uses e p) (s.syn_acked || int_le (pos 0) z) does_count in
+    let c : IsCounted e p = counted e p does_count in
     let reached : Bool = nat_abs z + p.head.window == s.edge in
     ap (λ b. is_bare p && b && nat_lt s.una s.sent && reached) (same_place s.una z)
     ∙ ap (λ b. b && nat_lt s.una s.sent && reached) (duplicate_tests (int_le (pos 0) z) (length p.payload == 0) (not (has_fin p)) (nat_abs z == s.una))
-    ∙ (λ i. sym does_count i && int_le (pos 0) z && length (sym (text_whole p plain.0 plain.1) i) == 0 && not (sym (fin_whole p plain.0 plain.1) i)
+    ∙ (λ i. sym does_count i && int_le (pos 0) z && length (sym (text_whole p c.no_syn c.no_rst) i) == 0 && not (sym (fin_whole p c.no_syn c.no_rst) i)
     && nat_abs z == s.una && nat_lt s.una s.sent && reached)
 
 -- what acknowledges something new, in the words of the law, is no duplicate
@@ -221,31 +201,30 @@ used_is e p =
     ap (λ s. record e { sending = s; retransmission_due = retransmission_due }) (duplicate_alone (sender.is_duplicate e.sending (is_bare p) (ack_at e p) p.head.window) used)
 
 -- .. to what the law says
-answered_congestion : (e : Tcb) (p : Segment) → IsUsual e p → counts e p ≡ true
+answered_congestion : (e : Tcb) (p : Segment) → counts e p ≡ true
     → (answered_at e p).congestion ≡ congestion_by e p
 unfolding answered_by acknowledged sender.is_duplicate
-answered_congestion e p usual does_count =
+answered_congestion e p does_count =
     let s : Sending = e.sending in
     let z : ℤ = ack_at e p in
-    let sent : z ≤ℤ pos s.sent = usual.sent (counts_ack (has_ack p) (has_syn p) (has_rst p) (uses e p) s.syn_acked (int_le (pos 0) z) does_count).0 in
     let used : Sending = acknowledged s p.head.seq z p.head.window in
     let duplicate : Bool = sender.is_duplicate s (is_bare p) z p.head.window in
     let grown : Congestion = with_new_data s.mss (nat_abs z - s.una) s.congestion in
-    let counted : Congestion = with_duplicate s.mss (s.sent - s.una) s.congestion in
+    let after_duplicate : Congestion = with_duplicate s.mss (s.sent - s.una) s.congestion in
     let is_new : is_new_ack s.una s.sent z ≡ (acknowledges e p && nat_lt s.una (nat_abs z)) =
-    new_test s.una s.sent z sent ∙ ap (λ b. b && int_le (pos 0) z && nat_lt s.una (nat_abs z)) (sym does_count) in
+    new_test s.una s.sent z (counted e p does_count).sent ∙ ap (λ b. b && int_le (pos 0) z && nat_lt s.una (nat_abs z)) (sym does_count) in
     of_if (λ (t : Sending). t.congestion) duplicate (duplicated used) used
     ∙ congestion_chosen duplicate (is_new_ack s.una s.sent z) s.una (nat_abs z) (λ u c. with_duplicate s.mss (s.sent - u) c) grown s.congestion
     (not_new (is_bare p) (nat_lt s.una s.sent) (nat_abs z + p.head.window == s.edge) s.una s.sent z)
-    ∙ (λ i. if is_new i then grown else (if duplicate_is e p does_count i then counted else s.congestion))
+    ∙ (λ i. if is_new i then grown else (if duplicate_is e p does_count i then after_duplicate else s.congestion))
 
-answered_is : (e : Tcb) (p : Segment) → IsUsual e p → counts e p ≡ true
+answered_is : (e : Tcb) (p : Segment) → counts e p ≡ true
     → answered_at e p ≡ record (acknowledged e.sending p.head.seq (ack_at e p) p.head.window) { congestion = congestion_by e p }
 unfolding answered_by
-answered_is e p usual does_count =
+answered_is e p does_count =
     let used : Sending = acknowledged e.sending p.head.seq (ack_at e p) p.head.window in
     duplicate_alone (sender.is_duplicate e.sending (is_bare p) (ack_at e p) p.head.window) used
-    ∙ ap (λ c. record used { congestion = c }) (answered_congestion e p usual does_count)
+    ∙ ap (λ c. record used { congestion = c }) (answered_congestion e p does_count)
 
 -- what a segment that counts makes of the sending half: all but the congestion window goes by the acknowledgement alone
 abbrev pub later_by : Tcb → Segment → Sending
@@ -260,10 +239,10 @@ pub sending_is : (e : Tcb) (p : Segment) → has_begun e.name ≡ true → IsBou
 unfolding received
 sending_is e p begun bounded usual =
     let opened : Sending = with_syn_acked e.sending p.head.seq p.head.window in
-    ap (λ (t : Tcb). t.sending) (begun_is e.name e p begun) ∙ checks_use e p bounded usual
+    ap (λ (t : Tcb). t.sending) (begun_is e.name e p begun) ∙ checks_use e p
     ∙ chosen_is e p (answered_at e p) opened e.sending bounded usual
     ∙ if_when (counts e p) _ _ e.sending e.sending
-    (λ does_count. ap (λ s. if e.sending.syn_acked then s else opened) (answered_is e p usual does_count)) (λ h. refl)
+    (λ does_count. ap (λ s. if e.sending.syn_acked then s else opened) (answered_is e p does_count)) (λ h. refl)
 
 later_law : (e : Tcb) (p : Segment) → IsBounded e → IsUsual e p → e.sending.syn_acked ≡ true → counts e p ≡ true
     → IsSentBy e p (later_by e p)
@@ -271,12 +250,11 @@ unfolding acknowledged
 later_law e p bounded usual is_syn_acked does_count =
     let s : Sending = e.sending in
     let z : ℤ = ack_at e p in
-    let sent : z ≤ℤ pos s.sent = usual.sent (counts_ack (has_ack p) (has_syn p) (has_rst p) (uses e p) s.syn_acked (int_le (pos 0) z) does_count).0 in
-    let used : moves_edge s p.head.seq z ≡ uses_window e p = window_is_used e p bounded usual is_syn_acked does_count sent in
+    let used : moves_edge s p.head.seq z ≡ uses_window e p = window_is_used e p bounded usual is_syn_acked does_count in
     record {
       iss = refl;
       syn_acked = is_syn_acked ∙ sym (ap (λ b. b || counts e p) is_syn_acked);
-      una = una_field s.una s.sent z sent ∙ ap (λ b. if b && int_le (pos 0) z then una_after s.una (nat_abs z) else s.una) (sym does_count);
+      una = una_field s.una s.sent z (counted e p does_count).sent ∙ ap (λ b. if b && int_le (pos 0) z then una_after s.una (nat_abs z) else s.una) (sym does_count);
       sent = refl;
       edge = ap (λ b. if b then nat_abs z + p.head.window else s.edge) used;
       wl1 = offset_of_choice e.receiving.irs p.head.seq s.wl1 (moves_edge s p.head.seq z) ∙ ap (λ b. if b then first e p else offset_of e.receiving.irs s.wl1) used;
@@ -302,16 +280,16 @@ quiet new acked text fin place late edge x y z none nothing =
     (λ i. if acked && none i then x else (if acked && text && fin && place && nothing i && edge then y else z))
     ∙ (λ i. if and_false acked i then x else (if and_false (acked && text && fin && place) i && edge then y else z))
 
-first_law : (e : Tcb) (p : Segment) → IsBounded e → IsUsual e p → e.sending.syn_acked ≡ false → counts e p ≡ true
+first_law : (e : Tcb) (p : Segment) → IsBounded e → e.sending.syn_acked ≡ false → counts e p ≡ true
     → IsSentBy e p (with_syn_acked e.sending p.head.seq p.head.window)
-first_law e p bounded usual syn_unacked does_count =
+first_law e p bounded syn_unacked does_count =
     let s : Sending = e.sending in
     let z : ℤ = ack_at e p in
-    let facts = counts_ack (has_ack p) (has_syn p) (has_rst p) (uses e p) s.syn_acked (int_le (pos 0) z) does_count in
+    let c : IsCounted e p = counted e p does_count in
     let none : s.sent ≡ 0 = bounded.syn_unacked syn_unacked in
     let una : s.una ≡ 0 = omega (arith, bounded.order) in
-    let acked : acknowledges e p ≡ true = ap (λ b. b && int_le (pos 0) z) does_count ∙ facts.1 syn_unacked in
-    let zero : nat_abs z ≡ 0 = zero_abs z s.sent (usual.sent facts.0) none (facts.1 syn_unacked) in
+    let acked : acknowledges e p ≡ true = ap (λ b. b && int_le (pos 0) z) does_count ∙ c.acks_syn syn_unacked in
+    let zero : nat_abs z ≡ 0 = zero_abs z s.sent c.sent none (c.acks_syn syn_unacked) in
     let reached : p.head.window ≡ nat_abs z + p.head.window = omega (arith, zero) in
     let used : uses_window e p ≡ true = ap (λ b. b && (not s.syn_acked || is_newer e p)) acked ∙ ap (λ o. true && (not o || is_newer e p)) syn_unacked in
     record {
@@ -369,7 +347,7 @@ sending_law e p begun bounded usual =
     in subst P (sym (sending_is e p begun bounded usual))
     (by_count e p (counts e p) e.sending.syn_acked
     (λ does_count is_syn_acked. later_law e p bounded usual is_syn_acked does_count)
-    (λ does_count syn_unacked. first_law e p bounded usual syn_unacked does_count)
+    (λ does_count syn_unacked. first_law e p bounded syn_unacked does_count)
     (λ no_count. other_law e p no_count))
 
 -- what is due again
@@ -387,13 +365,14 @@ acked_retransmission e = of_if (λ (t : Tcb). t.retransmission_due) (fin_acked e
 abbrev later_retransmission : Tcb → Segment → Bool
 later_retransmission e p = e.retransmission_due || sender.is_third_duplicate e.sending (is_bare p) (ack_at e p) p.head.window
 
-later_ack_retransmission : (e : Tcb) (p : Segment) → is_ahead e.sending.sent (ack_at e p) ≡ false → (with_ack e p).retransmission_due ≡ later_retransmission e p
+later_ack_retransmission : (e : Tcb) (p : Segment)
+    → (with_ack e p).retransmission_due ≡ (if is_ahead e.sending.sent (ack_at e p) then e.retransmission_due else later_retransmission e p)
 unfolding with_ack with_ack_used
-later_ack_retransmission e p sent =
-    let used : Tcb = with_ack_used e p
-    in ap (λ b. (if b then with_ack_pending_if true e else with_text_and_fin (with_fin_acked used) p).retransmission_due) sent
-    ∙ text_retransmission (with_fin_acked used) p
-    ∙ acked_retransmission used
+later_ack_retransmission e p =
+    let used : Tcb = with_ack_used e p in
+    let ahead : Bool = is_ahead e.sending.sent (ack_at e p) in
+    of_if (λ (t : Tcb). t.retransmission_due) ahead (with_ack_pending_if true e) (with_text_and_fin (with_fin_acked used) p)
+    ∙ ap (λ b. if ahead then e.retransmission_due else b) (text_retransmission (with_fin_acked used) p ∙ acked_retransmission used)
 
 first_ack_retransmission : (e : Tcb) (p : Segment) → (with_first_ack e p).retransmission_due ≡ e.retransmission_due
 unfolding with_first_ack with_reset_reply
@@ -407,17 +386,18 @@ retransmission_aside : Aside (λ (e : Tcb). e.retransmission_due)
 unfolding with_time_wait_restarted
 retransmission_aside = record { with_reset = λ e. refl; pending = λ b e. refl; waiting = λ e p. refl }
 
-checks_repeat : (e : Tcb) (p : Segment) → IsBounded e → IsUsual e p
+checks_repeat : (e : Tcb) (p : Segment)
     → (in_others e p).retransmission_due
-    ≡ by_checks (goes_on e p) (has_rst p) (has_syn p) (has_ack p) e.sending.syn_acked (int_eq (ack_at e p) (pos 0)) (later_retransmission e p) e.retransmission_due e.retransmission_due
+    ≡ by_checks (goes_on e p) (has_rst p) (has_syn p) (has_ack p) e.sending.syn_acked (int_eq (ack_at e p) (pos 0)) (is_ahead e.sending.sent (ack_at e p))
+    (later_retransmission e p) e.retransmission_due e.retransmission_due
 unfolding with_time_wait_restarted
-checks_repeat e p bounded usual =
+checks_repeat e p =
     others_part (λ (t : Tcb). t.retransmission_due) e p retransmission_aside ∙ if_when (goes_on e p) _ _ _ _
     (λ goes. if_when (has_rst p) _ _ _ _ (λ h. refl)
     (λ no_rst. if_when (has_syn p) _ _ _ _ (λ h. refl)
     (λ no_syn. if_when (has_ack p) _ _ _ _
     (λ is_ack. if_when e.sending.syn_acked _ _ _ _
-    (λ h. later_ack_retransmission (at_ack e p) p (sent_bool e p bounded usual is_ack))
+    (λ h. later_ack_retransmission (at_ack e p) p)
     (λ h. first_ack_retransmission (at_ack e p) p ∙ sym (same_if (int_eq (ack_at e p) (pos 0)) e.retransmission_due)))
     (λ h. refl))))
     (λ h. refl)
@@ -437,7 +417,7 @@ pub retransmission_law : (e : Tcb) (p : Segment) → has_begun e.name ≡ true �
 unfolding received
 retransmission_law e p begun bounded usual =
     let goal : Bool = e.retransmission_due || is_third_duplicate e p in
-    ap (λ (t : Tcb). t.retransmission_due) (begun_is e.name e p begun) ∙ checks_repeat e p bounded usual
+    ap (λ (t : Tcb). t.retransmission_due) (begun_is e.name e p begun) ∙ checks_repeat e p
     ∙ chosen_is e p (later_retransmission e p) e.retransmission_due e.retransmission_due bounded usual
     ∙ if_when (counts e p) _ goal _ goal
     (λ does_count. if_when e.sending.syn_acked _ goal _ goal

@@ -1,11 +1,11 @@
 -- What a segment makes of an endpoint is what the laws of `ft_model` make of the point at which it stands.
-use Rattle.std.proofs.Common.{◌≡◌, ℕ, zero, suc, ◌<◌, ◌≤◌, ◌+◌, ◌-◌, ◌*◌, ◌/◌, ◌%◌, ◌^◌, Bool, true, false, not, List, ◌++◌, length, length-append, append-nil, drop, min, refl, sym, ap, arith, ◌∙◌}
+use Rattle.std.proofs.Common.{◌≡◌, ℕ, zero, suc, ◌<◌, ◌≤◌, ◌+◌, ◌-◌, ◌*◌, ◌/◌, ◌%◌, ◌^◌, Bool, true, false, not, List, ◌++◌, length, length-append, append-nil, drop, min, max, refl, sym, ap, arith, ◌∙◌}
 use Rattle.std.specs.Prelude.{ℤ, pos, ◌+ℤ◌, ◌-ℤ◌, ◌<ℤ◌, ◌≤ℤ◌, ◌==◌, ◌&&◌, ◌||◌, nat_abs, nat_lt, int_lt, int_le, if◌then◌else◌}
 use Rattle.std.proofs.lemmas.Int.{ints}
 use Rattle.std.proofs.lemmas.List.{drop-append-le}
 use Rattle.std.proofs.lemmas.Bool.{false≢true, and_right, and_left}
 use Rattle.seq_arith.specs.Number.{offset_of}
-use Rattle.seq_arith.specs.Arrival.{int_eq, lies_in, is_acceptable, is_at_right_edge, is_acceptable_or_at_edge, is_allowed_at_zero, una_after, updates_window}
+use Rattle.seq_arith.specs.Arrival.{int_eq, lies_in, is_acceptable, is_at_right_edge, is_acceptable_or_at_edge, is_allowed_at_zero, is_beyond, una_after, updates_window}
 use Rattle.seq_arith.specs.Coming.{Came, early_from, nothing_came, came_from, comes}
 use Rattle.seq_arith.specs.Congestion.{Congestion, with_new_data, is_third, with_duplicate}
 use Rattle.seq_arith.specs.Packet.{Segment, has_syn, has_rst, has_ack}
@@ -24,12 +24,12 @@ use Rattle.tcp_endpoint.specs.ReceiveHalf.{Receiving, taken, next, receive_edge,
 use Rattle.tcp_endpoint.specs.SendHalf.{Sending}
 use Rattle.tcp_endpoint.specs.Tcb.{Tcb}
 use Rattle.tcp_endpoint.specs.Arrival.{first, ack_at, received}
-use Rattle.endpoint_laws.specs.Laws.{accepts, uses, counts, taken_by, acknowledges, uses_window, is_duplicate, is_third_duplicate, congestion_by, IsSentBy, IsBounded, IsUsual}
+use Rattle.endpoint_laws.specs.Laws.{accepts, uses, acknowledges_unsent, counts, taken_by, acknowledges, uses_window, is_duplicate, is_third_duplicate, congestion_by, IsSentBy, IsBounded, IsUsual}
 use Rattle.endpoint_laws.specs.Refinement.{ReceivesAt, SendsAt}
 use Rattle.tcp_endpoint.proofs.Places.{near_of_usable}
-use Rattle.endpoint_laws.proofs.TakenLaw.{if_when, taken_law}
+use Rattle.endpoint_laws.proofs.TakenLaw.{if_when, counted, taken_law}
 use Rattle.endpoint_laws.proofs.Bounding.{taken_within}
-use Rattle.endpoint_laws.proofs.SendingLaw.{sending_law, next_near, window_short, length_short, used_of, counts_ack}
+use Rattle.endpoint_laws.proofs.SendingLaw.{sending_law, next_near, window_short, length_short}
 use Rattle.ft_io.proofs.Booleans.{left_true, right_true, and_when}
 use Rattle.ft_io.proofs.Choices.{by_cases, of_if}
 
@@ -38,6 +38,7 @@ pub record Meets (p : Point) (e : Tcb) (segment : Segment) : Type 0 where
   pub receives : ReceivesAt p e
   pub sends : SendsAt p e
   pub sent : p.sent ≡ e.sending.sent
+  pub fetched_output : p.fetched_output ≡ 0
   pub bounds : IsBounded e
   pub usual : IsUsual e segment
 
@@ -195,15 +196,19 @@ first_is p e segment m h =
 pub ack_is : (p : Point) (e : Tcb) (segment : Segment) → Meets p e segment → ack_of p.sisn segment ≡ ack_at e segment
 ack_is p e segment m = λ i. offset_of (m.sends.sisn i) segment.head.ack
 
+max_none : (n : ℕ) → max n 0 ≡ n
+max_none n = omega arith
+
+pub unsent_is : (p : Point) (e : Tcb) (segment : Segment) → Meets p e segment → model.acknowledges_unsent p segment ≡ acknowledges_unsent e segment
+unfolding model.acknowledges_unsent
+unsent_is p e segment m =
+    (λ i. is_beyond (max (m.sent i) (m.fetched_output i)) (ack_is p e segment m i)) ∙ ap (λ n. is_beyond n (ack_at e segment)) (max_none e.sending.sent)
+
 counts_is : (p : Point) (e : Tcb) (segment : Segment) → Meets p e segment → model.counts p segment ≡ counts e segment
 unfolding model.counts
 counts_is p e segment m = λ i.
     has_ack segment && not (has_syn segment) && not (has_rst segment) && uses_is p e segment m i && (m.sends.syn_acked i || int_le (pos 0) (ack_is p e segment m i))
-
--- what counts is used by its place
-uses_of : (e : Tcb) (segment : Segment) → counts e segment ≡ true → uses e segment ≡ true
-uses_of e segment h =
-    used_of (has_ack segment) (has_syn segment) (has_rst segment) (uses e segment) (e.sending.syn_acked || int_le (pos 0) (ack_at e segment)) h
+    && not (unsent_is p e segment m i)
 
 -- what comes is the same, counted from some bytes after a stream's beginning
 abbrev brought : Tcb → Segment → Came
@@ -219,7 +224,7 @@ came_is p e segment m =
     ap (λ b. if b then comes (length p.taken) (point.receive_edge p) p.fin p.early (first_of p.cisn segment) (text_of segment) (fin_of segment) else nothing_came p.early p.fin)
     (counts_is p e segment m)
     ∙ if_when (counts e segment) _ (came_from k brings) _ (came_from k (nothing_came r.early r.fin))
-    (λ h. (λ i. comes (m.receives.long i) (edge_is p e m.receives i) (m.receives.fin i) (m.receives.early i) (first_is p e segment m (uses_of e segment h) i)
+    (λ h. (λ i. comes (m.receives.long i) (edge_is p e m.receives i) (m.receives.fin i) (m.receives.early i) (first_is p e segment m (counted e segment h).used i)
     (text_of segment) (fin_of segment))
     ∙ comes_from (taken r) (receive_edge r) k r.fin r.early (first e segment) (text_of segment) (fin_of segment))
     (λ h i. nothing_came (m.receives.early i) (m.receives.fin i))
@@ -253,16 +258,12 @@ used_whole z sent up h = grind (arith, ints)
 acknowledges_is : (p : Point) (e : Tcb) (segment : Segment) → Meets p e segment → sender.acknowledges p segment ≡ acknowledges e segment
 acknowledges_is p e segment m = λ i. counts_is p e segment m i && int_le (pos 0) (ack_is p e segment m i)
 
-ack_of_counts : (e : Tcb) (segment : Segment) → counts e segment ≡ true → has_ack segment ≡ true
-ack_of_counts e segment h =
-    (counts_ack (has_ack segment) (has_syn segment) (has_rst segment) (uses e segment) e.sending.syn_acked (int_le (pos 0) (ack_at e segment)) h).0
-
 acknowledged_is : (p : Point) (e : Tcb) (segment : Segment) → Meets p e segment → acknowledges e segment ≡ true
     → sender.acknowledged_by p segment ≡ nat_abs (ack_at e segment)
 acknowledged_is p e segment m does =
-    let is_ack : has_ack segment ≡ true = ack_of_counts e segment (left_true (counts e segment) (int_le (pos 0) (ack_at e segment)) does) in
     (λ i. min (nat_abs (ack_is p e segment m i)) (m.sent i))
-    ∙ used_whole (ack_at e segment) e.sending.sent (right_true (counts e segment) (int_le (pos 0) (ack_at e segment)) does) (m.usual.sent is_ack)
+    ∙ used_whole (ack_at e segment) e.sending.sent (right_true (counts e segment) (int_le (pos 0) (ack_at e segment)) does)
+    (counted e segment (left_true (counts e segment) (int_le (pos 0) (ack_at e segment)) does)).sent
 
 pub una_is : (p : Point) (e : Tcb) (segment : Segment) → Meets p e segment
     → sender.acknowledged_after (Comes segment) p ≡ (if acknowledges e segment then una_after e.sending.una (nat_abs (ack_at e segment)) else e.sending.una)
@@ -274,7 +275,7 @@ una_is p e segment m =
 
 -- the window's test, once an acknowledgement has counted
 uses_of_acknowledged : (e : Tcb) (segment : Segment) → acknowledges e segment ≡ true → uses e segment ≡ true
-uses_of_acknowledged e segment h = uses_of e segment (left_true (counts e segment) (int_le (pos 0) (ack_at e segment)) h)
+uses_of_acknowledged e segment h = (counted e segment (left_true (counts e segment) (int_le (pos 0) (ack_at e segment)) h)).used
 
 window_test_moves : (una wl2 : ℕ) (wl1 first : ℤ) (ack k : ℕ) → updates_window una (wl1 +ℤ pos k) wl2 (first +ℤ pos k) ack ≡ updates_window una wl1 wl2 first ack
 window_test_moves una wl2 wl1 first ack k =
@@ -330,8 +331,7 @@ first_uses false false a w up h none = h
 
 syn_acked_before : (e : Tcb) (segment : Segment) → (e.sending.syn_acked || counts e segment) ≡ true → uses_window e segment ≡ false → e.sending.syn_acked ≡ true
 syn_acked_before e segment h none =
-    first_uses (counts e segment) e.sending.syn_acked (int_le (pos 0) (ack_at e segment)) _
-    (λ c o. (counts_ack (has_ack segment) (has_syn segment) (has_rst segment) (uses e segment) e.sending.syn_acked (int_le (pos 0) (ack_at e segment)) c).1 o) h none
+    first_uses (counts e segment) e.sending.syn_acked (int_le (pos 0) (ack_at e segment)) _ (λ c. (counted e segment c).acks_syn) h none
 
 wl1_choice : (u : Bool) (z x x' y y' : ℤ) → z ≡ (if u then x' else y') → (u ≡ true → x ≡ x') → (u ≡ false → y ≡ y') → (if u then x else y) ≡ z
 wl1_choice true z x x' y y' is on off = on refl ∙ sym is

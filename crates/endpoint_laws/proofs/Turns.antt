@@ -244,6 +244,7 @@ turn_leads service news before after e m u begun between stands usual news_are c
         receives = flushed_receives after u f.receives;
         sends = flushed_sends after u f.sends;
         sent = sent;
+        fetched_output = laws.same.fetched_output ∙ stands.fetched_output;
         interval = timed.0;
         rest = timed.1;
       },

@@ -4,7 +4,7 @@
 -- 2^24, and the target is the bytes written, and one more once the user has closed.
 use Rattle.std.specs.Prelude.{◌≡◌, ℕ, Bool, true, false, pos, ◌+◌, ◌-◌, ◌*◌, ◌^◌, ◌<◌, ◌≤◌, ◌-ℤ◌, ◌≤ℤ◌, ◌==◌, ◌&&◌, ◌||◌, not, nat_lt, int_lt, int_le, max, min, nat_abs, length, if◌then◌else◌}
 use Rattle.seq_arith.specs.Number.{offset_of}
-use Rattle.seq_arith.specs.Arrival.{int_eq, is_acceptable_or_at_edge, is_usable, una_after, updates_window}
+use Rattle.seq_arith.specs.Arrival.{int_eq, is_acceptable_or_at_edge, is_usable, is_beyond, una_after, updates_window}
 use Rattle.seq_arith.specs.Packet.{Segment, has_syn, has_rst, has_ack}
 use Rattle.seq_arith.specs.Offset.{one_if, text_of, fin_of, length_of}
 use Rattle.seq_arith.specs.Coming.{StandsBehind}
@@ -23,9 +23,15 @@ accepts e p = is_acceptable_or_at_edge (next e.receiving) (advertised_edge e.rec
 abbrev pub uses : Tcb → Segment → Bool
 uses e p = is_usable (next e.receiving) (advertised_edge e.receiving - next e.receiving) (first e p) (length_of p)
 
--- a segment counts where it has ACK and neither SYN nor RST, is used by its place, and, where no acknowledgement has counted yet, acknowledges the SYN
+-- a segment acknowledges something that was never sent (RFC 9293, 3.10.7.4, fifth check)
+abbrev pub acknowledges_unsent : Tcb → Segment → Bool
+acknowledges_unsent e p = is_beyond e.sending.sent (ack_at e p)
+
+-- a segment counts where it has ACK and neither SYN nor RST, is used by its place, acknowledges nothing that was never sent, and, where no acknowledgement has
+-- counted yet, acknowledges the SYN
 abbrev pub counts : Tcb → Segment → Bool
-counts e p = has_ack p && not (has_syn p) && not (has_rst p) && uses e p && (e.sending.syn_acked || int_le (pos 0) (ack_at e p))
+counts e p =
+    has_ack p && not (has_syn p) && not (has_rst p) && uses e p && (e.sending.syn_acked || int_le (pos 0) (ack_at e p)) && not (acknowledges_unsent e p)
 
 -- Taken: what the text and the FIN of a segment that counts do to the stream. Nothing else changes what is taken or held
 unfoldable pub taken_by : Tcb → Segment → Receiving
@@ -83,9 +89,8 @@ pub record IsSentBy (e : Tcb) (p : Segment) (after : Sending) : Type 0 where
   pub held : after.una + length after.held ≡ max after.una (e.sending.una + length e.sending.held)
   pub closed : after.closed ≡ e.sending.closed
 
--- a packet that acknowledges at most what was sent, and nothing far before our stream; its fields fit their bytes
+-- a packet that acknowledges nothing far before our stream; its fields fit their bytes
 pub record IsUsual (e : Tcb) (p : Segment) : Type 0 where
-  pub sent : has_ack p ≡ true → ack_at e p ≤ℤ pos e.sending.sent
   pub near : has_ack p ≡ true → (pos 0 -ℤ pos (2 ^ 30 + 2 ^ 24)) ≤ℤ ack_at e p
   pub seq : p.head.seq < 2 ^ 32
   pub window : p.head.window ≤ 65535
@@ -124,19 +129,24 @@ abbrev pub sent_by_law : Tcb → ℕ
 sent_by_law e =
     max e.sending.sent (min (target e.sending) (min e.sending.edge (e.sending.una + e.sending.congestion.cwnd))) + one_if e.probe
 
--- the SYN isn't acknowledged yet, and the segment has an acknowledgement of less than the SYN
-abbrev pub acknowledges_less : Tcb → Segment → Bool
-acknowledges_less e p = not e.sending.syn_acked && has_ack p && int_lt (ack_at e p) (pos 0)
+-- the SYN isn't acknowledged yet, and the segment has an acknowledgement of anything but the SYN
+abbrev pub misses_syn : Tcb → Segment → Bool
+misses_syn e p = not e.sending.syn_acked && has_ack p && (int_lt (ack_at e p) (pos 0) || acknowledges_unsent e p)
 
--- ACK pending: an acceptable segment that acknowledges less than the SYN gets a RST, and no ACK
+-- ACK pending: an acceptable segment that acknowledges anything but the SYN, while that is unacknowledged, gets a RST, and no ACK
 abbrev pub is_refused : Tcb → Segment → Bool
-is_refused e p = accepts e p && not (has_rst p) && not (has_syn p) && acknowledges_less e p
+is_refused e p = accepts e p && not (has_rst p) && not (has_syn p) && misses_syn e p
 
--- ACK pending: among acceptable segments, a SYN, and a RST that isn't at the next number, get a challenge ACK, and a segment with a length gets an ACK
+-- an acknowledgement of what was never sent
+abbrev pub is_unsent_ack : Tcb → Segment → Bool
+is_unsent_ack e p = has_ack p && acknowledges_unsent e p
+
+-- ACK pending: among acceptable segments, a SYN, and a RST that isn't at the next number, get a challenge ACK. A segment with a length gets an ACK, and so does
+-- one that acknowledges what was never sent
 abbrev pub needs_ack_if_acceptable : Tcb → Segment → Bool
 needs_ack_if_acceptable e p =
     if has_rst p then not (int_eq (first e p) (pos (next e.receiving)))
-    else (if has_syn p then true else nat_lt 0 (length_of p))
+    else (if has_syn p then true else nat_lt 0 (length_of p) || is_unsent_ack e p)
 
 -- ACK pending: each segment that isn't acceptable gets an ACK, unless it has RST
 abbrev pub needs_ack : Tcb → Segment → Bool

@@ -57,6 +57,7 @@ pub record StandsAt (p : Point) (e : Tcb) : Type 0 where
   pub receives : ReceivesAt p e
   pub sends : SendsAt p e
   pub sent : p.sent ≡ e.sending.sent
+  pub fetched_output : p.fetched_output ≡ 0  -- TCP knows of no earlier incarnation
   pub interval : p.interval ≡ e.sending.interval
   pub rest : p.rest ≡ e.sending.rest
 
@@ -104,7 +105,7 @@ abbrev pub is_ack_pending : News → (before after : Point) → Bool
 is_ack_pending news before after =
     news_needs_ack news before || not (taken_units before == taken_units after) || not (advertised_edge before == advertised_edge after)
 
--- while the SYN is unacknowledged: the RST that answers an acceptable segment which acknowledges less
+-- while the SYN is unacknowledged: the RST that answers an acceptable segment which acknowledges anything else
 abbrev pub refuses : Point → Segment → Bool
 refuses before segment = accepts before segment && not (has_rst segment) && not (has_syn segment) && is_refused before segment
 

@@ -60,7 +60,7 @@ abbrev pub MayUse : List Call → Tcb → Type 0
 MayUse [] e = Unit {0}
 MayUse (call ∷ calls) e = MayCall call e × MayUse calls (called call e)
 
--- a segment that arrives is a usual one: it acknowledges at most what was sent
+-- a segment that arrives is a usual one: it acknowledges nothing far before our stream
 abbrev pub IsUsualNews : News → Tcb → Type 0
 IsUsualNews (Comes segment) e = IsUsual e segment
 IsUsualNews _ e = Unit {0}
