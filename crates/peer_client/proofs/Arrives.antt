@@ -2,6 +2,7 @@
 use Rattle.std.proofs.Common.{◌≡◌, ℕ, ◌≤◌, ◌+◌, ◌-◌, ◌^◌, Bool, true, false, not, [], length, refl, sym, ap, subst, arith, ◌∙◌}
 use Rattle.std.specs.Prelude.{ℤ, pos, ◌-ℤ◌, ◌≤ℤ◌, ◌&&◌, ◌||◌, nat_lt, int_lt, if◌then◌else◌}
 use Rattle.std.proofs.lemmas.Bool.{false≢true}
+use Rattle.std.proofs.lemmas.Int.{ints}
 use Rattle.seq_arith.specs.Arrival.{int_eq, is_acceptable, is_at_right_edge, is_allowed_at_zero, is_usable}
 use Rattle.seq_arith.specs.Coming.{comes}
 use Rattle.seq_arith.specs.Congestion.{Congestion}
@@ -20,10 +21,11 @@ use Rattle.ft_model.specs.Client.{Client, is_live, is_open, is_ended, holds, nex
 use Rattle.ft_model.specs.Client.ClientKind.{Live}
 use Rattle.ft_model.specs.declared.phase.Phase.TheVariants.{Reset}
 use Rattle.peer_client.specs.Refinement.{Hears, Sends}
-use Rattle.peer_client.proofs.Comes.{both_if, Heard, segment_heard, ack_sends, ahead_is}
+use Rattle.peer_client.proofs.Comes.{both_if, Heard, segment_heard, ack_sends}
 use Rattle.ft_io.proofs.Booleans.{left_true, right_true, and_true}
 use Rattle.ft_io.proofs.Choices.{holds_if}
 use Rattle.endpoint_laws.proofs.EndingLaw.{acceptable_at}
+use Rattle.endpoint_laws.proofs.TakenLaw.{ahead_is}
 
 -- an endpoint and the machine after some of the checks, with those before them
 pub record AfterChecks (e : Tcb) (c : Client) (written : ℕ) (t : Tcb) (d : Client) : Type 0 where
@@ -200,13 +202,14 @@ acked_kept e c written e1 ack_pending wait p is syn rst near b =
     let retransmission_due : Bool = e.retransmission_due || is_third_duplicate e.sending (is_bare p) (ack_at e p) p.head.window in
     let m : Tcb = record e2 { sending = answered_by e.sending (is_bare p) p.head.seq (ack_at e p) p.head.window; retransmission_due = retransmission_due } in
     let few : e.sending.sent ≤ 2 ^ 24 + 1 = few_sent e.sending written c e.sending.fin_sent refl b.sends in
+    let ahead : is_ahead e.sending.sent (ack_at e p) ≡ int_lt (pos e.sending.sent) (ack_at e p) = ahead_is e.sending.sent (ack_at e p) few (omega (arith, ints, near_at)) in
     let later : ℕ → Client = λ n. machine.with_added (machine.with_ack c (ack_of n p)) (machine.came c p) in
     subst (λ (t : Tcb). AfterChecks e c written (with_ack t p) (machine.used c p)) (sym is)
     (both_if (λ (t : Tcb) (d : Client). AfterChecks e c written t d) (is_ahead e.sending.sent (ack_at e p)) (int_lt (pos c.sent) (ack_of c.isn p)) (with_ack_pending_if true e2) _ c (later c.isn)
-    (ahead_is e.sending.sent (ack_at e p) few near_at ∙ (λ i. int_lt (pos (sym b.sends.sent i)) (ack_of (b.iss i) p)))
+    (ahead ∙ (λ i. int_lt (pos (sym b.sends.sent i)) (ack_of (b.iss i) p)))
     (λ k. kept e c written e.name (ack_pending || true) wait b)
     (λ k.
-    let within : int_lt (pos e.sending.sent) (ack_at e p) ≡ false = sym (ahead_is e.sending.sent (ack_at e p) few near_at) ∙ k in
+    let within : int_lt (pos e.sending.sent) (ack_at e p) ≡ false = sym ahead ∙ k in
     subst (λ n. AfterChecks e c written (with_text_and_fin (if fin_acked m.sending then entering (after_fin_acked m.name) m else m) p) (later n)) b.iss
     (holds_if (λ (x : Tcb). AfterChecks e c written (with_text_and_fin x p) (later e.sending.iss)) (fin_acked m.sending) (entering (after_fin_acked m.name) m) m
     (λ q. text_kept e c written (entering (after_fin_acked m.name) m) (machine.with_ack c (ack_at e p)) p syn rst b.kind b.edge

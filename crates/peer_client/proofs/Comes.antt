@@ -1,6 +1,6 @@
 -- A segment comes to an established connection: the client machine receives what its TCP does.
-use Rattle.std.proofs.Common.{◌≡◌, ℕ, ◌≤◌, ◌+◌, ◌-◌, ◌^◌, Bool, true, false, List, ◌++◌, length, length-append, take, drop, drop-drop, refl, sym, ap, subst, arith, ◌∙◌}
-use Rattle.std.specs.Prelude.{ℤ, pos, ◌-ℤ◌, ◌≤ℤ◌, ◌&&◌, nat_abs, int_lt, int_le, if◌then◌else◌}
+use Rattle.std.proofs.Common.{◌≡◌, ℕ, ◌≤◌, ◌+◌, ◌-◌, Bool, true, false, List, ◌++◌, length, length-append, take, drop, drop-drop, refl, sym, ap, subst, arith, ◌∙◌}
+use Rattle.std.specs.Prelude.{ℤ, pos, ◌&&◌, nat_abs, int_lt, int_le, if◌then◌else◌}
 use Rattle.std.proofs.lemmas.Int.{ints}
 use Rattle.std.proofs.lemmas.Bool.{false≢true}
 use Rattle.std.proofs.lemmas.List.{drop-append-le}
@@ -8,7 +8,6 @@ use Rattle.seq_arith.specs.Arrival.{is_new_ack}
 use Rattle.seq_arith.specs.Coming.{Came, StandsBehind, comes}
 use Rattle.seq_arith.specs.Congestion.{Congestion}
 use Rattle.seq_arith.proofs.Coming.{comes_within, fin_stays, stays_behind}
-use Rattle.tcp_buffers.specs.Near.{is_ahead}
 use Rattle.tcp_endpoint.specs.ReceiveHalf.{Receiving, taken, receive_edge, came, with_came, with_segment}
 use Rattle.tcp_endpoint.specs.SendHalf.{Sending, acknowledged, moves_edge}
 use Rattle.ft_model.specs.Client as machine
@@ -128,6 +127,3 @@ ack_sends s seq ack room written d after sent h =
         ap (drop (nat_abs ack - s.una)) h.held ∙ drop-drop (nat_abs ack - s.una) s.una (take written d.script)
         ∙ ap (λ n. drop n (take written d.script)) (new_above s.una s.sent ack k)
     held_if false k = h.held
-
-pub ahead_is : (sent : ℕ) (ack : ℤ) → sent ≤ 2 ^ 24 + 1 → (pos 0 -ℤ pos (2 ^ 30)) ≤ℤ ack → is_ahead sent ack ≡ int_lt (pos sent) ack
-ahead_is sent ack few near = grind (arith, ints)
