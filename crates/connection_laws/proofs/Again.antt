@@ -7,7 +7,7 @@ use Rattle.seq_arith.specs.Arrival.{una_after}
 use Rattle.seq_arith.specs.Packet.{Segment, has_ack}
 use Rattle.server_trait.specs.Service.{Machine}
 use Rattle.ft_model.specs.Offset.{first_of, ack_of}
-use Rattle.ft_model.specs.Point.{Point, target}
+use Rattle.ft_model.specs.Point.{Point, most, target}
 use Rattle.ft_model.specs.News.{News}
 use Rattle.ft_model.specs.News.News.{Comes, Logged, Ticks, Begins}
 use Rattle.ft_model.specs.Network.{Packet}
@@ -19,7 +19,7 @@ use Rattle.connection_laws.specs.Inside.{GoesOn}
 use Rattle.south_wrap.specs.Translation.{inward}
 use Rattle.south_wrap.specs.SouthPoint.{south_at}
 use Rattle.connection_laws.specs.Turn.{SegmentFits, NewsFit}
-use Rattle.connection_laws.proofs.Lowered.{Lowers, lowers, moves, used_by}
+use Rattle.connection_laws.proofs.Lowered.{LowersAt, lowers, moves, used_by}
 use Rattle.connection_laws.proofs.Meets.{Moves, stays_inside, unacknowledged, minus_none}
 use Rattle.ft_io.proofs.Booleans.{middle_false}
 
@@ -41,12 +41,12 @@ pub record Stays (u : ℕ) (news : News) (p : Point) : Type 0 where
 by_ack : (u i delta : ℕ) (segment : Segment) (b : Bool) → has_ack segment ≡ b → (p : Point) → GoesOn u i delta p → SegmentFits p segment → Stays u (Comes segment) p
 unfolding acknowledged_after edge_after wl2_after
 by_ack u i delta segment true h p g f =
-    let l : Lowers u p.sent (ack_of p.sisn segment) (ack_of i (inward (south_at delta p) segment)) = lowers u i delta p segment g f.ack (f.near h) in
+    let l : LowersAt u i delta p segment = lowers u i delta p segment g f.ack (f.near h) in
     let c : Bool = counts p segment in
     let m : Bool = moves c p.syn_acked p.una p.wl1 p.wl2 (first_of p.cisn segment) (ack_of p.sisn segment) p.sent in
     let rises = una_rises (c && int_le (pos 0) (ack_of p.sisn segment)) p.una (nat_abs (ack_of p.sisn segment)) p.sent g.order in
     let from : m ≡ true → u ≤ acknowledged_by p segment =
-    (λ t. (used_by u p.una p.sent c p.syn_acked p.wl1 p.wl2 segment.head.window (first_of p.cisn segment) (ack_of p.sisn segment) (ack_of i (inward (south_at delta p) segment)) g.una g.order (λ h. (g.syn_unacked h).0) l t).from) in
+    (λ t. (used_by u p.una p.sent (most p) c p.syn_acked p.wl1 p.wl2 segment.head.window (first_of p.cisn segment) (ack_of p.sisn segment) (ack_of i (inward (south_at delta p) segment)) g.una g.order (λ h. (g.syn_unacked h).0) l t).from) in
     record {
       una = omega (arith, rises.0, g.una);
       most = rises.1;

@@ -1,11 +1,11 @@
 -- An acknowledgement makes the same of the congestion window inside and outside: it is a duplicate on both sides or on neither, and acknowledges as many
 -- units for the first time.
 use Rattle.std.proofs.Common.{◌≡◌, ℕ, ◌<◌, ◌≤◌, ◌+◌, ◌-◌, Bool, true, false, min, refl, sym, ap, arith, inl, inr, ◌∙◌}
-use Rattle.std.specs.Prelude.{ℤ, pos, ◌==◌, ◌&&◌, nat_abs, nat_lt, int_lt, int_le, if◌then◌else◌}
+use Rattle.std.specs.Prelude.{ℤ, pos, ◌==◌, ◌&&◌, nat_abs, nat_lt, int_le, if◌then◌else◌}
 use Rattle.std.proofs.lemmas.Int.{ints}
 use Rattle.std.proofs.lemmas.Bool.{false≢true}
 use Rattle.seq_arith.specs.Congestion.{Congestion, with_new_data, with_duplicate}
-use Rattle.connection_laws.proofs.Lowered.{Lowers, unsigned}
+use Rattle.connection_laws.proofs.Lowered.{Lowers, window_inside, window_usual, unsigned}
 
 -- what the laws ask of the numbers: it acknowledges what no segment did before, ..
 abbrev pub acknowledges_more : (una sent : ℕ) (c : Bool) (ack : ℤ) → Bool
@@ -26,10 +26,6 @@ duplicates una sent edge window c textless finless ack =
     && nat_lt una sent
     && min (nat_abs ack) sent + min 65535 (window + nat_abs ack - min (nat_abs ack) sent) == edge
 
--- the window as it goes inside
-abbrev pub window_inside : (sent window : ℕ) (ack : ℤ) → ℕ
-window_inside sent window ack = if int_lt (pos sent) ack then min 65535 (window + (nat_abs ack - sent)) else window
-
 -- one that acknowledges all that was sent repeats nothing, ..
 repeats_not : (una sent edge window k : ℕ) → sent < k → repeats una sent edge window (pos k) ≡ false
 repeats_not una sent edge window k h = grind (arith, h)
@@ -40,9 +36,6 @@ repeats_less una sent edge window k h = grind (arith, h)
 
 repeats_all : (una sent edge window : ℕ) → repeats una sent edge window (pos sent) ≡ false
 repeats_all una sent edge window = grind arith
-
-not_over : (sent window k : ℕ) → k ≤ sent → window_inside sent window (pos k) ≡ window
-not_over sent window k h = grind (arith, ints, h)
 
 repeats_usual : (u una sent edge window k : ℕ) → u ≤ una → una ≤ sent → u ≤ edge → u ≤ k → k ≤ sent
     → repeats (una - u) (sent - u) (edge - u) window (pos (k - u)) ≡ repeats una sent edge window (pos k)
@@ -75,23 +68,27 @@ regroup false t f x y z x' y' z' h = refl
 zero_up : (k : ℕ) → int_le (pos 0) (pos k) ≡ true
 zero_up k = grind (arith, ints)
 
-pub duplicates_inside : (u una sent edge window : ℕ) (c textless finless : Bool) (ack inner : ℤ) → u ≤ una → una ≤ sent → u ≤ edge → Lowers u sent ack inner
-    → duplicates (una - u) (sent - u) (edge - u) (window_inside sent window ack) c textless finless inner ≡ duplicates una sent edge window c textless finless ack
-duplicates_inside u una sent edge window c t f ack inner a b e (inl h) =
-    none_of (c && int_le (pos 0) inner) t f _ _ _ (rw h.to (repeats_all (una - u) (sent - u) (edge - u) (window_inside sent window ack)))
+pub duplicates_inside : (u una sent most edge window : ℕ) (c textless finless : Bool) (ack inner : ℤ) → u ≤ una → una ≤ sent → u ≤ edge → Lowers u sent most ack inner
+    → duplicates (una - u) (sent - u) (edge - u) (window_inside sent most window ack) c textless finless inner ≡ duplicates una sent edge window c textless finless ack
+duplicates_inside u una sent most edge window c t f ack inner a b e (inl h) =
+    none_of (c && int_le (pos 0) inner) t f _ _ _ (rw h.to (repeats_all (una - u) (sent - u) (edge - u) (window_inside sent most window ack)))
     ∙ sym (none_of (c && int_le (pos 0) ack) t f _ _ _ (rw h.is (repeats_not una sent edge window h.k h.over)))
-duplicates_inside u una sent edge window c t f ack inner a b e (inr (inl h)) =
-    (λ i. duplicates (una - u) (sent - u) (edge - u) (window_inside sent window (h.is i)) c t f (h.to i))
-    ∙ (λ i. duplicates (una - u) (sent - u) (edge - u) (not_over sent window h.k h.most i) c t f (pos (h.k - u)))
+duplicates_inside u una sent most edge window c t f ack inner a b e (inr (inl h)) =
+    (λ i. duplicates (una - u) (sent - u) (edge - u) (window_inside sent most window (h.is i)) c t f (h.to i))
+    ∙ (λ i. duplicates (una - u) (sent - u) (edge - u) (window_usual sent most window h.k h.most i) c t f (pos (h.k - u)))
     ∙ regroup (c && int_le (pos 0) (pos (h.k - u))) t f _ _ _ _ _ _ (repeats_usual u una sent edge window h.k a b e h.from h.most)
     ∙ (λ i. (c && (zero_up (h.k - u) ∙ sym (zero_up h.k)) i) && t && f && min h.k sent == una && nat_lt una sent
     && min h.k sent + min 65535 (window + h.k - min h.k sent) == edge)
     ∙ sym (λ i. duplicates una sent edge window c t f (h.is i))
-duplicates_inside u una sent edge window c t f ack inner a b e (inr (inr (inl h))) =
+duplicates_inside u una sent most edge window c t f ack inner a b e (inr (inr (inl h))) =
     unused c (int_le (pos 0) inner) t f _ _ _ h.negative
     ∙ sym (none_of (c && int_le (pos 0) ack) t f _ _ _ (rw h.is (repeats_less una sent edge window h.k (omega (arith, h.under, a)))))
-duplicates_inside u una sent edge window c t f ack inner a b e (inr (inr (inr h))) =
+duplicates_inside u una sent most edge window c t f ack inner a b e (inr (inr (inr (inl h)))) =
     unused c (int_le (pos 0) inner) t f _ _ _ h.inside ∙ sym (unused c (int_le (pos 0) ack) t f _ _ _ h.negative)
+duplicates_inside u una sent most edge window c t f ack inner a b e (inr (inr (inr (inr h)))) =
+    none_of (c && int_le (pos 0) inner) t f _ _ _
+    (rw h.to (repeats_not (una - u) (sent - u) (edge - u) (window_inside sent most window ack) (h.k - u) (omega (arith, h.over, a, b))))
+    ∙ sym (none_of (c && int_le (pos 0) ack) t f _ _ _ (rw h.is (repeats_not una sent edge window h.k h.over)))
 
 -- as many units are acknowledged for the first time
 more_same : (una una' sent sent' : ℕ) (c : Bool) (ack ack' : ℤ) → int_le (pos 0) ack' ≡ int_le (pos 0) ack
@@ -103,25 +100,28 @@ off_more true true m h = h
 off_more true false m h = refl
 off_more false s m h = refl
 
-pub more_inside : (u una sent : ℕ) (c : Bool) (ack inner : ℤ) → u ≤ una → una ≤ sent → Lowers u sent ack inner
+pub more_inside : (u una sent most : ℕ) (c : Bool) (ack inner : ℤ) → u ≤ una → una ≤ sent → Lowers u sent most ack inner
     → acknowledges_more (una - u) (sent - u) c inner ≡ acknowledges_more una sent c ack
-more_inside u una sent c ack inner a b (inl h) =
+more_inside u una sent most c ack inner a b (inl h) =
     more_same una (una - u) sent (sent - u) c ack inner (rw (h.is, h.to) (grind (arith, ints))) (rw (h.is, h.to) (grind (arith, ints, h.over, a, b)))
-more_inside u una sent c ack inner a b (inr (inl h)) =
+more_inside u una sent most c ack inner a b (inr (inl h)) =
     more_same una (una - u) sent (sent - u) c ack inner (rw (h.is, h.to) (grind (arith, ints))) (rw (h.is, h.to) (grind (arith, ints, h.from, h.most, a, b)))
-more_inside u una sent c ack inner a b (inr (inr (inl h))) =
+more_inside u una sent most c ack inner a b (inr (inr (inl h))) =
     unsigned c (int_le (pos 0) inner) _ h.negative
     ∙ sym (off_more c (int_le (pos 0) ack) (nat_lt una (min (nat_abs ack) sent)) (rw h.is (grind (arith, ints, h.under, h.most, a))))
-more_inside u una sent c ack inner a b (inr (inr (inr h))) =
+more_inside u una sent most c ack inner a b (inr (inr (inr (inl h)))) =
     unsigned c (int_le (pos 0) inner) _ h.inside ∙ sym (unsigned c (int_le (pos 0) ack) _ h.negative)
+more_inside u una sent most c ack inner a b (inr (inr (inr (inr h)))) =
+    more_same una (una - u) sent (sent - u) c ack inner (rw (h.is, h.to) (grind (arith, ints))) (rw (h.is, h.to) (grind (arith, ints, h.over, a, b)))
 
-units_inside : (u una sent : ℕ) (c : Bool) (ack inner : ℤ) → u ≤ una → una ≤ sent → Lowers u sent ack inner → acknowledges_more una sent c ack ≡ true
+units_inside : (u una sent most : ℕ) (c : Bool) (ack inner : ℤ) → u ≤ una → una ≤ sent → Lowers u sent most ack inner → acknowledges_more una sent c ack ≡ true
     → min (nat_abs inner) (sent - u) - (una - u) ≡ min (nat_abs ack) sent - una
-units_inside u una sent c ack inner a b (inl h) m = rw (h.is, h.to) (grind (arith, ints, h.over, a, b))
-units_inside u una sent c ack inner a b (inr (inl h)) m = rw (h.is, h.to) (grind (arith, ints, h.from, h.most, a, b))
-units_inside u una sent c ack inner a b (inr (inr (inl h))) m =
+units_inside u una sent most c ack inner a b (inl h) m = rw (h.is, h.to) (grind (arith, ints, h.over, a, b))
+units_inside u una sent most c ack inner a b (inr (inl h)) m = rw (h.is, h.to) (grind (arith, ints, h.from, h.most, a, b))
+units_inside u una sent most c ack inner a b (inr (inr (inl h))) m =
     absurd (false≢true (sym (off_more c (int_le (pos 0) ack) (nat_lt una (min (nat_abs ack) sent)) (rw h.is (grind (arith, ints, h.under, h.most, a)))) ∙ m))
-units_inside u una sent c ack inner a b (inr (inr (inr h))) m = absurd (false≢true (sym (unsigned c (int_le (pos 0) ack) _ h.negative) ∙ m))
+units_inside u una sent most c ack inner a b (inr (inr (inr (inl h)))) m = absurd (false≢true (sym (unsigned c (int_le (pos 0) ack) _ h.negative) ∙ m))
+units_inside u una sent most c ack inner a b (inr (inr (inr (inr h)))) m = rw (h.is, h.to) (grind (arith, ints, h.over, a, b))
 
 -- and as much is in flight
 pub flight_inside : (u una sent : ℕ) → u ≤ una → (sent - u) - (una - u) ≡ sent - una
@@ -132,14 +132,14 @@ by_units : (m : Bool) (units units' mss : ℕ) (c x x' : Congestion) → (m ≡ 
 by_units true units units' mss c x x' h e = ap (λ n. with_new_data mss n c) (h refl)
 by_units false units units' mss c x x' h e = e
 
-pub congestion_inside : (u una sent edge window mss : ℕ) (c textless finless : Bool) (ack inner : ℤ) (now : Congestion)
-    → u ≤ una → una ≤ sent → u ≤ edge → Lowers u sent ack inner
+pub congestion_inside : (u una sent most edge window mss : ℕ) (c textless finless : Bool) (ack inner : ℤ) (now : Congestion)
+    → u ≤ una → una ≤ sent → u ≤ edge → Lowers u sent most ack inner
     → (if acknowledges_more (una - u) (sent - u) c inner then with_new_data mss (min (nat_abs inner) (sent - u) - (una - u)) now
-    else (if duplicates (una - u) (sent - u) (edge - u) (window_inside sent window ack) c textless finless inner
+    else (if duplicates (una - u) (sent - u) (edge - u) (window_inside sent most window ack) c textless finless inner
     then with_duplicate mss ((sent - u) - (una - u)) now else now))
     ≡ (if acknowledges_more una sent c ack then with_new_data mss (min (nat_abs ack) sent - una) now
     else (if duplicates una sent edge window c textless finless ack then with_duplicate mss (sent - una) now else now))
-congestion_inside u una sent edge window mss c t f ack inner now a b e l =
-    (λ i. if more_inside u una sent c ack inner a b l i then with_new_data mss (min (nat_abs inner) (sent - u) - (una - u)) now
-    else (if duplicates_inside u una sent edge window c t f ack inner a b e l i then with_duplicate mss (flight_inside u una sent a i) now else now))
-    ∙ by_units (acknowledges_more una sent c ack) _ _ mss now _ _ (units_inside u una sent c ack inner a b l) refl
+congestion_inside u una sent most edge window mss c t f ack inner now a b e l =
+    (λ i. if more_inside u una sent most c ack inner a b l i then with_new_data mss (min (nat_abs inner) (sent - u) - (una - u)) now
+    else (if duplicates_inside u una sent most edge window c t f ack inner a b e l i then with_duplicate mss (flight_inside u una sent a i) now else now))
+    ∙ by_units (acknowledges_more una sent c ack) _ _ mss now _ _ (units_inside u una sent most c ack inner a b l) refl

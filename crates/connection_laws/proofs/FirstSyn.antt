@@ -51,6 +51,7 @@ begun_is service server boot numbers q sent l =
       sisn = l.same.sisn j;
       mss = l.same.mss j;
       fetched = l.same.fetched j;
+      fetched_output = l.same.fetched_output j;
       taken = l.taken j;
       fin = l.fin j;
       early = l.early j;

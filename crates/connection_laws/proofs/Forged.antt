@@ -3,16 +3,16 @@ use Rattle.std.proofs.Common.{◌≡◌, ℕ, zero, suc, ◌<◌, ◌+◌, ◌-�
 use Rattle.std.specs.Prelude.{ℤ, pos, ◌+ℤ◌, ◌==◌, ◌&&◌, ◌||◌, nat_abs, nat_lt, int_lt, int_le, if◌then◌else◌}
 use Rattle.std.proofs.lemmas.Int.{ints}
 use Rattle.std.proofs.lemmas.Bool.{false≢true, and_right}
-use Rattle.seq_arith.specs.Arrival.{int_eq, is_acceptable, is_at_right_edge, is_allowed_at_zero, is_usable, una_after, updates_window}
+use Rattle.seq_arith.specs.Arrival.{int_eq, is_acceptable, is_at_right_edge, is_allowed_at_zero, is_usable, is_beyond, una_after, updates_window}
 use Rattle.seq_arith.specs.Coming.{nothing_came, nothing_early, comes}
 use Rattle.seq_arith.specs.Congestion.{with_new_data, with_duplicate}
 use Rattle.seq_arith.proofs.Coming.{in_order, ComesAlone, comes_alone}
 use Rattle.seq_arith.specs.Packet.{Segment, has_fin, has_syn, has_rst, has_ack}
 use Rattle.server_trait.specs.Service.{Machine, reference}
 use Rattle.ft_model.specs.Offset.{one_if, first_of, ack_of, text_of, fin_of, length_of}
-use Rattle.ft_model.specs.Point.{Point, taken_units, receive_edge, room, target}
+use Rattle.ft_model.specs.Point.{Point, taken_units, most, receive_edge, room, target}
 use Rattle.ft_model.specs.News.News.{Comes}
-use Rattle.ft_model.specs.Taken.{uses, counts, came, taken_after, early_after, fin_after}
+use Rattle.ft_model.specs.Taken.{uses, acknowledges_unsent, counts, came, taken_after, early_after, fin_after}
 use Rattle.ft_model.specs.Sending.{syn_acked_after, acknowledged_after, edge_after, wl1_after, wl2_after, is_duplicate, congestion_after, flight, sent_at_once, sent_after, acknowledged_by, window_by}
 use Rattle.ft_model.specs.Timer.{must_run, interval_after, rest_after}
 use Rattle.endpoint_laws.specs.Refinement.{MeetsLaws}
@@ -69,8 +69,11 @@ at_start : (b : Bool) → (b || int_le (pos 0) (pos 0)) ≡ true
 at_start true = refl
 at_start false = grind (arith, ints)
 
+sent_before : (n : ℕ) → is_beyond n (pos 0) ≡ false
+sent_before n = grind (arith, ints)
+
 forged_counts : (p : Point) (segment : Segment) (fin : Bool) → IsFresh p → IsForged p segment fin → (fin ≡ true → length p.taken < 2 ^ 24) → counts p segment ≡ true
-unfolding counts uses
+unfolding counts uses acknowledges_unsent
 forged_counts p segment fin f s few =
     let n : ℕ = length p.taken in
     let some : fin ≡ true → 0 < room p =
@@ -83,7 +86,8 @@ forged_counts p segment fin f s few =
     let used : is_usable (taken_units p) (room p) (first_of p.cisn segment) (length_of segment) ≡ true =
     λ j. (accepted j || is_at_right_edge (taken_units p) (room p) (first_of p.cisn segment) (length_of segment)) || is_allowed_at_zero (taken_units p) (room p) (first_of p.cisn segment) in
     let low : (p.syn_acked || int_le (pos 0) (ack_of p.sisn segment)) ≡ true = ap (λ z. p.syn_acked || int_le (pos 0) z) s.back ∙ at_start p.syn_acked in
-    λ j. s.ack j && not (s.syn j) && not (s.rst j) && used j && low j
+    let sent : acknowledges_unsent p segment ≡ false = ap (λ z. is_beyond (most p) z) s.back ∙ sent_before (most p) in
+    λ j. s.ack j && not (s.syn j) && not (s.rst j) && used j && low j && not (sent j)
 
 pub either : {A : Type 0} (b : Bool) (x y : A) → x ≡ y → (if b then x else y) ≡ y
 either true x y h = h
@@ -180,7 +184,7 @@ forged_laws p segment fin f s few =
     middle_false (used && length (text_of segment) == 0 && not (fin_of segment) && acknowledged_by p segment == p.una) (nat_lt p.una p.sent)
     (acknowledged_by p segment + window_by p segment == p.edge) (λ j. nat_lt (f.una j) (f.sent j)) in
     record {
-      same = record { key = refl; cisn = refl; sisn = refl; mss = refl; fetched = refl };
+      same = record { key = refl; cisn = refl; sisn = refl; mss = refl; fetched = refl; fetched_output = refl };
       taken = sym (ap (λ x. p.taken ++ x.added) k ∙ append-nil p.taken);
       fin = sym (ap (λ x. x.fin) k);
       early = f.early ∙ sym (ap (λ x. x.early) k);

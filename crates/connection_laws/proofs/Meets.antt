@@ -9,11 +9,11 @@ use Rattle.seq_arith.specs.Congestion.{with_new_data, is_third, with_duplicate, 
 use Rattle.seq_arith.specs.Packet.{Segment, has_syn, has_rst, has_ack}
 use Rattle.server_trait.specs.Service.{Machine}
 use Rattle.ft_model.specs.Offset.{first_of, ack_of, text_of, fin_of}
-use Rattle.ft_model.specs.Point.{Point, taken_units, receive_edge, released, target}
+use Rattle.ft_model.specs.Point.{Point, taken_units, most, receive_edge, released, target}
 use Rattle.ft_model.specs.News.{News}
 use Rattle.ft_model.specs.News.News.{Comes, Logged, Ticks, Begins}
 use Rattle.ft_model.specs.Network.{Packet}
-use Rattle.ft_model.specs.Taken.{uses, counts, came, taken_after, early_after, fin_after}
+use Rattle.ft_model.specs.Taken.{uses, acknowledges_unsent, counts, came, taken_after, early_after, fin_after}
 use Rattle.ft_model.specs.Sending.{syn_acked_after, acknowledged_after, edge_after, wl1_after, wl2_after, is_duplicate, is_third_duplicate, flight, congestion_after, sent_at_once, sent_after, acknowledged_by, window_by}
 use Rattle.ft_model.specs.Timer.{must_run, interval_after, rest_after, is_tick, expires, probes, is_set_anew}
 use Rattle.ft_model.specs.Segments.{repeats_syn}
@@ -25,7 +25,7 @@ use Rattle.south_wrap.specs.SouthPoint.{south_at}
 use Rattle.endpoint_laws.specs.Refinement.{MeetsLaws}
 use Rattle.connection_laws.specs.Turn.{SegmentFits, NewsFit}
 use Rattle.connection_laws.proofs.Swallowed.{inside_target}
-use Rattle.connection_laws.proofs.Lowered.{Lowers, lowers, moves, una_inside, moves_inside, edge_inside, wl2_inside, counts_inside}
+use Rattle.connection_laws.proofs.Lowered.{LowersAt, lowers, moves, una_inside, moves_inside, edge_inside, wl2_inside, counts_inside, unsent_inside}
 use Rattle.connection_laws.proofs.Duplicates.{duplicates, duplicates_inside, flight_inside, congestion_inside}
 use Rattle.ft_io.proofs.Booleans.{or_false}
 
@@ -45,23 +45,24 @@ pub record Moves (news : News) (p : Point) (u i : ℕ) (inner : News) : Type 0 w
   pub ticks : is_tick inner ≡ is_tick news
 
 -- a segment that goes inside
-counts_is : (u i delta : ℕ) (p : Point) (segment : Segment) → GoesOn u i delta p
-    → Lowers u p.sent (ack_of p.sisn segment) (ack_of i (inward (south_at delta p) segment)) → counts (inside u i p) (inward (south_at delta p) segment) ≡ counts p segment
+counts_is : (u i delta : ℕ) (p : Point) (segment : Segment) → GoesOn u i delta p → LowersAt u i delta p segment
+    → counts (inside u i p) (inward (south_at delta p) segment) ≡ counts p segment
 unfolding counts uses
 counts_is u i delta p segment g l =
-    ap (λ b. has_ack segment && not (has_syn segment) && not (has_rst segment) && uses p segment && b)
-    (counts_inside u p.sent p.syn_acked (ack_of p.sisn segment) (ack_of i (inward (south_at delta p) segment)) (λ h. (g.syn_unacked h).0) l)
+    let acks = counts_inside u p.sent (most p) p.syn_acked (ack_of p.sisn segment) (ack_of i (inward (south_at delta p) segment)) (λ h. (g.syn_unacked h).0) l in
+    let unsent = unsent_inside u i delta p segment g l in
+    λ j. has_ack segment && not (has_syn segment) && not (has_rst segment) && uses p segment && acks j && not (unsent j)
 
 -- .. so its text and FIN make the same of the stream
-came_is : (u i delta : ℕ) (p : Point) (segment : Segment) → GoesOn u i delta p
-    → Lowers u p.sent (ack_of p.sisn segment) (ack_of i (inward (south_at delta p) segment)) → came (inside u i p) (inward (south_at delta p) segment) ≡ came p segment
+came_is : (u i delta : ℕ) (p : Point) (segment : Segment) → GoesOn u i delta p → LowersAt u i delta p segment
+    → came (inside u i p) (inward (south_at delta p) segment) ≡ came p segment
 unfolding came
 came_is u i delta p segment g l =
     ap (λ b. if b then comes (length p.taken) (receive_edge p) p.fin p.early (first_of p.cisn segment) (text_of segment) (fin_of segment) else nothing_came p.early p.fin)
     (counts_is u i delta p segment g l)
 
-comes_inside : (u i delta : ℕ) (p : Point) (segment : Segment) → GoesOn u i delta p
-    → Lowers u p.sent (ack_of p.sisn segment) (ack_of i (inward (south_at delta p) segment)) → Moves (Comes segment) p u i (Comes (inward (south_at delta p) segment))
+comes_inside : (u i delta : ℕ) (p : Point) (segment : Segment) → GoesOn u i delta p → LowersAt u i delta p segment
+    → Moves (Comes segment) p u i (Comes (inward (south_at delta p) segment))
 unfolding taken_after early_after fin_after syn_acked_after acknowledged_after edge_after wl1_after wl2_after is_duplicate is_third_duplicate congestion_after
 comes_inside u i delta p segment g l =
     let inner : Segment = inward (south_at delta p) segment in
@@ -75,42 +76,43 @@ comes_inside u i delta p segment g l =
     let m : moves (counts (inside u i p) inner) p.syn_acked (p.una - u) p.wl1 (p.wl2 - u) first (ack_of i inner) (p.sent - u)
     ≡ moves (counts p segment) p.syn_acked p.una p.wl1 p.wl2 first ack p.sent =
     (λ j. moves (c j) p.syn_acked (p.una - u) p.wl1 (p.wl2 - u) first (ack_of i inner) (p.sent - u))
-    ∙ moves_inside u p.una p.sent (counts p segment) p.syn_acked p.wl1 p.wl2 first ack (ack_of i inner) g.una g.order g.wl2 o l in
+    ∙ moves_inside u p.una p.sent (most p) (counts p segment) p.syn_acked p.wl1 p.wl2 first ack (ack_of i inner) g.una g.order g.wl2 o l in
     record {
       taken = ap (λ x. p.taken ++ x.added) k;
       fin = ap (λ x. x.fin) k;
       early = ap (λ x. x.early) k;
       syn_acked = λ j. p.syn_acked || c j;
       una = (λ j. if c j && int_le (pos 0) (ack_of i inner) then una_after (p.una - u) (min (nat_abs (ack_of i inner)) (p.sent - u)) else p.una - u)
-          ∙ una_inside u p.una p.sent (counts p segment) ack (ack_of i inner) g.una g.order l;
+          ∙ una_inside u p.una p.sent (most p) (counts p segment) ack (ack_of i inner) g.una g.order l;
       edge = (λ j. if m j then acknowledged_by (inside u i p) inner + window_by (inside u i p) inner else p.edge - u)
-          ∙ edge_inside u p.una p.sent (counts p segment) p.syn_acked p.wl1 p.wl2 segment.head.window p.edge first ack (ack_of i inner) g.una g.order o l;
+          ∙ edge_inside u p.una p.sent (most p) (counts p segment) p.syn_acked p.wl1 p.wl2 segment.head.window p.edge first ack (ack_of i inner) g.una g.order o l;
       wl1 = λ j. if m j then first else p.wl1;
       wl2 = (λ j. if m j then acknowledged_by (inside u i p) inner else p.wl2 - u)
-          ∙ wl2_inside u p.una p.sent (counts p segment) p.syn_acked p.wl1 p.wl2 first ack (ack_of i inner) g.una g.order o l;
+          ∙ wl2_inside u p.una p.sent (most p) (counts p segment) p.syn_acked p.wl1 p.wl2 first ack (ack_of i inner) g.una g.order o l;
       congestion = (λ j. if (c j && int_le (pos 0) (ack_of i inner)) && nat_lt (p.una - u) (acknowledged_by (inside u i p) inner)
           then with_new_data p.mss (acknowledged_by (inside u i p) inner - (p.una - u)) p.congestion
           else (if duplicates (p.una - u) (p.sent - u) (p.edge - u) inner.head.window (c j) textless finless (ack_of i inner)
           then with_duplicate p.mss (flight (inside u i p)) p.congestion else p.congestion))
-          ∙ congestion_inside u p.una p.sent p.edge segment.head.window p.mss (counts p segment) textless finless ack (ack_of i inner) p.congestion
+          ∙ congestion_inside u p.una p.sent (most p) p.edge segment.head.window p.mss (counts p segment) textless finless ack (ack_of i inner) p.congestion
           g.una g.order g.edge l;
       third = ap (λ b. b && is_third p.congestion)
           ((λ j. duplicates (p.una - u) (p.sent - u) (p.edge - u) inner.head.window (c j) textless finless (ack_of i inner))
-          ∙ duplicates_inside u p.una p.sent p.edge segment.head.window (counts p segment) textless finless ack (ack_of i inner) g.una g.order g.edge l);
+          ∙ duplicates_inside u p.una p.sent (most p) p.edge segment.head.window (counts p segment) textless finless ack (ack_of i inner) g.una g.order g.edge l);
       expires = refl;
       ticks = refl;
     }
 
-none_of : (a r c d : Bool) → (a && false && r && c && d) ≡ false
-none_of true r c d = refl
-none_of false r c d = refl
+none_of : (a r c d e : Bool) → (a && false && r && c && d && e) ≡ false
+none_of true r c d e = refl
+none_of false r c d e = refl
 
 -- what a SYN changes: nothing
 pub nothing_counts : (p : Point) (segment : Segment) → has_syn segment ≡ true → counts p segment ≡ false
 unfolding counts
 nothing_counts p segment h =
-    ap (λ b. has_ack segment && not b && not (has_rst segment) && uses p segment && (p.syn_acked || int_le (pos 0) (ack_of p.sisn segment))) h
-    ∙ none_of (has_ack segment) (not (has_rst segment)) (uses p segment) (p.syn_acked || int_le (pos 0) (ack_of p.sisn segment))
+    ap (λ b. has_ack segment && not b && not (has_rst segment) && uses p segment && (p.syn_acked || int_le (pos 0) (ack_of p.sisn segment))
+    && not (acknowledges_unsent p segment)) h
+    ∙ none_of (has_ack segment) (not (has_rst segment)) (uses p segment) (p.syn_acked || int_le (pos 0) (ack_of p.sisn segment)) (not (acknowledges_unsent p segment))
 
 nothing_comes : (p : Point) (segment : Segment) → counts p segment ≡ false → came p segment ≡ nothing_came p.early p.fin
 unfolding came
@@ -146,14 +148,15 @@ is_syn_has true ack rst a b c h = refl
 is_syn_has false ack rst a b c h = absurd (false≢true h)
 
 -- a segment without ACK counts for nothing, whatever its field says
-none_ack : (a r c d e : Bool) → a ≡ false → (a && r && c && d && e) ≡ false
-none_ack true r c d e h = absurd (false≢true (sym h))
-none_ack false r c d e h = refl
+none_ack : (a r c d e f : Bool) → a ≡ false → (a && r && c && d && e && f) ≡ false
+none_ack true r c d e f h = absurd (false≢true (sym h))
+none_ack false r c d e f h = refl
 
 pub unacknowledged : (p : Point) (segment : Segment) → has_ack segment ≡ false → counts p segment ≡ false
 unfolding counts
 unacknowledged p segment h =
-    none_ack (has_ack segment) (not (has_syn segment)) (not (has_rst segment)) (uses p segment) (p.syn_acked || int_le (pos 0) (ack_of p.sisn segment)) h
+    none_ack (has_ack segment) (not (has_syn segment)) (not (has_rst segment)) (uses p segment) (p.syn_acked || int_le (pos 0) (ack_of p.sisn segment))
+    (not (acknowledges_unsent p segment)) h
 
 pub minus_none : (a b : ℕ) → a - 0 ≡ b - 0 → a ≡ b
 minus_none a b h = omega (arith, h)
@@ -276,7 +279,7 @@ laws_inside service server boot u i delta news p q sent g f above given l =
     let ticks : interval_after inner (inside u i p) (inside u i q) ≡ interval_after news p q =
     λ j. if anew j then 1 else (if m.expires j then min 64 (2 * p.interval) else p.interval) in
     record {
-      same = record { key = l.same.key; cisn = l.same.cisn; sisn = refl; mss = l.same.mss; fetched = l.same.fetched };
+      same = record { key = l.same.key; cisn = l.same.cisn; sisn = refl; mss = l.same.mss; fetched = l.same.fetched; fetched_output = refl };
       taken = l.taken ∙ sym m.taken;
       fin = l.fin ∙ sym m.fin;
       early = l.early ∙ sym m.early;

@@ -1,22 +1,21 @@
 -- What a wrapped connection sends: TCP's segments mapped outward, the kept SYN-ACK, and the segments without data that are pending besides.
-use Rattle.std.proofs.Common.{◌≡◌, ℕ, ◌≤◌, ◌+◌, ◌-◌, ◌^◌, Bool, true, false, not, Option, Some, None, List, [], ◌∷◌, ◌++◌, length, sum, min, max, inl, inr, refl, sym, ap, arith, append-nil, ◌∙◌}
+use Rattle.std.proofs.Common.{◌≡◌, ℕ, ◌≤◌, ◌+◌, ◌-◌, ◌^◌, Bool, true, false, not, Option, Some, None, List, [], ◌∷◌, ◌++◌, length, sum, min, max, refl, sym, ap, arith, append-nil, ◌∙◌}
 use Rattle.std.specs.Prelude.{ℤ, pos, ◌==◌, ◌&&◌, ◌||◌, nat_lt, nat_le, int_lt, int_le, if◌then◌else◌}
 use Rattle.std.specs.List.{list_any}
-use Rattle.std.proofs.lemmas.Int.{ints}
-use Rattle.std.proofs.lemmas.Bool.{false≢true}
+use Rattle.std.proofs.lemmas.Bool.{false≢true, and_left}
 use Rattle.ft_io.specs.declared.Addr.{Addr}
 use Rattle.seq_arith.specs.Arrival.{int_eq}
 use Rattle.seq_arith.specs.Packet.{Segment, has_syn, has_rst, has_ack}
 use Rattle.server_trait.specs.Service.{Machine}
 use Rattle.ft_model.specs.Offset.{first_of, ack_of, length_of}
-use Rattle.ft_model.specs.Point.{Point, taken_units, advertised_edge, released}
+use Rattle.ft_model.specs.Point.{Point, taken_units, most, advertised_edge, released}
 use Rattle.ft_model.specs.Point as point
 use Rattle.ft_model.specs.News.{News}
 use Rattle.ft_model.specs.News.News.{Comes, Logged, Ticks, Begins}
 use Rattle.ft_model.specs.Network.{Packet}
 use Rattle.ft_model.specs.Answered.{answered_after}
-use Rattle.ft_model.specs.Taken.{accepts, uses, counts, taken_after, fin_after}
-use Rattle.ft_model.specs.PendingAck.{is_refused, needs_ack, asks}
+use Rattle.ft_model.specs.Taken.{accepts, uses, acknowledges_unsent, counts, taken_after, fin_after}
+use Rattle.ft_model.specs.PendingAck.{is_refused, is_unsent_ack, needs_ack, asks}
 use Rattle.ft_model.specs.PendingAck as outer
 use Rattle.ft_model.specs.Reads.{MakesReads, next_length, may_read}
 use Rattle.ft_model.specs.Sending.{edge_after, is_third_duplicate, sent_at_once, syn_acked_after}
@@ -31,10 +30,10 @@ use Rattle.south_wrap.specs.Translation.{inward}
 use Rattle.south_wrap.specs.SouthPoint.{south_at}
 use Rattle.endpoint_laws.specs.Refinement.{MeetsLaws, news_needs_ack, is_ack_pending, refuses, refusals, segments_by_laws}
 use Rattle.connection_laws.specs.Turn.{Turns, SegmentFits}
-use Rattle.connection_laws.proofs.Lowered.{Lowers, lowers}
+use Rattle.connection_laws.proofs.Lowered.{Lowers, LowersAt, lowers, same_sign, unsent_inside}
 use Rattle.connection_laws.proofs.Meets.{Moves, moves_inside_all, stays_inside, laws_inside, minus_none}
 use Rattle.connection_laws.proofs.Leaving.{Sends, full, passed_is, or_besides}
-use Rattle.ft_io.proofs.Booleans.{not_true, left_false, middle_false, second_of_three}
+use Rattle.ft_io.proofs.Booleans.{left_false, middle_false, second_of_three}
 use Rattle.ft_io.proofs.Choices.{if_none}
 use Rattle.ft_io.proofs.Numbers.{equal_itself, not_less_itself}
 use Rattle.ft_model.proofs.Running.{none_made}
@@ -53,41 +52,48 @@ or_five false false false true r = refl
 or_five false false false false true = refl
 or_five false false false false false = refl
 
--- while nothing has counted, output goes on from its beginning
-same_sign : (u sent : ℕ) (ack inner : ℤ) → u ≡ 0 → Lowers u sent ack inner → int_le (pos 0) inner ≡ int_le (pos 0) ack
-same_sign u sent ack inner o (inl h) = rw (h.is, h.to) (grind (arith, ints))
-same_sign u sent ack inner o (inr (inl h)) = rw (h.is, h.to) (grind (arith, ints))
-same_sign u sent ack inner o (inr (inr (inl h))) = absurd (omega (arith, o, h.under))
-same_sign u sent ack inner o (inr (inr (inr h))) = h.inside ∙ sym h.negative
-
-refused_by : (u sent : ℕ) (syn_acked has : Bool) (ack inner : ℤ) → (syn_acked ≡ false → u ≡ 0) → Lowers u sent ack inner
-    → (not syn_acked && has && int_lt inner (pos 0)) ≡ (not syn_acked && has && int_lt ack (pos 0))
-refused_by u sent true has ack inner o l = refl
-refused_by u sent false has ack inner o l =
-    ap (λ b. true && has && b) (less_is inner ∙ ap not (same_sign u sent ack inner (o refl) l) ∙ sym (less_is ack))
+-- while nothing has counted, as much is refused
+refused_by : (u sent most : ℕ) (syn_acked has unsent inner_unsent : Bool) (ack inner : ℤ) → (syn_acked ≡ false → u ≡ 0) → inner_unsent ≡ unsent → Lowers u sent most ack inner
+    → (not syn_acked && has && (int_lt inner (pos 0) || inner_unsent)) ≡ (not syn_acked && has && (int_lt ack (pos 0) || unsent))
+refused_by u sent most true has unsent inner_unsent ack inner o s l = refl
+refused_by u sent most false has unsent inner_unsent ack inner o s l =
+    let less : int_lt inner (pos 0) ≡ int_lt ack (pos 0) = less_is inner ∙ ap not (same_sign u sent most ack inner (o refl) l) ∙ sym (less_is ack) in
+    λ j. true && has && (less j || s j)
 
 refused_any : (u i delta : ℕ) (p : Point) (segment : Segment) (b : Bool) → has_ack segment ≡ b → GoesOn u i delta p → SegmentFits p segment
     → is_refused (inside u i p) (inward (south_at delta p) segment) ≡ is_refused p segment
 refused_any u i delta p segment true h g f =
-    refused_by u p.sent p.syn_acked (has_ack segment) (ack_of p.sisn segment) (ack_of i (inward (south_at delta p) segment)) (λ o. (g.syn_unacked o).0)
-    (lowers u i delta p segment g f.ack (f.near h))
+    let inner : Segment = inward (south_at delta p) segment in
+    let l : LowersAt u i delta p segment = lowers u i delta p segment g f.ack (f.near h) in
+    refused_by u p.sent (most p) p.syn_acked (has_ack segment) (acknowledges_unsent p segment) (acknowledges_unsent (inside u i p) inner) (ack_of p.sisn segment) (ack_of i inner)
+    (λ o. (g.syn_unacked o).0) (unsent_inside u i delta p segment g l) l
 refused_any u i delta p segment false h g f =
-    middle_false (not p.syn_acked) (has_ack segment) (int_lt (ack_of i (inward (south_at delta p) segment)) (pos 0)) h
-    ∙ sym (middle_false (not p.syn_acked) (has_ack segment) (int_lt (ack_of p.sisn segment) (pos 0)) h)
+    let inner : Segment = inward (south_at delta p) segment in
+    middle_false (not p.syn_acked) (has_ack segment) (int_lt (ack_of i inner) (pos 0) || acknowledges_unsent (inside u i p) inner) h
+    ∙ sym (middle_false (not p.syn_acked) (has_ack segment) (int_lt (ack_of p.sisn segment) (pos 0) || acknowledges_unsent p segment) h)
 
 refused_is : (u i delta : ℕ) (p : Point) (segment : Segment) → GoesOn u i delta p → SegmentFits p segment
     → is_refused (inside u i p) (inward (south_at delta p) segment) ≡ is_refused p segment
 refused_is u i delta p segment g f = refused_any u i delta p segment (has_ack segment) refl g f
 
+unsent_any : (u i delta : ℕ) (p : Point) (segment : Segment) (b : Bool) → has_ack segment ≡ b → GoesOn u i delta p → SegmentFits p segment
+    → is_unsent_ack (inside u i p) (inward (south_at delta p) segment) ≡ is_unsent_ack p segment
+unsent_any u i delta p segment true h g f =
+    ap (λ b. has_ack segment && b) (unsent_inside u i delta p segment g (lowers u i delta p segment g f.ack (f.near h)))
+unsent_any u i delta p segment false h g f =
+    and_left (has_ack segment) (acknowledges_unsent (inside u i p) (inward (south_at delta p) segment)) h
+    ∙ sym (and_left (has_ack segment) (acknowledges_unsent p segment) h)
+
 needs_ack_is : (u i delta : ℕ) (p : Point) (segment : Segment) → GoesOn u i delta p → SegmentFits p segment
     → needs_ack (inside u i p) (inward (south_at delta p) segment) ≡ needs_ack p segment
 unfolding needs_ack accepts
 needs_ack_is u i delta p segment g f =
-    ap (λ b. if accepts p segment
+    let unsent = unsent_any u i delta p segment (has_ack segment) refl g f in
+    λ j. if accepts p segment
     then (if has_rst segment then not (int_eq (first_of p.cisn segment) (pos (taken_units p)))
     else (if has_syn segment then true
-    else (if b then false else nat_lt 0 (length_of segment))))
-    else not (has_rst segment)) (refused_is u i delta p segment g f)
+    else (if refused_is u i delta p segment g f j then false else nat_lt 0 (length_of segment) || unsent j)))
+    else not (has_rst segment)
 
 usually : {State : Type 0} (service : Machine State) (server : Addr) (news inner : News) (p q : Point) (u i delta : ℕ) → u ≤ q.sent
     → Sends service news inner p q u i delta → refusals server inner (inside u i p) ≡ [] → opens_with news p ≡ false
@@ -181,12 +187,13 @@ three_of false true false h = absurd (false≢true h)
 three_of false false c h = absurd (false≢true h)
 three_of true b c h = absurd (false≢true h)
 
-off_last : (a b c d e : Bool) → e ≡ false → (a && b && c && d && e) ≡ false
-off_last true true true true e h = h
-off_last true true true false e h = refl
-off_last true true false d e h = refl
-off_last true false c d e h = refl
-off_last false b c d e h = refl
+-- what is refused doesn't count
+off_refused : (x syn_acked named unsent : Bool) → syn_acked ≡ false → (not named || unsent) ≡ true → (x && (syn_acked || named) && not unsent) ≡ false
+off_refused x true named unsent o h = absurd (false≢true (sym o))
+off_refused true false true true o h = refl
+off_refused true false true false o h = absurd (false≢true h)
+off_refused true false false unsent o h = refl
+off_refused false false named unsent o h = refl
 
 pub nothing_at_once : (t e : ℕ) → max 0 (min t (min 0 e)) ≡ 0
 nothing_at_once t e = omega arith
@@ -194,7 +201,7 @@ nothing_at_once t e = omega arith
 pub nothing_long : (r : ℕ) → min 0 r - 0 ≡ 0
 nothing_long r = omega arith
 
--- an acceptable segment acknowledges less than the SYN
+-- an acceptable segment acknowledges anything but the SYN
 record IsRefused (p q : Point) (segment : Segment) : Type 0 where
   opens : opens_with (Comes segment) p ≡ false
   ack_pending : needs_ack p segment ≡ false
@@ -210,12 +217,11 @@ refused_turn : {State : Type 0} (service : Machine State) (server : Addr) (boot 
 unfolding needs_ack counts answered_after taken_after fin_after edge_after is_third_duplicate
 refused_turn service server boot segment p q sent u i delta g r l =
     let f = four_of (accepts p segment) (has_rst segment) (has_syn segment) (is_refused p segment) r in
-    let k = three_of p.syn_acked (has_ack segment) (int_lt (ack_of p.sisn segment) (pos 0)) f.3 in
+    let k = three_of p.syn_acked (has_ack segment) (int_lt (ack_of p.sisn segment) (pos 0) || acknowledges_unsent p segment) f.3 in
     let o = g.syn_unacked k.0 in
-    let low : int_le (pos 0) (ack_of p.sisn segment) ≡ false = not_true (int_le (pos 0) (ack_of p.sisn segment)) (sym (less_is (ack_of p.sisn segment)) ∙ k.1) in
     let none : counts p segment ≡ false =
-    off_last (has_ack segment) (not (has_syn segment)) (not (has_rst segment)) (uses p segment) (p.syn_acked || int_le (pos 0) (ack_of p.sisn segment))
-    ((λ j. k.0 j || int_le (pos 0) (ack_of p.sisn segment)) ∙ low) in
+    off_refused (has_ack segment && not (has_syn segment) && not (has_rst segment) && uses p segment) p.syn_acked (int_le (pos 0) (ack_of p.sisn segment))
+    (acknowledges_unsent p segment) k.0 (ap (λ b. b || acknowledges_unsent p segment) (sym (less_is (ack_of p.sisn segment))) ∙ k.1) in
     let m : Moves (Comes segment) p 0 i Begins = stays_inside 0 i p segment none in
     let taken : q.taken ≡ p.taken = l.taken ∙ sym m.taken in
     let fin : q.fin ≡ p.fin = l.fin ∙ sym m.fin in
@@ -224,7 +230,7 @@ refused_turn service server boot segment p q sent u i delta g r l =
     record {
       opens = λ j. f.2 j && not (has_ack segment) && not (has_rst segment) && segment.head.seq == p.cisn && taken_units p == 0 && p.una == 0;
       ack_pending = λ j. if f.0 j then (if f.1 j then not (int_eq (first_of p.cisn segment) (pos (taken_units p)))
-          else (if f.2 j then true else (if f.3 j then false else nat_lt 0 (length_of segment))))
+          else (if f.2 j then true else (if f.3 j then false else nat_lt 0 (length_of segment) || is_unsent_ack p segment)))
           else not (has_rst segment);
       fin = o.4;
       answered = l.answered;

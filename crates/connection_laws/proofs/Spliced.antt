@@ -76,7 +76,6 @@ usual : (p : Point) (e : Tcb) (segment : Segment) (fin : Bool) → StandsAt p e 
 usual p e segment fin st s seq =
     let at : ack_of e.sending.iss segment ≡ pos 0 = ap (λ n. ack_of n segment) (sym st.sends.sisn) ∙ s.back in
     record {
-      sent = λ h. subst (λ (z : ℤ). z ≤ℤ pos e.sending.sent) (sym at) (omega (arith, ints));
       near = λ h. subst (λ (z : ℤ). (pos 0 -ℤ pos (2 ^ 30 + 2 ^ 24)) ≤ℤ z) (sym at) (omega (arith, ints));
       seq = seq;
       window = omega (arith, s.window);
@@ -256,6 +255,7 @@ at_entry service local e i t g st =
         congestion = ap initial_congestion (size_stays e.mss g.least g.most) ∙ st.sends.congestion;
       };
       sent = less_self u ∙ st.sent;
+      fetched_output = refl;
       interval = st.interval;
       rest = st.rest;
     }

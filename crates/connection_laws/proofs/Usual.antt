@@ -4,7 +4,7 @@ use Rattle.std.specs.Prelude.{ℤ, pos, ◌-ℤ◌, ◌≤ℤ◌, nat_abs, if◌
 use Rattle.std.proofs.lemmas.Int.{ints}
 use Rattle.seq_arith.specs.Packet.{Segment, has_ack}
 use Rattle.ft_model.specs.Offset.{ack_of}
-use Rattle.ft_model.specs.Point.{Point}
+use Rattle.ft_model.specs.Point.{Point, most}
 use Rattle.tcp_endpoint.specs.Tcb.{Tcb}
 use Rattle.endpoint_laws.specs.Laws.{IsUsual}
 use Rattle.endpoint_laws.specs.Refinement.{StandsAt}
@@ -12,19 +12,14 @@ use Rattle.connection_laws.specs.Inside.{inside, GoesOn}
 use Rattle.south_wrap.specs.Translation.{inward}
 use Rattle.south_wrap.specs.SouthState.{is_high}
 use Rattle.south_wrap.specs.SouthPoint.{south_at}
-use Rattle.connection_laws.proofs.Lowered.{Lowers, lowers}
+use Rattle.connection_laws.proofs.Lowered.{Lowers, LowersAt, lowers}
 
-most : (u sent : ℕ) (ack inner : ℤ) → Lowers u sent ack inner → inner ≤ℤ pos (sent - u)
-most u sent ack inner (inl h) = rw h.to (grind (arith, ints))
-most u sent ack inner (inr (inl h)) = rw h.to (grind (arith, ints, h.from, h.most))
-most u sent ack inner (inr (inr (inl h))) = rw h.to (grind (arith, ints, h.under, h.most))
-most u sent ack inner (inr (inr (inr h))) = grind (arith, ints, h.inside)
-
-least : (u sent : ℕ) (ack inner : ℤ) → u ≤ 2 ^ 24 → (pos 0 -ℤ pos (2 ^ 30)) ≤ℤ ack → Lowers u sent ack inner → (pos 0 -ℤ pos (2 ^ 30 + 2 ^ 24)) ≤ℤ inner
-least u sent ack inner s n (inl h) = rw h.to (omega (arith, ints))
-least u sent ack inner s n (inr (inl h)) = rw h.to (omega (arith, ints))
-least u sent ack inner s n (inr (inr (inl h))) = rw h.to (omega (arith, ints, s))
-least u sent ack inner s n (inr (inr (inr h))) = rw h.to (omega (arith, ints, s, n))
+least : (u sent most : ℕ) (ack inner : ℤ) → u ≤ 2 ^ 24 → (pos 0 -ℤ pos (2 ^ 30)) ≤ℤ ack → Lowers u sent most ack inner → (pos 0 -ℤ pos (2 ^ 30 + 2 ^ 24)) ≤ℤ inner
+least u sent most ack inner s n (inl h) = rw h.to (omega (arith, ints))
+least u sent most ack inner s n (inr (inl h)) = rw h.to (omega (arith, ints))
+least u sent most ack inner s n (inr (inr (inl h))) = rw h.to (omega (arith, ints, s))
+least u sent most ack inner s n (inr (inr (inr (inl h)))) = rw h.to (omega (arith, ints, s, n))
+least u sent most ack inner s n (inr (inr (inr (inr h)))) = rw h.to (omega (arith, ints))
 
 raised : (b : Bool) (w a s : ℕ) → w ≤ 65535 → (if b then min 65535 (w + (a - s)) else w) ≤ 65535
 raised true w a s h = omega arith
@@ -34,11 +29,10 @@ pub usual_inside : (u i delta : ℕ) (p : Point) (e : Tcb) (segment : Segment) �
     → segment.head.ack < 2 ^ 32 → segment.head.seq < 2 ^ 32 → segment.head.window ≤ 65535 → length segment.payload ≤ 65535
     → (has_ack segment ≡ true → (pos 0 -ℤ pos (2 ^ 30)) ≤ℤ ack_of p.sisn segment) → IsUsual e (inward (south_at delta p) segment)
 usual_inside u i delta p e segment g st fits seq window text near =
-    let l : has_ack segment ≡ true → Lowers u p.sent (ack_of p.sisn segment) (ack_of i (inward (south_at delta p) segment)) = (λ h. lowers u i delta p segment g fits (near h)) in
+    let l : has_ack segment ≡ true → LowersAt u i delta p segment = (λ h. lowers u i delta p segment g fits (near h)) in
     let at : ack_of i (inward (south_at delta p) segment) ≡ ack_of e.sending.iss (inward (south_at delta p) segment) = ap (λ n. ack_of n (inward (south_at delta p) segment)) st.sends.sisn in
     record {
-      sent = λ h. subst (λ z. z ≤ℤ pos e.sending.sent) at (subst (λ n. ack_of i (inward (south_at delta p) segment) ≤ℤ pos n) st.sent (most u p.sent _ _ (l h)));
-      near = λ h. subst (λ z. (pos 0 -ℤ pos (2 ^ 30 + 2 ^ 24)) ≤ℤ z) at (least u p.sent _ _ g.small (near h) (l h));
+      near = λ h. subst (λ z. (pos 0 -ℤ pos (2 ^ 30 + 2 ^ 24)) ≤ℤ z) at (least u p.sent (most p) _ _ g.small (near h) (l h));
       seq = seq;
       window = raised (is_high (south_at delta p) segment.head.ack) segment.head.window (nat_abs (ack_of p.sisn segment)) p.sent window;
       text = text;

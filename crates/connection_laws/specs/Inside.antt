@@ -18,9 +18,10 @@ swallowing u service = record { fresh = (service.fresh, u); after = λ state chu
 abbrev pub swallowed_run : {State : Type 0} → ℕ → Run State → Run (State × ℕ)
 swallowed_run u run = record { state = (run.state, u - length run.output); output = drop u run.output; closed = run.closed }
 
--- the point inside: the server's initial sequence number is i, output counts from u on, and TCP, which knows of no log, may acknowledge all that it took
+-- the point inside: the server's initial sequence number is i, output counts from u on, and TCP, which knows of no log, may acknowledge all that it took. It
+-- knows of no earlier incarnation either
 abbrev pub inside : (u i : ℕ) → Point → Point
-inside u i p = record p { sisn = i; answered = taken_units p; una = p.una - u; sent = p.sent - u; edge = p.edge - u; wl2 = p.wl2 - u }
+inside u i p = record p { sisn = i; fetched_output = 0; answered = taken_units p; una = p.una - u; sent = p.sent - u; edge = p.edge - u; wl2 = p.wl2 - u }
 
 -- The output of a connection continues inside at u, with the initial sequence number i: delta is the difference of one unit's sequence numbers, and u isn't
 -- past what is acknowledged, sent, or allowed by the client's window
