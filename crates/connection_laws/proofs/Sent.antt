@@ -52,7 +52,7 @@ or_five false false false true r = refl
 or_five false false false false true = refl
 or_five false false false false false = refl
 
--- while nothing has counted, as much is refused
+-- while the SYN is unacknowledged, the same acknowledgements are refused inside
 refused_by : (u sent most : ℕ) (syn_acked has unsent inner_unsent : Bool) (ack inner : ℤ) → (syn_acked ≡ false → u ≡ 0) → inner_unsent ≡ unsent → Lowers u sent most ack inner
     → (not syn_acked && has && (int_lt inner (pos 0) || inner_unsent)) ≡ (not syn_acked && has && (int_lt ack (pos 0) || unsent))
 refused_by u sent most true has unsent inner_unsent ack inner o s l = refl
