@@ -86,6 +86,7 @@ south_ends service server boot news p q sent n reads c h l tell read few =
     units_of q.sisn c.south.sisn q.sent (outer_sent (with_endpoint_flushed (served n reads c))) tell.sent_outside sisn (few_units q.sent n.run.made tell.few few) in
     let cisn : c.south.cisn ≡ q.cisn = ap (λ (s : SouthState). s.cisn) h.south ∙ sym l.same.cisn in
     let fetched : c.south.fetched ≡ q.fetched = ap (λ (s : SouthState). s.fetched) h.south ∙ sym l.same.fetched in
+    let fetched_output : c.south.fetched_output ≡ q.fetched_output = ap (λ (s : SouthState). s.fetched_output) h.south ∙ sym l.same.fetched_output in
     let taken : c.south.taken ≡ length q.taken = ap (λ (s : SouthState). s.taken) h.south ∙ ap length (sym l.taken) in
     let fin : c.south.fin ≡ q.fin = ap (λ (s : SouthState). s.fin) h.south ∙ sym l.fin in
     let answered : c.south.answered ≡ q.answered = ap (λ (s : SouthState). s.answered) h.south ∙ sym l.answered in
@@ -95,6 +96,7 @@ south_ends service server boot news p q sent n reads c h l tell read few =
       sisn = sisn j;
       delta = c.south.delta;
       fetched = fetched j;
+      fetched_output = fetched_output j;
       taken = taken j;
       fin = fin j;
       answered = answered j;

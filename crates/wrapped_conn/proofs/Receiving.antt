@@ -105,14 +105,14 @@ pub off_differs : (a b : ℕ) → a ≡ b → not (a == b) ≡ false
 off_differs a b h = grind (arith, h)
 
 -- what the connection adds is what the law adds
-ack_pending_is : {S : Type 0} (service : Machine S) (p q : Point) (t : Tcb) (c new : ConnState S) (segment : Segment) → NumbersAt service p c → NumbersAt service q new → c.south.cisn ≡ p.cisn
-    → new.endpoint.name ≡ t.name → q.answered ≡ p.answered → (is_closed t.name ≡ true → (p.syn_acked ≡ true) × (taken_units q ≡ taken_units p))
+ack_pending_is : {S : Type 0} (service : Machine S) (p q : Point) (t : Tcb) (c new : ConnState S) (segment : Segment) → NumbersAt service p c → NumbersAt service q new
+    → c.south ≡ south_at c.south.delta p → new.endpoint.name ≡ t.name → q.answered ≡ p.answered → (is_closed t.name ≡ true → (p.syn_acked ≡ true) × (taken_units q ≡ taken_units p))
     → is_ack_pending (before_segment c segment) new ≡ adds service (Comes segment) p q t
 unfolding is_ack_pending_by_law
-ack_pending_is service p q t c new segment n m cisn name answered closed =
+ack_pending_is service p q t c new segment n m south name answered closed =
     (λ j. (n.over j && not (has_rst segment)) || (is_closed (name j) && (needs_ack c segment || not (n.edge j == m.edge j))))
     ∙ ack_pending_same (is_over service p && not (has_rst segment)) (needs_ack c segment) (needs_ack_by_law p segment) (not (advertised_edge p == advertised_edge q)) (is_closed t.name) (nat_lt p.answered q.answered)
-    (not (taken_units p == taken_units q)) (same_answered p.answered q.answered answered) (λ h. off_differs (taken_units p) (taken_units q) (sym (closed h).1)) (λ h. needs_ack_is service p c segment n cisn (closed h).0)
+    (not (taken_units p == taken_units q)) (same_answered p.answered q.answered answered) (λ h. off_differs (taken_units p) (taken_units q) (sym (closed h).1)) (λ h. needs_ack_is service p c segment n south (closed h).0)
 
 -- a segment that doesn't reset it
 live_turn : {S : Type 0} (service : Machine S) (p : Point) (c new : ConnState S) (segment : Segment) (out messages : List (List ℕ)) → IsSound c → IsSound new → Keeps p c → StandsLive service p c
@@ -162,7 +162,7 @@ live_turn service p c new segment out messages sound sound_new keeps live unrese
     }) in
     let ack_pending : PartsTell service c.south.delta q new.north (flushed t) → is_ack_pending (before_segment c segment) (turn_ended (served new.north reads there)) ≡ adds service news p q t = λ tell.
     ack_pending_is service p q t c (turn_ended (served new.north reads there)) segment numbers
-    (numbers_at service c.south.delta q (turn_ended (served new.north reads there)) tell (keeps.fetched ∙ sym here.goes.same.fetched) here.rest.stand.north.read) cisn (flushed_name t) answered here.closed in
+    (numbers_at service c.south.delta q (turn_ended (served new.north reads there)) tell (keeps.fetched ∙ sym here.goes.same.fetched) here.rest.stand.north.read) keeps.south (flushed_name t) answered here.closed in
     let goes_out = subst (λ (n : ConnState _). out ≡ packets (leaves (before_segment c segment) (repeats_syn c.south segment) n (leaving t))) k.state k.goes_out in
     let leads : Leads service c.local c.boot news p (turn_ended (served new.north reads there)) out messages =
     carries_on service live.u live.i news p there new.north reads (before_segment c segment) (repeats_syn c.south segment) (copies (before_segment c segment) segment there) out messages h refl off sound_new.parts.made here

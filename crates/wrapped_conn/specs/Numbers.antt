@@ -4,9 +4,9 @@ use Rattle.std.specs.Prelude.{ℕ, Bool, true, false, pos, ◌+◌, ◌-◌, ◌
 use Rattle.seq_arith.specs.Arrival.{int_eq, is_acceptable_or_at_edge}
 use Rattle.seq_arith.specs.Number.{number_at, distance, offset_of}
 use Rattle.seq_arith.specs.Offset.{one_if, first_of, length_of}
-use Rattle.seq_arith.specs.Packet.{Segment, has_rst, has_syn}
+use Rattle.seq_arith.specs.Packet.{Segment, has_rst, has_syn, has_ack}
 use Rattle.ft_model.specs.Copy.{from_start}
-use Rattle.south_wrap.specs.SouthState.{raised}
+use Rattle.south_wrap.specs.SouthState.{raised, acknowledges_unsent}
 use Rattle.tcp_endpoint.specs.declared.states.StateName.{StateName}
 use Rattle.tcp_endpoint.specs.declared.states.StateName.TheVariants.{Closed, CloseWait, Closing, LastAck, TimeWait}
 use Rattle.tcp_endpoint.specs.UserCalls.{sent_number, acked_number}
@@ -64,11 +64,16 @@ resets c segment = has_rst segment && int_eq (first_of c.south.cisn segment) (po
 abbrev pub accepts : {S : Type 0} → ConnState S → Segment → Bool
 accepts c segment = is_acceptable_or_at_edge (units_taken c) (advertised c - units_taken c) (first_of c.south.cisn segment) (length_of segment)
 
--- acceptable segments that make an ACK pending: a SYN, and a RST that isn't at the next number, get a challenge ACK, and a segment with a length an ACK ..
+-- an acknowledgement of what was never sent
+abbrev pub is_unsent_ack : {S : Type 0} → ConnState S → Segment → Bool
+is_unsent_ack c segment = has_ack segment && acknowledges_unsent c.south segment.head.ack
+
+-- acceptable segments that make an ACK pending: a SYN, and a RST that isn't at the next number, get a challenge ACK. A segment whose length isn't 0 gets an ACK,
+-- and so does one that acknowledges what was never sent ..
 abbrev pub needs_ack_if_acceptable : {S : Type 0} → ConnState S → Segment → Bool
 needs_ack_if_acceptable c segment =
     if has_rst segment then not (int_eq (first_of c.south.cisn segment) (pos (units_taken c)))
-    else (has_syn segment || nat_lt 0 (length_of segment))
+    else (has_syn segment || (nat_lt 0 (length_of segment) || is_unsent_ack c segment))
 
 -- .. and every segment that isn't acceptable does, unless it has RST
 unfoldable pub needs_ack : {S : Type 0} → ConnState S → Segment → Bool

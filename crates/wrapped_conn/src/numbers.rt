@@ -1,20 +1,20 @@
 //! The offsets of a connection in its two streams, as its parts show them.
 
 ghost use Rattle.std.specs.Prelude.{◌≡◌, ◌≤◌, ◌+◌, ◌-◌, ◌^◌, ◌%◌, pos, nat_abs, length, max, min};
-ghost use Rattle.seq_arith.specs.Arrival.{is_acceptable, is_acceptable_or_at_edge, is_at_right_edge, lies_in};
+ghost use Rattle.seq_arith.specs.Arrival.{int_eq, is_acceptable, is_acceptable_or_at_edge, is_at_right_edge, lies_in};
 ghost use Rattle.seq_arith.specs.Number.{number_at, offset_of};
 ghost use Rattle.seq_arith.specs.Offset.{length_of as length_of_lem, text_of};
 ghost use Rattle.segment_codec.specs.Value.{segment_of, said};
 ghost use Rattle.ft_model.specs.Copy.{from_start};
 ghost use Rattle.tcp_endpoint.specs.States.{is_closed};
 ghost use Rattle.wrapped_conn.specs.Numbers.{has_fin as has_fin_lem, is_over as is_over_lem, fetched_or_read, bytes_taken, units_taken, advertised, una_units, outer_sent};
-ghost use Rattle.wrapped_conn.specs.Numbers.{sent_units, logged_units, resets, needs_ack};
+ghost use Rattle.wrapped_conn.specs.Numbers.{sent_units, logged_units, resets, is_unsent_ack, needs_ack_if_acceptable, needs_ack};
 ghost use Rattle.wrapped_conn.specs.LoggerMessages.{end_of};
 ghost use Rattle.wrapped_conn.specs.Sound.{IsSound};
 
 use crate::conn::{Conn, STREAM, has_fin, is_over};
 use segment_codec::{Head, PacketRef};
-use seq_arith::{FIN, RST, SYN, Seq, has};
+use seq_arith::{ACK, FIN, RST, SYN, Seq, has};
 use server_trait::Service;
 use socket_layer::Socket;
 use tcp_endpoint::StateName;
@@ -139,13 +139,27 @@ impl<S: Service> Conn<S> {
         units(self.place_of(&segment.head) + i64::from(text_length(segment)))
     }
 
+    /// Whether a segment begins at exactly the next number.
+    fn begins_at_next(&self, head: &Head) -> bool
+        requires { IsSound self.now }
+        ensures { result ≡ int_eq (offset_of self.now.south.cisn (said head.now).seq) (pos (units_taken self.now)) }
+    {
+        self.place_of(head) == i64::from(self.taken_units())
+    }
+
     /// Whether a segment resets the connection: a RST at exactly the next number does (RFC 5961, 3.2).
     pub(crate) fn is_reset_by(&self, segment: &PacketRef<'_>) -> bool
         requires { IsSound self.now }
         ensures { result ≡ resets self.now (segment_of segment.now) }
     {
-        has(segment.head.flags, RST)
-            && self.place_of(&segment.head) == i64::from(self.taken_units())
+        has(segment.head.flags, RST) && self.begins_at_next(&segment.head)
+    }
+
+    /// Whether a segment acknowledges something that was never sent.
+    fn is_unsent_ack(&self, segment: &PacketRef<'_>) -> bool
+        ensures { result ≡ is_unsent_ack self.now (segment_of segment.now) }
+    {
+        has(segment.head.flags, ACK) && self.south.acknowledges_unsent(segment.head.ack)
     }
 
     /// Whether a segment makes an ACK pending by TCP's rules (RFC 9293, 3.10.7.4), once the SYN is acknowledged.
@@ -155,18 +169,30 @@ impl<S: Service> Conn<S> {
         requires short { length segment.now.payload.now ≤ 1460 }
         ensures { result ≡ needs_ack self.now (segment_of segment.now) }
     {
-        let head = &segment.head;
-        let first = self.place_of(head);
+        let first = self.place_of(&segment.head);
         let next = self.taken_units();
         let len = length_of(segment);
         let room = self.edge().saturating_sub(next);
         if !accepts(next, room, first, len) {
-            return !has(head.flags, RST);
+            return !has(segment.head.flags, RST);
         }
+        self.needs_ack_if_acceptable(segment)
+    }
+
+    /// Whether an acceptable segment makes an ACK pending.
+    pub(crate) fn needs_ack_if_acceptable(&self, segment: &PacketRef<'_>) -> bool
+        requires sound { IsSound self.now }
+        requires short { length segment.now.payload.now ≤ 1460 }
+        ensures { result ≡ needs_ack_if_acceptable self.now (segment_of segment.now) }
+    {
+        let head = &segment.head;
         if has(head.flags, RST) {
-            return first != i64::from(next);
+            return !self.begins_at_next(head);
         }
-        has(head.flags, SYN) || 0 < len
+        if has(head.flags, SYN) {
+            return true;
+        }
+        0 < length_of(segment) || self.is_unsent_ack(segment)
     }
 }
 
