@@ -16,6 +16,6 @@ point_fetched numbers bytes fin = record (point_opened numbers) {
   syn_acked = true;
 }
 
--- the reads made so far are known to be logged, and the output continues from an offset on
-abbrev pub with_output_from : ℕ → Point → Point
-with_output_from at p = record p { reads_answered = length p.lengths; una = at; sent = at; edge = at; wl2 = at }
+-- the reads made so far are known to be logged, they make so many units of output, and the output continues from an offset on
+abbrev pub with_output_from : (at units : ℕ) → Point → Point
+with_output_from at units p = record p { fetched_output = units; reads_answered = length p.lengths; una = at; sent = at; edge = at; wl2 = at }

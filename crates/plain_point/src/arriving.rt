@@ -16,8 +16,8 @@ use std::mem;
 impl PlainPoint {
     ghost use Rattle.ft_model.specs.News.News.{Comes};
     ghost use Rattle.ft_model.specs.Offset.{first_of, ack_of};
-    ghost use Rattle.ft_model.specs.Taken.{accepts as accepts_lem, uses as uses_lem, counts as counts_lem, taken_after, early_after, fin_after};
-    ghost use Rattle.ft_model.specs.PendingAck.{is_refused as refused_lem, needs_ack_if_acceptable as acceptable_lem, needs_ack as needs_lem};
+    ghost use Rattle.ft_model.specs.Taken.{accepts as accepts_lem, uses as uses_lem, acknowledges_unsent as unsent_lem, counts as counts_lem, taken_after, early_after, fin_after};
+    ghost use Rattle.ft_model.specs.PendingAck.{is_refused as refused_lem, is_unsent_ack as unsent_ack_lem, needs_ack_if_acceptable as acceptable_lem, needs_ack as needs_lem};
     ghost use Rattle.ft_model.specs.Segments.{repeats_syn as repeats_lem};
     ghost use Rattle.ft_model.specs.ResetAndEnd.{reset_after};
 
@@ -53,7 +53,17 @@ impl PlainPoint {
         is_usable(next, room, self.first(segment), segment_len(segment))
     }
 
-    /// Returns whether a segment counts: it has ACK but neither SYN nor RST, it is used, and it acknowledges the SYN or the SYN is already acknowledged.
+    /// Returns whether a segment acknowledges something that was never sent, neither by this incarnation nor by an earlier one.
+    #[tactic(auto, unfolding(ft_model::specs::Taken::acknowledges_unsent))]
+    fn acknowledges_unsent(&self, segment: &PacketRef<'_>) -> bool
+        ensures { result ≡ unsent_lem self.now (segment_of segment.now) }
+    {
+        let ack = self.ack(segment);
+        ack > 0 && ack as u64 > self.sent.max(self.fetched_output)
+    }
+
+    /// Returns whether a segment counts: it has ACK but neither SYN nor RST, it is used, it acknowledges the SYN or the SYN is already acknowledged, and it
+    /// acknowledges nothing that was never sent.
     #[tactic(auto, unfolding(ft_model::specs::Taken::counts))]
     pub(crate) fn counts(&self, segment: &PacketRef<'_>) -> bool
         ensures { result ≡ counts_lem self.now (segment_of segment.now) }
@@ -63,6 +73,7 @@ impl PlainPoint {
             && !has_rst(segment)
             && self.uses(segment)
             && (self.syn_acked || self.ack(segment) >= 0)
+            && !self.acknowledges_unsent(segment)
     }
 
     /// Takes or holds the text and the FIN of a segment, if it counts. After `NoMemory` the point may only be dropped.
@@ -95,11 +106,20 @@ impl PlainPoint {
         Ok(())
     }
 
-    /// Returns whether a segment acknowledges less than the SYN, before the SYN is acknowledged. TCP answers it with a RST, which isn't passed on.
+    /// Returns whether a segment acknowledges anything but the SYN, before the SYN is acknowledged. TCP answers it with a RST, which isn't passed on.
     fn is_refused(&self, segment: &PacketRef<'_>) -> bool
         ensures { result ≡ refused_lem self.now (segment_of segment.now) }
     {
-        !self.syn_acked && has_ack(segment) && self.ack(segment) < 0
+        !self.syn_acked
+            && has_ack(segment)
+            && (self.ack(segment) < 0 || self.acknowledges_unsent(segment))
+    }
+
+    /// Returns whether a segment has an acknowledgement of what was never sent.
+    fn is_unsent_ack(&self, segment: &PacketRef<'_>) -> bool
+        ensures { result ≡ unsent_ack_lem self.now (segment_of segment.now) }
+    {
+        has_ack(segment) && self.acknowledges_unsent(segment)
     }
 
     /// Returns whether TCP answers an acceptable segment with an ACK.
@@ -111,7 +131,7 @@ impl PlainPoint {
         } else if has_syn(segment) {
             true
         } else {
-            !self.is_refused(segment) && segment_len(segment) > 0
+            !self.is_refused(segment) && (segment_len(segment) > 0 || self.is_unsent_ack(segment))
         }
     }
 

@@ -3,6 +3,7 @@
 
 ghost use Rattle.std.specs.Prelude.{◌≡◌, ◌<◌, ◌≤◌, ◌+◌, IfSome, pos, true, false};
 ghost use Rattle.seq_arith.specs.Offset.{ack_of};
+ghost use Rattle.ft_model.specs.Point.{most};
 ghost use Rattle.segment_codec.specs.Value.{segment_of};
 
 use crate::copying::Data;
@@ -28,6 +29,22 @@ fn edge_falls_where_the_client_knows_more(
     ensures { IfSome result (λ a. a.window ≡ 1) }
 {
     point.acknowledged(segment)
+}
+
+/// A segment that acknowledges one unit more than was ever sent doesn't count: the contract of `PlainPoint::counts`.
+#[tactic(auto, unfolding(ft_model::specs::Taken::counts, ft_model::specs::Taken::acknowledges_unsent))]
+fn lowers_without_a_bound(point: &PlainPoint, segment: &PacketRef<'_>) -> bool
+    requires { ack_of point.now.sisn (segment_of segment.now) ≡ pos (most point.now + 1) }
+    ensures { result ≡ false }
+{
+    point.counts(segment)
+}
+
+/// A restart keeps how many units an earlier incarnation may have sent: the contract of `PlainPoint::resume_at`.
+fn forgets_the_fetched_output(point: &mut PlainPoint, at: u64, units: u64)
+    ensures { units ≤ most point.new }
+{
+    point.resume_at(at, units);
 }
 
 /// No probe is sent while anything is unacknowledged: the contract of `PlainPoint::probes_at_tick`.

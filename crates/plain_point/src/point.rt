@@ -28,6 +28,8 @@ pub struct PlainPoint {
     pub(crate) numbers: Numbers,
     /// How many of the client's bytes a restart fetched.
     pub(crate) fetched: u64,
+    /// How many units of output the reads make that a restart fetched.
+    pub(crate) fetched_output: u64,
     /// The client's bytes that are taken.
     pub(crate) taken: Vec<u8>,
     /// Whether the client's FIN is taken.
@@ -82,6 +84,7 @@ impl Model for PlainPoint {
       sisn = p.numbers.sisn;
       mss = p.numbers.mss;
       fetched = p.fetched;
+      fetched_output = p.fetched_output;
       taken = p.taken.items;
       fin = p.fin;
       early = p.held;
@@ -117,6 +120,7 @@ impl PlainPoint {
         PlainPoint {
             numbers: *numbers,
             fetched: 0,
+            fetched_output: 0,
             taken: Vec::new(alloc),
             fin: false,
             held: Held::new(alloc),

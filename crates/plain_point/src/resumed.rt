@@ -26,10 +26,11 @@ impl PlainPoint {
         }
     }
 
-    /// Records that all reads made are known to be logged, and that the output continues from this offset on.
-    pub fn resume_at(&mut self, at: u64)
-        ensures { self.new ≡ with_output_from at self.old }
+    /// Records that all reads made are known to be logged, that they make `units` units of output, and that the output continues from the offset `at` on.
+    pub fn resume_at(&mut self, at: u64, units: u64)
+        ensures { self.new ≡ with_output_from at units self.old }
     {
+        self.fetched_output = units;
         self.reads_answered = self.lengths.len();
         self.una = at;
         self.sent = at;
