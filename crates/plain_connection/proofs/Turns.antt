@@ -43,7 +43,7 @@ unfolding sent_after sent_at_once interval_after rest_after must_run end_ticks_a
 live_turn service server boot news p reads live makes =
     let after : Point = point_after service news p reads in
     record {
-      same = record { key = refl; cisn = refl; sisn = refl; mss = refl; fetched = refl };
+      same = record { key = refl; cisn = refl; sisn = refl; mss = refl; fetched = refl; fetched_output = refl };
       taken = refl;
       fin = refl;
       early = refl;

@@ -1,7 +1,8 @@
 //! The connection, and how much of its output may be sent.
 
-ghost use Rattle.std.specs.Prelude.{◌≡◌, ◌≤◌, ◌^◌, length};
+ghost use Rattle.std.specs.Prelude.{◌≡◌, ◌≤◌, ◌+◌, ◌^◌, length};
 ghost use Rattle.server_trait.specs.Service.{machine};
+ghost use Rattle.ft_model.specs.Offset.{one_if};
 ghost use Rattle.plain_connection.specs.Made.{end_of};
 ghost use Rattle.plain_connection.specs.State.{IsServed};
 
@@ -28,7 +29,7 @@ impl<S: Service> Model for PlainConnection<S> {
 }
 
 impl<S: Service> PlainConnection<S> {
-    ghost use Rattle.ft_model.specs.Point.{answered_run, made as made_lem, released as released_lem, target as target_lem};
+    ghost use Rattle.ft_model.specs.Point.{answered_run, whole_run, made as made_lem, released as released_lem, target as target_lem};
 
     /// Returns its point.
     pub fn point(&self) -> &PlainPoint
@@ -73,5 +74,15 @@ impl<S: Service> PlainConnection<S> {
         ensures { result ≡ made_lem (machine (S.started self.now.kind) S.after) self.now.point }
     {
         self.made.output().len() as u64
+    }
+
+    /// Returns how many units of output all reads make: the bytes, and the FIN after them if the reads close the service.
+    #[tactic(auto, using(crate::proofs::Served::whole_units))]
+    pub(crate) fn made_units(&self) -> u64
+        requires { IsServed (machine (S.started self.now.kind) S.after) self.now }
+        ensures { result ≡ made_lem (machine (S.started self.now.kind) S.after) self.now.point
+            + one_if (whole_run (machine (S.started self.now.kind) S.after) self.now.point).closed }
+    {
+        self.made.units()
     }
 }

@@ -1,16 +1,20 @@
 //! Wrong results that the contracts of this crate exclude. Each function calls another one of the crate, and promises of its result what a wrong body would make
 //! false. It is proved from the other's contract alone, so it is no longer proved once that contract lets the wrong body pass.
 
-ghost use Rattle.std.specs.Prelude.{◌≡◌, ◌<◌, ◌≤◌, None, max};
+ghost use Rattle.std.specs.Prelude.{◌≡◌, ◌<◌, ◌≤◌, None, max, true, false, IfOk};
 ghost use Rattle.server_trait.specs.Service.{machine};
 ghost use Rattle.ft_model.specs.Point.{made, released};
+ghost use Rattle.ft_model.specs.Restart.{entry_in, is_whole, run_of};
 ghost use Rattle.ft_model.specs.Sending.{send_edge};
 ghost use Rattle.plain_connection.specs.State.{IsServed};
 
 use crate::before::Before;
 use crate::connection::PlainConnection;
 use crate::news::News;
+use ft_io::NoMemory;
+use plain_log::PlainFetched;
 use server_trait::Service;
+use std::alloc::Global;
 
 /// A service doesn't read while any of its output isn't released: the contract of `PlainConnection::next_read`.
 #[tactic(auto, unfolding(ft_model::specs::Reads::may_read))]
@@ -28,6 +32,21 @@ fn releases_unanswered_output<S: Service>(connection: &PlainConnection<S>) -> us
     ensures { result ≡ released (machine (S.started connection.now.kind) S.after) connection.now.point }
 {
     connection.output().len()
+}
+
+/// Where an entry's reads have closed the service, its client may have been sent one unit more than their output: the clause `point` of
+/// `PlainConnection::resumed`.
+fn bounds_without_the_closing_unit<S: Service>(
+    alloc: Global,
+    kind: u8,
+    entry: PlainFetched,
+) -> Result<PlainConnection<S>, NoMemory>
+    requires whole { is_whole entry ≡ true }
+    requires live { entry.head.done ≡ false }
+    requires closed { (run_of (machine (S.started kind) S.after) (entry_in entry)).closed ≡ true }
+    ensures { IfOk result (λ c. made (machine (S.started kind) S.after) c.point < c.point.fetched_output) }
+{
+    PlainConnection::resumed(alloc, kind, entry)
 }
 
 /// Nothing new is sent past the client's right edge or the congestion window: the clause `value` of `PlainConnection::sent_at_once`.

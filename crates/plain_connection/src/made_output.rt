@@ -1,8 +1,9 @@
 //! A service with all that it has made: its whole output, and how far the output extends after each read. The answered reads are the first ones. So the
 //! output that may be sent is a prefix of the whole, and the table of ends gives its length without a second run.
 
-ghost use Rattle.std.specs.Prelude.{◌≡◌, ◌≤◌, ℕ, List, [], ◌∷◌, ◌++◌, length, sum, slice_get, take, drop, Some, IfOk, OnOk};
+ghost use Rattle.std.specs.Prelude.{◌≡◌, ◌≤◌, ◌+◌, ℕ, List, [], ◌∷◌, ◌++◌, length, sum, slice_get, take, drop, Some, IfOk, OnOk};
 ghost use Rattle.server_trait.specs.Service.{machine, reference};
+ghost use Rattle.ft_model.specs.Offset.{one_if};
 ghost use Rattle.plain_connection.specs.Made.{nothing_made, after_read, made_of, end_of};
 
 use ft_io::NoMemory;
@@ -73,6 +74,13 @@ impl<S: Service> Made<S> {
         ensures { result.now ≡ self.now.run.output }
     {
         self.output.as_slice()
+    }
+
+    /// Returns how many units of output there are: the bytes, and one more if the service has closed.
+    pub fn units(&self) -> u64
+        ensures { result ≡ length self.now.run.output + one_if self.now.run.closed }
+    {
+        self.output.len() as u64 + u64::from(self.closed)
     }
 
     /// Returns the end after so many reads, if there were as many.

@@ -51,7 +51,7 @@ impl<S: Service> PlainConnection<S> {
     }
 
     /// Restores a connection from a whole entry of the log that isn't done. The service makes its reads again. The output continues after what the client
-    /// acknowledged.
+    /// acknowledged, and an earlier incarnation may have sent all of it.
     pub fn resumed(
         alloc: Global,
         kind: u8,
@@ -81,7 +81,8 @@ impl<S: Service> PlainConnection<S> {
         };
         connection.read_again(&lengths)?;
         let at = u64::from(head.acked).min(connection.made());
-        connection.point.resume_at(at);
+        let units = connection.made_units();
+        connection.point.resume_at(at, units);
         Ok(connection)
     }
 }
