@@ -101,6 +101,13 @@ impl<S: Service> Replay<S> {
         self.made
     }
 
+    /// Whether the service has closed.
+    pub fn has_closed(&self) -> bool
+        ensures { result ≡ self.now.closed }
+    {
+        self.closed
+    }
+
     /// A north wrapper that continues after these reads.
     pub fn into_north(self, alloc: Global, cuts: Cuts) -> North<S>
         requires have { HaveBytes cuts }
