@@ -7,7 +7,7 @@ use Rattle.seq_arith.specs.Number.{distance, number_at}
 use Rattle.seq_arith.specs.Offset.{one_if}
 use Rattle.server_trait.specs.Service.{Machine}
 use Rattle.ft_model.specs.Log.{Entry}
-use Rattle.ft_model.specs.Restart.{point_of, resumed_at, run_of, IsSoundEntry}
+use Rattle.ft_model.specs.Restart.{point_of, output_units, resumed_at, run_of, IsSoundEntry}
 use Rattle.south_wrap.specs.SouthPoint.{south_at}
 use Rattle.north_wrap.specs.Refinement.{HasReplayed}
 use Rattle.connection_laws.specs.Splice.{GoesOnFrom, delta_from, spliced}
@@ -22,7 +22,7 @@ use Rattle.wrapped_conn.proofs.NumbersAt.{has_fin_is, logged_at}
 use Rattle.reincarnate.specs.Progress.{ReplayedState}
 use Rattle.log_replay.specs.LoggedHead.{IsSegmentSize, has_end}
 use Rattle.reincarnate.specs.Refinement.{IsReplayed}
-use Rattle.reincarnate.specs.Splice.{SplicedState, goes_on_at, south_from, north_from, spliced_from, EntryNumbersFit, IsSpliced}
+use Rattle.reincarnate.specs.Splice.{SplicedState, goes_on_at, made_units, south_from, north_from, spliced_from, EntryNumbersFit, IsSpliced}
 use Rattle.wrapped_conn.proofs.Joining.{spliced_local}
 
 goes_on : {S : Type 0} (service : Machine S) (e : Entry) (r : ReplayedState S) (i : ℕ) → EntryNumbersFit r i → IsReplayed service e r → IsSoundEntry service e → GoesOnFrom service e i
@@ -43,6 +43,9 @@ goes_on service e r i f re sound =
 
 goes_on_is : {S : Type 0} (service : Machine S) (e : Entry) (r : ReplayedState S) → IsReplayed service e r → IsSoundEntry service e → goes_on_at r ≡ resumed_at service e
 goes_on_is service e r re sound = let run = re.run sound.output in λ j. min (re.head j).acked (run.made j)
+
+units_are : {S : Type 0} (service : Machine S) (e : Entry) (r : ReplayedState S) → IsReplayed service e r → IsSoundEntry service e → made_units r ≡ output_units service e
+units_are service e r re sound = let run = re.run sound.output in λ j. run.made j + one_if (run.closed j)
 
 -- a sound entry has room for its FIN
 room_for : (fin : Bool) (n : ℕ) → (fin ≡ true → n < 2 ^ 24) → (fin && nat_lt n (2 ^ 24)) ≡ fin
@@ -80,11 +83,13 @@ south_is : {S : Type 0} (service : Machine S) (e : Entry) (r : ReplayedState S) 
     → south_from i r ≡ south_at (delta_from service e i) (point_of service e)
 south_is service e r i re sound =
     let u = goes_on_is service e r re sound in
-    let ends = has_end_is service e r re sound in λ j. record {
+    let ends = has_end_is service e r re sound in
+    let units = units_are service e r re sound in λ j. record {
       cisn = (re.head j).cisn;
       sisn = (re.head j).sisn;
       delta = distance (((re.head j).sisn + u j) % 2 ^ 32) i;
       fetched = (re.head j).length;
+      fetched_output = units j;
       taken = (re.head j).length;
       fin = ends j;
       answered = (re.head j).length + one_if (ends j);

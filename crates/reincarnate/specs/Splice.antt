@@ -1,9 +1,10 @@
 -- The parts of a connection at the end of a restart, which are at the point of its entry.
-use Rattle.std.specs.Prelude.{◌≡◌, ℕ, ◌<◌, ◌≤◌, ◌^◌, length, min}
+use Rattle.std.specs.Prelude.{◌≡◌, ℕ, ◌+◌, ◌<◌, ◌≤◌, ◌^◌, length, min}
 use Rattle.ft_io.specs.declared.Addr.{Addr}
 use Rattle.ft_io.specs.declared.Key.{Key}
 use Rattle.server_trait.specs.Service.{Machine}
 use Rattle.ft_model.specs.Log.{Entry}
+use Rattle.ft_model.specs.Offset.{one_if}
 use Rattle.ft_model.specs.Restart.{point_of, resumed_at}
 use Rattle.tcp_endpoint.specs.Tcb.{Tcb}
 use Rattle.south_wrap.specs.SouthState.{SouthState, resumed_south}
@@ -32,8 +33,12 @@ conn_of s = joined_conn s.boot s.key s.local s.south s.endpoint s.north
 abbrev pub goes_on_at : {S : Type 0} → ReplayedState S → ℕ
 goes_on_at r = min r.head.acked r.replay.made
 
+-- the units of output that an earlier incarnation may have sent: what the service has made, and one more if it has closed
+abbrev pub made_units : {S : Type 0} → ReplayedState S → ℕ
+made_units r = r.replay.made + one_if r.replay.closed
+
 abbrev pub south_from : {S : Type 0} → (i : ℕ) → ReplayedState S → SouthState
-south_from i r = record (resumed_south r.head.cisn r.head.sisn r.head.length (has_end r.head) (goes_on_at r) i) { read = r.cuts.sum }
+south_from i r = record (resumed_south r.head.cisn r.head.sisn r.head.length (made_units r) (has_end r.head) (goes_on_at r) i) { read = r.cuts.sum }
 
 abbrev pub north_from : {S : Type 0} → ReplayedState S → NorthState S
 north_from r = resumed_north r.replay.service r.replay.held r.replay.pending r.cuts.count r.cuts.sum r.replay.made r.cuts.ended r.replay.closed

@@ -33,7 +33,26 @@ fn delta_without_syn() -> South
         reads: 0,
         acked: 100,
     };
-    south_behind(&head, Cuts::NONE, 100, Seq(1000))
+    south_behind(&head, Cuts::NONE, 100, false, Seq(1000))
+}
+
+/// Where the service has closed, an earlier incarnation may have sent one unit more than its output: the clause `value` of `south_behind`.
+fn bounds_without_the_closing_unit(head: &EntryHead, cuts: Cuts, isn: Seq) -> South
+    requires stream { head.now.length ≤ 2 ^ 24 }
+    requires read { cuts.sum ≤ 2 ^ 24 }
+    ensures { result.fetched_output ≡ 101 }
+{
+    south_behind(head, cuts, 100, true, isn)
+}
+
+/// The wrapper keeps how many units an earlier incarnation may have sent, also where the client has acknowledged none: the clause `value` of `south_behind`.
+fn forgets_the_fetched_output(head: &EntryHead, cuts: Cuts, isn: Seq) -> South
+    requires stream { head.now.length ≤ 2 ^ 24 }
+    requires read { cuts.sum ≤ 2 ^ 24 }
+    requires acked { head.now.acked ≡ 0 }
+    ensures { result.fetched_output ≡ 100 }
+{
+    south_behind(head, cuts, 100, false, isn)
 }
 
 /// An entry that begins at a mark counts the bytes below the mark as fetched: the contract of `FetchedEntry::begin_at`.

@@ -2,6 +2,7 @@
 
 ghost use Rattle.std.specs.Prelude.{◌≡◌, ◌+◌, ◌^◌, ◌<◌, ◌≤◌, length, min, IfOk, IfErr};
 ghost use Rattle.server_trait.specs.Service.{machine};
+ghost use Rattle.ft_model.specs.Offset.{one_if};
 ghost use Rattle.ft_model.specs.Log.{Entry};
 ghost use Rattle.ft_model.specs.Restart.{IsSoundEntry};
 ghost use Rattle.south_wrap.specs.SouthState.{resumed_south};
@@ -96,7 +97,7 @@ impl<S: Service> Replayed<S> {
         ensures fits { EntryNumbersFit self isn.0 }
     {
         let Replayed { head, cuts, replay } = self;
-        let south = south_behind(&head, cuts, replay.made(), isn);
+        let south = south_behind(&head, cuts, replay.made(), replay.has_closed(), isn);
         let endpoint = match spliced_endpoint(alloc, &head, local, isn) {
             Ok(endpoint) => endpoint,
             Err(_) => {
@@ -117,19 +118,21 @@ impl<S: Service> Replayed<S> {
     }
 }
 
-/// A south wrapper that continues where the entry ends. Its service has made `made` bytes of output.
-pub(crate) fn south_behind(head: &EntryHead, cuts: Cuts, made: u32, isn: Seq) -> South
+/// A south wrapper that continues where the entry ends. Its service has made `made` bytes of output, and `closed` says whether it has closed: an earlier
+/// incarnation may have sent all of this.
+pub(crate) fn south_behind(head: &EntryHead, cuts: Cuts, made: u32, closed: bool, isn: Seq) -> South
     requires stream { head.now.length ≤ 2 ^ 24 }
     requires made { made ≤ 2 ^ 24 }
     requires read { cuts.sum ≤ 2 ^ 24 }
     ensures numbers { (head.now.sisn < 2 ^ 32) × (isn.0 < 2 ^ 32) }
-    ensures value { result ≡ record (resumed_south head.now.cisn head.now.sisn head.now.length
+    ensures value { result ≡ record (resumed_south head.now.cisn head.now.sisn head.now.length (made + one_if closed)
         (has_end (head_value head.now)) (min head.now.acked made) isn.0) { read = cuts.sum } }
 {
     let mut south = South::resumed(
         Seq(head.cisn),
         Seq(head.sisn),
         head.length,
+        made + u32::from(closed),
         has_end(head),
         head.acked.min(made),
         isn,
