@@ -15,120 +15,12 @@ sys.path.insert(0, str(pathlib.Path(__file__).parent.parent / "tools"))
 
 import loggers  # noqa: E402
 import model  # noqa: E402
+from node_lines import (K, SERVER, SERVICES, Played, conn, fields, guess_in_each_state, key_bytes, key_of, lines, message, msg, numbers, packet, pkt, prints, say, segment, to_client, to_logger, told)  # noqa: E402
 from seed_model import Generator, packet_words  # noqa: E402
 from stored_parts import FOLDER, write_part  # noqa: E402
 
 REPORTS = sys.argv[1]
 OUT = pathlib.Path(sys.argv[2]) if sys.argv[2:] else FOLDER
-SERVER = (0xC0000264, 7)
-
-def ones(data):
-    if len(data) % 2:
-        data += b"\0"
-    total = sum(struct.unpack(f">{len(data)//2}H", data))
-    while total >> 16:
-        total = (total & 0xFFFF) + (total >> 16)
-    return 0xFFFF - total
-
-def ip_of(text):
-    a, b, c, d = map(int, text.split("."))
-    return a << 24 | b << 16 | c << 8 | d
-
-def key_of(text):
-    ip, port = text.split(":")
-    return (ip_of(ip), int(port))
-
-FLAGS = {"F": 1, "S": 2, "R": 4, "P": 8, "A": 16}
-
-def packet(src, dst, flags, seq, ack, window, mss, data):
-    options = b"" if mss is None else struct.pack(">BBH", 2, 4, mss)
-    bits = sum(FLAGS[f] for f in flags if f != "-")
-    def tcp(check):
-        return struct.pack(">HHIIBBHHH", src[1], dst[1], seq, ack, (20 + len(options)) // 4 << 4, bits, window, check, 0) + options + data
-    pseudo = struct.pack(">IIBBH", src[0], dst[0], 0, 6, len(tcp(0)))
-    body = tcp(ones(pseudo + tcp(0)))
-    def ip(check):
-        return struct.pack(">BBHHHBBHII", 0x45, 0, 20 + len(body), 0, 0x4000, 64, 6, check, src[0], dst[0])
-    return ip(ones(ip(0))) + body
-
-KINDS = "Hello Summary List Entry Bytes Part Cuts Lens Open Opened Data Stable Read Reads Done Ended Stale Full".split()
-
-def message(kind, boot, body=b""):
-    number = KINDS.index(kind) + 1
-    def whole(check):
-        return struct.pack(">BBBBHHQ", 0x46, 0x54, 1, number, 16 + len(body), check, boot) + body
-    return whole(ones(whole(0)))
-
-def key_bytes(key):
-    return struct.pack(">IH", *key)
-
-def hex_bytes(text):
-    return b"" if text == "-" else bytes.fromhex(text)
-
-def fields(words):
-    return dict(zip(words[::2], words[1::2]))
-
-def told(kind, words):
-    """A message by the words behind its kind in a report."""
-    f = fields(words)
-    boot = int(f["boot"])
-    n = lambda name: int(f[name])
-    k = key_bytes(key_of(f["key"])) if "key" in f else b""
-    if kind == "Hello":
-        return message(kind, boot)
-    if kind == "Summary":
-        return message(kind, boot, struct.pack(">H", n("count")))
-    if kind == "List":
-        return message(kind, boot, struct.pack(">H", n("index")))
-    if kind == "Entry":
-        return message(kind, boot, struct.pack(">H", n("index")) + k + struct.pack(
-            ">IIHIBBII", n("cisn"), n("sisn"), n("mss"), n("length"), n("fin"), n("done"), n("reads"), n("acked")))
-    if kind == "Bytes":
-        return message(kind, boot, k + struct.pack(">I", n("offset")))
-    if kind == "Part":
-        return message(kind, boot, k + struct.pack(">I", n("offset")) + hex_bytes(f["bytes"]))
-    if kind == "Cuts":
-        return message(kind, boot, k + struct.pack(">I", n("first")))
-    if kind == "Lens":
-        return message(kind, boot, k + struct.pack(">I", n("first")) + b"".join(struct.pack(">H", int(x)) for x in f["lens"].split(",")))
-    if kind in ("Open", "Opened"):
-        return message(kind, boot, k + struct.pack(">IIH", n("cisn"), n("sisn"), n("mss")))
-    if kind == "Data":
-        return message(kind, boot, k + struct.pack(">IIB", n("offset"), n("acked"), n("fin")) + hex_bytes(f["bytes"]))
-    if kind in ("Stable", "Reads"):
-        return message(kind, boot, k + struct.pack(">IBI", n("length"), n("fin"), n("reads")))
-    if kind == "Read":
-        return message(kind, boot, k + struct.pack(">IH", n("index"), n("length")))
-    if kind in ("Done", "Ended", "Full"):
-        return message(kind, boot, k)
-    if kind == "Stale":
-        return message(kind, boot, struct.pack(">Q", n("newer")))
-    raise ValueError(kind)
-
-def segment(way, words, clients):
-    """A segment by the words behind its way in a report."""
-    flags, f = words[0], fields(words[1:])
-    data = hex_bytes(f["data"])
-    mss = None if f["mss"] == "-" else int(f["mss"])
-    left, right = way.split(">")
-    src = SERVER if left == "S" else clients[left]
-    dst = SERVER if right == "S" else clients[right]
-    return packet(src, dst, flags, int(f["seq"]), int(f["ack"]), int(f["window"]), mss, data)
-
-lines, prints = [], []
-
-def say(line, *answers):
-    """A line of the script, and what it prints."""
-    lines.append(line)
-    prints.extend([line] if line.startswith("#") else answers or ["-"])
-
-def to_client(key, data):
-    return f"client {key[0]} {key[1]} {data.hex()}"
-
-def to_logger(data):
-    return f"logger {data.hex()}"
-
-SERVICES = {"echo": 1, "line": 2, "transfer": 3, "meter": 4}
 
 def play_report(name, title, numbers=()):
     """The server's turns of a worked run. `numbers` names, behind which events, what `conn` must print."""
@@ -174,13 +66,6 @@ def play_report(name, title, numbers=()):
         for key, text in numbers.get(number, ()):
             say(conn(key_of(key)), text)
 
-def conn(key):
-    return f"conn {key[0]} {key[1]}"
-
-K = "192.0.2.1:40000"
-
-def numbers(delta, taken, answered, read, reads, una, sent):
-    return f"delta {delta} taken {taken} answered {answered} read {read} reads {reads} una {una} sent {sent}"
 
 play_report("first_path", "the first path", {
     5: [(K, "none")],
@@ -232,12 +117,6 @@ def opening(kind, boot, key, cisn, sisn, mss=536):
 
 def kept(kind, boot, key, length, fin, reads):
     return told(kind, ["boot", str(boot), "key", text_key(key), "length", str(length), "fin", str(fin), "reads", str(reads)])
-
-def msg(data):
-    return f"message {data.hex()}"
-
-def pkt(data):
-    return f"packet {data.hex()}"
 
 HELLO = message("Hello", 1)
 SUMMARY = message("Summary", 1, struct.pack(">H", 0))
@@ -459,57 +338,6 @@ say(reads(6, 0, 2))
 
 # ---- held segments, by the model -----------------------------------------------------------------------------------------------------------
 
-class Played:
-    """A server and a log of the model, and a client that says what it is told to. Each turn is a line of the script, with what the model sends in it."""
-
-    def __init__(self, service):
-        self.service, self.log, self.sent = service, loggers.Log(), []
-        self.boot(1, 5000)
-
-    def boot(self, boot, isn):
-        self.server = model.Server(boot, isn, self.service)
-        self.turn(f"boot {SERVICES[self.service]} {boot} {isn}", self.server.asked())
-        self.drain()
-        self.knows_deltas(isn)
-
-    def knows_deltas(self, isn):
-        """The TCP inside the nth restored connection counts from an initial number of this boot, from the unit on with which output goes on."""
-        restored = [(key, place) for key, place in self.server.places.items() if isinstance(place, model.Connection)]
-        self.deltas = {key: (place.sisn + place.una - (isn + 65536 * n)) % 2**32 for n, (key, place) in enumerate(restored)}
-
-    def turn(self, line, sent):
-        says = []
-        for key, content in sent:
-            words = packet_words(content).split()
-            says.append(to_client(key_of(key), segment("S>1", words, {"1": key_of(key)})) if key else to_logger(told(words[0], words[1:])))
-        say(line, *says)
-        self.sent = [content for key, content in sent if key is None]
-
-    def drain(self):
-        """The log answers what was sent to it, in order."""
-        waiting = self.sent
-        while waiting:
-            answer, waiting = self.log.answer(waiting[0]), waiting[1:]
-            if answer:
-                words = packet_words(answer).split()
-                self.turn(msg(told(words[0], words[1:])), self.server.on_message(answer))
-                waiting = waiting + self.sent
-
-    def comes(self, at, text=b"", flags="A", ack=0, key=K):
-        """A segment of the client at an offset of its stream, whose initial number is 4294967290. Nothing of it is logged yet."""
-        it = model.Segment(flags, (4294967291 + at) % 2**32, (5001 + ack) % 2**32 if "A" in flags else 0, 65535, None, text)
-        self.turn(pkt(segment("1>S", packet_words(it).split(), {"1": key_of(key)})), self.server.on_segment(key, it))
-
-    def begins(self, key=K):
-        self.comes(-1, flags="S", key=key)
-        self.drain()
-        self.comes(0, ack=0 if key == K else 65536, key=key)
-
-    def shows(self, key=K):
-        place = self.server.places[key]
-        delta = self.deltas.get(key, 0)  # A new connection's TCP has the number that the client knows.
-        say(conn(key_of(key)), numbers(delta, place.taken(), place.answered, place.consumed, len(place.lengths), place.una, place.sent))
-
 def letters(start, stop):
     return bytes(97 + at % 26 for at in range(start, stop))
 
@@ -586,6 +414,8 @@ it.comes(5, letters(5, 6), ack=1)
 assert [said.name for said in it.sent] == ["Data"] * 46 + ["Read"] * 32
 assert [said.fields["fin"] for said in it.sent[:46]] == [0] * 45 + [1] and {said.fields["acked"] for said in it.sent[:46]} == {1}
 it.shows()
+
+guess_in_each_state(40)
 
 # ---- congestion control, by the model --------------------------------------------------------------------------------------------------------
 
