@@ -36,8 +36,8 @@ HEAD = """# What stands for each wrong body
 
 Of each function it was seen that it isn't proved once its clause is taken out or weakened, unless the last column says otherwise. The gate refused each edit that a
 function stands for on 30 November 2026, when it still tried them; those of `schedule_text` and `plain_world`, `takes_every_word_for_a_run` and
-`a_stray_packet_counts` it had refused earlier. `ignores_an_acknowledgement_while_openings_are_pending` and `sends_another_clients_segment` are newer; it never tried
-them.
+`a_stray_packet_counts` it had refused earlier. Those of December 2026 it never tried: of marks,
+of openings that are pending, of another client's segments, of turns and journals of `node_process` and `link_parts`, and of acknowledgements of what was never sent.
 """
 
 
