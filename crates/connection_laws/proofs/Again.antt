@@ -6,6 +6,8 @@ use Rattle.ft_io.specs.declared.Addr.{Addr}
 use Rattle.seq_arith.specs.Arrival.{una_after}
 use Rattle.seq_arith.specs.Packet.{Segment, has_ack}
 use Rattle.server_trait.specs.Service.{Machine}
+use Rattle.seq_arith.specs.Profile.{plain}
+use Rattle.ft_model.proofs.Profiles.{live_keeps}
 use Rattle.ft_model.specs.Offset.{first_of, ack_of}
 use Rattle.ft_model.specs.Point.{Point, most, target}
 use Rattle.ft_model.specs.News.{News}
@@ -104,6 +106,7 @@ goes_on_again service server boot u i delta news p q sent g f l few =
       sent = few;
       edge = omega (arith, l.edge, s.edge);
       wl2 = omega (arith, l.wl2, s.wl2);
+      profile = live_keeps service plain server boot news p q sent g.profile l;
       syn_unacked = λ h.
           let k : Same news p = same i news p (sym l.syn_acked ∙ h) in
           let o = g.syn_unacked k.syn_acked in

@@ -1,5 +1,5 @@
 -- A new connection's TCP stands at the point inside from its SYN on, and its SYN-ACK is the law's.
-use Rattle.std.proofs.Common.{◌≡◌, ℕ, ◌<◌, ◌+◌, ◌-◌, ◌%◌, ◌^◌, not, List, [], ◌∷◌, ◌++◌, length, min, max, Some, refl, sym, ap, subst, arith, ◌∙◌}
+use Rattle.std.proofs.Common.{◌≡◌, ℕ, ◌<◌, ◌+◌, ◌-◌, ◌%◌, ◌^◌, false, not, List, [], ◌∷◌, ◌++◌, length, min, max, Some, refl, sym, ap, subst, arith, ◌∙◌}
 use Rattle.std.specs.Prelude.{◌&&◌, ◌||◌, nat_lt, nat_le, if◌then◌else◌}
 use Rattle.ft_io.specs.declared.Addr.{Addr}
 use Rattle.seq_arith.specs.Congestion.{initial_congestion, initial_window}
@@ -7,15 +7,18 @@ use Rattle.seq_arith.specs.Message.{Numbers}
 use Rattle.seq_arith.specs.Number.{number_at}
 use Rattle.seq_arith.specs.Packet.{Segment}
 use Rattle.server_trait.specs.Service.{Machine}
+use Rattle.seq_arith.specs.Profile.{plain}
+use Rattle.seq_arith.specs.Timing.{initial_timing}
+use Rattle.ft_model.proofs.Profiles.{turn_stays}
 use Rattle.ft_model.specs.Answered.{answered_after, reads_answered_after}
 use Rattle.ft_model.specs.Connection.{LiveTurn}
 use Rattle.ft_model.specs.ResetAndEnd.{end_ticks_after}
 use Rattle.ft_model.specs.Network.{Packet}
 use Rattle.ft_model.specs.News.News.{Comes, Begins}
 use Rattle.ft_model.specs.Opening.{point_opened}
-use Rattle.ft_model.specs.Point.{Point, acknowledgement, released, target}
-use Rattle.ft_model.specs.Segments.{syn_ack, window, segments_of, full_segments, resent, new_texts, new_fin, new_length, texts, fin_if_closed}
-use Rattle.ft_model.specs.Sending.{syn_acked_after, acknowledged_after, edge_after, wl1_after, wl2_after, is_third_duplicate, congestion_after, sent_after, sent_at_once}
+use Rattle.ft_model.specs.Point.{Point, acknowledgement, released, target, window}
+use Rattle.ft_model.specs.Segments.{syn_ack, segments_of, full_segments, resent, new_texts, new_fin, new_length, texts, fin_if_closed}
+use Rattle.ft_model.specs.Sending.{syn_acked_after, acknowledged_after, edge_after, wl1_after, wl2_after, is_third_duplicate, congestion_after, sent_after, sent_at_once, is_partial_ack}
 use Rattle.ft_model.specs.Taken.{taken_after, early_after, fin_after}
 use Rattle.ft_model.specs.Timer.{must_run, interval_after, rest_after}
 use Rattle.tcp_endpoint.specs.Arrival.{received}
@@ -36,15 +39,16 @@ use Rattle.connection_laws.proofs.Again.{none_sent}
 
 -- the point after the turn in which it becomes live
 abbrev begun : Numbers → Point
-begun numbers = record (point_opened numbers) { rest = 1 }
+begun numbers = record (point_opened plain numbers) { rest = 1 }
 
 begun_is : {State : Type 0} (service : Machine State) (server : Addr) (boot : ℕ) (numbers : Numbers) (q : Point) (sent : List Packet)
-    → LiveTurn service server boot Begins (point_opened numbers) q sent → q ≡ begun numbers
+    → LiveTurn service server boot Begins (point_opened plain numbers) q sent → q ≡ begun numbers
 unfolding taken_after early_after fin_after answered_after reads_answered_after syn_acked_after acknowledged_after edge_after wl1_after wl2_after congestion_after sent_after sent_at_once interval_after rest_after must_run end_ticks_after
 begun_is service server boot numbers q sent l =
-    let lengths : q.lengths ≡ [] = same_lengths service (point_opened numbers) q l.reads (ap length l.taken) l.same.fetched l.fin in
+    let lengths : q.lengths ≡ [] = same_lengths service (point_opened plain numbers) q l.reads (ap length l.taken) l.same.fetched l.fin in
     let sent_is : q.sent ≡ 0 = l.sent_units ∙ (λ j. max 0 (min (target service q) (min (l.edge j) (q.una + q.congestion.cwnd))) + 0) ∙ none_sent (target service q) (q.una + q.congestion.cwnd) in
-    let rest_is : q.rest ≡ 1 = l.rest ∙ (λ j. if not (l.syn_acked j) || nat_lt q.una (max q.sent (target service q)) then 1 else 0) in
+    let timing_is : q.timing ≡ initial_timing false = l.timing ∙ turn_stays service Begins (point_opened plain numbers) q refl in
+    let rest_is : q.rest ≡ 1 = l.rest ∙ (λ j. if not (l.syn_acked j) || nat_lt q.una (max q.sent (target service q)) then (timing_is j).base else 0) in
     λ j. record {
       key = l.same.key j;
       cisn = l.same.cisn j;
@@ -65,7 +69,9 @@ begun_is service server boot numbers q sent l =
       wl2 = l.wl2 j;
       congestion = l.congestion j;
       syn_acked = l.syn_acked j;
-      interval = l.interval j;
+      timing = timing_is j;
+      delays = l.same.delays j;
+      interval = (l.interval ∙ ap (λ t. t.base) timing_is) j;
       rest = rest_is j;
       end_ticks = l.end_ticks j;
       reset = l.reset j;
@@ -74,7 +80,7 @@ begun_is service server boot numbers q sent l =
 -- it is the one to which the SYN leads
 led_to : (local : Addr) (numbers : Numbers) → MayOpen numbers → begun numbers ≡ point_begun [] (numbers_with numbers.cisn numbers.sisn (opened_syn local numbers))
 led_to local numbers o =
-    λ j. record (begun numbers) { mss = size_stays numbers.mss o.least o.most j; congestion = initial_congestion (size_stays numbers.mss o.least o.most j) }
+    λ j. record (begun numbers) { mss = size_stays numbers.mss o.least o.most j; congestion = initial_congestion false (size_stays numbers.mss o.least o.most j) }
 
 goes_on : (numbers : Numbers) → MayOpen numbers → GoesOn 0 numbers.sisn 0 (begun numbers)
 goes_on numbers o = record {
@@ -88,6 +94,7 @@ goes_on numbers o = record {
   sent = omega arith;
   edge = omega arith;
   wl2 = omega arith;
+  profile = record { measures = refl; recovers = refl; delays = refl; timing = λ off. refl; lost = λ off. refl };
   syn_unacked = λ h. (refl, refl, refl, refl, refl, refl, refl);
 }
 
@@ -110,10 +117,10 @@ syn_ack_is local numbers p fits same =
       payload = [];
     }
 
-syn_ack_alone : {State : Type 0} (service : Machine State) (local : Addr) (numbers : Numbers) → segments_of service local Begins (point_opened numbers) (begun numbers) ≡ syn_ack local (begun numbers) ∷ []
-unfolding segments_of full_segments resent new_texts new_fin is_third_duplicate sent_at_once
+syn_ack_alone : {State : Type 0} (service : Machine State) (local : Addr) (numbers : Numbers) → segments_of service local Begins (point_opened plain numbers) (begun numbers) ≡ syn_ack local (begun numbers) ∷ []
+unfolding segments_of full_segments resent new_texts new_fin is_third_duplicate is_partial_ack sent_at_once
 syn_ack_alone service local numbers =
-    let p : Point = point_opened numbers in
+    let p : Point = point_opened plain numbers in
     let q : Point = begun numbers in
     let once : sent_at_once service p q ≡ 0 = nothing_at_once (target service q) (0 + initial_window numbers.mss) in
     let long : new_length service p q ≡ 0 = (λ j. min (once j) (released service q) - 0) ∙ nothing_long (released service q) in
@@ -121,7 +128,7 @@ syn_ack_alone service local numbers =
     ∙ (λ j. syn_ack local q ∷ (if never (released service q) j && nat_le 0 (released service q) then fin_if_closed service local q else []))
 
 pub begins_inside : {State : Type 0} (service : Machine State) (boot : ℕ) (local : Addr) (numbers : Numbers) (q : Point) (calls : List Call) (sent : List Packet) → MayOpen numbers
-    → MayUse calls (received (listens_with local numbers) (opened_syn local numbers)) → LiveTurn service local boot Begins (point_opened numbers) q sent
+    → MayUse calls (received (listens_with local numbers) (opened_syn local numbers)) → LiveTurn service local boot Begins (point_opened plain numbers) q sent
     → BeginsInside service local numbers q calls
 unfolding listening
 begins_inside service boot local numbers q calls sent o may l =
@@ -143,7 +150,7 @@ begins_inside service boot local numbers q calls sent o may l =
         goes_on = subst (GoesOn 0 numbers.sisn 0) (sym q_is) (goes_on numbers o);
       };
       named = begun_named_law e numbers.sisn (2 ^ 24) syn calls listens refl;
-      segments = subst (λ r. passed 0 r (sent_in (Comes syn) calls e) ≡ segments_of service local Begins (point_opened numbers) r) (sym q_is)
+      segments = subst (λ r. passed 0 r (sent_in (Comes syn) calls e) ≡ segments_of service local Begins (point_opened plain numbers) r) (sym q_is)
           (ap (passed 0 (begun numbers)) segments ∙ ap (λ s. s ∷ []) (syn_ack_is local numbers (begun numbers) o.sisn refl) ∙ sym (syn_ack_alone service local numbers));
-      alone = subst (λ r. segments_of service local Begins (point_opened numbers) r ≡ syn_ack local r ∷ []) (sym q_is) (syn_ack_alone service local numbers);
+      alone = subst (λ r. segments_of service local Begins (point_opened plain numbers) r ≡ syn_ack local r ∷ []) (sym q_is) (syn_ack_alone service local numbers);
     }

@@ -9,6 +9,8 @@ use Rattle.seq_arith.specs.Congestion.{with_new_data, with_duplicate}
 use Rattle.seq_arith.proofs.Coming.{in_order, ComesAlone, comes_alone}
 use Rattle.seq_arith.specs.Packet.{Segment, has_fin, has_syn, has_rst, has_ack}
 use Rattle.server_trait.specs.Service.{Machine, reference}
+use Rattle.seq_arith.specs.Timing.{initial_timing}
+use Rattle.ft_model.proofs.Profiles.{turn_stays}
 use Rattle.ft_model.specs.Offset.{one_if, first_of, ack_of, text_of, fin_of, length_of}
 use Rattle.ft_model.specs.Point.{Point, taken_units, most, receive_edge, room, target}
 use Rattle.ft_model.specs.News.News.{Comes}
@@ -46,6 +48,7 @@ pub record IsFresh (p : Point) : Type 0 where
   pub lengths : p.lengths ≡ []
   pub fetched : p.fetched ≡ length p.taken
   pub wl1 : p.syn_acked ≡ true → p.wl1 ≡ pos (length p.taken)
+  pub timing : p.timing ≡ initial_timing false
   pub timer : (p.syn_acked ≡ true → (p.rest ≡ 0) × (p.interval ≡ 1)) × (p.syn_acked ≡ false → p.rest ≡ 1)
 
 take_none : (n : ℕ) → take {A = ℕ} n [] ≡ []
@@ -184,7 +187,7 @@ forged_laws p segment fin f s few =
     middle_false (used && length (text_of segment) == 0 && not (fin_of segment) && acknowledged_by p segment == p.una) (nat_lt p.una p.sent)
     (acknowledged_by p segment + window_by p segment == p.edge) (λ j. nat_lt (f.una j) (f.sent j)) in
     record {
-      same = record { key = refl; cisn = refl; sisn = refl; mss = refl; fetched = refl; fetched_output = refl };
+      same = record { key = refl; cisn = refl; sisn = refl; mss = refl; fetched = refl; fetched_output = refl; delays = refl };
       taken = sym (ap (λ x. p.taken ++ x.added) k ∙ append-nil p.taken);
       fin = sym (ap (λ x. x.fin) k);
       early = f.early ∙ sym (ap (λ x. x.early) k);
@@ -199,7 +202,8 @@ forged_laws p segment fin f s few =
           else (if single j then with_duplicate p.mss (flight p) p.congestion else p.congestion));
       sent = f.sent ∙ at_once_none (target silent (after_forged fin p)) p.congestion.cwnd
           ∙ sym (λ j. max (f.sent j) (min (target silent (after_forged fin p)) (min (f.edge j) (f.una j + p.congestion.cwnd))) + 0);
-      interval = λ j. if anew j then 1 else p.interval;
+      timing = f.timing ∙ sym (turn_stays silent (Comes segment) p (after_forged fin p) f.timing);
+      interval = λ j. if anew j then (sym f.timing j).base else p.interval;
       rest = sym (λ j. if nat_lt (f.una j) (max (f.sent j) (length (run_is p f.lengths j).output + (if (run_is p f.lengths j).closed then 1 else 0)))
           then (if (p.rest == 0 || (nat_lt p.una p.una || (true && not p.syn_acked))) || false then interval_after (Comes segment) p (after_forged fin p) else p.rest) else 0);
     }

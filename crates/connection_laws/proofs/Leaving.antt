@@ -7,11 +7,11 @@ use Rattle.ft_io.specs.declared.Addr.{Addr}
 use Rattle.seq_arith.specs.Number.{number_at}
 use Rattle.seq_arith.specs.Packet.{Segment, has_rst}
 use Rattle.server_trait.specs.Service.{Machine}
-use Rattle.ft_model.specs.Point.{Point, acknowledgement, answered_run, released, target}
+use Rattle.ft_model.specs.Point.{Point, acknowledgement, answered_run, released, target, window}
 use Rattle.ft_model.specs.News.{News}
-use Rattle.ft_model.specs.Sending.{is_third_duplicate, sent_at_once}
+use Rattle.ft_model.specs.Sending.{resends, sent_at_once}
 use Rattle.ft_model.specs.Timer.{expires}
-use Rattle.ft_model.specs.Segments.{window, segment_at, syn_ack, text_at, fin_segment, fin_if_closed, bare_segment, texts, resent_length, first_unacknowledged, probe, resent, new_length, new_texts, new_fin, or_bare}
+use Rattle.ft_model.specs.Segments.{segment_at, syn_ack, text_at, fin_segment, fin_if_closed, bare_segment, texts, resent_length, first_unacknowledged, probe, resent, new_length, new_texts, new_fin, or_bare}
 use Rattle.connection_laws.specs.Inside.{swallowing, inside}
 use Rattle.connection_laws.specs.Traffic.{passed}
 use Rattle.south_wrap.specs.Translation.{outward}
@@ -73,7 +73,8 @@ pub record Sends {State : Type 0} (service : Machine State) (news inner : News) 
   pub shift : (i + delta) % 2 ^ 32 ≡ (q.sisn + u) % 2 ^ 32
   pub sisn : q.sisn < 2 ^ 32
   pub expires : expires inner (inside u i p) ≡ expires news p
-  pub third : is_third_duplicate inner (inside u i p) ≡ is_third_duplicate news p
+  pub again : resends inner (inside u i p) ≡ resends news p
+  pub delays : p.delays ≡ false
   pub sent : u ≤ p.sent
   pub una : u ≤ q.una
   pub edge : u ≤ q.edge
@@ -174,9 +175,9 @@ unfolding resent
 resent_is service server news inner p q u i delta s =
     let out : Segment → Segment = outward (south_at delta q) in
     let waits : (not q.syn_acked || nat_lt (q.una - u) (p.sent - u)) ≡ (not q.syn_acked || nat_lt q.una p.sent) = ap (λ b. not q.syn_acked || b) (lt_less u q.una p.sent s.una) in
-    (λ j. map out (if s.expires j || s.third j then (if waits j then first_unacknowledged (swallowing u service) server (inside u i p) (inside u i q)
+    (λ j. map out (if s.expires j || s.again j then (if waits j then first_unacknowledged (swallowing u service) server (inside u i p) (inside u i q)
     else probe (swallowing u service) server (inside u i p) (inside u i q)) else []))
-    ∙ choose out (expires news p || is_third_duplicate news p) _ [] _ []
+    ∙ choose out (expires news p || resends news p) _ [] _ []
     (λ h. choose out (not q.syn_acked || nat_lt q.una p.sent) _ _ _ _ (λ k. first_is service server news inner p q u i delta s) (λ k. probe_is service server news inner p q u i delta s))
     (λ h. refl)
 
@@ -240,7 +241,7 @@ full_quiet : {State : Type 0} (service : Machine State) (server : Addr) (news : 
 unfolding resent new_texts new_fin
 full_quiet service server news p q =
     append_quiet (resent service server news p q) (new_texts service server p q ++ new_fin service server p q)
-    (either_quiet (expires news p || is_third_duplicate news p) _ []
+    (either_quiet (expires news p || resends news p) _ []
     (either_quiet (not q.syn_acked || nat_lt q.una p.sent) _ _
     (either_quiet (not q.syn_acked) _ _ refl (either_quiet (q.una == released service q) _ _ (fin_quiet service server q) refl))
     (either_quiet (nat_lt p.sent (released service q)) _ _ refl (fin_quiet service server q))) refl)

@@ -8,13 +8,15 @@ use Rattle.seq_arith.specs.Coming.{nothing_came, comes}
 use Rattle.seq_arith.specs.Congestion.{with_new_data, is_third, with_duplicate, with_expiry}
 use Rattle.seq_arith.specs.Packet.{Segment, has_syn, has_rst, has_ack}
 use Rattle.server_trait.specs.Service.{Machine}
+use Rattle.seq_arith.specs.Timing.{initial_timing}
+use Rattle.ft_model.proofs.Profiles.{turn_stays}
 use Rattle.ft_model.specs.Offset.{first_of, ack_of, text_of, fin_of}
 use Rattle.ft_model.specs.Point.{Point, taken_units, most, receive_edge, released, target}
 use Rattle.ft_model.specs.News.{News}
 use Rattle.ft_model.specs.News.News.{Comes, Logged, Ticks, Begins}
 use Rattle.ft_model.specs.Network.{Packet}
 use Rattle.ft_model.specs.Taken.{uses, acknowledges_unsent, counts, came, taken_after, early_after, fin_after}
-use Rattle.ft_model.specs.Sending.{syn_acked_after, acknowledged_after, edge_after, wl1_after, wl2_after, is_duplicate, is_third_duplicate, flight, congestion_after, sent_at_once, sent_after, acknowledged_by, window_by}
+use Rattle.ft_model.specs.Sending.{syn_acked_after, acknowledged_after, edge_after, wl1_after, wl2_after, is_duplicate, is_third_duplicate, flight, congestion_after, sent_at_once, sent_after, acknowledged_by, window_by, is_first_expiry}
 use Rattle.ft_model.specs.Timer.{must_run, interval_after, rest_after, is_tick, expires, probes, is_set_anew}
 use Rattle.ft_model.specs.Segments.{repeats_syn}
 use Rattle.ft_model.specs.Connection.{LiveTurn}
@@ -203,7 +205,7 @@ ticks_same : (u i : ℕ) (p : Point) → u ≤ p.una → congestion_after Ticks 
 unfolding congestion_after
 ticks_same u i p a =
     λ j. if p.rest == 1 && lt_less u p.una p.sent a j && lt_less u p.una p.edge a j
-    then with_expiry p.mss (flight_inside u p.una p.sent a j) (p.interval == 1) p.congestion
+    then with_expiry p.mss (flight_inside u p.una p.sent a j) (is_first_expiry p) p.congestion
     else p.congestion
 
 pub moves_inside_all : (u i delta : ℕ) (p : Point) (news : News) → GoesOn u i delta p → NewsFit p news → Moves news p u i (news_inside delta p news)
@@ -276,10 +278,11 @@ laws_inside service server boot u i delta news p q sent g f above given l =
     let anew : is_set_anew (inside u i p) (inside u i q) ≡ is_set_anew p q = (λ j. p.rest == 0 || (lt_less u p.una q.una g.una j || (q.syn_acked && not p.syn_acked))) in
     let runs : must_run (swallowing u service) (inside u i q) ≡ must_run service q =
     (λ j. not q.syn_acked || nat_lt (q.una - u) (max (q.sent - u) (target_is j))) ∙ ap (λ b. not q.syn_acked || b) (runs_less u q.una q.sent (target service q) above) in
+    let still : p.timing ≡ initial_timing false = g.profile.timing refl in
     let ticks : interval_after inner (inside u i p) (inside u i q) ≡ interval_after news p q =
-    λ j. if anew j then 1 else (if m.expires j then min 64 (2 * p.interval) else p.interval) in
+    λ j. if anew j then q.timing.base else (if m.expires j then min 64 (2 * p.interval) else p.interval) in
     record {
-      same = record { key = l.same.key; cisn = l.same.cisn; sisn = refl; mss = l.same.mss; fetched = l.same.fetched; fetched_output = refl };
+      same = record { key = l.same.key; cisn = l.same.cisn; sisn = refl; mss = l.same.mss; fetched = l.same.fetched; fetched_output = refl; delays = l.same.delays };
       taken = l.taken ∙ sym m.taken;
       fin = l.fin ∙ sym m.fin;
       early = l.early ∙ sym m.early;
@@ -292,6 +295,7 @@ laws_inside service server boot u i delta news p q sent g f above given l =
       sent = ap (λ n. n - u) l.sent_units
           ∙ sym ((λ j. max (p.sent - u) (min (target_is j) (min (q.edge - u) (q.una - u + q.congestion.cwnd))) + (if probe j then 1 else 0))
           ∙ sent_less u p.sent (target service q) q.edge q.una q.congestion.cwnd (probes news p) (omega (arith, g.una, g.order)) above);
+      timing = l.timing ∙ turn_stays service news p q still ∙ sym (turn_stays (swallowing u service) inner (inside u i p) (inside u i q) still);
       interval = l.interval ∙ sym ticks;
       rest = l.rest ∙ sym (λ j. if runs j
           then (if anew j || m.expires j then ticks j else (if m.ticks j then p.rest - 1 else p.rest))

@@ -6,6 +6,7 @@ use Rattle.ft_io.specs.declared.Addr.{Addr}
 use Rattle.seq_arith.specs.Message.{Numbers}
 use Rattle.seq_arith.specs.Packet.{Segment}
 use Rattle.server_trait.specs.Service.{Machine}
+use Rattle.seq_arith.specs.Profile.{plain}
 use Rattle.ft_model.specs.News.News.{Begins}
 use Rattle.ft_model.specs.Opening.{point_opened}
 use Rattle.ft_model.specs.PendingAck.{is_ack_pending}
@@ -80,13 +81,13 @@ at_none : (n : ℕ) → n ≡ 0 → max 0 0 ≡ n + 0
 at_none n h = omega (arith, h)
 
 pub starts_together : {S : Type 0} (service : Machine S) (boot : ℕ) (local : Addr) (numbers : Numbers) (old new : NorthState S) (reads : List ReadRecord) (t : Tcb) → MayOpen numbers
-    → NorthStands service (point_opened numbers) 0 old → old.shut ≡ false
+    → NorthStands service (point_opened plain numbers) 0 old → old.shut ≡ false
     → NorthTurns service.after tcp_reader tcp_writer 0 old (received (listens_with local numbers) (opened_syn local numbers)) reads new t → new.run.made ≤ 2 ^ 24
-    → PartsTurn service local boot 0 numbers.sisn 0 Begins (point_opened numbers) (lengths_of reads) new t
+    → PartsTurn service local boot 0 numbers.sisn 0 Begins (point_opened plain numbers) (lengths_of reads) new t
 unfolding taken_after fin_after acknowledged_after
 starts_together service boot local numbers old new reads t o st open_still turns few =
     let ks : List ℕ = lengths_of reads in
-    let p : Point = point_opened numbers in
+    let p : Point = point_opened plain numbers in
     let q : Point = settled service Begins p ks in
     let b : Point = reading [] q in
     let m : Tcb = received (listens_with local numbers) (opened_syn local numbers) in

@@ -10,6 +10,9 @@ use Rattle.seq_arith.specs.Congestion.{Congestion}
 use Rattle.seq_arith.proofs.Coming.{comes_ended}
 use Rattle.seq_arith.specs.Packet.{Segment, has_rst, has_ack}
 use Rattle.server_trait.specs.Service.{Machine, reference}
+use Rattle.seq_arith.specs.Profile.{plain}
+use Rattle.ft_model.proofs.PlainTurns.{plain_resends}
+use Rattle.ft_model.proofs.Profiles.{live_keeps}
 use Rattle.ft_model.specs.Growth.{IsPrefix}
 use Rattle.ft_model.specs.Offset.{one_if, first_of, ack_of, text_of, fin_of}
 use Rattle.ft_model.specs.Point.{Point, answered_run, released, target, receive_edge, HoldsBehind}
@@ -313,9 +316,10 @@ outlives service server boot u i delta news p q calls e sent st l reads =
         acknowledged = una_sent;
         all_sent = sent_all;
         still = l.rest ∙ rest_stops service news p q syn_acked una_sent sent_all;
+        profile = live_keeps service plain server boot news p q sent st.profile l;
       };
       silent = ap (passed delta q) (closed_answers_law inner calls e st.name st.reset_reply) ∙ refusals_stay delta q e.local inner;
       syn_acked = st.syn_acked;
       taken = λ j. length (taken j) + one_if ((fin ∙ sym over.0) j);
-      segments = quiet_sends service server news p q (record { opens = opens_not news p over.0 st.syn_acked; expires = still_p; third = third; past = past });
+      segments = quiet_sends service server news p q (record { opens = opens_not news p over.0 st.syn_acked; expires = still_p; again = plain_resends news p st.profile.recovers ∙ third; past = past });
     }

@@ -11,7 +11,7 @@ use Rattle.ft_model.specs.News.{News}
 use Rattle.ft_model.specs.News.News.{Comes, Logged, Ticks, Begins}
 use Rattle.ft_model.specs.Offset.{text_of, fin_of}
 use Rattle.ft_model.specs.PendingAck.{is_ack_pending}
-use Rattle.ft_model.specs.Sending.{acknowledges, acknowledged_by, window_by, acknowledged_after, is_duplicate, is_third_duplicate, sent_at_once}
+use Rattle.ft_model.specs.Sending.{acknowledges, acknowledged_by, window_by, acknowledged_after, is_duplicate, is_third_duplicate, sent_at_once, resends}
 use Rattle.ft_model.specs.Timer.{expires}
 use Rattle.ft_model.specs.Segments.{syn_ack, opens_with, full_segments, segments_of, resent, new_texts, new_fin, new_length, texts, bare_segment, or_bare, fin_if_closed, is_unacknowledged, first_unacknowledged, probe}
 use Rattle.connection_laws.specs.ClosedTcp.{SendsAlone}
@@ -19,7 +19,7 @@ use Rattle.connection_laws.specs.ClosedTcp.{SendsAlone}
 pub record IsQuiet {State : Type 0} (service : Machine State) (news : News) (p q : Point) : Type 0 where
   pub opens : opens_with news p ≡ false
   pub expires : expires news p ≡ false
-  pub third : is_third_duplicate news p ≡ false
+  pub again : resends news p ≡ false
   pub past : released service q + 1 ≤ p.sent
 
 -- where all that was sent is acknowledged after the turn, no duplicate comes in it
@@ -58,7 +58,7 @@ nothing_full service server news p q h =
     let fin : (nat_lt (released service q) (sent_at_once service p q) && nat_le p.sent (released service q)) ≡ false =
     and_right (nat_lt (released service q) (sent_at_once service p q)) (nat_le p.sent (released service q)) (past_it (released service q) p.sent h.past) in
     λ j. (if h.opens j then syn_ack server q ∷ [] else [])
-    ++ ((if h.expires j || h.third j then (if is_unacknowledged p q then first_unacknowledged service server p q else probe service server p q) else [])
+    ++ ((if h.expires j || h.again j then (if is_unacknowledged p q then first_unacknowledged service server p q else probe service server p q) else [])
     ++ (texts service server q (long j) p.sent (long j) ++ (if fin j then fin_if_closed service server q else [])))
 
 pub quiet_sends : {State : Type 0} (service : Machine State) (server : Addr) (news : News) (p q : Point) → IsQuiet service news p q → SendsAlone service server news p q

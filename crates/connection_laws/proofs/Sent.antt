@@ -7,6 +7,7 @@ use Rattle.ft_io.specs.declared.Addr.{Addr}
 use Rattle.seq_arith.specs.Arrival.{int_eq}
 use Rattle.seq_arith.specs.Packet.{Segment, has_syn, has_rst, has_ack}
 use Rattle.server_trait.specs.Service.{Machine}
+use Rattle.ft_model.proofs.PlainTurns.{plain_resends, due_is_pending}
 use Rattle.ft_model.specs.Offset.{first_of, ack_of, length_of}
 use Rattle.ft_model.specs.Point.{Point, taken_units, most, advertised_edge, released}
 use Rattle.ft_model.specs.Point as point
@@ -18,7 +19,7 @@ use Rattle.ft_model.specs.Taken.{accepts, uses, acknowledges_unsent, counts, tak
 use Rattle.ft_model.specs.PendingAck.{is_refused, is_unsent_ack, needs_ack, asks}
 use Rattle.ft_model.specs.PendingAck as outer
 use Rattle.ft_model.specs.Reads.{MakesReads, next_length, may_read}
-use Rattle.ft_model.specs.Sending.{edge_after, is_third_duplicate, sent_at_once, syn_acked_after}
+use Rattle.ft_model.specs.Sending.{edge_after, is_third_duplicate, sent_at_once, syn_acked_after, resends}
 use Rattle.ft_model.specs.Segments.{texts, new_length, fin_if_closed}
 use Rattle.ft_model.specs.Refusal.{rst_at_ack}
 use Rattle.ft_model.specs.Opening.{is_syn}
@@ -100,14 +101,15 @@ usually : {State : Type 0} (service : Machine State) (server : Addr) (news inner
     → (news_needs_ack inner (inside u i p) || asks_besides service news p) ≡ asks service news p
     → leaves service server news p q (passed delta q (segments_by_laws (swallowing u service) server inner (inside u i p) (inside u i q)))
     ≡ segments_of service server news p q
-unfolding segments_of full_segments outer.is_ack_pending
+unfolding segments_of full_segments outer.is_ack_due
 usually service server news inner p q u i delta above s none opens asked =
     let bare : Segment = bare_segment server q in
     let b : Bool = needs_ack_besides service news p q in
     let o : Bool = is_ack_pending inner (inside u i p) (inside u i q) in
     let ack_pending : (o || b) ≡ outer.is_ack_pending service news p q =
     or_five (news_needs_ack inner (inside u i p)) (not (taken_units p == taken_units q)) (not (advertised_edge p == advertised_edge q)) (asks_besides service news p) (nat_lt p.answered q.answered)
-    ∙ ap (λ a. a || nat_lt p.answered q.answered || not (taken_units p == taken_units q) || not (advertised_edge p == advertised_edge q)) asked in
+    ∙ ap (λ a. a || nat_lt p.answered q.answered || not (taken_units p == taken_units q) || not (advertised_edge p == advertised_edge q)) asked
+    ∙ sym (due_is_pending service news p q s.delays) in
     (λ j. or_bare b bare ((if opens j then syn_ack server q ∷ [] else [])
     ++ passed delta q (or_bare o (bare_segment server (inside u i q)) (none j ++ full (swallowing u service) server inner (inside u i p) (inside u i q)))))
     ∙ ap (or_bare b bare) (passed_is service server news inner p q u i delta o above s)
@@ -244,7 +246,7 @@ refused : {State : Type 0} (service : Machine State) (server : Addr) (boot : ℕ
     → GoesOn u i delta p → refuses p segment ≡ true → refuses (inside u i p) inner ≡ true → LiveTurn service server boot (Comes segment) p q sent
     → leaves service server (Comes segment) p q (passed delta q (segments_by_laws (swallowing u service) server (Comes inner) (inside u i p) (inside u i q)))
     ≡ segments_of service server (Comes segment) p q
-unfolding segments_of full_segments outer.is_ack_pending resent new_texts new_fin sent_at_once
+unfolding segments_of full_segments outer.is_ack_due resent new_texts new_fin sent_at_once
 refused service server boot segment inner p q sent u i delta g r s l =
     let t : IsRefused p q segment = refused_turn service server boot segment p q sent u i delta g r l in
     let once : sent_at_once service p q ≡ 0 = (λ j. max (t.sent j) (min (point.target service q) (min (t.edge j) (q.una + q.congestion.cwnd))))
@@ -252,12 +254,14 @@ refused service server boot segment inner p q sent u i delta g r s l =
     let long : new_length service p q ≡ 0 = (λ j. min (once j) (released service q) - t.sent j) ∙ nothing_long (released service q) in
     let rose : nat_lt p.answered q.answered ≡ false = ap (nat_lt p.answered) t.answered ∙ not_less_itself p.answered in
     let besides : needs_ack_besides service (Comes segment) p q ≡ false = λ j. (t.fin j && nat_lt (released service p) p.una && not (has_rst segment)) || rose j in
+    let again : resends (Comes segment) p ≡ false = plain_resends (Comes segment) p g.profile.recovers ∙ t.third in
     let rest : full service server (Comes segment) p q ≡ [] =
-    (λ j. (if t.third j then (if is_unacknowledged p q then first_unacknowledged service server p q else probe service server p q) else [])
+    (λ j. (if again j then (if is_unacknowledged p q then first_unacknowledged service server p q else probe service server p q) else [])
     ++ (texts service server q (long j) p.sent (long j) ++ (if nat_lt (released service q) (once j) && nat_le p.sent (released service q) then fin_if_closed service server q else [])))
     ∙ (λ j. if never (released service q) j && nat_le p.sent (released service q) then fin_if_closed service server q else []) in
     let ack_pending : outer.is_ack_pending service (Comes segment) p q ≡ false =
-    (λ j. ((t.ack_pending j || (t.fin j && nat_lt (released service p) p.una && not (has_rst segment))) || rose j || not (taken_units p == taken_units q)) || not (advertised_edge p == advertised_edge q)) ∙ t.new in
+    due_is_pending service (Comes segment) p q g.profile.delays
+    ∙ (λ j. ((t.ack_pending j || (t.fin j && nat_lt (released service p) p.una && not (has_rst segment))) || rose j || not (taken_units p == taken_units q)) || not (advertised_edge p == advertised_edge q)) ∙ t.new in
     (λ j. or_bare (besides j) (bare_segment server q) ((if t.opens j then syn_ack server q ∷ [] else [])
     ++ passed delta q (or_bare (is_ack_pending (Comes inner) (inside u i p) (inside u i q)) (bare_segment server (inside u i q))
     ((if s j then rst_at_ack server inner ∷ [] else []) ++ full (swallowing u service) server (Comes inner) (inside u i p) (inside u i q)))))
@@ -277,7 +281,9 @@ sends service server boot news p q sent u i delta t before after = record {
   shift = after.shift;
   sisn = after.sisn;
   expires = (moves_inside_all u i delta p news before t.fits).expires;
-  third = (moves_inside_all u i delta p news before t.fits).third;
+  again = plain_resends (news_inside delta p news) (inside u i p) before.profile.recovers ∙ (moves_inside_all u i delta p news before t.fits).third
+      ∙ sym (plain_resends news p before.profile.recovers);
+  delays = before.profile.delays;
   sent = omega (arith, before.una, before.order);
   una = after.una;
   edge = after.edge;

@@ -12,6 +12,7 @@ use Rattle.tcp_endpoint.specs.ReceiveHalf.{next}
 use Rattle.seq_arith.specs.Packet.{Segment}
 use Rattle.seq_arith.proofs.Shifts.{offset_of_number}
 use Rattle.server_trait.specs.Service.{Machine}
+use Rattle.seq_arith.specs.Profile.{plain}
 use Rattle.ft_model.specs.Offset.{one_if, first_of, ack_of}
 use Rattle.ft_model.specs.Log.{Entry}
 use Rattle.ft_model.specs.Point.{Point, answered_run}
@@ -160,6 +161,7 @@ begun_fresh local e i = record {
   lengths = refl;
   fetched = refl;
   wl1 = λ h. absurd (false≢true h);
+  timing = refl;
   timer = ((λ h. absurd (false≢true h)), (λ h. refl));
 }
 
@@ -174,6 +176,7 @@ acked_fresh local e i = record {
   lengths = refl;
   fetched = refl;
   wl1 = λ h. refl;
+  timing = refl;
   timer = ((λ h. (refl, refl)), (λ h. absurd (false≢true (sym h))));
 }
 
@@ -229,7 +232,7 @@ cut_read f s r a b = omega (arith, a, b)
 
 at_entry : {State : Type 0} (service : Machine State) (local : Addr) (e : Entry) (i : ℕ) (t : Tcb) → GoesOnFrom service e i
     → StandsAt (record (after_forged e.fin (begun_at e.key local e i)) { fin = e.fin; answered = length e.bytes + one_if e.fin }) t
-    → StandsAt (inside (resumed_at service e) i (point_of service e)) t
+    → StandsAt (inside (resumed_at service e) i (point_of service plain e)) t
 at_entry service local e i t g st =
     let u : ℕ = resumed_at service e in
     record {
@@ -252,12 +255,14 @@ at_entry service local e i t g st =
         edge = less_self u ∙ st.sends.edge;
         wl1 = st.sends.wl1;
         wl2 = less_self u ∙ st.sends.wl2;
-        congestion = ap initial_congestion (size_stays e.mss g.least g.most) ∙ st.sends.congestion;
+        congestion = ap (initial_congestion false) (size_stays e.mss g.least g.most) ∙ st.sends.congestion;
       };
       sent = less_self u ∙ st.sent;
       fetched_output = refl;
       interval = st.interval;
       rest = st.rest;
+      timing = st.timing;
+      delays = st.delays;
     }
 
 -- nothing is written yet
@@ -271,10 +276,10 @@ end_none true c una sent len u last off a b = absurd (false≢true (sym off ∙ 
 end_none false c una sent len u last off a b = omega (arith, a, b)
 
 fed_nothing : {State : Type 0} (service : Machine State) (local : Addr) (e : Entry) (i : ℕ) (t : Tcb) → IsBetweenTurns t → IsIdle t.sending → 0 ≡ t.sending.una
-    → Feeds service (resumed_at service e) (point_of service e) (resumed_at service e) t
+    → Feeds service (resumed_at service e) (point_of service plain e) (resumed_at service e) t
 fed_nothing service local e i t between idle una =
     let u : ℕ = resumed_at service e in
-    let output : List ℕ = (answered_run service (point_of service e)).output in
+    let output : List ℕ = (answered_run service (point_of service plain e)).output in
     let whole_output : output ≡ (run_of service e).output = ap (λ l. (reference service e.bytes l).output) (take_all (length e.lengths) e.lengths (omega arith)) in
     record {
       holds = idle.held ∙ sym (none_left u output) ∙ ap (λ n. drop n (take u output)) (omega (arith, una));
@@ -283,7 +288,7 @@ fed_nothing service local e i t between idle una =
       queued = subst (λ (l : List ℕ). length l ≤ 65535) (sym idle.held) (omega arith);
     }
 
-goes_on_from : {State : Type 0} (service : Machine State) (e : Entry) (i : ℕ) → GoesOnFrom service e i → GoesOn (resumed_at service e) i (delta_from service e i) (point_of service e)
+goes_on_from : {State : Type 0} (service : Machine State) (e : Entry) (i : ℕ) → GoesOnFrom service e i → GoesOn (resumed_at service e) i (delta_from service e i) (point_of service plain e)
 goes_on_from service e i g = record {
   shift = back_again (resumed_at service e) i e.sisn g.i_fits;
   small = g.small;
@@ -295,6 +300,7 @@ goes_on_from service e i g = record {
   sent = omega (arith, g.small);
   edge = omega arith;
   wl2 = omega arith;
+  profile = record { measures = refl; recovers = refl; delays = refl; timing = λ off. refl; lost = λ off. refl };
   syn_unacked = λ h. absurd (false≢true (sym h));
 }
   where
@@ -315,13 +321,13 @@ splices service local e i g =
     }
 
 -- with the north wrapper beside it that was replayed
-pub splices_parts : {S : Type 0} (service : Machine S) (local : Addr) (e : Entry) (i : ℕ) (n : NorthState S) → GoesOnFrom service e i → HasReplayed service (point_of service e) (resumed_at service e) n
-    → PartsStand service (resumed_at service e) i (delta_from service e i) (resumed_at service e) (point_of service e) n (spliced e.key local e.cisn (length e.bytes) e.mss i e.fin)
+pub splices_parts : {S : Type 0} (service : Machine S) (local : Addr) (e : Entry) (i : ℕ) (n : NorthState S) → GoesOnFrom service e i → HasReplayed service (point_of service plain e) (resumed_at service e) n
+    → PartsStand service (resumed_at service e) i (delta_from service e i) (resumed_at service e) (point_of service plain e) n (spliced e.key local e.cisn (length e.bytes) e.mss i e.fin)
 splices_parts service local e i n g replayed =
     let t = splices service local e i g in
     record {
       tcp = inl t.tcp;
-      north = begins_here service (point_of service e) (resumed_at service e) n replayed;
+      north = begins_here service (point_of service plain e) (resumed_at service e) n replayed;
       feeds = t.feeds;
       unreset = refl;
       kept = t.kept;

@@ -4,6 +4,9 @@ use Rattle.std.specs.Prelude.{◌⊎◌, ◌==◌, ◌&&◌, ◌||◌, nat_lt, i
 use Rattle.std.proofs.lemmas.Bool.{false≢true, and_parts}
 use Rattle.ft_io.proofs.Numbers.{equal_of_test}
 use Rattle.server_trait.specs.Service.{Machine}
+use Rattle.seq_arith.specs.Profile.{plain}
+use Rattle.ft_model.proofs.PlainTurns.{plain_resends}
+use Rattle.ft_model.proofs.Profiles.{live_keeps}
 use Rattle.ft_model.specs.Offset.{one_if}
 use Rattle.ft_model.specs.Point.{Point, answered_run, released, target}
 use Rattle.ft_model.specs.Network.{Packet}
@@ -230,6 +233,7 @@ ends_inside service boot u i delta news p q calls e sent st named unreset_p off 
         acknowledged = acknowledged;
         all_sent = all_sent;
         still = t.goes.rest ∙ rest_stops service news p q syn_acked acknowledged all_sent;
+        profile = live_keeps service plain e.local boot news p q sent st.goes_on.profile t.goes;
       };
       silent = end.silent;
       syn_acked = st.stands.sends.syn_acked ∙ opened_by e.sending.syn_acked e.sending.sent st.between.bounds.syn_unacked (omega (arith, e_sent, h.some));
@@ -237,7 +241,7 @@ ends_inside service boot u i delta news p q calls e sent st named unreset_p off 
       segments = quiet_sends service e.local news p q (record {
         opens = opens_not u i delta p e news calls t.later st.begun l.may l.ended;
         expires = expires_not news p at_tick;
-        third = no_third news p (sym t.goes.una ∙ acknowledged ∙ sym before);
+        again = plain_resends news p st.goes_on.profile.recovers ∙ no_third news p (sym t.goes.una ∙ acknowledged ∙ sym before);
         past = omega (arith, past, acknowledged, before);
       });
     }

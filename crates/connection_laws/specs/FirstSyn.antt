@@ -4,6 +4,7 @@ use Rattle.ft_io.specs.declared.Addr.{Addr}
 use Rattle.seq_arith.specs.Message.{Numbers}
 use Rattle.seq_arith.specs.Packet.{Segment}
 use Rattle.server_trait.specs.Service.{Machine}
+use Rattle.seq_arith.specs.Profile.{plain}
 use Rattle.ft_model.specs.News.News.{Comes, Begins}
 use Rattle.ft_model.specs.Opening.{point_opened}
 use Rattle.ft_model.specs.Point.{Point}
@@ -34,5 +35,5 @@ listens_with local numbers = listening local numbers.sisn (2 ^ 24)
 pub record BeginsInside {State : Type 0} (service : Machine State) (local : Addr) (numbers : Numbers) (q : Point) (calls : List Call) : Type 0 where
   pub stands : StandsInside 0 numbers.sisn 0 q (turned (Comes (opened_syn local numbers)) calls (listens_with local numbers))
   pub named : IsNamedRightly (turned (Comes (opened_syn local numbers)) calls (listens_with local numbers))
-  pub segments : passed 0 q (sent_in (Comes (opened_syn local numbers)) calls (listens_with local numbers)) ≡ segments_of service local Begins (point_opened numbers) q
-  pub alone : segments_of service local Begins (point_opened numbers) q ≡ syn_ack local q ∷ []
+  pub segments : passed 0 q (sent_in (Comes (opened_syn local numbers)) calls (listens_with local numbers)) ≡ segments_of service local Begins (point_opened plain numbers) q
+  pub alone : segments_of service local Begins (point_opened plain numbers) q ≡ syn_ack local q ∷ []

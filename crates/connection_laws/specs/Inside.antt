@@ -4,7 +4,9 @@
 use Rattle.std.specs.Prelude.{◌≡◌, ℕ, false, ◌+◌, ◌-◌, ◌%◌, ◌^◌, ◌<◌, ◌≤◌, [], drop, length}
 use Rattle.server_trait.specs.Service.{Machine, Served, Run}
 use Rattle.seq_arith.specs.Coming.{nothing_early}
+use Rattle.seq_arith.specs.Profile.{plain}
 use Rattle.ft_model.specs.Point.{Point, taken_units}
+use Rattle.ft_model.specs.Profiled.{HasProfile}
 
 -- a service's answer to a chunk, where the next `left` bytes of output are swallowed: they were acknowledged before, and TCP doesn't get them
 abbrev pub swallowed : {State : Type 0} → (left : ℕ) → Served State → Served (State × ℕ)
@@ -36,5 +38,6 @@ pub record GoesOn (u i delta : ℕ) (p : Point) : Type 0 where
   pub sent : p.sent ≤ 2 ^ 25 + 1
   pub edge : u ≤ p.edge
   pub wl2 : u ≤ p.wl2
+  pub profile : HasProfile plain p
   -- until an acknowledgement has counted nothing is taken, sent or fetched
   pub syn_unacked : p.syn_acked ≡ false → (u ≡ 0) × (p.sent ≡ 0) × (p.edge ≡ 0) × (p.taken ≡ []) × (p.fin ≡ false) × (p.early ≡ nothing_early) × (p.fetched ≡ 0)

@@ -5,6 +5,7 @@ use Rattle.ft_io.specs.declared.Key.{Key}
 use Rattle.seq_arith.specs.declared.flags.TheConstants.{FIN, SYN, ACK}
 use Rattle.seq_arith.specs.Number.{distance, number_at}
 use Rattle.seq_arith.specs.Packet.{Segment}
+use Rattle.seq_arith.specs.Profile.{plain}
 use Rattle.ft_model.specs.News.News.{Comes}
 use Rattle.server_trait.specs.Service.{Machine}
 use Rattle.ft_model.specs.Log.{Entry}
@@ -61,7 +62,7 @@ delta_from service e i = distance ((e.sisn + resumed_at service e) % 2 ^ 32) i
 
 -- the endpoint is at the point inside that of the entry. Nothing is written to it yet, so it holds nothing of the output
 pub record StandsAtEntry {State : Type 0} (service : Machine State) (e : Entry) (i : ℕ) (t : Tcb) : Type 0 where
-  pub tcp : StandsOpen (resumed_at service e) i (delta_from service e i) (point_of service e) t
-  pub feeds : Feeds service (resumed_at service e) (point_of service e) (resumed_at service e) t
+  pub tcp : StandsOpen (resumed_at service e) i (delta_from service e i) (point_of service plain e) t
+  pub feeds : Feeds service (resumed_at service e) (point_of service plain e) (resumed_at service e) t
   pub kept : t.reset ≡ false
   pub open_still : t.sending.closed ≡ false

@@ -6,6 +6,7 @@ use Rattle.std.proofs.Math.Seq.{drop-append_seam}
 use Rattle.std.proofs.lemmas.List.{length-replicate}
 use Rattle.seq_arith.specs.Coming.{early_from}
 use Rattle.seq_arith.specs.Number.{offset_of}
+use Rattle.seq_arith.specs.Profile.{plain}
 use Rattle.ft_model.specs.Point.{Point, blank_point}
 use Rattle.ft_model.specs.News.{News}
 use Rattle.tcp_endpoint.specs.States.{has_begun}
@@ -22,7 +23,7 @@ ahead e = 2 ^ 24 - e.receiving.limit
 
 -- a point for it: the bytes that are read may have been any
 point_of : Tcb → Point
-point_of e = record (blank_point (record { ip = e.remote.ip; port = e.remote.port }) ((e.receiving.irs + 2 ^ 32 - ahead e) % 2 ^ 32) e.sending.iss e.sending.mss) {
+point_of e = record (blank_point plain (record { ip = e.remote.ip; port = e.remote.port }) ((e.receiving.irs + 2 ^ 32 - ahead e) % 2 ^ 32) e.sending.iss e.sending.mss) {
   fetched = ahead e;
   taken = replicate (e.receiving.read + ahead e) 0 ++ e.receiving.unread;
   fin = e.receiving.fin;
@@ -74,6 +75,8 @@ stands_somewhere e fits between =
       fetched_output = refl;
       interval = refl;
       rest = refl;
+      timing = refl;
+      delays = refl;
     }
 
 pub kept_law : (news : News) (calls : List Call) (e : Tcb) → e.receiving.irs < 2 ^ 32 → has_begun e.name ≡ true → IsBetweenTurns e → IsUsualNews news e

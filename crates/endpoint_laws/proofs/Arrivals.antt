@@ -12,7 +12,8 @@ use Rattle.ft_model.specs.Point.{Point, taken_units}
 use Rattle.ft_model.specs.News.{News}
 use Rattle.ft_model.specs.News.News.{Comes, Logged, Ticks, Begins}
 use Rattle.ft_model.specs.Taken.{taken_after, early_after, fin_after}
-use Rattle.ft_model.specs.Sending.{syn_acked_after, acknowledged_after, edge_after, wl1_after, wl2_after, is_third_duplicate, congestion_after}
+use Rattle.ft_model.specs.Sending.{syn_acked_after, acknowledged_after, edge_after, wl1_after, wl2_after, is_third_duplicate, congestion_after, is_first_expiry}
+use Rattle.ft_model.proofs.PlainTurns.{plain_first_expiry}
 use Rattle.ft_model.specs.Timer as timer
 use Rattle.ft_model.specs.PendingAck as rule
 use Rattle.tcp_endpoint.specs.States.{has_begun}
@@ -321,10 +322,11 @@ ticked_receives p e c r = record { cisn = r.cisn; limit = r.limit; read = r.read
 
 lost_is : (p : Point) (e : Tcb) → StandsAt p e → congestion_ticked e.sending ≡ congestion_after Ticks p
 unfolding congestion_after
-lost_is p e stands = λ i.
+lost_is p e stands =
     let s : SendsAt p e = stands.sends in
+    let first : (e.sending.interval == 1) ≡ is_first_expiry p = ap (λ n. n == 1) (sym stands.interval) ∙ sym (plain_first_expiry p stands.timing) in λ i.
     if sym stands.rest i == 1 && nat_lt (sym s.una i) (sym stands.sent i) && nat_lt (sym s.una i) (sym s.edge i)
-    then with_expiry (sym s.mss i) (sym stands.sent i - sym s.una i) (sym stands.interval i == 1) (sym s.congestion i) else sym s.congestion i
+    then with_expiry (sym s.mss i) (sym stands.sent i - sym s.una i) (first i) (sym s.congestion i) else sym s.congestion i
 
 tick_arrives : (p : Point) (e : Tcb) → IsBetweenTurns e → StandsAt p e → Arrived Ticks p e (after_tick e)
 unfolding after_tick timer_ticked waited taken_after early_after fin_after syn_acked_after acknowledged_after edge_after wl1_after wl2_after congestion_after

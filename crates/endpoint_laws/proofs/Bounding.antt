@@ -9,6 +9,7 @@ use Rattle.seq_arith.specs.Coming.{Came, StandsBehind}
 use Rattle.seq_arith.proofs.Gaps.{offset_leads}
 use Rattle.seq_arith.specs.Congestion.{Congestion, with_new_data, with_duplicate, with_expiry, IsOpen}
 use Rattle.seq_arith.proofs.Congested.{opens, new_data_open, duplicate_open, expiry_open}
+use Rattle.seq_arith.proofs.Unmeasured.{duplicate_recovers}
 use Rattle.seq_arith.specs.Packet.{Segment, segment_size, has_syn, has_rst, has_ack}
 use Rattle.ft_io.specs.declared.Addr.{Addr}
 use Rattle.seq_arith.specs.Offset.{one_if, text_of, fin_of}
@@ -53,7 +54,8 @@ bounded_at_listen local iss limit small = record {
   wl2 = omega arith;
   edge = omega arith;
   reach = omega arith;
-  congestion = opens 536 (omega arith);
+  congestion = opens false 536 (omega arith);
+  recovers = refl;
 }
 
 -- a segment has room for text, whatever the peer's SYN offers
@@ -79,7 +81,8 @@ syn_unacked_irs r s irs mss some syn_unacked b = record {
   wl2 = b.wl2;
   edge = b.edge;
   reach = b.reach;
-  congestion = opens mss some;
+  congestion = opens s.congestion.recovers mss some;
+  recovers = b.recovers;
 }
 
 bounded_if : (b : Bool) (x y : Tcb) → IsBounded x → IsBounded y → IsBounded (if b then x else y)
@@ -139,6 +142,15 @@ by_segment_open : (e : Tcb) (p : Segment) → IsBounded e → IsOpen e.sending.m
 by_segment_open e p b =
     by_ack_open (acknowledges e p && nat_lt e.sending.una (nat_abs (ack_at e p))) (is_duplicate e p) e.sending.mss _ _ e.sending.congestion b.congestion
 
+by_segment_recovers : (e : Tcb) (p : Segment) → IsBounded e → (congestion_by e p).recovers ≡ false
+unfolding with_new_data
+by_segment_recovers e p b =
+    let s : Sending = e.sending in
+    let Plain : Congestion → Type 0 = λ x. x.recovers ≡ false in
+    holds_either_way Plain (acknowledges e p && nat_lt s.una (nat_abs (ack_at e p))) (with_new_data s.mss (nat_abs (ack_at e p) - s.una) s.congestion) _ b.recovers
+    (holds_either_way Plain (is_duplicate e p) (with_duplicate s.mss (s.sent - s.una) s.congestion) s.congestion
+    (duplicate_recovers s.mss (s.sent - s.una) s.congestion ∙ b.recovers) b.recovers)
+
 -- the sending half, for a later acknowledgement
 pub new_within : (una sent : ℕ) (z : ℤ) → una ≤ sent → (if is_new_ack una sent z then nat_abs z else una) ≤ sent
 new_within una sent z h = grind (arith, ints)
@@ -158,11 +170,11 @@ choice_within x y n false p q = q
 pub not_less : (una sent : ℕ) (z : ℤ) → una ≤ (if is_new_ack una sent z then nat_abs z else una)
 not_less una sent z = grind (arith, ints)
 
-later_bounds : (r : Receiving) (s : Sending) (seq window : ℕ) (z : ℤ) (c : Congestion) → Bounds r s → IsOpen s.mss c → IsNearFirst (offset_of r.irs seq)
+later_bounds : (r : Receiving) (s : Sending) (seq window : ℕ) (z : ℤ) (c : Congestion) → Bounds r s → IsOpen s.mss c → c.recovers ≡ false → IsNearFirst (offset_of r.irs seq)
     → seq < 2 ^ 32 → window ≤ 65535 → s.syn_acked ≡ true → (r' : Receiving) → r'.limit ≤ 2 ^ 24 → taken r' ≤ r'.limit → HoldsBehind r' → r'.irs ≡ r.irs
     → Bounds r' (record (acknowledged s seq z window) { congestion = c })
 unfolding acknowledged
-later_bounds r s seq window z c b wide near fits small is_syn_acked r' limit within behind irs =
+later_bounds r s seq window z c b wide same near fits small is_syn_acked r' limit within behind irs =
     let una : ℕ = if is_new_ack s.una s.sent z then nat_abs z else s.una in
     let una_sent : una ≤ s.sent = new_within s.una s.sent z b.order in
     let kept : una + length (if is_new_ack s.una s.sent z then drop (nat_abs z - s.una) s.held else s.held) ≡ max una (s.una + length s.held) =
@@ -185,6 +197,7 @@ later_bounds r s seq window z c b wide near fits small is_syn_acked r' limit wit
       edge = choice_within (nat_abs z + window) s.edge (2 ^ 24 + 2 ^ 16 + 1) (moves_edge s seq z) (λ h. grind (arith, moved h, b.sent)) b.edge;
       reach = choice_within (nat_abs z + window) s.edge (una + 65535) (moves_edge s seq z) (λ h. omega (arith, (moved h).0, small)) (omega (arith, b.reach, not_less s.una s.sent z));
       congestion = wide;
+      recovers = same;
     }
 
 first_bounds : (r : Receiving) (s : Sending) (seq window : ℕ) → Bounds r s → IsNearFirst (offset_of r.irs seq) → seq < 2 ^ 32 → window ≤ 65535 → s.syn_acked ≡ false
@@ -207,6 +220,7 @@ first_bounds r s seq window b near fits small syn_unacked r' limit within behind
       edge = omega (arith, small);
       reach = omega (arith, small);
       congestion = b.congestion;
+      recovers = b.recovers;
     }
 
 pub other_bounds : (r : Receiving) (s : Sending) → Bounds r s → (r' : Receiving) → r'.limit ≤ 2 ^ 24 → taken r' ≤ r'.limit → HoldsBehind r' → r'.irs ≡ r.irs → Bounds r' s
@@ -226,6 +240,7 @@ other_bounds r s b r' limit within behind irs = record {
   edge = b.edge;
   reach = b.reach;
   congestion = b.congestion;
+  recovers = b.recovers;
 }
 
 chosen_bounds : (r : Receiving) (x y z : Sending) (c o : Bool) → (c ≡ true → o ≡ true → Bounds r x) → (c ≡ true → o ≡ false → Bounds r y) → Bounds r z
@@ -242,7 +257,7 @@ bounded_by_segment e p begun b usual =
     let within : taken r' ≤ r'.limit = w.taken b.taken b.early in
     let behind : HoldsBehind r' = w.behind b.early in
     let bounds = chosen_bounds r' _ _ _ (counts e p) e.sending.syn_acked
-    (λ counted h. later_bounds e.receiving e.sending p.head.seq p.head.window (ack_at e p) (congestion_by e p) b (by_segment_open e p b)
+    (λ counted h. later_bounds e.receiving e.sending p.head.seq p.head.window (ack_at e p) (congestion_by e p) b (by_segment_open e p b) (by_segment_recovers e p b)
     (near_of_counts e p b usual counted) usual.seq usual.window h r' limit within behind w.irs)
     (λ counted h. first_bounds e.receiving e.sending p.head.seq p.head.window b (near_of_counts e p b usual counted) usual.seq usual.window h r' limit within behind w.irs)
     (other_bounds e.receiving e.sending b r' limit within behind w.irs) in
@@ -269,6 +284,7 @@ sent_more r s n b flight sent syn_unacked = record {
   edge = b.edge;
   reach = b.reach;
   congestion = b.congestion;
+  recovers = b.recovers;
 }
 
 fin_more : (r : Receiving) (s : Sending) → Bounds r s → s.fin_sent ≡ false → s.syn_acked ≡ true → Bounds r (with_fin_sent s)
@@ -291,11 +307,12 @@ fin_more r s b unsent is_syn_acked =
       edge = b.edge;
       reach = b.reach;
       congestion = b.congestion;
+      recovers = b.recovers;
     }
 
-timer_bounds : (r : Receiving) (s : Sending) (c : Congestion) (interval rest : ℕ) → Bounds r s → IsOpen s.mss c
+timer_bounds : (r : Receiving) (s : Sending) (c : Congestion) (interval rest : ℕ) → Bounds r s → IsOpen s.mss c → c.recovers ≡ false
     → Bounds r (record s { congestion = c; interval = interval; rest = rest })
-timer_bounds r s c interval rest b wide = record {
+timer_bounds r s c interval rest b wide same = record {
   limit = b.limit;
   taken = b.taken;
   early = b.early;
@@ -311,6 +328,7 @@ timer_bounds r s c interval rest b wide = record {
   edge = b.edge;
   reach = b.reach;
   congestion = wide;
+  recovers = same;
 }
 
 bounds_if : (r : Receiving) (b : Bool) (x y : Sending) → (b ≡ true → Bounds r x) → (b ≡ false → Bounds r y) → Bounds r (if b then x else y)
@@ -321,10 +339,15 @@ expired_open : (lost : Bool) (mss flight : ℕ) (first : Bool) (c : Congestion) 
 expired_open true mss flight first c o = expiry_open mss flight first c o
 expired_open false mss flight first c o = o
 
+expired_recovers : (lost : Bool) (mss flight : ℕ) (first : Bool) (c : Congestion) → c.recovers ≡ false → (if lost then with_expiry mss flight first c else c).recovers ≡ false
+unfolding with_expiry
+expired_recovers true mss flight first c o = o
+expired_recovers false mss flight first c o = o
+
 ticked_bounds : (r : Receiving) (s : Sending) → Bounds r s → Bounds r (ticked s)
 ticked_bounds r s b =
-    bounds_if r (expires s) _ _ (λ h. timer_bounds r s _ _ _ b (expired_open (is_lost s) s.mss _ _ s.congestion b.congestion))
-    (λ h. timer_bounds r s _ _ _ b b.congestion)
+    bounds_if r (expires s) _ _ (λ h. timer_bounds r s _ _ _ b (expired_open (is_lost s) s.mss _ _ s.congestion b.congestion) (expired_recovers (is_lost s) s.mss _ _ s.congestion b.recovers))
+    (λ h. timer_bounds r s _ _ _ b b.congestion b.recovers)
 
 pub bounded_by_tick : (e : Tcb) → IsBounded e → IsBounded (after_tick e)
 unfolding after_tick timer_ticked waited
@@ -362,6 +385,7 @@ bounded_by_more e bytes few b =
       edge = b.edge;
       reach = b.reach;
       congestion = b.congestion;
+      recovers = b.recovers;
     }
 
 pub bounded_by_write : (e : Tcb) (bytes : List ℕ) → e.sending.una + length e.sending.held + length bytes ≤ 2 ^ 24 → IsBounded e → IsBounded (after_write e bytes)
@@ -451,7 +475,7 @@ fin_bounds e b =
 
 timed_bounds : (r : Receiving) (s : Sending) (runs : Bool) → Bounds r s → Bounds r (timed runs s)
 timed_bounds r s runs b =
-    bounds_if r runs _ _ (λ h. bounds_if r (s.rest == 0) _ _ (λ k. timer_bounds r s _ _ _ b b.congestion) (λ k. b)) (λ h. timer_bounds r s _ _ _ b b.congestion)
+    bounds_if r runs _ _ (λ h. bounds_if r (s.rest == 0) _ _ (λ k. timer_bounds r s _ _ _ b b.congestion b.recovers) (λ k. b)) (λ h. timer_bounds r s _ _ _ b b.congestion b.recovers)
 
 pub bounded_by_flush : (e : Tcb) → IsBounded e → IsBounded (flushed e)
 unfolding flushed with_turn_ended with_advertised after_full
@@ -488,7 +512,8 @@ answered_bounds r s seq window mss b some fits small syn_unacked =
       wl2 = omega arith;
       edge = omega (arith, small);
       reach = omega (arith, small);
-      congestion = opens mss some;
+      congestion = opens s.congestion.recovers mss some;
+      recovers = b.recovers;
     }
 
 in_syn_sent_bounded : (e : Tcb) (p : Segment) → e.sending.syn_acked ≡ false → IsBounded e → p.head.seq < 2 ^ 32 → p.head.window ≤ 65535 → IsBounded (in_syn_sent e p)

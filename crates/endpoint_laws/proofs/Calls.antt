@@ -260,6 +260,7 @@ bounded_call Closes m may last b = record {
   flight = b.flight;
   written = b.written;
   sent = b.sent;
+  recovers = b.recovers;
   wl1 = b.wl1;
   wl1_fits = b.wl1_fits;
   wl2 = b.wl2;

@@ -52,7 +52,7 @@ retimed iss interval rest s some u = record {
 }
 
 -- no unit of the stream is in flight, so none is lost
-none_lost : (iss : ℕ) (s : Sending) → Unanswered iss s → congestion_expired s ≡ initial_congestion 536
+none_lost : (iss : ℕ) (s : Sending) → Unanswered iss s → congestion_expired s ≡ initial_congestion false 536
 none_lost iss s u = ap congestion_expired u.same
 
 ticked_unanswered : (iss : ℕ) (s : Sending) → Unanswered iss s → Unanswered iss (ticked s)
@@ -357,7 +357,8 @@ unanswered_bounds iss limit interval rest held small written = record {
   wl2 = omega arith;
   edge = omega arith;
   reach = omega arith;
-  congestion = opens 536 (omega arith);
+  congestion = opens false 536 (omega arith);
+  recovers = refl;
 }
 
 bounded_connecting : (iss limit : ℕ) (e : Tcb) → limit ≤ 2 ^ 24 → IsConnecting iss limit e → IsBounded e

@@ -47,7 +47,7 @@ record Opened (local : Addr) (iss limit : ℕ) (syn : Segment) (m : Tcb) : Type 
   sent : m.sending.sent ≡ 0
   edge : m.sending.edge ≡ 0
   wl2 : m.sending.wl2 ≡ 0
-  congestion : m.sending.congestion ≡ initial_congestion (opening.segment_size syn.head.mss)
+  congestion : m.sending.congestion ≡ initial_congestion false (opening.segment_size syn.head.mss)
   fin_sent : m.sending.fin_sent ≡ false
   interval : m.sending.interval ≡ 1
   rest : m.sending.rest ≡ 0
@@ -70,7 +70,7 @@ opened_by_syn e iss limit syn l = record {
   sent = ap (λ (s : Sending). s.sent) l.sending;
   edge = ap (λ (s : Sending). s.edge) l.sending;
   wl2 = ap (λ (s : Sending). s.wl2) l.sending;
-  congestion = refl;
+  congestion = ap (λ (s : Sending). initial_congestion s.congestion.recovers (opening.segment_size syn.head.mss)) l.sending;
   fin_sent = ap (λ (s : Sending). s.fin_sent) l.sending;
   interval = ap (λ (s : Sending). s.interval) l.sending;
   rest = ap (λ (s : Sending). s.rest) l.sending;
@@ -191,6 +191,8 @@ opened_turn local iss limit cisn fetched syn m u o a bounds whole number =
         fetched_output = refl;
         interval = sym interval;
         rest = sym rest;
+        timing = refl;
+        delays = refl;
       },
       syn_ack_leaves p u tells begun (a.retransmission_due ∙ o.retransmission_due) probe (a.reset_reply ∙ o.reset_reply) syn_acked (omega (arith, a.sends.edge, o.edge))
           ∙ ap (λ l. syn_ack l p ∷ []) (a.local ∙ o.local_is),

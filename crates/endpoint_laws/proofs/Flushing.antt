@@ -1,5 +1,5 @@
 -- An endpoint before the flush of a turn that leads from one point of `ft_model` to another.
-use Rattle.std.specs.Prelude.{◌≡◌, ◌-◌, ◌≤◌, Bool, true, ◌&&◌, ◌||◌, not, nat_lt, length}
+use Rattle.std.specs.Prelude.{◌≡◌, ◌-◌, ◌≤◌, Bool, true, false, ◌&&◌, ◌||◌, not, nat_lt, length}
 use Rattle.server_trait.specs.Service.{Machine}
 use Rattle.ft_model.specs.Point.{Point}
 use Rattle.ft_model.specs.News.{News}
@@ -28,5 +28,6 @@ pub record Flushes {State : Type 0} (service : Machine State) (news : News) (bef
   pub sent : before.sent ≡ u.sending.sent
   pub retransmission_due : u.retransmission_due ≡ ((expires news before || is_third_duplicate news before) && waits_for_ack before after)
   pub probe : u.probe ≡ (expires news before && not (waits_for_ack before after))
+  pub plain : before.congestion.recovers ≡ false
   pub third : is_third_duplicate news before ≡ true → waits_for_ack before after ≡ true
   pub reset_reply : reset_reply_out u ≡ refusals u.local news before

@@ -55,7 +55,8 @@ unsent_bounds iss limit held small written = record {
   wl2 = omega arith;
   edge = omega arith;
   reach = omega arith;
-  congestion = opens 536 (omega arith);
+  congestion = opens false 536 (omega arith);
+  recovers = refl;
 }
 
 pub bounded_listening : (iss limit : ℕ) (e : Tcb) → limit ≤ 2 ^ 24 → IsListening iss limit e → IsBounded e

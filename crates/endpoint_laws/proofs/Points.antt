@@ -8,8 +8,8 @@ use Rattle.server_trait.specs.Service.{Machine, reference}
 use Rattle.seq_arith.specs.Offset.{one_if}
 use Rattle.ft_model.specs.Point.{Point, answered_run}
 use Rattle.ft_model.specs.News.{News}
-use Rattle.ft_model.specs.Sending.{sent_at_once, sent_after}
-use Rattle.ft_model.specs.Timer.{must_run, interval_after, rest_after}
+use Rattle.ft_model.specs.Sending.{sent_at_once, sent_after, timing_after}
+use Rattle.ft_model.specs.Timer.{must_run, timing_noted, interval_after, rest_after}
 use Rattle.tcp_endpoint.specs.States.{has_begun}
 use Rattle.tcp_endpoint.specs.SendHalf.{Sending, bytes_end}
 use Rattle.tcp_endpoint.specs.Tcb.{Tcb}
@@ -28,11 +28,12 @@ after_read news before n =
     let p : Point = moved news before
     in record p { answered = length p.taken + one_if p.fin; lengths = n ∷ []; reads_answered = 1 }
 
--- .. what is sent, and the timer's interval ..
+-- .. what is sent, the estimate of the round-trip time, and the timer's interval ..
 abbrev after_sending : {State : Type 0} → Machine State → News → Point → ℕ → Point
 after_sending service news before n =
     let p : Point = after_read news before n
-    in record p { sent = sent_after service news before p; interval = interval_after news before p }
+    in let q : Point = record p { sent = sent_after service news before p; timing = timing_after service news before p }
+    in record q { interval = interval_after news before q }
 
 -- .. and the ticks that are left
 abbrev point_after : {State : Type 0} → Machine State → News → Point → ℕ → Point
@@ -41,9 +42,9 @@ point_after service news before n =
 
 -- it is the point that the laws lead to, whatever the service
 after_meets_laws : {State : Type 0} (service : Machine State) (news : News) (before : Point) (n : ℕ) → MeetsLaws service news before (point_after service news before n)
-unfolding sent_after sent_at_once interval_after rest_after must_run
+unfolding sent_after sent_at_once timing_after timing_noted interval_after rest_after must_run
 after_meets_laws service news before n = record {
-  same = record { key = refl; cisn = refl; sisn = refl; mss = refl; fetched = refl; fetched_output = refl };
+  same = record { key = refl; cisn = refl; sisn = refl; mss = refl; fetched = refl; fetched_output = refl; delays = refl };
   taken = refl;
   fin = refl;
   early = refl;
@@ -54,6 +55,7 @@ after_meets_laws service news before n = record {
   wl2 = refl;
   congestion = refl;
   sent = refl;
+  timing = refl;
   interval = refl;
   rest = refl;
 }

@@ -12,6 +12,7 @@ use Rattle.ft_model.specs.Point.{Point, taken_units, acknowledgement, released, 
 use Rattle.ft_model.specs.Point as point
 use Rattle.ft_model.specs.News.{News}
 use Rattle.ft_model.specs.Timer.{expires}
+use Rattle.ft_model.proofs.PlainTurns.{plain_resends}
 use Rattle.ft_model.specs.Sending as sender
 use Rattle.ft_model.specs.Segments as model
 use Rattle.tcp_endpoint.specs.declared.states.StateName.{StateName}
@@ -264,7 +265,7 @@ head_at_is p u t seq flags =
     let ack : number_at u.receiving.irs (next u.receiving) ≡ number_at p.cisn (acknowledgement p) =
     ack_number p.cisn u.receiving.irs (next u.receiving) p.fetched t.receives.cisn ∙ ap (number_at p.cisn) units in
     let acked : taken_units p ≡ acknowledgement p = least_first (taken_units p) p.answered t.answered in
-    let open_to : window u.receiving ≡ model.window p =
+    let open_to : window u.receiving ≡ point.window p =
     small_window u.receiving ∙ ap (min 65535) (sym (window_is u.receiving) ∙ sym (room_is p u t.receives)) ∙ ap (λ n. min 65535 (point.advertised_edge p - n)) acked in
     λ i. record {
       src = u.local.ip;
@@ -601,12 +602,13 @@ probed_is {service = service} {before = before} {after = after} {u = u} f false 
 
 -- what the laws want of the timer, and of the third duplicate acknowledgement
 resent_by : {State : Type 0} (service : Machine State) (server : Addr) (news : News) (before after : Point) (x t w : Bool)
-    → expires news before ≡ x → sender.is_third_duplicate news before ≡ t → waits_for_ack before after ≡ w
+    → before.congestion.recovers ≡ false → expires news before ≡ x → sender.is_third_duplicate news before ≡ t → waits_for_ack before after ≡ w
     → model.resent service server news before after
     ≡ (if x || t then (if w then model.first_unacknowledged service server before after else model.probe service server before after) else [])
 unfolding model.resent
-resent_by service server news before after x t w expiry third wait = λ i.
-    if expiry i || third i then (if wait i then model.first_unacknowledged service server before after else model.probe service server before after) else []
+resent_by service server news before after x t w plain expiry third wait =
+    let again : sender.resends news before ≡ t = plain_resends news before plain ∙ third in λ i.
+    if expiry i || again i then (if wait i then model.first_unacknowledged service server before after else model.probe service server before after) else []
 
 -- the parts of what leaves, in order
 pub full_out_is : (a b c d e a' r d' e' : List Segment) → a ≡ a' → b ++ c ≡ r → d ≡ d' → e ≡ e' → a ++ b ++ c ++ d ++ e ≡ a' ++ (r ++ (d' ++ e'))
@@ -622,7 +624,7 @@ retransmission_now {service = service} {news = news} {before = before} {after = 
     ∙ (λ i. if sym due i
     then (if sym waits i then model.first_unacknowledged service u.local before after else model.probe service u.local before after)
     else [])
-    ∙ sym (resent_by service u.local news before after x t w expiry third wait)
+    ∙ sym (resent_by service u.local news before after x t w f.plain expiry third wait)
 
 -- a turn without a probe
 retransmission_by : {State : Type 0} {service : Machine State} {news : News} {before after : Point} {u : Tcb} → Flushes service news before after u
@@ -630,7 +632,7 @@ retransmission_by : {State : Type 0} {service : Machine State} {news : News} {be
     → retransmission_out u ≡ model.resent service u.local news before after
 retransmission_by {service = service} {news = news} {before = before} {after = after} {u = u} f false false w expiry third wait unprobed =
     no_retransmission u (f.retransmission_due ∙ (λ i. (expiry i || third i) && waits_for_ack before after))
-    ∙ sym (resent_by service u.local news before after false false w expiry third wait)
+    ∙ sym (resent_by service u.local news before after false false w f.plain expiry third wait)
 retransmission_by {service = service} {news = news} {before = before} {after = after} {u = u} f false true w expiry third wait unprobed =
     retransmission_now f false true w expiry third wait refl (sym wait ∙ f.third third)
 retransmission_by f true t true expiry third wait unprobed = retransmission_now f true t true expiry third wait refl refl
@@ -667,7 +669,7 @@ full_by {service = service} {news = news} {before = before} {after = after} {u =
     (refusals u.local news before) (model.resent service u.local news before after) (model.new_texts service u.local before after) (model.new_fin service u.local before after)
     f.reset_reply
     ((λ i. no_retransmission u retransmission_due i ++ probed_is f (nat_lt (u.sending.sent - u.sending.una) (length u.sending.held)) probe refl i)
-    ∙ sym (resent_by service u.local news before after true t false expiry third wait))
+    ∙ sym (resent_by service u.local news before after true t false f.plain expiry third wait))
     (no_text_out (with_probe u) still ∙ sym (no_new_texts service u.local before after shut_there))
     (no_fin_out (with_probe u) still ∙ sym (no_new_fin service u.local before after shut_there))
 

@@ -4,6 +4,7 @@ use Rattle.std.specs.Prelude.{◌==◌, ◌&&◌, ◌||◌, nat_lt, if◌then◌
 use Rattle.std.proofs.lemmas.Bool.{false≢true, or_parts}
 use Rattle.server_trait.specs.Service.{Machine}
 use Rattle.seq_arith.specs.Packet.{Segment}
+use Rattle.ft_model.proofs.Profiles.{turn_stays}
 use Rattle.ft_model.specs.Point.{Point}
 use Rattle.ft_model.specs.News.{News}
 use Rattle.ft_model.specs.News.News.{Comes, Logged, Ticks, Begins}
@@ -108,11 +109,16 @@ runs_on service news before after e m u t none =
     ∙ goes_on s.syn_acked k.syn_acked s.una k.una s.sent (target s) (target k) must t.arrived.una t.arrived.target parts.1 in
     t.still (runs_used k u.sending t.used.sends on)
 
+-- it starts with one tick
+starts_with_one : {State : Type 0} (service : Machine State) (news : News) (before after : Point) (e m u : Tcb) → Timed service news before after e m u → after.timing.base ≡ 1
+starts_with_one service news before after e m u t = ap (λ x. x.base) (t.laws.timing ∙ turn_stays service news before after t.stands.timing)
+
 -- by the kind of news
 comes_timer : {State : Type 0} (service : Machine State) (segment : Segment) (before after : Point) (e m u : Tcb) → Timed service (Comes segment) before after e m u
     → (after.interval ≡ (flushed u).sending.interval) × (after.rest ≡ (flushed u).sending.rest)
 unfolding timer.interval_after timer.rest_after
 comes_timer service segment before after e m u t =
+    let base : after.timing.base ≡ 1 = starts_with_one service (Comes segment) before after e m u t in
     let anew : Bool = starts e.sending m.sending in
     let r : Bool = is_timed (after_full u) in
     let same : m.sending ≡ (received e segment).sending = ap (λ (x : Tcb). x.sending) t.news_are in
@@ -122,11 +128,11 @@ comes_timer service segment before after e m u t =
     (if r then (if starts e.sending q then 1 else e.sending.rest) else 0) in
     let by : P m.sending = subst P (sym same) law in
     let on : anew ≡ false → r ≡ true = λ h. t.runs ∙ runs_on service (Comes segment) before after e m u t h in (
-      t.laws.interval ∙ (λ i. if starts_is service (Comes segment) before after e m u t i then 1 else t.stands.interval i)
+      t.laws.interval ∙ (λ i. if starts_is service (Comes segment) before after e m u t i then base i else t.stands.interval i)
           ∙ sym (by.interval ∙ interval_when r anew e.sending.interval on),
       t.laws.rest
           ∙ (λ i. if sym t.runs i then (if starts_is service (Comes segment) before after e m u t i || false
-          then (if starts_is service (Comes segment) before after e m u t i then 1 else t.stands.interval i) else t.stands.rest i) else 0)
+          then (if starts_is service (Comes segment) before after e m u t i then base i else t.stands.interval i) else t.stands.rest i) else 0)
           ∙ sym (by.rest ∙ rest_when r anew e.sending.interval e.sending.rest),
     )
 
@@ -134,6 +140,7 @@ tick_timer : {State : Type 0} (service : Machine State) (before after : Point) (
     → (after.interval ≡ (flushed u).sending.interval) × (after.rest ≡ (flushed u).sending.rest)
 unfolding timer.interval_after timer.rest_after syn_acked_after acknowledged_after
 tick_timer service before after e m u t =
+    let base : after.timing.base ≡ 1 = starts_with_one service Ticks before after e m u t in
     let s : Sending = e.sending in
     let r : Bool = is_timed (after_full u) in
     let same : m.sending ≡ (after_tick e).sending = ap (λ (x : Tcb). x.sending) t.news_are in
@@ -143,11 +150,11 @@ tick_timer service before after e m u t =
     (λ i. (t.stands.rest i == 0) || (nat_lt before.una (t.laws.una i) || (t.laws.syn_acked i && not before.syn_acked))) ∙ same_starts (s.rest == 0) before.una before.syn_acked in
     let on : (s.rest == 0) ≡ false → r ≡ true = λ h.
     t.runs ∙ runs_on service Ticks before after e m u t (sym (starts_is service Ticks before after e m u t) ∙ anew ∙ h) in (
-      t.laws.interval ∙ (λ i. if anew i then 1 else (if t.stands.rest i == 1 then min 64 (2 * t.stands.interval i) else t.stands.interval i))
+      t.laws.interval ∙ (λ i. if anew i then base i else (if t.stands.rest i == 1 then min 64 (2 * t.stands.interval i) else t.stands.interval i))
           ∙ sym (by.interval ∙ ticked_interval_when r s.rest s.interval on),
       t.laws.rest
           ∙ (λ i. if sym t.runs i then (if anew i || t.stands.rest i == 1
-          then (if anew i then 1 else (if t.stands.rest i == 1 then min 64 (2 * t.stands.interval i) else t.stands.interval i)) else t.stands.rest i - 1) else 0)
+          then (if anew i then base i else (if t.stands.rest i == 1 then min 64 (2 * t.stands.interval i) else t.stands.interval i)) else t.stands.rest i - 1) else 0)
           ∙ sym (by.rest ∙ ticked_rest_when r s.rest s.interval),
     )
 
@@ -157,6 +164,7 @@ quiet_timer : {State : Type 0} (service : Machine State) (news : News) (before a
     → (after.interval ≡ (flushed u).sending.interval) × (after.rest ≡ (flushed u).sending.rest)
 unfolding timer.interval_after timer.rest_after
 quiet_timer service news before after e m u t same still syn_acked una =
+    let base : after.timing.base ≡ 1 = starts_with_one service news before after e m u t in
     let s : Sending = e.sending in
     let r : Bool = is_timed (after_full u) in
     let by = flushed_timer u s.interval s.rest (t.used.sends.interval ∙ ap (λ (x : Tcb). x.sending.interval) same) (t.used.sends.rest ∙ ap (λ (x : Tcb). x.sending.rest) same) in
@@ -165,11 +173,11 @@ quiet_timer service news before after e m u t same still syn_acked una =
     ∙ same_starts (s.rest == 0) before.una before.syn_acked in
     let on : (s.rest == 0) ≡ false → r ≡ true = λ h.
     t.runs ∙ runs_on service news before after e m u t (sym (starts_is service news before after e m u t) ∙ anew ∙ h) in (
-      t.laws.interval ∙ (λ i. if anew i then 1 else (if still i && before.rest == 1 then min 64 (2 * before.interval) else t.stands.interval i))
+      t.laws.interval ∙ (λ i. if anew i then base i else (if still i && before.rest == 1 then min 64 (2 * before.interval) else t.stands.interval i))
           ∙ sym (by.interval ∙ interval_when r (s.rest == 0) s.interval on),
       t.laws.rest
           ∙ (λ i. if sym t.runs i then (if anew i || (still i && before.rest == 1)
-          then (if anew i then 1 else (if still i && before.rest == 1 then min 64 (2 * before.interval) else t.stands.interval i)) else (if still i then before.rest - 1 else t.stands.rest i)) else 0)
+          then (if anew i then base i else (if still i && before.rest == 1 then min 64 (2 * before.interval) else t.stands.interval i)) else (if still i then before.rest - 1 else t.stands.rest i)) else 0)
           ∙ sym (by.rest ∙ rest_when r (s.rest == 0) s.interval s.rest),
     )
 

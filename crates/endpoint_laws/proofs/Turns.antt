@@ -1,5 +1,5 @@
 -- A turn leads from the point at which an endpoint stands to the point that the laws lead to.
-use Rattle.std.proofs.Common.{◌≡◌, ℕ, ◌≤◌, ◌+◌, ◌*◌, ◌%◌, ◌^◌, Bool, true, false, not, List, [], ◌∷◌, ◌++◌, length, drop, max, min, refl, sym, ap, arith, ◌∙◌}
+use Rattle.std.proofs.Common.{◌≡◌, ℕ, ◌≤◌, ◌+◌, ◌*◌, ◌%◌, ◌^◌, Bool, true, false, not, List, [], ◌∷◌, ◌++◌, length, drop, max, min, refl, sym, ap, subst, arith, ◌∙◌}
 use Rattle.std.specs.Prelude.{pos, ◌+ℤ◌, ◌==◌, ◌&&◌, ◌||◌, nat_lt, if◌then◌else◌}
 use Rattle.std.proofs.lemmas.Bool.{false≢true, and_parts}
 use Rattle.ft_io.specs.declared.Addr.{Addr}
@@ -7,10 +7,13 @@ use Rattle.ft_io.proofs.Booleans.{left_true, right_true, or_false, or_true}
 use Rattle.seq_arith.specs.Coming.{early_from}
 use Rattle.seq_arith.specs.Number.{offset_of}
 use Rattle.seq_arith.specs.Packet.{Segment}
+use Rattle.seq_arith.specs.Timing.{initial_timing}
 use Rattle.server_trait.specs.Service.{Machine}
 use Rattle.seq_arith.specs.Arrival.{una_after}
 use Rattle.seq_arith.specs.Congestion.{is_third}
 use Rattle.seq_arith.specs.Offset.{one_if, text_of, fin_of}
+use Rattle.ft_model.proofs.PlainTurns.{plain_interval}
+use Rattle.ft_model.proofs.Profiles.{turn_stays}
 use Rattle.ft_model.specs.News.{News}
 use Rattle.ft_model.specs.News.News.{Comes, Logged, Ticks, Begins}
 use Rattle.ft_model.specs.Point.{Point, taken_units, advertised_edge}
@@ -108,10 +111,10 @@ either_waits true false w h = sym (or_false w)
 either_waits false true w h = sym (h refl)
 either_waits false false w h = refl
 
-flushes : {State : Type 0} (service : Machine State) (news : News) (before after : Point) (e m u : Tcb) → StandsAt before e → Arrived news before e m → IsUsed m u
+flushes : {State : Type 0} (service : Machine State) (news : News) (before after : Point) (e m u : Tcb) → StandsAt before e → e.sending.congestion.recovers ≡ false → Arrived news before e m → IsUsed m u
     → IsBounded u → has_begun u.name ≡ true → MeetsLaws service news before after → IsUsedAt service after u → Flushes service news before after u
 unfolding reset_reply_out
-flushes service news before after e m u stands came a bounds begun laws user = record {
+flushes service news before after e m u stands plain came a bounds begun laws user = record {
   begun = begun;
   bounds = bounds;
   probes = probes_used m u a came.probes;
@@ -125,6 +128,7 @@ flushes service news before after e m u stands came a bounds begun laws user = r
   retransmission_due = a.retransmission_due ∙ came.retransmission_due ∙ ap (λ b. b || is_third_duplicate news before) (waits_is service news before after e stands laws (λ w. w))
       ∙ either_waits (timer.expires news before) (is_third_duplicate news before) (waits_for_ack before after) (third_waits service news before after laws);
   probe = a.probe ∙ came.probe ∙ waits_is service news before after e stands laws not;
+  plain = ap (λ c. c.recovers) stands.sends.congestion ∙ plain;
   third = third_waits service news before after laws;
   reset_reply = ap left.reset_reply_segments a.reset_reply ∙ came.reset_reply ∙ ap (λ l. refusals l news before) (sym (a.local ∙ came.local));
 }
@@ -185,9 +189,9 @@ some_interval true expired n some = omega arith
 some_interval false true n some = omega (arith, some)
 some_interval false false n some = some
 
-interval_is_some : (news : News) (before after : Point) → 1 ≤ before.interval → 1 ≤ timer.interval_after news before after
-unfolding timer.interval_after
-interval_is_some news before after some = some_interval (timer.is_set_anew before after) (timer.expires news before) before.interval some
+interval_is_some : (news : News) (before after : Point) → after.timing ≡ initial_timing false → 1 ≤ before.interval → 1 ≤ timer.interval_after news before after
+interval_is_some news before after plain some =
+    subst (λ n. 1 ≤ n) (sym (plain_interval news before after plain)) (some_interval (timer.is_set_anew before after) (timer.expires news before) before.interval some)
 
 -- between two turns again
 pub between_again : (u : Tcb) → has_begun u.name ≡ true → IsBounded u → ProbesRightly u → FinIsLast u.sending → 1 ≤ (flushed u).sending.interval → IsBetweenTurns (flushed u)
@@ -217,7 +221,7 @@ turn_leads : {State : Type 0} (service : Machine State) (news : News) (before af
     → IsUsualNews news e → m ≡ arrived news e → Arrived news before e m → IsUsed m u → IsBounded u → has_begun u.name ≡ true → MeetsLaws service news before after
     → IsUsedAt service after u → IsBetweenTurns (flushed u) × StandsAt after (flushed u) × (leaving u ≡ segments_by_laws service e.local news before after)
 turn_leads service news before after e m u begun between stands usual news_are came a bounds begun_after laws user =
-    let f : Flushes service news before after u = flushes service news before after e m u stands came a bounds begun_after laws user in
+    let f : Flushes service news before after u = flushes service news before after e m u stands between.bounds.recovers came a bounds begun_after laws user in
     let sent : after.sent ≡ (flushed u).sending.sent = sent_is service news before after e m u stands came a laws f in
     let sent_full : after.sent ≡ (after_full u).sending.sent = sent ∙ flushed_sent u in
     let t : Timed service news before after e m u = record {
@@ -236,7 +240,7 @@ turn_leads service news before after e m u begun between stands usual news_are c
     } in
     let timed = timer_at service news before after e m u t in
     let some : 1 ≤ (flushed u).sending.interval =
-    omega (arith, interval_is_some news before after (omega (arith, between.interval, stands.interval)), laws.interval, timed.0) in (
+    omega (arith, interval_is_some news before after (laws.timing ∙ turn_stays service news before after stands.timing) (omega (arith, between.interval, stands.interval)), laws.interval, timed.0) in (
       between_again u begun_after bounds f.probes f.fin_last some,
       record {
         ip = f.ip ∙ ap (λ (r : Addr). r.ip) (sym (flushed_remote u));
@@ -247,6 +251,8 @@ turn_leads service news before after e m u begun between stands usual news_are c
         fetched_output = laws.same.fetched_output ∙ stands.fetched_output;
         interval = timed.0;
         rest = timed.1;
+        timing = laws.timing ∙ turn_stays service news before after stands.timing;
+        delays = laws.same.delays ∙ stands.delays;
       },
       segments_are service news before after e m u f sent_full (a.local ∙ came.local)
           (λ none. asks_is service news before after e m u between stands came a laws f.receives

@@ -113,6 +113,7 @@ pub record Bounds (r : Receiving) (s : Sending) : Type 0 where
   pub edge : s.edge ≤ 2 ^ 24 + 2 ^ 16 + 1
   pub reach : s.edge ≤ s.una + 65535
   pub congestion : IsOpen s.mss s.congestion
+  pub recovers : s.congestion.recovers ≡ false
 
 abbrev pub IsBounded : Tcb → Type 0
 IsBounded e = Bounds e.receiving e.sending

@@ -7,6 +7,8 @@ use Rattle.ft_io.specs.declared.Addr.{Addr}
 use Rattle.seq_arith.specs.Coming.{early_from}
 use Rattle.seq_arith.specs.Number.{offset_of}
 use Rattle.seq_arith.specs.Packet.{Segment, has_syn, has_rst}
+use Rattle.seq_arith.specs.Profile.{plain}
+use Rattle.seq_arith.specs.Timing.{initial_timing}
 use Rattle.seq_arith.specs.Message.{Numbers}
 use Rattle.server_trait.specs.Service.{Machine}
 use Rattle.ft_model.specs.Point.{Point, taken_units, advertised_edge, answered_run, released}
@@ -16,7 +18,7 @@ use Rattle.ft_model.specs.Network.{source_of}
 use Rattle.ft_model.specs.Opening.{segment_size, point_opened}
 use Rattle.ft_model.specs.Connection.{IsSameConnection}
 use Rattle.ft_model.specs.Taken.{accepts, taken_after, early_after, fin_after}
-use Rattle.ft_model.specs.Sending.{syn_acked_after, acknowledged_after, edge_after, wl1_after, wl2_after, congestion_after, sent_after}
+use Rattle.ft_model.specs.Sending.{syn_acked_after, acknowledged_after, edge_after, wl1_after, wl2_after, congestion_after, sent_after, timing_after}
 use Rattle.ft_model.specs.Timer.{interval_after, rest_after}
 use Rattle.ft_model.specs.PendingAck.{is_refused, needs_ack}
 use Rattle.ft_model.specs.Refusal.{rst_at_ack}
@@ -60,6 +62,8 @@ pub record StandsAt (p : Point) (e : Tcb) : Type 0 where
   pub fetched_output : p.fetched_output ≡ 0  -- TCP knows of no earlier incarnation
   pub interval : p.interval ≡ e.sending.interval
   pub rest : p.rest ≡ e.sending.rest
+  pub timing : p.timing ≡ initial_timing false
+  pub delays : p.delays ≡ false
 
 -- all output of a service is written, and the user has closed exactly if the service has
 pub record HasWrittenAll {State : Type 0} (service : Machine State) (p : Point) (s : Sending) : Type 0 where
@@ -93,6 +97,7 @@ pub record MeetsLaws {State : Type 0} (service : Machine State) (news : News) (b
   pub wl2 : after.wl2 ≡ wl2_after news before
   pub congestion : after.congestion ≡ congestion_after news before
   pub sent : after.sent ≡ sent_after service news before after
+  pub timing : after.timing ≡ timing_after service news before after
   pub interval : after.interval ≡ interval_after news before after
   pub rest : after.rest ≡ rest_after service news before after
 
@@ -121,9 +126,9 @@ segments_by_laws service server news before after =
     or_bare (is_ack_pending news before after) (bare_segment server after)
     (refusals server news before ++ (resent service server news before after ++ (new_texts service server before after ++ new_fin service server before after)))
 
--- the point of an endpoint that a SYN has opened, after these fetched bytes: the model's new connection, with its timer running
+-- the point of an endpoint that a SYN has opened, after these fetched bytes: the model's new connection of a plain server, with its timer running
 abbrev pub point_begun : (fetched : List ℕ) → Numbers → Point
-point_begun fetched numbers = record (point_opened numbers) { fetched = length fetched; taken = fetched; answered = length fetched; rest = 1 }
+point_begun fetched numbers = record (point_opened plain numbers) { fetched = length fetched; taken = fetched; answered = length fetched; rest = 1 }
 
 -- the numbers of a connection whose peer has this initial sequence number, once its SYN has arrived
 abbrev pub numbers_with : (cisn sisn : ℕ) → Segment → Numbers

@@ -214,11 +214,11 @@ older_agree top logged boot entries less (To_client segment) h = tt
 older_agree top logged boot entries less (To_logger message) h = tt
 
 booted_asked : (w : World) (boot isn : ℕ) → IsFenced w → IsAsked w → w.boot < boot
-    → IsAsked (record w { boot = boot; node = Some (booted w.server boot isn); packets = w.packets ++ hello (booted w.server boot isn) })
+    → IsAsked (record w { boot = boot; node = Some (booted w.server w.profile boot isn); packets = w.packets ++ hello (booted w.server w.profile boot isn) })
 booted_asked w boot isn f a larger = record {
   distinct = a.distinct;
-  node = λ x g. subst (λ y. is_restarting y.stage ≡ true → IsAskedNode (record w { boot = boot; node = Some (booted w.server boot isn); packets = w.packets ++ hello (booted w.server boot isn) }) y)
-      (some_is (booted w.server boot isn) x g)
+  node = λ x g. subst (λ y. is_restarting y.stage ≡ true → IsAskedNode (record w { boot = boot; node = Some (booted w.server w.profile boot isn); packets = w.packets ++ hello (booted w.server w.profile boot isn) }) y)
+      (some_is (booted w.server w.profile boot isn) x g)
       (λ r. record {
         packets = all_append (Agrees boot w.log.entries) w.packets _
             (all_weaker (HasBoot w.boot w.log.boot) (Agrees boot w.log.entries) w.packets (older_agree w.boot w.log.boot boot w.log.entries larger) f.packets) (tt, tt);
@@ -237,7 +237,7 @@ asked_goes_on service before sent after f a (client_moved number m) =
 asked_goes_on service before sent after f a (server_turned input node later brought is turn e) =
     subst IsAsked (sym e) (turned_asked service before node later input sent a is brought turn)
 asked_goes_on service before sent after f a (server_booted boot isn down larger s e) =
-    subst IsAsked (sym (e ∙ ap (λ x. record before { boot = boot; node = Some (booted before.server boot isn); packets = before.packets ++ x }) s))
+    subst IsAsked (sym (e ∙ ap (λ x. record before { boot = boot; node = Some (booted before.server before.profile boot isn); packets = before.packets ++ x }) s))
     (booted_asked before boot isn f a larger.0)
 asked_goes_on service before sent after f a (server_down s e) =
     subst IsAsked (sym e) (record { distinct = a.distinct; node = λ x g r. none_is_some x g })

@@ -3,6 +3,7 @@ use Rattle.std.proofs.Common.{append-nil, le_trans, sum, ◌≡◌, ℕ, ◌≤�
 use Rattle.std.specs.List.{AllByRecursion}
 use Rattle.ft_io.specs.declared.Key.{Key}
 use Rattle.ft_io.specs.Key.{key_eq}
+use Rattle.seq_arith.specs.Profile.{Profile}
 use Rattle.server_trait.specs.Service.{Machine}
 use Rattle.ft_model.specs.Log.{Log, Entry, entry_of, opened}
 use Rattle.ft_model.specs.Network.{Packet}
@@ -38,19 +39,19 @@ use Rattle.ft_model.proofs.Services.{reads_go_on, prefix_length}
 use Rattle.ft_model.proofs.AuthorTurns.{settles, is_settled, settled_goes_on, one_settled, Before, After, all_go_then, connection_after, OnlySettled, TurnRuns, runs_after, new_author}
 
 -- the points of the log's entries, by what is logged
-points_run : {State : Type 0} (service : Machine State) (script author : Key → List ℕ) (isn : Key → ℕ) (log : Log) → ((k : Key) → length (script k) ≤ 2 ^ 24) → AreDistinct (entry_keys log)
+points_run : {State : Type 0} (service : Machine State) (profile : Profile) (script author : Key → List ℕ) (isn : Key → ℕ) (log : Log) → ((k : Key) → length (script k) ≤ 2 ^ 24) → AreDistinct (entry_keys log)
     → EntriesFit script isn log.entries → AllByRecursion (λ e. IsPrefix e.lengths (author e.key) × (sum e.lengths ≤ length e.bytes)) log.entries
     → ((key : Key) → length (reference service (script key) (author key)).output ≤ 2 ^ 24)
-    → AllByRecursion (λ e. Before service script isn (λ key. logged_lengths key log) log (Lives (point_of service e))) log.entries
-points_run service script author isn log scripts d fits fronts short =
-    all_from_get (λ e. Before service script isn (λ key. logged_lengths key log) log (Lives (point_of service e))) log.entries
+    → AllByRecursion (λ e. Before service script isn (λ key. logged_lengths key log) log (Lives (point_of service profile e))) log.entries
+points_run service profile script author isn log scripts d fits fronts short =
+    all_from_get (λ e. Before service script isn (λ key. logged_lengths key log) log (Lives (point_of service profile e))) log.entries
     (λ i e at. let f = all_slice_get (λ x. EntryFits (script x.key) (isn x.key) x) log.entries i e fits at in
     let g = all_slice_get (λ x. IsPrefix x.lengths (author x.key) × (sum x.lengths ≤ length x.bytes)) log.entries i e fronts at in
-    let place = all_slice_get (λ x. PlaceFits script isn log (Lives (point_of service x))) log.entries i e (points_fit service script isn log scripts d fits) at in
+    let place = all_slice_get (λ x. PlaceFits script isn log (Lives (point_of service profile x))) log.entries i e (points_fit service profile script isn log scripts d fits) at in
     let found : entry_of e.key log ≡ Some e = finds_itself (λ x. x.key) log.entries i e d at in
     let small : length (reference service (script e.key) e.lengths).output ≤ 2 ^ 24 =
     le_trans (prefix_length _ _ (reads_go_on service (script e.key) e.lengths (author e.key) g.0).output) (short e.key) in
-    (place, entry_runs service script (λ key. logged_lengths key log) e f.front g.1 small (ap lengths_in found)))
+    (place, entry_runs service profile script (λ key. logged_lengths key log) e f.front g.1 small (ap lengths_in found)))
 
 revive_runs : {State : Type 0} (service : Machine State) (script old author : Key → List ℕ) (isn : Key → ℕ) (log : Log) (node : Node) → HasSmallOutputs service
     → ((k : Key) → length (script k) ≤ 2 ^ 24) → EntriesFit script isn log.entries → ((key : Key) → IsPrefix (logged_lengths key log) (old key))
@@ -81,17 +82,17 @@ settled_keys key (Lives p ∷ places) a = ap (λ b. key_eq p.key key || b) (sett
 settled_keys key (Ended k ∷ places) a = ap (λ b. key_eq k key || b) (settled_keys key places a.1)
 settled_keys key (Opens n ∷ places) a = absurd a.0
 
-logged_settled : {State : Type 0} (service : Machine State) (log : Log) (fetched : List Fetched) (key : Key) (o : Option Entry) → entry_of key log ≡ o
+logged_settled : {State : Type 0} (service : Machine State) (profile : Profile) (log : Log) (fetched : List Fetched) (key : Key) (o : Option Entry) → entry_of key log ≡ o
     → AreFetched log.entries fetched → AllByRecursion IsWhole fetched → length log.entries ≤ length fetched
-    → (lengths_in o ≡ []) ⊎ (is_settled key (all_restored service fetched) ≡ true)
-logged_settled service log fetched key None found a w all = inl refl
-logged_settled service log fetched key (Some e) found a w all =
-    let keys : IsPrefix (map key_of (all_restored service fetched)) (entry_keys log) = restored_keys service log.entries fetched a in
-    let one = length_map key_of (all_restored service fetched) in
-    let two = restored_length service fetched in
+    → (lengths_in o ≡ []) ⊎ (is_settled key (all_restored service profile fetched) ≡ true)
+logged_settled service profile log fetched key None found a w all = inl refl
+logged_settled service profile log fetched key (Some e) found a w all =
+    let keys : IsPrefix (map key_of (all_restored service profile fetched)) (entry_keys log) = restored_keys service profile log.entries fetched a in
+    let one = length_map key_of (all_restored service profile fetched) in
+    let two = restored_length service profile fetched in
     let three = length_map (λ x. x.key) log.entries in
-    let same : map key_of (all_restored service fetched) ≡ entry_keys log = full_front (map key_of (all_restored service fetched)) (entry_keys log) keys (omega (arith, one, two, three, all)) in
-    inr (settled_keys key (all_restored service fetched) (restored_all IsNoOpening service log.entries fetched (all_of (λ e. IsNoOpening (Lives (point_of service e))) log.entries (λ x. tt)) (λ k. tt) a w)
+    let same : map key_of (all_restored service profile fetched) ≡ entry_keys log = full_front (map key_of (all_restored service profile fetched)) (entry_keys log) keys (omega (arith, one, two, three, all)) in
+    inr (settled_keys key (all_restored service profile fetched) (restored_all IsNoOpening service profile log.entries fetched (all_of (λ e. IsNoOpening (Lives (point_of service profile e))) log.entries (λ x. tt)) (λ k. tt) a w)
     ∙ (ap (has_key key) same ∙ found_has_key (λ x. x.key) key log.entries e found))
 
 -- the turn that ends a restart
@@ -100,17 +101,17 @@ pub resuming_runs : {State : Type 0} (service : Machine State) (script author : 
     → AllByRecursion (λ e. IsPrefix e.lengths (author e.key) × (sum e.lengths ≤ length e.bytes)) log.entries
     → ((key : Key) → length (reference service (script key) (author key)).output ≤ 2 ^ 24)
     → count ≡ length log.entries → AreFetched log.entries fetched → wanted count fetched ≡ None → AreDistinct (map key_of places)
-    → AllGo (Revives service node) (all_restored service fetched) places sent → TurnRuns service script (λ key. logged_lengths key log) log places sent
+    → AllGo (Revives service node) (all_restored service node.profile fetched) places sent → TurnRuns service script (λ key. logged_lengths key log) log places sent
 resuming_runs service script author isn log node count fetched places sent small short d fits fronts bound c a none apart t =
     let old : Key → List ℕ = λ key. logged_lengths key log in
     let whole = nothing_missing log.entries count fetched a none in
-    let before : AllByRecursion (Before service script isn old log) (all_restored service fetched) =
-    restored_all (Before service script isn old log) service log.entries fetched (points_run service script author isn log short d fits fronts bound) (λ k. (tt, tt)) a whole.0 in
+    let before : AllByRecursion (Before service script isn old log) (all_restored service node.profile fetched) =
+    restored_all (Before service script isn old log) service node.profile log.entries fetched (points_run service node.profile script author isn log short d fits fronts bound) (λ k. (tt, tt)) a whole.0 in
     let all = all_go_then (Revives service node) (Before service script isn old log) (After service script isn old log) (IsAuthor (new_author places old)) (Follows service script (new_author places old) log)
-    (revive_runs service script old (new_author places old) isn log node small short fits (λ key. ([], append-nil (logged_lengths key log)))) (all_restored service fetched) places sent before t in
-    runs_after service script isn old log (all_restored service fetched) places sent apart all.0 all.1
-    (λ key. logged_settled service log fetched key (entry_of key log) refl a whole.0 (omega (arith, whole.1, c)))
-    (λ key s. settled_goes_on (Revives service node) key (revive_settled service node key) (all_restored service fetched) places sent t s)
+    (revive_runs service script old (new_author places old) isn log node small short fits (λ key. ([], append-nil (logged_lengths key log)))) (all_restored service node.profile fetched) places sent before t in
+    runs_after service script isn old log (all_restored service node.profile fetched) places sent apart all.0 all.1
+    (λ key. logged_settled service node.profile log fetched key (entry_of key log) refl a whole.0 (omega (arith, whole.1, c)))
+    (λ key s. settled_goes_on (Revives service node) key (revive_settled service node key) (all_restored service node.profile fetched) places sent t s)
 
 -- a Read of the log's own boot
 abbrev pub ReadOf : (Key → List ℕ) → ℕ → Packet → Type 0

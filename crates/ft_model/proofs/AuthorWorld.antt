@@ -142,9 +142,9 @@ author_goes_on service script isn before sent after small short f k fit d a (ser
     (turned_author service script isn before node later input sent small short f k fit d a is brought later.stage refl (stage_went service node later input sent turn))
 author_goes_on service script isn before sent after small short f k fit d a (server_booted boot isn0 down larger s e) =
     subst (HasAuthor service script) (sym e)
-    (author_still service script before before.clients boot (Some (booted before.server boot isn0)) sent a
+    (author_still service script before before.clients boot (Some (booted before.server before.profile boot isn0)) sent a
     (subst (AllByRecursion (ReadOf a.author before.log.boot)) (sym s) ((λ x. tt), tt)) (subst (AllByRecursion (Speaks service script before.log)) (sym s) (tt, tt))
-    (still_node service a.author (booted before.server boot isn0) tt))
+    (still_node service a.author (booted before.server before.profile boot isn0) tt))
 author_goes_on service script isn before sent after small short f k fit d a (server_down s e) =
     subst (HasAuthor service script) (sym e)
     (author_still service script before before.clients before.boot None sent a

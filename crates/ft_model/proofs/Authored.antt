@@ -4,6 +4,7 @@ use Rattle.std.specs.List.{AllByRecursion}
 use Rattle.std.proofs.lemmas.List.{take-append-le}
 use Rattle.ft_io.specs.declared.Addr.{Addr}
 use Rattle.ft_io.specs.declared.Key.{Key}
+use Rattle.seq_arith.specs.Profile.{Profile}
 use Rattle.seq_arith.specs.Number.{number_at, offset_of}
 use Rattle.seq_arith.specs.Packet.{Segment, has_syn, has_rst}
 use Rattle.seq_arith.specs.Message.{Numbers, Body}
@@ -250,15 +251,15 @@ connection_runs service server script old author isn log boot news p q sent smal
     ))
 
 -- the point of an entry
-pub entry_runs : {State : Type 0} (service : Machine State) (script author : Key → List ℕ) (e : Entry) → IsPrefix e.bytes (script e.key) → sum e.lengths ≤ length e.bytes
-    → length (reference service (script e.key) e.lengths).output ≤ 2 ^ 24 → author e.key ≡ e.lengths → PlaceRuns service author (Lives (point_of service e))
-entry_runs service script author e front enough small is =
+pub entry_runs : {State : Type 0} (service : Machine State) (profile : Profile) (script author : Key → List ℕ) (e : Entry) → IsPrefix e.bytes (script e.key) → sum e.lengths ≤ length e.bytes
+    → length (reference service (script e.key) e.lengths).output ≤ 2 ^ 24 → author e.key ≡ e.lengths → PlaceRuns service author (Lives (point_of service profile e))
+entry_runs service profile script author e front enough small is =
     let same : reference service (script e.key) e.lengths ≡ reference service e.bytes e.lengths = more_bytes service e.bytes (script e.key) e.lengths front enough in (
       is,
       record { enough = enough; fetched = le_refl (length e.bytes); short = subst (λ x. length x.output ≤ 2 ^ 24) same small; counts = le_refl (length e.lengths) },
     )
 
 -- a new point
-pub opened_runs : {State : Type 0} (service : Machine State) (author : Key → List ℕ) (n : Numbers) → author n.key ≡ [] → PlaceRuns service author (Lives (point_opened n))
+pub opened_runs : {State : Type 0} (service : Machine State) (profile : Profile) (author : Key → List ℕ) (n : Numbers) → author n.key ≡ [] → PlaceRuns service author (Lives (point_opened profile n))
 unfolding reference
-opened_runs service author n is = (is, record { enough = le_refl 0; fetched = le_refl 0; short = omega arith; counts = le_refl 0 })
+opened_runs service profile author n is = (is, record { enough = le_refl 0; fetched = le_refl 0; short = omega arith; counts = le_refl 0 })

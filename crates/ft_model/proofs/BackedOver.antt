@@ -4,6 +4,7 @@ use Rattle.std.specs.List.{AllByRecursion}
 use Rattle.std.proofs.lemmas.Int.{ints}
 use Rattle.std.proofs.lemmas.Bool.{and_parts}
 use Rattle.ft_io.specs.declared.Key.{Key}
+use Rattle.seq_arith.specs.Profile.{Profile}
 use Rattle.seq_arith.specs.Number.{number_at, offset_of}
 use Rattle.seq_arith.specs.Packet.{has_ack}
 use Rattle.seq_arith.specs.Message.{Message}
@@ -102,7 +103,7 @@ place_backed service script isn log node input i place now sent b (went_on news 
     let stands : StandsBacked service script isn log (Lives p) = subst (StandsBacked service script isn log) e b in
     lives_backed service script log node news p after now sent (news_of service script isn log node input news p i w stands.0) stands.1 n t
 place_backed service script isn log node input i place now sent b (began asked kept after e h n t) =
-    lives_backed service script log node Begins (point_opened kept) after now sent tt (omega arith) n t
+    lives_backed service script log node Begins (point_opened node.profile kept) after now sent tt (omega arith) n t
 place_backed service script isn log node input i place now sent b (dropped asked e d n s) = (
   subst (AllByRecursion (PlaceBacked service script log)) (sym n) tt,
   ⊎_elim (λ x. subst (AllByRecursion (PacketBacked service script log)) (sym x) tt) (λ x. subst (AllByRecursion (PacketBacked service script log)) (sym x) (tt, tt)) s,
@@ -143,9 +144,9 @@ no_places service script log (Serving opened places) r = absurd (true≢false (s
 no_places service script log (Fenced newer) r = tt
 
 -- the point of an entry goes on where the client acknowledged, at most
-points_backed : {State : Type 0} (service : Machine State) (script : Key → List ℕ) (log : Log) (entries : List Entry) → AllByRecursion (EntryBacked service script log) entries
-    → AllByRecursion (λ e. PlaceBacked service script log (Lives (point_of service e))) entries
-points_backed service script log entries = all_weaker (EntryBacked service script log) _ entries (λ e h. omega (arith, h))
+points_backed : {State : Type 0} (service : Machine State) (profile : Profile) (script : Key → List ℕ) (log : Log) (entries : List Entry) → AllByRecursion (EntryBacked service script log) entries
+    → AllByRecursion (λ e. PlaceBacked service script log (Lives (point_of service profile e))) entries
+points_backed service profile script log entries = all_weaker (EntryBacked service script log) _ entries (λ e h. omega (arith, h))
 
 -- one turn of the server
 turn_backed : {State : Type 0} (service : Machine State) (script : Key → List ℕ) (isn : Key → ℕ) (w : World) (node : Node) (input : Input) (sent : List Packet) (after : Stage)
@@ -165,8 +166,8 @@ turn_backed service script isn w node input sent after a f b e brought (resumed 
     let P : Place → Type 0 = PlaceBacked service script w.log in
     let agrees = progress_agrees w node input count fetched a e brought p in
     let whole = nothing_missing w.log.entries count fetched agrees.1 none in
-    let went = all_go_on (Revives service node) P P (PacketBacked service script w.log) (revive_backed service script w.log node) (all_restored service fetched) places sent
-    (restored_all P service w.log.entries fetched (points_backed service script w.log w.log.entries b.entries) (λ k. tt) agrees.1 whole.0) t in
+    let went = all_go_on (Revives service node) P P (PacketBacked service script w.log) (revive_backed service script w.log node) (all_restored service node.profile fetched) places sent
+    (restored_all P service node.profile w.log.entries fetched (points_backed service node.profile script w.log w.log.entries b.entries) (λ k. tt) agrees.1 whole.0) t in
     (subst (StageBacked service script w.log) (sym g) went.0, went.1)
 turn_backed service script isn w node input sent after a f b e brought (served opened places later was g t) =
     let fits : AllByRecursion (PlaceFits script isn w.log) places = subst (StageFits script isn w.log) was (f.stage node e) in
@@ -274,8 +275,8 @@ backed_goes_on service script isn before sent after a f h s b (server_turned inp
     (more_backed service script before before.clients before.boot (Some later) sent b t.1 (λ n g. subst (λ x. StageBacked service script before.log x.stage) (some_is later n g) t.0))
 backed_goes_on service script isn before sent after a f h s b (server_booted boot isn0 down larger t e) =
     subst (IsBacked service script) (sym e)
-    (more_backed service script before before.clients boot (Some (booted before.server boot isn0)) sent b (subst (AllByRecursion (PacketBacked service script before.log)) (sym t) (tt, tt))
-    (λ n g. subst (λ x. StageBacked service script before.log x.stage) (some_is (booted before.server boot isn0) n g) tt))
+    (more_backed service script before before.clients boot (Some (booted before.server before.profile boot isn0)) sent b (subst (AllByRecursion (PacketBacked service script before.log)) (sym t) (tt, tt))
+    (λ n g. subst (λ x. StageBacked service script before.log x.stage) (some_is (booted before.server before.profile boot isn0) n g) tt))
 backed_goes_on service script isn before sent after a f h s b (server_down t e) =
     subst (IsBacked service script) (sym e)
     (more_backed service script before before.clients before.boot None sent b (subst (AllByRecursion (PacketBacked service script before.log)) (sym t) tt) (λ n g. none_is_some n g))

@@ -1,5 +1,6 @@
 -- Each turn of both incarnations is lawful: each equation computes.
 use Rattle.std.proofs.Common.{true, refl, [], ◌∷◌}
+use Rattle.seq_arith.specs.Profile.{plain}
 use Rattle.ft_model.specs.News.News.{Comes, Logged, Ticks, Begins}
 use Rattle.ft_model.specs.Opening.{point_opened}
 use Rattle.ft_model.specs.Restart.{point_of, entry_in}
@@ -15,18 +16,19 @@ use Rattle.ft_model.proofs.Turns.{laws, alone, goes, serves}
 abbrev Happens : Node → Turn → Type 0
 Happens before turn = LawfulTurn echo before turn.input turn.sent turn.node
 
-first_1 : Happens (booted server 1 5000) run.first_1
+first_1 : Happens (booted server plain 1 5000) run.first_1
 unfolding laws
-first_1 = record { server = refl; boot = refl; isn = refl; live = refl; stage = ([], refl, (refl, refl)) }
+first_1 = record { server = refl; profile = refl; boot = refl; isn = refl; live = refl; stage = ([], refl, (refl, refl)) }
 
 first_2 : Happens run.first_1.node run.first_2
 unfolding laws
-first_2 = record { server = refl; boot = refl; isn = refl; live = refl; stage = (Opens numbers ∷ [], refl, record { went = []; by_places = []; all_go = (refl, refl); places = refl; packets = refl }) }
+first_2 = record { server = refl; profile = refl; boot = refl; isn = refl; live = refl; stage = (Opens numbers ∷ [], refl, record { went = []; by_places = []; all_go = (refl, refl); places = refl; packets = refl }) }
 
 first_3 : Happens run.first_2.node run.first_3
 unfolding laws
 first_3 = record {
   server = refl;
+  profile = refl;
   boot = refl;
   isn = refl;
   live = refl;
@@ -37,7 +39,7 @@ first_3 = record {
       went = Lives run.begun ∷ [];
       by_places = run.first_3.sent;
       all_go = alone (PlaceTurn echo run.first_2.node run.first_3.input) (Opens numbers) (Lives run.begun ∷ []) run.first_3.sent
-          (run.begun, refl, goes echo server 1 Begins (point_opened numbers) run.begun run.first_3.sent refl refl refl refl);
+          (run.begun, refl, goes echo server 1 Begins (point_opened plain numbers) run.begun run.first_3.sent refl refl refl refl);
       places = refl;
       packets = refl;
     },
@@ -64,29 +66,30 @@ first_8 : Happens run.first_7.node run.first_8
 unfolding laws
 first_8 = serves echo 1 5000 run.first_8.input run.closed run.over run.first_8.sent refl refl refl (run.over, refl, goes echo server 1 (Comes run.last_ack) run.closed run.over run.first_8.sent refl refl refl refl)
 
-pub first_is_lawful : Lawful echo server 1 5000 (hello (booted server 1 5000)) run.first_turns
+pub first_is_lawful : Lawful echo server plain 1 5000 (hello (booted server plain 1 5000)) run.first_turns
 first_is_lawful = (refl, ((((((((tt, first_1), first_2), first_3), first_4), first_5), first_6), first_7), first_8))
 
-second_1 : Happens (booted server 2 900000) run.second_1
+second_1 : Happens (booted server plain 2 900000) run.second_1
 unfolding laws
-second_1 = record { server = refl; boot = refl; isn = refl; live = refl; stage = (refl, refl) }
+second_1 = record { server = refl; profile = refl; boot = refl; isn = refl; live = refl; stage = (refl, refl) }
 
 second_2 : Happens run.second_1.node run.second_2
 unfolding laws
-second_2 = record { server = refl; boot = refl; isn = refl; live = refl; stage = (refl, refl) }
+second_2 = record { server = refl; profile = refl; boot = refl; isn = refl; live = refl; stage = (refl, refl) }
 
 second_3 : Happens run.second_2.node run.second_3
 unfolding laws
 second_3 = record {
   server = refl;
+  profile = refl;
   boot = refl;
   isn = refl;
   live = refl;
   stage = (
     Lives run.restarted ∷ [],
     refl,
-    alone (Revives echo run.second_2.node) (Lives (point_of echo (entry_in (fetched_with run.head [] (0 ∷ []))))) (Lives run.restarted ∷ []) run.second_3.sent
-        (run.restarted, refl, goes echo server 2 Begins (point_of echo (entry_in (fetched_with run.head [] (0 ∷ [])))) run.restarted run.second_3.sent refl refl refl refl),
+    alone (Revives echo run.second_2.node) (Lives (point_of echo plain (entry_in (fetched_with run.head [] (0 ∷ []))))) (Lives run.restarted ∷ []) run.second_3.sent
+        (run.restarted, refl, goes echo server 2 Begins (point_of echo plain (entry_in (fetched_with run.head [] (0 ∷ [])))) run.restarted run.second_3.sent refl refl refl refl),
   );
 }
 
@@ -114,5 +117,5 @@ second_9 : Happens run.second_8.node run.second_9
 unfolding laws
 second_9 = serves echo 2 900000 run.second_9.input (run.ticked 3) (run.ticked 4) run.second_9.sent refl refl refl ((run.ticked 4), refl, goes echo server 2 Ticks (run.ticked 3) (run.ticked 4) run.second_9.sent refl refl refl refl)
 
-pub second_is_lawful : Lawful echo server 2 900000 (hello (booted server 2 900000)) run.second_turns
+pub second_is_lawful : Lawful echo server plain 2 900000 (hello (booted server plain 2 900000)) run.second_turns
 second_is_lawful = (refl, (((((((((tt, second_1), second_2), second_3), second_4), second_5), second_6), second_7), second_8), second_9))

@@ -1,5 +1,6 @@
 -- Each turn of the second incarnation is lawful: each equation computes.
 use Rattle.std.proofs.Common.{refl}
+use Rattle.seq_arith.specs.Profile.{plain}
 use Rattle.ft_model.specs.News.News.{Comes}
 use Rattle.ft_model.specs.Node.{booted}
 use Rattle.ft_model.specs.Lawful.{Lawful, hello}
@@ -13,5 +14,5 @@ restart_5 : Turns echo start.serves_again.node run.restart_5
 unfolding laws
 restart_5 = serves echo 2 900000 run.restart_5.input start.restarted start.resumed run.restart_5.sent refl refl refl (start.resumed, refl, goes echo server 2 (Comes run.room) start.restarted start.resumed run.restart_5.sent refl refl refl refl)
 
-pub restart_is_lawful : Lawful echo server 2 900000 (hello (booted server 2 900000)) run.restart_turns
+pub restart_is_lawful : Lawful echo server plain 2 900000 (hello (booted server plain 2 900000)) run.restart_turns
 restart_is_lawful = (refl, (((((tt, asks_entry echo), asks_lengths echo), asks_bytes echo), serves_again), restart_5))

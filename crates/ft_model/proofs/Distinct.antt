@@ -109,7 +109,7 @@ turn_distinct service w node input sent after a d e brought (asked_on count fetc
 turn_distinct service w node input sent after a d e brought (resumed count fetched places p none g t) =
     let agrees = progress_agrees w node input count fetched a e brought p in
     let keys : IsPrefix (map key_of places) (entry_keys w.log) =
-    subst (λ l. IsPrefix l (entry_keys w.log)) (sym (revived_keys service node (all_restored service fetched) places sent t)) (restored_keys service w.log.entries fetched agrees.1) in
+    subst (λ l. IsPrefix l (entry_keys w.log)) (sym (revived_keys service node (all_restored service node.profile fetched) places sent t)) (restored_keys service node.profile w.log.entries fetched agrees.1) in
     subst StageDistinct (sym g) (distinct_front (map key_of places) keys.0 (subst AreDistinct (sym keys.1) a.distinct))
 turn_distinct service w node input sent after a d e brought (served opened places later b g t) =
     let was : AreDistinct (map key_of places) = subst StageDistinct b (d node e) in
@@ -130,5 +130,5 @@ distinct_after service before sent after a d (server_turned input node later bro
     (λ n g. subst (λ x. StageDistinct x.stage) (some_is later n g)
     (turn_distinct service before node input sent later.stage a d is brought (stage_went service node later input sent turn)))
 distinct_after service before sent after a d (server_booted boot isn down larger s e) =
-    subst IsDistinct (sym e) (λ n g. subst (λ x. StageDistinct x.stage) (some_is (booted before.server boot isn) n g) tt)
+    subst IsDistinct (sym e) (λ n g. subst (λ x. StageDistinct x.stage) (some_is (booted before.server before.profile boot isn) n g) tt)
 distinct_after service before sent after a d (server_down s e) = subst IsDistinct (sym e) (λ n g. none_is_some n g)

@@ -5,6 +5,7 @@ use Rattle.std.proofs.lemmas.Bool.{and_parts}
 use Rattle.ft_io.specs.declared.Addr.{Addr}
 use Rattle.ft_io.specs.declared.Key.{Key}
 use Rattle.ft_io.specs.Key.{key_eq}
+use Rattle.seq_arith.specs.Profile.{Profile}
 use Rattle.seq_arith.specs.Number.{number_at}
 use Rattle.seq_arith.specs.Arrival.{int_eq}
 use Rattle.seq_arith.specs.Packet.{Segment, has_syn, has_rst, has_ack}
@@ -212,10 +213,10 @@ news_fit script isn log node input (Logged kept) p f n =
 news_fit script isn log node input Ticks p f n = (tt, tt)
 news_fit script isn log node input Begins p f n = absurd n
 
-pub opened_point : (script : Key → List ℕ) (isn : Key → ℕ) (log : Log) (kept : Numbers) → EntriesFit script isn log.entries → HasEntry log kept → PlaceFits script isn log (Lives (point_opened kept))
-opened_point script isn log kept entries h =
+pub opened_point : (profile : Profile) (script : Key → List ℕ) (isn : Key → ℕ) (log : Log) (kept : Numbers) → EntriesFit script isn log.entries → HasEntry log kept → PlaceFits script isn log (Lives (point_opened profile kept))
+opened_point profile script isn log kept entries h =
     let within = units_within script isn log kept.key h.0 entries h.1 in (
-      nothing_held (script kept.key) (isn kept.key) (point_opened kept) (nothing_first (script kept.key)) (λ k. absurd (true≢false (sym k))) refl (omega arith) (sym h.2 ∙ within.0.cisn),
+      nothing_held (script kept.key) (isn kept.key) (point_opened profile kept) (nothing_first (script kept.key)) (λ k. absurd (true≢false (sym k))) refl (omega arith) (sym h.2 ∙ within.0.cisn),
       record { entry = h.0; found = h.1; sisn = h.3; answered = omega arith; reads = omega arith },
     )
 
@@ -232,7 +233,7 @@ place_fits service script isn log node input short entries i place now sent f (w
 place_fits service script isn log node input short entries i place now sent f (began asked kept after e h n t) =
     let told : AnswerFits log h.message.body = subst (InputFits script isn log) h.comes i in
     let has : HasEntry log kept = subst (AnswerFits log) h.body told in
-    let c = connection_fits service node.server script isn log node.boot Begins (point_opened kept) after sent short entries tt tt (opened_point script isn log kept entries has) t in
+    let c = connection_fits service node.server script isn log node.boot Begins (point_opened node.profile kept) after sent short entries tt tt (opened_point node.profile script isn log kept entries has) t in
     (subst (AllByRecursion (PlaceFits script isn log)) (sym n) (c.0, tt), c.1)
 place_fits service script isn log node input short entries i place now sent f (dropped asked e d n s) = (
   subst (AllByRecursion (PlaceFits script isn log)) (sym n) tt,

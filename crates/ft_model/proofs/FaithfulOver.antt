@@ -4,6 +4,7 @@ use Rattle.std.specs.List.{AllByRecursion}
 use Rattle.ft_io.specs.declared.Addr.{Addr}
 use Rattle.ft_io.specs.declared.Key.{Key}
 use Rattle.ft_io.specs.Key.{key_eq}
+use Rattle.seq_arith.specs.Profile.{Profile}
 use Rattle.seq_arith.specs.Number.{number_at}
 use Rattle.seq_arith.specs.Packet.{Segment, has_rst}
 use Rattle.seq_arith.specs.Message.{EntryHead}
@@ -72,28 +73,28 @@ held_fits script isn log node fetched segment short entries heads =
     (λ t. one_held script isn log node short entries (live_entry (source_of segment) fetched)
     (λ f e. all_find (IsHeadOf log) (λ x. key_eq x.head.key (source_of segment) && not x.head.done) fetched f heads e)) (λ t. tt)
 
-restored_one : {State : Type 0} (Q : Place → Type 0) (service : Machine State) (f : Fetched) (e : Entry) → Q (Lives (point_of service e)) → ((k : Key) → Q (Ended k)) → IsFront f e → IsWhole f
-    → Q (restored service f)
-restored_one Q service f e q done front whole =
-    holds_if Q f.head.done (Ended f.head.key) (Lives (point_of service (entry_in f))) (λ t. done f.head.key)
-    (λ t. subst (λ x. Q (Lives (point_of service x))) (sym (whole_is f e front (sym (ap (λ h. h.done) front.head) ∙ t) whole)) q)
+restored_one : {State : Type 0} (Q : Place → Type 0) (service : Machine State) (profile : Profile) (f : Fetched) (e : Entry) → Q (Lives (point_of service profile e)) → ((k : Key) → Q (Ended k)) → IsFront f e → IsWhole f
+    → Q (restored service profile f)
+restored_one Q service profile f e q done front whole =
+    holds_if Q f.head.done (Ended f.head.key) (Lives (point_of service profile (entry_in f))) (λ t. done f.head.key)
+    (λ t. subst (λ x. Q (Lives (point_of service profile x))) (sym (whole_is f e front (sym (ap (λ h. h.done) front.head) ∙ t) whole)) q)
 
 -- what holds of the points of the log's entries holds of all that is restored
-pub restored_all : {State : Type 0} (Q : Place → Type 0) (service : Machine State) (entries : List Entry) (fetched : List Fetched)
-    → AllByRecursion (λ e. Q (Lives (point_of service e))) entries → ((k : Key) → Q (Ended k)) → AreFetched entries fetched → AllByRecursion IsWhole fetched
-    → AllByRecursion Q (all_restored service fetched)
-restored_all Q service entries [] points done a w = tt
-restored_all Q service entries (f ∷ earlier) points done a w =
-    all_append Q (all_restored service earlier) (restored service f ∷ []) (restored_all Q service entries earlier points done a.4 w.1)
-    (restored_one Q service f a.0 (all_slice_get (λ e. Q (Lives (point_of service e))) entries (length earlier) a.0 points a.1) done a.2 w.0, tt)
+pub restored_all : {State : Type 0} (Q : Place → Type 0) (service : Machine State) (profile : Profile) (entries : List Entry) (fetched : List Fetched)
+    → AllByRecursion (λ e. Q (Lives (point_of service profile e))) entries → ((k : Key) → Q (Ended k)) → AreFetched entries fetched → AllByRecursion IsWhole fetched
+    → AllByRecursion Q (all_restored service profile fetched)
+restored_all Q service profile entries [] points done a w = tt
+restored_all Q service profile entries (f ∷ earlier) points done a w =
+    all_append Q (all_restored service profile earlier) (restored service profile f ∷ []) (restored_all Q service profile entries earlier points done a.4 w.1)
+    (restored_one Q service profile f a.0 (all_slice_get (λ e. Q (Lives (point_of service profile e))) entries (length earlier) a.0 points a.1) done a.2 w.0, tt)
 
-pub points_fit : {State : Type 0} (service : Machine State) (script : Key → List ℕ) (isn : Key → ℕ) (log : Log) → ((k : Key) → length (script k) ≤ 2 ^ 24) → AreDistinct (entry_keys log) → EntriesFit script isn log.entries
-    → AllByRecursion (λ e. PlaceFits script isn log (Lives (point_of service e))) log.entries
-points_fit service script isn log short d fits =
-    all_from_get (λ e. PlaceFits script isn log (Lives (point_of service e))) log.entries
+pub points_fit : {State : Type 0} (service : Machine State) (profile : Profile) (script : Key → List ℕ) (isn : Key → ℕ) (log : Log) → ((k : Key) → length (script k) ≤ 2 ^ 24) → AreDistinct (entry_keys log) → EntriesFit script isn log.entries
+    → AllByRecursion (λ e. PlaceFits script isn log (Lives (point_of service profile e))) log.entries
+points_fit service profile script isn log short d fits =
+    all_from_get (λ e. PlaceFits script isn log (Lives (point_of service profile e))) log.entries
     (λ i e at. let f : EntryFits (script e.key) (isn e.key) e = all_slice_get (λ x. EntryFits (script x.key) (isn x.key) x) log.entries i e fits at in (
       let size = prefix_length e.bytes (script e.key) f.front in
-          nothing_held (script e.key) (isn e.key) (point_of service e) f.front f.fin refl (omega (arith, size, short e.key)) f.cisn,
+          nothing_held (script e.key) (isn e.key) (point_of service profile e) f.front f.fin refl (omega (arith, size, short e.key)) f.cisn,
       record { entry = e; found = finds_itself (λ x. x.key) log.entries i e d at; sisn = refl; answered = le_refl (length e.bytes + one_if e.fin); reads = le_refl (length e.lengths) },
     ))
 
@@ -136,8 +137,8 @@ turn_faithful service script isn w node input sent after short a f e brought (re
     let agrees = progress_agrees w node input count fetched a e brought p in
     let whole = nothing_missing w.log.entries count fetched agrees.1 none in
     let went = all_go_on (Revives service node) (PlaceFits script isn w.log) (PlaceFits script isn w.log) (IsFit script isn w.log) (revives_fit service script isn w.log node short f.entries)
-    (all_restored service fetched) places sent
-    (restored_all (PlaceFits script isn w.log) service w.log.entries fetched (points_fit service script isn w.log short a.distinct f.entries) (λ k. tt) agrees.1 whole.0) t in
+    (all_restored service node.profile fetched) places sent
+    (restored_all (PlaceFits script isn w.log) service node.profile w.log.entries fetched (points_fit service node.profile script isn w.log short a.distinct f.entries) (λ k. tt) agrees.1 whole.0) t in
     (subst (StageFits script isn w.log) (sym g) went.0, went.1)
 turn_faithful service script isn w node input sent after short a f e brought (served opened places later b g t) =
     let i : InputFits script isn w.log input = input_fits script isn w input f.packets brought in
@@ -203,7 +204,7 @@ faithful_goes_on service script isn before sent after short a f (server_booted b
       clients = f.clients;
       packets = all_append (PacketFits script isn before.log) before.packets sent f.packets (subst (AllByRecursion (PacketFits script isn before.log)) (sym s) (tt, tt));
       entries = f.entries;
-      stage = λ n g. subst (λ x. StageFits script isn before.log x.stage) (some_is (booted before.server boot isn0) n g) tt;
+      stage = λ n g. subst (λ x. StageFits script isn before.log x.stage) (some_is (booted before.server before.profile boot isn0) n g) tt;
     })
 faithful_goes_on service script isn before sent after short a f (server_down s e) =
     subst (IsFaithful script isn) (sym e)

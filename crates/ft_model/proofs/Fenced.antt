@@ -153,7 +153,7 @@ turn_ours service node input sent after (held_off count fetched segment b a s) =
 turn_ours service node input sent after (asked_on count fetched p a s) = subst (AllByRecursion (IsOurs node.boot)) (sym s) (asked_ours node (wanted count fetched))
 turn_ours service node input sent after (resumed count fetched places p w a t) =
     (all_go_on (Revives service node) Anywhere Anywhere (IsOurs node.boot) (λ place now some h r. (all_of Anywhere now (λ x. tt), revived_ours service node place now some r))
-    (all_restored service fetched) places sent (all_of Anywhere (all_restored service fetched) (λ x. tt)) t).1
+    (all_restored service node.profile fetched) places sent (all_of Anywhere (all_restored service node.profile fetched) (λ x. tt)) t).1
 turn_ours service node input sent after (served opened places later b a t) =
     (serving_goes_on service node input opened Anywhere Anywhere (IsOurs node.boot) places later sent
     (λ place now some h r. (all_of Anywhere now (λ x. tt), place_ours service node input place now some r)) (all_of Anywhere _ (λ x. tt))
@@ -352,13 +352,13 @@ turned_fenced service w node later input sent f e brought t =
     }
 
 booted_fenced : (w : World) (boot isn : ℕ) → IsFenced w → w.boot < boot
-    → IsFenced (record w { boot = boot; node = Some (booted w.server boot isn); packets = w.packets ++ hello (booted w.server boot isn) })
+    → IsFenced (record w { boot = boot; node = Some (booted w.server w.profile boot isn); packets = w.packets ++ hello (booted w.server w.profile boot isn) })
 booted_fenced w boot isn f larger = record {
   log = omega (arith, larger, f.log);
   packets = all_append (HasBoot boot w.log.boot) w.packets _
       (all_weaker (HasBoot w.boot w.log.boot) _ w.packets (have_boot_still w.boot w.log.boot boot w.log.boot (omega (arith, larger)) (le_refl w.log.boot)) f.packets)
       ((le_refl boot, λ c. absurd (true≢false (sym c))), tt);
-  node = λ x g. subst (IsFencedNode _) (some_is (booted w.server boot isn) x g)
+  node = λ x g. subst (IsFencedNode _) (some_is (booted w.server w.profile boot isn) x g)
       (record {
         boot = refl;
         logged = tt;
@@ -378,7 +378,7 @@ fenced_goes_on service before sent after f (client_moved number m) =
 fenced_goes_on service before sent after f (server_turned input node later brought is turn e) =
     subst IsFenced (sym e) (turned_fenced service before node later input sent f is brought turn)
 fenced_goes_on service before sent after f (server_booted boot isn down larger s e) =
-    subst IsFenced (sym (e ∙ ap (λ x. record before { boot = boot; node = Some (booted before.server boot isn); packets = before.packets ++ x }) s))
+    subst IsFenced (sym (e ∙ ap (λ x. record before { boot = boot; node = Some (booted before.server before.profile boot isn); packets = before.packets ++ x }) s))
     (booted_fenced before boot isn f larger.0)
 fenced_goes_on service before sent after f (server_down s e) =
     subst IsFenced (sym e) (record {

@@ -1,6 +1,7 @@
 -- Every moment of the first path happens: each equation computes.
 use Rattle.std.proofs.Common.{◌^◌, refl, None, List, [], ◌∷◌}
 use native.Mathlib.Bridge.{le_by_compare, IsLe}
+use Rattle.seq_arith.specs.Profile.{plain}
 use Rattle.server_trait.specs.Service.{Machine}
 use Rattle.ft_model.specs.News.{News}
 use Rattle.ft_model.specs.News.News.{Comes, Logged, Begins}
@@ -26,9 +27,9 @@ abbrev Goes : {State : Type 0} → Machine State → News → Point → Point �
 Goes service news before after sent = ConnectionTurn service server 1 news before after sent
 
 -- the SYN-ACK leaves
-begins : {State : Type 0} (service : Machine State) → Goes service Begins (point_opened numbers) run.begun_point run.moment_7.sent
+begins : {State : Type 0} (service : Machine State) → Goes service Begins (point_opened plain numbers) run.begun_point run.moment_7.sent
 unfolding laws
-begins service = goes service server 1 Begins (point_opened numbers) run.begun_point run.moment_7.sent refl refl refl refl
+begins service = goes service server 1 Begins (point_opened plain numbers) run.begun_point run.moment_7.sent refl refl refl refl
 
 -- the SYN is acknowledged
 opens : {State : Type 0} (service : Machine State) → Goes service (Comes (segment_in run.packet_7)) run.begun_point run.open_point run.moment_10.sent
@@ -51,33 +52,33 @@ unfolding laws
 releases = goes echo server 1 (Logged (kept_in run.packet_14)) run.logged_point run.released_point run.moment_16.sent refl refl refl refl
 
 -- the server's turns
-pub turn_3 : {State : Type 0} (service : Machine State) → LawfulTurn service (booted server 1 5000) (Message_comes (message_in run.packet_2)) [] (run.node_at (Serving 0 []))
+pub turn_3 : {State : Type 0} (service : Machine State) → LawfulTurn service (booted server plain 1 5000) (Message_comes (message_in run.packet_2)) [] (run.node_at (Serving 0 []))
 unfolding laws
-turn_3 service = record { server = refl; boot = refl; isn = refl; live = refl; stage = ([], refl, (refl, refl)) }
+turn_3 service = record { server = refl; profile = refl; boot = refl; isn = refl; live = refl; stage = ([], refl, (refl, refl)) }
 
 pub turn_5 : {State : Type 0} (service : Machine State) → LawfulTurn service (run.node_at (Serving 0 [])) (Packet_comes (segment_in run.packet_3)) run.moment_5.sent (run.node_at (Serving 1 (Opens numbers ∷ [])))
 unfolding laws
-turn_5 service = record { server = refl; boot = refl; isn = refl; live = refl; stage = (Opens numbers ∷ [], refl, record { went = []; by_places = []; all_go = (refl, refl); places = refl; packets = refl }) }
+turn_5 service = record { server = refl; profile = refl; boot = refl; isn = refl; live = refl; stage = (Opens numbers ∷ [], refl, record { went = []; by_places = []; all_go = (refl, refl); places = refl; packets = refl }) }
 
 pub turn_7 : {State : Type 0} (service : Machine State) → LawfulTurn service (run.node_at (Serving 1 (Opens numbers ∷ []))) (Message_comes (message_in run.packet_5)) run.moment_7.sent (run.node_live run.begun_point)
 unfolding laws
-turn_7 service = record { server = refl; boot = refl; isn = refl; live = refl; stage = (Lives run.begun_point ∷ [], refl, record { went = Lives run.begun_point ∷ []; by_places = run.moment_7.sent; all_go = alone (PlaceTurn service (run.node_at (Serving 1 (Opens numbers ∷ []))) (Message_comes (message_in run.packet_5))) (Opens numbers) (Lives run.begun_point ∷ []) run.moment_7.sent (run.begun_point, refl, begins service); places = refl; packets = refl }) }
+turn_7 service = record { server = refl; profile = refl; boot = refl; isn = refl; live = refl; stage = (Lives run.begun_point ∷ [], refl, record { went = Lives run.begun_point ∷ []; by_places = run.moment_7.sent; all_go = alone (PlaceTurn service (run.node_at (Serving 1 (Opens numbers ∷ []))) (Message_comes (message_in run.packet_5))) (Opens numbers) (Lives run.begun_point ∷ []) run.moment_7.sent (run.begun_point, refl, begins service); places = refl; packets = refl }) }
 
 pub turn_10 : {State : Type 0} (service : Machine State) → LawfulTurn service (run.node_live run.begun_point) (Packet_comes (segment_in run.packet_7)) run.moment_10.sent (run.node_live run.open_point)
 unfolding laws
-turn_10 service = record { server = refl; boot = refl; isn = refl; live = refl; stage = (Lives run.open_point ∷ [], refl, record { went = Lives run.open_point ∷ []; by_places = run.moment_10.sent; all_go = alone (PlaceTurn service (run.node_live run.begun_point) (Packet_comes (segment_in run.packet_7))) (Lives run.begun_point) (Lives run.open_point ∷ []) run.moment_10.sent (run.open_point, refl, opens service); places = refl; packets = refl }) }
+turn_10 service = record { server = refl; profile = refl; boot = refl; isn = refl; live = refl; stage = (Lives run.open_point ∷ [], refl, record { went = Lives run.open_point ∷ []; by_places = run.moment_10.sent; all_go = alone (PlaceTurn service (run.node_live run.begun_point) (Packet_comes (segment_in run.packet_7))) (Lives run.begun_point) (Lives run.open_point ∷ []) run.moment_10.sent (run.open_point, refl, opens service); places = refl; packets = refl }) }
 
 pub turn_12 : LawfulTurn echo (run.node_live run.open_point) (Packet_comes (segment_in run.packet_8)) run.moment_12.sent (run.node_live run.taken_point)
 unfolding laws
-turn_12 = record { server = refl; boot = refl; isn = refl; live = refl; stage = (Lives run.taken_point ∷ [], refl, record { went = Lives run.taken_point ∷ []; by_places = run.moment_12.sent; all_go = alone (PlaceTurn echo (run.node_live run.open_point) (Packet_comes (segment_in run.packet_8))) (Lives run.open_point) (Lives run.taken_point ∷ []) run.moment_12.sent (run.taken_point, refl, takes); places = refl; packets = refl }) }
+turn_12 = record { server = refl; profile = refl; boot = refl; isn = refl; live = refl; stage = (Lives run.taken_point ∷ [], refl, record { went = Lives run.taken_point ∷ []; by_places = run.moment_12.sent; all_go = alone (PlaceTurn echo (run.node_live run.open_point) (Packet_comes (segment_in run.packet_8))) (Lives run.open_point) (Lives run.taken_point ∷ []) run.moment_12.sent (run.taken_point, refl, takes); places = refl; packets = refl }) }
 
 pub turn_14 : LawfulTurn echo (run.node_live run.taken_point) (Message_comes (message_in run.packet_12)) run.moment_14.sent (run.node_live run.logged_point)
 unfolding laws
-turn_14 = record { server = refl; boot = refl; isn = refl; live = refl; stage = (Lives run.logged_point ∷ [], refl, record { went = Lives run.logged_point ∷ []; by_places = run.moment_14.sent; all_go = alone (PlaceTurn echo (run.node_live run.taken_point) (Message_comes (message_in run.packet_12))) (Lives run.taken_point) (Lives run.logged_point ∷ []) run.moment_14.sent (run.logged_point, refl, hears); places = refl; packets = refl }) }
+turn_14 = record { server = refl; profile = refl; boot = refl; isn = refl; live = refl; stage = (Lives run.logged_point ∷ [], refl, record { went = Lives run.logged_point ∷ []; by_places = run.moment_14.sent; all_go = alone (PlaceTurn echo (run.node_live run.taken_point) (Message_comes (message_in run.packet_12))) (Lives run.taken_point) (Lives run.logged_point ∷ []) run.moment_14.sent (run.logged_point, refl, hears); places = refl; packets = refl }) }
 
 turn_16 : LawfulTurn echo (run.node_live run.logged_point) (Message_comes (message_in run.packet_14)) run.moment_16.sent (run.node_live run.released_point)
 unfolding laws
-turn_16 = record { server = refl; boot = refl; isn = refl; live = refl; stage = (Lives run.released_point ∷ [], refl, record { went = Lives run.released_point ∷ []; by_places = run.moment_16.sent; all_go = alone (PlaceTurn echo (run.node_live run.logged_point) (Message_comes (message_in run.packet_14))) (Lives run.logged_point) (Lives run.released_point ∷ []) run.moment_16.sent (run.released_point, refl, releases); places = refl; packets = refl }) }
+turn_16 = record { server = refl; profile = refl; boot = refl; isn = refl; live = refl; stage = (Lives run.released_point ∷ [], refl, record { went = Lives run.released_point ∷ []; by_places = run.moment_16.sent; all_go = alone (PlaceTurn echo (run.node_live run.logged_point) (Message_comes (message_in run.packet_14))) (Lives run.logged_point) (Lives run.released_point ∷ []) run.moment_16.sent (run.released_point, refl, releases); places = refl; packets = refl }) }
 
 -- what happens in each moment
 happens_1 : {State : Type 0} (service : Machine State) → Happens service run.start run.moment_1.event run.moment_1.sent run.moment_1.world

@@ -2,6 +2,7 @@
 use Rattle.std.proofs.Common.{◌≡◌, ℕ, ◌+◌, ◌<◌, ◌≤◌, ◌^◌, true, ◌&&◌, not, nat_lt, refl, sym, ap, ◌∙◌, subst, true≢false, ⊎_elim, Option, Some, None, option_to_list, List, [], ◌∷◌, map, length, arith, ltb-true}
 use Rattle.std.specs.List.{AllByRecursion}
 use Rattle.ft_io.specs.Key.{key_eq}
+use Rattle.seq_arith.specs.Profile.{Profile}
 use Rattle.seq_arith.specs.Packet.{Segment, has_rst}
 use Rattle.server_trait.specs.Service.{Machine, WritesBytes}
 use Rattle.ft_model.specs.Log.{Log, Entry}
@@ -97,8 +98,8 @@ held_formed start node fetched segment at heads =
     (λ f e. all_find (λ x. HasClient start x.head.key) (λ x. key_eq x.head.key (source_of segment) && not x.head.done) fetched f heads e)) (λ t. tt)
 
 -- the places of a restart
-pub point_formed : {State : Type 0} (service : Machine State) (start : World) (e : Entry) → EntryFormed start e → PointFormed start (point_of service e)
-point_formed service start e h =
+pub point_formed : {State : Type 0} (service : Machine State) (profile : Profile) (start : World) (e : Entry) → EntryFormed start e → PointFormed start (point_of service profile e)
+point_formed service profile start e h =
     record { key = h.key; sisn = h.sisn; mss = h.mss; enough = h.enough; fetched = omega arith; count = h.count; lengths = h.lengths }
 
 pub revived_formed : {State : Type 0} (service : Machine State) (start : World) (log : Log) (node : Node) → WritesBytes service → StartFormed start
@@ -175,13 +176,13 @@ turn_formed service start w node input sent after writes s k e brought (resumed 
     let n = k.formed.node node e in
     let agrees = progress_agrees w node input count fetched k.truth.0.1 e brought p in
     let whole = nothing_missing w.log.entries count fetched agrees.1 none in
-    let points : AllByRecursion (λ x. PlaceSound start w.log (Lives (point_of service x))) w.log.entries =
-    all_both (λ x. PlaceFits (script_of start) (isn_of start) w.log (Lives (point_of service x))) (EntryFormed start) _ w.log.entries
-    (λ x f h. (f, point_formed service start x h))
-    (points_fit service (script_of start) (isn_of start) w.log s.short k.truth.0.1.distinct k.truth.1.entries) k.formed.entries in
+    let points : AllByRecursion (λ x. PlaceSound start w.log (Lives (point_of service node.profile x))) w.log.entries =
+    all_both (λ x. PlaceFits (script_of start) (isn_of start) w.log (Lives (point_of service node.profile x))) (EntryFormed start) _ w.log.entries
+    (λ x f h. (f, point_formed service node.profile start x h))
+    (points_fit service node.profile (script_of start) (isn_of start) w.log s.short k.truth.0.1.distinct k.truth.1.entries) k.formed.entries in
     let went = all_go_on (Revives service node) (PlaceSound start w.log) (PlaceSound start w.log) (PacketFormed start)
-    (revived_formed service start w.log node writes s k.truth.1.entries n.server n.boot) (all_restored service fetched) places sent
-    (restored_all (PlaceSound start w.log) service w.log.entries fetched points (λ key. (tt, tt)) agrees.1 whole.0) t in
+    (revived_formed service start w.log node writes s k.truth.1.entries n.server n.boot) (all_restored service node.profile fetched) places sent
+    (restored_all (PlaceSound start w.log) service node.profile w.log.entries fetched points (λ key. (tt, tt)) agrees.1 whole.0) t in
     (subst (StageFormed start) (sym g) (sound_places start w.log places went.0), went.1)
 turn_formed service start w node input sent after writes s k e brought (served opened places later b g t) =
     let n = k.formed.node node e in

@@ -4,6 +4,7 @@ use Rattle.std.specs.List.{AllByRecursion, list_any}
 use Rattle.std.proofs.lemmas.Bool.{and_parts}
 use Rattle.ft_io.specs.declared.Addr.{Addr}
 use Rattle.ft_io.specs.declared.Key.{Key}
+use Rattle.seq_arith.specs.Profile.{Profile}
 use Rattle.seq_arith.specs.Packet.{Segment, has_syn, has_rst, has_ack}
 use Rattle.seq_arith.specs.PacketGrammar.{packet_length}
 use Rattle.seq_arith.specs.Message.{Numbers, Body}
@@ -293,8 +294,8 @@ new_formed start node (Message_comes message) opened places h = tt
 new_formed start node Noise_comes opened places h = tt
 new_formed start node Tick_comes opened places h = tt
 
-opened_point_formed : (start : World) (kept : Numbers) → NumbersFormed start kept → PointFormed start (point_opened kept)
-opened_point_formed start kept h = record { key = h.0; sisn = h.2; mss = h.3; enough = omega arith; fetched = omega arith; count = omega arith; lengths = tt }
+opened_point_formed : (profile : Profile) (start : World) (kept : Numbers) → NumbersFormed start kept → PointFormed start (point_opened profile kept)
+opened_point_formed profile start kept h = record { key = h.0; sisn = h.2; mss = h.3; enough = omega arith; fetched = omega arith; count = omega arith; lengths = tt }
 
 -- one place in one turn
 pub place_formed : {State : Type 0} (service : Machine State) (start : World) (log : Log) (node : Node) (input : Input) → WritesBytes service
@@ -313,8 +314,8 @@ place_formed service start log node input writes s entries at b i h place now se
     let told : InputFits (script_of start) (isn_of start) log (Message_comes has.message) = subst (InputFits (script_of start) (isn_of start) log) has.comes i in
     let came : InputFormed start (Message_comes has.message) = subst (InputFormed start) has.comes h in
     let numbers : NumbersFormed start kept = subst (BodyFormed start has.message.boot) has.body came.0.1 in
-    let c = connection_formed service start log node Begins (point_opened kept) after sent writes s entries at b tt tt tt
-    (opened_point (script_of start) (isn_of start) log kept entries (subst (AnswerFits log) has.body told), opened_point_formed start kept numbers) t in
+    let c = connection_formed service start log node Begins (point_opened node.profile kept) after sent writes s entries at b tt tt tt
+    (opened_point node.profile (script_of start) (isn_of start) log kept entries (subst (AnswerFits log) has.body told), opened_point_formed node.profile start kept numbers) t in
     (subst (AllByRecursion (PlaceSound start log)) (sym n) (c.0, tt), c.1)
 place_formed service start log node input writes s entries at b i h place now sent f (dropped asked e why n x) =
     let numbers : PlaceSound start log (Opens asked) = subst (PlaceSound start log) e f in (

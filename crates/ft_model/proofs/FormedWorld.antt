@@ -149,8 +149,8 @@ moment_formed service start w sent after writes s k fits acked (server_booted bo
     let all : AllByRecursion (PacketFormed start) sent = subst (AllByRecursion (PacketFormed start)) (sym is) ((up, tt), tt) in (
       all,
       subst (WorldFormed start) (sym e)
-          (server_formed start w boot (Some (booted w.server boot isn)) sent k.formed all
-          (λ n g. subst (NodeFormed start) (some_is (booted w.server boot isn) n g) (record { server = k.formed.server; boot = up; stage = tt }))),
+          (server_formed start w boot (Some (booted w.server w.profile boot isn)) sent k.formed all
+          (λ n g. subst (NodeFormed start) (some_is (booted w.server w.profile boot isn) n g) (record { server = k.formed.server; boot = up; stage = tt }))),
     )
 moment_formed service start w sent after writes s k fits acked (server_down is e) =
     let all : AllByRecursion (PacketFormed start) sent = subst (AllByRecursion (PacketFormed start)) (sym is) tt in

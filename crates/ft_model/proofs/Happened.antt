@@ -48,8 +48,8 @@ pub data Happened {State : Type 0} (service : Machine State) (before : World) (s
   client_moved : (number : ℕ) → Moves before number sent after → Happened service before sent after
   server_turned : (input : Input) (node later : Node) → IsBrought before input → before.node ≡ Some node → LawfulTurn service node input sent later
       → after ≡ record before { node = Some later; packets = before.packets ++ sent } → Happened service before sent after
-  server_booted : (boot isn : ℕ) → before.node ≡ None → IsNextBoot before boot → sent ≡ hello (booted before.server boot isn)
-      → after ≡ record before { boot = boot; node = Some (booted before.server boot isn); packets = before.packets ++ sent } → Happened service before sent after
+  server_booted : (boot isn : ℕ) → before.node ≡ None → IsNextBoot before boot → sent ≡ hello (booted before.server before.profile boot isn)
+      → after ≡ record before { boot = boot; node = Some (booted before.server before.profile boot isn); packets = before.packets ++ sent } → Happened service before sent after
   server_down : sent ≡ [] → after ≡ record before { node = None; packets = before.packets ++ sent } → Happened service before sent after
 
 turned : {State : Type 0} (service : Machine State) (input : Input) (before : World) (sent : List Packet) (after : World) (node : Option Node)

@@ -9,6 +9,7 @@ use Rattle.std.proofs.lemmas.Bool.{false_from_ne_true}
 use Rattle.std.proofs.lemmas.Int.{ints}
 use Rattle.ft_io.specs.declared.Key.{Key}
 use Rattle.ft_io.specs.Key.{key_eq}
+use Rattle.seq_arith.specs.Profile.{Profile}
 use Rattle.seq_arith.specs.Number.{number_at}
 use Rattle.seq_arith.specs.Packet.{Segment, has_syn, has_rst, has_ack}
 use Rattle.server_trait.specs.Service.{Machine, reference}
@@ -211,28 +212,28 @@ not_beyond : (z : ℤ) (a b : ℕ) → z ≤ℤ pos b → int_lt (pos (max a b))
 not_beyond (pos k) a b h = grind (arith, ints, h)
 not_beyond (negsuc k) a b h = grind (arith, ints)
 
-packet_sent : {State : Type 0} (service : Machine State) (log : Log) (e : Entry) → entry_of e.key log ≡ Some e → (packet : Packet) → AcknowledgesMade service log packet
-    → AcknowledgesSent (point_of service e) packet
+packet_sent : {State : Type 0} (service : Machine State) (profile : Profile) (log : Log) (e : Entry) → entry_of e.key log ≡ Some e → (packet : Packet) → AcknowledgesMade service log packet
+    → AcknowledgesSent (point_of service profile e) packet
 unfolding acknowledges_unsent
-packet_sent service log e found (To_server segment) m = λ same has.
+packet_sent service profile log e found (To_server segment) m = λ same has.
     let x = m has in
     let key : source_of segment ≡ e.key = same_key (source_of segment) e.key same in
     let one : x.0 ≡ e = some_is x.0 e (sym x.1 ∙ (ap (λ k. entry_of k log) key ∙ found)) in
     not_beyond (ack_of e.sisn segment) (resumed_at service e) (output_units service e)
     (subst (λ y. ack_of y.sisn segment ≤ℤ pos (output_units service y)) one x.2)
-packet_sent service log e found (To_client segment) m = tt
-packet_sent service log e found (To_logger message) m = tt
-packet_sent service log e found (From_logger message) m = tt
+packet_sent service profile log e found (To_client segment) m = tt
+packet_sent service profile log e found (To_logger message) m = tt
+packet_sent service profile log e found (From_logger message) m = tt
 
 -- at the points of the log's entries nothing that a client acknowledges was never sent
-pub sent_packets : {State : Type 0} (service : Machine State) → HasSmallOutputs service → (start : World) (trace : List Moment) → Joint service start trace
-    → AllByRecursion (λ e. AllByRecursion (AcknowledgesSent (point_of service e)) (world_after start trace).packets) (world_after start trace).log.entries
-sent_packets service small start trace j =
+pub sent_packets : {State : Type 0} (service : Machine State) (profile : Profile) → HasSmallOutputs service → (start : World) (trace : List Moment) → Joint service start trace
+    → AllByRecursion (λ e. AllByRecursion (AcknowledgesSent (point_of service profile e)) (world_after start trace).packets) (world_after start trace).log.entries
+sent_packets service profile small start trace j =
     let w : World = world_after start trace in
     let o : JointInvariant service start w = sound_after service small start trace j in
-    all_from_get (λ e. AllByRecursion (AcknowledgesSent (point_of service e)) w.packets) w.log.entries
-    (λ i e at. all_weaker (AcknowledgesMade service w.log) (AcknowledgesSent (point_of service e)) w.packets
-    (packet_sent service w.log e (finds_itself (λ x. x.key) w.log.entries i e o.asked.distinct at)) (made_packets service small start trace j))
+    all_from_get (λ e. AllByRecursion (AcknowledgesSent (point_of service profile e)) w.packets) w.log.entries
+    (λ i e at. all_weaker (AcknowledgesMade service w.log) (AcknowledgesSent (point_of service profile e)) w.packets
+    (packet_sent service profile w.log e (finds_itself (λ x. x.key) w.log.entries i e o.asked.distinct at)) (made_packets service small start trace j))
 
 -- what the log says is acknowledged was output
 pub backed_entries : {State : Type 0} (service : Machine State) → HasSmallOutputs service → (start : World) (trace : List Moment) → Joint service start trace

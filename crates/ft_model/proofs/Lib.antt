@@ -35,6 +35,8 @@ pub mod Lists
 pub mod Grows
 pub mod Happened
 pub mod PlaceTurns
+pub mod Profiles
+pub mod PlainTurns
 pub mod LogOver
 pub mod StageTurns
 pub mod LogAnswers

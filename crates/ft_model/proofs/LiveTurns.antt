@@ -7,8 +7,8 @@ use Rattle.ft_model.specs.News.News.{Logged}
 use Rattle.ft_model.specs.Point.{Point, made, released}
 use Rattle.ft_model.specs.Answered.{reads_answered_after}
 use Rattle.ft_model.specs.Reads.{Makes, next_read, next_length, may_read, with_read}
-use Rattle.ft_model.specs.Timer.{interval_after, rest_after, must_run}
-use Rattle.ft_model.specs.Sending.{sent_at_once, sent_after}
+use Rattle.ft_model.specs.Timer.{timing_noted, interval_after, rest_after, must_run}
+use Rattle.ft_model.specs.Sending.{sent_at_once, sent_after, timing_after}
 use Rattle.ft_model.specs.ResetAndEnd.{end_ticks_after}
 use Rattle.ft_model.specs.Connection.{LiveTurn, sent_by}
 use Rattle.ft_model.proofs.Settled.{noted, settled, makes_alike}
@@ -57,24 +57,24 @@ counts_within _ p known = known
 
 -- the point after a turn with these news
 unfoldable pub turned : {State : Type 0} → Machine State → News → Point → Point
-turned service news p = settled service news p (p.lengths ++ reads_from service 32 (noted news p p.lengths 0 0 0 0))
+turned service news p = settled service news p (p.lengths ++ reads_from service 32 (noted news p p.lengths 0 p.timing 0 0 0))
 
 pub live_turn : {State : Type 0} (service : Machine State) (server : Addr) (boot : ℕ) (news : News) (p : Point) → p.reads_answered ≤ length p.lengths
     → LiveTurn service server boot news p (turned service news p) (sent_by service server boot news p (turned service news p))
-unfolding turned sent_after sent_at_once interval_after rest_after must_run end_ticks_after
+unfolding turned sent_after sent_at_once timing_noted timing_after interval_after rest_after must_run end_ticks_after
 live_turn service server boot news p known =
-    let start : Point = noted news p p.lengths 0 0 0 0 in
+    let start : Point = noted news p p.lengths 0 p.timing 0 0 0 in
     let ns : List ℕ = reads_from service 32 start in
     let after : Point = turned service news p in
     let makes : Makes service start ns = reads_make service 32 start (counts_within news p known) (omega arith) in
     record {
-      same = record { key = refl; cisn = refl; sisn = refl; mss = refl; fetched = refl; fetched_output = refl };
+      same = record { key = refl; cisn = refl; sisn = refl; mss = refl; fetched = refl; fetched_output = refl; delays = refl };
       taken = refl;
       fin = refl;
       early = refl;
       answered = refl;
       reads_answered = refl;
-      reads = record { news = ns; lengths = refl; makes = makes_alike service news p ns p.lengths 0 0 0 0 after.sent after.interval after.rest after.end_ticks makes };
+      reads = record { news = ns; lengths = refl; makes = makes_alike service news p ns p.lengths 0 p.timing 0 0 0 after.sent after.timing after.interval after.rest after.end_ticks makes };
       syn_acked = refl;
       una = refl;
       edge = refl;
@@ -82,6 +82,7 @@ live_turn service server boot news p known =
       wl2 = refl;
       congestion = refl;
       sent_units = refl;
+      timing = refl;
       interval = refl;
       rest = refl;
       end_ticks = refl;

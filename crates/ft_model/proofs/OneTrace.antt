@@ -100,7 +100,7 @@ module _ {State : Type 0} (service : Machine State) where
   pub happens_once : (event : Event) (before w x : World) (s t : List Packet) → Happens service before event s w → Happens service before event t x
       → IsScripted before event s w → IsScripted before event t x → w ≡ x
   happens_once (Boot boot isn) before w x s t p q a b =
-      p.3 ∙ (ap (λ ps. record before { boot = boot; node = Some (booted before.server boot isn); packets = before.packets ++ ps }) (p.2 ∙ sym q.2) ∙ sym q.3)
+      p.3 ∙ (ap (λ ps. record before { boot = boot; node = Some (booted before.server before.profile boot isn); packets = before.packets ++ ps }) (p.2 ∙ sym q.2) ∙ sym q.3)
   happens_once Crash before w x s t p q a b = p.2 ∙ (ap (λ ps. record before { node = None; packets = before.packets ++ ps }) (p.1 ∙ sym q.1) ∙ sym q.2)
   happens_once Tick before w x s t p q a b = server_once Tick_comes before w x s t p.1 q.1
   happens_once (Deliver number) before w x s t p q a b =

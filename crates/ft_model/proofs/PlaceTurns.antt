@@ -53,7 +53,7 @@ pub data PlaceWent {State : Type 0} (service : Machine State) (node : Node) (inp
   went_on : (news : News) (p after : Point) → place ≡ Lives p → IsNews node input news p → now ≡ Lives after ∷ []
       → ConnectionTurn service node.server node.boot news p after sent → PlaceWent service node input place now sent
   began : (asked kept : Numbers) (after : Point) → place ≡ Opens asked → HasOpened node input asked kept → now ≡ Lives after ∷ []
-      → ConnectionTurn service node.server node.boot Begins (point_opened kept) after sent → PlaceWent service node input place now sent
+      → ConnectionTurn service node.server node.boot Begins (point_opened node.profile kept) after sent → PlaceWent service node input place now sent
   dropped : (asked : Numbers) → place ≡ Opens asked → IsDropped node input asked → now ≡ [] → (sent ≡ []) ⊎ (sent ≡ To_client (full_rst node.server asked) ∷ []) → PlaceWent service node input place now sent
   ended : (p : Point) → place ≡ Lives p → HasEnded input p.key → now ≡ Ended p.key ∷ [] → sent ≡ [] → PlaceWent service node input place now sent
   refused : (key : Key) (segment : Segment) → place ≡ Ended key → input ≡ Packet_comes segment → source_of segment ≡ key → now ≡ Ended key ∷ []
@@ -65,7 +65,7 @@ stays service node input place now sent s = stayed s.0 s.1
 
 opens : {State : Type 0} (service : Machine State) (node : Node) (input : Input) (asked kept : Numbers) (b : Bool) (now : List Place) (sent : List Packet)
     → (kept.cisn == asked.cisn) ≡ b → HasOpened node input asked kept
-    → MatchBool b (LivesOn service node Begins (point_opened kept) now sent) ((now ≡ []) × (sent ≡ []))
+    → MatchBool b (LivesOn service node Begins (point_opened node.profile kept) now sent) ((now ≡ []) × (sent ≡ []))
     → PlaceWent service node input (Opens asked) now sent
 opens service node input asked kept true now sent o h t = began asked kept t.0 refl h t.1 t.2
 opens service node input asked kept false now sent o h t = dropped asked refl (inl (kept, h, o)) t.0 (inl t.1)

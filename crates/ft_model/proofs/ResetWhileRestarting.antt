@@ -2,6 +2,7 @@
 use Rattle.std.proofs.Common.{◌^◌, ◌≡◌, Bool, true, false, refl, sym, ap, true≢false, None, List, [], ◌∷◌, map}
 use Rattle.std.specs.List.{AllByRecursion}
 use native.Mathlib.Bridge.{le_by_compare, IsLe}
+use Rattle.seq_arith.specs.Profile.{plain}
 use Rattle.seq_arith.specs.Message.Body.{HelloMsg, SummaryMsg}
 use Rattle.ft_model.specs.Client.Move.{Acknowledge}
 use Rattle.ft_model.specs.Network.{Packet}
@@ -30,9 +31,9 @@ happens_20 : Happens echo run.moment_19.world run.moment_20.event run.moment_20.
 unfolding laws
 happens_20 = (to_log 2 HelloMsg, refl, (refl, refl))
 
-asks : LawfulTurn echo (booted server 2 900000) (Message_comes (message_in (from_log 2 (SummaryMsg 1)))) run.moment_21.sent (fetching 2 900000 [])
+asks : LawfulTurn echo (booted server plain 2 900000) (Message_comes (message_in (from_log 2 (SummaryMsg 1)))) run.moment_21.sent (fetching 2 900000 [])
 unfolding laws
-asks = record { server = refl; boot = refl; isn = refl; live = refl; stage = (refl, refl) }
+asks = record { server = refl; profile = refl; boot = refl; isn = refl; live = refl; stage = (refl, refl) }
 
 happens_21 : Happens echo run.moment_20.world run.moment_21.event run.moment_21.sent run.moment_21.world
 unfolding laws
@@ -55,7 +56,7 @@ held_back : (later : Node) → LawfulTurn echo (fetching 2 900000 []) (Packet_co
 held_back later t = true≢false (sym (ap is_empty t.stage.1))
 
 holds : LawfulTurn echo (fetching 2 900000 []) (Packet_comes (client_segment 16 1006 5006 65535 [])) [] (fetching 2 900000 [])
-holds = record { server = refl; boot = refl; isn = refl; live = refl; stage = (refl, refl) }
+holds = record { server = refl; profile = refl; boot = refl; isn = refl; live = refl; stage = (refl, refl) }
 
 pub wrong_once : IsWrongOnce echo path.start run.later run.wrong run.earlier
 wrong_once = record {

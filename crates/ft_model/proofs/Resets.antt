@@ -3,6 +3,7 @@ use Rattle.std.proofs.Common.{◌≡◌, ℕ, true, false, ◌&&◌, not, refl, 
 use Rattle.std.specs.List.{AllByRecursion}
 use Rattle.std.proofs.lemmas.Bool.{and_parts}
 use Rattle.ft_io.specs.declared.Key.{Key}
+use Rattle.seq_arith.specs.Profile.{Profile}
 use Rattle.seq_arith.specs.Packet.{Segment, has_rst}
 use Rattle.seq_arith.specs.Message.{Body, Message}
 use Rattle.seq_arith.specs.Message.Body.{OpenMsg}
@@ -50,11 +51,11 @@ use Rattle.ft_model.proofs.KnownKeys.{AsksFor, Asks, PlaceEnds, StageKnows, Know
 use Rattle.ft_io.proofs.Choices.{holds_if}
 
 -- the turn that ends a restart
-restored_ends : {State : Type 0} (service : Machine State) (log : Log) (fetched : List Fetched) → AllByRecursion (IsHeadOf log) fetched → AllByRecursion (PlaceEnds log) (all_restored service fetched)
-restored_ends service log [] a = tt
-restored_ends service log (f ∷ earlier) a =
-    all_append (PlaceEnds log) (all_restored service earlier) (restored service f ∷ []) (restored_ends service log earlier a.1) (
-      holds_if (PlaceEnds log) f.head.done (Ended f.head.key) (Lives (point_of service (entry_in f)))
+restored_ends : {State : Type 0} (service : Machine State) (profile : Profile) (log : Log) (fetched : List Fetched) → AllByRecursion (IsHeadOf log) fetched → AllByRecursion (PlaceEnds log) (all_restored service profile fetched)
+restored_ends service profile log [] a = tt
+restored_ends service profile log (f ∷ earlier) a =
+    all_append (PlaceEnds log) (all_restored service profile earlier) (restored service profile f ∷ []) (restored_ends service profile log earlier a.1) (
+      holds_if (PlaceEnds log) f.head.done (Ended f.head.key) (Lives (point_of service profile (entry_in f)))
           (λ t. let h : IsHeadOf log f = a.0 in
           (h.0, subst (λ k. entry_of k log ≡ Some h.0) (sym (ap (λ x. x.key) h.2)) h.1, sym (ap (λ x. x.done) h.2) ∙ t)) (λ t. tt),
       tt,
@@ -79,17 +80,17 @@ quiet_asks boot keys places (From_logger message) q = tt
 
 resuming_knows : {State : Type 0} (service : Machine State) (log : Log) (packets : List Packet) (node : Node) (count : ℕ) (fetched : List Fetched) (places : List Place) (sent : List Packet)
     → AllByRecursion (IsHeadOf log) fetched → count ≡ length log.entries → AreFetched log.entries fetched → wanted count fetched ≡ None → AllByRecursion (IsNoChange node.boot) packets
-    → AllGo (Revives service node) (all_restored service fetched) places sent → Goes log packets node.boot places sent
+    → AllGo (Revives service node) (all_restored service node.profile fetched) places sent → Goes log packets node.boot places sent
 resuming_knows service log packets node count fetched places sent heads c a none quiet t =
     let whole = nothing_missing log.entries count fetched a none in
-    let one = length_map key_of (all_restored service fetched) in
-    let two = restored_length service fetched in
+    let one = length_map key_of (all_restored service node.profile fetched) in
+    let two = restored_length service node.profile fetched in
     let three = length_map (λ x. x.key) log.entries in
-    let all : map key_of (all_restored service fetched) ≡ entry_keys log =
-    full_front (map key_of (all_restored service fetched)) (entry_keys log) (restored_keys service log.entries fetched a) (omega (arith, one, two, three, whole.1, c)) in
-    let same : map key_of places ≡ entry_keys log = revived_keys service node (all_restored service fetched) places sent t ∙ all in
-    let went = all_go_on (Revives service node) (PlaceEnds log) (PlaceEnds log) (IsPlain log) (revives_plain service log node) (all_restored service fetched) places sent
-    (restored_ends service log fetched heads) t in
+    let all : map key_of (all_restored service node.profile fetched) ≡ entry_keys log =
+    full_front (map key_of (all_restored service node.profile fetched)) (entry_keys log) (restored_keys service node.profile log.entries fetched a) (omega (arith, one, two, three, whole.1, c)) in
+    let same : map key_of places ≡ entry_keys log = revived_keys service node (all_restored service node.profile fetched) places sent t ∙ all in
+    let went = all_go_on (Revives service node) (PlaceEnds log) (PlaceEnds log) (IsPlain log) (revives_plain service log node) (all_restored service node.profile fetched) places sent
+    (restored_ends service node.profile log fetched heads) t in
     knows_after log packets node.boot places sent (all_weaker (IsNoChange node.boot) _ packets (quiet_asks node.boot (entry_keys log) places) quiet)
     (λ key h. ap (has_key key) same ∙ h) went.0 (all_weaker (IsPlain log) (IsFair log node.boot places) sent (plain_fair log node.boot places) went.1)
 
@@ -250,7 +251,7 @@ knowing_goes_on service start before sent after o k (server_booted boot isn down
       says = all_append (Says before.log) before.packets sent k.says (subst (AllByRecursion (Says before.log)) (sym s) (tt, tt));
       calls = all_append (HasCaller (entry_keys before.log)) before.packets sent k.calls (subst (AllByRecursion (HasCaller (entry_keys before.log))) (sym s) (tt, tt));
       resets = all_append (ResetsEnded before.log) before.packets sent k.resets (subst (AllByRecursion (ResetsEnded before.log)) (sym s) (tt, tt));
-      stage = λ n g. subst (λ x. StageKnows before.log (before.packets ++ sent) x.boot x.stage) (some_is (booted before.server boot isn) n g) tt;
+      stage = λ n g. subst (λ x. StageKnows before.log (before.packets ++ sent) x.boot x.stage) (some_is (booted before.server before.profile boot isn) n g) tt;
     })
 knowing_goes_on service start before sent after o k (server_down s e) =
     subst KnowsLog (sym e) (record {

@@ -1,5 +1,6 @@
 -- The turns of a restart from a log with one entry are lawful: each equation computes.
 use Rattle.std.proofs.Common.{refl, [], ◌∷◌}
+use Rattle.seq_arith.specs.Profile.{plain}
 use Rattle.server_trait.specs.Service.{Machine}
 use Rattle.ft_model.specs.News.News.{Begins}
 use Rattle.ft_model.specs.Restart.{point_of, entry_in}
@@ -15,26 +16,27 @@ use Rattle.ft_model.proofs.Turns.{laws, alone, goes}
 abbrev pub Turns : {State : Type 0} → Machine State → Node → Turn → Type 0
 Turns service before turn = LawfulTurn service before turn.input turn.sent turn.node
 
-pub asks_entry : {State : Type 0} (service : Machine State) → Turns service (booted server 2 900000) run.asks_entry
+pub asks_entry : {State : Type 0} (service : Machine State) → Turns service (booted server plain 2 900000) run.asks_entry
 unfolding laws
-asks_entry service = record { server = refl; boot = refl; isn = refl; live = refl; stage = (refl, refl) }
+asks_entry service = record { server = refl; profile = refl; boot = refl; isn = refl; live = refl; stage = (refl, refl) }
 
 pub asks_lengths : {State : Type 0} (service : Machine State) → Turns service run.asks_entry.node run.asks_lengths
 unfolding laws
-asks_lengths service = record { server = refl; boot = refl; isn = refl; live = refl; stage = (refl, refl) }
+asks_lengths service = record { server = refl; profile = refl; boot = refl; isn = refl; live = refl; stage = (refl, refl) }
 
 pub asks_bytes : {State : Type 0} (service : Machine State) → Turns service run.asks_lengths.node run.asks_bytes
 unfolding laws
-asks_bytes service = record { server = refl; boot = refl; isn = refl; live = refl; stage = (refl, refl) }
+asks_bytes service = record { server = refl; profile = refl; boot = refl; isn = refl; live = refl; stage = (refl, refl) }
 
 -- the entry's point
 abbrev fetched_point : Point
-fetched_point = point_of echo (entry_in (record run.entry_with_lengths { bytes = hello_text }))
+fetched_point = point_of echo plain (entry_in (record run.entry_with_lengths { bytes = hello_text }))
 
 pub serves_again : Turns echo run.asks_bytes.node run.serves_again
 unfolding laws
 serves_again = record {
   server = refl;
+  profile = refl;
   boot = refl;
   isn = refl;
   live = refl;

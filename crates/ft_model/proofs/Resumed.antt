@@ -4,6 +4,7 @@ use Rattle.std.specs.List.{AllByRecursion}
 use Rattle.std.proofs.lemmas.Option.{slice_get_within}
 use Rattle.ft_io.specs.declared.Addr.{Addr}
 use Rattle.ft_io.specs.declared.Key.{Key}
+use Rattle.seq_arith.specs.Profile.{Profile}
 use Rattle.server_trait.specs.Service.{Machine}
 use Rattle.ft_model.specs.Log.{Log, Entry}
 use Rattle.ft_model.specs.Network.{Packet}
@@ -47,20 +48,20 @@ nothing_missing entries count (f ∷ earlier) a none =
     (λ s. holds_if Ends (lacks_bytes f) (Some (Its_bytes f.head.key (length f.bytes))) _ (λ r e. none_is_some _ (sym e))
     (λ r e. (((r, s), a.3), no_next count (length (f ∷ earlier)) e)))) none
 
-restored_key : {State : Type 0} (service : Machine State) (f : Fetched) → key_of (restored service f) ≡ f.head.key
-restored_key service f = holds_if (λ p. key_of p ≡ f.head.key) f.head.done (Ended f.head.key) (Lives (point_of service (entry_in f))) (λ t. refl) (λ t. refl)
+restored_key : {State : Type 0} (service : Machine State) (profile : Profile) (f : Fetched) → key_of (restored service profile f) ≡ f.head.key
+restored_key service profile f = holds_if (λ p. key_of p ≡ f.head.key) f.head.done (Ended f.head.key) (Lives (point_of service profile (entry_in f))) (λ t. refl) (λ t. refl)
 
-pub restored_live : {State : Type 0} (service : Machine State) (f : Fetched) (e : Entry) → IsFront f e → e.done ≡ false → IsWhole f
-    → restored service f ≡ Lives (point_of service e)
-restored_live service f e front live whole =
+pub restored_live : {State : Type 0} (service : Machine State) (profile : Profile) (f : Fetched) (e : Entry) → IsFront f e → e.done ≡ false → IsWhole f
+    → restored service profile f ≡ Lives (point_of service profile e)
+restored_live service profile f e front live whole =
     let alive : f.head.done ≡ false = ap (λ h. h.done) front.head ∙ live in
-    ap (λ b. if b then Ended f.head.key else Lives (point_of service (entry_in f))) alive ∙ ap (λ x. Lives (point_of service x)) (whole_is f e front live whole)
+    ap (λ b. if b then Ended f.head.key else Lives (point_of service profile (entry_in f))) alive ∙ ap (λ x. Lives (point_of service profile x)) (whole_is f e front live whole)
 
-pub restored_length : {State : Type 0} (service : Machine State) (fetched : List Fetched) → length (all_restored service fetched) ≡ length fetched
-restored_length service [] = refl
-restored_length service (f ∷ earlier) =
-    let more = length-append (all_restored service earlier) (restored service f ∷ []) in
-    let so : length (all_restored service earlier) ≡ length earlier = restored_length service earlier in
+pub restored_length : {State : Type 0} (service : Machine State) (profile : Profile) (fetched : List Fetched) → length (all_restored service profile fetched) ≡ length fetched
+restored_length service profile [] = refl
+restored_length service profile (f ∷ earlier) =
+    let more = length-append (all_restored service profile earlier) (restored service profile f ∷ []) in
+    let so : length (all_restored service profile earlier) ≡ length earlier = restored_length service profile earlier in
     omega (arith, more, so)
 
 pub map_append : {A B : Type 0} (g : A → B) (xs ys : List A) → map g (xs ++ ys) ≡ map g xs ++ map g ys
@@ -86,44 +87,44 @@ get_next [] ys x = refl
 get_next (z ∷ zs) ys x = get_next zs ys x
 
 -- the keys of the restored places are a front of the log's
-pub restored_keys : {State : Type 0} (service : Machine State) (entries : List Entry) (fetched : List Fetched) → AreFetched entries fetched
-    → IsPrefix (map key_of (all_restored service fetched)) (map (λ e. e.key) entries)
-restored_keys service entries [] a = (map (λ e. e.key) entries, refl)
-restored_keys service entries (f ∷ earlier) a =
-    let earlier_keys : List Key = map key_of (all_restored service earlier) in
+pub restored_keys : {State : Type 0} (service : Machine State) (profile : Profile) (entries : List Entry) (fetched : List Fetched) → AreFetched entries fetched
+    → IsPrefix (map key_of (all_restored service profile fetched)) (map (λ e. e.key) entries)
+restored_keys service profile entries [] a = (map (λ e. e.key) entries, refl)
+restored_keys service profile entries (f ∷ earlier) a =
+    let earlier_keys : List Key = map key_of (all_restored service profile earlier) in
     let keys : List Key = map (λ e. e.key) entries in
-    let front : IsPrefix earlier_keys keys = restored_keys service entries earlier a.4 in
-    let size : length earlier_keys ≡ length earlier = length_map key_of (all_restored service earlier) ∙ restored_length service earlier in
-    let key : key_of (restored service f) ≡ a.0.key = restored_key service f ∙ ap (λ h. h.key) a.2.head in
-    let at : slice_get keys (length earlier_keys) ≡ Some (key_of (restored service f)) =
-    subst (λ n. slice_get keys n ≡ Some (key_of (restored service f))) (sym size) (get_map (λ e. e.key) entries (length earlier) a.0 a.1 ∙ ap Some (sym key)) in
-    let more : IsPrefix (earlier_keys ++ key_of (restored service f) ∷ []) (earlier_keys ++ front.0) =
-    front_more earlier_keys front.0 (key_of (restored service f)) (subst (λ l. slice_get l (length earlier_keys) ≡ Some (key_of (restored service f))) (sym front.1) at) in
-    subst (λ l. IsPrefix l keys) (sym (map_append key_of (all_restored service earlier) (restored service f ∷ [])))
-    (subst (λ l. IsPrefix (earlier_keys ++ key_of (restored service f) ∷ []) l) front.1 more)
+    let front : IsPrefix earlier_keys keys = restored_keys service profile entries earlier a.4 in
+    let size : length earlier_keys ≡ length earlier = length_map key_of (all_restored service profile earlier) ∙ restored_length service profile earlier in
+    let key : key_of (restored service profile f) ≡ a.0.key = restored_key service profile f ∙ ap (λ h. h.key) a.2.head in
+    let at : slice_get keys (length earlier_keys) ≡ Some (key_of (restored service profile f)) =
+    subst (λ n. slice_get keys n ≡ Some (key_of (restored service profile f))) (sym size) (get_map (λ e. e.key) entries (length earlier) a.0 a.1 ∙ ap Some (sym key)) in
+    let more : IsPrefix (earlier_keys ++ key_of (restored service profile f) ∷ []) (earlier_keys ++ front.0) =
+    front_more earlier_keys front.0 (key_of (restored service profile f)) (subst (λ l. slice_get l (length earlier_keys) ≡ Some (key_of (restored service profile f))) (sym front.1) at) in
+    subst (λ l. IsPrefix l keys) (sym (map_append key_of (all_restored service profile earlier) (restored service profile f ∷ [])))
+    (subst (λ l. IsPrefix (earlier_keys ++ key_of (restored service profile f) ∷ []) l) front.1 more)
 
-by_place : {State : Type 0} (service : Machine State) (entries : List Entry) (f : Fetched) (earlier : List Fetched) → AreFetched entries (f ∷ earlier)
+by_place : {State : Type 0} (service : Machine State) (profile : Profile) (entries : List Entry) (f : Fetched) (earlier : List Fetched) → AreFetched entries (f ∷ earlier)
     → AllByRecursion IsWhole (f ∷ earlier) → (i : ℕ) (e : Entry) → i < length (f ∷ earlier) → slice_get entries i ≡ Some e → e.done ≡ false
-    → ((j : ℕ) → j < length earlier → slice_get entries j ≡ Some e → slice_get (all_restored service earlier) j ≡ Some (Lives (point_of service e)))
-    → (b : Bool) → nat_lt i (length earlier) ≡ b → slice_get (all_restored service (f ∷ earlier)) i ≡ Some (Lives (point_of service e))
-by_place service entries f earlier a w i e less at live back true t =
-    get_left (all_restored service earlier) (restored service f ∷ []) i _ (back i (ltb-true _ _ t) at)
-by_place service entries f earlier a w i e less at live back false t =
+    → ((j : ℕ) → j < length earlier → slice_get entries j ≡ Some e → slice_get (all_restored service profile earlier) j ≡ Some (Lives (point_of service profile e)))
+    → (b : Bool) → nat_lt i (length earlier) ≡ b → slice_get (all_restored service profile (f ∷ earlier)) i ≡ Some (Lives (point_of service profile e))
+by_place service profile entries f earlier a w i e less at live back true t =
+    get_left (all_restored service profile earlier) (restored service profile f ∷ []) i _ (back i (ltb-true _ _ t) at)
+by_place service profile entries f earlier a w i e less at live back false t =
     let past : length earlier ≤ i = ltb-false _ _ t in
     let last : i ≡ length earlier = omega (arith, past, less) in
     let same : a.0 ≡ e = some_is a.0 e (sym a.1 ∙ (ap (slice_get entries) (sym last) ∙ at)) in
-    let place : restored service f ≡ Lives (point_of service e) = restored_live service f e (subst (IsFront f) same a.2) live w.0 in
-    let here : slice_get (all_restored service (f ∷ earlier)) (length (all_restored service earlier)) ≡ Some (restored service f) =
-    get_next (all_restored service earlier) [] (restored service f) in
-    subst (λ n. slice_get (all_restored service (f ∷ earlier)) n ≡ Some (Lives (point_of service e))) (restored_length service earlier ∙ sym last) (here ∙ ap Some place)
+    let place : restored service profile f ≡ Lives (point_of service profile e) = restored_live service profile f e (subst (IsFront f) same a.2) live w.0 in
+    let here : slice_get (all_restored service profile (f ∷ earlier)) (length (all_restored service profile earlier)) ≡ Some (restored service profile f) =
+    get_next (all_restored service profile earlier) [] (restored service profile f) in
+    subst (λ n. slice_get (all_restored service profile (f ∷ earlier)) n ≡ Some (Lives (point_of service profile e))) (restored_length service profile earlier ∙ sym last) (here ∙ ap Some place)
 
 -- each entry that isn't done stands among them, at its point
-pub restored_at : {State : Type 0} (service : Machine State) (entries : List Entry) (fetched : List Fetched) → AreFetched entries fetched → AllByRecursion IsWhole fetched
+pub restored_at : {State : Type 0} (service : Machine State) (profile : Profile) (entries : List Entry) (fetched : List Fetched) → AreFetched entries fetched → AllByRecursion IsWhole fetched
     → (i : ℕ) (e : Entry) → i < length fetched → slice_get entries i ≡ Some e → e.done ≡ false
-    → slice_get (all_restored service fetched) i ≡ Some (Lives (point_of service e))
-restored_at service entries [] a w i e less at live = absurd (omega (arith, less))
-restored_at service entries (f ∷ earlier) a w i e less at live =
-    by_place service entries f earlier a w i e less at live (λ j less' at'. restored_at service entries earlier a.4 w.1 j e less' at' live) (nat_lt i (length earlier)) refl
+    → slice_get (all_restored service profile fetched) i ≡ Some (Lives (point_of service profile e))
+restored_at service profile entries [] a w i e less at live = absurd (omega (arith, less))
+restored_at service profile entries (f ∷ earlier) a w i e less at live =
+    by_place service profile entries f earlier a w i e less at live (λ j less' at'. restored_at service profile entries earlier a.4 w.1 j e less' at' live) (nat_lt i (length earlier)) refl
 
 -- a place that revives is one place of the same key
 pub revived : {State : Type 0} (service : Machine State) (node : Node) (place : Place) (now : List Place) (sent : List Packet) → Revives service node place now sent
@@ -160,18 +161,18 @@ live_turn service server boot p q sent live t = subst (λ b. MatchBool b (ResetT
 
 resumes_all : {State : Type 0} (service : Machine State) (node : Node) (entries : List Entry) (count : ℕ) (fetched : List Fetched) (places : List Place) (sent : List Packet)
     → AreDistinct (map (λ e. e.key) entries) → count ≡ length entries → AreFetched entries fetched → wanted count fetched ≡ None
-    → AllGo (Revives service node) (all_restored service fetched) places sent
+    → AllGo (Revives service node) (all_restored service node.profile fetched) places sent
     → AllByRecursion (λ e. e.done ≡ false → IsResumed service node places e) entries
 resumes_all service node entries count fetched places sent d c a none t =
     let whole = nothing_missing entries count fetched a none in
     let keys : IsPrefix (map key_of places) (map (λ e. e.key) entries) =
-    subst (λ l. IsPrefix l (map (λ e. e.key) entries)) (sym (revived_keys service node (all_restored service fetched) places sent t)) (restored_keys service entries fetched a) in
+    subst (λ l. IsPrefix l (map (λ e. e.key) entries)) (sym (revived_keys service node (all_restored service node.profile fetched) places sent t)) (restored_keys service node.profile entries fetched a) in
     let apart : AreDistinct (map key_of places) = distinct_front (map key_of places) keys.0 (subst AreDistinct (sym keys.1) d) in
     all_from_get (λ e. e.done ≡ false → IsResumed service node places e) entries
     (λ i e at live. let within : i < length entries = slice_get_within entries i e at in
-    let stood = restored_at service entries fetched a whole.0 i e (omega (arith, within, c, whole.1)) at live in
-    let now = revived_at service node (all_restored service fetched) places sent i (point_of service e) t stood in
-    let turn : LiveTurn service node.server node.boot Begins (point_of service e) now.0 now.1 = live_turn service node.server node.boot (point_of service e) now.0 now.1 refl now.3 in
+    let stood = restored_at service node.profile entries fetched a whole.0 i e (omega (arith, within, c, whole.1)) at live in
+    let now = revived_at service node (all_restored service node.profile fetched) places sent i (point_of service node.profile e) t stood in
+    let turn : LiveTurn service node.server node.boot Begins (point_of service node.profile e) now.0 now.1 = live_turn service node.server node.boot (point_of service node.profile e) now.0 now.1 refl now.3 in
     let found : place_at (key_of (Lives now.0)) places ≡ Some (Lives now.0) = finds_itself key_of places i (Lives now.0) apart now.2 in
     record { point = now.0; sent = now.1; lives = subst (λ k. place_at k places ≡ Some (Lives now.0)) turn.same.key found; turn = turn })
 

@@ -1,5 +1,6 @@
 -- Each turn is lawful: each equation computes.
 use Rattle.std.proofs.Common.{refl}
+use Rattle.seq_arith.specs.Profile.{plain}
 use Rattle.ft_model.specs.News.News.{Comes}
 use Rattle.ft_model.specs.Node.{booted}
 use Rattle.ft_model.specs.Lawful.{Lawful, hello}
@@ -21,8 +22,8 @@ beyond_5 : Happens before.probe_4.node run.beyond_5
 unfolding laws
 beyond_5 = serves echo 1 5000 run.beyond_5.input before.opened before.opened run.beyond_5.sent refl refl refl (before.opened, refl, goes echo server 1 (Comes run.beyond) before.opened before.opened run.beyond_5.sent refl refl refl refl)
 
-pub edge_is_lawful : Lawful echo server 1 5000 (hello (booted server 1 5000)) run.edge_turns
+pub edge_is_lawful : Lawful echo server plain 1 5000 (hello (booted server plain 1 5000)) run.edge_turns
 edge_is_lawful = (refl, ((((((tt, probe_1), probe_2), probe_3), probe_4), edge_5), edge_6))
 
-pub beyond_is_lawful : Lawful echo server 1 5000 (hello (booted server 1 5000)) run.beyond_turns
+pub beyond_is_lawful : Lawful echo server plain 1 5000 (hello (booted server plain 1 5000)) run.beyond_turns
 beyond_is_lawful = (refl, (((((tt, probe_1), probe_2), probe_3), probe_4), beyond_5))

@@ -1,5 +1,6 @@
 -- Each turn is lawful: each equation computes.
 use Rattle.std.proofs.Common.{refl}
+use Rattle.seq_arith.specs.Profile.{plain}
 use Rattle.ft_model.specs.News.News.{Comes}
 use Rattle.ft_model.specs.Node.{booted}
 use Rattle.ft_model.specs.Lawful.{Lawful, hello}
@@ -11,11 +12,11 @@ use Rattle.ft_model.proofs.Turns.{laws, goes, serves}
 
 pub restart_3 : Turns echo run.restart_2.node run.restart_3
 unfolding laws
-restart_3 = record { server = refl; boot = refl; isn = refl; live = refl; stage = (refl, refl) }
+restart_3 = record { server = refl; profile = refl; boot = refl; isn = refl; live = refl; stage = (refl, refl) }
 
 restart_6 : Turns echo run.restart_5.node run.restart_6
 unfolding laws
 restart_6 = serves echo 2 900000 run.restart_6.input start.restarted run.taken run.restart_6.sent refl refl refl (run.taken, refl, goes echo server 2 (Comes run.more) start.restarted run.taken run.restart_6.sent refl refl refl refl)
 
-pub restart_is_lawful : Lawful echo server 2 900000 (hello (booted server 2 900000)) run.restart_turns
+pub restart_is_lawful : Lawful echo server plain 2 900000 (hello (booted server plain 2 900000)) run.restart_turns
 restart_is_lawful = (refl, ((((((tt, asks_entry echo), asks_lengths echo), restart_3), asks_bytes echo), serves_again), restart_6))

@@ -196,8 +196,8 @@ event_can service small writes start trace j (Boot boot isn) h e =
     let w : World = world_after start trace in
     let up = not_refused (is_some w.node) why.Up (first_free (is_some w.node) (nat_le boot w.boot) e) in
     let low = not_refused (nat_le boot w.boot) why.Boot (second_free (is_some w.node) (nat_le boot w.boot) e) in
-    let sent : List Packet = hello (booted w.server boot isn) in
-    let after : World = record w { boot = boot; node = Some (booted w.server boot isn); packets = w.packets ++ sent } in
+    let sent : List Packet = hello (booted w.server w.profile boot isn) in
+    let after : World = record w { boot = boot; node = Some (booted w.server w.profile boot isn); packets = w.packets ++ sent } in
     (sent, after, (is_none w.node up, (leb-false boot w.boot low, h.0), refl, refl), quiet_event w (Boot boot isn) sent after refl)
 event_can service small writes start trace j Crash h e =
     let w : World = world_after start trace in

@@ -10,7 +10,7 @@ use Rattle.ft_model.specs.News.{News}
 use Rattle.ft_model.specs.Point.{Point, acknowledgement, answered_run, released}
 use Rattle.ft_model.specs.PendingAck.{is_ack_pending}
 use Rattle.ft_model.specs.Segments.{new_length, texts, syn_acks, syn_ack, opens_with, fin_if_closed, first_unacknowledged, probe, probed_length, is_unacknowledged, resent, resent_length, new_texts, sends_fin, new_fin, full_segments, or_bare, bare_segment, segments_of, segment_at, text_at, fin_segment}
-use Rattle.ft_model.specs.Sending.{is_third_duplicate}
+use Rattle.ft_model.specs.Sending.{resends}
 use Rattle.ft_model.specs.Timer.{expires}
 use Rattle.ft_model.proofs.Lists.{all_append}
 use Rattle.ft_io.proofs.Choices.{holds_if}
@@ -57,7 +57,7 @@ resent_spoken : {State : Type 0} (service : Machine State) (server : Addr) (news
 unfolding resent
 resent_spoken service server news before after =
     let All : List Segment → Type 0 = AllByRecursion (Spoken service server news before after) in
-    holds_if All (expires news before || is_third_duplicate news before) _ []
+    holds_if All (expires news before || resends news before) _ []
     (λ e. holds_if All (is_unacknowledged before after) _ (probe service server before after) (λ t. first_spoken service server news before after)
     (λ t. probe_spoken service server news before after))
     (λ e. tt)

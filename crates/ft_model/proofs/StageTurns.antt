@@ -49,7 +49,7 @@ pub data StageWent {State : Type 0} (service : Machine State) (node : Node) (inp
   asked_on : (count : ℕ) (fetched : List Fetched) → Progress node input count fetched → after ≡ Fetching count fetched
       → sent ≡ asked node (wanted count fetched) → StageWent service node input sent after
   resumed : (count : ℕ) (fetched : List Fetched) (places : List Place) → Progress node input count fetched → wanted count fetched ≡ None
-      → after ≡ Serving (restored_count fetched) places → AllGo (Revives service node) (all_restored service fetched) places sent → StageWent service node input sent after
+      → after ≡ Serving (restored_count fetched) places → AllGo (Revives service node) (all_restored service node.profile fetched) places sent → StageWent service node input sent after
   served : (opened : ℕ) (places later : List Place) → node.stage ≡ Serving opened places → after ≡ Serving (opened + length (newcomers node input opened places)) later
       → ServingTurn service node input opened places later sent → StageWent service node input sent after
 

@@ -221,7 +221,7 @@ place_tells service node input packets place now sent w (went_on news p after e 
     let c = connection_tells service node.server node.boot news p after sent packets (subst (WasTold packets) e w) t in
     (subst (AllByRecursion (TellsNow packets sent)) (sym n) (c.0, tt), subst (λ k. TellsOnly k sent) (sym (ap key_of e)) c.1)
 place_tells service node input packets place now sent w (began asked kept after e h n t) =
-    let c = beginning_tells service node.server node.boot (point_opened kept) after sent packets t in
+    let c = beginning_tells service node.server node.boot (point_opened node.profile kept) after sent packets t in
     (subst (AllByRecursion (TellsNow packets sent)) (sym n) (c.0, tt), subst (λ k. TellsOnly k sent) (h.key ∙ sym (ap key_of e)) c.1)
 place_tells service node input packets place now sent w (dropped asked e d n s) = (
   subst (AllByRecursion (TellsNow packets sent)) (sym n) tt,

@@ -104,10 +104,10 @@ turn_tells service w node input sent after a d told e brought (held_off count fe
 turn_tells service w node input sent after a d told e brought (asked_on count fetched p g s) = subst (StageTold (w.packets ++ sent)) (sym g) tt
 turn_tells service w node input sent after a d told e brought (resumed count fetched places p none g t) =
     let agrees = progress_agrees w node input count fetched a e brought p in
-    let keys : IsPrefix (map key_of (all_restored service fetched)) (entry_keys w.log) = restored_keys service w.log.entries fetched agrees.1 in
-    let apart : AreDistinct (map key_of (all_restored service fetched)) =
-    distinct_front (map key_of (all_restored service fetched)) keys.0 (subst AreDistinct (sym keys.1) a.distinct) in
-    let all = all_tell (Revives service node) (λ place. Unit {0}) w.packets (revive_tells service node w.packets) (all_restored service fetched) places sent apart (all_unit (all_restored service fetched)) t in
+    let keys : IsPrefix (map key_of (all_restored service node.profile fetched)) (entry_keys w.log) = restored_keys service node.profile w.log.entries fetched agrees.1 in
+    let apart : AreDistinct (map key_of (all_restored service node.profile fetched)) =
+    distinct_front (map key_of (all_restored service node.profile fetched)) keys.0 (subst AreDistinct (sym keys.1) a.distinct) in
+    let all = all_tell (Revives service node) (λ place. Unit {0}) w.packets (revive_tells service node w.packets) (all_restored service node.profile fetched) places sent apart (all_unit (all_restored service node.profile fetched)) t in
     subst (StageTold (w.packets ++ sent)) (sym g) (all_weaker (TellsNow w.packets sent) (WasTold (w.packets ++ sent)) places (told_then w.packets sent) all.0)
 turn_tells service w node input sent after a d told e brought (served opened places later b g t) =
     let was : AreDistinct (map key_of places) = subst StageDistinct b (d node e) in
@@ -154,7 +154,7 @@ telling_goes_on service before sent after a d t (server_turned input node later 
     (λ n g. subst (λ x. StageTold (before.packets ++ sent) x.stage) (some_is later n g)
     (turn_tells service before node input sent later.stage a d t is brought (stage_went service node later input sent turn)))
 telling_goes_on service before sent after a d t (server_booted boot isn down larger s e) =
-    subst IsTelling (sym e) (λ n g. subst (λ x. StageTold (before.packets ++ sent) x.stage) (some_is (booted before.server boot isn) n g) tt)
+    subst IsTelling (sym e) (λ n g. subst (λ x. StageTold (before.packets ++ sent) x.stage) (some_is (booted before.server before.profile boot isn) n g) tt)
 telling_goes_on service before sent after a d t (server_down s e) = subst IsTelling (sym e) (λ n g. none_is_some n g)
 
 -- what holds of the places holds of the points

@@ -1,6 +1,7 @@
 -- Each turn can be made: from each stand, each input has a lawful turn, and the counts stay in order.
 use Rattle.std.proofs.Common.{◌≡◌, ℕ, ◌≤◌, ◌+◌, Bool, true, false, ◌==◌, ◌&&◌, nat_lt, refl, MatchBool, Option, Some, None, List, [], ◌∷◌, ◌++◌, map, length, length-append, le_refl, true≢false, flat_map, arith, if◌then◌else◌}
 use Rattle.std.specs.List.{AllByRecursion}
+use Rattle.seq_arith.specs.Profile.{Profile}
 use Rattle.seq_arith.specs.Message.{Numbers, Body}
 use Rattle.seq_arith.specs.Message.Body.{OpenedMsg, StableMsg, ReadsMsg, EndedMsg, FullMsg}
 use Rattle.server_trait.specs.Service.{Machine}
@@ -37,7 +38,7 @@ counts_after : {State : Type 0} (service : Machine State) (news : News) (p : Poi
     → (turned service news p).reads_answered ≤ length (turned service news p).lengths
 unfolding turned
 counts_after service news p counts =
-    let ns : List ℕ = reads_from service 32 (noted news p p.lengths 0 0 0 0) in
+    let ns : List ℕ = reads_from service 32 (noted news p p.lengths 0 p.timing 0 0 0) in
     let within : reads_answered_after news p ≤ length p.lengths = counts_within news p counts in
     let longer : length (p.lengths ++ ns) ≡ length p.lengths + length ns = length-append p.lengths ns in
     omega (arith, within, longer)
@@ -62,8 +63,8 @@ lives service node news p counts =
     (Lives r.0 ∷ [], r.1, (r.0, refl, r.2), (r.3, tt))
 
 opens : {State : Type 0} (service : Machine State) (node : Node) (kept : Numbers) (b : Bool)
-    → (now : List Place) × (sent : List Packet) × MatchBool b (LivesOn service node Begins (point_opened kept) now sent) ((now ≡ []) × (sent ≡ [])) × AllByRecursion CountsReads now
-opens service node kept true = lives service node Begins (point_opened kept) (le_refl 0)
+    → (now : List Place) × (sent : List Packet) × MatchBool b (LivesOn service node Begins (point_opened node.profile kept) now sent) ((now ≡ []) × (sent ≡ [])) × AllByRecursion CountsReads now
+opens service node kept true = lives service node Begins (point_opened node.profile kept) (le_refl 0)
 opens service node kept false = ([], [], (refl, refl), tt)
 
 hears : {State : Type 0} (service : Machine State) (node : Node) (body : Body) (place : Place) → CountsReads place → Outcome (Hears service node body) place
@@ -109,14 +110,14 @@ new_count node (Packet_comes segment) opened places =
     one_place (is_strange node segment places && is_syn segment && nat_lt (pending_count places) 64) (numbers_for node.isn opened segment)
 new_count node _ opened places = tt
 
-by_done : {State : Type 0} (service : Machine State) (f : Fetched) (b : Bool) → CountsReads (if b then Ended f.head.key else Lives (point_of service (entry_in f)))
-by_done service f true = tt
-by_done service f false = le_refl (length f.lengths)
+by_done : {State : Type 0} (service : Machine State) (profile : Profile) (f : Fetched) (b : Bool) → CountsReads (if b then Ended f.head.key else Lives (point_of service profile (entry_in f)))
+by_done service profile f true = tt
+by_done service profile f false = le_refl (length f.lengths)
 
-restored_count_reads : {State : Type 0} (service : Machine State) (fetched : List Fetched) → AllByRecursion CountsReads (all_restored service fetched)
-restored_count_reads service [] = tt
-restored_count_reads service (f ∷ earlier) =
-    all_append CountsReads (all_restored service earlier) (restored service f ∷ []) (restored_count_reads service earlier) (by_done service f f.head.done, tt)
+restored_count_reads : {State : Type 0} (service : Machine State) (profile : Profile) (fetched : List Fetched) → AllByRecursion CountsReads (all_restored service profile fetched)
+restored_count_reads service profile [] = tt
+restored_count_reads service profile (f ∷ earlier) =
+    all_append CountsReads (all_restored service profile earlier) (restored service profile f ∷ []) (restored_count_reads service profile earlier) (by_done service profile f f.head.done, tt)
 
 -- what a stage's law has
 abbrev Reached : (Stage → List Packet → Type 0) → Type 0
@@ -126,7 +127,7 @@ continues : {State : Type 0} (service : Machine State) (node : Node) (count : �
     → Reached (Continues service node count fetched w)
 continues service node count fetched (Some w) = (Fetching count fetched, asked node (Some w), (refl, refl), tt)
 continues service node count fetched None =
-    let r = all_go (Revives service node) (revives service node) (all_restored service fetched) (restored_count_reads service fetched) in
+    let r = all_go (Revives service node) (revives service node) (all_restored service node.profile fetched) (restored_count_reads service node.profile fetched) in
     (Serving (restored_count fetched) r.0, r.1, (r.0, refl, r.2), r.3)
 
 asks_on : {State : Type 0} (service : Machine State) (node : Node) (count : Option ℕ) → Reached (Asks service node count)
@@ -166,4 +167,4 @@ pub turn_exists : {State : Type 0} (service : Machine State) (before : Node) (in
     → (after : Node) × (sent : List Packet) × LawfulTurn service before input sent after × AllCount after.stage
 turn_exists service before input live counts =
     let r : Reached (NodeTurn service before input (fence before input)) = by_fence service before input live counts (fence before input) in
-    (record before { stage = r.0 }, r.1, record { server = refl; boot = refl; isn = refl; live = live; stage = r.2 }, r.3)
+    (record before { stage = r.0 }, r.1, record { server = refl; profile = refl; boot = refl; isn = refl; live = live; stage = r.2 }, r.3)

@@ -45,9 +45,9 @@ lives_once service node news p now later sent other s t =
     (s.1 ∙ (ap (λ q. Lives q ∷ []) once.0 ∙ sym t.1), once.1)
 
 opened_once : {State : Type 0} (service : Machine State) (node : Node) (b : Bool) (kept : Numbers) (now later : List Place) (sent other : List Packet)
-    → MatchBool b (LivesOn service node Begins (point_opened kept) now sent) ((now ≡ []) × (sent ≡ []))
-    → MatchBool b (LivesOn service node Begins (point_opened kept) later other) ((later ≡ []) × (other ≡ [])) → (now ≡ later) × (sent ≡ other)
-opened_once service node true kept now later sent other s t = lives_once service node Begins (point_opened kept) now later sent other s t
+    → MatchBool b (LivesOn service node Begins (point_opened node.profile kept) now sent) ((now ≡ []) × (sent ≡ []))
+    → MatchBool b (LivesOn service node Begins (point_opened node.profile kept) later other) ((later ≡ []) × (other ≡ [])) → (now ≡ later) × (sent ≡ other)
+opened_once service node true kept now later sent other s t = lives_once service node Begins (point_opened node.profile kept) now later sent other s t
 opened_once service node false kept now later sent other s t = both now later [] sent other [] s t
 
 hears_once : {State : Type 0} (service : Machine State) (node : Node) (body : Body) (place : Place) (now later : List Place) (sent other : List Packet)
@@ -109,7 +109,7 @@ continues_once : {State : Type 0} (service : Machine State) (node : Node) (count
 continues_once service node count fetched (Some w) after also sent other s t = (s.0 ∙ sym t.0, s.1 ∙ sym t.1)
 continues_once service node count fetched None after also sent other s t =
     let once : (s.0 ≡ t.0) × (sent ≡ other) =
-    all_once (Revives service node) (revives_once service node) (all_restored service fetched) s.0 t.0 sent other s.2 t.2 in
+    all_once (Revives service node) (revives_once service node) (all_restored service node.profile fetched) s.0 t.0 sent other s.2 t.2 in
     (s.1 ∙ (ap (Serving (restored_count fetched)) once.0 ∙ sym t.1), once.1)
 
 asking_once : {State : Type 0} (service : Machine State) (node : Node) (count : Option ℕ) (after also : Stage) (sent other : List Packet)
@@ -141,10 +141,10 @@ by_fence : {State : Type 0} (service : Machine State) (node : Node) (input : Inp
 by_fence service node input (Some newer) after also sent other s t = (s.0 ∙ sym t.0, s.1 ∙ sym t.1)
 by_fence service node input None after also sent other s t = stage_once service node node.stage input after also sent other s t
 
-same_node : (after other : Node) → after.server ≡ other.server → after.boot ≡ other.boot → after.isn ≡ other.isn → after.stage ≡ other.stage → after ≡ other
-same_node after other server boot isn stage =
-    let same : record { server = after.server; boot = after.boot; isn = after.isn; stage = after.stage } ≡ record { server = other.server; boot = other.boot; isn = other.isn; stage = other.stage } =
-    cc (server, boot, isn, stage) in
+same_node : (after other : Node) → after.server ≡ other.server → after.profile ≡ other.profile → after.boot ≡ other.boot → after.isn ≡ other.isn → after.stage ≡ other.stage → after ≡ other
+same_node after other server profile boot isn stage =
+    let same : record { server = after.server; profile = after.profile; boot = after.boot; isn = after.isn; stage = after.stage } ≡ record { server = other.server; profile = other.profile; boot = other.boot; isn = other.isn; stage = other.stage } =
+    cc (server, profile, boot, isn, stage) in
     same
 
 pub turn_once : {State : Type 0} (service : Machine State) (before after other : Node) (input : Input) (sent also : List Packet)
@@ -152,4 +152,4 @@ pub turn_once : {State : Type 0} (service : Machine State) (before after other :
 turn_once service before after other input sent also s t =
     let once : (after.stage ≡ other.stage) × (sent ≡ also) =
     by_fence service before input (fence before input) after.stage other.stage sent also s.stage t.stage in
-    (same_node after other (s.server ∙ sym t.server) (s.boot ∙ sym t.boot) (s.isn ∙ sym t.isn) once.0, once.1)
+    (same_node after other (s.server ∙ sym t.server) (s.profile ∙ sym t.profile) (s.boot ∙ sym t.boot) (s.isn ∙ sym t.isn) once.0, once.1)

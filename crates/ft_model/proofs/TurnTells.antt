@@ -1,5 +1,5 @@
 -- Every turn of a live connection tells its client what is taken and logged, or has nothing new to tell; and it leaves no read to make.
-use Rattle.std.proofs.Common.{◌≡◌, ℕ, zero, suc, ◌+◌, ◌-◌, ◌≤◌, Bool, true, false, not, nat_lt, min, ◌==◌, ◌||◌, refl, sym, ap, ap₂, ◌∙◌, subst, true≢false, None, List, [], ◌∷◌, ◌++◌, map, arith, append-nil, append_assoc, if◌then◌else◌}
+use Rattle.std.proofs.Common.{◌≡◌, ℕ, zero, suc, ◌+◌, ◌-◌, ◌≤◌, Bool, true, false, not, nat_lt, min, ◌==◌, ◌||◌, refl, sym, ap, ap₂, ◌∙◌, subst, true≢false, ◌⊎◌, inl, inr, ⊎_elim, ◌&&◌, is_none, length, None, List, [], ◌∷◌, ◌++◌, map, arith, append-nil, append_assoc, if◌then◌else◌}
 use Rattle.std.specs.List.{AllByRecursion, list_any}
 use Rattle.ft_io.specs.declared.Addr.{Addr}
 use Rattle.seq_arith.specs.Number.{number_at}
@@ -10,15 +10,15 @@ use Rattle.ft_model.specs.Network.{Packet}
 use Rattle.ft_model.specs.Network.Packet.{To_client}
 use Rattle.ft_model.specs.News.{News}
 use Rattle.ft_model.specs.News.News.{Logged, Begins}
-use Rattle.ft_model.specs.Point.{Point, taken_units, acknowledgement, advertised_edge, answered_run, released}
+use Rattle.ft_model.specs.Point.{Point, taken_units, acknowledgement, advertised_edge, window, answered_run, released}
 use Rattle.ft_model.specs.Answered.{answered_after}
 use Rattle.ft_model.specs.Reads.{Makes, next_read, with_read}
-use Rattle.ft_model.specs.PendingAck.{is_ack_pending, asks}
-use Rattle.ft_model.specs.Segments.{window, new_length, texts, syn_acks, syn_ack, opens_with, fin_if_closed, first_unacknowledged, probe, probed_length, is_unacknowledged, resent, new_texts, sends_fin, new_fin, full_segments, or_bare, bare_segment, segments_of, text_at, fin_segment}
+use Rattle.ft_model.specs.PendingAck.{is_ack_pending, is_ack_due, is_delayed, is_segment as is_by_segment, asks}
+use Rattle.ft_model.specs.Segments.{new_length, texts, syn_acks, syn_ack, opens_with, fin_if_closed, first_unacknowledged, probe, probed_length, is_unacknowledged, resent, new_texts, sends_fin, new_fin, full_segments, or_bare, bare_segment, segments_of, text_at, fin_segment}
 use Rattle.ft_model.specs.Copy.{copies}
 use Rattle.ft_model.specs.Reads.{reads_told}
 use Rattle.ft_model.specs.ResetAndEnd.{dones}
-use Rattle.ft_model.specs.Sending.{is_third_duplicate}
+use Rattle.ft_model.specs.Sending.{resends}
 use Rattle.ft_model.specs.Timer.{expires}
 use Rattle.ft_model.specs.Acknowledgement.{is_segment, Tells, IsTold}
 use Rattle.ft_model.specs.Connection.{LiveTurn, told_by}
@@ -64,7 +64,7 @@ segments_tell service server news before after =
     let syns : AllByRecursion (TellsIn after) (syn_acks server news before after) = one_or_none (TellsIn after) (opens_with news before) (syn_ack server after) (refl, refl) in
     let All : List Segment → Type 0 = AllByRecursion (TellsIn after) in
     let again : All (resent service server news before after) =
-    holds_either_way All (expires news before || is_third_duplicate news before) _ []
+    holds_either_way All (expires news before || resends news before) _ []
     (holds_either_way All (is_unacknowledged before after) (first_unacknowledged service server before after) (probe service server before after)
     (first_tells service server before after) (probe_tells service server before after)) tt in
     let fresh : AllByRecursion (TellsIn after) (new_texts service server before after) =
@@ -105,9 +105,36 @@ unfolding answered_after
 answered_grows (Logged kept) p = omega arith
 answered_grows _ p = omega arith
 
+both_true : (f g : Bool) → (f && g) ≡ true → (f ≡ true) × (g ≡ true)
+both_true true true h = (refl, refl)
+both_true false _ h = absurd (true≢false (sym h))
+both_true true false h = absurd (true≢false (sym h))
+
+-- an ACK that isn't pending is not due, or waits
+due_or_delayed : (due delayed : Bool) → (not delayed && due) ≡ false → (due ≡ false) ⊎ (delayed ≡ true)
+due_or_delayed false delayed e = inl refl
+due_or_delayed true true e = inr refl
+due_or_delayed true false e = absurd (true≢false e)
+
+-- of an ACK that waits, acknowledgement and window are those of before
+last_two : (a b c d e f g : Bool) → (a && b && c && d && e && f && g) ≡ true → (f ≡ true) × (g ≡ true)
+last_two true true true true true f g h = both_true f g h
+last_two false _ _ _ _ _ _ h = absurd (true≢false (sym h))
+last_two true false _ _ _ _ _ h = absurd (true≢false (sym h))
+last_two true true false _ _ _ _ h = absurd (true≢false (sym h))
+last_two true true true false _ _ _ h = absurd (true≢false (sym h))
+last_two true true true true false _ _ h = absurd (true≢false (sym h))
+
+delayed_repeats : (news : News) (before after : Point) → is_delayed news before after ≡ true → (acknowledgement after ≡ acknowledgement before) × (window after ≡ window before)
+unfolding is_delayed
+delayed_repeats news before after d =
+    let parts = last_two before.delays (is_by_segment news) (nat_lt (taken_units before) (taken_units after)) (length after.early.text == 0) (is_none after.early.fin)
+    (acknowledgement before == acknowledgement after) (window before == window after) d in
+    (grind (arith, parts.0), grind (arith, parts.1))
+
 pub told : {State : Type 0} (service : Machine State) (server : Addr) (boot : ℕ) (news : News) (before after : Point) (sent : List Packet)
     → LiveTurn service server boot news before after sent → IsTold before after sent
-unfolding segments_of is_ack_pending
+unfolding segments_of is_ack_pending is_ack_due
 told service server boot news before after sent t =
     let bodies : List Body = copies news before after ++ (reads_told news before after ++ dones news before after) in
     let segments : List Segment = segments_of service server news before after in
@@ -119,14 +146,16 @@ told service server boot news before after sent t =
           let none : segments ≡ [] = none_sent segments (map (told_by boot) bodies) (sym (ap (list_any is_segment) t.packets) ∙ e) in
           let quiet : is_ack_pending service news before after ≡ false =
           no_ack_pending (is_ack_pending service news before after) (bare_segment server after) (full_segments service server news before after) none in
-          let parts = nothing_pending (asks service news before) (nat_lt before.answered after.answered) (taken_units before == taken_units after) (advertised_edge before == advertised_edge after) quiet in
+          ⊎_elim (λ undue.
+          let parts = nothing_pending (asks service news before) (nat_lt before.answered after.answered) (taken_units before == taken_units after) (advertised_edge before == advertised_edge after) undue in
           let grew : before.answered ≤ after.answered = subst (λ n. before.answered ≤ n) (sym t.answered) (answered_grows news before) in
           let fell : after.answered ≤ before.answered = grind (arith, parts) in
           let answered : after.answered ≡ before.answered = omega (arith, grew, fell) in
           let units : taken_units after ≡ taken_units before = grind (arith, parts) in
           let edge : advertised_edge after ≡ advertised_edge before = grind (arith, parts) in
           let ack : acknowledgement after ≡ acknowledgement before = ap₂ min units answered in
-          (ack, ap₂ (λ x y. min 65535 (x - y)) edge ack);
+          (ack, ap₂ (λ x y. min 65535 (x - y)) edge ack)) (delayed_repeats news before after)
+          (due_or_delayed (is_ack_due service news before after) (is_delayed news before after) quiet);
     }
 
 -- when these reads are made there is none left
@@ -141,14 +170,23 @@ settled_reads service server boot news before after sent t =
     subst (λ ns. next_read service (record after { lengths = ns }) ≡ None) (sym t.reads.lengths)
     (none_left service (record after { lengths = before.lengths }) t.reads.news t.reads.makes)
 
-some_sent : (bare : Segment) (segments : List Segment) (others : List Packet) → list_any is_segment (map To_client (or_bare true bare segments) ++ others) ≡ true
-some_sent bare [] others = refl
-some_sent bare (segment ∷ segments) others = refl
+some_sent : (pending : Bool) (bare : Segment) (segments : List Segment) (others : List Packet) → pending ≡ true
+    → list_any is_segment (map To_client (or_bare pending bare segments) ++ others) ≡ true
+some_sent true bare [] others e = refl
+some_sent false bare [] others e = absurd (true≢false (sym e))
+some_sent pending bare (segment ∷ segments) others e = refl
+
+-- only what a segment brings is delayed
+never_delayed : (delays more text fin ack edge : Bool) → (not (delays && false && more && text && fin && ack && edge) && true) ≡ true
+never_delayed true more text fin ack edge = refl
+never_delayed false more text fin ack edge = refl
 
 pub begins_told : {State : Type 0} (service : Machine State) (server : Addr) (boot : ℕ) (before after : Point) (sent : List Packet)
     → LiveTurn service server boot Begins before after sent → list_any is_segment sent ≡ true
-unfolding segments_of is_ack_pending
+unfolding segments_of is_ack_pending is_ack_due is_delayed
 begins_told service server boot before after sent t =
     let bodies : List Body = copies Begins before after ++ (reads_told Begins before after ++ dones Begins before after) in
     ap (list_any is_segment) t.packets
-    ∙ some_sent (bare_segment server after) (full_segments service server Begins before after) (map (told_by boot) bodies)
+    ∙ some_sent (is_ack_pending service Begins before after) (bare_segment server after) (full_segments service server Begins before after) (map (told_by boot) bodies)
+    (never_delayed before.delays (nat_lt (taken_units before) (taken_units after)) (length after.early.text == 0) (is_none after.early.fin)
+    (acknowledgement before == acknowledgement after) (window before == window after))

@@ -157,7 +157,7 @@ unfenced_goes_on service before sent after f u (server_booted boot isn down larg
     (record {
       packets = all_append (StaleWithin boot) before.packets sent (all_weaker (StaleWithin before.boot) _ before.packets (stale_later before.boot boot (omega (arith, larger))) u.packets)
           (subst (AllByRecursion (StaleWithin boot)) (sym s) (tt, tt));
-      node = λ x g. subst (λ n. is_fenced n.stage ≡ false) (some_is (booted before.server boot isn) x g) refl;
+      node = λ x g. subst (λ n. is_fenced n.stage ≡ false) (some_is (booted before.server before.profile boot isn) x g) refl;
     })
 unfenced_goes_on service before sent after f u (server_down s e) =
     subst Unfenced (sym e)

@@ -2,6 +2,7 @@
 use Rattle.std.proofs.Common.{◌^◌, ◌≡◌, ℕ, Bool, false, ◌==◌, refl, sym, ap, true≢false, subst, None, List, [], ◌∷◌, ◌++◌}
 use Rattle.std.specs.List.{AllByRecursion}
 use native.Mathlib.Bridge.{le_by_compare, IsLe}
+use Rattle.seq_arith.specs.Profile.{plain}
 use Rattle.seq_arith.specs.Message.Body.{HelloMsg, SummaryMsg, ListMsg, EntryMsg, ReadsMsg, StaleMsg}
 use Rattle.ft_model.specs.Client.Move.{Text}
 use Rattle.ft_model.specs.Log.{Entry}
@@ -51,9 +52,9 @@ happens_15 : (told : Packet) → Happens meter (run.moment_14 told).world (run.m
 unfolding laws
 happens_15 told = (to_log 2 HelloMsg, refl, (refl, refl))
 
-turn_16 : LawfulTurn meter (booted server 2 900000) (Message_comes (message_in (from_log 2 (SummaryMsg 1)))) (to_log 2 (ListMsg 0) ∷ []) (fetching 2 900000 [])
+turn_16 : LawfulTurn meter (booted server plain 2 900000) (Message_comes (message_in (from_log 2 (SummaryMsg 1)))) (to_log 2 (ListMsg 0) ∷ []) (fetching 2 900000 [])
 unfolding laws
-turn_16 = record { server = refl; boot = refl; isn = refl; live = refl; stage = (refl, refl) }
+turn_16 = record { server = refl; profile = refl; boot = refl; isn = refl; live = refl; stage = (refl, refl) }
 
 happens_16 : (told : Packet) → Happens meter (run.moment_15 told).world (run.moment_16 told).event (run.moment_16 told).sent (run.moment_16 told).world
 unfolding laws
@@ -67,14 +68,15 @@ turn_18 : LawfulTurn meter (fetching 2 900000 []) (Message_comes (message_in (fr
 unfolding laws
 turn_18 = record {
   server = refl;
+  profile = refl;
   boot = refl;
   isn = refl;
   live = refl;
   stage = (
     Lives run.restarted ∷ [],
     refl,
-    alone (Revives meter (fetching 2 900000 [])) (Lives (point_of meter (entry_in (fetched_with (head_with 0 false 0 0) [] [])))) (Lives run.restarted ∷ []) (run.bare ∷ [])
-        (run.restarted, refl, goes meter server 2 Begins (point_of meter (entry_in (fetched_with (head_with 0 false 0 0) [] []))) run.restarted (run.bare ∷ []) refl refl refl refl),
+    alone (Revives meter (fetching 2 900000 [])) (Lives (point_of meter plain (entry_in (fetched_with (head_with 0 false 0 0) [] [])))) (Lives run.restarted ∷ []) (run.bare ∷ [])
+        (run.restarted, refl, goes meter server 2 Begins (point_of meter plain (entry_in (fetched_with (head_with 0 false 0 0) [] []))) run.restarted (run.bare ∷ []) refl refl refl refl),
   );
 }
 

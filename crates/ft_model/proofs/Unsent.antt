@@ -1,14 +1,13 @@
 -- A segment that acknowledges what was never sent changes nothing of its connection.
-use Rattle.std.proofs.Common.{◌≡◌, ℕ, ◌+◌, ℤ, pos, negsuc, Bool, true, false, ◌==◌, ◌&&◌, ◌||◌, not, nat_lt, int_le, int_lt, max, refl, sym, ap, ◌∙◌, subst, true≢false, List, ◌++◌, length, arith, append-nil, if◌then◌else◌}
-use Rattle.std.proofs.lemmas.Int.{ints}
+use Rattle.std.proofs.Common.{◌≡◌, ℕ, ◌+◌, ℤ, pos, negsuc, true, false, ◌&&◌, ◌||◌, not, int_le, int_lt, refl, sym, ap, ◌∙◌, true≢false, ◌++◌, arith, append-nil}
 use Rattle.std.proofs.lemmas.Bool.{and_parts, and_left, and_right, not_from_true, not_from_false, not-true}
 use Rattle.seq_arith.specs.Packet.{Segment, has_syn, has_rst, has_ack}
-use Rattle.seq_arith.specs.Coming.{Came, nothing_came, comes}
-use Rattle.ft_model.specs.Offset.{first_of, ack_of, text_of, fin_of, length_of}
+use Rattle.seq_arith.specs.Coming.{Came, nothing_came}
+use Rattle.ft_model.specs.Offset.{ack_of}
 use Rattle.ft_model.specs.News.News.{Comes}
-use Rattle.ft_model.specs.Point.{Point, most, receive_edge}
+use Rattle.ft_model.specs.Point.{Point, most}
 use Rattle.ft_model.specs.Taken.{accepts, uses, acknowledges_unsent, counts, came, taken_after, early_after, fin_after}
-use Rattle.ft_model.specs.Sending.{acknowledges, acknowledged_by, window_by, moves_edge, acknowledges_new, is_duplicate, syn_acked_after, acknowledged_after, edge_after, wl1_after, wl2_after, congestion_after}
+use Rattle.ft_model.specs.Sending.{acknowledges, moves_edge, acknowledges_new, is_duplicate, syn_acked_after, acknowledged_after, edge_after, wl1_after, wl2_after, congestion_after}
 use Rattle.ft_model.specs.PendingAck.{needs_ack, needs_ack_if_acceptable}
 use Rattle.ft_io.proofs.Choices.{holds_if, holds_either_way, if_false}
 use Rattle.ft_io.proofs.Booleans.{or_false, or_true}

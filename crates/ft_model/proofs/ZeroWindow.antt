@@ -1,5 +1,6 @@
 -- Each turn is lawful: each equation computes.
 use Rattle.std.proofs.Common.{true, false, refl, [], ◌∷◌}
+use Rattle.seq_arith.specs.Profile.{plain}
 use Rattle.ft_model.specs.News.News.{Comes, Logged, Ticks, Begins}
 use Rattle.ft_model.specs.Opening.{point_opened}
 use Rattle.ft_model.specs.Node.{Node, booted}
@@ -14,18 +15,19 @@ use Rattle.ft_model.proofs.Turns.{laws, alone, goes, serves}
 abbrev pub Happens : Node → Turn → Type 0
 Happens before turn = LawfulTurn echo before turn.input turn.sent turn.node
 
-pub probe_1 : Happens (booted server 1 5000) run.probe_1
+pub probe_1 : Happens (booted server plain 1 5000) run.probe_1
 unfolding laws
-probe_1 = record { server = refl; boot = refl; isn = refl; live = refl; stage = ([], refl, (refl, refl)) }
+probe_1 = record { server = refl; profile = refl; boot = refl; isn = refl; live = refl; stage = ([], refl, (refl, refl)) }
 
 pub probe_2 : Happens run.probe_1.node run.probe_2
 unfolding laws
-probe_2 = record { server = refl; boot = refl; isn = refl; live = refl; stage = (Opens numbers ∷ [], refl, record { went = []; by_places = []; all_go = (refl, refl); places = refl; packets = refl }) }
+probe_2 = record { server = refl; profile = refl; boot = refl; isn = refl; live = refl; stage = (Opens numbers ∷ [], refl, record { went = []; by_places = []; all_go = (refl, refl); places = refl; packets = refl }) }
 
 pub probe_3 : Happens run.probe_2.node run.probe_3
 unfolding laws
 probe_3 = record {
   server = refl;
+  profile = refl;
   boot = refl;
   isn = refl;
   live = refl;
@@ -36,7 +38,7 @@ probe_3 = record {
       went = Lives run.begun ∷ [];
       by_places = run.probe_3.sent;
       all_go = alone (PlaceTurn echo run.probe_2.node run.probe_3.input) (Opens numbers) (Lives run.begun ∷ []) run.probe_3.sent
-          (run.begun, refl, goes echo server 1 Begins (point_opened numbers) run.begun run.probe_3.sent refl refl refl refl);
+          (run.begun, refl, goes echo server 1 Begins (point_opened plain numbers) run.begun run.probe_3.sent refl refl refl refl);
       places = refl;
       packets = refl;
     },
@@ -91,7 +93,7 @@ pub probe_15 : Happens run.probe_14.node run.probe_15
 unfolding laws
 probe_15 = serves echo 1 5000 run.probe_15.input (run.given 4 1) run.lost run.probe_15.sent refl refl refl (run.lost, refl, goes echo server 1 Ticks (run.given 4 1) run.lost run.probe_15.sent refl refl refl refl)
 
-pub probe_is_lawful : Lawful echo server 1 5000 (hello (booted server 1 5000)) run.probe_turns
+pub probe_is_lawful : Lawful echo server plain 1 5000 (hello (booted server plain 1 5000)) run.probe_turns
 probe_is_lawful = (refl, (((((((((((((((tt, probe_1), probe_2), probe_3), probe_4), probe_5), probe_6), probe_7), probe_8), probe_9), probe_10), probe_11), probe_12), probe_13), probe_14), probe_15))
 
 fin_5 : Happens run.probe_4.node run.fin_5
@@ -122,5 +124,5 @@ fin_11 : Happens run.fin_10.node run.fin_11
 unfolding laws
 fin_11 = serves echo 1 5000 run.fin_11.input (run.fin_probed 4 4) run.over run.fin_11.sent refl refl refl (run.over, refl, goes echo server 1 (Comes run.last_ack) (run.fin_probed 4 4) run.over run.fin_11.sent refl refl refl refl)
 
-pub fin_probe_is_lawful : Lawful echo server 1 5000 (hello (booted server 1 5000)) run.fin_turns
+pub fin_probe_is_lawful : Lawful echo server plain 1 5000 (hello (booted server plain 1 5000)) run.fin_turns
 fin_probe_is_lawful = (refl, (((((((((((tt, probe_1), probe_2), probe_3), probe_4), fin_5), fin_6), fin_7), fin_8), fin_9), fin_10), fin_11))

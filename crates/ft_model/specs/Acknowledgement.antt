@@ -5,8 +5,7 @@ use Rattle.std.specs.List.{AllByRecursion, list_any}
 use Rattle.seq_arith.specs.Number.{number_at}
 use Rattle.ft_model.specs.Network.{Packet}
 use Rattle.ft_model.specs.Network.Packet.{To_server, To_client, To_logger, From_logger}
-use Rattle.ft_model.specs.Point.{Point, acknowledgement}
-use Rattle.ft_model.specs.Segments.{window}
+use Rattle.ft_model.specs.Point.{Point, acknowledgement, window}
 
 abbrev pub is_segment : Packet → Bool
 is_segment (To_client segment) = true

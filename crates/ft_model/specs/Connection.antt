@@ -11,7 +11,7 @@ use Rattle.ft_model.specs.News.{News}
 use Rattle.ft_model.specs.Taken.{taken_after, early_after, fin_after}
 use Rattle.ft_model.specs.Answered.{answered_after, reads_answered_after}
 use Rattle.ft_model.specs.Reads.{MakesReads, reads_told}
-use Rattle.ft_model.specs.Sending.{syn_acked_after, acknowledged_after, edge_after, wl1_after, wl2_after, congestion_after, sent_after}
+use Rattle.ft_model.specs.Sending.{syn_acked_after, acknowledged_after, edge_after, wl1_after, wl2_after, congestion_after, sent_after, timing_after}
 use Rattle.ft_model.specs.Timer.{interval_after, rest_after}
 use Rattle.ft_model.specs.Segments.{segments_of}
 use Rattle.ft_model.specs.Copy.{copies}
@@ -35,6 +35,7 @@ pub record IsSameConnection (before after : Point) : Type 0 where
   pub mss : after.mss ≡ before.mss
   pub fetched : after.fetched ≡ before.fetched
   pub fetched_output : after.fetched_output ≡ before.fetched_output
+  pub delays : after.delays ≡ before.delays
 
 -- a turn of a connection that its client has not reset
 pub record LiveTurn {State : Type 0} (service : Machine State) (server : Addr) (boot : ℕ) (news : News) (before after : Point) (sent : List Packet) : Type 0 where
@@ -52,6 +53,7 @@ pub record LiveTurn {State : Type 0} (service : Machine State) (server : Addr) (
   pub wl2 : after.wl2 ≡ wl2_after news before
   pub congestion : after.congestion ≡ congestion_after news before
   pub sent_units : after.sent ≡ sent_after service news before after
+  pub timing : after.timing ≡ timing_after service news before after
   pub interval : after.interval ≡ interval_after news before after
   pub rest : after.rest ≡ rest_after service news before after
   pub end_ticks : after.end_ticks ≡ end_ticks_after service news before after

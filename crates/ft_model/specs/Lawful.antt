@@ -4,6 +4,7 @@ use Rattle.std.specs.List.{AllByRecursion}
 use Rattle.std.specs.Option.{option_to_list}
 use Rattle.ft_io.specs.declared.Addr.{Addr}
 use Rattle.ft_io.specs.Key.{key_eq}
+use Rattle.seq_arith.specs.Profile.{Profile}
 use Rattle.seq_arith.specs.Packet.{Segment, has_rst}
 use Rattle.seq_arith.specs.Message.{Body, Message}
 use Rattle.seq_arith.specs.Message.Body.{HelloMsg, SummaryMsg, StaleMsg}
@@ -33,13 +34,13 @@ abbrev pub asked : Node → Option Wanted → List Packet
 asked node w = map (λ x. told_by node.boot (question x)) (option_to_list w)
 
 -- the place of a fetched entry: its connection at the entry's point, unless it is done
-abbrev pub restored : {State : Type 0} → Machine State → Fetched → Place
-restored service f = if f.head.done then Ended f.head.key else Lives (point_of service (entry_in f))
+abbrev pub restored : {State : Type 0} → Machine State → Profile → Fetched → Place
+restored service profile f = if f.head.done then Ended f.head.key else Lives (point_of service profile (entry_in f))
 
 -- the places of the fetched entries, in the log's order
-abbrev pub all_restored : {State : Type 0} → Machine State → List Fetched → List Place
-all_restored service [] = []
-all_restored service (f ∷ earlier) = all_restored service earlier ++ restored service f ∷ []
+abbrev pub all_restored : {State : Type 0} → Machine State → Profile → List Fetched → List Place
+all_restored service profile [] = []
+all_restored service profile (f ∷ earlier) = all_restored service profile earlier ++ restored service profile f ∷ []
 
 -- each restarted connection uses up an initial sequence number
 abbrev pub restored_count : List Fetched → ℕ
@@ -55,7 +56,7 @@ Revives service node place now sent = Stays place now sent
 abbrev pub Continues : {State : Type 0} → Machine State → Node → (count : ℕ) → List Fetched → Option Wanted → Stage → List Packet → Type 0
 Continues service node count fetched (Some w) after sent = (after ≡ Fetching count fetched) × (sent ≡ asked node (Some w))
 Continues service node count fetched None after sent =
-    (places : List Place) × (after ≡ Serving (restored_count fetched) places) × AllGo (Revives service node) (all_restored service fetched) places sent
+    (places : List Place) × (after ≡ Serving (restored_count fetched) places) × AllGo (Revives service node) (all_restored service node.profile fetched) places sent
 
 -- the same, where the question is for what is now missing of the log's entries
 abbrev pub Fetches : {State : Type 0} → Machine State → Node → (count : ℕ) → List Fetched → Stage → List Packet → Type 0
@@ -118,6 +119,7 @@ is_fenced _ = false
 -- One turn of an incarnation, from its state, by this input, with these packets sent. A fenced one has no further turn
 pub record LawfulTurn {State : Type 0} (service : Machine State) (before : Node) (input : Input) (sent : List Packet) (after : Node) : Type 0 where
   pub server : after.server ≡ before.server
+  pub profile : after.profile ≡ before.profile
   pub boot : after.boot ≡ before.boot
   pub isn : after.isn ≡ before.isn
   pub live : is_fenced before.stage ≡ false
@@ -139,8 +141,8 @@ IsLawful service first [] = Unit {0}
 IsLawful service first (turn ∷ earlier) = IsLawful service first earlier × LawfulTurn service (node_after first earlier) turn.input turn.sent turn.node
 
 -- an incarnation of this server from its boot on: what the boot sends, and the turns after it
-abbrev pub Lawful : {State : Type 0} → Machine State → Addr → (boot isn : ℕ) → List Packet → List Turn → Type 0
-Lawful service server boot isn at_boot turns = (at_boot ≡ hello (booted server boot isn)) × IsLawful service (booted server boot isn) turns
+abbrev pub Lawful : {State : Type 0} → Machine State → Addr → Profile → (boot isn : ℕ) → List Packet → List Turn → Type 0
+Lawful service server profile boot isn at_boot turns = (at_boot ≡ hello (booted server profile boot isn)) × IsLawful service (booted server profile boot isn) turns
 
 -- the premises of a lawful process: a packet for this server from the client of a live connection is near to that connection, ..
 abbrev pub IsNearTo : Addr → Segment → Place → Type 0

@@ -29,6 +29,7 @@ pub mod Growth
 pub mod FetchedFronts
 pub mod Keys
 pub mod Masked
+pub mod Profiled
 pub mod Made
 pub mod Resets
 pub mod Legal

@@ -45,7 +45,7 @@ pub record IsResumed {State : Type 0} (service : Machine State) (node : Node) (p
   pub point : Point
   pub sent : List Packet
   pub lives : place_at entry.key places ≡ Some (Lives point)
-  pub turn : LiveTurn service node.server node.boot Begins (point_of service entry) point sent
+  pub turn : LiveTurn service node.server node.boot Begins (point_of service node.profile entry) point sent
 
 abbrev pub is_restarting : Stage → Bool
 is_restarting Asking = true

@@ -5,6 +5,7 @@ use Rattle.ft_io.specs.declared.Addr.{Addr}
 use Rattle.ft_io.specs.declared.Key.{Key}
 use Rattle.ft_io.specs.Key.{key_eq}
 use Rattle.seq_arith.specs.Packet.{Segment}
+use Rattle.seq_arith.specs.Profile.{Profile}
 use Rattle.seq_arith.specs.Message.{Numbers, Message}
 use Rattle.ft_model.specs.Point.{Point}
 use Rattle.ft_model.specs.Restart.{Fetched}
@@ -28,13 +29,14 @@ pub data Stage : Type 0 where
 
 pub record Node : Type 0 where
   pub server : Addr
+  pub profile : Profile
   pub boot : ℕ
   pub isn : ℕ
   pub stage : Stage
 
 -- an incarnation at its boot
-abbrev pub booted : Addr → (boot isn : ℕ) → Node
-booted server boot isn = record { server = server; boot = boot; isn = isn; stage = Asking }
+abbrev pub booted : Addr → Profile → (boot isn : ℕ) → Node
+booted server profile boot isn = record { server = server; profile = profile; boot = boot; isn = isn; stage = Asking }
 
 -- one turn's input. Bytes that spell neither a packet nor a message are noise
 pub data Input : Type 0 where

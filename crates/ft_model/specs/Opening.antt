@@ -1,5 +1,6 @@
 -- The law Opening: how a connection is opened (RFC 9293, 3.10.7.2; FT-TCP, INFOCOM 2001: the initial sequence numbers are logged before the SYN-ACK is sent).
 use Rattle.std.specs.Prelude.{ℕ, Bool, ◌+◌, ◌*◌, ◌%◌, ◌^◌, ◌&&◌, not}
+use Rattle.seq_arith.specs.Profile.{Profile}
 use Rattle.seq_arith.specs.Packet.{Segment, has_syn, has_rst, has_ack}
 use Rattle.seq_arith.specs.Message.{Numbers}
 pub use Rattle.seq_arith.specs.Packet.{segment_size}
@@ -19,5 +20,5 @@ abbrev pub numbers_for : (isn n : ℕ) → Segment → Numbers
 numbers_for isn n syn = record { key = source_of syn; cisn = syn.head.seq; sisn = initial_number isn n; mss = segment_size syn.head.mss }
 
 -- the point of a new connection, with the numbers that the log has: nothing is taken, and no output may be sent yet
-abbrev pub point_opened : Numbers → Point
-point_opened numbers = blank_point numbers.key numbers.cisn numbers.sisn numbers.mss
+abbrev pub point_opened : Profile → Numbers → Point
+point_opened profile numbers = blank_point profile numbers.key numbers.cisn numbers.sisn numbers.mss

@@ -1,10 +1,10 @@
 -- When an ACK is pending, so that a pure ACK is sent where no other segment is (RFC 9293, 3.10.7.4, in the offsets of the point before the turn).
-use Rattle.std.specs.Prelude.{Bool, true, false, pos, ◌==◌, ◌&&◌, ◌||◌, not, nat_lt, int_lt, if◌then◌else◌}
+use Rattle.std.specs.Prelude.{Bool, true, false, pos, length, is_none, ◌==◌, ◌&&◌, ◌||◌, not, nat_lt, int_lt, if◌then◌else◌}
 use Rattle.seq_arith.specs.Arrival.{int_eq}
 use Rattle.seq_arith.specs.Packet.{Segment, has_syn, has_rst, has_ack}
 use Rattle.server_trait.specs.Service.{Machine}
 use Rattle.ft_model.specs.Offset.{first_of, ack_of, length_of}
-use Rattle.ft_model.specs.Point.{Point, taken_units, advertised_edge, is_over}
+use Rattle.ft_model.specs.Point.{Point, taken_units, advertised_edge, acknowledgement, window, is_over}
 use Rattle.ft_model.specs.News.{News}
 use Rattle.ft_model.specs.News.News.{Comes, Logged, Ticks, Begins}
 use Rattle.ft_model.specs.Taken.{accepts, acknowledges_unsent}
@@ -37,8 +37,25 @@ asks service (Logged kept) before = false
 asks service Ticks before = false
 asks service Begins before = true
 
--- an ACK is pending: the news requires a segment, more is known to be logged, or the units taken or the advertised right edge have changed
-unfoldable pub is_ack_pending : {State : Type 0} → Machine State → News → Point → Point → Bool
-is_ack_pending service news before after =
+abbrev pub is_segment : News → Bool
+is_segment (Comes segment) = true
+is_segment (Logged kept) = false
+is_segment Ticks = false
+is_segment Begins = false
+
+-- Where the profile says so, the ACK of text and FIN that are taken in this turn waits for the log, whose answer makes it due: nothing is held after a gap, and
+-- an ACK now would only repeat the acknowledgement and the window that were last sent, as a duplicate does (RFC 9293, 3.8.6.3; RFC 5681, 4.2)
+unfoldable pub is_delayed : News → Point → Point → Bool
+is_delayed news before after =
+    before.delays && is_segment news && nat_lt (taken_units before) (taken_units after) && length after.early.text == 0 && is_none after.early.fin
+    && acknowledgement before == acknowledgement after && window before == window after
+
+-- an ACK is due: the news requires a segment, more is known to be logged, or the units taken or the advertised right edge have changed
+unfoldable pub is_ack_due : {State : Type 0} → Machine State → News → Point → Point → Bool
+is_ack_due service news before after =
     asks service news before || nat_lt before.answered after.answered || not (taken_units before == taken_units after)
     || not (advertised_edge before == advertised_edge after)
+
+-- an ACK is pending: it is due, and doesn't wait
+unfoldable pub is_ack_pending : {State : Type 0} → Machine State → News → Point → Point → Bool
+is_ack_pending service news before after = not (is_delayed news before after) && is_ack_due service news before after

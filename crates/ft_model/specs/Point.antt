@@ -5,6 +5,8 @@ use Rattle.std.specs.Prelude.{ℕ, ℤ, Bool, false, pos, ◌+◌, ◌-◌, ◌^
 use Rattle.ft_io.specs.declared.Key.{Key}
 use Rattle.seq_arith.specs.Coming.{Early, nothing_early, StandsBehind}
 use Rattle.seq_arith.specs.Congestion.{Congestion, initial_congestion}
+use Rattle.seq_arith.specs.Timing.{Timing, first_base, initial_timing}
+use Rattle.seq_arith.specs.Profile.{Profile}
 use Rattle.server_trait.specs.Service.{Machine, Run, reference}
 use Rattle.ft_model.specs.Offset.{one_if}
 
@@ -28,14 +30,17 @@ pub record Point : Type 0 where
   pub wl2 : ℕ  -- SND.WL2: what that segment acknowledged
   pub congestion : Congestion  -- the congestion window, the slow start threshold, and the duplicate acknowledgements
   pub syn_acked : Bool  -- whether the SYN is acknowledged: an acknowledgement has counted
+  pub timing : Timing  -- the estimate of the round-trip time, and the interval with which the timer starts
+  pub delays : Bool  -- whether the ACK of text that isn't logged yet waits for the log. It never changes
   pub interval : ℕ  -- of the timer, in ticks
   pub rest : ℕ  -- the ticks until the timer expires; 0 while it doesn't run
   pub end_ticks : ℕ  -- the end ticks counted so far, up to four
   pub reset : Bool  -- whether the client reset the connection
 
--- the point of a connection in which nothing has happened yet. Every other point is given by its differences from this one
-abbrev pub blank_point : Key → (cisn sisn mss : ℕ) → Point
-blank_point key cisn sisn mss = record {
+-- The point of a connection in which nothing has happened yet. Every other point is given by its differences from this one. Nothing else asks what the profile
+-- is: the point has its fields
+abbrev pub blank_point : Profile → Key → (cisn sisn mss : ℕ) → Point
+blank_point profile key cisn sisn mss = record {
   key = key;
   cisn = cisn;
   sisn = sisn;
@@ -53,9 +58,11 @@ blank_point key cisn sisn mss = record {
   edge = 0;
   wl1 = pos 0;
   wl2 = 0;
-  congestion = initial_congestion mss;
+  congestion = initial_congestion profile.measures mss;
   syn_acked = false;
-  interval = 1;
+  timing = initial_timing profile.measures;
+  delays = profile.delays;
+  interval = first_base profile.measures;
   rest = 0;
   end_ticks = 0;
   reset = false;
@@ -112,6 +119,10 @@ advertised_edge p = receive_edge p + one_if p.fin
 -- RCV.WND: TCP's room
 abbrev pub room : Point → ℕ
 room p = advertised_edge p - taken_units p
+
+-- Window: from what is acknowledged up to the advertised right edge, but at most 65,535
+abbrev pub window : Point → ℕ
+window p = min 65535 (advertised_edge p - acknowledgement p)
 
 -- the connection is over, that is, both FINs are done: the client's is taken, and the server's, the unit after all output, is acknowledged
 abbrev pub is_over : {State : Type 0} → Machine State → Point → Bool

@@ -8,6 +8,7 @@ use Rattle.ft_io.specs.Key.{key_eq}
 use Rattle.seq_arith.specs.declared.flags.TheConstants.{ACK}
 use Rattle.seq_arith.specs.Number.{number_at}
 use Rattle.seq_arith.specs.Packet.{Segment}
+use Rattle.seq_arith.specs.Profile.{Profile}
 use Rattle.seq_arith.specs.Message.{EntryHead, Body}
 use Rattle.seq_arith.specs.Message.Body.{ListMsg, EntryMsg, BytesMsg, PartMsg, CutsMsg, LensMsg}
 use Rattle.server_trait.specs.Service.{Machine, Run, reference}
@@ -136,9 +137,10 @@ output_units service e = length (run_of service e).output + one_if (run_of servi
 abbrev pub resumed_at : {State : Type 0} → Machine State → Entry → ℕ
 resumed_at service e = min e.acknowledged (length (run_of service e).output)
 
--- The point of an entry: all of it is taken, known to be logged and read as before, and one acknowledgement has counted, with window 0
-abbrev pub point_of : {State : Type 0} → Machine State → Entry → Point
-point_of service e = record (blank_point e.key e.cisn e.sisn e.mss) {
+-- The point of an entry: all of it is taken, known to be logged and read as before, and one acknowledgement has counted, with window 0. Round trips are measured
+-- anew
+abbrev pub point_of : {State : Type 0} → Machine State → Profile → Entry → Point
+point_of service profile e = record (blank_point profile e.key e.cisn e.sisn e.mss) {
   fetched = length e.bytes;
   fetched_output = output_units service e;
   taken = e.bytes;

@@ -6,17 +6,13 @@ use Rattle.seq_arith.specs.declared.flags.TheConstants.{FIN, SYN, ACK}
 use Rattle.seq_arith.specs.Number.{number_at}
 use Rattle.seq_arith.specs.Packet.{Head, Segment}
 use Rattle.server_trait.specs.Service.{Machine}
-use Rattle.ft_model.specs.Point.{Point, taken_units, acknowledgement, advertised_edge, answered_run, released}
+use Rattle.ft_model.specs.Point.{Point, taken_units, acknowledgement, answered_run, released, window}
 use Rattle.ft_model.specs.News.{News}
 use Rattle.ft_model.specs.News.News.{Comes, Logged, Ticks, Begins}
 use Rattle.ft_model.specs.Opening.{is_syn}
-use Rattle.ft_model.specs.Sending.{is_third_duplicate, sent_at_once}
+use Rattle.ft_model.specs.Sending.{resends, sent_at_once}
 use Rattle.ft_model.specs.Timer.{expires}
 use Rattle.ft_model.specs.PendingAck.{is_ack_pending}
-
--- Window: from what is acknowledged up to the advertised right edge, but at most 65,535
-abbrev pub window : Point → ℕ
-window p = min 65535 (advertised_edge p - acknowledgement p)
 
 -- Acknowledgement: every segment to a live key acknowledges exactly what is both taken and known to be logged
 abbrev pub head_to : Addr → Point → (seq flags : ℕ) → Option ℕ → Head
@@ -107,11 +103,11 @@ probe service server before after =
 abbrev pub is_unacknowledged : Point → Point → Bool
 is_unacknowledged before after = not after.syn_acked || nat_lt after.una before.sent
 
--- When the timer expires at a tick, and at the third duplicate acknowledgement, one more segment is sent: a retransmission of what is unacknowledged, or else a
--- probe. Where only a FIN could be sent, and the service has not closed, there is none
+-- When the timer expires at a tick, and at the third duplicate or a partial acknowledgement, one more segment is sent: a retransmission of what is
+-- unacknowledged, or else a probe. Where only a FIN could be sent, and the service has not closed, there is none
 unfoldable pub resent : {State : Type 0} → Machine State → Addr → News → Point → Point → List Segment
 resent service server news before after =
-    if expires news before || is_third_duplicate news before
+    if expires news before || resends news before
     then (if is_unacknowledged before after then first_unacknowledged service server before after else probe service server before after)
     else []
 

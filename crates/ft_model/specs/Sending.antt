@@ -2,7 +2,7 @@
 -- the point before the turn, except in `sent_after`, which uses the released output, the edge and the congestion window after it.
 use Rattle.std.specs.Prelude.{ℕ, ℤ, Bool, false, pos, ◌+◌, ◌-◌, ◌==◌, ◌&&◌, ◌||◌, not, nat_lt, int_le, max, min, nat_abs, length, if◌then◌else◌}
 use Rattle.seq_arith.specs.Arrival.{una_after, updates_window}
-use Rattle.seq_arith.specs.Congestion.{Congestion, with_new_data, is_third, with_duplicate, with_expiry}
+use Rattle.seq_arith.specs.Congestion.{Congestion, is_partial, with_new_data, is_third, with_duplicate, with_expiry}
 use Rattle.seq_arith.specs.Packet.{Segment}
 use Rattle.server_trait.specs.Service.{Machine}
 use Rattle.ft_model.specs.Offset.{first_of, ack_of, text_of, fin_of, one_if}
@@ -10,7 +10,8 @@ use Rattle.ft_model.specs.Point.{Point, target}
 use Rattle.ft_model.specs.News.{News}
 use Rattle.ft_model.specs.News.News.{Comes, Logged, Ticks, Begins}
 use Rattle.ft_model.specs.Taken.{counts}
-use Rattle.ft_model.specs.Timer.{expires, probes}
+use Rattle.seq_arith.specs.Timing.{Timing, with_sent}
+use Rattle.ft_model.specs.Timer.{expires, probes, timing_noted}
 
 -- the segment's acknowledgement is used: the segment counts, and its acknowledgement is at offset 0 of the output or later
 abbrev pub acknowledges : Point → Segment → Bool
@@ -90,9 +91,24 @@ is_third_duplicate (Logged kept) p = false
 is_third_duplicate Ticks p = false
 is_third_duplicate Begins p = false
 
+-- a segment acknowledges only a part of what was in flight when a loss was noticed
+unfoldable pub is_partial_ack : News → Point → Bool
+is_partial_ack (Comes segment) p = acknowledges_new p segment && is_partial (acknowledged_by p segment - p.una) p.congestion
+is_partial_ack (Logged kept) p = false
+is_partial_ack Ticks p = false
+is_partial_ack Begins p = false
+
+-- a segment counts as lost by what arrives, and is retransmitted at once
+abbrev pub resends : News → Point → Bool
+resends news p = is_third_duplicate news p || is_partial_ack news p
+
 -- the timer expires while something is in flight and the client's right edge is past SND.UNA: what is in flight counts as lost
 abbrev pub is_lost : Point → Bool
 is_lost p = expires Ticks p && nat_lt p.una p.sent && nat_lt p.una p.edge
+
+-- the timer hasn't expired since its interval was last computed
+abbrev pub is_first_expiry : Point → Bool
+is_first_expiry p = if p.timing.measures then not p.timing.backed_off else p.interval == 1
 
 -- the congestion window, the slow start threshold and the count of duplicates
 unfoldable pub congestion_after : News → Point → Congestion
@@ -100,7 +116,7 @@ congestion_after (Comes segment) p =
     if acknowledges_new p segment then with_new_data p.mss (acknowledged_by p segment - p.una) p.congestion
     else (if is_duplicate p segment then with_duplicate p.mss (flight p) p.congestion else p.congestion)
 congestion_after (Logged kept) p = p.congestion
-congestion_after Ticks p = if is_lost p then with_expiry p.mss (flight p) (p.interval == 1) p.congestion else p.congestion
+congestion_after Ticks p = if is_lost p then with_expiry p.mss (flight p) (is_first_expiry p) p.congestion else p.congestion
 congestion_after Begins p = p.congestion
 
 -- nothing new is sent from this offset on, except a probe: it is the right edge or the end of the congestion window, whichever comes first
@@ -110,6 +126,13 @@ send_edge p = min p.edge (p.una + p.congestion.cwnd)
 -- SND.NXT without a probe: all that may be sent is sent at once, up to that offset. SND.NXT never decreases
 unfoldable pub sent_at_once : {State : Type 0} → Machine State → Point → Point → ℕ
 sent_at_once service before after = max before.sent (min (target service after) (send_edge after))
+
+-- the estimate of the round-trip time: the first unit that is sent for the first time in this turn is timed, if none is. A probe isn't
+unfoldable pub timing_after : {State : Type 0} → Machine State → News → Point → Point → Timing
+timing_after service news before after =
+    if nat_lt before.sent (sent_at_once service before after)
+    then with_sent (before.sent + 1 - after.una) (timing_noted news (resends news before) before after.una)
+    else timing_noted news (resends news before) before after.una
 
 -- SND.NXT. A probe adds one unit
 unfoldable pub sent_after : {State : Type 0} → Machine State → News → Point → Point → ℕ

@@ -35,7 +35,7 @@ Hears service node (StableMsg kept) (Lives p) now sent = LivesOn service node (L
 Hears service node (ReadsMsg kept) (Lives p) now sent = LivesOn service node (Logged kept) p now sent
 Hears service node (EndedMsg key) (Lives p) now sent = (now ≡ Ended p.key ∷ []) × (sent ≡ [])
 Hears service node (OpenedMsg kept) (Opens asked) now sent =
-    MatchBool (kept.cisn == asked.cisn) (LivesOn service node Begins (point_opened kept) now sent) ((now ≡ []) × (sent ≡ []))
+    MatchBool (kept.cisn == asked.cisn) (LivesOn service node Begins (point_opened node.profile kept) now sent) ((now ≡ []) × (sent ≡ []))
 Hears service node (FullMsg key) (Opens asked) now sent = (now ≡ []) × (sent ≡ To_client (full_rst node.server asked) ∷ [])
 Hears service node _ place now sent = Stays place now sent
 

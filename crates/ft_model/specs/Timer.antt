@@ -1,5 +1,6 @@
--- The timer for retransmissions and probes (RFC 9293, 3.8.1 and 3.8.6.1, in ticks: RFC 6298's estimates are left out).
+-- The timer for retransmissions and probes (RFC 9293, 3.8.1 and 3.8.6.1; RFC 6298, 5, in ticks).
 use Rattle.std.specs.Prelude.{ℕ, Bool, true, false, ◌-◌, ◌*◌, ◌==◌, ◌&&◌, ◌||◌, not, nat_lt, max, min, if◌then◌else◌}
+use Rattle.seq_arith.specs.Timing.{Timing, with_acknowledged, with_tick, without_trip, with_backoff}
 use Rattle.server_trait.specs.Service.{Machine}
 use Rattle.ft_model.specs.Point.{Point, target}
 use Rattle.ft_model.specs.News.{News}
@@ -32,9 +33,19 @@ is_renewed before after = nat_lt before.una after.una || (after.syn_acked && not
 abbrev pub is_set_anew : Point → Point → Bool
 is_set_anew before after = before.rest == 0 || is_renewed before after
 
--- the interval is 1 tick when the timer is restarted, and doubles at each expiry, up to 64
+-- The estimate after what arrives, where SND.UNA is then `una`: a round trip is measured when the timed unit is acknowledged, each tick counts, and an expiry
+-- backs the interval off. What is retransmitted isn't timed
+unfoldable pub timing_noted : News → (resends : Bool) → Point → (una : ℕ) → Timing
+timing_noted (Comes segment) resends before una =
+    if resends then without_trip (with_acknowledged (una - before.una) before.timing) else with_acknowledged (una - before.una) before.timing
+timing_noted Ticks resends before una =
+    if before.rest == 1 then with_backoff (min 64 (2 * before.interval)) before.timing else with_tick before.timing
+timing_noted (Logged kept) resends before una = before.timing
+timing_noted Begins resends before una = before.timing
+
+-- the interval is the estimate's when the timer is restarted, and doubles at each expiry, up to 64
 unfoldable pub interval_after : News → Point → Point → ℕ
-interval_after news before after = if is_set_anew before after then 1 else (if expires news before then min 64 (2 * before.interval) else before.interval)
+interval_after news before after = if is_set_anew before after then after.timing.base else (if expires news before then min 64 (2 * before.interval) else before.interval)
 
 -- the ticks left, if the timer must run: a full interval when it is restarted or has expired, and one less at each other tick
 unfoldable pub rest_after : {State : Type 0} → Machine State → News → Point → Point → ℕ

@@ -6,6 +6,7 @@ use Rattle.std.specs.Option.{option_to_list}
 use Rattle.ft_io.specs.declared.Addr.{Addr}
 use Rattle.ft_io.specs.declared.Key.{Key}
 use Rattle.ft_io.specs.Key.{key_eq}
+use Rattle.seq_arith.specs.Profile.{Profile}
 use Rattle.seq_arith.specs.Packet.{Segment}
 use Rattle.seq_arith.specs.Message.{Message}
 use Rattle.seq_arith.specs.PacketGrammar as segments
@@ -27,6 +28,7 @@ use Rattle.ft_model.specs.declared.event.Event.TheVariants.{Boot, Crash, Tick, D
 
 pub record World : Type 0 where
   pub server : Addr
+  pub profile : Profile
   pub clients : List Client
   pub log : Log
   pub packets : List Packet  -- all that were ever sent, in order
@@ -131,8 +133,8 @@ IsNextBoot w boot = (w.boot < boot) × (boot < 2 ^ 64)
 -- and a server that crashes loses all its state. There is one log, and it never stops
 abbrev pub Happens : {State : Type 0} → Machine State → World → Event → List Packet → World → Type 0
 Happens service before (Boot boot isn) sent after =
-    (before.node ≡ None) × IsNextBoot before boot × (sent ≡ hello (booted before.server boot isn))
-    × (after ≡ record before { boot = boot; node = Some (booted before.server boot isn); packets = before.packets ++ sent })
+    (before.node ≡ None) × IsNextBoot before boot × (sent ≡ hello (booted before.server before.profile boot isn))
+    × (after ≡ record before { boot = boot; node = Some (booted before.server before.profile boot isn); packets = before.packets ++ sent })
 Happens service before Crash sent after =
     (is_some before.node ≡ true) × (sent ≡ []) × (after ≡ record before { node = None; packets = before.packets ++ sent })
 Happens service before Tick sent after = (is_some before.node ≡ true) × ServerMoves service Tick_comes before sent after

@@ -101,7 +101,7 @@ pub fn acknowledgements_are_at_most<S: Service>()
 /// sent.
 pub fn restarts_know_what_was_sent<S: Service>()
     ensures { (kind : ℕ) (start : World) (trace : List Moment) → Joint (machine (S.started kind) S.after) start trace
-        → AllByRecursion (λ e. AllByRecursion (AcknowledgesSent (point_of (machine (S.started kind) S.after) e)) (world_after start trace).packets)
+        → AllByRecursion (λ e. AllByRecursion (AcknowledgesSent (point_of (machine (S.started kind) S.after) start.profile e)) (world_after start trace).packets)
         (world_after start trace).log.entries }
 {}
 

@@ -14,9 +14,16 @@ ghost use Rattle.ft_model.specs.Point.{Point, taken_units, most, HoldsBehind, ro
 ghost use Rattle.ft_model.specs.Offset.{first_of, ack_of, length_of};
 ghost use Rattle.ft_model.specs.Taken.{accepts, uses, acknowledges_unsent, counts, taken_after, early_after, fin_after};
 ghost use Rattle.ft_model.specs.Sending.{syn_acked_after, acknowledged_after, edge_after, wl1_after, wl2_after, congestion_after};
-ghost use Rattle.ft_model.specs.PendingAck.{needs_ack};
+ghost use Rattle.ft_model.specs.PendingAck.{needs_ack, is_ack_due, is_ack_pending};
 ghost use Rattle.seq_arith.specs.Packet.{Segment, has_syn, has_rst, has_ack};
-ghost use Rattle.ft_model.specs.Connection.{LiveTurn};
+ghost use Rattle.seq_arith.specs.Message.{Numbers};
+ghost use Rattle.seq_arith.specs.Profile.{Profile, plain};
+ghost use Rattle.seq_arith.specs.Timing.{initial_timing};
+ghost use Rattle.ft_model.specs.Log.{Entry};
+ghost use Rattle.ft_model.specs.Profiled.{HasProfile};
+ghost use Rattle.ft_model.specs.Opening.{point_opened};
+ghost use Rattle.ft_model.specs.Restart.{point_of};
+ghost use Rattle.ft_model.specs.Connection.{LiveTurn, ConnectionTurn};
 ghost use Rattle.ft_model.specs.Node.{Node, Input, AllCount, points_at};
 ghost use Rattle.ft_model.specs.Lawful.{LawfulTurn, is_fenced};
 ghost use Rattle.ft_model.specs.World.{World, Moment, Happens, Joint, IsStart, world_after};
@@ -107,6 +114,27 @@ pub fn handshakes_acknowledge_the_syn()
 pub fn held_text_stands_behind<S: Service>()
     ensures { (kind : ℕ) (start : World) (trace : List Moment) (node : Node) → Joint (machine (S.started kind) S.after) start trace
         → (world_after start trace).node ≡ Some node → AllByRecursion HoldsBehind (points_at node.stage) }
+{}
+
+/// Every connection has its server's profile, from its first point on and after every turn, and a trace's servers have the profile with which it starts.
+pub fn profiles_stay<S: Service>()
+    ensures opened { (profile : Profile) (numbers : Numbers) → HasProfile profile (point_opened profile numbers) }
+    ensures restored { (kind : ℕ) (profile : Profile) (entry : Entry) → HasProfile profile (point_of (machine (S.started kind) S.after) profile entry) }
+    ensures turn { (kind boot : ℕ) (profile : Profile) (server : Addr) (news : News) (before after : Point) (sent : List Packet)
+        → ConnectionTurn (machine (S.started kind) S.after) server boot news before after sent → HasProfile profile before → HasProfile profile after }
+    ensures trace { (kind : ℕ) (start : World) (trace : List Moment) (node : Node) → Joint (machine (S.started kind) S.after) start trace
+        → (world_after start trace).node ≡ Some node
+        → (node.profile ≡ start.profile) × AllByRecursion (HasProfile start.profile) (points_at node.stage) }
+{}
+
+/// A plain connection's timing never changes, so its timer always starts with one tick; and an ACK that is due is pending.
+pub fn plain_stays<S: Service>()
+    ensures timing { (kind : ℕ) (start : World) (trace : List Moment) (node : Node) → Joint (machine (S.started kind) S.after) start trace
+        → (world_after start trace).node ≡ Some node → start.profile ≡ plain
+        → AllByRecursion (λ p. p.timing ≡ initial_timing false) (points_at node.stage) }
+    ensures base { (p : Point) → p.timing ≡ initial_timing false → p.timing.base ≡ 1 }
+    ensures ack { (kind : ℕ) (news : News) (before after : Point) → before.delays ≡ false
+        → is_ack_pending (machine (S.started kind) S.after) news before after ≡ is_ack_due (machine (S.started kind) S.after) news before after }
 {}
 
 /// At the right edge of an open window a segment of length 0 is acceptable.

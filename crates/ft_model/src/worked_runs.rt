@@ -3,6 +3,7 @@
 
 ghost use Rattle.std.specs.Prelude.{◌≡◌, [], ◌∷◌};
 ghost use Rattle.std.specs.List.{concat};
+ghost use Rattle.seq_arith.specs.Profile.{plain};
 ghost use Rattle.ft_model.specs.Node.{booted};
 ghost use Rattle.ft_model.specs.Node.Input.{Tick_comes};
 ghost use Rattle.ft_model.specs.Node.Stage.{Serving};
@@ -32,30 +33,30 @@ pub fn first_path_is_joint()
 
 /// After a crash with the text and its read logged, the second incarnation is lawful, from its boot to the output that it sends.
 pub fn crash_after_logged_is_lawful()
-    ensures { Lawful echo server 2 900000 (hello (booted server 2 900000)) CrashAfterLogged.restart_turns }
+    ensures { Lawful echo server plain 2 900000 (hello (booted server plain 2 900000)) CrashAfterLogged.restart_turns }
 {}
 
 /// Both sides close: the turns with the FINs are lawful, before a crash and after it, up to Done.
 pub fn closing_is_lawful()
-    ensures before { Lawful echo server 1 5000 (hello (booted server 1 5000)) Closing.first_turns }
-    ensures after { Lawful echo server 2 900000 (hello (booted server 2 900000)) Closing.second_turns }
+    ensures before { Lawful echo server plain 1 5000 (hello (booted server plain 1 5000)) Closing.first_turns }
+    ensures after { Lawful echo server plain 2 900000 (hello (booted server plain 2 900000)) Closing.second_turns }
 {}
 
 /// A client without room is probed, and what it doesn't acknowledge is retransmitted.
 pub fn zero_window_is_lawful()
-    ensures { Lawful echo server 1 5000 (hello (booted server 1 5000)) ZeroWindow.probe_turns }
+    ensures { Lawful echo server plain 1 5000 (hello (booted server plain 1 5000)) ZeroWindow.probe_turns }
 {}
 
 /// The acknowledgement and the window of a pure ACK at the right edge are used, and it gets no answer. A RST there gets a challenge ACK. Past the edge
 /// nothing is used, and an ACK is sent.
 pub fn right_edge_is_lawful()
-    ensures at_it { Lawful echo server 1 5000 (hello (booted server 1 5000)) RightEdge.edge_turns }
-    ensures past_it { Lawful echo server 1 5000 (hello (booted server 1 5000)) RightEdge.beyond_turns }
+    ensures at_it { Lawful echo server plain 1 5000 (hello (booted server plain 1 5000)) RightEdge.edge_turns }
+    ensures past_it { Lawful echo server plain 1 5000 (hello (booted server plain 1 5000)) RightEdge.beyond_turns }
 {}
 
 /// The acknowledgement and the window of a pure ACK past the next number are used, and it may not be answered.
 pub fn acknowledgements_beyond_next_are_not_answered()
-    ensures lawful { Lawful echo server 1 5000 (hello (booted server 1 5000)) BeyondNext.turns }
+    ensures lawful { Lawful echo server plain 1 5000 (hello (booted server plain 1 5000)) BeyondNext.turns }
     ensures answered { IsUnlawful BeyondNext.turn_3.node BeyondNext.turn_4.input BeyondNext.answered }
 {}
 
@@ -91,22 +92,22 @@ pub fn wrong_windows_are_refused()
 
 /// A segment that arrives during a restart is answered with window 0, and taken afterwards.
 pub fn segment_while_restarting_is_lawful()
-    ensures { Lawful echo server 2 900000 (hello (booted server 2 900000)) SegmentWhileRestarting.restart_turns }
+    ensures { Lawful echo server plain 2 900000 (hello (booted server plain 2 900000)) SegmentWhileRestarting.restart_turns }
 {}
 
 /// A restart whose answers are short asks for lengths and bytes alternately.
 pub fn restart_in_turns_is_lawful()
-    ensures { Lawful echo server 2 900000 (hello (booted server 2 900000)) RestartInTurns.turns }
+    ensures { Lawful echo server plain 2 900000 (hello (booted server plain 2 900000)) RestartInTurns.turns }
 {}
 
 /// An acknowledgement of more than this incarnation sent, and of no more than an earlier one may have sent, counts as one of all that this one sent.
 pub fn client_knows_more_is_lawful()
-    ensures { Lawful echo server 2 900000 (hello (booted server 2 900000)) ClientKnowsMore.restart_turns }
+    ensures { Lawful echo server plain 2 900000 (hello (booted server plain 2 900000)) ClientKnowsMore.restart_turns }
 {}
 
 /// A restarted connection answers its client's SYN with the SYN-ACK that has the logged numbers.
 pub fn crash_before_syn_ack_is_lawful()
-    ensures { Lawful echo server 2 900000 (hello (booted server 2 900000)) CrashBeforeSynAck.restart_turns }
+    ensures { Lawful echo server plain 2 900000 (hello (booted server plain 2 900000)) CrashBeforeSynAck.restart_turns }
 {}
 
 /// In the turn in which the text arrives, the Data may not be left out, nor may its Read be sent first or have another index.
@@ -137,7 +138,7 @@ pub fn early_fins_are_refused()
 
 /// A client without room is probed with the FIN where no byte is waiting before it.
 pub fn fin_probe_is_lawful()
-    ensures { Lawful echo server 1 5000 (hello (booted server 1 5000)) ZeroWindow.fin_turns }
+    ensures { Lawful echo server plain 1 5000 (hello (booted server plain 1 5000)) ZeroWindow.fin_turns }
 {}
 
 /// A tick retransmits the unanswered Reads in the order of their indices, and in no other.

@@ -5,6 +5,7 @@ use Rattle.std.proofs.lemmas.Bool.{and_parts, or_right, or_from}
 use Rattle.std.proofs.lemmas.List.Folds.{list_any-append}
 use Rattle.ft_io.specs.declared.Key.{Key}
 use Rattle.ft_io.specs.Key.{key_eq}
+use Rattle.seq_arith.specs.Profile.{Profile}
 use Rattle.seq_arith.specs.Number.{number_at}
 use Rattle.seq_arith.specs.Packet.{Segment, has_syn, has_rst, has_ack}
 use Rattle.seq_arith.specs.Message.{Body, Message}
@@ -82,11 +83,11 @@ IsBack log (Lives p) = Unit {0}
 IsBack log (Ended key) = IsDone log key
 IsBack log (Opens n) = ⊥
 
-restored_back : {State : Type 0} (service : Machine State) (log : Log) (fetched : List Fetched) → AllByRecursion (IsHeadOf log) fetched → AllByRecursion (IsBack log) (all_restored service fetched)
-restored_back service log [] a = tt
-restored_back service log (f ∷ earlier) a =
-    all_append (IsBack log) (all_restored service earlier) (restored service f ∷ []) (restored_back service log earlier a.1) (
-      holds_if (IsBack log) f.head.done (Ended f.head.key) (Lives (point_of service (entry_in f)))
+restored_back : {State : Type 0} (service : Machine State) (profile : Profile) (log : Log) (fetched : List Fetched) → AllByRecursion (IsHeadOf log) fetched → AllByRecursion (IsBack log) (all_restored service profile fetched)
+restored_back service profile log [] a = tt
+restored_back service profile log (f ∷ earlier) a =
+    all_append (IsBack log) (all_restored service profile earlier) (restored service profile f ∷ []) (restored_back service profile log earlier a.1) (
+      holds_if (IsBack log) f.head.done (Ended f.head.key) (Lives (point_of service profile (entry_in f)))
           (λ t. let h : IsHeadOf log f = a.0 in
           (h.0, subst (λ k. entry_of k log ≡ Some h.0) (sym (ap (λ x. x.key) h.2)) h.1, sym (ap (λ x. x.done) h.2) ∙ t)) (λ t. tt),
       tt,
@@ -126,18 +127,18 @@ heard_logged service script log places keyed (From_logger message) b s = tt
 
 resuming_answers : {State : Type 0} (service : Machine State) (w : World) (full : Bool) (node : Node) (count : ℕ) (fetched : List Fetched) (places : List Place) (sent : List Packet)
     → Stands service w → AllByRecursion (IsHeadOf w.log) fetched → count ≡ length w.log.entries → AreFetched w.log.entries fetched → wanted count fetched ≡ None
-    → AllGo (Revives service node) (all_restored service fetched) places sent → Goes full w.log w.clients w.packets places sent
+    → AllGo (Revives service node) (all_restored service node.profile fetched) places sent → Goes full w.log w.clients w.packets places sent
 resuming_answers service w full node count fetched places sent o heads c a none t =
     let log : Log = w.log in
     let whole = nothing_missing log.entries count fetched a none in
-    let one = length_map key_of (all_restored service fetched) in
-    let two = restored_length service fetched in
+    let one = length_map key_of (all_restored service node.profile fetched) in
+    let two = restored_length service node.profile fetched in
     let three = length_map (λ x. x.key) log.entries in
-    let all : map key_of (all_restored service fetched) ≡ entry_keys log =
-    full_front (map key_of (all_restored service fetched)) (entry_keys log) (restored_keys service log.entries fetched a) (omega (arith, one, two, three, whole.1, c)) in
-    let same : map key_of places ≡ entry_keys log = revived_keys service node (all_restored service fetched) places sent t ∙ all in
-    let went = all_go_then (Revives service node) (IsBack log) (IsBack log) (IsThere places) (Fair false log places) (revives_back service log node places) (all_restored service fetched) places sent
-    (restored_back service log fetched heads) t in
+    let all : map key_of (all_restored service node.profile fetched) ≡ entry_keys log =
+    full_front (map key_of (all_restored service node.profile fetched)) (entry_keys log) (restored_keys service node.profile log.entries fetched a) (omega (arith, one, two, three, whole.1, c)) in
+    let same : map key_of places ≡ entry_keys log = revived_keys service node (all_restored service node.profile fetched) places sent t ∙ all in
+    let went = all_go_then (Revives service node) (IsBack log) (IsBack log) (IsThere places) (Fair false log places) (revives_back service log node places) (all_restored service node.profile fetched) places sent
+    (restored_back service node.profile log fetched heads) t in
     let fair : AllByRecursion (Fair false log places) sent = went.1 (each_there places) in
     let keyed : (key : Key) → has_key key (entry_keys log) ≡ true → is_settled key places ≡ true = λ key h. settled_all log places key went.0 (ap (has_key key) same ∙ h) in (
       record {
@@ -365,7 +366,7 @@ answering_goes_on service before sent after o k (server_booted boot isn down lar
     subst IsAnswering (sym e)
     (record {
       says = all_append (SaysEnded before.log) before.packets sent k.says (subst (AllByRecursion (SaysEnded before.log)) (sym s) (tt, tt));
-      stage = λ n g. subst (λ x. StageAnswers before.log before.clients (before.packets ++ sent) x.stage) (some_is (booted before.server boot isn) n g) tt;
+      stage = λ n g. subst (λ x. StageAnswers before.log before.clients (before.packets ++ sent) x.stage) (some_is (booted before.server before.profile boot isn) n g) tt;
     })
 answering_goes_on service before sent after o k (server_down s e) =
     subst IsAnswering (sym e)

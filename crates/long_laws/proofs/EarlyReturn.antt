@@ -53,7 +53,7 @@ module _ {State : Type 0} (service : Machine State) where
 
   turn_12 : LawfulTurn service (path.node_live path.open_point) (Packet_comes (client_segment 4 1001 0 0 [])) run.moment_12.sent (path.node_live run.reset_point)
   unfolding laws
-  turn_12 = record { server = refl; boot = refl; isn = refl; live = refl; stage = (Lives run.reset_point ∷ [], refl, record { went = Lives run.reset_point ∷ []; by_places = run.moment_12.sent; all_go = alone (PlaceTurn service (path.node_live path.open_point) (Packet_comes (client_segment 4 1001 0 0 []))) (Lives path.open_point) (Lives run.reset_point ∷ []) run.moment_12.sent (run.reset_point, refl, resets); places = refl; packets = refl }) }
+  turn_12 = record { server = refl; profile = refl; boot = refl; isn = refl; live = refl; stage = (Lives run.reset_point ∷ [], refl, record { went = Lives run.reset_point ∷ []; by_places = run.moment_12.sent; all_go = alone (PlaceTurn service (path.node_live path.open_point) (Packet_comes (client_segment 4 1001 0 0 []))) (Lives path.open_point) (Lives run.reset_point ∷ []) run.moment_12.sent (run.reset_point, refl, resets); places = refl; packets = refl }) }
 
   passes_12 : Passes run.moment_11 run.moment_12
   unfolding laws IsLe
@@ -65,7 +65,7 @@ module _ {State : Type 0} (service : Machine State) where
 
   turn_14 : LawfulTurn service (path.node_live run.reset_point) (Message_comes (message_in (from_log 1 (EndedMsg key)))) [] ended_node
   unfolding laws
-  turn_14 = record { server = refl; boot = refl; isn = refl; live = refl; stage = (Ended key ∷ [], refl, record { went = Ended key ∷ []; by_places = []; all_go = alone (PlaceTurn service (path.node_live run.reset_point) (Message_comes (message_in (from_log 1 (EndedMsg key))))) (Lives run.reset_point) (Ended key ∷ []) [] (refl, refl); places = refl; packets = refl }) }
+  turn_14 = record { server = refl; profile = refl; boot = refl; isn = refl; live = refl; stage = (Ended key ∷ [], refl, record { went = Ended key ∷ []; by_places = []; all_go = alone (PlaceTurn service (path.node_live run.reset_point) (Message_comes (message_in (from_log 1 (EndedMsg key))))) (Lives run.reset_point) (Ended key ∷ []) [] (refl, refl); places = refl; packets = refl }) }
 
   passes_14 : Passes run.moment_13 run.moment_14
   unfolding laws IsLe
@@ -106,7 +106,7 @@ module _ {State : Type 0} (service : Machine State) where
   -- CLOSED's RST
   turn_18 : LawfulTurn service ended_node (Packet_comes (client_segment 2 9000 0 65535 [])) run.moment_18.sent ended_node
   unfolding laws
-  turn_18 = record { server = refl; boot = refl; isn = refl; live = refl; stage = (Ended key ∷ [], refl, record { went = Ended key ∷ []; by_places = run.moment_18.sent; all_go = alone (PlaceTurn service ended_node (Packet_comes (client_segment 2 9000 0 65535 []))) (Ended key) (Ended key ∷ []) run.moment_18.sent (refl, refl); places = refl; packets = refl }) }
+  turn_18 = record { server = refl; profile = refl; boot = refl; isn = refl; live = refl; stage = (Ended key ∷ [], refl, record { went = Ended key ∷ []; by_places = run.moment_18.sent; all_go = alone (PlaceTurn service ended_node (Packet_comes (client_segment 2 9000 0 65535 []))) (Ended key) (Ended key ∷ []) run.moment_18.sent (refl, refl); places = refl; packets = refl }) }
 
   passes_18 : Passes run.moment_17 run.moment_18
   unfolding laws IsLe
@@ -127,7 +127,7 @@ module _ {State : Type 0} (service : Machine State) where
   -- the SYN comes again
   turn_20 : LawfulTurn service (path.node_at (Serving 1 [])) (Packet_comes (client_segment 2 9000 0 65535 [])) run.moment_20.sent (path.node_at (Serving 2 (Opens run.numbers ∷ [])))
   unfolding laws
-  turn_20 = record { server = refl; boot = refl; isn = refl; live = refl; stage = (Opens run.numbers ∷ [], refl, record { went = []; by_places = []; all_go = (refl, refl); places = refl; packets = refl }) }
+  turn_20 = record { server = refl; profile = refl; boot = refl; isn = refl; live = refl; stage = (Opens run.numbers ∷ [], refl, record { went = []; by_places = []; all_go = (refl, refl); places = refl; packets = refl }) }
 
   passes_20 : Passes run.moment_19 run.moment_20
   unfolding laws IsLe

@@ -47,6 +47,7 @@ turn_27 : LawfulTurn echo (serving_at 1 5000 (run.ticked 4)) (Message_comes (rec
 unfolding laws
 turn_27 = record {
   server = refl;
+  profile = refl;
   boot = refl;
   isn = refl;
   live = refl;
@@ -67,6 +68,7 @@ idles : LawfulTurn echo (run.serving 1 (Ended key ∷ [])) Tick_comes [] (run.se
 unfolding laws
 idles = record {
   server = refl;
+  profile = refl;
   boot = refl;
   isn = refl;
   live = refl;

@@ -39,6 +39,7 @@ module _ {State : Type 0} (service : Machine State) (node : Node) (opened : ℕ)
   turn : LawfulTurn service node input sent later
   turn = record {
     server = refl;
+    profile = refl;
     boot = refl;
     isn = refl;
     live = ap is_fenced is;

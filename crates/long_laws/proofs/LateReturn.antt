@@ -3,6 +3,7 @@ use Rattle.std.proofs.Common.{◌≡◌, false, refl, sym, ◌∙◌, true≢fal
 use Rattle.std.specs.List.{AllByRecursion}
 use native.Mathlib.Bridge.{IsLe}
 use Rattle.server_trait.specs.Service.{Machine}
+use Rattle.seq_arith.specs.Profile.{plain}
 use Rattle.seq_arith.specs.Message.Body.{OpenMsg, OpenedMsg}
 use Rattle.ft_model.specs.Connection.{ConnectionTurn}
 use Rattle.ft_model.specs.Lawful.{LawfulTurn}
@@ -35,7 +36,7 @@ module _ {State : Type 0} (service : Machine State) where
 
   turn_19 : LawfulTurn service (path.node_at (Serving 1 [])) (Packet_comes (client_segment 2 9000 0 65535 [])) run.moment_19.sent (path.node_at (Serving 2 (Opens early.numbers ∷ [])))
   unfolding laws
-  turn_19 = record { server = refl; boot = refl; isn = refl; live = refl; stage = (Opens early.numbers ∷ [], refl, record { went = []; by_places = []; all_go = (refl, refl); places = refl; packets = refl }) }
+  turn_19 = record { server = refl; profile = refl; boot = refl; isn = refl; live = refl; stage = (Opens early.numbers ∷ [], refl, record { went = []; by_places = []; all_go = (refl, refl); places = refl; packets = refl }) }
 
   passes_19 : Passes run.moment_18 run.moment_19
   unfolding laws IsLe
@@ -46,13 +47,13 @@ module _ {State : Type 0} (service : Machine State) where
   passes_20 = ((to_log 1 (OpenMsg early.numbers), refl, (refl, refl)), refl)
 
   -- the SYN-ACK leaves
-  begins : ConnectionTurn service server 1 Begins (point_opened early.numbers) run.begun_point run.moment_21.sent
+  begins : ConnectionTurn service server 1 Begins (point_opened plain early.numbers) run.begun_point run.moment_21.sent
   unfolding laws
-  begins = goes service server 1 Begins (point_opened early.numbers) run.begun_point run.moment_21.sent refl refl refl refl
+  begins = goes service server 1 Begins (point_opened plain early.numbers) run.begun_point run.moment_21.sent refl refl refl refl
 
   turn_21 : LawfulTurn service (path.node_at (Serving 2 (Opens early.numbers ∷ []))) (Message_comes (message_in (from_log 1 (OpenedMsg early.numbers)))) run.moment_21.sent (path.node_at (Serving 2 (Lives run.begun_point ∷ [])))
   unfolding laws
-  turn_21 = record { server = refl; boot = refl; isn = refl; live = refl; stage = (Lives run.begun_point ∷ [], refl, record { went = Lives run.begun_point ∷ []; by_places = run.moment_21.sent; all_go = alone (PlaceTurn service (path.node_at (Serving 2 (Opens early.numbers ∷ []))) (Message_comes (message_in (from_log 1 (OpenedMsg early.numbers))))) (Opens early.numbers) (Lives run.begun_point ∷ []) run.moment_21.sent (run.begun_point, refl, begins); places = refl; packets = refl }) }
+  turn_21 = record { server = refl; profile = refl; boot = refl; isn = refl; live = refl; stage = (Lives run.begun_point ∷ [], refl, record { went = Lives run.begun_point ∷ []; by_places = run.moment_21.sent; all_go = alone (PlaceTurn service (path.node_at (Serving 2 (Opens early.numbers ∷ []))) (Message_comes (message_in (from_log 1 (OpenedMsg early.numbers))))) (Opens early.numbers) (Lives run.begun_point ∷ []) run.moment_21.sent (run.begun_point, refl, begins); places = refl; packets = refl }) }
 
   passes_21 : Passes run.moment_20 run.moment_21
   unfolding laws IsLe

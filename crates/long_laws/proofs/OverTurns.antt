@@ -3,6 +3,7 @@ use Rattle.std.proofs.Common.{◌≡◌, ◌⊎◌, ℕ, pos, int_le, nat_abs, t
 use Rattle.std.specs.List.{AllByRecursion}
 use Rattle.ft_io.specs.declared.Key.{Key}
 use Rattle.ft_io.proofs.Choices.{holds_if}
+use Rattle.seq_arith.specs.Profile.{Profile}
 use Rattle.server_trait.specs.Service.{Machine}
 use Rattle.ft_model.specs.Connection.{ConnectionTurn}
 use Rattle.ft_model.specs.Lawful.{Revives, all_restored, asked}
@@ -100,9 +101,9 @@ module _ {State : Type 0} (service : Machine State) (B : Key → ℕ → Type 0)
       lives_over node news p after now sent (record { enough = x.1.0.1.enough; counts = x.1.0.1.counts }) (news_over B F w.log node input news p i come x.0.1) o
       (⊎_elim (λ z. inl z) (λ y. inr (⊎_elim (λ f. f) (finish p x.0 x.1.0 o) y)) o.ends) n t
   place_over node input i place now sent b (began asks kept after e h n t) =
-      let none : PointOver service B F (point_opened kept) =
-      record { sends = opened_sends service kept; una = zero_is kept.key; reset = λ r. absurd (true≢false (sym r)); ends = inl refl } in
-      lives_over node Begins (point_opened kept) after now sent (opened_counts kept) tt none (inl refl) n t
+      let none : PointOver service B F (point_opened node.profile kept) =
+      record { sends = opened_sends service node.profile kept; una = zero_is kept.key; reset = λ r. absurd (true≢false (sym r)); ends = inl refl } in
+      lives_over node Begins (point_opened node.profile kept) after now sent (opened_counts node.profile kept) tt none (inl refl) n t
   place_over node input i place now sent b (dropped asks e d n s) = (
     subst (AllByRecursion Q) (sym n) tt,
     ⊎_elim (λ x. subst (AllByRecursion P) (sym x) tt) (λ x. subst (AllByRecursion P) (sym x) (tt, tt)) s,
@@ -135,10 +136,10 @@ module _ {State : Type 0} (service : Machine State) (B : Key → ℕ → Type 0)
   no_places (Serving opened places) r = absurd (true≢false (sym r))
   no_places (Fenced newer) r = tt
 
-  point_over : (e : Entry) → EntryOver B F e → EntryOf a.author e → Restored (Lives (point_of service e))
-  point_over e o x = (
-    entry_counts service e x.1,
-    (record { sends = entry_sends service e; una = down e.key (point_of service e).una e.acknowledged (omega arith) o.acknowledged; reset = λ r. absurd (true≢false (sym r)); ends = inl refl }, refl),
+  point_over : (profile : Profile) (e : Entry) → EntryOver B F e → EntryOf a.author e → Restored (Lives (point_of service profile e))
+  point_over profile e o x = (
+    entry_counts service profile e x.1,
+    (record { sends = entry_sends service profile e; una = down e.key (point_of service profile e).una e.acknowledged (omega arith) o.acknowledged; reset = λ r. absurd (true≢false (sym r)); ends = inl refl }, refl),
   )
 
   -- one turn of the server
@@ -157,10 +158,10 @@ module _ {State : Type 0} (service : Machine State) (B : Key → ℕ → Type 0)
   turn_over node input sent after k f packets entries stage e brought (resumed count fetched places p none g t) =
       let agrees = progress_agrees w node input count fetched k e brought p in
       let whole = nothing_missing w.log.entries count fetched agrees.1 none in
-      let points : AllByRecursion (λ x. Restored (Lives (point_of service x))) w.log.entries =
-      all_both (EntryOver B F) (EntryOf a.author) (λ x. Restored (Lives (point_of service x))) w.log.entries point_over entries a.entries in
-      let went = all_go_on (Revives service node) Restored Q P (revive_over node) (all_restored service fetched) places sent
-      (restored_all Restored service w.log.entries fetched points (λ y. tt) agrees.1 whole.0) t in
+      let points : AllByRecursion (λ x. Restored (Lives (point_of service node.profile x))) w.log.entries =
+      all_both (EntryOver B F) (EntryOf a.author) (λ x. Restored (Lives (point_of service node.profile x))) w.log.entries (point_over node.profile) entries a.entries in
+      let went = all_go_on (Revives service node) Restored Q P (revive_over node) (all_restored service node.profile fetched) places sent
+      (restored_all Restored service node.profile w.log.entries fetched points (λ y. tt) agrees.1 whole.0) t in
       (subst (StageOver service B F) (sym g) went.0, went.1)
   turn_over node input sent after k f packets entries stage e brought (served opened places later was g t) =
       let fits : AllByRecursion (PlaceFits script isn w.log) places = subst (StageFits script isn w.log) was (f.stage node e) in

@@ -334,8 +334,8 @@ module _ {State : Type 0} (service : Machine State) (let_go : Key → Bool) wher
   over_goes_on before sent after o then_ (server_booted boot isn down larger t e) x =
       let P : Packet → Type 0 = PacketOver (Reached service before.log before.clients) (Finished service let_go before.log before.packets before.clients) before.log in
       subst (OverWorld service let_go) (sym e)
-      (more_over before boot (Some (booted before.server boot isn)) sent x (subst (AllByRecursion P) (sym t) (tt, tt))
-      (λ n g. subst (λ y. StageOver service (Reached service before.log before.clients) (Finished service let_go before.log before.packets before.clients) y.stage) (some_is (booted before.server boot isn) n g) tt))
+      (more_over before boot (Some (booted before.server before.profile boot isn)) sent x (subst (AllByRecursion P) (sym t) (tt, tt))
+      (λ n g. subst (λ y. StageOver service (Reached service before.log before.clients) (Finished service let_go before.log before.packets before.clients) y.stage) (some_is (booted before.server before.profile boot isn) n g) tt))
   over_goes_on before sent after o then_ (server_down t e) x =
       let P : Packet → Type 0 = PacketOver (Reached service before.log before.clients) (Finished service let_go before.log before.packets before.clients) before.log in
       subst (OverWorld service let_go) (sym e) (more_over before before.boot None sent x (subst (AllByRecursion P) (sym t) tt) (λ n g. none_is_some n g))

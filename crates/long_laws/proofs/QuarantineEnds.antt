@@ -64,7 +64,7 @@ module _ {State : Type 0} (service : Machine State) (wait isn opened age : ℕ) 
   before = with_one w isn opened age n
 
   abbrev node : Node
-  node = record { server = w.server; boot = w.log.boot; isn = isn; stage = Serving opened (Ended n.key ∷ []) }
+  node = record { server = w.server; profile = w.profile; boot = w.log.boot; isn = isn; stage = Serving opened (Ended n.key ∷ []) }
 
   abbrev later : Node
   later = record node { stage = Serving (opened + 0) (Ended n.key ∷ []) }
@@ -86,6 +86,7 @@ module _ {State : Type 0} (service : Machine State) (wait isn opened age : ℕ) 
   turn : LawfulTurn service node Tick_comes [] later
   turn = record {
     server = refl;
+    profile = refl;
     boot = refl;
     isn = refl;
     live = refl;

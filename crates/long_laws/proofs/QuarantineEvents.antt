@@ -43,8 +43,8 @@ pub data Went {State : Type 0} (service : Machine State) (before : World) (event
   took_turn : (input : Input) (node later : Node) → event_input before.packets event ≡ Some input → IsBrought before input → before.node ≡ Some node → LawfulTurn service node input sent later
       → after ≡ record before { node = Some later; packets = before.packets ++ sent } → Went service before event sent after
   was_elsewhere : event_input before.packets event ≡ None → Elsewhere before sent after → Went service before event sent after
-  has_booted : (boot isn : ℕ) → event_input before.packets event ≡ None → before.node ≡ None → IsNextBoot before boot → sent ≡ hello (booted before.server boot isn)
-      → after ≡ record before { boot = boot; node = Some (booted before.server boot isn); packets = before.packets ++ sent } → Went service before event sent after
+  has_booted : (boot isn : ℕ) → event_input before.packets event ≡ None → before.node ≡ None → IsNextBoot before boot → sent ≡ hello (booted before.server before.profile boot isn)
+      → after ≡ record before { boot = boot; node = Some (booted before.server before.profile boot isn); packets = before.packets ++ sent } → Went service before event sent after
   is_down : (before.node ≡ None) ⊎ (event_input before.packets event ≡ None) → sent ≡ [] → after ≡ record before { node = None; packets = before.packets ++ sent } → Went service before event sent after
 
 nothing_goes : (before : World) (sent : List Packet) (after : World) → sent ≡ [] → after ≡ before → Elsewhere before sent after

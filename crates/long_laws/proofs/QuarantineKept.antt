@@ -306,17 +306,17 @@ module _ {State : Type 0} (service : Machine State) (w : World) (o : Stands serv
 
 -- The server boots, or ends
 
-pub booted_kept : (w : World) (boot isn : ℕ) (sent : List Packet) (notes : List ForgetMessage) (quarantine : List Quarantined) → w.boot < boot → sent ≡ hello (booted w.server boot isn)
-    → Keeps w notes quarantine → Keeps (record w { boot = boot; node = Some (booted w.server boot isn); packets = w.packets ++ sent }) notes []
+pub booted_kept : (w : World) (boot isn : ℕ) (sent : List Packet) (notes : List ForgetMessage) (quarantine : List Quarantined) → w.boot < boot → sent ≡ hello (booted w.server w.profile boot isn)
+    → Keeps w notes quarantine → Keeps (record w { boot = boot; node = Some (booted w.server w.profile boot isn); packets = w.packets ++ sent }) notes []
 booted_kept w boot isn sent notes quarantine larger is k =
-    let next : World = record w { boot = boot; node = Some (booted w.server boot isn); packets = w.packets ++ sent } in
+    let next : World = record w { boot = boot; node = Some (booted w.server w.profile boot isn); packets = w.packets ++ sent } in
     record {
       of_servers = of_servers_still w next sent notes (omega (arith, larger)) refl k.of_servers;
-      hello_said = λ n e. subst (λ x. IsIn (told_by x.boot HelloMsg) (w.packets ++ sent)) (some_is (booted w.server boot isn) n e)
+      hello_said = λ n e. subst (λ x. IsIn (told_by x.boot HelloMsg) (w.packets ++ sent)) (some_is (booted w.server w.profile boot isn) n e)
           (subst (λ ps. IsIn (told_by boot HelloMsg) (w.packets ++ ps)) (sym is) (in_behind (told_by boot HelloMsg) w.packets));
       rests = λ n e. tt;
-      holds = λ n e. subst (λ x. AllByRecursion (NoteHolds next x) notes) (some_is (booted w.server boot isn) n e)
-          (all_weaker (IsOfServer w) (NoteHolds next (booted w.server boot isn)) notes (λ m h own. absurd (omega (arith, h.0, larger, own))) k.of_servers);
+      holds = λ n e. subst (λ x. AllByRecursion (NoteHolds next x) notes) (some_is (booted w.server w.profile boot isn) n e)
+          (all_weaker (IsOfServer w) (NoteHolds next (booted w.server w.profile boot isn)) notes (λ m h own. absurd (omega (arith, h.0, larger, own))) k.of_servers);
     }
 
 pub down_kept : (w : World) (sent : List Packet) (notes : List ForgetMessage) (quarantine now : List Quarantined) → Keeps w notes quarantine

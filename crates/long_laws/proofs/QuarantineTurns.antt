@@ -101,8 +101,8 @@ place_clear service key node input place now sent c (went_on news p q e w n t) =
     (subst (AllByRecursion (ClearAt key)) (sym n) (λ h. absurd (true≢false (sym h ∙ own)), tt), connection_unasked service key node.server node.boot news p q sent own t)
 place_clear service key node input place now sent c (began asked kept q e h n t) =
     let other : key_eq asked.key key ≡ false = never_true (key_eq asked.key key) (λ x. subst (ClearAt key) e c x) in
-    let own : key_eq q.key key ≡ false = ap (λ k. key_eq k key) (same_key_after service node.server node.boot Begins (point_opened kept) q sent t ∙ h.key) ∙ other in
-    (subst (AllByRecursion (ClearAt key)) (sym n) (λ x. absurd (true≢false (sym x ∙ own)), tt), connection_unasked service key node.server node.boot Begins (point_opened kept) q sent own t)
+    let own : key_eq q.key key ≡ false = ap (λ k. key_eq k key) (same_key_after service node.server node.boot Begins (point_opened node.profile kept) q sent t ∙ h.key) ∙ other in
+    (subst (AllByRecursion (ClearAt key)) (sym n) (λ x. absurd (true≢false (sym x ∙ own)), tt), connection_unasked service key node.server node.boot Begins (point_opened node.profile kept) q sent own t)
 place_clear service key node input place now sent c (dropped asked e d n s) = (
   subst (AllByRecursion (ClearAt key)) (sym n) tt,
   ⊎_elim (λ x. subst (AllByRecursion (Unasked key)) (sym x) tt) (λ x. subst (AllByRecursion (Unasked key)) (sym x) (refl, tt)) s,

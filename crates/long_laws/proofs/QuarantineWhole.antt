@@ -171,10 +171,10 @@ module _ {State : Type 0} (service : Machine State) (node : Node) (input : Input
   one_goes opened places at place now sent b (refused key segment e c k n s) = subst (AllByRecursion (Source node input qs)) (sym n) (inl (subst (Before places qs) e b), tt)
 
   -- a restart
-  restored_source : (whole part : List Fetched) → ((f : Fetched) → has_key f.head.key (map (λ g. g.head.key) whole) ≡ true → Source node input qs (restored service f))
-      → AllByRecursion (λ f. has_key f.head.key (map (λ g. g.head.key) whole) ≡ true) part → AllByRecursion (Source node input qs) (all_restored service part)
+  restored_source : (whole part : List Fetched) → ((f : Fetched) → has_key f.head.key (map (λ g. g.head.key) whole) ≡ true → Source node input qs (restored service node.profile f))
+      → AllByRecursion (λ f. has_key f.head.key (map (λ g. g.head.key) whole) ≡ true) part → AllByRecursion (Source node input qs) (all_restored service node.profile part)
   restored_source whole [] f a = tt
-  restored_source whole (x ∷ part) f a = all_append (Source node input qs) (all_restored service part) (restored service x ∷ []) (restored_source whole part f a.1) (f x a.0, tt)
+  restored_source whole (x ∷ part) f a = all_append (Source node input qs) (all_restored service node.profile part) (restored service node.profile x ∷ []) (restored_source whole part f a.1) (f x a.0, tt)
 
   revive_source : (place : Place) (now : List Place) (sent : List Packet) → Source node input qs place → Revives service node place now sent → AllByRecursion (Source node input qs) now
   revive_source (Lives p) now sent s t = subst (AllByRecursion (Source node input qs)) (sym t.1) (tt, tt)
@@ -190,9 +190,9 @@ module _ {State : Type 0} (service : Machine State) (node : Node) (input : Input
   )
 
   fetched_source : (count : ℕ) (old fetched : List Fetched) → node.stage ≡ Fetching count old → fetched_now node input count old ≡ fetched → (f : Fetched)
-      → has_key f.head.key (map (λ g. g.head.key) fetched) ≡ true → Source node input qs (restored service f)
+      → has_key f.head.key (map (λ g. g.head.key) fetched) ≡ true → Source node input qs (restored service node.profile f)
   fetched_source count old fetched at is f h =
-      holds_if (Source node input qs) f.head.done (Ended f.head.key) (Lives (point_of service (entry_in f)))
+      holds_if (Source node input qs) f.head.done (Ended f.head.key) (Lives (point_of service node.profile (entry_in f)))
       (λ t. let x = finds (λ (g : Fetched). g.head.key) f.head.key fetched h in
       inr (
         named_head x.0.head,
@@ -205,9 +205,9 @@ module _ {State : Type 0} (service : Machine State) (node : Node) (input : Input
       ap (λ i. fetched_now node i count old) comes
       ∙ ap or_nothing (if_true (message.boot == node.boot) (fetched_after (wanted count old) message.body old) None (eq-eqb message.boot node.boot own) ∙ e)
 
-  progress_source : (count : ℕ) (fetched : List Fetched) → Progress node input count fetched → AllByRecursion (Source node input qs) (all_restored service fetched)
+  progress_source : (count : ℕ) (fetched : List Fetched) → Progress node input count fetched → AllByRecursion (Source node input qs) (all_restored service node.profile fetched)
   progress_source count fetched p =
-      ⊎_elim (λ h. subst (λ l. AllByRecursion (Source node input qs) (all_restored service l)) (sym h.2) tt)
+      ⊎_elim (λ h. subst (λ l. AllByRecursion (Source node input qs) (all_restored service node.profile l)) (sym h.2) tt)
       (λ h. restored_source fetched fetched (fetched_source count h.0 fetched h.1 (now_is count h.0 fetched p.message p.comes p.boot h.2)) (all_its_keys fetched)) p.how
 
   stage_sources : (sent : List Packet) (after : Stage) → StageDistinct node.stage → AllByRecursion (HasIts qs) (places_at node.stage) → StageWent service node input sent after
@@ -219,7 +219,7 @@ module _ {State : Type 0} (service : Machine State) (node : Node) (input : Input
   stage_sources sent after d a (resumed count fetched places p none f t) =
       subst (λ stage. AllByRecursion (Source node input qs) (places_at stage)) (sym f)
       (all_go_on (Revives service node) (Source node input qs) (Source node input qs) Nothing (λ place now some s goes. (revive_source place now some s goes, nothing_of some))
-      (all_restored service fetched) places sent (progress_source count fetched p) t).0
+      (all_restored service node.profile fetched) places sent (progress_source count fetched p) t).0
   stage_sources sent after d a (served opened places later b f t) =
       let before : AllByRecursion (Before places qs) places =
       all_before places qs (subst StageDistinct b d) (subst (λ stage. AllByRecursion (HasIts qs) (places_at stage)) b a) in
@@ -296,7 +296,7 @@ module _ {State : Type 0} (service : Machine State) (before : QuarantineWorld) (
   event_has event sent there qs is (was_elsewhere i elsewhere) x e =
       still_has there qs before.now.node refl elsewhere.node (is ∙ ap (λ y. quarantine_then before.now.node y there.node before.quarantine) i) x e
   event_has event sent there qs is (has_booted boot isn i down larger s then_) x e =
-      subst (λ n. AllByRecursion (HasIts qs) (places_at n.stage)) (some_is (booted before.now.server boot isn) x (sym (ap (λ w. w.node) then_) ∙ e)) tt
+      subst (λ n. AllByRecursion (HasIts qs) (places_at n.stage)) (some_is (booted before.now.server before.now.profile boot isn) x (sym (ap (λ w. w.node) then_) ∙ e)) tt
   event_has event sent there qs is (is_down why s then_) x e = none_is_some x (sym (ap (λ w. w.node) then_) ∙ e)
 
   usual_has : (wait : ℕ) (step : LongStep) (sent : List Packet) (after : QuarantineWorld) → is_by_message step ≡ false → Usually service wait before step sent after → AllHave after.now after.quarantine

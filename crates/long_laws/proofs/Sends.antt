@@ -4,6 +4,7 @@ use Rattle.std.proofs.Common.{◌≡◌, ◌⊎◌, ℕ, zero, suc, ◌+◌, ◌
 use Rattle.std.proofs.lemmas.Bool.{and_parts}
 use Rattle.std.proofs.lemmas.List.{take_all}
 use Rattle.ft_io.specs.declared.Addr.{Addr}
+use Rattle.seq_arith.specs.Profile.{Profile}
 use Rattle.seq_arith.specs.Arrival.{una_after}
 use Rattle.seq_arith.specs.Congestion.{with_expiry}
 use Rattle.seq_arith.specs.Message.{Numbers}
@@ -21,7 +22,7 @@ use Rattle.ft_model.specs.Offset.{one_if}
 use Rattle.ft_model.specs.Opening.{point_opened}
 use Rattle.ft_model.specs.Point.{Point, answered_run, released, target, is_over}
 use Rattle.ft_model.specs.Restart.{point_of}
-use Rattle.ft_model.specs.Sending.{acknowledges, acknowledged_by, acknowledged_after, edge_after, congestion_after, is_lost, flight, send_edge, sent_after, sent_at_once}
+use Rattle.ft_model.specs.Sending.{acknowledges, acknowledged_by, acknowledged_after, edge_after, congestion_after, is_lost, is_first_expiry, flight, send_edge, sent_after, sent_at_once}
 use Rattle.ft_model.specs.Timer.{expires, probes, must_run, rest_after}
 use Rattle.ft_model.proofs.Authored.{take_of_prefix}
 use Rattle.ft_model.proofs.Running.{taken_grows}
@@ -92,7 +93,7 @@ unfolding acknowledged_after edge_after congestion_after
 same_edge p q una edge congestion none =
     let still : is_lost p ≡ false = by_cases (is_lost p)
     (λ t. absurd (true≢false (sym (and_parts (expires Ticks p) (nat_lt p.una p.sent) (and_parts (expires Ticks p && nat_lt p.una p.sent) (nat_lt p.una p.edge) t).0).1 ∙ none))) (λ t. t) in
-    let window : q.congestion ≡ p.congestion = congestion ∙ if_false (is_lost p) (with_expiry p.mss (flight p) (p.interval == 1) p.congestion) p.congestion still in
+    let window : q.congestion ≡ p.congestion = congestion ∙ if_false (is_lost p) (with_expiry p.mss (flight p) (is_first_expiry p) p.congestion) p.congestion still in
     let size : q.congestion.cwnd ≡ p.congestion.cwnd = ap (λ c. c.cwnd) window in
     omega (arith, una, edge, size)
 
@@ -178,21 +179,21 @@ reset_sends service boot news p q sent c s t =
 
 -- the point of an entry, and that of a new connection
 
-pub entry_sends : {State : Type 0} (service : Machine State) (e : Entry) → Sends service (point_of service e)
-entry_sends service e =
-    let p : Point = point_of service e in
+pub entry_sends : {State : Type 0} (service : Machine State) (profile : Profile) (e : Entry) → Sends service (point_of service profile e)
+entry_sends service profile e =
+    let p : Point = point_of service profile e in
     let run : released service p ≡ length (reference service e.bytes e.lengths).output =
     ap (λ l. length (reference service e.bytes l).output) (take_all (length e.lengths) e.lengths (le_refl (length e.lengths))) in
     record { order = le_refl p.sent; within = omega (arith, run); all = λ r. omega arith; runs = inl refl }
 
-pub entry_counts : {State : Type 0} (service : Machine State) (e : Entry) → sum e.lengths ≤ length e.bytes → CountsOwn (point_of service e)
-entry_counts service e enough = record { enough = enough; counts = le_refl (length e.lengths) }
+pub entry_counts : {State : Type 0} (service : Machine State) (profile : Profile) (e : Entry) → sum e.lengths ≤ length e.bytes → CountsOwn (point_of service profile e)
+entry_counts service profile e enough = record { enough = enough; counts = le_refl (length e.lengths) }
 
-pub opened_sends : {State : Type 0} (service : Machine State) (n : Numbers) → Sends service (point_opened n)
-opened_sends service n = record { order = le_refl 0; within = omega arith; all = λ r. omega arith; runs = inl refl }
+pub opened_sends : {State : Type 0} (service : Machine State) (profile : Profile) (n : Numbers) → Sends service (point_opened profile n)
+opened_sends service profile n = record { order = le_refl 0; within = omega arith; all = λ r. omega arith; runs = inl refl }
 
-pub opened_counts : (n : Numbers) → CountsOwn (point_opened n)
-opened_counts n = record { enough = le_refl 0; counts = le_refl 0 }
+pub opened_counts : (profile : Profile) (n : Numbers) → CountsOwn (point_opened profile n)
+opened_counts profile n = record { enough = le_refl 0; counts = le_refl 0 }
 
 -- a connection that is over
 pub record IsClosedAt {State : Type 0} (service : Machine State) (p : Point) : Type 0 where

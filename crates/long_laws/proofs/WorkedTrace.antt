@@ -3,6 +3,7 @@ use Rattle.std.proofs.Common.{◌≡◌, ◌^◌, refl, sym, ◌∙◌, subst, t
 use native.Mathlib.Bridge.{le_by_compare, IsLe}
 use Rattle.std.specs.List.{AllByRecursion}
 use Rattle.ft_io.specs.Key.{key_eq}
+use Rattle.seq_arith.specs.Profile.{plain}
 use Rattle.seq_arith.specs.Message.Body.{OpenMsg, OpenedMsg}
 use Rattle.ft_model.specs.Client.Move.{Syn}
 use Rattle.ft_model.specs.Lawful.{LawfulTurn}
@@ -68,12 +69,13 @@ forgets = record {
 -- the SYN opens a connection, and Opened begins it
 turn_34 : LawfulTurn echo (run.serving 1 []) (Packet_comes run.second_syn) (to_log 1 (OpenMsg run.second_numbers) ∷ []) (run.serving 2 (Opens run.second_numbers ∷ []))
 unfolding laws
-turn_34 = record { server = refl; boot = refl; isn = refl; live = refl; stage = (Opens run.second_numbers ∷ [], refl, record { went = []; by_places = []; all_go = (refl, refl); places = refl; packets = refl }) }
+turn_34 = record { server = refl; profile = refl; boot = refl; isn = refl; live = refl; stage = (Opens run.second_numbers ∷ [], refl, record { went = []; by_places = []; all_go = (refl, refl); places = refl; packets = refl }) }
 
 turn_36 : LawfulTurn echo (run.serving 2 (Opens run.second_numbers ∷ [])) (Message_comes (record { boot = 1; body = OpenedMsg run.second_numbers })) run.moment_36.sent (run.serving 2 (Lives run.second_begun ∷ []))
 unfolding laws
 turn_36 = record {
   server = refl;
+  profile = refl;
   boot = refl;
   isn = refl;
   live = refl;
@@ -84,7 +86,7 @@ turn_36 = record {
       went = Lives run.second_begun ∷ [];
       by_places = run.moment_36.sent;
       all_go = alone (PlaceTurn echo (run.serving 2 (Opens run.second_numbers ∷ [])) (Message_comes (record { boot = 1; body = OpenedMsg run.second_numbers }))) (Opens run.second_numbers) (Lives run.second_begun ∷ []) run.moment_36.sent
-          (run.second_begun, refl, goes echo server 1 Begins (point_opened run.second_numbers) run.second_begun run.moment_36.sent refl refl refl refl);
+          (run.second_begun, refl, goes echo server 1 Begins (point_opened plain run.second_numbers) run.second_begun run.moment_36.sent refl refl refl refl);
       places = refl;
       packets = refl;
     },
@@ -96,6 +98,7 @@ turn_38 : LawfulTurn echo (run.serving 2 (Lives run.second_begun ∷ [])) (Packe
 unfolding laws
 turn_38 = record {
   server = refl;
+  profile = refl;
   boot = refl;
   isn = refl;
   live = refl;

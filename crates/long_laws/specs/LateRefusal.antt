@@ -1,6 +1,7 @@
 -- A late refusal: a live client refuses a wrong acknowledgement of its SYN by a RST, and opens after all. When the RST comes, its number is exactly the next one:
 -- it ends the connection, which its client believes open. Fifteen events.
 use Rattle.std.specs.Prelude.{true, Some, List, [], ◌∷◌}
+use Rattle.seq_arith.specs.Profile.{plain}
 use Rattle.seq_arith.specs.Message.Body.{DoneMsg, EndedMsg}
 use Rattle.ft_model.specs.Client.{Client}
 use Rattle.ft_model.specs.Client.ClientKind.{Live}
@@ -38,7 +39,7 @@ abbrev pub done_entry : Entry
 done_entry = record opened_entry { done = true }
 
 abbrev pub moment_1 : Moment
-moment_1 = moment (Boot 1 5000) (packet_1 ∷ []) (record start { boot = 1; node = Some (booted server 1 5000) })
+moment_1 = moment (Boot 1 5000) (packet_1 ∷ []) (record start { boot = 1; node = Some (booted server plain 1 5000) })
 
 abbrev pub moment_2 : Moment
 moment_2 = moment (Deliver 1) (packet_2 ∷ []) (record moment_1.world { log = log_with [] })

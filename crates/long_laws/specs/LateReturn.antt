@@ -1,5 +1,6 @@
 -- A client comes back in time: its SYN comes when the server has forgotten the key, and it gets a connection.
 use Rattle.std.specs.Prelude.{Some, List, [], ◌∷◌, map}
+use Rattle.seq_arith.specs.Profile.{plain}
 use Rattle.seq_arith.specs.Message.Body.{OpenMsg, OpenedMsg}
 use Rattle.ft_model.specs.Client.{Client}
 use Rattle.ft_model.specs.Log.{new_entry}
@@ -26,7 +27,7 @@ abbrev pub moment_20 : LongMoment
 moment_20 = moment (Joint_event (Deliver 4)) (from_log 1 (OpenedMsg numbers) ∷ []) past (record moment_19.world.now { log = log_with (new_entry numbers ∷ []) })
 
 abbrev pub begun_point : Point
-begun_point = record (point_opened numbers) { rest = 1 }
+begun_point = record (point_opened plain numbers) { rest = 1 }
 
 abbrev pub moment_21 : LongMoment
 moment_21 = moment (Joint_event (Deliver 5)) (to_client 18 70536 9001 65535 (Some 1460) [] ∷ []) past (record moment_20.world.now { node = Some (node_at (Serving 2 (Lives begun_point ∷ []))) })

@@ -24,8 +24,7 @@ use Rattle.ft_model.specs.Node.{Node, Place, Stage, key_of, place_at}
 use Rattle.ft_model.specs.Node.Input.{Packet_comes}
 use Rattle.ft_model.specs.Node.Place.{Lives, Ended}
 use Rattle.ft_model.specs.Node.Stage.{Serving}
-use Rattle.ft_model.specs.Point.{Point, taken_units, acknowledgement}
-use Rattle.ft_model.specs.Segments.{window}
+use Rattle.ft_model.specs.Point.{Point, taken_units, acknowledgement, window}
 use Rattle.ft_model.specs.World.{World, Moment, Happens, IsStart, IsNewClient, is_apart}
 use Rattle.ft_model.specs.declared.event.Event.{Event}
 

@@ -247,7 +247,7 @@ IsRecycling w message =
 -- a server that serves, and has nothing but one connection in quarantine
 abbrev pub with_one : World → (isn opened age : ℕ) → Named → QuarantineWorld
 with_one w isn opened age n = record {
-  now = record w { node = Some (record { server = w.server; boot = w.log.boot; isn = isn; stage = Serving opened (Ended n.key ∷ []) }) };
+  now = record w { node = Some (record { server = w.server; profile = w.profile; boot = w.log.boot; isn = isn; stage = Serving opened (Ended n.key ∷ []) }) };
   past = [];
   notes = [];
   quarantine = (record { named = n; age = age }) ∷ [];

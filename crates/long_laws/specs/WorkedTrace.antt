@@ -2,6 +2,7 @@
 -- its entry is recycled, the second client arrives and sends its SYN, and once the server has forgotten the key this SYN opens a connection with other initial
 -- sequence numbers. It stays half-open: the server sends a keep-alive, gets no answer, and lets go of the client.
 use Rattle.std.specs.Prelude.{ℕ, true, Some, None, List, [], ◌∷◌, ◌++◌, map}
+use Rattle.seq_arith.specs.Profile.{plain}
 use Rattle.seq_arith.specs.Packet.{Segment}
 use Rattle.seq_arith.specs.Message.{Numbers, Message}
 use Rattle.seq_arith.specs.Message.Body.{HelloMsg, SummaryMsg, OpenMsg, OpenedMsg, DataMsg, StableMsg, ReadsMsg, DoneMsg, EndedMsg}
@@ -59,10 +60,10 @@ abbrev pub ticked : ℕ → Point
 ticked n = record closing.over { end_ticks = n }
 
 abbrev pub serving : ℕ → List Place → Node
-serving opened places = record (booted server 1 5000) { stage = Serving opened places }
+serving opened places = record (booted server plain 1 5000) { stage = Serving opened places }
 
 abbrev pub moment_1 : Moment
-moment_1 = moment (Boot 1 5000) (to_log 1 HelloMsg ∷ []) (record start { boot = 1; node = Some (booted server 1 5000) })
+moment_1 = moment (Boot 1 5000) (to_log 1 HelloMsg ∷ []) (record start { boot = 1; node = Some (booted server plain 1 5000) })
 
 abbrev pub moment_2 : Moment
 moment_2 = moment (Deliver 1) (from_log 1 (SummaryMsg 0) ∷ []) (record moment_1.world { log = log_with [] })
@@ -190,7 +191,7 @@ abbrev pub second_entry : Entry
 second_entry = new_entry second_numbers
 
 abbrev pub second_begun : Point
-second_begun = record (point_opened second_numbers) { rest = 1 }
+second_begun = record (point_opened plain second_numbers) { rest = 1 }
 
 -- a moment after the first client is gone, in which these packets are sent and the rest of the world is as given
 abbrev pub later : LongStep → List Packet → World → LongMoment

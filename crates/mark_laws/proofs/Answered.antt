@@ -4,6 +4,7 @@ use Rattle.std.proofs.lemmas.Bool.{and_parts}
 use Rattle.ft_io.specs.declared.Key.{Key}
 use Rattle.ft_io.specs.Key.{key_eq}
 use Rattle.ft_io.proofs.Choices.{holds_if}
+use Rattle.seq_arith.specs.Profile.{Profile}
 use Rattle.seq_arith.specs.Mark.{Mark, MarkBody, MarkMessage}
 use Rattle.seq_arith.specs.Mark.MarkBody.{MarkMsg, MarkedMsg, AskMsg, HeldMsg}
 use Rattle.seq_arith.specs.Message.{Body, Message, is_answer}
@@ -171,9 +172,9 @@ answers_lead service writing l marks boot count (About_mark answer) before back 
     (λ t e. newest_front service writing l answer.body before.entries m back log was agrees e) (λ t e. none_is_some m e))
 
 -- Where nothing is missing any more
-pub ends_at_points : {State : Type 0} (service : Machine State) (entries : List Entry) (fetched : List Fetched) → AreFetched entries fetched → wanted (length entries) fetched ≡ None
-    → (i : ℕ) (e : Entry) → slice_get entries i ≡ Some e → e.done ≡ false → slice_get (all_restored service fetched) i ≡ Some (Lives (point_of service e))
-ends_at_points service entries fetched a none i e at live =
+pub ends_at_points : {State : Type 0} (service : Machine State) (profile : Profile) (entries : List Entry) (fetched : List Fetched) → AreFetched entries fetched → wanted (length entries) fetched ≡ None
+    → (i : ℕ) (e : Entry) → slice_get entries i ≡ Some e → e.done ≡ false → slice_get (all_restored service profile fetched) i ≡ Some (Lives (point_of service profile e))
+ends_at_points service profile entries fetched a none i e at live =
     let whole = nothing_missing entries (length entries) fetched a none in
     let within = slice_get_within entries i e at in
-    restored_at service entries fetched a whole.0 i e (omega (arith, within, whole.1)) at live
+    restored_at service profile entries fetched a whole.0 i e (omega (arith, within, whole.1)) at live

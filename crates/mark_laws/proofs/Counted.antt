@@ -140,7 +140,7 @@ continues by node count now marking (Some question) out later a e t =
 continues by node count now marking None out later a e t = record {
   sent = subst (λ (n : MarkedNode). AllByRecursion (OutCounts node.plain.boot by.every n.plain.stage) out) (sym t.2)
       (gone_all (OutCounts node.plain.boot by.every (Serving (restored_count now.entries) t.0)) (λ p. tt) (Revives by.service node.plain) (marks_at by node.plain.boot false marking)
-      (all_restored by.service now.entries) t.0 out t.1 (all_of _ t.0 (at_counts by node.plain.boot (Serving (restored_count now.entries) t.0) false marking a)));
+      (all_restored by.service node.plain.profile now.entries) t.0 out t.1 (all_of _ t.0 (at_counts by node.plain.boot (Serving (restored_count now.entries) t.0) false marking a)));
   outstanding = λ key. subst (λ (n : MarkedNode). AllCount by.every (n.marking key)) (sym t.2) (then_counts by (place_at key t.0) (marking key) (a key));
 }
 

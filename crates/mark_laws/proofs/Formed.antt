@@ -80,12 +80,12 @@ module _ {State : Type 0} (service : Machine State) (start u : World) (node : No
   continued count now stage sent later None whole are e t same =
       let n : NodeFormed start node = k.formed.node node up in
       let all = nothing_missing u.log.entries count now are e in
-      let points : AllByRecursion (λ x. PlaceSound start u.log (Lives (point_of service x))) u.log.entries =
-      all_both (λ x. PlaceFits (script_of start) (isn_of start) u.log (Lives (point_of service x))) (EntryFormed start) _ u.log.entries (λ x f h. (f, point_formed service start x h))
-      (points_fit service (script_of start) (isn_of start) u.log s.short k.truth.0.1.distinct k.truth.1.entries) k.formed.entries in
+      let points : AllByRecursion (λ x. PlaceSound start u.log (Lives (point_of service node.profile x))) u.log.entries =
+      all_both (λ x. PlaceFits (script_of start) (isn_of start) u.log (Lives (point_of service node.profile x))) (EntryFormed start) _ u.log.entries (λ x f h. (f, point_formed service node.profile start x h))
+      (points_fit service node.profile (script_of start) (isn_of start) u.log s.short k.truth.0.1.distinct k.truth.1.entries) k.formed.entries in
       let went = all_go_on (Revives service node) (PlaceSound start u.log) (PlaceSound start u.log) (PacketFormed start)
-      (revived_formed service start u.log node writes s k.truth.1.entries n.server n.boot) (all_restored service now) t.0 sent
-      (restored_all (PlaceSound start u.log) service u.log.entries now points (λ key. (tt, tt)) are all.0) t.2 in (
+      (revived_formed service start u.log node writes s k.truth.1.entries n.server n.boot) (all_restored service node.profile now) t.0 sent
+      (restored_all (PlaceSound start u.log) service node.profile u.log.entries now points (λ key. (tt, tt)) are all.0) t.2 in (
         with_stage_formed start node later stage n (subst (StageFormed start) (sym t.1) (all_weaker (PlaceSound start u.log) (PlaceFormed start) t.0 (λ p h. h.1) went.0)) same,
         went.1,
       )

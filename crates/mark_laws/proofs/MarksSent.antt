@@ -9,6 +9,7 @@ use Rattle.std.proofs.Math.Seq.{take-append_seam, drop-append_seam}
 use Rattle.ft_io.specs.declared.Addr.{Addr}
 use Rattle.ft_io.specs.declared.Key.{Key}
 use Rattle.ft_io.proofs.Choices.{by_cases, holds_if, if_false}
+use Rattle.seq_arith.specs.Profile.{plain}
 use Rattle.seq_arith.specs.Mark.{Mark}
 use Rattle.seq_arith.specs.Message.{Body}
 use Rattle.server_trait.specs.Service.{Machine}
@@ -176,7 +177,7 @@ answer_settles service writing every boot reads p m n sent s t = record {
 -- what the law of reads looks at, and what makes a mark due
 abbrev reading_part : Key → Point → Point
 reading_part key p =
-    record (blank_point key 0 0 0) { taken = p.taken; fin = p.fin; fetched = p.fetched; lengths = p.lengths; una = p.una; reads_answered = p.reads_answered }
+    record (blank_point plain key 0 0 0) { taken = p.taken; fin = p.fin; fetched = p.fetched; lengths = p.lengths; una = p.una; reads_answered = p.reads_answered }
 
 next_by_part : {State : Type 0} (service : Machine State) (key : Key) (p : Point) → next_read service p ≡ next_read service (reading_part key p)
 unfolding next_length may_read
@@ -199,7 +200,7 @@ tick_still service server boot p q packets t = record { taken = t.taken; fin = t
 
 same_part : (key : Key) (p q : Point) → IsStill p q → q.lengths ≡ p.lengths → reading_part key q ≡ reading_part key p
 same_part key p q s lengths =
-    λ j. record (blank_point key 0 0 0) {
+    λ j. record (blank_point plain key 0 0 0) {
       taken = s.taken j;
       fin = s.fin j;
       fetched = s.fetched j;

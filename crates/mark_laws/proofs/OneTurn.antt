@@ -55,7 +55,7 @@ continues_once : {State : Type 0} (by : Marker State) (node later other : Marked
 continues_once by node later other count now marking (Some question) out also s t = (s.0 ∙ sym t.0, s.1 ∙ sym t.1)
 continues_once by node later other count now marking None out also s t =
     let once : (s.0 ≡ t.0) × (out ≡ also) =
-    all_once (Revives by.service node.plain) (marks_at by node.plain.boot false marking) (revives_once by.service node.plain) (all_restored by.service now.entries) s.0 t.0 out also s.1 t.1 in (
+    all_once (Revives by.service node.plain) (marks_at by node.plain.boot false marking) (revives_once by.service node.plain) (all_restored by.service node.plain.profile now.entries) s.0 t.0 out also s.1 t.1 in (
       once.1,
       s.2
           ∙ (ap (λ (places : List Place). record node {

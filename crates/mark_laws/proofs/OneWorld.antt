@@ -90,7 +90,7 @@ module _ {State : Type 0} (by : Marker State) where
   pub marked_once : (event : Event) (before w x : MarkedWorld) (s t : List Parcel) → MarkedHappens by before event s w → MarkedHappens by before event t x
       → IsScripted (seen before) event (usual s) (seen w) → IsScripted (seen before) event (usual t) (seen x) → w ≡ x
   marked_once (Boot boot isn) before w x s t p q a b =
-      p.3 ∙ (ap (λ (ps : List Parcel). record before { boot = boot; node = Some (booted_to_mark before.server boot isn); parcels = before.parcels ++ ps }) (p.2 ∙ sym q.2) ∙ sym q.3)
+      p.3 ∙ (ap (λ (ps : List Parcel). record before { boot = boot; node = Some (booted_to_mark before.server before.profile boot isn); parcels = before.parcels ++ ps }) (p.2 ∙ sym q.2) ∙ sym q.3)
   marked_once Crash before w x s t p q a b = p.2 ∙ (ap (λ (ps : List Parcel). record before { node = None; parcels = before.parcels ++ ps }) (p.1 ∙ sym q.1) ∙ sym q.2)
   marked_once Tick before w x s t p q a b = server_once (Plain_comes Tick_comes) before w x s t p.1 q.1
   marked_once (Deliver number) before w x s t p q a b =

@@ -70,7 +70,7 @@ log_goes by node count entries awaits marking out later None e t = (
   Serving (restored_count entries) t.0,
   ap (λ (n : MarkedNode). n.plain) t.2,
   subst (λ o. PlainContinues by.service node.plain count entries o (Serving (restored_count entries) t.0) (without_marks out)) (sym e)
-      (t.0, refl, stripped (Revives by.service node.plain) (marks_at by node.plain.boot false marking) (only_marks by node.plain.boot false marking) (all_restored by.service entries) t.0 out t.1),
+      (t.0, refl, stripped (Revives by.service node.plain) (marks_at by node.plain.boot false marking) (only_marks by node.plain.boot false marking) (all_restored by.service node.plain.profile entries) t.0 out t.1),
 )
 
 -- .. or by the question for a mark
@@ -154,7 +154,7 @@ fence_seen by u node input (Some newer) out later s brought is t =
     as_without input brought
     (subst (λ ps. LawfulTurn by.service node.plain input ps later.plain) (sym (ap without_marks t.0))
     (subst (λ n. LawfulTurn by.service node.plain input [] n) (sym (ap (λ (n : MarkedNode). n.plain) t.1))
-    (record { server = refl; boot = refl; isn = refl; live = s.live; stage = subst (λ o. NodeTurn by.service node.plain input o (Fenced newer) []) (sym is) (refl, refl) })))
+    (record { server = refl; profile = refl; boot = refl; isn = refl; live = s.live; stage = subst (λ o. NodeTurn by.service node.plain input o (Fenced newer) []) (sym is) (refl, refl) })))
 fence_seen by u node input None out later s brought is t = stage_seen by u node node.plain.stage input out later s brought is refl t
 
 -- a mark that comes while it is awaited

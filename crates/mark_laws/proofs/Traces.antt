@@ -111,13 +111,13 @@ boot_quiet low high less (Mark_answered message) b = tt
 boot_steps : {State : Type 0} (by : Marker State) (start : World) (before : MarkedWorld) (boot isn : ℕ) (sent : List Parcel) (after : MarkedWorld) → Grounds by start → Kept by start before
     → MarkedHappens by before (Boot boot isn) sent after → MarkStep by start before sent after
 boot_steps by start before boot isn sent after g k t =
-    let packets : List Packet = hello (booted before.server boot isn) in
-    let later : MarkedWorld = record before { boot = boot; node = Some (booted_to_mark before.server boot isn); parcels = before.parcels ++ map Usual packets } in
-    let is : after ≡ later = t.3 ∙ ap (λ (ps : List Parcel). record before { boot = boot; node = Some (booted_to_mark before.server boot isn); parcels = before.parcels ++ ps }) t.2 in
+    let packets : List Packet = hello (booted before.server before.profile boot isn) in
+    let later : MarkedWorld = record before { boot = boot; node = Some (booted_to_mark before.server before.profile boot isn); parcels = before.parcels ++ map Usual packets } in
+    let is : after ≡ later = t.3 ∙ ap (λ (ps : List Parcel). record before { boot = boot; node = Some (booted_to_mark before.server before.profile boot isn); parcels = before.parcels ++ ps }) t.2 in
     let all : usual (before.parcels ++ map Usual packets) ≡ usual before.parcels ++ packets = usual_append before.parcels (map Usual packets) ∙ ap (λ ps. usual before.parcels ++ ps) (usual_of packets) in
     let step : Stepped by.service start (seen before) packets (seen later) =
     went by.service g.small start (seen before) packets (seen later) g.starts k.sound
-    (server_booted boot isn (ap (option_map (λ (n : MarkedNode). n.plain)) t.0) t.1 refl (ap (λ (ps : List Packet). record (seen before) { boot = boot; node = Some (booted before.server boot isn); packets = ps }) all)) in
+    (server_booted boot isn (ap (option_map (λ (n : MarkedNode). n.plain)) t.0) t.1 refl (ap (λ (ps : List Packet). record (seen before) { boot = boot; node = Some (booted before.server before.profile boot isn); packets = ps }) all)) in
     subst (λ a. MarkStep by start before sent a) (sym is)
     (record {
       stepped = subst (λ ps. Stepped by.service start (seen before) ps (seen later)) (sym (ap usual t.2 ∙ usual_of packets)) step;
@@ -126,12 +126,12 @@ boot_steps by start before boot isn sent after g k t =
         marks = record {
           under_way = all_append (HasTrueMark by before.log.log) before.parcels (map Usual packets) k.marks.under_way (tt, tt);
           kept = k.marks.kept;
-          outstanding = λ n e key. subst (λ x. AllByRecursion (IsTrueMark by before.log.log key) (outstanding_in (x.marking key))) (some_is (booted_to_mark before.server boot isn) n e) tt;
+          outstanding = λ n e key. subst (λ x. AllByRecursion (IsTrueMark by before.log.log key) (outstanding_in (x.marking key))) (some_is (booted_to_mark before.server before.profile boot isn) n e) tt;
         };
         boots = all_append (MarkBoot boot) before.parcels (map Usual packets) (all_weaker (MarkBoot before.boot) (MarkBoot boot) before.parcels (boot_later before.boot boot t.1.0) k.boots) (tt, tt);
-        quiet = λ n e. subst (λ x. is_restarting x.plain.stage ≡ true → AllByRecursion (IsNoMarkOf x.plain.boot) (before.parcels ++ map Usual packets)) (some_is (booted_to_mark before.server boot isn) n e)
+        quiet = λ n e. subst (λ x. is_restarting x.plain.stage ≡ true → AllByRecursion (IsNoMarkOf x.plain.boot) (before.parcels ++ map Usual packets)) (some_is (booted_to_mark before.server before.profile boot isn) n e)
             (λ r. all_append (IsNoMarkOf boot) before.parcels (map Usual packets) (all_weaker (MarkBoot before.boot) (IsNoMarkOf boot) before.parcels (boot_quiet before.boot boot t.1.0) k.boots) (tt, tt));
-        awaiting = λ n e. subst IsAwaiting (some_is (booted_to_mark before.server boot isn) n e) (λ a. absurd (true≢false (sym a)));
+        awaiting = λ n e. subst IsAwaiting (some_is (booted_to_mark before.server before.profile boot isn) n e) (λ a. absurd (true≢false (sym a)));
       };
     })
 

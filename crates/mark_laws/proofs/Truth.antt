@@ -193,7 +193,7 @@ continues_true by start w node later count now marking (Some question) out laws 
 continues_true by start w node later count now marking None out laws s up held e t =
     let known = known_places by start w later.plain (restored_count now.entries) t.0 s up (ap (λ (n : MarkedNode). n.plain.stage) t.2) in
     record {
-      sent = gone_all (OutIsTrue by node.plain.boot w.log) (λ p. tt) (Revives by.service node.plain) (marks_at by node.plain.boot false marking) (all_restored by.service now.entries) t.0 out t.1
+      sent = gone_all (OutIsTrue by node.plain.boot w.log) (λ p. tt) (Revives by.service node.plain) (marks_at by node.plain.boot false marking) (all_restored by.service node.plain.profile now.entries) t.0 out t.1
           (all_weaker (KnownPlace by start w s.joint.author.author) _ t.0 (marks_at_true by start w node.plain.boot false marking laws s held) known);
       quiet = λ r. absurd (true≢false (sym r ∙ ap (λ (n : MarkedNode). is_restarting n.plain.stage) t.2));
       outstanding = subst (λ n. OutstandingTrue by w.log n.marking) (sym t.2) (λ key. then_true by start w marking t.0 laws s held known key (place_at key t.0) refl);

@@ -81,6 +81,7 @@ pub lawful_at : {State : Type 0} (service : Machine State) (node : Node) (input 
     → StageTurn service node stage input after sent → LawfulTurn service node input sent (record node { stage = after })
 lawful_at service node input sent stage after live no_fence is t = record {
   server = refl;
+  profile = refl;
   boot = refl;
   isn = refl;
   live = live;
@@ -143,7 +144,7 @@ goes_on by node count now marking out later None e t = record {
   stage = Serving (restored_count now) t.0;
   plain = ap (λ (n : MarkedNode). n.plain) t.2;
   fetches = subst (λ o. PlainContinues by.service node.plain count now o (Serving (restored_count now) t.0) (without_marks out)) (sym e)
-      (t.0, refl, stripped (Revives by.service node.plain) (marks_at by node.plain.boot false marking) (only_marks by node.plain.boot false marking) (all_restored by.service now) t.0 out t.1);
+      (t.0, refl, stripped (Revives by.service node.plain) (marks_at by node.plain.boot false marking) (only_marks by node.plain.boot false marking) (all_restored by.service node.plain.profile now) t.0 out t.1);
   awaits = ap (λ (n : MarkedNode). n.awaits_mark) t.2;
 }
 
@@ -274,7 +275,7 @@ by_fence : {State : Type 0} (by : Marker State) (start u : World) (node : Marked
 by_fence by start u node input (Some newer) out later at brought is t =
     let next : Node = record node.plain { stage = Fenced newer } in
     let turn : LawfulTurn by.service node.plain input [] next =
-    record { server = refl; boot = refl; isn = refl; live = at.live; stage = subst (λ o. NodeTurn by.service node.plain input o (Fenced newer) []) (sym is) (refl, refl) } in
+    record { server = refl; profile = refl; boot = refl; isn = refl; live = at.live; stage = subst (λ o. NodeTurn by.service node.plain input o (Fenced newer) []) (sym is) (refl, refl) } in
     record {
       stepped = subst (λ n. Stepped by.service start u (without_marks out) (turned u n.plain (without_marks out))) (sym t.1)
           (subst (λ ps. Stepped by.service start u ps (turned u next ps)) (sym (ap without_marks t.0)) (plain_turn by start u node input [] next at brought turn));

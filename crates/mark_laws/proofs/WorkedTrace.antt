@@ -24,6 +24,7 @@ use Rattle.ft_model.proofs.Turns.{laws, goes, segment_in, message_in, kept_in}
 use Rattle.mark_laws.specs.MarkedLog.{after_mark, answer_above, answer_to_mark}
 use Rattle.mark_laws.specs.Marking.{Marking, Outgoing, is_due}
 use Rattle.mark_laws.specs.Marking.Outgoing.{Plain, Mark_to_logger}
+use Rattle.seq_arith.specs.Profile.{plain}
 use Rattle.seq_arith.specs.Mark.MarkBody.{MarkMsg, AskMsg, HeldMsg}
 use Rattle.seq_arith.specs.Message.Body.{HelloMsg, SummaryMsg, ListMsg, EntryMsg, DataMsg}
 use Rattle.ft_model.specs.WorkedRuns.Common.{client_segment, from_client, to_client, to_log, from_log, part_with, fetched_with}
@@ -53,7 +54,7 @@ abbrev Turn : MarkedNode → Input → List Outgoing → MarkedNode → Type 0
 Turn before input sent after = LawfulMarkedTurn run.marker [] [] before (Plain_comes input) sent after
 
 -- the server's turns
-turn_3 : Turn (run.marks_none (booted server 1 5000)) (Message_comes (message_in path.packet_2)) [] (run.marks_none (path.node_at (Serving 0 [])))
+turn_3 : Turn (run.marks_none (booted server plain 1 5000)) (Message_comes (message_in path.packet_2)) [] (run.marks_none (path.node_at (Serving 0 [])))
 unfolding laws
 turn_3 = record { live = refl; turn = (Serving 0 [], [], ([], refl, (refl, refl)), refl, refl) }
 
@@ -76,9 +77,9 @@ turn_5 = record {
   );
 }
 
-goes_7 : Goes 1 (Begins) (point_opened numbers) path.begun_point path.moment_7.sent
+goes_7 : Goes 1 (Begins) (point_opened plain numbers) path.begun_point path.moment_7.sent
 unfolding laws
-goes_7 = goes echo server 1 (Begins) (point_opened numbers) path.begun_point path.moment_7.sent refl refl refl refl
+goes_7 = goes echo server 1 (Begins) (point_opened plain numbers) path.begun_point path.moment_7.sent refl refl refl refl
 
 turn_7 : Turn (run.marks_none (path.node_at (Serving 1 (Opens numbers ∷ [])))) (Message_comes (message_in path.packet_5)) (map Plain path.moment_7.sent) (run.marks_none (path.node_live path.begun_point))
 unfolding laws
@@ -225,7 +226,7 @@ turn_19 = record {
 }
 
 -- the next incarnation's turns
-turn_24 : Turn (run.marks_none (booted server 2 900000)) (Message_comes (message_in (from_log 2 (SummaryMsg 1)))) (Plain (to_log 2 (ListMsg 0)) ∷ []) (run.fetching false [])
+turn_24 : Turn (run.marks_none (booted server plain 2 900000)) (Message_comes (message_in (from_log 2 (SummaryMsg 1)))) (Plain (to_log 2 (ListMsg 0)) ∷ []) (run.fetching false [])
 unfolding laws
 turn_24 = record { live = refl; turn = (Fetching 1 [], to_log 2 (ListMsg 0) ∷ [], (refl, refl), refl, refl) }
 
@@ -234,7 +235,7 @@ unfolding laws
 turn_26 = record { live = refl; turn = (refl, refl) }
 
 abbrev fetched_point : Point
-fetched_point = point_of echo (entry_in (fetched_with run.head hello_text (5 ∷ [])))
+fetched_point = point_of echo plain (entry_in (fetched_with run.head hello_text (5 ∷ [])))
 
 goes_28 : Goes 2 Begins fetched_point run.restarted (to_client 16 5006 1006 65535 None [] ∷ [])
 unfolding laws

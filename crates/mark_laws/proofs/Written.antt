@@ -346,8 +346,8 @@ module _ {State : Type 0} (by : Marker State) (start : World) (writes : WritesBy
 
   boot_wired : (boot isn : ℕ) (sent : List Parcel) (after : MarkedWorld) → MarkedHappens by before (Boot boot isn) sent after → Wired by start after
   boot_wired boot isn sent after t =
-      let node : MarkedNode = booted_to_mark before.server boot isn in
-      let packets : List Packet = hello (booted before.server boot isn) in
+      let node : MarkedNode = booted_to_mark before.server before.profile boot isn in
+      let packets : List Packet = hello (booted before.server before.profile boot isn) in
       let up : IsBoot boot = (omega (arith, t.1.0), t.1.1) in
       let is : after ≡ record before { boot = boot; node = Some node; parcels = before.parcels ++ map Usual packets } =
       t.3 ∙ ap (λ (ps : List Parcel). record before { boot = boot; node = Some node; parcels = before.parcels ++ ps }) t.2 in

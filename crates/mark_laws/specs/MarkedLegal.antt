@@ -1,5 +1,6 @@
 -- A legal trace of a schedule with marks. It is like one without, except that the messages about marks count among the packets.
 use Rattle.std.specs.Prelude.{◌≡◌, ℕ, ◌*◌, length, nat_le, Option, Some, None, is_some, List, [], ◌∷◌, ◌++◌, if◌then◌else◌}
+use Rattle.seq_arith.specs.Profile.{plain}
 use Rattle.server_trait.specs.Service.{Machine}
 use Rattle.server_trait.specs.Saved.{writing}
 use Rattle.ft_model.specs.Legal.{refusal, IsScripted}
@@ -16,7 +17,15 @@ use Rattle.mark_laws.specs.MarkedWorld.{Parcel, MarkedWorld, MarkedMoment, Marke
 -- before the first event: nothing was sent, nothing is logged, and the server is down
 abbrev pub marked_start : Schedule → MarkedWorld
 marked_start schedule =
-    record { server = schedule.server; clients = clients_of schedule.server schedule.clients; log = nothing_logged; parcels = []; boot = 0; node = None }
+    record {
+      server = schedule.server;
+      profile = plain;
+      clients = clients_of schedule.server schedule.clients;
+      log = nothing_logged;
+      parcels = [];
+      boot = 0;
+      node = None;
+    }
 
 -- the events of a trace, oldest first
 abbrev pub marked_events_of : List MarkedMoment → List Event

@@ -6,6 +6,7 @@ use Rattle.std.specs.Option.{option_to_list}
 use Rattle.ft_io.specs.declared.Addr.{Addr}
 use Rattle.ft_io.specs.declared.Key.{Key}
 use Rattle.ft_io.specs.Key.{key_eq}
+use Rattle.seq_arith.specs.Profile.{Profile}
 use Rattle.seq_arith.specs.Mark.{Mark, MarkBody, MarkMessage}
 use Rattle.seq_arith.specs.Mark.MarkBody.{MarkedMsg, HeldMsg}
 use Rattle.seq_arith.specs.Message.{Body}
@@ -42,8 +43,8 @@ pub record MarkedNode : Type 0 where
 abbrev pub unmarked : Marking
 unmarked = record { last = 0; outstanding = None }
 
-abbrev pub booted_to_mark : Addr → (boot isn : ℕ) → MarkedNode
-booted_to_mark server boot isn = record { plain = booted server boot isn; awaits_mark = false; marking = λ key. unmarked }
+abbrev pub booted_to_mark : Addr → Profile → (boot isn : ℕ) → MarkedNode
+booted_to_mark server profile boot isn = record { plain = booted server profile boot isn; awaits_mark = false; marking = λ key. unmarked }
 
 -- one turn's input
 pub data MarkedInput : Type 0 where
@@ -116,7 +117,7 @@ Continues by node count now marking (Some question) sent after =
     × (after ≡ record node { plain = record node.plain { stage = Fetching count now.entries }; awaits_mark = now.awaits_mark; marking = marking })
 Continues by node count now marking None sent after =
     (places : List Place)
-    × AllGoMarked (GoesMarked (Revives by.service node.plain) (marks_at by node.plain.boot false marking)) (all_restored by.service now.entries) places sent
+    × AllGoMarked (GoesMarked (Revives by.service node.plain) (marks_at by node.plain.boot false marking)) (all_restored by.service node.plain.profile now.entries) places sent
     × (after ≡ record node {
       plain = record node.plain { stage = Serving (restored_count now.entries) places };
       awaits_mark = false;

@@ -2,6 +2,7 @@
 use Rattle.std.specs.Prelude.{◌≡◌, ℕ, zero, suc, ◌<◌, ◌*◌, length, map, Result, Ok, Err, Option, Some, None, option_map, is_some, true, List, [], ◌∷◌, ◌++◌, slice_get}
 use Rattle.std.specs.Option.{option_to_list, option_map_or}
 use Rattle.ft_io.specs.declared.Addr.{Addr}
+use Rattle.seq_arith.specs.Profile.{Profile}
 use Rattle.seq_arith.specs.Damage.{flipped}
 use Rattle.seq_arith.specs.Mark.{MarkBody, MarkMessage}
 use Rattle.seq_arith.specs.Mark.MarkBody.{HeldMsg}
@@ -38,6 +39,7 @@ pub data Parcel : Type 0 where
 
 pub record MarkedWorld : Type 0 where
   pub server : Addr
+  pub profile : Profile
   pub clients : List Client
   pub log : MarkedLog
   pub parcels : List Parcel  -- all that were ever sent, in order
@@ -53,7 +55,15 @@ usual (Mark_answered message ∷ sent) = usual sent
 
 -- the world without the marks
 abbrev pub seen : MarkedWorld → World
-seen w = record { server = w.server; clients = w.clients; log = w.log.log; packets = usual w.parcels; boot = w.boot; node = option_map (λ n. n.plain) w.node }
+seen w = record {
+  server = w.server;
+  profile = w.profile;
+  clients = w.clients;
+  log = w.log.log;
+  packets = usual w.parcels;
+  boot = w.boot;
+  node = option_map (λ n. n.plain) w.node;
+}
 
 -- the parcel with a number, counted from 1
 abbrev pub parcel_at : List Parcel → ℕ → Option Parcel
@@ -169,8 +179,8 @@ pub record FlippedTo {State : Type 0} (by : Marker State) (parcel : Parcel) (bit
 -- What may happen: what may happen without marks, but by a server and a log with marks
 abbrev pub MarkedHappens : {State : Type 0} → Marker State → MarkedWorld → Event → List Parcel → MarkedWorld → Type 0
 MarkedHappens by before (Boot boot isn) sent after =
-    (before.node ≡ None) × IsNextBoot (seen before) boot × (sent ≡ map Usual (hello (booted before.server boot isn)))
-    × (after ≡ record before { boot = boot; node = Some (booted_to_mark before.server boot isn); parcels = before.parcels ++ sent })
+    (before.node ≡ None) × IsNextBoot (seen before) boot × (sent ≡ map Usual (hello (booted before.server before.profile boot isn)))
+    × (after ≡ record before { boot = boot; node = Some (booted_to_mark before.server before.profile boot isn); parcels = before.parcels ++ sent })
 MarkedHappens by before Crash sent after =
     (is_some before.node ≡ true) × (sent ≡ []) × (after ≡ record before { node = None; parcels = before.parcels ++ sent })
 MarkedHappens by before Tick sent after = (is_some before.node ≡ true) × ServerMoves by (Plain_comes Tick_comes) before sent after

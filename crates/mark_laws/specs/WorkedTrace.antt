@@ -2,6 +2,7 @@
 -- sent. The server crashes, and the next incarnation begins at the mark: it fetches neither the bytes nor the read.
 use Rattle.std.specs.Prelude.{ℕ, Bool, true, false, pos, Option, Some, None, option_map, List, [], ◌∷◌, ◌++◌, map, if◌then◌else◌}
 use Rattle.ft_io.specs.Key.{key_eq}
+use Rattle.seq_arith.specs.Profile.{plain}
 use Rattle.seq_arith.specs.Mark.{Mark, MarkBody, MarkMessage}
 use Rattle.seq_arith.specs.Mark.MarkBody.{MarkMsg, MarkedMsg, AskMsg, HeldMsg}
 use Rattle.seq_arith.specs.Message.{EntryHead}
@@ -43,6 +44,7 @@ marks_none node = record { plain = node; awaits_mark = false; marking = λ k. un
 abbrev pub without : World → MarkedWorld
 without w = record {
   server = w.server;
+  profile = w.profile;
   clients = w.clients;
   log = record { log = w.log; marks = λ k. no_mark };
   parcels = map Usual w.packets;
@@ -108,13 +110,13 @@ abbrev pub moment_21 : MarkedMoment
 moment_21 = moment Crash [] (record moment_20.world { node = None })
 
 abbrev pub moment_22 : MarkedMoment
-moment_22 = moment (Boot 2 900000) (Usual (to_log 2 HelloMsg) ∷ []) (record moment_21.world { boot = 2; node = Some (booted_to_mark server 2 900000) })
+moment_22 = moment (Boot 2 900000) (Usual (to_log 2 HelloMsg) ∷ []) (record moment_21.world { boot = 2; node = Some (booted_to_mark server plain 2 900000) })
 
 abbrev pub moment_23 : MarkedMoment
 moment_23 = moment (Deliver 20) (Usual (from_log 2 (SummaryMsg 1)) ∷ []) (record moment_22.world { log = marked_log 2 })
 
 abbrev pub fetching : Bool → List Fetched → MarkedNode
-fetching awaits fetched = record { plain = record (booted server 2 900000) { stage = Fetching 1 fetched }; awaits_mark = awaits; marking = λ k. unmarked }
+fetching awaits fetched = record { plain = record (booted server plain 2 900000) { stage = Fetching 1 fetched }; awaits_mark = awaits; marking = λ k. unmarked }
 
 abbrev pub moment_24 : MarkedMoment
 moment_24 = moment (Deliver 21) (Usual (to_log 2 (ListMsg 0)) ∷ []) (record moment_23.world { node = Some (fetching false []) })
@@ -134,7 +136,7 @@ moment_27 = moment (Deliver 24) (Mark_answered (about 2 (HeldMsg key mark)) ∷ 
 
 -- all of the entry is below its mark: the connection is live again, with nothing more asked
 abbrev pub restarted : Point
-restarted = record (blank_point key 1000 5000 536) {
+restarted = record (blank_point plain key 1000 5000 536) {
   fetched = 5;
   fetched_output = 5;
   taken = hello_text;
@@ -151,7 +153,7 @@ restarted = record (blank_point key 1000 5000 536) {
 
 abbrev pub restarted_node : MarkedNode
 restarted_node = record {
-  plain = record (booted server 2 900000) { stage = Serving 1 (Lives restarted ∷ []) };
+  plain = record (booted server plain 2 900000) { stage = Serving 1 (Lives restarted ∷ []) };
   awaits_mark = false;
   marking = λ k. marking_then marker (place_at k (Lives restarted ∷ [])) (marking_fetched (HeldMsg key mark) (λ j. unmarked) k);
 }

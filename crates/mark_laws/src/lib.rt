@@ -4,6 +4,7 @@
 #![tactic(auto)]
 
 ghost use Rattle.std.specs.Prelude.{◌≡◌, ℕ, Bool, true, false, ◌≤◌, List, [], ◌∷◌, Some, None, IfSome, length, sum, slice_get, ◌<◌, codes};
+ghost use Rattle.seq_arith.specs.Profile.{Profile};
 ghost use Rattle.server_trait.specs.Service.{machine, reference, AreBytes, CanCut};
 ghost use Rattle.server_trait.specs.Saved.{Writing, ReadsBack, writing};
 ghost use Rattle.seq_arith.specs.Mark.{Mark, MarkMessage};
@@ -94,9 +95,9 @@ pub fn answers_fetch_the_log<S: Service>()
 
 /// When a restart has fetched such prefixes and nothing is missing any more, each entry that isn't done continues at the point of the whole entry.
 pub fn restarts_end_at_the_points<S: Service>()
-    ensures { (kind : ℕ) (entries : List Entry) (fetched : List Fetched) → AreFetched entries fetched → wanted (length entries) fetched ≡ None
-        → (i : ℕ) (e : Entry) → slice_get entries i ≡ Some e → e.done ≡ false
-        → slice_get (all_restored (machine (S.started kind) S.after) fetched) i ≡ Some (Lives (point_of (machine (S.started kind) S.after) e)) }
+    ensures { (kind : ℕ) (profile : Profile) (entries : List Entry) (fetched : List Fetched) → AreFetched entries fetched
+        → wanted (length entries) fetched ≡ None → (i : ℕ) (e : Entry) → slice_get entries i ≡ Some e → e.done ≡ false
+        → slice_get (all_restored (machine (S.started kind) S.after) profile fetched) i ≡ Some (Lives (point_of (machine (S.started kind) S.after) profile e)) }
 {}
 
 /// A mark of two reads is kept. A mark of fewer reads and one whose length isn't the sum of its reads get the same answer, and change nothing. A mark of

@@ -17,4 +17,5 @@ pub mod Spelling
 pub mod Sums
 pub mod Texts
 pub mod TwinSpelling
+pub mod Unmeasured
 pub mod Units

@@ -2,6 +2,8 @@ pub mod Number
 pub mod Arrival
 pub mod Coming
 pub mod Congestion
+pub mod Timing
+pub mod Profile
 pub mod Early
 pub mod Packet
 pub mod Offset

@@ -2,11 +2,12 @@
 //! on offsets has the same result if both sides of it move by the same number.
 
 ghost use Rattle.std.specs.Prelude.{◌≡◌, ◌<◌, ◌≤◌, ◌+◌, ◌-◌, ◌*◌, ◌/◌, ◌%◌, ◌^◌, ℕ, ℤ, pos, ◌+ℤ◌, ◌-ℤ◌, ◌≤ℤ◌, Bool, true, false, List, [], ◌∷◌, ◌++◌, length, take, drop};
-ghost use Rattle.std.specs.Prelude.{nat_abs, Ok, IsErr};
+ghost use Rattle.std.specs.Prelude.{nat_abs, Ok, IsErr, ◌==◌, nat_le, min, if◌then◌else◌};
 ghost use Rattle.seq_arith.specs.Number.{gap, number_at, offset_of};
 ghost use Rattle.seq_arith.specs.Arrival.{is_acceptable, is_usable, below, text_between, is_new_ack, is_beyond, una_after, updates_window};
 ghost use Rattle.seq_arith.specs.Coming.{Early, early_from, came_from, nothing_came, comes, StandsBehind};
-ghost use Rattle.seq_arith.specs.Congestion.{Congestion, most_window, initial_congestion, with_new_data, with_duplicate, with_expiry, IsOpen};
+ghost use Rattle.seq_arith.specs.Congestion.{Congestion, most_window, initial_congestion, growth, with_new_data, lowered_threshold, is_third, with_duplicate, with_expiry, IsOpen};
+ghost use Rattle.seq_arith.specs.Timing.{initial_timing, with_acknowledged, with_tick, without_trip, with_backoff, with_sent};
 ghost use Rattle.seq_arith.specs.Checksum.{word_sum, odd_after, check_of, Summed, with_bytes};
 ghost use Rattle.seq_arith.specs.Damage.{flipped};
 ghost use Rattle.seq_arith.specs.Packet.{Segment};
@@ -113,7 +114,7 @@ pub fn nothing_comes()
 /// Neither the congestion window nor the slow start threshold ever becomes 0.
 #[tactic(auto, using(crate::proofs::Congested::opens))]
 pub fn congestion_window_stays_open()
-    ensures initially { (mss : ℕ) → 1 ≤ mss → IsOpen mss (initial_congestion mss) }
+    ensures initially { (recovers : Bool) (mss : ℕ) → 1 ≤ mss → IsOpen mss (initial_congestion recovers mss) }
     ensures new_data { (mss units : ℕ) (c : Congestion) → IsOpen mss c → IsOpen mss (with_new_data mss units c) }
     ensures duplicate { (mss flight : ℕ) (c : Congestion) → IsOpen mss c → IsOpen mss (with_duplicate mss flight c) }
     ensures expiry { (mss flight : ℕ) (first : Bool) (c : Congestion) → IsOpen mss c → IsOpen mss (with_expiry mss flight first c) }
@@ -125,6 +126,32 @@ pub fn congestion_window_is_bounded()
     ensures new_data { (mss units : ℕ) (c : Congestion) → (with_new_data mss units c).cwnd ≤ most_window }
     ensures duplicate { (mss flight : ℕ) (c : Congestion) → c.cwnd ≤ most_window → (with_duplicate mss flight c).cwnd ≤ most_window }
     ensures expiry { (mss flight : ℕ) (first : Bool) (c : Congestion) → (with_expiry mss flight first c).cwnd ≤ most_window }
+{}
+
+/// Without recovery of further losses, congestion control is that of RFC 5681, and no loss is noted.
+#[tactic(auto, using(crate::proofs::Unmeasured::plain_new_data, crate::proofs::Unmeasured::plain_third, crate::proofs::Unmeasured::plain_duplicate, crate::proofs::Unmeasured::plain_expiry))]
+pub fn plain_congestion_notes_no_loss()
+    ensures new_data { (mss units : ℕ) (c : Congestion) → c.recovers ≡ false → c.lost ≡ 0
+        → with_new_data mss units c ≡ record c { cwnd = min most_window (if nat_le 3 c.dups then c.ssthresh else c.cwnd + growth mss units c); dups = 0 } }
+    ensures third { (c : Congestion) → c.recovers ≡ false → is_third c ≡ (c.dups == 2) }
+    ensures duplicate { (mss flight : ℕ) (c : Congestion) → c.recovers ≡ false → c.lost ≡ 0
+        → with_duplicate mss flight c ≡ (if nat_le 3 c.dups then record c { cwnd = min most_window (c.cwnd + mss); dups = 4 }
+        else (if c.dups == 2
+        then record c { cwnd = min most_window (lowered_threshold mss flight + 3 * mss); ssthresh = lowered_threshold mss flight; dups = 3 }
+        else record c { dups = c.dups + 1 })) }
+    ensures expiry { (mss flight : ℕ) (first : Bool) (c : Congestion) → c.recovers ≡ false → c.lost ≡ 0
+        → with_expiry mss flight first c ≡ record c { cwnd = min most_window mss; ssthresh = if first then lowered_threshold mss flight else c.ssthresh; dups = 0 } }
+{}
+
+/// The estimate of a sender that doesn't measure never changes, and its timer starts with one tick.
+#[tactic(auto, unfolding(crate::specs::Timing::with_acknowledged, crate::specs::Timing::with_tick, crate::specs::Timing::without_trip, crate::specs::Timing::with_backoff, crate::specs::Timing::with_sent))]
+pub fn unmeasured_timing_stays()
+    ensures acknowledged { (units : ℕ) → with_acknowledged units (initial_timing false) ≡ initial_timing false }
+    ensures tick { with_tick (initial_timing false) ≡ initial_timing false }
+    ensures retransmission { without_trip (initial_timing false) ≡ initial_timing false }
+    ensures expiry { (interval : ℕ) → with_backoff interval (initial_timing false) ≡ initial_timing false }
+    ensures sent { (ahead : ℕ) → with_sent ahead (initial_timing false) ≡ initial_timing false }
+    ensures base { (initial_timing false).base ≡ 1 }
 {}
 
 /// The text between two offsets is the text without its bytes below the first offset, cut at the second.

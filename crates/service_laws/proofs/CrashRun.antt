@@ -1,6 +1,7 @@
 -- The run with a crash, whole: each moment happens and is allowed.
 use Rattle.std.proofs.Common.{ℕ, zero, suc, ◌^◌, refl, List, [], ◌∷◌}
 use native.Mathlib.Bridge.{le_by_compare, IsLe}
+use Rattle.seq_arith.specs.Profile.{plain}
 use Rattle.server_trait.specs.Service.{Machine}
 use Rattle.sample_servers.specs.declared.any_service.AnyService.{AnyService}
 use Rattle.sample_servers.specs.AnyService.{any_machine}
@@ -37,9 +38,10 @@ text_comes = serves echo 1 5000 first.text_comes first.open_point first.taken_po
 serves_again : Turns echo start.asks_bytes.node start.serves_again
 unfolding laws
 serves_again =
-    let p : Point = point_of echo (entry_in (record start.entry_with_lengths { bytes = hello_text })) in
+    let p : Point = point_of echo plain (entry_in (record start.entry_with_lengths { bytes = hello_text })) in
     record {
       server = refl;
+      profile = refl;
       boot = refl;
       isn = refl;
       live = refl;

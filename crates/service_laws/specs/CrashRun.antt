@@ -1,6 +1,7 @@
 -- The complete run with a crash after bytes are logged: a client opens and sends five bytes; they and their read are logged, the server crashes before an
 -- answer about them reaches it, and its next boot fetches the log and sends the output. Thirty events, twenty-six packets.
 use Rattle.std.specs.Prelude.{ℕ, codes, false, None, Some, List, [], ◌∷◌}
+use Rattle.seq_arith.specs.Profile.{plain}
 use Rattle.seq_arith.specs.Packet.{Segment}
 use Rattle.seq_arith.specs.Message.Body.{HelloMsg, SummaryMsg, EntryMsg, PartMsg, LensMsg, ReadsMsg, DataMsg}
 use Rattle.ft_model.specs.Client.{Client}
@@ -56,7 +57,7 @@ moment_15 = moment Crash [] (record moment_14.world { node = None })
 
 -- the second boot asks for the log
 abbrev pub moment_16 : Moment
-moment_16 = moment (Boot 2 900000) (to_log 2 HelloMsg ∷ []) (record moment_15.world { boot = 2; node = Some (booted server 2 900000) })
+moment_16 = moment (Boot 2 900000) (to_log 2 HelloMsg ∷ []) (record moment_15.world { boot = 2; node = Some (booted server plain 2 900000) })
 
 abbrev pub moment_17 : Moment
 moment_17 = moment (Deliver 14) (from_log 2 (SummaryMsg 1) ∷ []) (record moment_16.world { log = second_log })

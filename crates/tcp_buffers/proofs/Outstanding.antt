@@ -38,8 +38,8 @@ una_fits Old una ack u a = u
 una_fits Beyond una ack u a = u
 
 -- a state whose parts are those of another
-pub same_state : (s : SendState) (una wl1 wl2 : Seq) (wnd interval left cwnd dups : ℕ) → una.0 ≡ s.una.0 → wl1.0 ≡ s.wl1.0 → wl2.0 ≡ s.wl2.0
-    → wnd ≡ s.wnd → interval ≡ s.interval → left ≡ s.left → cwnd ≡ s.cwnd → dups ≡ s.dups
-    → record s { una = una; wnd = wnd; wl1 = wl1; wl2 = wl2; interval = interval; left = left; cwnd = cwnd; dups = dups } ≡ s
-same_state s una wl1 wl2 wnd interval left cwnd dups u l1 l2 w v t g d =
-    λ i. record s { una = record { 0 = u i }; wnd = w i; wl1 = record { 0 = l1 i }; wl2 = record { 0 = l2 i }; interval = v i; left = t i; cwnd = g i; dups = d i }
+pub same_state : (s : SendState) (una wl1 wl2 : Seq) (wnd interval left cwnd dups lost : ℕ) → una.0 ≡ s.una.0 → wl1.0 ≡ s.wl1.0 → wl2.0 ≡ s.wl2.0
+    → wnd ≡ s.wnd → interval ≡ s.interval → left ≡ s.left → cwnd ≡ s.cwnd → dups ≡ s.dups → lost ≡ s.lost
+    → record s { una = una; wnd = wnd; wl1 = wl1; wl2 = wl2; interval = interval; left = left; cwnd = cwnd; dups = dups; lost = lost } ≡ s
+same_state s una wl1 wl2 wnd interval left cwnd dups lost u l1 l2 w v t g d h =
+    λ i. record s { una = record { 0 = u i }; wnd = w i; wl1 = record { 0 = l1 i }; wl2 = record { 0 = l2 i }; interval = v i; left = t i; cwnd = g i; dups = d i; lost = h i }

@@ -1,5 +1,5 @@
 -- TCP's tests on a segment's acknowledgement and window, on numbers modulo 2^32 (RFC 9293, 3.4 and 3.10.7.4, fifth check), and what they do to the sender's
--- variables, the congestion window among them (RFC 5681). `laws` states that they agree with the tests on offsets in seq_arith's Arrival.
+-- variables, the congestion window among them (RFC 5681; RFC 6582). `laws` states that they agree with the tests on offsets in seq_arith's Arrival.
 use Rattle.std.specs.Prelude.{◌≡◌, ℕ, Bool, ◌+◌, ◌-◌, ◌*◌, ◌%◌, ◌^◌, ◌==◌, ◌&&◌, ◌||◌, not, min, if◌then◌else◌}
 use Rattle.seq_arith.specs.Congestion.{Congestion, with_new_data, with_duplicate, with_expiry}
 use Rattle.seq_arith.specs.Number.{distance, precedes, precedes_or_is}
@@ -53,10 +53,10 @@ edge_after s seq ack wnd = if is_window_used s seq ack then (ack + wnd) % 2 ^ 32
 
 -- the variables of congestion control
 abbrev pub congestion_of : SendState → Congestion
-congestion_of s = record { cwnd = s.cwnd; ssthresh = s.ssthresh; dups = s.dups }
+congestion_of s = record { cwnd = s.cwnd; ssthresh = s.ssthresh; dups = s.dups; recovers = s.recovers; lost = s.lost }
 
 abbrev pub with_congestion : SendState → Congestion → SendState
-with_congestion s c = record s { cwnd = c.cwnd; ssthresh = c.ssthresh; dups = c.dups }
+with_congestion s c = record s { cwnd = c.cwnd; ssthresh = c.ssthresh; dups = c.dups; recovers = c.recovers; lost = c.lost }
 
 -- the segment size, but at most 2^31 - 1, so that twice as much fits 32 bits
 abbrev pub segment_of : SendState → ℕ
@@ -79,9 +79,9 @@ duplicated s = with_congestion s (with_duplicate (segment_of s) (flight_of s) (c
 abbrev pub is_lost : SendState → Bool
 is_lost s = not (s.una.0 == s.nxt.0) && precedes s.una.0 (edge_of s)
 
--- the timer expires: what is in flight counts as lost, if the peer's right edge is past SND.UNA
-abbrev pub expired : SendState → SendState
-expired s = if is_lost s then with_congestion s (with_expiry (segment_of s) (flight_of s) (s.interval == 1) (congestion_of s)) else s
+-- the timer expires, for the first time since its interval was computed or not: what is in flight counts as lost, if the peer's right edge is past SND.UNA
+abbrev pub expired : (first : Bool) → SendState → SendState
+expired first s = if is_lost s then with_congestion s (with_expiry (segment_of s) (flight_of s) first (congestion_of s)) else s
 
 -- what a segment's number, acknowledgement and window do to the sender's variables
 pub record IsUsed (old new : SendState) (seq ack wnd : ℕ) : Type 0 where
@@ -100,5 +100,10 @@ abbrev pub doubled : ℕ → ℕ
 doubled interval = min 64 (2 * interval)
 
 -- a tick. The timer's last tick restarts it. At 0 the timer doesn't run
+abbrev pub ticked_after : (first : Bool) → SendState → SendState
+ticked_after first s =
+    if s.left == 1 then record (expired first s) { interval = doubled s.interval; left = doubled s.interval } else record s { left = s.left - 1 }
+
+-- the same where the interval is computed as one tick
 abbrev pub ticked : SendState → SendState
-ticked s = if s.left == 1 then record (expired s) { interval = doubled s.interval; left = doubled s.interval } else record s { left = s.left - 1 }
+ticked s = ticked_after (s.interval == 1) s

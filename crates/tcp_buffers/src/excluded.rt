@@ -4,7 +4,7 @@
 ghost use Rattle.std.specs.Prelude.{◌≡◌, false};
 ghost use Rattle.tcp_buffers.specs.SendNumbers.{edge_of};
 
-use crate::SendState;
+use crate::{SendState, Timing};
 use seq_arith::Seq;
 
 /// Nothing in flight counts as lost while the window is closed, with the right edge at SND.UNA: the contract of `SendState::is_lost`.
@@ -56,4 +56,39 @@ fn window_grows_by_all_units(state: &SendState) -> u64
         ..*state
     };
     state.growth(150)
+}
+
+/// One unit at a time is timed, so its round trip is measured though a later unit was sent: the contract of `Timing::on_send`.
+#[tactic(auto, unfolding(seq_arith::specs::Timing::with_sent, seq_arith::specs::Timing::with_tick, seq_arith::specs::Timing::with_acknowledged, seq_arith::specs::Timing::with_sample))]
+fn a_later_unit_is_timed() -> u8
+    ensures { result ≡ 3 }
+{
+    let mut timing = Timing::new(true);
+    timing.on_send(1);
+    timing.on_tick();
+    timing.on_send(2);
+    timing.on_ack(1);
+    timing.base()
+}
+
+/// A round trip is measured when the timed unit is acknowledged: the contract of `Timing::on_ack`.
+#[tactic(auto, unfolding(seq_arith::specs::Timing::with_sent, seq_arith::specs::Timing::with_tick, seq_arith::specs::Timing::with_acknowledged, seq_arith::specs::Timing::with_sample))]
+fn round_trip_ends_a_unit_late() -> u8
+    ensures { result ≡ 3 }
+{
+    let mut timing = Timing::new(true);
+    timing.on_send(5);
+    timing.on_tick();
+    timing.on_ack(5);
+    timing.base()
+}
+
+/// Where nothing is measured the timer starts with one tick, also after an expiry: the contract of `Timing::on_expiry`.
+#[tactic(auto, unfolding(seq_arith::specs::Timing::with_backoff))]
+fn measures_where_it_must_not() -> u8
+    ensures { result ≡ 1 }
+{
+    let mut timing = Timing::new(false);
+    timing.on_expiry(2);
+    timing.base()
 }

@@ -5,6 +5,7 @@
 pub use receive_queue::RecvQueue;
 pub use send_queue::SendQueue;
 pub use send_state::{AckKind, SendState};
+pub use timing::Timing;
 
 mod copying;
 mod early_runs;
@@ -14,6 +15,7 @@ mod overwriting;
 mod receive_queue;
 mod send_queue;
 mod send_state;
+mod timing;
 
 /// How many bytes a queue holds: as many as a window without scaling can advertise.
 pub const QUEUE_ROOM: usize = 65_535;

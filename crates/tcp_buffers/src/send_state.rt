@@ -1,10 +1,10 @@
-//! The sender's numbers, its timer and its congestion window (RFC 9293, 3.3.1 and 3.10.7.4; RFC 6298, 5, in ticks; RFC 5681).
+//! The sender's numbers, its timer and its congestion window (RFC 9293, 3.3.1 and 3.10.7.4; RFC 6298, 5, in ticks; RFC 5681; RFC 6582).
 
 ghost use Rattle.std.specs.Prelude.{◌≡◌, ◌<◌, ◌≤◌, ◌^◌, ◌==◌, min, if◌then◌else◌};
-ghost use Rattle.seq_arith.specs.Congestion.{most_window, growth, with_new_data, lowered_threshold, is_third};
+ghost use Rattle.seq_arith.specs.Congestion.{most_window, growth, is_recovering, is_partial, deflated, with_new_data, lowered_threshold, is_third};
 ghost use Rattle.tcp_buffers.specs.declared.send_state.AckKind.TheVariants.{Beyond};
 ghost use Rattle.tcp_buffers.specs.SendNumbers.{kind_of, is_window_used, edge_after, una_by, interval_by, left_by, IsUsed, ticked};
-ghost use Rattle.tcp_buffers.specs.SendNumbers.{congestion_of, segment_of, flight_of, congestion_by, duplicated, is_lost, expired};
+ghost use Rattle.tcp_buffers.specs.SendNumbers.{congestion_of, segment_of, flight_of, congestion_by, duplicated, is_lost, expired, ticked_after};
 
 use seq_arith::Seq;
 
@@ -44,6 +44,10 @@ pub struct SendState {
     pub ssthresh: u32,
     /// The duplicate acknowledgements since `una` rose or the timer expired with a loss, counted up to four.
     pub dups: u8,
+    /// Whether the losses of one flight are recovered one after another. It never changes.
+    pub recovers: bool,
+    /// The units after `una` that were in flight when a loss was noticed; 0 once they are acknowledged, and for a sender that doesn't recover so.
+    pub lost: u32,
 }
 
 impl SendState {
@@ -62,7 +66,7 @@ impl SendState {
         let (wl1, wl2) = self.window_source(seq, ack);
         let una = una_by(kind, self.una, ack);
         let (interval, left) = self.timer_by(kind, ack);
-        let (cwnd, dups) = self.congestion_by(kind);
+        let (cwnd, dups, lost) = self.congestion_by(kind);
         *self = SendState {
             una,
             wnd: edge.minus(una),
@@ -72,13 +76,15 @@ impl SendState {
             left,
             cwnd,
             dups,
+            lost,
             ..*self
         };
         kind
     }
 
     /// Counts a duplicate acknowledgement, and returns whether it is the third in a row, at which a segment has to be retransmitted at once. The third begins
-    /// fast recovery, and each further one widens the congestion window by a segment (RFC 5681, 3.2).
+    /// fast recovery, and each further one widens the congestion window by a segment (RFC 5681, 3.2). None counts as the third while what was in flight at an
+    /// earlier loss is recovered.
     #[tactic(auto, unfolding(seq_arith::specs::Congestion::is_third, seq_arith::specs::Congestion::with_duplicate))]
     pub fn on_duplicate(&mut self) -> bool
         ensures third { result ≡ is_third (congestion_of self.old) }
@@ -90,14 +96,19 @@ impl SendState {
             self.dups = 4;
             return false;
         }
-        if self.dups == 2 {
+        if self.is_third() {
             // Fast recovery begins. Three segments have left the network.
             self.ssthresh = self.lowered_threshold();
             self.cwnd = capped(u64::from(self.ssthresh) + 3 * u64::from(self.segment()));
+            self.lost = self.noticed();
             self.dups = 3;
             return true;
         }
-        self.dups += 1;
+        self.dups = if self.is_recovering() {
+            (self.dups + 1).min(2)
+        } else {
+            self.dups + 1
+        };
         false
     }
 
@@ -107,8 +118,17 @@ impl SendState {
         ensures expires { result ≡ (self.old.left == 1) }
         ensures state { self.new ≡ ticked self.old }
     {
+        let first = self.interval == 1;
+        self.on_tick_after(first)
+    }
+
+    /// Counts a tick as `on_tick` does. `first` says whether the timer hasn't expired since its interval was computed.
+    pub fn on_tick_after(&mut self, first: bool) -> bool
+        ensures expires { result ≡ (self.old.left == 1) }
+        ensures state { self.new ≡ ticked_after first self.old }
+    {
         if self.left == 1 {
-            self.expire();
+            self.expire(first);
             self.interval = self.interval.min(32) * 2;
             self.left = self.interval;
             return true;
@@ -119,15 +139,16 @@ impl SendState {
 
     /// Notes that what is in flight is lost, if the peer's right edge is past SND.UNA.
     #[tactic(auto, unfolding(seq_arith::specs::Congestion::with_expiry))]
-    fn expire(&mut self)
-        ensures state { self.new ≡ expired self.old }
+    fn expire(&mut self, first: bool)
+        ensures state { self.new ≡ expired first self.old }
         ensures interval { self.new.interval ≡ self.old.interval }
     {
         if !self.is_lost() {
             return;
         }
-        self.ssthresh = self.threshold_after_expiry();
+        self.ssthresh = self.threshold_after_expiry(first);
         self.cwnd = capped(u64::from(self.segment()));
+        self.lost = self.noticed();
         self.dups = 0;
     }
 
@@ -139,10 +160,10 @@ impl SendState {
     }
 
     /// The slow start threshold after an expiry. Only the first expiry lowers it.
-    fn threshold_after_expiry(&self) -> u32
-        ensures { result ≡ (if self.now.interval == 1 then lowered_threshold (segment_of self.now) (flight_of self.now) else self.now.ssthresh) }
+    fn threshold_after_expiry(&self, first: bool) -> u32
+        ensures { result ≡ (if first then lowered_threshold (segment_of self.now) (flight_of self.now) else self.now.ssthresh) }
     {
-        if self.interval == 1 {
+        if first {
             self.lowered_threshold()
         } else {
             self.ssthresh
@@ -156,6 +177,39 @@ impl SendState {
         self.mss.min(u32::MAX / 2)
     }
 
+    /// What was in flight at an earlier loss isn't all acknowledged yet.
+    fn is_recovering(&self) -> bool
+        ensures { result ≡ is_recovering (congestion_of self.now) }
+    {
+        self.recovers && self.lost > 0
+    }
+
+    /// Whether the next duplicate counts as the third in a row.
+    #[tactic(auto, unfolding(seq_arith::specs::Congestion::is_third))]
+    fn is_third(&self) -> bool
+        ensures { result ≡ is_third (congestion_of self.now) }
+    {
+        !self.is_recovering() && self.dups == 2
+    }
+
+    /// What is to be recovered after a loss that is noticed now: all that is in flight.
+    fn noticed(&self) -> u32
+        ensures { result ≡ (if self.now.recovers then flight_of self.now else 0) }
+    {
+        if self.recovers {
+            self.nxt.minus(self.una)
+        } else {
+            0
+        }
+    }
+
+    /// Whether an acknowledgement of `units` units is partial: of what was in flight at a loss more stays unacknowledged (RFC 6582, 3.2).
+    fn is_partial(&self, units: u32) -> bool
+        ensures { result ≡ is_partial units (congestion_of self.now) }
+    {
+        self.recovers && units < self.lost
+    }
+
     /// Half of what is in flight, but at least two segments.
     fn lowered_threshold(&self) -> u32
         ensures { result ≡ lowered_threshold (segment_of self.now) (flight_of self.now) }
@@ -163,16 +217,46 @@ impl SendState {
         (self.nxt.minus(self.una) / 2).max(2 * self.segment())
     }
 
-    /// The congestion window and the count of duplicates after an acknowledgement of this kind.
+    /// The congestion window, the count of duplicates and what is to be recovered, after an acknowledgement of this kind.
     #[tactic(auto, unfolding(seq_arith::specs::Congestion::with_new_data))]
-    fn congestion_by(&self, kind: AckKind) -> (u32, u8)
+    fn congestion_by(&self, kind: AckKind) -> (u32, u8, u32)
         ensures cwnd { result.0 ≡ (congestion_by kind self.now).cwnd }
         ensures ssthresh { self.now.ssthresh ≡ (congestion_by kind self.now).ssthresh }
         ensures dups { result.1 ≡ (congestion_by kind self.now).dups }
+        ensures recovers { self.now.recovers ≡ (congestion_by kind self.now).recovers }
+        ensures lost { result.2 ≡ (congestion_by kind self.now).lost }
     {
         match kind {
-            AckKind::New { units } => (self.grown(units), 0),
-            _ => (self.cwnd, self.dups),
+            AckKind::New { units } => (
+                self.grown(units),
+                self.dups_after(units),
+                self.lost_after(units),
+            ),
+            _ => (self.cwnd, self.dups, self.lost),
+        }
+    }
+
+    /// The count of duplicates once `units` units are newly acknowledged: fast recovery continues at a partial acknowledgement.
+    #[tactic(auto, unfolding(seq_arith::specs::Congestion::with_new_data))]
+    fn dups_after(&self, units: u32) -> u8
+        ensures { result ≡ (with_new_data (segment_of self.now) units (congestion_of self.now)).dups }
+    {
+        if self.is_partial(units) && self.dups >= 3 {
+            self.dups
+        } else {
+            0
+        }
+    }
+
+    /// What is to be recovered once `units` units are newly acknowledged.
+    #[tactic(auto, unfolding(seq_arith::specs::Congestion::with_new_data))]
+    fn lost_after(&self, units: u32) -> u32
+        ensures { result ≡ (with_new_data (segment_of self.now) units (congestion_of self.now)).lost }
+    {
+        if self.is_partial(units) {
+            self.lost - units
+        } else {
+            0
         }
     }
 
@@ -181,10 +265,26 @@ impl SendState {
     fn grown(&self, units: u32) -> u32
         ensures { result ≡ (with_new_data (segment_of self.now) units (congestion_of self.now)).cwnd }
     {
-        if self.dups >= 3 {
-            return capped(u64::from(self.ssthresh));
+        if self.dups < 3 {
+            return capped(u64::from(self.cwnd) + self.growth(units));
         }
-        capped(u64::from(self.cwnd) + self.growth(units))
+        if self.is_partial(units) {
+            return capped(self.deflated(units));
+        }
+        capped(u64::from(self.ssthresh))
+    }
+
+    /// The congestion window at a partial acknowledgement: it shrinks by what is acknowledged, and grows by a segment (RFC 6582, 3.2, step 3).
+    fn deflated(&self, units: u32) -> u64
+        ensures { result ≡ deflated (segment_of self.now) units (congestion_of self.now) }
+    {
+        let segment = u64::from(self.segment());
+        let shrunk = u64::from(self.cwnd.saturating_sub(units)).max(segment);
+        if u64::from(units) >= segment {
+            shrunk + segment
+        } else {
+            shrunk
+        }
     }
 
     /// By how much the congestion window grows outside fast recovery.

@@ -43,14 +43,14 @@ sending_from iss = record {
   closed = false;
   fin_sent = false;
   mss = 536;
-  congestion = initial_congestion 536;
+  congestion = initial_congestion false 536;
   interval = 1;
   rest = 0;
 }
 
 -- takes the segment size that the peer's SYN offers, and starts congestion control with it
 abbrev pub with_segment_size : ℕ → Sending → Sending
-with_segment_size mss s = record s { mss = mss; congestion = initial_congestion mss }
+with_segment_size mss s = record s { mss = mss; congestion = initial_congestion s.congestion.recovers mss }
 
 -- our SYN, and nothing else, has been sent; a segment with number `seq` acknowledges it (3.10.7.3, fourth check; 3.10.7.4, fifth check)
 abbrev pub with_syn_acked : Sending → ℕ → ℕ → Sending

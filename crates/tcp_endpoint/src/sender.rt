@@ -76,6 +76,8 @@ impl Sender {
                 cwnd: initial_window(536),
                 ssthresh: 65_535,
                 dups: 0,
+                recovers: false,
+                lost: 0,
             },
             held,
             closed: false,
@@ -93,6 +95,7 @@ impl Sender {
             cwnd: initial_window(mss),
             ssthresh: 65_535,
             dups: 0,
+            lost: 0,
             ..self.numbers
         };
     }

@@ -42,7 +42,7 @@ logger_once false comes before w x s t p q = head_once comes before w x s t p q
 -- the world with one log and the loggers are all of the world with two
 alike : (w x : TwinWorld) (ps qs : List Packet) → seen w ps ≡ seen x qs → w.pair ≡ x.pair → w.parcels ≡ x.parcels → w ≡ x
 alike w x ps qs e p q =
-    ap (λ v. record w { server = v.server; clients = v.clients; boot = v.boot; node = v.node }) e
+    ap (λ v. record w { server = v.server; profile = v.profile; clients = v.clients; boot = v.boot; node = v.node }) e
     ∙ ap₂ (λ pair parcels. record x { pair = pair; parcels = parcels }) p q
 
 elsewhere_once : (Goes : World → List Packet → World → Type 0) (front : List Packet) (before w x : TwinWorld) (s t : List Parcel)

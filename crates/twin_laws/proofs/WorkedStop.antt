@@ -85,6 +85,7 @@ ticks : {State : Type 0} (service : Machine State) → LawfulTurn service (path.
 unfolding laws
 ticks service = record {
   server = refl;
+  profile = refl;
   boot = refl;
   isn = refl;
   live = refl;

@@ -1,6 +1,7 @@
 -- A legal trace of a schedule with two loggers. It is like one with a single log, except that one of the two may stop, once, and that the datagrams between
 -- them count among the packets.
 use Rattle.std.specs.Prelude.{◌≡◌, ℕ, ◌*◌, ◌==◌, ◌&&◌, ◌||◌, not, Bool, length, nat_le, Option, Some, None, is_some, List, [], ◌∷◌, ◌++◌, if◌then◌else◌}
+use Rattle.seq_arith.specs.Profile.{plain}
 use Rattle.server_trait.specs.Service.{Machine}
 use Rattle.ft_model.specs.Legal.{refusal, IsScripted}
 use Rattle.ft_model.specs.Schedule.{kind_of, clients_of}
@@ -22,7 +23,7 @@ use Rattle.twin_laws.specs.Flat.{outside}
 -- before the first event: nothing was sent, both logs are empty, and the server is down
 abbrev pub twin_start : Schedule → TwinWorld
 twin_start schedule =
-    record { server = schedule.server; clients = clients_of schedule.server schedule.clients; pair = new_pair; parcels = []; boot = 0; node = None }
+    record { server = schedule.server; profile = plain; clients = clients_of schedule.server schedule.clients; pair = new_pair; parcels = []; boot = 0; node = None }
 
 -- how a schedule numbers the two loggers
 abbrev pub part_number : Part → ℕ

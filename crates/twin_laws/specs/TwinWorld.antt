@@ -2,6 +2,7 @@
 -- logger's turn happens as in that world.
 use Rattle.std.specs.Prelude.{◌≡◌, ℕ, zero, suc, ◌<◌, ◌*◌, Bool, true, false, length, map, Ok, Option, Some, None, List, [], ◌∷◌, ◌++◌, slice_get, if◌then◌else◌}
 use Rattle.ft_io.specs.declared.Addr.{Addr}
+use Rattle.seq_arith.specs.Profile.{Profile}
 use Rattle.seq_arith.specs.Damage.{flipped}
 use Rattle.seq_arith.specs.Message.{Message}
 use Rattle.seq_arith.specs.MessageGrammar as messages
@@ -29,6 +30,7 @@ pub data Parcel : Type 0 where
 
 pub record TwinWorld : Type 0 where
   pub server : Addr
+  pub profile : Profile
   pub clients : List Client
   pub pair : Pair
   pub parcels : List Parcel  -- all that were ever sent, in order
@@ -41,7 +43,7 @@ serving p = if p.tail_stopped then p.head.log else p.tail.log
 
 -- the world with one log that the server and the clients see, with these packets sent
 abbrev pub seen : TwinWorld → List Packet → World
-seen w packets = record { server = w.server; clients = w.clients; log = serving w.pair; packets = packets; boot = w.boot; node = w.node }
+seen w packets = record { server = w.server; profile = w.profile; clients = w.clients; log = serving w.pair; packets = packets; boot = w.boot; node = w.node }
 
 pub data TwinEvent : Type 0 where
   Usual : Event → TwinEvent

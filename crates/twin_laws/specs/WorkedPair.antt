@@ -1,6 +1,7 @@
 -- A worked run: the server boots, the head takes its Hello and forwards it, and the tail applies it and answers.
 use Rattle.std.specs.Prelude.{Some, None, List, [], ◌∷◌, ◌++◌, map}
 use Rattle.ft_io.specs.declared.Addr.{Addr}
+use Rattle.seq_arith.specs.Profile.{plain}
 use Rattle.seq_arith.specs.Message.{Message}
 use Rattle.seq_arith.specs.Message.Body.{HelloMsg, SummaryMsg}
 use Rattle.ft_model.specs.Network.Packet.{To_logger, From_logger}
@@ -26,14 +27,14 @@ abbrev pub server : Addr
 server = record { ip = 3221226084; port = 7 }
 
 abbrev pub at_first : TwinWorld
-at_first = record { server = server; clients = []; pair = new_pair; parcels = []; boot = 0; node = None }
+at_first = record { server = server; profile = plain; clients = []; pair = new_pair; parcels = []; boot = 0; node = None }
 
 -- the server boots and sends its Hello
 abbrev pub first_sent : List Parcel
 first_sent = Outside (To_logger hello) ∷ []
 
 abbrev pub booted_world : TwinWorld
-booted_world = record at_first { boot = 1; node = Some (booted server 1 5000); parcels = first_sent }
+booted_world = record at_first { boot = 1; node = Some (booted server plain 1 5000); parcels = first_sent }
 
 -- the head takes the Hello and forwards it
 abbrev pub second_sent : List Parcel

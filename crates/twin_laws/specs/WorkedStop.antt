@@ -1,6 +1,7 @@
 -- A worked run in which the tail stops. The head has taken a client's Open and forwarded it, and the tail stops before it applies it. At the next tick the server
 -- asks again, and the head, which serves alone, answers: the entry was in its log already.
 use Rattle.std.specs.Prelude.{Some, None, true, List, [], ◌∷◌, ◌++◌}
+use Rattle.seq_arith.specs.Profile.{plain}
 use Rattle.seq_arith.specs.Message.Body.{HelloMsg, OpenMsg}
 use Rattle.ft_model.specs.Node.{booted}
 use Rattle.ft_model.specs.Node.Place.{Opens}
@@ -45,7 +46,7 @@ moment event sent world = record { event = event; sent = sent; world = record wo
 
 -- the server boots. Its Hello passes the head and the tail, which answers and confirms
 abbrev pub moment_1 : TwinMoment
-moment_1 = moment (Usual (events.Boot 1 5000)) (Outside path.packet_1 ∷ []) (record (twin_start schedule) { boot = 1; node = Some (booted server 1 5000) })
+moment_1 = moment (Usual (events.Boot 1 5000)) (Outside path.packet_1 ∷ []) (record (twin_start schedule) { boot = 1; node = Some (booted server plain 1 5000) })
 
 abbrev pub moment_2 : TwinMoment
 moment_2 = moment (Usual (events.Deliver 1)) (Inside (Forward 1 hello) ∷ []) (record moment_1.world { pair = head_has (Asks hello) moment_1.world.pair })

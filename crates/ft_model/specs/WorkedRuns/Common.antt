@@ -5,6 +5,7 @@ use Rattle.ft_io.specs.declared.Key.{Key}
 use Rattle.seq_arith.specs.Congestion.{Congestion}
 use Rattle.seq_arith.specs.Packet.{Segment}
 use Rattle.seq_arith.specs.Message.{Numbers, Kept, EntryHead, Part, Body}
+use Rattle.seq_arith.specs.Profile.{plain}
 use Rattle.server_trait.specs.Service.{Served, Machine}
 use Rattle.ft_model.specs.Client.{Client, new_client}
 use Rattle.ft_model.specs.Client.ClientKind.{Scripted}
@@ -44,7 +45,7 @@ abbrev pub client_with : List ℕ → Client
 client_with script = new_client Scripted server key 1000 script
 
 abbrev pub start_with : List ℕ → World
-start_with script = record { server = server; clients = client_with script ∷ []; log = empty_log; packets = []; boot = 0; node = None }
+start_with script = record { server = server; profile = plain; clients = client_with script ∷ []; log = empty_log; packets = []; boot = 0; node = None }
 
 -- a segment of client 1. Flags: FIN 1, SYN 2, RST 4, ACK 16
 abbrev pub client_segment : (flags seq ack window : ℕ) → List ℕ → Segment
@@ -92,18 +93,18 @@ on_tick sent node = record { input = Tick_comes; sent = sent; node = node }
 
 -- an incarnation with only client 1's connection, the first that it restarted or opened
 abbrev pub serving_at : (boot isn : ℕ) → Point → Node
-serving_at boot isn p = record { server = server; boot = boot; isn = isn; stage = Serving 1 (Lives p ∷ []) }
+serving_at boot isn p = record { server = server; profile = plain; boot = boot; isn = isn; stage = Serving 1 (Lives p ∷ []) }
 
 -- an incarnation that serves no client, and one that has asked for client 1's opening
 abbrev pub idle : (boot isn : ℕ) → Node
-idle boot isn = record { server = server; boot = boot; isn = isn; stage = Serving 0 [] }
+idle boot isn = record { server = server; profile = plain; boot = boot; isn = isn; stage = Serving 0 [] }
 
 abbrev pub opening_at : (boot isn : ℕ) → Node
-opening_at boot isn = record { server = server; boot = boot; isn = isn; stage = Serving 1 (Opens numbers ∷ []) }
+opening_at boot isn = record { server = server; profile = plain; boot = boot; isn = isn; stage = Serving 1 (Opens numbers ∷ []) }
 
 -- an incarnation that fetches a log with one entry
 abbrev pub fetching : (boot isn : ℕ) → List Fetched → Node
-fetching boot isn fetched = record { server = server; boot = boot; isn = isn; stage = Fetching 1 fetched }
+fetching boot isn fetched = record { server = server; profile = plain; boot = boot; isn = isn; stage = Fetching 1 fetched }
 
 -- the head of client 1's entry
 abbrev pub head_with : (len : ℕ) → (fin : Bool) → (reads acked : ℕ) → EntryHead
@@ -114,7 +115,7 @@ fetched_with head bytes lengths = record { head = head; bytes = bytes; lengths =
 
 -- a congestion window, a slow start threshold, and a count of duplicate acknowledgements
 abbrev pub congestion_with : (cwnd ssthresh dups : ℕ) → Congestion
-congestion_with cwnd ssthresh dups = record { cwnd = cwnd; ssthresh = ssthresh; dups = dups }
+congestion_with cwnd ssthresh dups = record { cwnd = cwnd; ssthresh = ssthresh; dups = dups; recovers = false; lost = 0 }
 
 -- no lawful turn from this state, by this input, sends these packets
 abbrev pub IsUnlawful : Node → Input → List Packet → Type 0

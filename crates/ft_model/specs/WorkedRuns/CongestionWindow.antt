@@ -2,6 +2,7 @@
 -- Two duplicates of it allow none. At the third the missing segment is retransmitted, and as much new text is sent as the window then has room for.
 -- Twenty-five events, twenty-seven packets.
 use Rattle.std.specs.Prelude.{ℕ, codes, zero, suc, ◌+◌, ◌*◌, ◌%◌, ◌==◌, min, false, None, Some, List, [], ◌∷◌, ◌++◌, length, pos}
+use Rattle.seq_arith.specs.Profile.{plain}
 use Rattle.seq_arith.specs.Message.Body.{DataMsg, StableMsg, ReadMsg, ReadsMsg}
 use Rattle.server_trait.specs.Service.{Served, Machine}
 use Rattle.ft_model.specs.Client.{Client}
@@ -133,7 +134,7 @@ abbrev pub text : (offset size : ℕ) → Packet
 text = λ offset size. to_client 16 (5001 + offset) 1009 65535 None (pattern offset size)
 
 abbrev pub moment_1 : Moment
-moment_1 = moment (Boot 1 5000) (packet_1 ∷ []) (record start { boot = 1; node = Some (booted server 1 5000) })
+moment_1 = moment (Boot 1 5000) (packet_1 ∷ []) (record start { boot = 1; node = Some (booted server plain 1 5000) })
 
 abbrev pub moment_2 : Moment
 moment_2 = moment (Deliver 1) (packet_2 ∷ []) (record moment_1.world { log = log_with [] })

@@ -1,6 +1,7 @@
 -- A server passes TCP's own acknowledgement on: its client learns that its five bytes are received before they are logged, and the crash loses them. The law
 -- Acknowledgement refuses the turn.
 use Rattle.std.specs.Prelude.{false, Some, None, List, [], ◌∷◌}
+use Rattle.seq_arith.specs.Profile.{plain}
 use Rattle.seq_arith.specs.Message.{Message}
 use Rattle.seq_arith.specs.Message.Body.{HelloMsg, SummaryMsg, DataMsg}
 use Rattle.ft_model.specs.Client.{Client}
@@ -34,7 +35,7 @@ abbrev pub moment_14 : Moment
 moment_14 = moment Crash [] (record moment_13.world { node = None })
 
 abbrev pub moment_15 : Moment
-moment_15 = moment (Boot 2 900000) (to_log 2 HelloMsg ∷ []) (record moment_14.world { boot = 2; node = Some (booted server 2 900000) })
+moment_15 = moment (Boot 2 900000) (to_log 2 HelloMsg ∷ []) (record moment_14.world { boot = 2; node = Some (booted server plain 2 900000) })
 
 abbrev pub moment_16 : Moment
 moment_16 = moment (Deliver 12) (from_log 2 (SummaryMsg 1) ∷ []) (record moment_15.world { log = record { boot = 2; entries = opened_entry ∷ [] } })

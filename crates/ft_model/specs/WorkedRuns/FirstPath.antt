@@ -1,5 +1,6 @@
 -- The first path: a client opens, sends five bytes, and gets them back after they are logged. Seventeen events, fifteen packets.
 use Rattle.std.specs.Prelude.{true, false, Some, None, List, [], ◌∷◌, ◌++◌}
+use Rattle.seq_arith.specs.Profile.{plain}
 use Rattle.seq_arith.specs.Message.Body.{HelloMsg, SummaryMsg, OpenMsg, OpenedMsg, DataMsg, StableMsg, ReadMsg, ReadsMsg}
 use Rattle.ft_model.specs.Client.{Client}
 use Rattle.ft_model.specs.Log.{Log, Entry, new_entry}
@@ -97,7 +98,7 @@ log_with entries = record { boot = 1; entries = entries }
 
 -- the connection when it begins, when the SYN is acknowledged, when the text is taken and read, when it is logged, and when the read is
 abbrev pub begun_point : Point
-begun_point = record (point_opened numbers) { rest = 1 }
+begun_point = record (point_opened plain numbers) { rest = 1 }
 
 abbrev pub open_point : Point
 open_point = record begun_point { syn_acked = true; edge = 65535; rest = 0 }
@@ -112,13 +113,13 @@ abbrev pub released_point : Point
 released_point = record logged_point { reads_answered = 1; sent = 5; rest = 1 }
 
 abbrev pub node_at : Stage → Node
-node_at stage = record (booted server 1 5000) { stage = stage }
+node_at stage = record (booted server plain 1 5000) { stage = stage }
 
 abbrev pub node_live : Point → Node
 node_live p = node_at (Serving 1 (Lives p ∷ []))
 
 abbrev pub moment_1 : Moment
-moment_1 = moment (Boot 1 5000) (packet_1 ∷ []) (record start { boot = 1; node = Some (booted server 1 5000) })
+moment_1 = moment (Boot 1 5000) (packet_1 ∷ []) (record start { boot = 1; node = Some (booted server plain 1 5000) })
 
 abbrev pub moment_2 : Moment
 moment_2 = moment (Deliver 1) (packet_2 ∷ []) (record moment_1.world { log = log_with [] })

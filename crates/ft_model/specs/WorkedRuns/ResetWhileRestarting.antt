@@ -1,6 +1,7 @@
 -- A server answers as CLOSED while it fetches the log: the client is reset, although its connection is logged. The law Restart refuses the turn: before its
 -- entry is fetched, a client gets no answer.
 use Rattle.std.specs.Prelude.{Some, None, List, [], ◌∷◌}
+use Rattle.seq_arith.specs.Profile.{plain}
 use Rattle.seq_arith.specs.Message.Body.{HelloMsg, SummaryMsg, ListMsg}
 use Rattle.ft_model.specs.Client.{Client}
 use Rattle.ft_model.specs.Node.{booted}
@@ -15,7 +16,7 @@ abbrev pub moment_18 : Moment
 moment_18 = moment Crash [] (record moment_17.world { node = None })
 
 abbrev pub moment_19 : Moment
-moment_19 = moment (Boot 2 900000) (to_log 2 HelloMsg ∷ []) (record moment_18.world { boot = 2; node = Some (booted server 2 900000) })
+moment_19 = moment (Boot 2 900000) (to_log 2 HelloMsg ∷ []) (record moment_18.world { boot = 2; node = Some (booted server plain 2 900000) })
 
 abbrev pub moment_20 : Moment
 moment_20 = moment (Deliver 16) (from_log 2 (SummaryMsg 1) ∷ []) (record moment_19.world { log = record { boot = 2; entries = read_entry ∷ [] } })

@@ -1,6 +1,7 @@
 -- A crash loses a read: the first incarnation reads three bytes, and neither Data nor Read reaches the log before it crashes. The second one, to which the
 -- client sends all five bytes, reads them at once. The service's output shows the lengths of its reads.
 use Rattle.std.specs.Prelude.{ℕ, Bool, false, ◌==◌, Some, None, List, [], ◌∷◌, length}
+use Rattle.seq_arith.specs.Profile.{plain}
 use Rattle.seq_arith.specs.Message.Body.{HelloMsg, SummaryMsg, ListMsg, EntryMsg, DataMsg, StableMsg, ReadMsg, ReadsMsg}
 use Rattle.server_trait.specs.Service.{Served, Machine}
 use Rattle.ft_model.specs.Client.{Client}
@@ -78,7 +79,7 @@ abbrev pub moment_13 : Packet → Moment
 moment_13 told = moment Crash [] (record (moment_12 told).world { node = None })
 
 abbrev pub moment_14 : Packet → Moment
-moment_14 told = moment (Boot 2 900000) (to_log 2 HelloMsg ∷ []) (record (moment_13 told).world { boot = 2; node = Some (booted server 2 900000) })
+moment_14 told = moment (Boot 2 900000) (to_log 2 HelloMsg ∷ []) (record (moment_13 told).world { boot = 2; node = Some (booted server plain 2 900000) })
 
 abbrev pub moment_15 : Packet → Moment
 moment_15 told = moment (Deliver 12) (from_log 2 (SummaryMsg 1) ∷ []) (record (moment_14 told).world { log = log_with opened_entry })

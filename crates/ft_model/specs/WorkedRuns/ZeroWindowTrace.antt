@@ -1,6 +1,7 @@
 -- The complete run with a client without room: clients, log and server, from the boot to the output that is retransmitted. Twenty-five events, nineteen
 -- packets.
 use Rattle.std.specs.Prelude.{ℕ, codes, false, Some, None, List, [], ◌∷◌}
+use Rattle.seq_arith.specs.Profile.{plain}
 use Rattle.seq_arith.specs.Message.Body.{HelloMsg, SummaryMsg, OpenedMsg, StableMsg, ReadsMsg}
 use Rattle.ft_model.specs.Client.{Client}
 use Rattle.ft_model.specs.Network.Packet.{To_server}
@@ -44,7 +45,7 @@ abbrev pub roomy_client : Client
 roomy_client = record told_client { edge = 5 }
 
 abbrev pub moment_1 : Moment
-moment_1 = moment (Boot 1 5000) (to_log 1 HelloMsg ∷ []) (record start { boot = 1; node = Some (booted server 1 5000) })
+moment_1 = moment (Boot 1 5000) (to_log 1 HelloMsg ∷ []) (record start { boot = 1; node = Some (booted server plain 1 5000) })
 
 abbrev pub moment_2 : Moment
 moment_2 = moment (Deliver 1) (from_log 1 (SummaryMsg 0) ∷ []) (record moment_1.world { log = log_with [] })

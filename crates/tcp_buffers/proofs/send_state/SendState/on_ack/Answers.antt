@@ -18,7 +18,7 @@ returns-clause-used c =
       wl2 = c.window_source.ensures.wl2;
       mss = refl;
       congestion =
-          (λ i. record { cwnd = c.congestion_by-cwnd.ensures.cwnd i; ssthresh = c.congestion_by-cwnd.ensures.ssthresh i; dups = c.congestion_by-cwnd.ensures.dups i })
+          (λ i. record { cwnd = c.congestion_by-cwnd.ensures.cwnd i; ssthresh = c.congestion_by-cwnd.ensures.ssthresh i; dups = c.congestion_by-cwnd.ensures.dups i; recovers = c.congestion_by-cwnd.ensures.recovers i; lost = c.congestion_by-cwnd.ensures.lost i })
           ∙ ap (λ k. congestion_by k s) is_kind;
       interval = c.timer_by-interval.ensures.interval ∙ ap (λ k. interval_by k s.interval) is_kind;
       left = c.timer_by-interval.ensures.left ∙ ap (λ k. left_by k s.nxt.0 ack s.left) is_kind;
@@ -38,4 +38,5 @@ returns-clause-beyond c is_beyond =
     let left : c.timer_by-interval.result.1 ≡ s.left = c.timer_by-interval.ensures.left ∙ ap (λ k. left_by k s.nxt.0 ack s.left) is_beyond in
     let cwnd : c.congestion_by-cwnd.result.0 ≡ s.cwnd = c.congestion_by-cwnd.ensures.cwnd ∙ ap (λ k. (congestion_by k s).cwnd) is_beyond in
     let dups : c.congestion_by-cwnd.result.1 ≡ s.dups = c.congestion_by-cwnd.ensures.dups ∙ ap (λ k. (congestion_by k s).dups) is_beyond in
-    same_state s _ _ _ _ _ _ _ _ una wl1 wl2 wnd interval left cwnd dups
+    let lost : c.congestion_by-cwnd.result.2 ≡ s.lost = c.congestion_by-cwnd.ensures.lost ∙ ap (λ k. (congestion_by k s).lost) is_beyond in
+    same_state s _ _ _ _ _ _ _ _ _ una wl1 wl2 wnd interval left cwnd dups lost

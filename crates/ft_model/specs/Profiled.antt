@@ -1,0 +1,13 @@
+-- What a connection has of its server's profile, in every turn.
+use Rattle.std.specs.Prelude.{◌≡◌, false}
+use Rattle.seq_arith.specs.Profile.{Profile}
+use Rattle.seq_arith.specs.Timing.{initial_timing}
+use Rattle.ft_model.specs.Point.{Point}
+
+-- a connection has the profile's constants; where nothing is measured its timing is what it was at first, and no loss is noted
+pub record HasProfile (profile : Profile) (p : Point) : Type 0 where
+  pub measures : p.timing.measures ≡ profile.measures
+  pub recovers : p.congestion.recovers ≡ profile.measures
+  pub delays : p.delays ≡ profile.delays
+  pub timing : profile.measures ≡ false → p.timing ≡ initial_timing false
+  pub lost : profile.measures ≡ false → p.congestion.lost ≡ 0
