@@ -170,9 +170,9 @@ module _ {State : Type 0} (by : Marker State) (node : MarkedNode) (input : Input
       subst (AllByRecursion After) (sym n)
       (turned_after news p q sent (ap (concerns node.plain input) same ∙ on) (news_bytes node.plain input news p i bytes) (record { taken = at.taken; held = at.held }) t, tt)
   went_after place now sent on s (began asked kept q e h n t) =
-      let same : q.key ≡ key_of place = turn_key by node.plain Begins (point_opened kept) q sent t ∙ (h.key ∙ sym (ap key_of e)) in
+      let same : q.key ≡ key_of place = turn_key by node.plain Begins (point_opened node.plain.profile kept) q sent t ∙ (h.key ∙ sym (ap key_of e)) in
       subst (AllByRecursion After) (sym n)
-      (turned_after Begins (point_opened kept) q sent (ap (concerns node.plain input) same ∙ on) tt (record { taken = tt; held = tt }) t, tt)
+      (turned_after Begins (point_opened node.plain.profile kept) q sent (ap (concerns node.plain input) same ∙ on) tt (record { taken = tt; held = tt }) t, tt)
   went_after place now sent on s (dropped asked e d n _) = subst (AllByRecursion After) (sym n) tt
   went_after place now sent on s (ended p e h n _) = subst (AllByRecursion After) (sym n) (tt, tt)
   went_after place now sent on s (refused k segment e c same n _) = subst (AllByRecursion After) (sym n) (tt, tt)

@@ -1,9 +1,10 @@
 -- What is done at an event is what may happen, and what is refused is refused by the events' tests.
-use Rattle.std.proofs.Common.{◌≡◌, ◌∙◌, sym, ap, subst, refl, ℕ, zero, suc, ◌<◌, ◌≤◌, ◌*◌, ◌^◌, nat_le, true, false, is_some, Some, None, List, [], ◌++◌, length, map, cond, arith}
+use Rattle.std.proofs.Common.{◌≡◌, ◌∙◌, sym, ap, ap₂, subst, refl, ℕ, zero, suc, ◌<◌, ◌≤◌, ◌*◌, ◌^◌, nat_le, true, false, is_some, Some, None, List, [], ◌++◌, length, map, cond, arith}
 use Rattle.std.specs.List.{AllByRecursion}
 use Rattle.std.proofs.lemmas.Bool.Decides.{nat_tests}
 use Rattle.seq_arith.specs.Damage.{flipped}
 use Rattle.server_trait.specs.Service.{Machine}
+use Rattle.seq_arith.specs.Profile.{plain}
 use Rattle.ft_model.specs.Client.{move_asked}
 use Rattle.ft_model.specs.Lawful.{hello}
 use Rattle.ft_model.specs.Legal.{refusal, refusal_of_flip, IsScripted}
@@ -41,23 +42,24 @@ no_move v event sent after none number move client k h = none_is_some (number, m
 module _ {State : Type 0} (service : Machine State) where
   -- the server starts
   pub boots : (w w' : Kept State) (v : Seen) (boot isn : ℕ) (s : Server State) (sent : List Wire) → ActorsStand service w v → w.node ≡ None → w.boot < boot → boot < 2 ^ 64
-      → StageStands service (booted w.server boot isn) s.stage → sent ≡ map wire_of (hello (booted w.server boot isn))
+      → StageStands service (booted w.server plain boot isn) s.stage → sent ≡ map wire_of (hello (booted w.server plain boot isn))
       → s.who ≡ record { boot = boot; isn = isn; kind = w.kind; local = w.server }
       → w' ≡ record w { packets = with_wires w.keys w.packets sent; boot = boot; node = Some s } → ActorsAdvance service v (events.Boot boot isn) w w'
   boots w w' v boot isn s wires st is_down more fits stands hello_is who e' =
       let none : v.node ≡ None = down service w.kind w.node v.node st.node is_down in
-      let node : Node = booted v.server boot isn in
+      let node : Node = booted v.server v.profile boot isn in
       let low : v.boot < boot = subst (λ n. n < boot) st.boot more in
       let rises : nat_le boot v.boot ≡ false = grind (arith, nat_tests) in
-      let said : wires ≡ map wire_of (hello node) = subst (λ a. wires ≡ map wire_of (hello (booted a boot isn))) st.server hello_is in
+      let said : wires ≡ map wire_of (hello node) = subst (λ a. wires ≡ map wire_of (hello (booted a plain boot isn))) st.server hello_is in
       subst (ActorsAdvance service v (events.Boot boot isn) w) (sym e')
       (record {
         happens = record {
-          sent = hello (booted v.server boot isn);
-          world = record v { boot = boot; node = Some (booted v.server boot isn); packets = v.packets ++ hello (booted v.server boot isn) };
+          sent = hello (booted v.server v.profile boot isn);
+          world = record v { boot = boot; node = Some (booted v.server v.profile boot isn); packets = v.packets ++ hello (booted v.server v.profile boot isn) };
           goes = (none, (low, fits), refl, refl);
           stands = record {
             server = st.server;
+            profile = st.profile;
             keys = st.keys;
             clients = st.clients;
             boot = refl;
@@ -65,7 +67,7 @@ module _ {State : Type 0} (service : Machine State) where
             node = record {
               kind_is = ap (λ i. i.kind) who;
               standing = Asking;
-              is = ap (λ a. booted a boot isn) (sym st.server) ∙ ap (λ i. node_of i Asking) (sym who);
+              is = ap₂ (λ a x. booted a x boot isn) (sym st.server) (sym st.profile) ∙ ap (λ i. node_of i Asking) (sym who);
               stands = subst (λ i. StageStands service (node_of i Asking) s.stage) (sym who) stands;
             };
           };
@@ -77,7 +79,7 @@ module _ {State : Type 0} (service : Machine State) where
           same_keepers = refl;
         };
         allowed = rw none (rw rises refl);
-        scripted = no_move v (events.Boot boot isn) (hello (booted v.server boot isn)) (record v { boot = boot; node = Some (booted v.server boot isn); packets = v.packets ++ hello (booted v.server boot isn) }) refl;
+        scripted = no_move v (events.Boot boot isn) (hello (booted v.server v.profile boot isn)) (record v { boot = boot; node = Some (booted v.server v.profile boot isn); packets = v.packets ++ hello (booted v.server v.profile boot isn) }) refl;
       })
 
   pub refuses_up : (w : Kept State) (v : Seen) (boot isn : ℕ) → ActorsStand service w v → is_some w.node ≡ true → refusal v (events.Boot boot isn) ≡ Some why.Up
@@ -100,7 +102,7 @@ module _ {State : Type 0} (service : Machine State) where
           sent = [];
           world = record v { node = None; packets = v.packets ++ [] };
           goes = (is_up, refl, refl);
-          stands = record { server = st.server; keys = st.keys; clients = st.clients; boot = st.boot; unmarked = st.unmarked; node = tt };
+          stands = record { server = st.server; profile = st.profile; keys = st.keys; clients = st.clients; boot = st.boot; unmarked = st.unmarked; node = tt };
           grew = refl;
           quiet = refl;
           stored = none_sent w.keys w.packets;

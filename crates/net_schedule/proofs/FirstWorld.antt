@@ -80,6 +80,7 @@ stands_at_start services schedule w logs every start e one none =
       legal = record { joint = start; events_are = refl; allowed = tt };
       stands = record {
         server = refl;
+        profile = refl;
         keys = keys_begin schedule.server schedule.clients;
         clients = refl;
         single = ap keepers_in one;
@@ -99,7 +100,7 @@ twin_stands_at_start services schedule w logs every start e two none =
       kind = refl;
       legal = record { joint = record { start = start; pair = refl; parcels = refl }; events_are = refl; allowed = tt };
       stands = record {
-        actors = record { server = refl; keys = keys_begin schedule.server schedule.clients; clients = refl; boot = refl; unmarked = none; node = tt };
+        actors = record { server = refl; profile = refl; keys = keys_begin schedule.server schedule.clients; clients = refl; boot = refl; unmarked = none; node = tt };
         loggers = new_loggers;
         double = ap keepers_in two;
         log = ap log_in two;
@@ -118,7 +119,7 @@ marked_stands_at_start saved services schedule w logs every marks start e new sa
       kind = refl;
       legal = record { joint = record { start = start; log = refl; parcels = refl; node = refl }; events_are = refl; allowed = tt };
       stands = record {
-        actors = record { server = refl; keys = keys_begin schedule.server schedule.clients; clients = refl; boot = refl };
+        actors = record { server = refl; profile = refl; keys = keys_begin schedule.server schedule.clients; clients = refl; boot = refl };
         node = tt;
         both = new.0;
         keepers = ap keepers_in new.1;

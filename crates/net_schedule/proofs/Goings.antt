@@ -68,6 +68,7 @@ module _ {State : Type 0} (service : Machine State) where
         goes = (subst (λ o. ServerTurn service input o g.packets (Some (node_of s.who g.after))) (sym is) (node_of s.who g.after, refl, g.turn), refl);
         stands = record {
           server = st.server;
+          profile = st.profile;
           keys = st.keys;
           clients = st.clients;
           boot = st.boot;
@@ -100,7 +101,7 @@ module _ {State : Type 0} (service : Machine State) where
     sent = [];
     world = record v { packets = v.packets ++ [] };
     goes = goes;
-    stands = record { server = st.server; keys = st.keys; clients = st.clients; boot = st.boot; unmarked = st.unmarked; node = st.node };
+    stands = record { server = st.server; profile = st.profile; keys = st.keys; clients = st.clients; boot = st.boot; unmarked = st.unmarked; node = st.node };
     grew = refl;
     quiet = refl;
     stored = none_sent w.keys w.packets;
@@ -127,6 +128,7 @@ module _ {State : Type 0} (service : Machine State) where
         goes = (refl, refl);
         stands = record {
           server = st.server;
+          profile = st.profile;
           keys = st.keys ∙ sym (keys_stay key (λ c. received c segment) v.clients (λ c e. (received_same c segment).key));
           clients = ap (with_client key (λ c. received c segment)) st.clients;
           boot = st.boot;
@@ -147,7 +149,7 @@ module _ {State : Type 0} (service : Machine State) where
 
   -- With one logger: what server and clients do is done in the whole world.
   pub actors_of : (w : Kept State) (v : Seen) → WorldStands service w v → ActorsStand service w v
-  actors_of w v st = record { server = st.server; keys = st.keys; clients = st.clients; boot = st.boot; unmarked = st.unmarked; node = st.node }
+  actors_of w v st = record { server = st.server; profile = st.profile; keys = st.keys; clients = st.clients; boot = st.boot; unmarked = st.unmarked; node = st.node }
 
   pub one_goes : (Goes : List Packet → Seen → Type 0) (w w' : Kept State) (v : Seen) → WorldStands service w v → ActorsGoOn service Goes v w w' → ReachesNext service Goes v w'
   one_goes Goes w w' v st g = record {
@@ -156,6 +158,7 @@ module _ {State : Type 0} (service : Machine State) where
     goes = g.goes;
     stands = record {
       server = g.stands.server;
+      profile = g.stands.profile;
       keys = g.stands.keys;
       clients = g.stands.clients;
       single = g.same_keepers ∙ st.single;
@@ -187,6 +190,7 @@ module _ {State : Type 0} (service : Machine State) where
         goes = (refl, refl);
         stands = record {
           server = st.server;
+          profile = st.profile;
           keys = st.keys;
           clients = st.clients;
           single = st.single;

@@ -160,7 +160,7 @@ module _ {State : Type 0} (by : Marker State) where
   client_happens v (Reset client) sent world a h = goes_up v client sent world h
 
   pub down_stands : (w : Kept State) (v : MarkedWorld) → MarkedWorldStands by w v → ActorsStand by.service (downed w) (seen_down v)
-  down_stands w v st = record { server = st.actors.server; keys = st.actors.keys; clients = st.actors.clients; boot = st.actors.boot; unmarked = refl; node = tt }
+  down_stands w v st = record { server = st.actors.server; profile = st.actors.profile; keys = st.actors.keys; clients = st.actors.clients; boot = st.actors.boot; unmarked = refl; node = tt }
 
   pub down_premises : (v : MarkedWorld) → MarkedPremises by v → Premises by.service (seen_down v)
   down_premises v p = record {
@@ -177,6 +177,7 @@ module _ {State : Type 0} (by : Marker State) where
   client_stands Goes w w' v st same_node same_every same_kind g is = record {
     actors = record {
       server = g.stands.server ∙ ap (λ (u : Seen). u.server) is;
+      profile = g.stands.profile ∙ ap (λ (u : Seen). u.profile) is;
       keys = g.stands.keys;
       clients = g.stands.clients;
       boot = g.stands.boot ∙ ap (λ (u : Seen). u.boot) is;

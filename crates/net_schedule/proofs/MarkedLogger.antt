@@ -59,7 +59,7 @@ module _ {State : Type 0} (by : Marker State) (w w' : Kept State) (v : MarkedWor
         world = record v { log = after_bytes bytes v.log; parcels = v.parcels ++ map answered_as (option_to_list (reply_to_reading (messages.reading bytes) (marks.reading bytes) v.log)) };
         goes = read_goes v (messages.reading bytes) (marks.reading bytes);
         stands = record {
-          actors = record { server = st.actors.server; keys = st.actors.keys; clients = st.actors.clients; boot = st.actors.boot };
+          actors = record { server = st.actors.server; profile = st.actors.profile; keys = st.actors.keys; clients = st.actors.clients; boot = st.actors.boot };
           node = st.node;
           both = after;
           keepers = refl;

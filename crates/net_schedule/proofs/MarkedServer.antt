@@ -1,5 +1,5 @@
 -- With marks: what the server's start, its turns and its end do to the code's world is what the definitions say of the world at which it stands.
-use Rattle.std.proofs.Common.{◌≡◌, ◌∙◌, sym, ap, subst, refl, ℕ, ◌<◌, ◌≤◌, ◌^◌, nat_le, Bool, true, false, true≢false, is_some, Option, Some, None, option_map, List, [], ◌∷◌, ◌++◌, map, cond, arith}
+use Rattle.std.proofs.Common.{◌≡◌, ◌∙◌, sym, ap, ap₂, subst, subst₂, refl, ℕ, ◌<◌, ◌≤◌, ◌^◌, nat_le, Bool, true, false, true≢false, is_some, Option, Some, None, option_map, List, [], ◌∷◌, ◌++◌, map, cond, arith}
 use Rattle.std.proofs.lemmas.Bool.Decides.{nat_tests}
 use Rattle.std.specs.Prelude.{IfSome, Result, Ok, Err}
 use Rattle.seq_arith.specs.Mark.{MarkMessage}
@@ -10,6 +10,7 @@ use Rattle.seq_arith.specs.PacketGrammar as segments
 use Rattle.seq_arith.specs.declared.kinds.BadMsg.{BadMsg}
 use Rattle.seq_arith.specs.declared.mark.BadMark.{BadMark}
 use Rattle.ft_io.specs.declared.Key.{Key}
+use Rattle.seq_arith.specs.Profile.{plain}
 use Rattle.ft_model.specs.Lawful.{hello, fence}
 use Rattle.ft_model.specs.Network.Packet.{To_server, To_client, To_logger, From_logger}
 use Rattle.ft_model.specs.Node.{Stage, Input, booted}
@@ -155,7 +156,7 @@ module _ {State : Type 0} (by : Marker State) where
         goes = subst (λ o. ServerTurn by input o v (map parcel_of g.sent) (record v { node = Some g.after; parcels = v.parcels ++ map parcel_of g.sent })) (sym u.up)
             (g.after, g.sent, g.turn, refl, refl);
         stands = record {
-          actors = record { server = st.actors.server; keys = st.actors.keys; clients = st.actors.clients; boot = st.actors.boot };
+          actors = record { server = st.actors.server; profile = st.actors.profile; keys = st.actors.keys; clients = st.actors.clients; boot = st.actors.boot };
           node = record { kind_is = ap (λ i. i.kind) same ∙ u.at.kind_is; is = g.is; stands = g.stands };
           both = st.both;
           keepers = st.keepers;
@@ -180,7 +181,7 @@ module _ {State : Type 0} (by : Marker State) where
         goes = goes;
         stands = subst (λ k. MarkedWorldStands by k (record v { node = node; parcels = v.parcels ++ [] })) (sym e)
             (record {
-              actors = record { server = st.actors.server; keys = st.actors.keys; clients = st.actors.clients; boot = st.actors.boot };
+              actors = record { server = st.actors.server; profile = st.actors.profile; keys = st.actors.keys; clients = st.actors.clients; boot = st.actors.boot };
               node = at;
               both = st.both;
               keepers = st.keepers;
@@ -214,34 +215,34 @@ module _ {State : Type 0} (by : Marker State) where
 
   -- the server starts
   pub marked_boots : (w w' : Kept State) (v : MarkedWorld) (boot isn : ℕ) (s : Server State) (sent : List Wire) → MarkedWorldStands by w v → w.node ≡ None → w.boot < boot → boot < 2 ^ 64
-      → s.who.kind ≡ w.kind → booted w.server boot isn ≡ node_of s.who Asking → NodeStandsAt by (booted_to_mark w.server boot isn) s.stage
-      → sent ≡ map wire_of (hello (booted w.server boot isn))
+      → s.who.kind ≡ w.kind → booted w.server plain boot isn ≡ node_of s.who Asking → NodeStandsAt by (booted_to_mark w.server plain boot isn) s.stage
+      → sent ≡ map wire_of (hello (booted w.server plain boot isn))
       → w' ≡ record w { packets = with_wires w.keys w.packets sent; boot = boot; node = Some s } → MarkedAdvances by v (events.Boot boot isn) w'
   marked_boots w w' v boot isn s wires st is_down more fits kind who stands hello_is e' =
       let none : v.node ≡ None = marked_down by w.kind w.node v.node st.node is_down in
       let low : v.boot < boot = subst (λ n. n < boot) st.actors.boot more in
       let rises : nat_le boot v.boot ≡ false = grind (arith, nat_tests) in
-      let said : wires ≡ map wire_of (hello (booted v.server boot isn)) = subst (λ a. wires ≡ map wire_of (hello (booted a boot isn))) st.actors.server hello_is in
-      let world : MarkedWorld = record v { boot = boot; node = Some (booted_to_mark v.server boot isn); parcels = v.parcels ++ map Usual (hello (booted v.server boot isn)) } in
+      let said : wires ≡ map wire_of (hello (booted v.server v.profile boot isn)) = subst (λ a. wires ≡ map wire_of (hello (booted a plain boot isn))) st.actors.server hello_is in
+      let world : MarkedWorld = record v { boot = boot; node = Some (booted_to_mark v.server v.profile boot isn); parcels = v.parcels ++ map Usual (hello (booted v.server v.profile boot isn)) } in
       subst (MarkedAdvances by v (events.Boot boot isn)) (sym e')
       (record {
         happens = record {
-          sent = map Usual (hello (booted v.server boot isn));
-          world = record v { boot = boot; node = Some (booted_to_mark v.server boot isn); parcels = v.parcels ++ map Usual (hello (booted v.server boot isn)) };
+          sent = map Usual (hello (booted v.server v.profile boot isn));
+          world = record v { boot = boot; node = Some (booted_to_mark v.server v.profile boot isn); parcels = v.parcels ++ map Usual (hello (booted v.server v.profile boot isn)) };
           goes = (none, (low, fits), refl, refl);
           stands = record {
-            actors = record { server = st.actors.server; keys = st.actors.keys; clients = st.actors.clients; boot = refl };
+            actors = record { server = st.actors.server; profile = st.actors.profile; keys = st.actors.keys; clients = st.actors.clients; boot = refl };
             node = record {
               kind_is = kind;
-              is = ap (λ a. booted a boot isn) (sym st.actors.server) ∙ who;
-              stands = subst (λ a. NodeStandsAt by (booted_to_mark a boot isn) s.stage) st.actors.server stands;
+              is = ap₂ (λ a x. booted a x boot isn) (sym st.actors.server) (sym st.actors.profile) ∙ who;
+              stands = subst₂ (λ a x. NodeStandsAt by (booted_to_mark a x boot isn) s.stage) st.actors.server st.actors.profile stands;
             };
             both = st.both;
             keepers = st.keepers;
             journal = st.journal;
             log = st.log;
             at = st.at;
-            packets = ap (with_wires w.keys w.packets) said ∙ usual_after w.keys w.packets v.parcels (hello (booted v.server boot isn)) st.packets;
+            packets = ap (with_wires w.keys w.packets) said ∙ usual_after w.keys w.packets v.parcels (hello (booted v.server v.profile boot isn)) st.packets;
             every = st.every;
             marks = st.marks;
           };

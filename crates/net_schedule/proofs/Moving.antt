@@ -173,6 +173,7 @@ module _ {State : Type 0} (service : Machine State) where
               });
           stands = record {
             server = st.server;
+            profile = st.profile;
             keys = st.keys ∙ sym (keys_stay client.key (λ _. later) v.clients (λ c k. same_name ∙ sym (same_key c.key client.key k)));
             clients = ap (λ cs. set cs (number - 1) later) st.clients ∙ r.0;
             boot = st.boot;

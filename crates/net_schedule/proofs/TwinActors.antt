@@ -99,7 +99,7 @@ module _ {State : Type 0} (service : Machine State) where
   -- the world after a turn of theirs
   abbrev next_of : TwinWorld → List Packet → Seen → TwinWorld
   next_of v sent world =
-      record { server = world.server; clients = world.clients; pair = v.pair; parcels = v.parcels ++ map Outside sent; boot = world.boot; node = world.node }
+      record { server = world.server; profile = world.profile; clients = world.clients; pair = v.pair; parcels = v.parcels ++ map Outside sent; boot = world.boot; node = world.node }
 
   -- what doesn't look at the packets before goes on alike whichever they are
   abbrev pub IsElsewhere : (Seen → List Packet → Seen → Type 0) → Type 0
@@ -111,13 +111,13 @@ module _ {State : Type 0} (service : Machine State) where
       let next : TwinWorld = next_of v g.sent g.world in
       let goes : Goes (seen v []) g.sent (with_packets g.world g.sent) = anywhere (seen v ps) [] g.sent g.world g.goes in
       let there : Goes (seen v []) g.sent (seen (next_of v g.sent g.world) g.sent) =
-      subst (λ l. Goes (seen v []) g.sent (record { server = g.world.server; clients = g.world.clients; log = l; packets = g.sent; boot = g.world.boot; node = g.world.node })) g.quiet goes in
+      subst (λ l. Goes (seen v []) g.sent (record { server = g.world.server; profile = g.world.profile; clients = g.world.clients; log = l; packets = g.sent; boot = g.world.boot; node = g.world.node })) g.quiet goes in
       record {
         sent = map Outside g.sent;
         world = next_of v g.sent g.world;
         goes = (g.sent, refl, there, refl, refl);
         stands = record {
-          actors = record { server = g.stands.server; keys = g.stands.keys; clients = g.stands.clients; boot = g.stands.boot; unmarked = g.stands.unmarked; node = g.stands.node };
+          actors = record { server = g.stands.server; profile = g.stands.profile; keys = g.stands.keys; clients = g.stands.clients; boot = g.stands.boot; unmarked = g.stands.unmarked; node = g.stands.node };
           loggers = st.loggers;
           double = g.same_keepers ∙ st.double;
           log = g.same_log ∙ st.log;
@@ -131,7 +131,7 @@ module _ {State : Type 0} (service : Machine State) where
   -- server and clients stand where they stood, whatever packets are taken for sent
   pub twin_actors_of : (w : Kept State) (v : TwinWorld) (ps : List Packet) → TwinWorldStands service w v → ActorsStand service w (seen v ps)
   twin_actors_of w v ps st =
-      record { server = st.actors.server; keys = st.actors.keys; clients = st.actors.clients; boot = st.actors.boot; unmarked = st.actors.unmarked; node = st.actors.node }
+      record { server = st.actors.server; profile = st.actors.profile; keys = st.actors.keys; clients = st.actors.clients; boot = st.actors.boot; unmarked = st.actors.unmarked; node = st.actors.node }
 
   two_advances : (event : Event) (w w' : Kept State) (v : TwinWorld) (ps : List Packet) → IsOfActors event → TwinWorldStands service w v
       → ActorsAdvance service (seen v ps) event w w' → TwinAdvances service v event w'

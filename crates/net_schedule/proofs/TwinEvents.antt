@@ -164,7 +164,7 @@ module _ {State : Type 0} (service : Machine State) where
       let pair : LoggersStand (stopped part st.loggers) (stopped_by part v.pair) = stopped_stand part st.loggers v.pair st.pair in
       subst (λ x. TwinWorldStands service x (record v { pair = stopped_by part v.pair; parcels = v.parcels ++ [] })) (sym e)
       (record {
-        actors = record { server = st.actors.server; keys = st.actors.keys; clients = st.actors.clients; boot = st.actors.boot; unmarked = st.actors.unmarked; node = st.actors.node };
+        actors = record { server = st.actors.server; profile = st.actors.profile; keys = st.actors.keys; clients = st.actors.clients; boot = st.actors.boot; unmarked = st.actors.unmarked; node = st.actors.node };
         loggers = stopped part st.loggers;
         double = refl;
         log = serving_is (stopped part st.loggers) (stopped_by part v.pair) pair (alone_after part v.pair paired.head_alone);

@@ -151,7 +151,7 @@ module _ {State : Type 0} (service : Machine State) (w w' : Kept State) (v : Twi
         world = record v { pair = pair; parcels = v.parcels ++ sent };
         goes = goes;
         stands = record {
-          actors = record { server = st.actors.server; keys = st.actors.keys; clients = st.actors.clients; boot = st.actors.boot; unmarked = st.actors.unmarked; node = st.actors.node };
+          actors = record { server = st.actors.server; profile = st.actors.profile; keys = st.actors.keys; clients = st.actors.clients; boot = st.actors.boot; unmarked = st.actors.unmarked; node = st.actors.node };
           loggers = h.0;
           double = refl;
           log = serving_is h.0 pair at.0 alone;

@@ -3,6 +3,7 @@ use Rattle.std.specs.Prelude.{◌≡◌, ℕ, Option, None, Some, List, ◌++◌
 use Rattle.ft_io.specs.declared.Addr.{Addr}
 use Rattle.ft_io.specs.declared.Key.{Key}
 use Rattle.server_trait.specs.Service.{Machine}
+use Rattle.seq_arith.specs.Profile.{plain}
 use Rattle.ft_model.specs.Client.{Client}
 use Rattle.ft_model.specs.Log.{Log}
 use Rattle.ft_model.specs.Network.{Packet}
@@ -52,9 +53,10 @@ NodeStands service kind None None = Unit {0}
 NodeStands service kind (Some now) (Some node) = IsAt service kind now node
 NodeStands service kind _ _ = ⊥
 
--- The code's world corresponds to a world of the definitions: each packet is stored in its one spelling, with its direction.
+-- The code's world corresponds to a world of the definitions, whose profile is plain: each packet is stored in its one spelling, with its direction.
 pub record WorldStands {State : Type 0} (service : Machine State) (w : Kept State) (v : Seen) : Type 0 where
   pub server : w.server ≡ v.server
+  pub profile : plain ≡ v.profile
   pub keys : w.keys ≡ map (λ c. c.key) v.clients
   pub clients : w.clients ≡ v.clients
   pub single : w.keepers ≡ Single

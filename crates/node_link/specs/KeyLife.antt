@@ -32,7 +32,7 @@ pub record AreOf (key : Key) (packets : List Packet) (sent : List Wire) : Type 0
 module _ {State : Type 0} (service : Machine State) (node : Node) (key : Key) where
   -- at the end of the restart a key has the place of its entry, after that place's first turn, or none
   abbrev pub Revived : Option Fetched → Option Place → List Packet → Type 0
-  Revived (Some f) after packets = Revives service node (restored service f) (option_to_list after) packets
+  Revived (Some f) after packets = Revives service node (restored service node.profile f) (option_to_list after) packets
   Revived None after packets = (after ≡ None) × (packets ≡ [])
 
   pub record EndsRestart (before : Stage) (input : Input) (after : Option Place) (sent : List Wire) : Type 0 where

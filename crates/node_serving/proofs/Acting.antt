@@ -10,6 +10,7 @@ use Rattle.server_trait.specs.Service.{Machine}
 use Rattle.logger_wire.specs.declared.Body.{Body as Said}
 use Rattle.logger_wire.specs.declared.Body.TheVariants.{StableMsg, ReadsMsg, EndedMsg}
 use Rattle.logger_wire.specs.Value.{body_of, is_set}
+use Rattle.seq_arith.specs.Profile.{plain}
 use Rattle.ft_model.specs.News.{News}
 use Rattle.ft_model.specs.News.News.{Comes, Logged, Ticks, Begins as Becomes_live}
 use Rattle.ft_model.specs.Offset.{IsNear}
@@ -152,11 +153,11 @@ start_acts service server boot p c now segments messages typed s s_now r st =
 pub first_acts : {S : Type 0} (service : Machine S) (server : Addr) (boot : ℕ) (numbers : Numbers) (now : ConnState S) (segments messages : List (List ℕ))
     → IsTyped server boot numbers.key segments messages → MayOpen numbers → IsSound now
     → Starts service.after (first_conn boot numbers.key server numbers.cisn numbers.sisn numbers.mss service.fresh) now segments messages
-    → Acts service server boot Becomes_live (point_opened numbers) now segments messages
+    → Acts service server boot Becomes_live (point_opened plain numbers) now segments messages
 unfolding IsSound first_conn
 first_acts service server boot numbers now segments messages typed may s r =
     let same = starts_same service (first_conn boot numbers.key server numbers.cisn numbers.sisn numbers.mss service.fresh) now segments messages r in
-    acts service server boot Becomes_live (point_opened numbers) now segments messages typed tt may.most (omega arith) s same.local same.boot
+    acts service server boot Becomes_live (point_opened plain numbers) now segments messages typed tt may.most (omega arith) s same.local same.boot
     (new_starts service boot server numbers now segments messages may s r)
 
 -- a connection that a restart has put together

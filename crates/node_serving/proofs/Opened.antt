@@ -89,17 +89,17 @@ module _ {S : Type 0} (service : Machine S) (node : Node) (message : Message) (b
   -- Opened with the client's number makes the connection
   pub opening_lives : (numbers : Opening) → message.body ≡ body.OpenedMsg (numbers_of key numbers) → (place : Place) (o : Opening) (c : ConnState S) (old new : List Wire)
       → SlotStands service node key (slot.Pending o) place → o.cisn.0 ≡ numbers.cisn.0
-      → ConnGoes service node.server node.boot Begins (point_opened (numbers_of key numbers)) c old new
+      → ConnGoes service node.server node.boot Begins (point_opened node.profile (numbers_of key numbers)) c old new
       → SlotGoes service node (Message_comes message) key place (slot.Live c) old new
   opening_lives numbers says (Opens n) o c old new st same g =
       let equal : (numbers.cisn.0 == n.cisn) ≡ true = eq-eqb numbers.cisn.0 n.cisn (sym same ∙ sym (ap (λ x. x.cisn) st)) in
-      let lives : LivesOn service node Begins (point_opened (numbers_of key numbers)) (Lives g.after ∷ []) g.packets = (g.after, refl, g.turn) in record {
+      let lives : LivesOn service node Begins (point_opened node.profile (numbers_of key numbers)) (Lives g.after ∷ []) g.packets = (g.after, refl, g.turn) in record {
         after = Lives g.after;
         packets = g.packets;
         stands = (g.key, g.stands);
         turn = place_meets service node (Message_comes message) (Opens n) (Lives g.after ∷ []) g.packets (its_key node message key boot named n.key (ap (λ x. x.key) st))
             (subst (λ b. Hears service node b (Opens n) (Lives g.after ∷ []) g.packets) (sym says)
-            (subst (λ b. MatchBool b (LivesOn service node Begins (point_opened (numbers_of key numbers)) (Lives g.after ∷ []) g.packets) ((Lives g.after ∷ [] ≡ []) × (g.packets ≡ []))) (sym equal) lives));
+            (subst (λ b. MatchBool b (LivesOn service node Begins (point_opened node.profile (numbers_of key numbers)) (Lives g.after ∷ []) g.packets) ((Lives g.after ∷ [] ≡ []) × (g.packets ≡ []))) (sym equal) lives));
         wires = g.wires;
         spelled = g.spelled;
       }
@@ -116,7 +116,7 @@ module _ {S : Type 0} (service : Machine S) (node : Node) (message : Message) (b
         packets = [];
         turn = place_meets service node (Message_comes message) (Opens n) [] [] (its_key node message key boot named n.key (ap (λ x. x.key) st))
             (subst (λ b. Hears service node b (Opens n) [] []) (sym says)
-            (subst (λ b. MatchBool b (LivesOn service node Begins (point_opened (numbers_of key numbers)) none quiet) ((none ≡ []) × (quiet ≡ []))) (sym differ) (refl, refl)));
+            (subst (λ b. MatchBool b (LivesOn service node Begins (point_opened node.profile (numbers_of key numbers)) none quiet) ((none ≡ []) × (quiet ≡ []))) (sym differ) (refl, refl)));
         wires = sym (append-nil told);
         spelled = tt;
       }

@@ -1,11 +1,13 @@
 -- An incarnation's constants, and the model's node and the service that they determine.
 use Rattle.server_trait.specs.Service.{Machine, machine}
 use Rattle.server_trait.specs.declared.Service.{Ghosts}
+use Rattle.seq_arith.specs.Profile.{plain}
 use Rattle.ft_model.specs.Node.{Node, Stage}
 use Rattle.node_serving.specs.declared.identity.Identity.{Identity}
 
+-- an incarnation at this stage, of a plain server
 abbrev pub node_of : Identity → Stage → Node
-node_of who stage = record { server = who.local; boot = who.boot; isn = who.isn; stage = stage }
+node_of who stage = record { server = who.local; profile = plain; boot = who.boot; isn = who.isn; stage = stage }
 
 -- an incarnation's service, started as its kind says
 abbrev pub service_of : {S : Type 0} → Ghosts S → Identity → Machine S

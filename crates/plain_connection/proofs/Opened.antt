@@ -3,12 +3,13 @@ use Rattle.std.proofs.Common.{◌≡◌, ℕ, Bool, sym, subst, List, arith}
 use Rattle.server_trait.specs.Service.{Machine}
 use Rattle.plain_connection.specs.Made.{nothing_made, made_of}
 use Rattle.seq_arith.specs.Message.{Numbers}
+use Rattle.seq_arith.specs.Profile.{plain}
 use Rattle.ft_model.specs.Opening.{point_opened}
 use Rattle.ft_model.specs.Point.{made}
 use Rattle.plain_point.specs.Resumed.{point_fetched}
 use Rattle.plain_connection.specs.State.{ConnectionState, IsServed}
 
-pub opened_served : {S : Type 0} (service : Machine S) (c : ConnectionState S) (numbers : Numbers) → c.point ≡ point_opened numbers → c.made ≡ nothing_made service → IsServed service c
+pub opened_served : {S : Type 0} (service : Machine S) (c : ConnectionState S) (numbers : Numbers) → c.point ≡ point_opened plain numbers → c.made ≡ nothing_made service → IsServed service c
 unfolding made_of
 opened_served service c numbers point made =
     subst (λ x. IsServed service (record c { point = x; made = c.made })) (sym point)

@@ -4,6 +4,8 @@ use Rattle.std.specs.Bool.{MatchBool}
 use Rattle.std.specs.Int.{from_bool}
 use Rattle.ft_io.specs.declared.Addr.{Addr}
 use Rattle.server_trait.specs.Service.{Machine}
+use Rattle.seq_arith.specs.Timing.{initial_timing}
+use Rattle.ft_model.proofs.Profiles.{turn_stays}
 use Rattle.ft_model.specs.Connection.{LiveTurn, ResetTurn, sent_by, told_by}
 use Rattle.ft_model.specs.Copy.{copies}
 use Rattle.ft_model.specs.Network.Packet.{To_client}
@@ -36,14 +38,14 @@ unfolding next_length may_read
 makes_as service p [] lengths sent interval rest end_ticks m = m
 makes_as service p (n ∷ reads) lengths sent interval rest end_ticks m = (m.0, makes_as service p reads (lengths ++ n ∷ []) sent interval rest end_ticks m.1)
 
-pub live_turn : {State : Type 0} (service : Machine State) (server : Addr) (boot : ℕ) (news : News) (p : Point) (reads : List ℕ) → p.reset ≡ false
+pub live_turn : {State : Type 0} (service : Machine State) (server : Addr) (boot : ℕ) (news : News) (p : Point) (reads : List ℕ) → p.reset ≡ false → p.timing ≡ initial_timing false
     → Makes service (noted news p) reads
     → LiveTurn service server boot news p (point_after service news p reads) (sent_by service server boot news p (point_after service news p reads))
 unfolding sent_after sent_at_once interval_after rest_after must_run end_ticks_after
-live_turn service server boot news p reads live makes =
+live_turn service server boot news p reads live still makes =
     let after : Point = point_after service news p reads in
     record {
-      same = record { key = refl; cisn = refl; sisn = refl; mss = refl; fetched = refl; fetched_output = refl };
+      same = record { key = refl; cisn = refl; sisn = refl; mss = refl; fetched = refl; fetched_output = refl; delays = refl };
       taken = refl;
       fin = refl;
       early = refl;
@@ -57,6 +59,7 @@ live_turn service server boot news p reads live makes =
       wl2 = refl;
       congestion = refl;
       sent_units = refl;
+      timing = still ∙ sym (turn_stays service news p after still);
       interval = refl;
       rest = refl;
       end_ticks = refl;
@@ -65,12 +68,12 @@ live_turn service server boot news p reads live makes =
     }
 
 -- the news are noted, the reads are made, and the rest is settled
-pub advanced : {State : Type 0} (service : Machine State) (server : Addr) (boot : ℕ) (news : News) (p q after : Point) (reads : List ℕ) → p.reset ≡ false
+pub advanced : {State : Type 0} (service : Machine State) (server : Addr) (boot : ℕ) (news : News) (p q after : Point) (reads : List ℕ) → p.reset ≡ false → p.timing ≡ initial_timing false
     → q ≡ record (noted news p) { lengths = p.lengths ++ reads } → Makes service (noted news p) reads → after ≡ settled_since service news p q
     → LiveTurn service server boot news p after (sent_by service server boot news p after)
-advanced service server boot news p q after reads live read makes settled =
+advanced service server boot news p q after reads live still read makes settled =
     subst (λ x. LiveTurn service server boot news p x (sent_by service server boot news p x)) (sym (settled ∙ ap (settled_since service news p) read))
-    (live_turn service server boot news p reads live makes)
+    (live_turn service server boot news p reads live still makes)
 
 -- what is settled, step by step
 abbrev with_sent : ℕ → Point → Point

@@ -1,6 +1,8 @@
 -- What a turn of a connection compares with the connection before it.
 use Rattle.std.specs.Prelude.{◌≡◌, ◌||◌, length}
 use Rattle.server_trait.specs.Service.{Machine}
+use Rattle.seq_arith.specs.Profile.{plain}
+use Rattle.ft_model.specs.Profiled.{HasProfile}
 use Rattle.ft_model.specs.Point.{Point, taken_units, advertised_edge}
 use Rattle.ft_model.specs.News.{News}
 use Rattle.ft_model.specs.Sending.{is_third_duplicate}
@@ -28,3 +30,4 @@ pub record IsBefore {State : Type 0} (service : Machine State) (news : News) (p 
   pub resends : before.resends ≡ (expires news p || is_third_duplicate news p)
   pub probes : before.probes ≡ probes news p
   pub reset : before.reset ≡ reset_after news p
+  pub profile : HasProfile plain p

@@ -127,6 +127,7 @@ impl<S: Service> PlainConnection<S> {
         ensures value { IsBefore (machine (S.started self.now.kind) S.after) (news_in news.now) self.now.point result }
         ensures within { result.taken ≤ 2 ^ 63 }
     {
+        self.point.is_plain();
         Before {
             answered: self.point.answered(),
             units: self.point.taken_units(),

@@ -3,6 +3,7 @@
 ghost use Rattle.std.specs.Prelude.{◌≡◌, ◌≤◌, [], true, false, IfOk, OnOk, nat_le, sum, length};
 ghost use Rattle.std.specs.List.{list_all};
 ghost use Rattle.server_trait.specs.Service.{machine};
+ghost use Rattle.seq_arith.specs.Profile.{plain};
 ghost use Rattle.ft_model.specs.Opening.{point_opened};
 ghost use Rattle.ft_model.specs.Restart.{entry_in, point_of, is_whole};
 ghost use Rattle.plain_point.specs.Values.{numbers_in};
@@ -23,7 +24,7 @@ impl<S: Service> PlainConnection<S> {
         kind: u8,
         numbers: &Numbers,
     ) -> Result<PlainConnection<S>, NoMemory>
-        ensures point { IfOk result (λ c. c.point ≡ point_opened (numbers_in numbers.now)) }
+        ensures point { IfOk result (λ c. c.point ≡ point_opened plain (numbers_in numbers.now)) }
         ensures kind { IfOk result (λ c. c.kind ≡ kind) }
         ensures served { IfOk result (λ c. IsServed (machine (S.started kind) S.after) c) }
     {
@@ -59,7 +60,7 @@ impl<S: Service> PlainConnection<S> {
     ) -> Result<PlainConnection<S>, NoMemory>
         requires whole { is_whole entry ≡ true }
         requires live { entry.head.done ≡ false }
-        ensures point { IfOk result (λ c. c.point ≡ point_of (machine (S.started kind) S.after) (entry_in entry)) }
+        ensures point { IfOk result (λ c. c.point ≡ point_of (machine (S.started kind) S.after) plain (entry_in entry)) }
         ensures kind { IfOk result (λ c. c.kind ≡ kind) }
         ensures served { IfOk result (λ c. IsServed (machine (S.started kind) S.after) c) }
     {

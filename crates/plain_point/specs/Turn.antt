@@ -49,7 +49,7 @@ expires_since ticks timer = ticks && timer.rest == 1
 
 -- the interval of the timer and the remaining ticks after a turn, given whether the turn is a tick and whether the timer must run
 abbrev pub interval_since : (ticks : Bool) → Timer → Point → ℕ
-interval_since ticks timer p = if is_set_anew_since timer p then 1 else (if expires_since ticks timer then min 64 (2 * timer.interval) else timer.interval)
+interval_since ticks timer p = if is_set_anew_since timer p then p.timing.base else (if expires_since ticks timer then min 64 (2 * timer.interval) else timer.interval)
 
 abbrev pub rest_since : (must_run ticks : Bool) → Timer → Point → ℕ
 rest_since must_run ticks timer p =

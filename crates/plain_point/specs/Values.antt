@@ -14,7 +14,7 @@ use Rattle.plain_point.specs.declared.sending.Acknowledged.{Acknowledged}
 use Rattle.plain_point.specs.declared.telling.Kept.{Kept}
 
 abbrev pub congestion_in : Window → Congestion
-congestion_in w = record { cwnd = w.cwnd; ssthresh = w.ssthresh; dups = w.dups }
+congestion_in w = record { cwnd = w.cwnd; ssthresh = w.ssthresh; dups = w.dups; recovers = false; lost = 0 }
 
 abbrev pub numbers_in : Numbers → said.Numbers
 numbers_in n = record { key = n.key; cisn = n.cisn; sisn = n.sisn; mss = n.mss }

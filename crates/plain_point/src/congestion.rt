@@ -1,6 +1,6 @@
 //! Congestion control (RFC 5681, 3.1 and 3.2), in bytes.
 
-ghost use Rattle.std.specs.Prelude.{◌≡◌, ◌≤◌};
+ghost use Rattle.std.specs.Prelude.{◌≡◌, ◌≤◌, false};
 ghost use Rattle.seq_arith.specs.Congestion.{initial_congestion, initial_window as initial_lem, growth as growth_lem, lowered_threshold as lowered_lem, with_new_data, with_duplicate, with_expiry, is_third};
 ghost use Rattle.plain_point.specs.Values.{congestion_in};
 
@@ -18,7 +18,7 @@ pub struct Window {
 impl Window {
     /// Returns the congestion window with which a connection begins.
     pub(crate) fn initial(mss: u16) -> Window
-        ensures { congestion_in result ≡ initial_congestion mss }
+        ensures { congestion_in result ≡ initial_congestion false mss }
     {
         Window {
             cwnd: initial_window(mss),

@@ -41,12 +41,20 @@ impl PlainPoint {
         timer.rest == 0 || timer.una < self.una || (self.syn_acked && !timer.syn_acked)
     }
 
-    /// Returns the interval after a turn: 1 tick if the timer is restarted. At an expiry it is doubled, up to 64 ticks.
+    /// Returns the interval with which the timer starts: one tick, since no round trip is measured.
+    fn first_interval(&self) -> u64
+        ensures { result ≡ self.now.timing.base }
+    {
+        let _interval = self.interval;
+        1
+    }
+
+    /// Returns the interval after a turn: the first one if the timer is restarted. At an expiry it is doubled, up to 64 ticks.
     fn interval_after(&self, timer: Timer, ticks: bool) -> u64
         ensures { result ≡ interval_since ticks timer self.now }
     {
         if self.is_set_anew(timer) {
-            1
+            self.first_interval()
         } else if ticks && timer.rest == 1 {
             timer.interval.saturating_mul(2).min(LONGEST_INTERVAL)
         } else {

@@ -71,8 +71,9 @@ pub struct PlainPoint {
 }
 
 impl Model for PlainPoint {
-    ghost use Rattle.std.specs.Prelude.{◌≡◌, ◌≤◌, ◌==◌, ◌^◌, length, sum};
+    ghost use Rattle.std.specs.Prelude.{◌≡◌, ◌≤◌, ◌==◌, ◌^◌, false, length, sum};
     ghost use Rattle.std.specs.List.{list_any};
+    ghost use Rattle.seq_arith.specs.Timing.{initial_timing};
     ghost use Rattle.ft_model.specs.Point.{Point};
     ghost use Rattle.plain_point.specs.Values.{congestion_in};
 
@@ -98,6 +99,8 @@ impl Model for PlainPoint {
       wl2 = p.wl2;
       congestion = congestion_in p.congestion;
       syn_acked = p.syn_acked;
+      timing = initial_timing false;
+      delays = false;
       interval = p.interval;
       rest = p.rest;
       end_ticks = p.end_ticks;
@@ -109,13 +112,14 @@ impl Model for PlainPoint {
 }
 
 impl PlainPoint {
-    ghost use Rattle.ft_model.specs.Point.{taken_units as units_lem, acknowledgement as acknowledgement_lem, receive_edge as edge_lem, advertised_edge as advertised_lem, room as room_lem};
+    ghost use Rattle.ft_model.specs.Point.{taken_units as units_lem, acknowledgement as acknowledgement_lem, receive_edge as edge_lem, advertised_edge as advertised_lem, room as room_lem, window as window_lem};
     ghost use Rattle.ft_model.specs.Opening.{point_opened};
-    ghost use Rattle.ft_model.specs.Segments.{window as window_lem};
+    ghost use Rattle.seq_arith.specs.Profile.{plain};
+    ghost use Rattle.ft_model.specs.Profiled.{HasProfile};
 
     /// Creates the point of a new connection: nothing is taken, and nothing may be sent yet. Allocates nothing.
     pub fn opened(alloc: Global, numbers: &Numbers) -> PlainPoint
-        ensures { result ≡ point_opened (numbers_in numbers.now) }
+        ensures { result ≡ point_opened plain (numbers_in numbers.now) }
     {
         PlainPoint {
             numbers: *numbers,
@@ -141,6 +145,13 @@ impl PlainPoint {
             read: 0,
             closed: false,
         }
+    }
+
+    /// A fact for proofs: the point is one of a plain server.
+    pub fn is_plain(&self)
+        ensures { HasProfile plain self.now }
+    {
+        let _congestion = self.congestion;
     }
 
     /// Returns RCV.NXT as a number of units: those taken.

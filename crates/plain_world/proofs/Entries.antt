@@ -35,10 +35,10 @@ count_is_low f = holds_either_way (λ (es : List Fetched). length es ≤ 1) (not
 
 -- an entry that isn't done becomes live at its point
 pub revived : {S : Type 0} (service : Machine S) (node : Node) (f : Fetched) (now : List Place) (old new : List Wire) → f.head.done ≡ false
-    → SendsBy (LivesOn service node Begins (point_of service (entry_in f)) now) old new → SendsBy (Revives service node (restored service f) now) old new
+    → SendsBy (LivesOn service node Begins (point_of service node.profile (entry_in f)) now) old new → SendsBy (Revives service node (restored service node.profile f) now) old new
 revived service node f now old new live h =
-    sends_as (LivesOn service node Begins (point_of service (entry_in f)) now) (Revives service node (restored service f) now) old new
-    (λ sent l. subst (λ b. Revives service node (if b then Ended f.head.key else Lives (point_of service (entry_in f))) now sent) (sym live) l) h
+    sends_as (LivesOn service node Begins (point_of service node.profile (entry_in f)) now) (Revives service node (restored service node.profile f) now) old new
+    (λ sent l. subst (λ b. Revives service node (if b then Ended f.head.key else Lives (point_of service node.profile (entry_in f))) now sent) (sym live) l) h
 
 module _ {S : Type 0} (service : Machine S) (node : Node) where
   pub none_restored : (before : List Fetched) (now : Serving S) (wires : List Wire) → now.opened ≡ 0 → now.places.items ≡ [] → LastRestored service node before before now wires wires
@@ -60,9 +60,9 @@ module _ {S : Type 0} (service : Machine S) (node : Node) where
     split = l.split ∙ (ap (λ fs. fs ++ l.done) cut ∙ append_assoc rest (f ∷ []) l.done);
     restored = record {
       opened = let were : now.opened ≡ restored_count l.done = l.restored.opened in omega (arith, opened, were, counted f l.done);
-      go = subst (λ places. SendsBy (AllGo (Revives service node) (all_restored service (f ∷ l.done)) places) old new)
+      go = subst (λ places. SendsBy (AllGo (Revives service node) (all_restored service node.profile (f ∷ l.done)) places) old new)
           (sym (map-append place_in now.places.items (is.place ∷ [])) ∙ ap (map place_in) (sym is.places))
-          (sends_on (Revives service node) (all_restored service l.done) (places_in now.places.items) (place_in is.place ∷ []) (restored service f) old mid new l.restored.go is.turn);
+          (sends_on (Revives service node) (all_restored service node.profile l.done) (places_in now.places.items) (place_in is.place ∷ []) (restored service node.profile f) old mid new l.restored.go is.turn);
     };
   }
 

@@ -3,6 +3,7 @@ use Rattle.std.proofs.Common.{◌≡◌, ◌∙◌, sym, ap, ap₂, subst, refl,
 use Rattle.std.proofs.Math.ListN.{set}
 use Rattle.std.proofs.lemmas.Bool.{leb-false}
 use Rattle.server_trait.specs.Service.{Machine}
+use Rattle.seq_arith.specs.Profile.{plain}
 use Rattle.ft_model.specs.Client.{Client, Move, move_asked, mover_of, move_of, window_of, refusal_of_move, segment_of, moved}
 use Rattle.ft_model.specs.Client.{Move as moves}
 use Rattle.ft_model.specs.Lawful.{hello}
@@ -79,8 +80,8 @@ module _ {State : Type 0} where
   only_node : (before after : WorldState State) (ps : List Packet) → after.server ≡ before.server → after.boot ≡ before.boot → after.clients ≡ before.clients → after.log ≡ before.log
       → world_of after ps ≡ record (world_of before ps) { node = node_of after.node }
   only_node before after ps server boot clients log =
-      ap₂ (λ s b. let w : World = record { server = s; clients = after.clients; log = after.log; packets = ps; boot = b; node = node_of after.node } in w) server boot
-      ∙ ap₂ (λ c l. let w : World = record { server = before.server; clients = c; log = l; packets = ps; boot = before.boot; node = node_of after.node } in w) clients log
+      ap₂ (λ s b. let w : World = record { server = s; profile = plain; clients = after.clients; log = after.log; packets = ps; boot = b; node = node_of after.node } in w) server boot
+      ∙ ap₂ (λ c l. let w : World = record { server = before.server; profile = plain; clients = c; log = l; packets = ps; boot = before.boot; node = node_of after.node } in w) clients log
 
 module _ {State : Type 0} (service : ℕ → Machine State) (before after : WorldState State) where
   -- nothing changes where the event isn't allowed
@@ -210,7 +211,7 @@ module _ {State : Type 0} (service : ℕ → Machine State) (before after : Worl
 
   -- the server starts
   pub starts : (boot isn : ℕ) (n : NodeState State) → Keeps before after → after.boot ≡ boot → after.clients ≡ before.clients → after.log ≡ before.log → after.node ≡ Some n
-      → n.kind ≡ before.kind → node_in n ≡ booted before.server boot isn → IsServedNode (service before.kind) n → opened_in n ≡ 0
+      → n.kind ≡ before.kind → node_in n ≡ booted before.server plain boot isn → IsServedNode (service before.kind) n → opened_in n ≡ 0
       → Appends before.packets after.packets (hello (node_in n)) → Does service (Boot boot isn) before after
   starts boot isn n keeps now clients log up kind is served none sends = record {
     kind = keeps.kind;
@@ -221,7 +222,7 @@ module _ {State : Type 0} (service : ℕ → Machine State) (before after : Worl
     advances = λ packets of same premises free fits.
         let w : World = world_of before packets in
         let may = may_start (is_some w.node) (nat_le boot before.boot) free in
-        let sent : List Packet = hello (booted before.server boot isn) in
+        let sent : List Packet = hello (booted before.server plain boot isn) in
         record {
           sent = sent;
           lawful = record {
@@ -237,11 +238,11 @@ module _ {State : Type 0} (service : ℕ → Machine State) (before after : Worl
         };
   }
     where
-      started : (packets sent : List Packet) → world_of after (packets ++ sent) ≡ record (world_of before packets) { boot = boot; node = Some (booted before.server boot isn); packets = packets ++ sent }
+      started : (packets sent : List Packet) → world_of after (packets ++ sent) ≡ record (world_of before packets) { boot = boot; node = Some (booted before.server plain boot isn); packets = packets ++ sent }
       started packets sent =
-          ap₂ (λ s b. let w : World = record { server = s; clients = after.clients; log = after.log; packets = packets ++ sent; boot = b; node = node_of after.node } in w) keeps.server now
-          ∙ ap₂ (λ c l. let w : World = record { server = before.server; clients = c; log = l; packets = packets ++ sent; boot = boot; node = node_of after.node } in w) clients log
-          ∙ ap (λ m. let w : World = record { server = before.server; clients = before.clients; log = before.log; packets = packets ++ sent; boot = boot; node = m } in w)
+          ap₂ (λ s b. let w : World = record { server = s; profile = plain; clients = after.clients; log = after.log; packets = packets ++ sent; boot = b; node = node_of after.node } in w) keeps.server now
+          ∙ ap₂ (λ c l. let w : World = record { server = before.server; profile = plain; clients = c; log = l; packets = packets ++ sent; boot = boot; node = node_of after.node } in w) clients log
+          ∙ ap (λ m. let w : World = record { server = before.server; profile = plain; clients = before.clients; log = before.log; packets = packets ++ sent; boot = boot; node = m } in w)
           (ap node_of up ∙ ap (λ m. Some m) is)
 
 refusal_asked : (w : World) (event : Event) (number : ℕ) → mover_of event ≡ Some number → refusal w event ≡ refusal_of_asked w.clients (move_asked event)
@@ -330,6 +331,6 @@ module _ {State : Type 0} (service : ℕ → Machine State) (before after : Worl
     where
       next : (ps : List Packet) (cs : List Client) → after.clients ≡ cs → world_of after ps ≡ record (world_of before ps) { clients = cs }
       next ps cs e =
-          ap₂ (λ s b. let w : World = record { server = s; clients = after.clients; log = after.log; packets = ps; boot = b; node = node_of after.node } in w) keeps.server boot
-          ∙ ap₂ (λ xs l. let w : World = record { server = before.server; clients = xs; log = l; packets = ps; boot = before.boot; node = node_of after.node } in w) e moves.log
-          ∙ ap (λ n. let w : World = record { server = before.server; clients = cs; log = before.log; packets = ps; boot = before.boot; node = n } in w) (ap node_of moves.node)
+          ap₂ (λ s b. let w : World = record { server = s; profile = plain; clients = after.clients; log = after.log; packets = ps; boot = b; node = node_of after.node } in w) keeps.server boot
+          ∙ ap₂ (λ xs l. let w : World = record { server = before.server; profile = plain; clients = xs; log = l; packets = ps; boot = before.boot; node = node_of after.node } in w) e moves.log
+          ∙ ap (λ n. let w : World = record { server = before.server; profile = plain; clients = cs; log = before.log; packets = ps; boot = before.boot; node = n } in w) (ap node_of moves.node)

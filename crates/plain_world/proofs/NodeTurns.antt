@@ -26,6 +26,7 @@ takes_turn service who before after input (Ok v) old new free h =
       sent = turn.sent;
       lawful = record {
         server = refl;
+        profile = refl;
         boot = refl;
         isn = refl;
         live = never_fenced before;

@@ -40,10 +40,10 @@ concerned service node input place now old new e h =
 
 -- Opened with the client's number
 pub opened_same : {S : Type 0} (service : Machine S) (node : Node) (kept asked : Numbers) (now : List Place) (old new : List Wire) → kept.cisn ≡ asked.cisn
-    → SendsBy (LivesOn service node Begins (point_opened kept) now) old new → SendsBy (Hears service node (OpenedMsg kept) (Opens asked) now) old new
+    → SendsBy (LivesOn service node Begins (point_opened node.profile kept) now) old new → SendsBy (Hears service node (OpenedMsg kept) (Opens asked) now) old new
 opened_same service node kept asked now old new e h =
-    sends_as (LivesOn service node Begins (point_opened kept) now) (Hears service node (OpenedMsg kept) (Opens asked) now) old new
-    (λ sent l. subst (λ b. MatchBool b (LivesOn service node Begins (point_opened kept) now sent) ((now ≡ []) × (sent ≡ []))) (sym (eq-eqb kept.cisn asked.cisn e)) l) h
+    sends_as (LivesOn service node Begins (point_opened node.profile kept) now) (Hears service node (OpenedMsg kept) (Opens asked) now) old new
+    (λ sent l. subst (λ b. MatchBool b (LivesOn service node Begins (point_opened node.profile kept) now sent) ((now ≡ []) × (sent ≡ []))) (sym (eq-eqb kept.cisn asked.cisn e)) l) h
 
 -- a place that an input concerns
 pub concerned_turns : {S E : Type 0} (service : Machine S) (who : Incarnation) (input : Input) (place : Place) (key : Key) (left : Bool → List Place) (r : Result Bool E) (old new : List Wire)

@@ -13,6 +13,7 @@ use Rattle.seq_arith.proofs.Spelling.{spelling_is_read}
 use Rattle.seq_arith.proofs.MessageSpelling.{message_is_read}
 use Rattle.seq_arith.proofs.Refused.{flipped_packet_is_refused, flipped_message_is_refused}
 use Rattle.server_trait.specs.Service.{Machine}
+use Rattle.seq_arith.specs.Profile.{plain}
 use Rattle.ft_model.specs.Client.{Client, received}
 use Rattle.ft_model.specs.Lawful.{fence}
 use Rattle.ft_model.specs.Log.{Log, log_after, answer_to}
@@ -78,7 +79,7 @@ message_read wire message m read is can = ok_message message m (sym read ∙ ap 
 others_stay : {State : Type 0} (server : Addr) (boot : ℕ) (ps : List Packet) (before after : ActorsState State) → after.clients ≡ before.clients → after.log ≡ before.log
     → world_with server boot ps after ≡ record (world_with server boot ps before) { node = node_of after.node }
 others_stay server boot ps before after clients log =
-    ap₂ (λ cs l. let w : World = record { server = server; clients = cs; log = l; packets = ps; boot = boot; node = node_of after.node } in w) clients log
+    ap₂ (λ cs l. let w : World = record { server = server; profile = plain; clients = cs; log = l; packets = ps; boot = boot; node = node_of after.node } in w) clients log
 
 -- a server that does nothing is as ready as before
 pub stays_ready : {State : Type 0} (service : ℕ → Machine State) (before after : Option (NodeState State)) → after ≡ before → IsServedUp service before → StaysReady service before after
@@ -156,8 +157,8 @@ module _ {State : Type 0} (service : ℕ → Machine State) (wire : Wire) (befor
       all_three : (server : Addr) (boot : ℕ) (ps : List Packet) (cs : List Client) → after.clients ≡ cs → after.log ≡ before.log → node_of after.node ≡ node_of before.node
           → world_with server boot ps after ≡ record (world_with server boot ps before) { clients = cs }
       all_three server boot ps cs c l n =
-          ap₂ (λ xs y. let w : World = record { server = server; clients = xs; log = y; packets = ps; boot = boot; node = node_of after.node } in w) c l
-          ∙ ap (λ z. let w : World = record { server = server; clients = cs; log = before.log; packets = ps; boot = boot; node = z } in w) n
+          ap₂ (λ xs y. let w : World = record { server = server; profile = plain; clients = xs; log = y; packets = ps; boot = boot; node = node_of after.node } in w) c l
+          ∙ ap (λ z. let w : World = record { server = server; profile = plain; clients = cs; log = before.log; packets = ps; boot = boot; node = z } in w) n
 
   pub to_logger : (message : Message) → The_logger ≡ wire.to → messages.reading wire.bytes ≡ Ok message → after.log ≡ log_after before.log message → after.clients ≡ before.clients
       → after.node ≡ before.node → IsServedUp service before.node → Appends old new (option_to_list (option_map From_logger (answer_to before.log message))) → Brings service wire before after old new
@@ -178,8 +179,8 @@ module _ {State : Type 0} (service : ℕ → Machine State) (wire : Wire) (befor
       all_three : (server : Addr) (boot : ℕ) (ps : List Packet) (l : Log) → after.log ≡ l → after.clients ≡ before.clients → node_of after.node ≡ node_of before.node
           → world_with server boot ps after ≡ record (world_with server boot ps before) { log = l }
       all_three server boot ps l e c n =
-          ap₂ (λ xs y. let w : World = record { server = server; clients = xs; log = y; packets = ps; boot = boot; node = node_of after.node } in w) c e
-          ∙ ap (λ z. let w : World = record { server = server; clients = before.clients; log = l; packets = ps; boot = boot; node = z } in w) n
+          ap₂ (λ xs y. let w : World = record { server = server; profile = plain; clients = xs; log = y; packets = ps; boot = boot; node = node_of after.node } in w) c e
+          ∙ ap (λ z. let w : World = record { server = server; profile = plain; clients = before.clients; log = l; packets = ps; boot = boot; node = z } in w) n
 
   -- what can't be read was never sent
   never : ((packet : Packet) → wire ≡ wire_of packet → HasWire packet → ⊥) → after ≡ before → IsServedUp service before.node → Brings service wire before after old new

@@ -17,12 +17,12 @@ use Rattle.plain_world.specs.Values.{place_in, places_in, stage_in, opened_at}
 pub record IsRestored {S : Type 0} (service : Machine S) (node : law.Node) (f : Fetched) (before after : List (PlainPlace S)) (old new : List Wire) : Type 0 where
   pub place : PlainPlace S
   pub places : after ≡ before ++ place ∷ []
-  pub turn : SendsBy (Revives service node (restored service f) (place_in place ∷ [])) old new
+  pub turn : SendsBy (Revives service node (restored service node.profile f) (place_in place ∷ [])) old new
 
 -- these entries became places, in the log's order, each in its first turn
 pub record AreRestored {S : Type 0} (service : Machine S) (node : law.Node) (fetched : List Fetched) (now : Serving S) (old new : List Wire) : Type 0 where
   pub opened : now.opened ≡ restored_count fetched
-  pub go : SendsBy (AllGo (Revives service node) (all_restored service fetched) (places_in now.places.items)) old new
+  pub go : SendsBy (AllGo (Revives service node) (all_restored service node.profile fetched) (places_in now.places.items)) old new
 
 -- the stage after a restart, which serves now, or still fetches
 abbrev pub stage_then : {S : Type 0} → Option (Serving S) → (count : ℕ) → List Fetched → law.Stage

@@ -3,6 +3,7 @@ use Rattle.std.specs.Prelude.{ℕ, Bool, true, false, List, [], ◌∷◌, map}
 use Rattle.ft_io.specs.declared.Addr.{Addr}
 use Rattle.logger_wire.specs.Value.{message_of, IsSendable}
 use Rattle.segment_codec.specs.Value.{segment_of}
+use Rattle.seq_arith.specs.Profile.{plain}
 use Rattle.ft_model.specs.Node as law
 use Rattle.plain_point.specs.Values.{numbers_in}
 use Rattle.plain_world.specs.declared.incarnation.Incarnation.{Incarnation}
@@ -44,7 +45,7 @@ stage_in (stage.Serving serving) = law.Stage.Serving serving.opened (places_in s
 
 -- an incarnation in a stage
 abbrev pub node_of : Incarnation → law.Stage → law.Node
-node_of who stage = record { server = who.server; boot = who.boot; isn = who.isn; stage = stage }
+node_of who stage = record { server = who.server; profile = plain; boot = who.boot; isn = who.isn; stage = stage }
 
 -- a node as its contracts see it
 pub record NodeState (S : Type 0) : Type 0 where
@@ -55,7 +56,7 @@ pub record NodeState (S : Type 0) : Type 0 where
   pub stage : PlainStage S
 
 abbrev pub node_in : {S : Type 0} → NodeState S → law.Node
-node_in n = record { server = n.server; boot = n.boot; isn = n.isn; stage = stage_in n.stage }
+node_in n = record { server = n.server; profile = plain; boot = n.boot; isn = n.isn; stage = stage_in n.stage }
 
 -- how many initial sequence numbers are used up
 abbrev pub opened_at : {S : Type 0} → PlainStage S → ℕ

@@ -2,6 +2,7 @@
 use Rattle.std.specs.Prelude.{◌≡◌, ℕ, ◌+◌, ◌≤◌, Option, Some, None, option_map, List, ◌∷◌, ◌++◌, map, length}
 use Rattle.ft_io.specs.declared.Addr.{Addr}
 use Rattle.server_trait.specs.Service.{Machine}
+use Rattle.seq_arith.specs.Profile.{plain}
 use Rattle.ft_model.specs.Client.{Client}
 use Rattle.ft_model.specs.Legal.{IsLegalFor, start_of}
 use Rattle.ft_model.specs.Log.{Log}
@@ -37,7 +38,15 @@ node_of node = option_map node_in node
 
 -- these actors in the world of the definitions
 abbrev pub world_with : {State : Type 0} → (server : Addr) (boot : ℕ) → List Packet → ActorsState State → World
-world_with server boot packets actors = record { server = server; clients = actors.clients; log = actors.log; packets = packets; boot = boot; node = node_of actors.node }
+world_with server boot packets actors = record {
+  server = server;
+  profile = plain;
+  clients = actors.clients;
+  log = actors.log;
+  packets = packets;
+  boot = boot;
+  node = node_of actors.node;
+}
 
 abbrev pub actors_of : {State : Type 0} → WorldState State → ActorsState State
 actors_of state = record { clients = state.clients; log = state.log; node = state.node }
@@ -49,6 +58,7 @@ world_of state packets = world_with state.server state.boot packets (actors_of s
 -- the plain world has the contents of a world of the definitions, with each packet as its wire
 pub record Represents {State : Type 0} (state : WorldState State) (w : World) : Type 0 where
   pub server : state.server ≡ w.server
+  pub profile : plain ≡ w.profile
   pub clients : state.clients ≡ w.clients
   pub log : state.log ≡ w.log
   pub packets : state.packets ≡ map wire_of w.packets

@@ -2,6 +2,7 @@
 
 ghost use Rattle.std.specs.Prelude.{◌≡◌, ◌≤◌, ◌+◌, ◌^◌, max, None, OnOk};
 ghost use Rattle.server_trait.specs.Service.{machine};
+ghost use Rattle.seq_arith.specs.Profile.{plain};
 ghost use Rattle.ft_model.specs.Lawful.{hello, fence};
 ghost use Rattle.ft_model.specs.Node as law;
 ghost use Rattle.plain_packets.specs.Sent.{Appends};
@@ -37,7 +38,7 @@ impl<S: Service> Model for PlainNode<S> {
 impl<S: Service> PlainNode<S> {
     /// Creates an incarnation at its boot. Allocates nothing.
     pub fn booted(kind: u8, server: Addr, boot: u64, isn: u32) -> PlainNode<S>
-        ensures node { node_in result ≡ law.booted server boot isn }
+        ensures node { node_in result ≡ law.booted server plain boot isn }
         ensures kind { result.kind ≡ kind }
         ensures served { IsServedNode (machine (S.started kind) S.after) result }
         ensures few { opened_in result ≡ 0 }

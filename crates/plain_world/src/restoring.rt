@@ -2,6 +2,7 @@
 
 ghost use Rattle.std.specs.Prelude.{◌≡◌, ◌<◌, ◌≤◌, ◌+◌, ◌∷◌, [], ◌^◌, true, IfOk, OnOk, length};
 ghost use Rattle.server_trait.specs.Service.{machine};
+ghost use Rattle.seq_arith.specs.Profile.{plain};
 ghost use Rattle.ft_model.specs.Lawful.{Revives, restored, restored_count};
 ghost use Rattle.ft_model.specs.Node as law;
 ghost use Rattle.ft_model.specs.Restart.{is_whole};
@@ -30,7 +31,7 @@ fn restored_place<S: Service>(
 ) -> Result<PlainPlace<S>, NoMemory>
     requires { is_whole entry ≡ true }
     ensures turn { IfOk result (λ place. (stage : law.Stage) → SendsBy (Revives (machine (S.started who.kind) S.after) (node_of who stage)
-        (restored (machine (S.started who.kind) S.after) entry) (place_in place ∷ [])) sent.old sent.new) }
+        (restored (machine (S.started who.kind) S.after) plain entry) (place_in place ∷ [])) sent.old sent.new) }
     ensures served { IfOk result (λ place. IsServedPlace who.kind (machine (S.started who.kind) S.after) place) }
 {
     let head = entry.head();

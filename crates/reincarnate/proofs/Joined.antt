@@ -3,6 +3,7 @@ use Rattle.std.proofs.Common.{◌≡◌, ℕ, Bool, true, false, ◌≤◌, ◌<
 use Rattle.std.specs.Prelude.{◌&&◌, nat_lt}
 use Rattle.std.proofs.lemmas.List.{drop_min, take_all}
 use Rattle.ft_io.specs.declared.Addr.{Addr}
+use Rattle.seq_arith.specs.Profile.{plain}
 use Rattle.seq_arith.specs.Number.{distance, number_at}
 use Rattle.seq_arith.specs.Offset.{one_if}
 use Rattle.server_trait.specs.Service.{Machine}
@@ -56,7 +57,7 @@ has_end_is : {S : Type 0} (service : Machine S) (e : Entry) (r : ReplayedState S
 has_end_is service e r re sound = ap has_end re.head ∙ room_for e.fin (length e.bytes) sound.fin
 
 replayed : {S : Type 0} (service : Machine S) (e : Entry) (r : ReplayedState S) → IsReplayed service e r → IsSoundEntry service e
-    → HasReplayed service (point_of service e) (resumed_at service e) (north_from r)
+    → HasReplayed service (point_of service plain e) (resumed_at service e) (north_from r)
 replayed service e r re sound =
     let run = re.run sound.output in
     record {
@@ -80,7 +81,7 @@ replayed service e r re sound =
     }
 
 south_is : {S : Type 0} (service : Machine S) (e : Entry) (r : ReplayedState S) (i : ℕ) → IsReplayed service e r → IsSoundEntry service e
-    → south_from i r ≡ south_at (delta_from service e i) (point_of service e)
+    → south_from i r ≡ south_at (delta_from service e i) (point_of service plain e)
 south_is service e r i re sound =
     let u = goes_on_is service e r re sound in
     let ends = has_end_is service e r re sound in
@@ -109,7 +110,7 @@ splice_stands service local boot e r i f re sound =
       segments = subst IsSegmentSize (ap (λ h. h.mss) re.head) f.segments;
       local = spliced_local r.head.key local r.head.cisn r.head.length r.head.mss i (has_end r.head);
       south = south_is service e r i re sound;
-      parts = subst (λ t. PartsStand service (resumed_at service e) i (delta_from service e i) (resumed_at service e) (point_of service e) n t)
+      parts = subst (λ t. PartsStand service (resumed_at service e) i (delta_from service e i) (resumed_at service e) (point_of service plain e) n t)
           (λ j. spliced ((sym re.head) j).key local ((sym re.head) j).cisn ((sym re.head) j).length ((sym re.head) j).mss i (sym (has_end_is service e r re sound) j))
           (splices_parts service local e i n g (replayed service e r re sound));
     }
@@ -126,9 +127,9 @@ less_fin cisn fetched fin h = (λ j. logged_at cisn (fetched + one_if fin) (few 
     back a b = omega arith
 
 pub hands_on : {S : Type 0} (service : Machine S) (e : Entry) (i : ℕ) (s : SplicedState S) → IsSpliced service e i s
-    → StandsBefore service (joined_conn s.boot s.key s.local s.south s.endpoint s.north) (point_of service e)
+    → StandsBefore service (joined_conn s.boot s.key s.local s.south s.endpoint s.north) (point_of service plain e)
 hands_on service e i s is =
-    let p = point_of service e in
+    let p = point_of service plain e in
     let u : ℕ = resumed_at service e in
     let d : ℕ = delta_from service e i in
     let delta : s.south.delta ≡ d = ap (λ x. x.delta) is.south in

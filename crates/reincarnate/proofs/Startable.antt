@@ -5,6 +5,7 @@ use Rattle.std.proofs.lemmas.Bool.{false≢true}
 use Rattle.std.proofs.lemmas.List.{length-replicate, take_all}
 use Rattle.ft_io.specs.declared.Addr.{Addr}
 use Rattle.ft_io.specs.declared.Key.{Key}
+use Rattle.seq_arith.specs.Profile.{plain}
 use Rattle.seq_arith.specs.Number.{distance, number_at}
 use Rattle.seq_arith.specs.Offset.{one_if}
 use Rattle.server_trait.specs.Service.{reference}
@@ -63,7 +64,7 @@ unread_entry key cisn fetched mss fin = record {
 abbrev idle_north : List ℕ → NorthState ℕ
 idle_north bytes = resumed_north 0 bytes [] 0 0 0 false false
 
-idle_replayed : (e : Entry) → HasReplayed idle (point_of idle (record e { lengths = []; acknowledged = 0 })) 0 (idle_north e.bytes)
+idle_replayed : (e : Entry) → HasReplayed idle (point_of idle plain (record e { lengths = []; acknowledged = 0 })) 0 (idle_north e.bytes)
 unfolding reference
 idle_replayed e = record {
   run = record { service = refl; closed = refl; made = refl; pending = refl; within = omega arith };
@@ -93,7 +94,7 @@ end_is : (s : Sending) → s.fin_sent ≡ false → bytes_end s ≡ s.una + leng
 end_is s e = ap (λ b. if b then s.sent - 1 else s.una + length s.held) e
 
 fresh_at : (key : Key) (local : Addr) (cisn fetched mss i : ℕ) (fin : Bool) (e : Entry) → e ≡ unread_entry key cisn fetched mss fin → GoesOnFrom idle e i
-    → HasReplayed idle (point_of idle e) (resumed_at idle e) (idle_north e.bytes)
+    → HasReplayed idle (point_of idle plain e) (resumed_at idle e) (idle_north e.bytes)
     → IsFresh i (length e.bytes) e.fin (spliced e.key local e.cisn (length e.bytes) e.mss i e.fin)
 fresh_at key local cisn fetched mss i fin e is g replayed =
     let t : Tcb = spliced e.key local e.cisn (length e.bytes) e.mss i e.fin in
@@ -106,8 +107,8 @@ fresh_at key local cisn fetched mss i fin e is g replayed =
     let unread : length t.receiving.unread ≡ 0 = omega (arith, at.receives.long, read) in
     let una : t.sending.una ≡ 0 = omega (arith, at.sends.una) in
     let last = end_is t.sending (false_by t.sending.fin_sent t.sending.closed (λ f. (between.fin_last f).0) s.open_still) in
-    let tell : PartsTell idle (delta_from idle e i) (point_of idle e) (idle_north e.bytes) t =
-    parts_tell idle u i (delta_from idle e i) u (point_of idle e) (idle_north e.bytes) t (splices_parts idle local e i (idle_north e.bytes) g replayed) in
+    let tell : PartsTell idle (delta_from idle e i) (point_of idle plain e) (idle_north e.bytes) t =
+    parts_tell idle u i (delta_from idle e i) u (point_of idle plain e) (idle_north e.bytes) t (splices_parts idle local e i (idle_north e.bytes) g replayed) in
     record {
       sound = record {
         bounds = between.bounds;
@@ -142,7 +143,7 @@ fresh_tcp key local cisn fetched mss i fin few segments room fits =
       sisn = omega arith;
       i_fits = fits;
     } in
-    let replayed = subst (λ u. HasReplayed idle (point_of idle e) u (idle_north e.bytes)) (sym none) (idle_replayed e) in
+    let replayed = subst (λ u. HasReplayed idle (point_of idle plain e) u (idle_north e.bytes)) (sym none) (idle_replayed e) in
     subst (λ n. IsFresh i n fin (spliced key local cisn n mss i fin)) size (fresh_at key local cisn fetched mss i fin e refl g replayed)
 
 -- what is swallowed is what the entry has acknowledged

@@ -2,6 +2,7 @@
 use Rattle.std.specs.Prelude.{◌≡◌, ℕ, ◌+◌, ◌<◌, ◌≤◌, ◌^◌, length, min}
 use Rattle.ft_io.specs.declared.Addr.{Addr}
 use Rattle.ft_io.specs.declared.Key.{Key}
+use Rattle.seq_arith.specs.Profile.{plain}
 use Rattle.server_trait.specs.Service.{Machine}
 use Rattle.ft_model.specs.Log.{Entry}
 use Rattle.ft_model.specs.Offset.{one_if}
@@ -62,8 +63,8 @@ pub record IsSpliced {S : Type 0} (service : Machine S) (e : Entry) (i : ℕ) (s
   pub short : length e.bytes ≤ 2 ^ 24
   pub segments : IsSegmentSize e.mss
   pub local : s.endpoint.local ≡ s.local
-  pub south : s.south ≡ south_at (delta_from service e i) (point_of service e)
-  pub parts : PartsStand service (resumed_at service e) i (delta_from service e i) (resumed_at service e) (point_of service e) s.north s.endpoint
+  pub south : s.south ≡ south_at (delta_from service e i) (point_of service plain e)
+  pub parts : PartsStand service (resumed_at service e) i (delta_from service e i) (resumed_at service e) (point_of service plain e) s.north s.endpoint
 
 -- the numbers of an entry and an initial sequence number are within their ranges
 pub record EntryNumbersFit {S : Type 0} (r : ReplayedState S) (i : ℕ) : Type 0 where

@@ -2,6 +2,7 @@
 
 ghost use Rattle.std.specs.Prelude.{◌≡◌, ℕ};
 ghost use Rattle.server_trait.specs.Service.{machine};
+ghost use Rattle.seq_arith.specs.Profile.{plain};
 ghost use Rattle.ft_model.specs.Log.{Entry};
 ghost use Rattle.ft_model.specs.Restart.{point_of};
 ghost use Rattle.wrapped_conn.specs.Sound.{IsSound};
@@ -99,7 +100,7 @@ impl<S: Service> Spliced<S> {
         ensures value { result ≡ conn_of self }
         ensures sound { IsSound result }
         ensures law { (fresh : S) (e : Entry) (i : ℕ) → IsSpliced (machine fresh S.after) e i self
-            → StandsBefore (machine fresh S.after) result (point_of (machine fresh S.after) e) }
+            → StandsBefore (machine fresh S.after) result (point_of (machine fresh S.after) plain e) }
     {
         let Spliced {
             boot,

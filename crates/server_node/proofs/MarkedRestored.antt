@@ -44,7 +44,7 @@ use Rattle.server_node.proofs.Restored.{behind_others, all_numbered_more}
 
 -- a slot's first turn, with its mark
 pub revives_with : {S : Type 0} (by : Marker S) (node : Node) (e : Entry) (now : Slot S) (was marks : KeyMarks) (old mid new : List Wire) → AreBytes e.bytes
-    → SlotRevives by.service node e.key (Lives (point_of by.service e)) now old mid
+    → SlotRevives by.service node e.key (Lives (point_of by.service node.profile e)) now old mid
     → ((place : Place) → SlotStands by.service node e.key now place → MarksPlace by node.boot e.key (length old) (Some place) was marks mid new)
     → SlotRevivesWith by node e now was marks old new
 revives_with {S} by node e now was marks old mid new bytes g marked = go g.after g.turn g.stands
@@ -56,11 +56,11 @@ revives_with {S} by node e now was marks old mid new bytes g marked = go g.after
     at : (q : Point) → SlotStands by.service node e.key now (Lives q) → q.key ≡ e.key
     at q st = place_key by.service node e.key now (Lives q) st
 
-    lives : (q : Point) → ConnectionTurn by.service node.server node.boot Begins (point_of by.service e) q g.packets → SlotStands by.service node e.key now (Lives q)
+    lives : (q : Point) → ConnectionTurn by.service node.server node.boot Begins (point_of by.service node.profile e) q g.packets → SlotStands by.service node e.key now (Lives q)
         → SlotRevivesWith by node e now was marks old new
     lives q t st =
         let settled : IsSettledPoint by (with_new by.service by.writing by.every q (marking_in was e.key)) q =
-        turn_settled by node Begins (point_of by.service e) q (marking_in was e.key) g.packets tt (record { taken = bytes; held = tt }) t in
+        turn_settled by node Begins (point_of by.service node.profile e) q (marking_in was e.key) g.packets tt (record { taken = bytes; held = tt }) t in
         let m = marked (Lives q) st settled.taken in record {
           after = q;
           packets = g.packets;
@@ -71,7 +71,7 @@ revives_with {S} by node e now was marks old mid new bytes g marked = go g.after
           out = put_out node.boot e.key q (new_marks by.service by.writing by.every (marking_in was e.key) q) g.packets old mid new (at q st) g.wires g.spelled m.sends;
         }
 
-    go : (after : Place) → LivesOn by.service node Begins (point_of by.service e) (after ∷ []) g.packets → SlotStands by.service node e.key now after → SlotRevivesWith by node e now was marks old new
+    go : (after : Place) → LivesOn by.service node Begins (point_of by.service node.profile e) (after ∷ []) g.packets → SlotStands by.service node e.key now after → SlotRevivesWith by node e now was marks old new
     go after (q, is, t) st = lives q t (subst (SlotStands by.service node e.key now) (ap (first after) is) st)
 
 -- no place of a key that has no slot
@@ -125,7 +125,7 @@ module _ {S : Type 0} (by : Marker S) (node : Node) (marking : Key → Marking) 
 
   pub more_marked : (f : Fetched) (fetched : List Fetched) (before after : Serving S) (now : Slot S) (place : Place) (more : List Outgoing) (was marks : KeyMarks) (old mid new : List Wire)
       → is_fetched f.head.key fetched ≡ false → AreRestoredMarked by node marking fetched before was old mid → SlotStands by.service node f.head.key now place
-      → GoesMarked (Revives by.service node) (marks_at by node.boot false marking) (restored by.service f) (place ∷ []) more
+      → GoesMarked (Revives by.service node) (marks_at by node.boot false marking) (restored by.service node.profile f) (place ∷ []) more
       → IsSettledPlace by (λ k. marking_then by (Some place) (marking k)) place
       → Changes f.head.key (marking_then by (Some place) (marking_in was f.head.key)) was marks
       → after.next.0 ≡ initial_number node.isn (restored_count (f ∷ fetched))
@@ -151,7 +151,7 @@ module _ {S : Type 0} (by : Marker S) (node : Node) (marking : Key → Marking) 
           number = number;
           slots = subst (λ es. AllStand by.service node es (r.places ++ place ∷ [])) (sym is) (one_stands_more by.service node before.slots.entries r.places key now place r.stands.slots st);
         };
-        go = go_on_marked (GoesMarked (Revives by.service node) (marks_at by node.boot false marking)) (all_restored by.service fetched) r.places r.sent more (restored by.service f) place r.go g;
+        go = go_on_marked (GoesMarked (Revives by.service node) (marks_at by node.boot false marking)) (all_restored by.service node.profile fetched) r.places r.sent more (restored by.service node.profile f) place r.go g;
         numbers = subst (AreNumbered by.service node.isn (f ∷ fetched)) (sym is) (all_numbered_more by.service node.isn f fetched before.slots.entries now none r.numbers numbered);
         others = λ k e.
             let parts = or_parts (key_eq key k) (is_fetched k fetched) e in
@@ -197,7 +197,7 @@ module _ {S : Type 0} (by : Marker S) (node : Node) (marking : Key → Marking) 
       → is_fetched f.head.key fetched ≡ false → AreRestoredMarked by node marking fetched before was old mid → after.next.0 ≡ before.next.0
       → (lookup (key_eq key) before.slots.entries ≡ None → after.slots.entries ≡ before.slots.entries ++ (key, slot.Done) ∷ []) → AreRestoredMarked by node marking (f ∷ fetched) after was old mid
   ended_marked f fetched key before after was old mid done is fresh r same added =
-      let place : restored by.service f ≡ Ended f.head.key = ap (λ b. if b then Ended f.head.key else Lives (point_of by.service (entry_in f))) done in
+      let place : restored by.service node.profile f ≡ Ended f.head.key = ap (λ b. if b then Ended f.head.key else Lives (point_of by.service node.profile (entry_in f))) done in
       more_marked f fetched before after slot.Done (Ended f.head.key) [] was was old mid mid fresh r refl
       (subst (λ p. GoesMarked (Revives by.service node) (marks_at by node.boot false marking) p (Ended f.head.key ∷ []) []) (sym place) (record { packets = []; goes = (refl, refl); sent_are = refl }))
       tt (changes_none was f.head.key (marking_in was f.head.key) refl)
@@ -211,7 +211,7 @@ module _ {S : Type 0} (by : Marker S) (node : Node) (marking : Key → Marking) 
       → (lookup (key_eq key) before.slots.entries ≡ None → after.slots.entries ≡ before.slots.entries ++ (key, now) ∷ [])
       → IsNumbered by.service (entry_in f) before.next.0 (conn_in (Some now)) → AreRestoredMarked by node marking (f ∷ fetched) after marks old new
   live_marked f fetched key before after now was marks old mid new live is fresh r s next added numbered =
-      let place : restored by.service f ≡ Lives (point_of by.service (entry_in f)) = ap (λ b. if b then Ended f.head.key else Lives (point_of by.service (entry_in f))) live in
+      let place : restored by.service node.profile f ≡ Lives (point_of by.service node.profile (entry_in f)) = ap (λ b. if b then Ended f.head.key else Lives (point_of by.service node.profile (entry_in f))) live in
       let q : Point = s.after in
       let none = r.others f.head.key fresh in
       let nothing : place_at f.head.key r.places ≡ None = none_at f.head.key r.places (absent by node f.head.key before.slots.entries r.places r.stands.slots none) in

@@ -86,7 +86,7 @@ module _ {S : Type 0} (service : Machine S) (node : Node) where
 
   -- an entry more, the newest
   pub restored_more : (f : Fetched) (fetched : List Fetched) (before after : Serving S) (now : Slot S) (old mid new : List Wire) → is_fetched f.head.key fetched ≡ false
-      → AreRestored service node fetched before old mid → SlotRevives service node f.head.key (restored service f) now mid new
+      → AreRestored service node fetched before old mid → SlotRevives service node f.head.key (restored service node.profile f) now mid new
       → after.next.0 ≡ initial_number node.isn (restored_count (f ∷ fetched))
       → (lookup (key_eq f.head.key) before.slots.entries ≡ None → after.slots.entries ≡ before.slots.entries ++ (f.head.key, now) ∷ [])
       → (f.head.done ≡ false → IsNumbered service (entry_in f) (initial_number node.isn (restored_count fetched)) (conn_in (Some now)))
@@ -102,7 +102,7 @@ module _ {S : Type 0} (service : Machine S) (node : Node) where
           slots = subst (λ es. Rattle.node_serving.specs.Slots.AllStand service node es (r.places ++ s.after ∷ [])) (sym is)
               (one_stands_more service node before.slots.entries r.places f.head.key now s.after r.stands.slots s.stands);
         };
-        go = go_on service node Tick_comes (Revives service node) (all_restored service fetched) r.places r.packets s.packets (restored service f) s.after r.go s.turn;
+        go = go_on service node Tick_comes (Revives service node) (all_restored service node.profile fetched) r.places r.packets s.packets (restored service node.profile f) s.after r.go s.turn;
         numbers = subst (AreNumbered service node.isn (f ∷ fetched)) (sym is) (all_numbered_more service node.isn f fetched before.slots.entries now none r.numbers numbered);
         others = λ key e.
             let parts = or_parts (key_eq f.head.key key) (is_fetched key fetched) e in
@@ -123,7 +123,7 @@ module _ {S : Type 0} (service : Machine S) (node : Node) where
       → (lookup (key_eq key) before.slots.entries ≡ None → after.slots.entries ≡ before.slots.entries ++ (key, slot.Done) ∷ [])
       → AreRestored service node (f ∷ fetched) after old mid
   ended_more f fetched key before after old mid done is fresh r same added =
-      let place : restored service f ≡ Ended f.head.key = ap (λ b. if b then Ended f.head.key else Lives (point_of service (entry_in f))) done in
+      let place : restored service node.profile f ≡ Ended f.head.key = ap (λ b. if b then Ended f.head.key else Lives (point_of service node.profile (entry_in f))) done in
       restored_more f fetched before after slot.Done old mid mid fresh r
       (subst (λ p. SlotRevives service node f.head.key p slot.Done mid mid) (sym place)
       (record { after = Ended f.head.key; packets = []; stands = refl; turn = (refl, refl); wires = sym (append-nil mid); spelled = tt }))
@@ -134,11 +134,11 @@ module _ {S : Type 0} (service : Machine S) (node : Node) where
   -- one that isn't is live, and has used up an initial number
   pub live_more : (f : Fetched) (fetched : List Fetched) (key : Key) (before after : Serving S) (now : Slot S) (old mid new : List Wire) → f.head.done ≡ false → key ≡ f.head.key
       → is_fetched f.head.key fetched ≡ false → AreRestored service node fetched before old mid
-      → SlotRevives service node f.head.key (Lives (point_of service (entry_in f))) now mid new → after.next.0 ≡ (before.next.0 + 65536) % 2 ^ 32
+      → SlotRevives service node f.head.key (Lives (point_of service node.profile (entry_in f))) now mid new → after.next.0 ≡ (before.next.0 + 65536) % 2 ^ 32
       → (lookup (key_eq key) before.slots.entries ≡ None → after.slots.entries ≡ before.slots.entries ++ (key, now) ∷ [])
       → IsNumbered service (entry_in f) before.next.0 (conn_in (Some now)) → AreRestored service node (f ∷ fetched) after old new
   live_more f fetched key before after now old mid new live is fresh r s next added numbered =
-      let place : restored service f ≡ Lives (point_of service (entry_in f)) = ap (λ b. if b then Ended f.head.key else Lives (point_of service (entry_in f))) live in
+      let place : restored service node.profile f ≡ Lives (point_of service node.profile (entry_in f)) = ap (λ b. if b then Ended f.head.key else Lives (point_of service node.profile (entry_in f))) live in
       restored_more f fetched before after now old mid new fresh r
       (subst (λ p. SlotRevives service node f.head.key p now mid new) (sym place) s)
       (next ∙ (ap (λ n. (n + 65536) % 2 ^ 32) r.stands.number ∙ (next_number node.isn (restored_count fetched) ∙ ap (initial_number node.isn) (plus_one (restored_count fetched) ∙ sym (counted f fetched false live)))))

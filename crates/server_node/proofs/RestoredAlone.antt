@@ -61,7 +61,7 @@ module _ {S : Type 0} (service : Machine S) (node : Node) where
   -- an entry more, the newest
   more_restored : (f : Fetched) (fetched : List Fetched) (before after : Serving S) (now : Slot S) (old mid new : List Wire) → is_fetched f.head.key fetched ≡ false
       → RestoredAlone service node fetched before old mid → IsOnlyFor f.head.key mid new
-      → (IsRestorable service f → SlotRevives service node f.head.key (restored service f) now mid new)
+      → (IsRestorable service f → SlotRevives service node f.head.key (restored service node.profile f) now mid new)
       → (lookup (key_eq f.head.key) before.slots.entries ≡ None → after.slots.entries ≡ before.slots.entries ++ (f.head.key, now) ∷ [])
       → after.next.0 ≡ initial_number node.isn (restored_count (f ∷ fetched)) → known_as now ≡ Is_connected → RestoredAlone service node (f ∷ fetched) after old new
   more_restored f fetched before after now old mid new fresh r p revives added number kind = record {
@@ -125,7 +125,7 @@ module _ {S : Type 0} (service : Machine S) (node : Node) where
       → (lookup (key_eq key) before.slots.entries ≡ None → after.slots.entries ≡ before.slots.entries ++ (key, slot.Done) ∷ [])
       → RestoredAlone service node (f ∷ fetched) after old mid
   ended_alone f fetched key before after old mid done is fresh r same added =
-      let place : restored service f ≡ Ended f.head.key = ap (λ b. if b then Ended f.head.key else Lives (point_of service (entry_in f))) done in
+      let place : restored service node.profile f ≡ Ended f.head.key = ap (λ b. if b then Ended f.head.key else Lives (point_of service node.profile (entry_in f))) done in
       more_restored f fetched before after slot.Done old mid mid fresh r (quiet_for f.head.key mid)
       (λ ok. subst (λ p. SlotRevives service node f.head.key p slot.Done mid mid) (sym place)
       (record { after = Ended f.head.key; packets = []; stands = refl; turn = (refl, refl); wires = sym (append-nil mid); spelled = tt }))
@@ -135,12 +135,12 @@ module _ {S : Type 0} (service : Machine S) (node : Node) where
   -- .. and one that isn't
   pub live_alone : (f : Fetched) (fetched : List Fetched) (key : Key) (before after : Serving S) (now : Slot S) (old mid new : List Wire) → f.head.done ≡ false → key ≡ f.head.key
       → is_fetched f.head.key fetched ≡ false → RestoredAlone service node fetched before old mid → IsOnlyFor key mid new
-      → (IsSoundEntry service (entry_in f) → SlotRevives service node f.head.key (Lives (point_of service (entry_in f))) now mid new)
+      → (IsSoundEntry service (entry_in f) → SlotRevives service node f.head.key (Lives (point_of service node.profile (entry_in f))) now mid new)
       → after.next.0 ≡ (before.next.0 + 65536) % 2 ^ 32 → known_as now ≡ Is_connected
       → (lookup (key_eq key) before.slots.entries ≡ None → after.slots.entries ≡ before.slots.entries ++ (key, now) ∷ [])
       → RestoredAlone service node (f ∷ fetched) after old new
   live_alone f fetched key before after now old mid new live is fresh r p revives next kind added =
-      let place : restored service f ≡ Lives (point_of service (entry_in f)) = ap (λ b. if b then Ended f.head.key else Lives (point_of service (entry_in f))) live in
+      let place : restored service node.profile f ≡ Lives (point_of service node.profile (entry_in f)) = ap (λ b. if b then Ended f.head.key else Lives (point_of service node.profile (entry_in f))) live in
       more_restored f fetched before after now old mid new fresh r (subst (λ k. IsOnlyFor k mid new) is p)
       (λ ok. subst (λ q. SlotRevives service node f.head.key q now mid new) (sym place) (revives (ok live)))
       (subst (λ k. lookup (key_eq k) before.slots.entries ≡ None → after.slots.entries ≡ before.slots.entries ++ (k, now) ∷ []) is added)

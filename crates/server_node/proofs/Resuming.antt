@@ -162,6 +162,7 @@ module _ {S : Type 0} (service : Machine S) (who : Identity) where
     stands = g.stands;
     turn = record {
       server = refl;
+      profile = refl;
       boot = refl;
       isn = refl;
       live = live;

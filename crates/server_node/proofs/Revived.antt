@@ -17,12 +17,12 @@ use Rattle.server_node.specs.RestartNumbers.{GoesOnUnder}
 use Rattle.server_node.specs.RestartEnd.{SlotRevives}
 
 pub live_again : {S : Type 0} (service : Machine S) (node : Node) (e : Entry) (c now : ConnState S) (old new : List Wire) → c.local ≡ node.server → c.boot ≡ node.boot → e.mss ≤ 1460
-    → StandsBefore service c (point_of service e)
+    → StandsBefore service c (point_of service node.profile e)
     → ((p : Point) → p.key ≡ e.key → Begins service node.server node.boot c p → ConnGoes service node.server node.boot Becomes_live p now old new)
-    → SlotRevives service node e.key (Lives (point_of service e)) (slot.Live now) old new
+    → SlotRevives service node e.key (Lives (point_of service node.profile e)) (slot.Live now) old new
 unfolding Begins
 live_again service node e c now old new local boot size before h =
-    let g = h (point_of service e) refl (before, record { local = local; incarnation = boot; size = size }) in record {
+    let g = h (point_of service node.profile e) refl (before, record { local = local; incarnation = boot; size = size }) in record {
       after = Lives g.after;
       packets = g.packets;
       stands = (g.key, g.stands);

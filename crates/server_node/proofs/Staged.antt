@@ -65,6 +65,7 @@ module _ {S : Type 0} (service : Machine S) (who : Identity) where
         stands = (next, g.later, refl, record { number = g.stands.number; slots = stand_again standing after now.slots.entries g.later g.stands.slots });
         turn = record {
           server = refl;
+          profile = refl;
           boot = refl;
           isn = refl;
           live = ap is_fenced is;
@@ -86,6 +87,7 @@ module _ {S : Type 0} (service : Machine S) (who : Identity) where
     stands = refl;
     turn = record {
       server = refl;
+      profile = refl;
       boot = refl;
       isn = refl;
       live = ap is_fenced is;
@@ -109,6 +111,7 @@ module _ {S : Type 0} (service : Machine S) (who : Identity) where
         stands = (count, fetched, refl, st);
         turn = record {
           server = refl;
+          profile = refl;
           boot = refl;
           isn = refl;
           live = ap is_fenced is;

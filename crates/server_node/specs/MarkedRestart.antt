@@ -46,7 +46,7 @@ pub record SlotRevivesWith {S : Type 0} (by : Marker S) (node : Node) (e : Entry
   pub after : Point
   pub packets : List Packet
   pub stands : SlotStands by.service node e.key now (Lives after)
-  pub turn : Revives by.service node (Lives (point_of by.service e)) (Lives after ∷ []) packets
+  pub turn : Revives by.service node (Lives (point_of by.service node.profile e)) (Lives after ∷ []) packets
   pub changes : Changes e.key (with_new by.service by.writing by.every after (marking_in was e.key)) was marks
   pub settled : IsSettledPoint by (with_new by.service by.writing by.every after (marking_in was e.key)) after
   pub out : AreOut (with_marks (length (filter is_done packets)) (marks_out node.boot after (new_marks by.service by.writing by.every (marking_in was e.key) after)) packets) old new
@@ -56,7 +56,7 @@ pub record AreRestoredMarked {S : Type 0} (by : Marker S) (node : Node) (marking
   pub places : List Place
   pub sent : List Outgoing
   pub stands : ServingStands by.service node (restored_count fetched) places now
-  pub go : AllGoMarked (GoesMarked (Revives by.service node) (marks_at by node.boot false marking)) (all_restored by.service fetched) places sent
+  pub go : AllGoMarked (GoesMarked (Revives by.service node) (marks_at by node.boot false marking)) (all_restored by.service node.profile fetched) places sent
   pub numbers : AreNumbered by.service node.isn fetched now.slots.entries
   pub others : (key : Key) → is_fetched key fetched ≡ false → lookup (key_eq key) now.slots.entries ≡ None
   pub keeps : Keeps by (markings_then by places marking) marks

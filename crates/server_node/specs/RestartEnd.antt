@@ -36,7 +36,7 @@ pub record AreRestored {S : Type 0} (service : Machine S) (node : Node) (fetched
   pub places : List Place
   pub packets : List Packet
   pub stands : ServingStands service node (restored_count fetched) places now
-  pub go : AllGo (Revives service node) (all_restored service fetched) places packets
+  pub go : AllGo (Revives service node) (all_restored service node.profile fetched) places packets
   pub numbers : AreNumbered service node.isn fetched now.slots.entries
   pub others : (key : Key) → is_fetched key fetched ≡ false → lookup (key_eq key) now.slots.entries ≡ None
   pub wires : new ≡ old ++ map wire_of packets

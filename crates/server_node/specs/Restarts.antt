@@ -31,7 +31,7 @@ pub record KeyRevives {S : Type 0} (service : Machine S) (node : Node) (f : Fetc
   pub after : Place
   pub packets : List Packet
   pub stands : StandsFor service node f.head.key now (Some after)
-  pub turn : Revives service node (restored service f) (after ∷ []) packets
+  pub turn : Revives service node (restored service node.profile f) (after ∷ []) packets
   pub wires : of_key f.head.key sent ≡ map wire_of packets
   pub spelled : AllByRecursion HasWire packets
 

@@ -25,6 +25,7 @@ pub struct Node<S: Service> {
 impl<S: Saved> Node<S> {
     ghost use Rattle.std.specs.Prelude.{◌≡◌, ◌≤◌, ℕ, map, IfOk, IfErr, IsErrOf, IfSome, OnOk, option_copied};
     ghost use Rattle.std.specs.Borrow.{sem};
+    ghost use Rattle.seq_arith.specs.Profile.{plain};
     ghost use Rattle.ft_model.specs.Node.{Stage as Standing, booted};
     ghost use Rattle.ft_model.specs.Lawful.{hello};
     ghost use Rattle.ft_model.specs.Wire.{wire_of};
@@ -50,8 +51,8 @@ impl<S: Saved> Node<S> {
         local: Addr,
     ) -> Result<Node<S>, NoMemory>
         requires { 1 ≤ boot }
-        ensures stands { IfOk result (λ n. StageStands (machine (S.started kind) S.after) (booted local boot isn) n.stage) }
-        ensures hello { IfOk result (λ n. n.turn.sent.items ≡ map wire_of (hello (booted local boot isn))) }
+        ensures stands { IfOk result (λ n. StageStands (machine (S.started kind) S.after) (booted local plain boot isn) n.stage) }
+        ensures hello { IfOk result (λ n. n.turn.sent.items ≡ map wire_of (hello (booted local plain boot isn))) }
         ensures same { IfOk result (λ n. n.who ≡ record { boot = boot; isn = isn; kind = kind; local = local }) }
     {
         Node::boot_marked(alloc, boot, isn, kind, local, 0)
@@ -69,9 +70,9 @@ impl<S: Saved> Node<S> {
         every: u32,
     ) -> Result<Node<S>, NoMemory>
         requires { 1 ≤ boot }
-        ensures plain { IfOk result (λ n. every ≡ 0 → StageStands (machine (S.started kind) S.after) (booted local boot isn) n.stage) }
-        ensures marked { IfOk result (λ n. 1 ≤ every → MarkedNodeStands (marker_of S.Service (saving S.form S.state_of S.is_savable) n.who every) (booted_to_mark local boot isn) n) }
-        ensures hello { IfOk result (λ n. n.turn.sent.items ≡ map wire_of (hello (booted local boot isn))) }
+        ensures plain { IfOk result (λ n. every ≡ 0 → StageStands (machine (S.started kind) S.after) (booted local plain boot isn) n.stage) }
+        ensures marked { IfOk result (λ n. 1 ≤ every → MarkedNodeStands (marker_of S.Service (saving S.form S.state_of S.is_savable) n.who every) (booted_to_mark local plain boot isn) n) }
+        ensures hello { IfOk result (λ n. n.turn.sent.items ≡ map wire_of (hello (booted local plain boot isn))) }
         ensures same { IfOk result (λ n. n.who ≡ record { boot = boot; isn = isn; kind = kind; local = local }) }
     {
         let who = Identity {

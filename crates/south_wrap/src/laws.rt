@@ -2,7 +2,7 @@
 
 ghost use Rattle.std.specs.Prelude.{◌≡◌, ◌≤◌, ◌+◌, ℕ, max, length};
 ghost use Rattle.seq_arith.specs.Packet.{Segment};
-ghost use Rattle.ft_model.specs.Point.{Point, acknowledgement};
+ghost use Rattle.ft_model.specs.Point.{Point, acknowledgement, window as window_by_law};
 ghost use Rattle.ft_model.specs.Copy.{copy_start, copied_text, copies_fin};
 ghost use Rattle.ft_model.specs.Taken.{acknowledges_unsent};
 ghost use Rattle.ft_model.specs.Segments as model;
@@ -13,7 +13,7 @@ ghost use Rattle.south_wrap.specs.SouthPoint.{south_at};
 /// It acknowledges and advertises what the laws Acknowledgement and Window say.
 pub fn it_tells_what_the_laws_say()
     ensures acknowledgement { (delta : ℕ) (p : Point) → acknowledged (south_at delta p) ≡ acknowledgement p }
-    ensures window { (delta : ℕ) (p : Point) → window (south_at delta p) ≡ model.window p }
+    ensures window { (delta : ℕ) (p : Point) → window (south_at delta p) ≡ window_by_law p }
 {}
 
 /// It copies what the law Copy says.

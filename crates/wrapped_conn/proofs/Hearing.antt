@@ -6,11 +6,12 @@ use Rattle.seq_arith.specs.Message.{Kept}
 use Rattle.seq_arith.specs.Message.Body.{DoneMsg}
 use Rattle.seq_arith.specs.Offset.{one_if}
 use Rattle.server_trait.specs.Service.{Machine}
+use Rattle.ft_model.proofs.PlainTurns.{due_is_pending}
 use Rattle.ft_model.specs.Answered.{answered_after}
 use Rattle.ft_model.specs.ResetAndEnd.{reset_after, dones as dones_by_law}
 use Rattle.ft_model.specs.News.{News}
 use Rattle.ft_model.specs.News.News.{Logged, Begins}
-use Rattle.ft_model.specs.PendingAck.{is_ack_pending as is_ack_pending_by_law}
+use Rattle.ft_model.specs.PendingAck.{is_ack_due}
 use Rattle.ft_model.specs.Point.{Point, taken_units, advertised_edge}
 use Rattle.ft_model.specs.Sending.{acknowledged_after}
 use Rattle.ft_model.specs.Taken.{taken_after, fin_after}
@@ -21,10 +22,11 @@ use Rattle.tcp_endpoint.specs.Output.{leaving, flushed, packets}
 use Rattle.tcp_endpoint.specs.States.{is_closed}
 use Rattle.tcp_endpoint.specs.Tcb.{Tcb}
 use Rattle.endpoint_laws.proofs.EndingLaw.{flushed_name}
+use Rattle.connection_laws.specs.Traffic.{needs_ack_besides}
 use Rattle.connection_laws.specs.Parts.{PartsTurn, adds, north_after_news as heard_north}
 use Rattle.connection_laws.specs.PointNumbers.{PartsTell}
 use Rattle.connection_laws.proofs.PointNumbers.{parts_tell}
-use Rattle.connection_laws.proofs.Together.{turns_together}
+use Rattle.connection_laws.proofs.Together.{turns_together, profile_of}
 use Rattle.wrapped_conn.specs.ConnState.{ConnState}
 use Rattle.connection_laws.specs.OutputFeed.{tcp_reader, tcp_writer}
 use Rattle.wrapped_conn.specs.Numbers.{una_units}
@@ -52,15 +54,16 @@ raises answered units = grind arith
 abbrev told : {S : Type 0} → Kept → ConnState S → ConnState S
 told kept c = with_logged kept.length kept.fin kept.reads c
 
-ack_pending_is : {S : Type 0} (service : Machine S) (p q : Point) (t : Tcb) (c new : ConnState S) (kept : Kept) → NumbersAt service p c → NumbersAt service q new
+ack_pending_is : {S : Type 0} (service : Machine S) (p q : Point) (t : Tcb) (c new : ConnState S) (kept : Kept) → p.delays ≡ false → NumbersAt service p c → NumbersAt service q new
     → new.endpoint.name ≡ t.name → c.south.answered ≡ p.answered → q.answered ≡ max p.answered (kept.length + one_if kept.fin) → (is_closed t.name ≡ true → (p.syn_acked ≡ true) × (taken_units q ≡ taken_units p))
     → is_ack_pending (before_other (is_news kept.length kept.fin c) (told kept c)) new ≡ adds service (Logged kept) p q t
-unfolding is_ack_pending_by_law answered_on
-ack_pending_is service p q t c new kept n m name answered after closed =
+unfolding is_ack_due answered_on
+ack_pending_is service p q t c new kept off n m name answered after closed =
     let more : is_news kept.length kept.fin c ≡ nat_lt p.answered q.answered =
     (λ j. nat_lt (answered j) (kept.length + one_if kept.fin)) ∙ raises p.answered (kept.length + one_if kept.fin) ∙ (λ j. nat_lt p.answered (sym after j)) in
     (λ j. more j || (is_closed (name j) && (false || not (n.edge j == m.edge j))))
     ∙ ack_pending_more (nat_lt p.answered q.answered) (is_closed t.name) (not (taken_units p == taken_units q)) (not (advertised_edge p == advertised_edge q)) (λ h. off_differs (taken_units p) (taken_units q) (sym (closed h).1))
+    ∙ ap (λ b. needs_ack_besides service (Logged kept) p q || (is_closed t.name && b)) (sym (due_is_pending service (Logged kept) p q off))
 
 has_heard : {S : Type 0} (service : Machine S) (p : Point) (c : ConnState S) (kept : Kept) → Keeps p c → c.endpoint.local ≡ c.local → p.reset ≡ false → HasNews (Logged kept) p (told kept c)
 unfolding answered_after taken_after fin_after acknowledged_after
@@ -95,7 +98,7 @@ live_turn service p c new kept out messages sound sound_new keeps live unreset k
     subst (λ a. PartsTurn service a c.boot live.u live.i c.south.delta news p (lengths_of reads) new.north t) live.local turn in
     let q : Point = here.after in
     let ack_pending : PartsTell service c.south.delta q new.north (flushed t) → is_ack_pending (before_other (is_news kept.length kept.fin c) there) (turn_ended (served new.north reads there)) ≡ adds service news p q t = λ after.
-    ack_pending_is service p q t c (turn_ended (served new.north reads there)) kept (numbers_at service c.south.delta p c tell keeps.fetched stand.north.read)
+    ack_pending_is service p q t c (turn_ended (served new.north reads there)) kept (profile_of service live.u live.i c.south.delta live.given p c.north c.endpoint stand).delays (numbers_at service c.south.delta p c tell keeps.fetched stand.north.read)
     (numbers_at service c.south.delta q (turn_ended (served new.north reads there)) after (keeps.fetched ∙ sym here.goes.same.fetched) here.rest.stand.north.read) (flushed_name t)
     (ap (λ (s : SouthState). s.answered) keeps.south) here.goes.answered here.closed in
     let goes_out = subst (λ (n : ConnState _). out ≡ packets (leaves (before_other (is_news kept.length kept.fin c) there) false n (leaving t))) k.state k.goes_out in

@@ -3,6 +3,7 @@ use Rattle.std.proofs.Common.{◌≡◌, ℕ, ◌<◌, ◌≤◌, ◌+◌, ◌-�
 use Rattle.std.specs.Prelude.{nat_lt, pos, negsuc, if◌then◌else◌}
 use Rattle.ft_io.specs.declared.Addr.{Addr}
 use Rattle.ft_io.specs.declared.Key.{Key}
+use Rattle.seq_arith.specs.Profile.{plain}
 use Rattle.seq_arith.specs.Message.{Numbers}
 use Rattle.seq_arith.specs.Number.{number_at, distance, offset_of}
 use Rattle.seq_arith.specs.Offset.{one_if}
@@ -43,7 +44,7 @@ use Rattle.wrapped_conn.proofs.Hearing.{begins_with}
 use Rattle.wrapped_conn.proofs.Begun.{nothing_fetched}
 
 -- a fresh service stands at the opened point
-fresh_replayed : {S : Type 0} (service : Machine S) (numbers : Numbers) → HasReplayed service (point_opened numbers) 0 (fresh_north service.fresh)
+fresh_replayed : {S : Type 0} (service : Machine S) (numbers : Numbers) → HasReplayed service (point_opened plain numbers) 0 (fresh_north service.fresh)
 unfolding reference
 fresh_replayed service numbers = record {
   run = record { service = refl; closed = refl; made = refl; pending = refl; within = omega arith };
@@ -100,7 +101,7 @@ new_una boot local numbers service fits =
     (λ j. min (from_start (offset_of numbers.sisn ((unacked numbers.key local numbers.cisn numbers.sisn numbers.mss j + 0) % 2 ^ 32))) (2 ^ 24 + 1))
     ∙ (λ j. min (none_before numbers.sisn fits j) (2 ^ 24 + 1))
 
-new_keeps : {S : Type 0} (boot : ℕ) (local : Addr) (numbers : Numbers) (service : S) → Keeps (point_opened numbers) (new_conn boot local numbers service)
+new_keeps : {S : Type 0} (boot : ℕ) (local : Addr) (numbers : Numbers) (service : S) → Keeps (point_opened plain numbers) (new_conn boot local numbers service)
 new_keeps boot local numbers service = record {
   key = refl;
   south = refl;
@@ -117,11 +118,11 @@ listening_local local iss limit = refl
 
 pub new_starts : {S : Type 0} (service : Machine S) (boot : ℕ) (local : Addr) (numbers : Numbers) (new : ConnState S) (out messages : List (List ℕ)) → MayOpen numbers → IsSound new
     → Starts service.after (first_conn boot numbers.key local numbers.cisn numbers.sisn numbers.mss service.fresh) new out messages
-    → Leads service local boot Begins (point_opened numbers) new out messages
+    → Leads service local boot Begins (point_opened plain numbers) new out messages
 unfolding first_conn
 new_starts service boot local numbers new out messages may sound k =
     let c : ConnState _ = new_conn boot local numbers service.fresh in
-    let p : Point = point_opened numbers in
+    let p : Point = point_opened plain numbers in
     let reads : List ReadRecord = new_reads c new in
     let t : Tcb = tcp_used c reads in
     let una : una_units c ≡ 0 = new_una boot local numbers service.fresh may.sisn in
@@ -152,10 +153,10 @@ few_units length true h = omega (arith, h)
 few_units length false h = omega (arith, h)
 
 pub joins_at_entry : {S : Type 0} (service : Machine S) (boot : ℕ) (local : Addr) (e : Entry) (i : ℕ) (n : NorthState S) → GoesOnFrom service e i
-    → HasReplayed service (point_of service e) (resumed_at service e) n
-    → StandsBefore service (joined_conn boot e.key local (south_at (delta_from service e i) (point_of service e)) (spliced e.key local e.cisn (length e.bytes) e.mss i e.fin) n) (point_of service e)
+    → HasReplayed service (point_of service plain e) (resumed_at service e) n
+    → StandsBefore service (joined_conn boot e.key local (south_at (delta_from service e i) (point_of service plain e)) (spliced e.key local e.cisn (length e.bytes) e.mss i e.fin) n) (point_of service plain e)
 joins_at_entry service boot local e i n goes replayed =
-    let p : Point = point_of service e in
+    let p : Point = point_of service plain e in
     let t : Tcb = spliced e.key local e.cisn (length e.bytes) e.mss i e.fin in
     let u : ℕ = resumed_at service e in
     let parts : PartsStand service u i (delta_from service e i) u p n t = splices_parts service local e i n goes replayed in

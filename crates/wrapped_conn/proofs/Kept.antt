@@ -2,6 +2,7 @@
 use Rattle.std.proofs.Common.{◌≡◌, ℕ, ◌<◌, ◌≤◌, ◌+◌, ◌-◌, ◌^◌, Bool, true, false, List, ◌++◌, length, length-append, drop, max, refl, sym, subst, arith, ◌∙◌}
 use Rattle.std.specs.Prelude.{ℤ, nat_abs, if◌then◌else◌}
 use Rattle.std.proofs.lemmas.Bool.{false≢true}
+use Rattle.seq_arith.proofs.Unmeasured.{duplicate_recovers}
 use Rattle.seq_arith.specs.Number.{offset_of}
 use Rattle.seq_arith.specs.Arrival.{is_new_ack}
 use Rattle.seq_arith.specs.Coming.{Came, StandsBehind}
@@ -125,6 +126,11 @@ used_open : (new : Bool) (mss units : ℕ) (c : Congestion) → IsOpen mss c →
 used_open true mss units c o = new_data_open mss units c o
 used_open false mss units c o = o
 
+used_recovers : (new : Bool) (mss units : ℕ) (c : Congestion) → c.recovers ≡ false → (if new then with_new_data mss units c else c).recovers ≡ false
+unfolding with_new_data
+used_recovers true mss units c o = o
+used_recovers false mss units c o = o
+
 pub later_bounds : (r : Receiving) (s : Sending) (seq window : ℕ) (z : ℤ) → Bounds r s → IsNearFirst (offset_of r.irs seq) → seq < 2 ^ 32 → window ≤ 65535 → s.syn_acked ≡ true
     → Bounds r (acknowledged s seq z window)
 unfolding acknowledged
@@ -150,6 +156,7 @@ later_bounds r s seq window z b near fits small is_syn_acked =
       edge = choice_within (nat_abs z + window) s.edge (2 ^ 24 + 2 ^ 16 + 1) (moves_edge s seq z) (λ h. grind (arith, moved h, b.sent)) b.edge;
       reach = choice_within (nat_abs z + window) s.edge (una + 65535) (moves_edge s seq z) (λ h. omega (arith, (moved h).0, small)) (omega (arith, b.reach, not_less s.una s.sent z));
       congestion = used_open (is_new_ack s.una s.sent z) s.mss (nat_abs z - s.una) s.congestion b.congestion;
+      recovers = used_recovers (is_new_ack s.una s.sent z) s.mss (nat_abs z - s.una) s.congestion b.recovers;
     }
 
 -- and so does a duplicate
@@ -170,6 +177,7 @@ duplicated_bounds r s b = record {
   edge = b.edge;
   reach = b.reach;
   congestion = duplicate_open s.mss (in_flight s) s.congestion b.congestion;
+  recovers = duplicate_recovers s.mss (in_flight s) s.congestion ∙ b.recovers;
 }
 
 -- what is held, where no FIN is sent
@@ -205,4 +213,5 @@ first_bounds r s seq window b near fits small syn_unacked =
       edge = omega (arith, small);
       reach = omega (arith, small);
       congestion = b.congestion;
+      recovers = b.recovers;
     }

@@ -7,12 +7,13 @@ use Rattle.seq_arith.specs.Offset.{first_of}
 use Rattle.seq_arith.specs.Packet.{Segment, has_rst}
 use Rattle.seq_arith.specs.Message.Body.{DoneMsg}
 use Rattle.server_trait.specs.Service.{Machine}
+use Rattle.ft_model.proofs.PlainTurns.{due_is_pending}
 use Rattle.ft_model.specs.Answered.{answered_after}
 use Rattle.ft_model.specs.Copy.{copies as copies_by_law}
 use Rattle.ft_model.specs.ResetAndEnd.{reset_after, dones as dones_by_law}
 use Rattle.ft_model.specs.News.{News}
 use Rattle.ft_model.specs.News.News.{Comes, Begins}
-use Rattle.ft_model.specs.PendingAck.{is_ack_pending as is_ack_pending_by_law, needs_ack as needs_ack_by_law}
+use Rattle.ft_model.specs.PendingAck.{is_ack_due, needs_ack as needs_ack_by_law}
 use Rattle.ft_model.specs.Point.{Point, taken_units, advertised_edge, is_over}
 use Rattle.ft_model.specs.Sending.{acknowledged_after}
 use Rattle.north_wrap.specs.declared.read_record.ReadRecord.{ReadRecord}
@@ -25,12 +26,12 @@ use Rattle.tcp_endpoint.specs.Output.{leaving, flushed, packets}
 use Rattle.tcp_endpoint.specs.States.{is_closed}
 use Rattle.tcp_endpoint.specs.Tcb.{Tcb}
 use Rattle.endpoint_laws.specs.Turn as endpoint
-use Rattle.connection_laws.specs.Traffic.{news_inside}
+use Rattle.connection_laws.specs.Traffic.{news_inside, needs_ack_besides}
 use Rattle.connection_laws.specs.Turn.{NewsFit}
 use Rattle.connection_laws.specs.Parts.{PartsTurn, adds}
 use Rattle.connection_laws.specs.PointNumbers.{PartsTell, NewsTell}
 use Rattle.connection_laws.proofs.PointNumbers.{parts_tell, news_tell}
-use Rattle.connection_laws.proofs.Together.{turns_together}
+use Rattle.connection_laws.proofs.Together.{turns_together, profile_of}
 use Rattle.endpoint_laws.proofs.EndingLaw.{flushed_name}
 use Rattle.wrapped_conn.specs.ConnState.{ConnState}
 use Rattle.connection_laws.specs.OutputFeed.{tcp_reader, tcp_writer}
@@ -105,14 +106,15 @@ pub off_differs : (a b : ℕ) → a ≡ b → not (a == b) ≡ false
 off_differs a b h = grind (arith, h)
 
 -- what the connection adds is what the law adds
-ack_pending_is : {S : Type 0} (service : Machine S) (p q : Point) (t : Tcb) (c new : ConnState S) (segment : Segment) → NumbersAt service p c → NumbersAt service q new
+ack_pending_is : {S : Type 0} (service : Machine S) (p q : Point) (t : Tcb) (c new : ConnState S) (segment : Segment) → p.delays ≡ false → NumbersAt service p c → NumbersAt service q new
     → c.south ≡ south_at c.south.delta p → new.endpoint.name ≡ t.name → q.answered ≡ p.answered → (is_closed t.name ≡ true → (p.syn_acked ≡ true) × (taken_units q ≡ taken_units p))
     → is_ack_pending (before_segment c segment) new ≡ adds service (Comes segment) p q t
-unfolding is_ack_pending_by_law
-ack_pending_is service p q t c new segment n m south name answered closed =
+unfolding is_ack_due
+ack_pending_is service p q t c new segment off n m south name answered closed =
     (λ j. (n.over j && not (has_rst segment)) || (is_closed (name j) && (needs_ack c segment || not (n.edge j == m.edge j))))
     ∙ ack_pending_same (is_over service p && not (has_rst segment)) (needs_ack c segment) (needs_ack_by_law p segment) (not (advertised_edge p == advertised_edge q)) (is_closed t.name) (nat_lt p.answered q.answered)
     (not (taken_units p == taken_units q)) (same_answered p.answered q.answered answered) (λ h. off_differs (taken_units p) (taken_units q) (sym (closed h).1)) (λ h. needs_ack_is service p c segment n south (closed h).0)
+    ∙ ap (λ b. needs_ack_besides service (Comes segment) p q || (is_closed t.name && b)) (sym (due_is_pending service (Comes segment) p q off))
 
 -- a segment that doesn't reset it
 live_turn : {S : Type 0} (service : Machine S) (p : Point) (c new : ConnState S) (segment : Segment) (out messages : List (List ℕ)) → IsSound c → IsSound new → Keeps p c → StandsLive service p c
@@ -161,7 +163,7 @@ live_turn service p c new segment out messages sound sound_new keeps live unrese
       behind = omega arith;
     }) in
     let ack_pending : PartsTell service c.south.delta q new.north (flushed t) → is_ack_pending (before_segment c segment) (turn_ended (served new.north reads there)) ≡ adds service news p q t = λ tell.
-    ack_pending_is service p q t c (turn_ended (served new.north reads there)) segment numbers
+    ack_pending_is service p q t c (turn_ended (served new.north reads there)) segment (profile_of service live.u live.i c.south.delta live.given p c.north c.endpoint stand).delays numbers
     (numbers_at service c.south.delta q (turn_ended (served new.north reads there)) tell (keeps.fetched ∙ sym here.goes.same.fetched) here.rest.stand.north.read) keeps.south (flushed_name t) answered here.closed in
     let goes_out = subst (λ (n : ConnState _). out ≡ packets (leaves (before_segment c segment) (repeats_syn c.south segment) n (leaving t))) k.state k.goes_out in
     let leads : Leads service c.local c.boot news p (turn_ended (served new.north reads there)) out messages =

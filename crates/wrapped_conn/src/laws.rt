@@ -6,6 +6,7 @@ ghost use Rattle.ft_io.specs.declared.Key.{Key};
 ghost use Rattle.seq_arith.specs.Message.{Numbers};
 ghost use Rattle.seq_arith.specs.Packet.{Segment};
 ghost use Rattle.server_trait.specs.Service.{machine};
+ghost use Rattle.seq_arith.specs.Profile.{plain};
 ghost use Rattle.ft_model.specs.Log.{Entry};
 ghost use Rattle.ft_model.specs.News.News.{Comes, Logged, Ticks, Begins};
 ghost use Rattle.ft_model.specs.Opening.{point_opened};
@@ -30,10 +31,10 @@ use server_trait::Service;
 /// A connection that a restart joins from three parts, which continue from an entry of the log, is at the point of that entry.
 pub fn joined_connections_stand_at_the_entry<S: Service>()
     ensures { (fresh : S) (boot : ℕ) (local : Addr) (e : Entry) (i : ℕ) (n : NorthState S) → GoesOnFrom (machine fresh S.after) e i
-        → HasReplayed (machine fresh S.after) (point_of (machine fresh S.after) e) (resumed_at (machine fresh S.after) e) n
+        → HasReplayed (machine fresh S.after) (point_of (machine fresh S.after) plain e) (resumed_at (machine fresh S.after) e) n
         → StandsBefore (machine fresh S.after)
-        (joined_conn boot e.key local (south_at (delta_from (machine fresh S.after) e i) (point_of (machine fresh S.after) e))
-        (spliced e.key local e.cisn (length e.bytes) e.mss i e.fin) n) (point_of (machine fresh S.after) e) }
+        (joined_conn boot e.key local (south_at (delta_from (machine fresh S.after) e i) (point_of (machine fresh S.after) plain e))
+        (spliced e.key local e.cisn (length e.bytes) e.mss i e.fin) n) (point_of (machine fresh S.after) plain e) }
 {}
 
 /// The turn in which a connection becomes live is lawful: that of a new one from the point that its client's SYN opens, and that of one at the end of a restart
@@ -42,7 +43,7 @@ pub fn connections_start_as_the_law_says<S: Service>()
     ensures new { (fresh : S) (boot : ℕ) (local : Addr) (numbers : Numbers) (new : ConnState S) (segments messages : List (List ℕ)) → MayOpen numbers
         → IsSound new
         → Starts S.after (first_conn boot numbers.key local numbers.cisn numbers.sisn numbers.mss fresh) new segments messages
-        → Leads (machine fresh S.after) local boot Begins (point_opened numbers) new segments messages }
+        → Leads (machine fresh S.after) local boot Begins (point_opened plain numbers) new segments messages }
     ensures joined { (fresh : S) (p : Point) (old new : ConnState S) (segments messages : List (List ℕ)) → IsSound old → IsSound new
         → StandsBefore (machine fresh S.after) old p
         → Starts S.after old new segments messages → Leads (machine fresh S.after) old.local old.boot Begins p new segments messages }

@@ -1,5 +1,6 @@
 use Rattle.std.proofs.Common.{rules, refl, subst}
 use Rattle.server_trait.specs.Service.{machine}
+use Rattle.seq_arith.specs.Profile.{plain}
 use Rattle.ft_model.specs.News.News.{Begins as Becomes_live}
 use Rattle.ft_model.specs.Opening.{point_opened}
 use Rattle.connection_laws.specs.FirstSyn.{MayOpen}
@@ -19,7 +20,7 @@ returns-clause-turn g c =
     let numbers = numbers_of c.args.key c.args.numbers in
     let may : MayOpen numbers = record { least = c.requires.least; most = c.requires.most; cisn = search rules; sisn = search rules } in
     let started = subst (λ old. Starts g.S.Service.after old c.start.new.self c.start.new.out.segments c.start.new.out.messages) c.in_ok-conn.ensures.state c.in_default.ensures.turn in
-    goes service c.args.who.local c.args.who.boot Becomes_live (point_opened numbers) c.start.new.self c.args.key c.start.new.out.segments c.start.new.out.messages c.args.turn.now.sent.items c.send_all.new.turn.sent.items refl
+    goes service c.args.who.local c.args.who.boot Becomes_live (point_opened plain numbers) c.start.new.self c.args.key c.start.new.out.segments c.start.new.out.messages c.args.turn.now.sent.items c.send_all.new.turn.sent.items refl
     c.in_default-send_all.ensures.sent
     (first_acts service c.args.who.local c.args.who.boot numbers c.start.new.self c.start.new.out.segments c.start.new.out.messages
     (record {

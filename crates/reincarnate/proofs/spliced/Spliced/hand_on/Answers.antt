@@ -1,5 +1,6 @@
 use Rattle.std.proofs.Common.{sym, subst}
 use Rattle.server_trait.specs.Service.{machine}
+use Rattle.seq_arith.specs.Profile.{plain}
 use Rattle.ft_model.specs.Restart.{point_of}
 use Rattle.wrapped_conn.specs.Sound.{IsSound}
 use Rattle.wrapped_conn.specs.Refinement.{StandsBefore}
@@ -12,5 +13,5 @@ returns-clause-sound g c = subst IsSound (sym c.joined.ensures) c.self.invariant
 
 pub returns-clause-law : goal.returns-clause-law
 returns-clause-law g c fresh e i is =
-    subst (λ x. StandsBefore (machine fresh g.S.Service.after) x (point_of (machine fresh g.S.Service.after) e)) (sym c.joined.ensures)
+    subst (λ x. StandsBefore (machine fresh g.S.Service.after) x (point_of (machine fresh g.S.Service.after) plain e)) (sym c.joined.ensures)
     (hands_on (machine fresh g.S.Service.after) e i _ (subst (IsSpliced (machine fresh g.S.Service.after) e i) (sym c.self.view_is) is))
