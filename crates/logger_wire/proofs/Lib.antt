@@ -1,5 +1,5 @@
 pub mod Lens
-pub mod Numbers
+pub mod NumbersRead
 pub mod Placed
 pub mod Sendable
 pub mod Placing

@@ -14,7 +14,7 @@ use Rattle.seq_arith.specs.MarkGrammar.{marking, fields_of, behind_at, has_lengt
 use Rattle.seq_arith.proofs.Passing.{no_difference}
 use Rattle.logger_wire.specs.Places.{number_at}
 use Rattle.logger_wire.proofs.Placed.{numbers_placed}
-use Rattle.logger_wire.proofs.Numbers.{AreBytes, bytes_left}
+use Rattle.logger_wire.proofs.NumbersRead.{AreBytes, bytes_left}
 use Rattle.logger_wire.proofs.Sendable.{read_fit}
 
 -- the numbers of a mark, and the first of them
@@ -33,27 +33,28 @@ said_in kind bytes = body_in kind (numbers_in (fields_of kind) (drop 16 bytes)) 
 abbrev mark_of : (reads length_ made : ℕ) → List ℕ → Mark
 mark_of reads length_ made state = record { reads = reads; length = length_; made = made; state = state }
 
+-- a mark whose numbers are read one by one
+pub mark_read : (bytes : List ℕ) (reads length_ made : ℕ) (state : List ℕ) → reads ≡ number_in 4 (drop 22 bytes) → length_ ≡ number_in 4 (drop 26 bytes)
+    → made ≡ number_in 4 (drop 30 bytes) → state ≡ drop 34 bytes → mark_of reads length_ made state ≡ mark_in (numbers_in marking (drop 16 bytes)) (drop 34 bytes)
+mark_read bytes reads length_ made state reads_is length_is made_is state_is =
+    let there : mark_of reads length_ made state ≡ mark_in (marking_at bytes) (drop 34 bytes) = rw (reads_is, length_is, made_is, state_is) refl in
+    there ∙ ap (λ numbers. mark_in numbers (drop 34 bytes)) (sym (marking_placed bytes))
+
 -- a body that begins as a mark does
-marking_said : (body : Key → Mark → MarkBody) (bytes : List ℕ) (key : Key) (reads length_ made : ℕ) (state : List ℕ)
-    → key.ip ≡ number_in 4 (drop 16 bytes) → key.port ≡ number_in 2 (drop 20 bytes) → reads ≡ number_in 4 (drop 22 bytes) → length_ ≡ number_in 4 (drop 26 bytes)
-    → made ≡ number_in 4 (drop 30 bytes) → state ≡ drop 34 bytes
-    → body key (mark_of reads length_ made state) ≡ body (key_at (numbers_in marking (drop 16 bytes)) 0) (mark_in (numbers_in marking (drop 16 bytes)) (drop 34 bytes))
-marking_said body bytes key reads length_ made state ip port reads_is length_is made_is state_is =
-    let there : body key (mark_of reads length_ made state) ≡ body (key_at (marking_at bytes) 0) (mark_in (marking_at bytes) (drop 34 bytes)) =
-    ap₂ (λ ip port. body (record { ip = ip; port = port }) (mark_of reads length_ made state)) ip port ∙ rw (reads_is, length_is, made_is, state_is) refl in
-    there ∙ ap (λ numbers. body (key_at numbers 0) (mark_in numbers (drop 34 bytes))) (sym (marking_placed bytes))
+marking_said : (body : Key → Mark → MarkBody) (bytes : List ℕ) (key : Key) (mark : Mark) → key.ip ≡ number_in 4 (drop 16 bytes)
+    → key.port ≡ number_in 2 (drop 20 bytes) → mark ≡ mark_in (numbers_in marking (drop 16 bytes)) (drop 34 bytes)
+    → body key mark ≡ body (key_at (numbers_in marking (drop 16 bytes)) 0) (mark_in (numbers_in marking (drop 16 bytes)) (drop 34 bytes))
+marking_said body bytes key mark ip port mark_is =
+    let there : body key mark ≡ body (key_at (marking_at bytes) 0) mark = ap₂ (λ ip port. body (record { ip = ip; port = port }) mark) ip port in
+    there ∙ ap (λ numbers. body (key_at numbers 0) mark) (sym (marking_placed bytes)) ∙ ap (body (key_at (numbers_in marking (drop 16 bytes)) 0)) mark_is
 
-pub mark_said : (kind : MarkKind) (bytes : List ℕ) (key : Key) (reads length_ made : ℕ) (state : List ℕ) → kind ≡ kinds.Mark
-    → key.ip ≡ number_in 4 (drop 16 bytes) → key.port ≡ number_in 2 (drop 20 bytes) → reads ≡ number_in 4 (drop 22 bytes) → length_ ≡ number_in 4 (drop 26 bytes)
-    → made ≡ number_in 4 (drop 30 bytes) → state ≡ drop 34 bytes → bodies.MarkMsg key (mark_of reads length_ made state) ≡ said_in kind bytes
-mark_said kind bytes key reads length_ made state is ip port reads_is length_is made_is state_is =
-    marking_said bodies.MarkMsg bytes key reads length_ made state ip port reads_is length_is made_is state_is ∙ ap (λ k. said_in k bytes) (sym is)
+pub mark_is_said : (kind : MarkKind) (bytes : List ℕ) (key : Key) (mark : Mark) → kind ≡ kinds.Mark → key.ip ≡ number_in 4 (drop 16 bytes)
+    → key.port ≡ number_in 2 (drop 20 bytes) → mark ≡ mark_in (numbers_in marking (drop 16 bytes)) (drop 34 bytes) → bodies.MarkMsg key mark ≡ said_in kind bytes
+mark_is_said kind bytes key mark is ip port mark_is = marking_said bodies.MarkMsg bytes key mark ip port mark_is ∙ ap (λ k. said_in k bytes) (sym is)
 
-pub held_said : (kind : MarkKind) (bytes : List ℕ) (key : Key) (reads length_ made : ℕ) (state : List ℕ) → kind ≡ kinds.Held
-    → key.ip ≡ number_in 4 (drop 16 bytes) → key.port ≡ number_in 2 (drop 20 bytes) → reads ≡ number_in 4 (drop 22 bytes) → length_ ≡ number_in 4 (drop 26 bytes)
-    → made ≡ number_in 4 (drop 30 bytes) → state ≡ drop 34 bytes → bodies.HeldMsg key (mark_of reads length_ made state) ≡ said_in kind bytes
-held_said kind bytes key reads length_ made state is ip port reads_is length_is made_is state_is =
-    marking_said bodies.HeldMsg bytes key reads length_ made state ip port reads_is length_is made_is state_is ∙ ap (λ k. said_in k bytes) (sym is)
+pub held_is_said : (kind : MarkKind) (bytes : List ℕ) (key : Key) (mark : Mark) → kind ≡ kinds.Held → key.ip ≡ number_in 4 (drop 16 bytes)
+    → key.port ≡ number_in 2 (drop 20 bytes) → mark ≡ mark_in (numbers_in marking (drop 16 bytes)) (drop 34 bytes) → bodies.HeldMsg key mark ≡ said_in kind bytes
+held_is_said kind bytes key mark is ip port mark_is = marking_said bodies.HeldMsg bytes key mark ip port mark_is ∙ ap (λ k. said_in k bytes) (sym is)
 
 same_sound : (kind : MarkKind) (boot : ℕ) (bytes : List ℕ)
     → is_sound (kind_of (said_in kind bytes)) boot (length (behind_of (said_in kind bytes))) (numbers_of (said_in kind bytes))

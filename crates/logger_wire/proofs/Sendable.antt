@@ -12,9 +12,8 @@ use Rattle.seq_arith.specs.Message.{Body}
 use Rattle.seq_arith.specs.MessageGrammar.{number_in, fields_of, most_behind, width, behind_at, has_length, is_lens, all_in_range, numbers_in, lens_in, lens_bytes, kind_of, numbers_of, behind_of, lens_of, flag, body_in, message_in, is_sound, is_sound_in, reading_of, AllFit, IsSpellable}
 use Rattle.seq_arith.proofs.MessageSpelling.{bounded}
 use Rattle.logger_wire.specs.declared.Msg.{Msg}
-use Rattle.logger_wire.specs.Places.{IsPlain}
-use Rattle.logger_wire.specs.Value.{IsSendable, message_of, seen}
-use Rattle.logger_wire.proofs.Numbers.{AreBytes, bytes_left, number_small}
+use Rattle.logger_wire.specs.Value.{IsSendable, left_over, message_of, seen}
+use Rattle.logger_wire.proofs.NumbersRead.{AreBytes, bytes_left, number_small}
 use Rattle.logger_wire.proofs.Placed.{tests_passed}
 
 abbrev are_flags : List ℕ → Bool
@@ -216,10 +215,10 @@ read_spellable kind bytes are size sound =
       size = subst (λ k. Sized k (length (behind_of body))) kind_is sized;
     }
 
--- what is read may be sent, if its flags are 0 or 1 and its lengths have two bytes each
+-- what is read may be sent, if its lengths have two bytes each
 pub all_sendable : (kind : Kind) (bytes : List ℕ) (result : Result Msg BadMsg) → AreBytes bytes → seen result ≡ reading_of kind bytes
-    → IfOk result (λ msg. IsPlain msg.body) → IfOk result (λ msg. IsSendable msg)
-all_sendable kind bytes (Err bad) are says plain = tt
-all_sendable kind bytes (Ok msg) are says plain =
+    → IfOk result (λ msg. left_over msg.body ≡ 0) → IfOk result (λ msg. IsSendable msg)
+all_sendable kind bytes (Err bad) are says whole = tt
+all_sendable kind bytes (Ok msg) are says whole =
     let tests = tests_passed kind bytes (message_of msg) says
-    in record { flags = plain.0; lens = plain.1; spellable = subst IsSpellable (sym tests.2) (read_spellable kind bytes are tests.0 tests.1) }
+    in record { lens = whole; spellable = subst IsSpellable (sym tests.2) (read_spellable kind bytes are tests.0 tests.1) }

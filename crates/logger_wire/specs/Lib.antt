@@ -1,6 +1,6 @@
+pub mod Records
 pub mod Value
 pub mod Places
-pub mod Records
 pub mod Spelling
 pub mod MarkSpelling
 pub mod MarkValue

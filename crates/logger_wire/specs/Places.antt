@@ -1,16 +1,17 @@
 -- How the code reads a message: each field at a constant position. The grammar walks over the fields instead. Both are proved to say the same.
-use Rattle.std.specs.Prelude.{ℕ, Bool, not, List, [], ◌∷◌, length, drop, ◌+◌, ◌%◌, ◌==◌, ◌&&◌, ◌||◌, ◌≡◌, true, nat_le, Result, Ok, Err, if◌then◌else◌}
+use Rattle.std.specs.Prelude.{ℕ, Bool, not, List, [], ◌∷◌, length, drop, ◌+◌, ◌%◌, ◌==◌, ◌&&◌, ◌||◌, nat_le, Result, Ok, Err, if◌then◌else◌}
 use Rattle.std.specs.List.{list_all}
 use Rattle.seq_arith.specs.declared.kinds.BadMsg.{BadMsg}
 use Rattle.seq_arith.specs.declared.kinds.BadMsg.TheVariants as bad
 use Rattle.seq_arith.specs.declared.kinds.Kind.{Kind}
+use Rattle.seq_arith.specs.declared.kinds.Kind.TheVariants as kinds
 use Rattle.seq_arith.specs.declared.kinds.Field.{Field}
+use Rattle.seq_arith.specs.declared.kinds.Field.TheVariants as fields
 use Rattle.seq_arith.specs.Bytes.{word_at}
 use Rattle.seq_arith.specs.Checksum.{checksum}
+use Rattle.seq_arith.specs.Message as said
 use Rattle.seq_arith.specs.Message.{Body, Message}
-use Rattle.logger_wire.specs.declared.Body.{Body as Said}
-use Rattle.logger_wire.specs.Value.{flags_of, left_over}
-use Rattle.seq_arith.specs.MessageGrammar.{number_in, width, fields_of, fewest_behind, most_behind, behind_at, is_lens, all_in_range, lens_of, body_in}
+use Rattle.seq_arith.specs.MessageGrammar.{number_in, width, opening, kept, fields_of, fewest_behind, most_behind, behind_at, is_lens, all_in_range, lens_of, opening_in, kept_in, entry_in, part_in, body_in}
 
 -- the number in the `width` bytes at a position
 unfoldable pub number_at : (width at : ℕ) → List ℕ → ℕ
@@ -53,6 +54,28 @@ placed kind bytes =
     if is_lens kind && not (length bytes % 2 == 0) then Err bad.Length
     else with_boot (opened (behind_at kind + fewest_behind kind) (behind_at kind + most_behind kind) bytes) (λ boot. body_at kind boot bytes)
 
--- what the code's messages have beyond those of the grammar: flags are 0 or 1, and lengths have two bytes each, without a byte left over
-abbrev pub IsPlain : Said → Type 0
-IsPlain body = (list_all (λ flag. nat_le flag 1) (flags_of body) ≡ true) × (left_over body ≡ 0)
+-- the records read from bytes
+abbrev pub opening_at : List ℕ → Result said.Numbers BadMsg
+opening_at bytes = let numbers = numbers_at opening 16 bytes in checked (all_in_range 0 0 opening numbers) (opening_in numbers)
+
+abbrev pub kept_at : List ℕ → Result said.Kept BadMsg
+kept_at bytes = let numbers = numbers_at kept 16 bytes in checked (all_in_range 0 0 kept numbers) (kept_in numbers)
+
+-- the fields of an entry after its index
+abbrev pub entry_fields : List Field
+entry_fields = drop 1 (fields_of kinds.Entry)
+
+abbrev pub head_at : List ℕ → Result said.EntryHead BadMsg
+head_at bytes =
+    let numbers = numbers_at entry_fields (16 + width fields.Place) bytes in checked (all_in_range 0 0 entry_fields numbers) (entry_in (0 ∷ numbers))
+
+abbrev pub part_at : List ℕ → Result said.Part BadMsg
+part_at bytes =
+    let numbers = numbers_at (fields_of kinds.Data) 16 bytes
+    in let behind = drop (behind_at kinds.Data) bytes
+    in checked (all_in_range 0 (length behind) (fields_of kinds.Data) numbers) (part_in numbers behind)
+
+-- a result of reading, as a plain record
+abbrev pub read_as : {A B : Type 0} → (A → B) → Result A BadMsg → Result B BadMsg
+read_as said (Ok read) = Ok (said read)
+read_as said (Err bad) = Err bad

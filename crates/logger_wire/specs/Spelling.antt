@@ -1,9 +1,8 @@
 -- A message as it is written, part by part.
-use Rattle.std.specs.Prelude.{ℕ, Bool, true, false, List, ◌++◌, ◌+◌, length, take, drop}
+use Rattle.std.specs.Prelude.{ℕ, List, ◌++◌, ◌+◌, length, take, drop}
 use Rattle.seq_arith.specs.declared.kinds.Kind.{Kind}
 use Rattle.seq_arith.specs.Checksum.{checksum}
 use Rattle.seq_arith.specs.Message.{Body}
-use Rattle.seq_arith.specs.Message.{Body as bodies}
 use Rattle.seq_arith.specs.MessageGrammar.{fields_of, kind_of, numbers_bytes, numbers_of, behind_of, header}
 
 -- bytes with these in place from a position on, and all others unchanged
@@ -24,22 +23,3 @@ sealed kind boot behind = text kind boot behind (checksum (text kind boot behind
 -- what bytes become when a message's header is written before the body that is already in place
 unfoldable pub framed : Kind → (boot len : ℕ) → List ℕ → List ℕ
 framed kind boot len bytes = put 0 (sealed kind boot (drop 16 (take len bytes))) bytes
-
--- the bodies that consist of one of the records
-abbrev pub has_numbers : Body → Bool
-has_numbers (bodies.OpenMsg numbers) = true
-has_numbers (bodies.OpenedMsg numbers) = true
-has_numbers _ = false
-
-abbrev pub has_kept : Body → Bool
-has_kept (bodies.StableMsg kept) = true
-has_kept (bodies.ReadsMsg kept) = true
-has_kept _ = false
-
-abbrev pub has_entry : Body → Bool
-has_entry (bodies.EntryMsg index entry) = true
-has_entry _ = false
-
-abbrev pub has_part : Body → Bool
-has_part (bodies.DataMsg part) = true
-has_part _ = false

@@ -20,7 +20,7 @@ fn answers_with_boot_1(out: &mut [u8])
     put_msg(
         &Msg {
             boot: 2,
-            body: Body::HelloMsg,
+            body: Body::Hello,
         },
         out,
     );
@@ -35,7 +35,7 @@ fn forwards_an_answer(out: &mut [u8]) -> bool
     let len = put_msg(
         &Msg {
             boot: 1,
-            body: Body::SummaryMsg { count: 0 },
+            body: Body::Summary { count: 0 },
         },
         out,
     );

@@ -20,7 +20,7 @@ pub(crate) const LONGEST_SEGMENT: u16 = 1460;
 /// The longest read, in bytes.
 pub(crate) const LONGEST_READ: u16 = 2048;
 
-#[tactic(auto, using(crate::proofs::Numbers::byte_is), unfolding(crate::specs::Places::number_at))]
+#[tactic(auto, using(crate::proofs::NumbersRead::byte_is), unfolding(crate::specs::Places::number_at))]
 pub(crate) fn byte(bytes: &[u8], at: usize) -> u8
     requires { at < length bytes.now }
     ensures { result ≡ number_at 1 at bytes.now }

@@ -6,8 +6,8 @@ ghost use Rattle.std.specs.List.{list_all};
 ghost use Rattle.seq_arith.specs.Bytes.{word_at as word_at_lem};
 ghost use Rattle.seq_arith.specs.Checksum.{checksum};
 ghost use Rattle.seq_arith.specs.MessageGrammar.{kind_numbered, reading_of, reading, lens_in};
-ghost use Rattle.logger_wire.specs.Value.{seen, IsSendable};
-ghost use Rattle.logger_wire.specs.Places.{opened, placed, IsPlain};
+ghost use Rattle.logger_wire.specs.Value.{seen, left_over, IsSendable};
+ghost use Rattle.logger_wire.specs.Places.{opened, placed};
 
 use crate::fields::{
     LONGEST_READ, LONGEST_SEGMENT, behind, count, flag, huge, key, long, newer, offset, place,
@@ -98,7 +98,7 @@ fn kind_of_number(number: u8) -> Option<Kind>
 fn read_kind(kind: Kind, bytes: &[u8]) -> Result<Msg<'_>, BadMsg>
     requires { HEADER ≤ length bytes.now }
     ensures value { seen result ≡ placed kind bytes.now }
-    ensures plain { IfOk result (λ msg. IsPlain msg.body) }
+    ensures whole { IfOk result (λ msg. left_over msg.body ≡ 0) }
 {
     match kind {
         Kind::Hello => read_hello(bytes),
@@ -157,20 +157,20 @@ pub(crate) fn open_within(bytes: &[u8], least: usize, most: usize) -> Result<u64
 fn read_hello(bytes: &[u8]) -> Result<Msg<'_>, BadMsg>
     requires { HEADER ≤ length bytes.now }
     ensures value { seen result ≡ placed Kind.Hello bytes.now }
-    ensures plain { IfOk result (λ msg. IsPlain msg.body) }
+    ensures whole { IfOk result (λ msg. left_over msg.body ≡ 0) }
 {
     let boot = open(bytes, HEADER)?;
-    let body = Body::HelloMsg;
+    let body = Body::Hello;
     Ok(Msg { boot, body })
 }
 
 fn read_summary(bytes: &[u8]) -> Result<Msg<'_>, BadMsg>
     requires { HEADER ≤ length bytes.now }
     ensures value { seen result ≡ placed Kind.Summary bytes.now }
-    ensures plain { IfOk result (λ msg. IsPlain msg.body) }
+    ensures whole { IfOk result (λ msg. left_over msg.body ≡ 0) }
 {
     let boot = open(bytes, AFTER_COUNT)?;
-    let body = Body::SummaryMsg {
+    let body = Body::Summary {
         count: count(bytes, HEADER)?,
     };
     Ok(Msg { boot, body })
@@ -179,10 +179,10 @@ fn read_summary(bytes: &[u8]) -> Result<Msg<'_>, BadMsg>
 fn read_list(bytes: &[u8]) -> Result<Msg<'_>, BadMsg>
     requires { HEADER ≤ length bytes.now }
     ensures value { seen result ≡ placed Kind.List bytes.now }
-    ensures plain { IfOk result (λ msg. IsPlain msg.body) }
+    ensures whole { IfOk result (λ msg. left_over msg.body ≡ 0) }
 {
     let boot = open(bytes, AFTER_COUNT)?;
-    let body = Body::ListMsg {
+    let body = Body::List {
         index: place(bytes, HEADER)?,
     };
     Ok(Msg { boot, body })
@@ -191,22 +191,12 @@ fn read_list(bytes: &[u8]) -> Result<Msg<'_>, BadMsg>
 fn read_entry(bytes: &[u8]) -> Result<Msg<'_>, BadMsg>
     requires { HEADER ≤ length bytes.now }
     ensures value { seen result ≡ placed Kind.Entry bytes.now }
-    ensures plain { IfOk result (λ msg. IsPlain msg.body) }
+    ensures whole { IfOk result (λ msg. left_over msg.body ≡ 0) }
 {
     let boot = open(bytes, EntryHead::END)?;
-    let index = place(bytes, HEADER)?;
-    let entry = EntryHead::read(bytes)?;
-    let body = Body::EntryMsg {
-        index,
-        key: entry.key,
-        cisn: entry.cisn,
-        sisn: entry.sisn,
-        mss: entry.mss,
-        length: entry.length,
-        fin: u8::from(entry.fin),
-        done: u8::from(entry.done),
-        reads: entry.reads,
-        acked: entry.acked,
+    let body = Body::Entry {
+        index: place(bytes, HEADER)?,
+        head: EntryHead::read(bytes)?,
     };
     Ok(Msg { boot, body })
 }
@@ -214,10 +204,10 @@ fn read_entry(bytes: &[u8]) -> Result<Msg<'_>, BadMsg>
 fn read_bytes(bytes: &[u8]) -> Result<Msg<'_>, BadMsg>
     requires { HEADER ≤ length bytes.now }
     ensures value { seen result ≡ placed Kind.Bytes bytes.now }
-    ensures plain { IfOk result (λ msg. IsPlain msg.body) }
+    ensures whole { IfOk result (λ msg. left_over msg.body ≡ 0) }
 {
     let boot = open(bytes, AFTER_START)?;
-    let body = Body::BytesMsg {
+    let body = Body::Bytes {
         key: key(bytes, HEADER),
         offset: offset(bytes, AFTER_KEY, AFTER_START)?,
     };
@@ -227,10 +217,10 @@ fn read_bytes(bytes: &[u8]) -> Result<Msg<'_>, BadMsg>
 fn read_part(bytes: &[u8]) -> Result<Msg<'_>, BadMsg>
     requires { HEADER ≤ length bytes.now }
     ensures value { seen result ≡ placed Kind.Part bytes.now }
-    ensures plain { IfOk result (λ msg. IsPlain msg.body) }
+    ensures whole { IfOk result (λ msg. left_over msg.body ≡ 0) }
 {
     let boot = open_within(bytes, AFTER_START + 1, AFTER_START + MOST_LOGGED)?;
-    let body = Body::PartMsg {
+    let body = Body::Part {
         key: key(bytes, HEADER),
         offset: offset(bytes, AFTER_KEY, AFTER_START)?,
         bytes: behind(bytes, AFTER_START),
@@ -241,10 +231,10 @@ fn read_part(bytes: &[u8]) -> Result<Msg<'_>, BadMsg>
 fn read_cuts(bytes: &[u8]) -> Result<Msg<'_>, BadMsg>
     requires { HEADER ≤ length bytes.now }
     ensures value { seen result ≡ placed Kind.Cuts bytes.now }
-    ensures plain { IfOk result (λ msg. IsPlain msg.body) }
+    ensures whole { IfOk result (λ msg. left_over msg.body ≡ 0) }
 {
     let boot = open(bytes, AFTER_START)?;
-    let body = Body::CutsMsg {
+    let body = Body::Cuts {
         key: key(bytes, HEADER),
         first: units(bytes, AFTER_KEY)?,
     };
@@ -254,7 +244,7 @@ fn read_cuts(bytes: &[u8]) -> Result<Msg<'_>, BadMsg>
 fn read_lens(bytes: &[u8]) -> Result<Msg<'_>, BadMsg>
     requires { HEADER ≤ length bytes.now }
     ensures value { seen result ≡ placed Kind.Lens bytes.now }
-    ensures plain { IfOk result (λ msg. IsPlain msg.body) }
+    ensures whole { IfOk result (λ msg. left_over msg.body ≡ 0) }
 {
     if bytes.len() % 2 != 0 {
         return Err(BadMsg::Length);
@@ -264,7 +254,7 @@ fn read_lens(bytes: &[u8]) -> Result<Msg<'_>, BadMsg>
     if !lens_in_range(lens) {
         return Err(BadMsg::Field);
     }
-    let body = Body::LensMsg {
+    let body = Body::Lens {
         key: key(bytes, HEADER),
         first: units(bytes, AFTER_KEY)?,
         lens,
@@ -275,75 +265,50 @@ fn read_lens(bytes: &[u8]) -> Result<Msg<'_>, BadMsg>
 fn read_open(bytes: &[u8]) -> Result<Msg<'_>, BadMsg>
     requires { HEADER ≤ length bytes.now }
     ensures value { seen result ≡ placed Kind.Open bytes.now }
-    ensures plain { IfOk result (λ msg. IsPlain msg.body) }
+    ensures whole { IfOk result (λ msg. left_over msg.body ≡ 0) }
 {
     let boot = open(bytes, Numbers::END)?;
-    let numbers = Numbers::read(bytes)?;
-    let body = Body::OpenMsg {
-        key: numbers.key,
-        cisn: numbers.cisn,
-        sisn: numbers.sisn,
-        mss: numbers.mss,
-    };
+    let body = Body::Open(Numbers::read(bytes)?);
     Ok(Msg { boot, body })
 }
 
 fn read_opened(bytes: &[u8]) -> Result<Msg<'_>, BadMsg>
     requires { HEADER ≤ length bytes.now }
     ensures value { seen result ≡ placed Kind.Opened bytes.now }
-    ensures plain { IfOk result (λ msg. IsPlain msg.body) }
+    ensures whole { IfOk result (λ msg. left_over msg.body ≡ 0) }
 {
     let boot = open(bytes, Numbers::END)?;
-    let numbers = Numbers::read(bytes)?;
-    let body = Body::OpenedMsg {
-        key: numbers.key,
-        cisn: numbers.cisn,
-        sisn: numbers.sisn,
-        mss: numbers.mss,
-    };
+    let body = Body::Opened(Numbers::read(bytes)?);
     Ok(Msg { boot, body })
 }
 
 fn read_data(bytes: &[u8]) -> Result<Msg<'_>, BadMsg>
     requires { HEADER ≤ length bytes.now }
     ensures value { seen result ≡ placed Kind.Data bytes.now }
-    ensures plain { IfOk result (λ msg. IsPlain msg.body) }
+    ensures whole { IfOk result (λ msg. left_over msg.body ≡ 0) }
 {
     let boot = open_within(bytes, Part::END, Part::END + usize::from(LONGEST_SEGMENT))?;
-    let part = Part::read(bytes)?;
-    let body = Body::DataMsg {
-        key: part.key,
-        offset: part.offset,
-        acked: part.acked,
-        fin: u8::from(part.fin),
-        bytes: part.bytes,
-    };
+    let body = Body::Data(Part::read(bytes)?);
     Ok(Msg { boot, body })
 }
 
 fn read_stable(bytes: &[u8]) -> Result<Msg<'_>, BadMsg>
     requires { HEADER ≤ length bytes.now }
     ensures value { seen result ≡ placed Kind.Stable bytes.now }
-    ensures plain { IfOk result (λ msg. IsPlain msg.body) }
+    ensures whole { IfOk result (λ msg. left_over msg.body ≡ 0) }
 {
     let boot = open(bytes, Kept::END)?;
-    let kept = Kept::read(bytes)?;
-    let body = Body::StableMsg {
-        key: kept.key,
-        length: kept.length,
-        fin: u8::from(kept.fin),
-        reads: kept.reads,
-    };
+    let body = Body::Stable(Kept::read(bytes)?);
     Ok(Msg { boot, body })
 }
 
 fn read_read(bytes: &[u8]) -> Result<Msg<'_>, BadMsg>
     requires { HEADER ≤ length bytes.now }
     ensures value { seen result ≡ placed Kind.Read bytes.now }
-    ensures plain { IfOk result (λ msg. IsPlain msg.body) }
+    ensures whole { IfOk result (λ msg. left_over msg.body ≡ 0) }
 {
     let boot = open(bytes, AFTER_LENGTH)?;
-    let body = Body::ReadMsg {
+    let body = Body::Read {
         key: key(bytes, HEADER),
         index: units(bytes, AFTER_KEY)?,
         length: read_length(bytes, AFTER_START)?,
@@ -354,26 +319,20 @@ fn read_read(bytes: &[u8]) -> Result<Msg<'_>, BadMsg>
 fn read_reads(bytes: &[u8]) -> Result<Msg<'_>, BadMsg>
     requires { HEADER ≤ length bytes.now }
     ensures value { seen result ≡ placed Kind.Reads bytes.now }
-    ensures plain { IfOk result (λ msg. IsPlain msg.body) }
+    ensures whole { IfOk result (λ msg. left_over msg.body ≡ 0) }
 {
     let boot = open(bytes, Kept::END)?;
-    let kept = Kept::read(bytes)?;
-    let body = Body::ReadsMsg {
-        key: kept.key,
-        length: kept.length,
-        fin: u8::from(kept.fin),
-        reads: kept.reads,
-    };
+    let body = Body::Reads(Kept::read(bytes)?);
     Ok(Msg { boot, body })
 }
 
 fn read_done(bytes: &[u8]) -> Result<Msg<'_>, BadMsg>
     requires { HEADER ≤ length bytes.now }
     ensures value { seen result ≡ placed Kind.Done bytes.now }
-    ensures plain { IfOk result (λ msg. IsPlain msg.body) }
+    ensures whole { IfOk result (λ msg. left_over msg.body ≡ 0) }
 {
     let boot = open(bytes, AFTER_KEY)?;
-    let body = Body::DoneMsg {
+    let body = Body::Done {
         key: key(bytes, HEADER),
     };
     Ok(Msg { boot, body })
@@ -382,10 +341,10 @@ fn read_done(bytes: &[u8]) -> Result<Msg<'_>, BadMsg>
 fn read_ended(bytes: &[u8]) -> Result<Msg<'_>, BadMsg>
     requires { HEADER ≤ length bytes.now }
     ensures value { seen result ≡ placed Kind.Ended bytes.now }
-    ensures plain { IfOk result (λ msg. IsPlain msg.body) }
+    ensures whole { IfOk result (λ msg. left_over msg.body ≡ 0) }
 {
     let boot = open(bytes, AFTER_KEY)?;
-    let body = Body::EndedMsg {
+    let body = Body::Ended {
         key: key(bytes, HEADER),
     };
     Ok(Msg { boot, body })
@@ -394,10 +353,10 @@ fn read_ended(bytes: &[u8]) -> Result<Msg<'_>, BadMsg>
 fn read_stale(bytes: &[u8]) -> Result<Msg<'_>, BadMsg>
     requires { HEADER ≤ length bytes.now }
     ensures value { seen result ≡ placed Kind.Stale bytes.now }
-    ensures plain { IfOk result (λ msg. IsPlain msg.body) }
+    ensures whole { IfOk result (λ msg. left_over msg.body ≡ 0) }
 {
     let boot = open(bytes, AFTER_NEWER)?;
-    let body = Body::StaleMsg {
+    let body = Body::Stale {
         newer: newer(bytes, HEADER, boot)?,
     };
     Ok(Msg { boot, body })
@@ -406,10 +365,10 @@ fn read_stale(bytes: &[u8]) -> Result<Msg<'_>, BadMsg>
 fn read_full(bytes: &[u8]) -> Result<Msg<'_>, BadMsg>
     requires { HEADER ≤ length bytes.now }
     ensures value { seen result ≡ placed Kind.Full bytes.now }
-    ensures plain { IfOk result (λ msg. IsPlain msg.body) }
+    ensures whole { IfOk result (λ msg. left_over msg.body ≡ 0) }
 {
     let boot = open(bytes, AFTER_KEY)?;
-    let body = Body::FullMsg {
+    let body = Body::Full {
         key: key(bytes, HEADER),
     };
     Ok(Msg { boot, body })

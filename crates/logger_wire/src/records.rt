@@ -1,58 +1,79 @@
-//! The records that make up messages, as in the message grammar. Flags are Booleans.
+//! The records that make up messages, as in the message grammar.
 
-ghost use Rattle.std.specs.Prelude.{◌≡◌, ◌≤◌, true, length};
+ghost use Rattle.std.specs.Prelude.{◌≡◌, ◌≤◌, length};
 ghost use Rattle.seq_arith.specs.Message.Body.{EntryMsg, OpenMsg, DataMsg, StableMsg};
 ghost use Rattle.seq_arith.specs.MessageGrammar.{fields_of, numbers_of, numbers_bytes, behind_at};
-ghost use Rattle.logger_wire.specs.Value.{body_of as said_body};
-ghost use Rattle.logger_wire.specs.Spelling.{put, body_bytes, has_numbers, has_kept, has_entry, has_part};
-ghost use Rattle.logger_wire.specs.Records.{numbers_said, kept_said, entry_said, part_said, opening_at, kept_at, entry_at, part_at, read_as};
+ghost use Rattle.logger_wire.specs.Spelling.{put, body_bytes};
+ghost use Rattle.logger_wire.specs.Records.{numbers_said, kept_said, head_said, part_said};
+ghost use Rattle.logger_wire.specs.Places.{opening_at, kept_at, head_at, part_at, read_as};
 
-use crate::Body;
 use crate::fields::{behind, flag, key, long, offset, segment_size, stream_length, units};
 use crate::layout::{AFTER_KEY, HEADER, KEY};
 use crate::places::{put_flag, put_key, put_long, put_word};
 use ft_io::Key;
 use seq_arith::{BadMsg, Kind};
 
-/// The numbers of a connection: its key, both initial sequence numbers, and the segment size.
+/// The numbers of a connection.
 #[derive(Clone, Copy)]
-pub(crate) struct Numbers {
+pub struct Numbers {
+    /// The client's address and port.
     pub key: Key,
+    /// The client's initial sequence number.
     pub cisn: u32,
+    /// The server's initial sequence number, as the client knows it.
     pub sisn: u32,
+    /// The segment size, 64 to 1,460 bytes.
     pub mss: u16,
 }
 
 /// How much of a connection is logged.
 #[derive(Clone, Copy)]
-pub(crate) struct Kept {
+pub struct Kept {
+    /// The client's address and port.
     pub key: Key,
+    /// How many of the client's bytes are logged, at most 2^24.
     pub length: u32,
+    /// Whether the client's FIN is logged.
     pub fin: bool,
+    /// How many reads are logged, at most 2^24 + 1.
     pub reads: u32,
 }
 
 /// An entry of the log without its bytes and lengths.
 #[derive(Clone, Copy)]
-pub(crate) struct EntryHead {
+pub struct EntryHead {
+    /// The client's address and port.
     pub key: Key,
+    /// The client's initial sequence number.
     pub cisn: u32,
+    /// The server's initial sequence number, as the client knows it.
     pub sisn: u32,
+    /// The segment size, 64 to 1,460 bytes.
     pub mss: u16,
+    /// How many of the client's bytes are logged, at most 2^24.
     pub length: u32,
+    /// Whether the client's FIN is logged.
     pub fin: bool,
+    /// Whether the connection has ended.
     pub done: bool,
+    /// How many reads are logged, at most 2^24 + 1.
     pub reads: u32,
+    /// How many units of output the client has acknowledged, at most 2^24 + 1.
     pub acked: u32,
 }
 
 /// A part of a client's stream.
 #[derive(Clone, Copy)]
-pub(crate) struct Part<'a> {
+pub struct Part<'a> {
+    /// The client's address and port.
     pub key: Key,
+    /// Where the bytes begin in the stream. They end at 2^24 at most.
     pub offset: u32,
+    /// How many units of output the client has acknowledged, at most 2^24 + 1.
     pub acked: u32,
+    /// Whether the client's FIN follows the bytes.
     pub fin: bool,
+    /// The bytes of text.
     pub bytes: &'a [u8],
 }
 
@@ -77,34 +98,6 @@ impl Numbers {
             sisn: long(bytes, Self::SISN),
             mss: segment_size(bytes, Self::MSS)?,
         })
-    }
-
-    /// Returns the record of such a body.
-    #[tactic(auto, unfolding(crate::specs::Spelling::body_bytes))]
-    pub(crate) fn of(body: &Body<'_>) -> Numbers
-        requires { has_numbers (said_body body.now) ≡ true }
-        ensures { body_bytes (said_body body.now) ≡ body_bytes (OpenMsg (numbers_said result)) }
-    {
-        match *body {
-            Body::OpenMsg {
-                key,
-                cisn,
-                sisn,
-                mss,
-            }
-            | Body::OpenedMsg {
-                key,
-                cisn,
-                sisn,
-                mss,
-            } => Numbers {
-                key,
-                cisn,
-                sisn,
-                mss,
-            },
-            _ => unreachable!(),
-        }
     }
 
     /// Writes the record after a header.
@@ -140,34 +133,6 @@ impl Kept {
             fin: flag(bytes, Self::FIN)?,
             reads: units(bytes, Self::READS)?,
         })
-    }
-
-    /// Returns the record of such a body.
-    #[tactic(auto, unfolding(crate::specs::Spelling::body_bytes))]
-    pub(crate) fn of(body: &Body<'_>) -> Kept
-        requires { has_kept (said_body body.now) ≡ true }
-        ensures { body_bytes (said_body body.now) ≡ body_bytes (StableMsg (kept_said result)) }
-    {
-        match *body {
-            Body::StableMsg {
-                key,
-                length,
-                fin,
-                reads,
-            }
-            | Body::ReadsMsg {
-                key,
-                length,
-                fin,
-                reads,
-            } => Kept {
-                key,
-                length,
-                fin: fin == 1,
-                reads,
-            },
-            _ => unreachable!(),
-        }
     }
 
     /// Writes the record after a header.
@@ -207,7 +172,7 @@ impl EntryHead {
     /// Reads the record of an Entry, which follows its index.
     pub(crate) fn read(bytes: &[u8]) -> Result<EntryHead, BadMsg>
         requires { behind_at Kind.Entry ≤ length bytes.now }
-        ensures { read_as entry_said result ≡ entry_at bytes.now }
+        ensures { read_as head_said result ≡ head_at bytes.now }
     {
         Ok(EntryHead {
             key: key(bytes, Self::KEY),
@@ -222,45 +187,10 @@ impl EntryHead {
         })
     }
 
-    /// Returns the index and the record of such a body.
-    pub(crate) fn of(body: &Body<'_>) -> (u16, EntryHead)
-        requires { has_entry (said_body body.now) ≡ true }
-        ensures { said_body body.now ≡ EntryMsg result.0 (entry_said result.1) }
-    {
-        match *body {
-            Body::EntryMsg {
-                index,
-                key,
-                cisn,
-                sisn,
-                mss,
-                length,
-                fin,
-                done,
-                reads,
-                acked,
-            } => (
-                index,
-                EntryHead {
-                    key,
-                    cisn,
-                    sisn,
-                    mss,
-                    length,
-                    fin: fin == 1,
-                    done: done == 1,
-                    reads,
-                    acked,
-                },
-            ),
-            _ => unreachable!(),
-        }
-    }
-
     /// Writes the index and the record after a header.
     pub(crate) fn put(&self, index: u16, out: &mut [u8])
         requires { behind_at Kind.Entry ≤ length out.old }
-        ensures { out.new ≡ put 16 (body_bytes (EntryMsg index (entry_said self.now))) out.old }
+        ensures { out.new ≡ put 16 (body_bytes (EntryMsg index (head_said self.now))) out.old }
     {
         put_word(out, HEADER, index);
         put_key(out, Self::KEY, self.key);
@@ -298,29 +228,6 @@ impl<'a> Part<'a> {
             fin: flag(bytes, Self::FIN)?,
             bytes: behind(bytes, Self::END),
         })
-    }
-
-    /// Returns the record of such a body.
-    pub(crate) fn of(body: &Body<'a>) -> Part<'a>
-        requires { has_part (said_body body.now) ≡ true }
-        ensures { said_body body.now ≡ DataMsg (part_said result) }
-    {
-        match *body {
-            Body::DataMsg {
-                key,
-                offset,
-                acked,
-                fin,
-                bytes,
-            } => Part {
-                key,
-                offset,
-                acked,
-                fin: fin == 1,
-                bytes,
-            },
-            _ => unreachable!(),
-        }
     }
 
     /// Writes the fields of the record after a header.

@@ -1,12 +1,13 @@
 //! Writing a message in its one spelling, each field at a constant position. The header is written last: the checksum is computed over the rest, with zero
 //! in its own field.
 
-ghost use Rattle.std.specs.Prelude.{◌≡◌, ◌≤◌, ◌<◌, ◌+◌, ◌%◌, ◌^◌, ◌++◌, length, take, drop, Ok, true};
+ghost use Rattle.std.specs.Prelude.{◌≡◌, ◌≤◌, ◌<◌, ◌+◌, ◌%◌, ◌^◌, ◌++◌, length, take, drop, Ok};
 ghost use Rattle.seq_arith.specs.Checksum.{checksum};
-ghost use Rattle.seq_arith.specs.Message.Body.{HelloMsg, SummaryMsg, PartMsg, ReadMsg, DoneMsg, StaleMsg};
+ghost use Rattle.seq_arith.specs.Message.Body.{HelloMsg, SummaryMsg, EntryMsg, PartMsg, OpenMsg, DataMsg, StableMsg, ReadMsg, DoneMsg, StaleMsg};
 ghost use Rattle.seq_arith.specs.MessageGrammar.{kind_of as kind_lem, kind_number, lens_in, lens_bytes, message_length, behind_at};
 ghost use Rattle.seq_arith.specs.MessageGrammar.{header, spelling, reading};
-ghost use Rattle.logger_wire.specs.Spelling.{put, body_bytes, sealed, framed, has_numbers, has_kept, has_entry, has_part};
+ghost use Rattle.logger_wire.specs.Spelling.{put, body_bytes, sealed, framed};
+ghost use Rattle.logger_wire.specs.Records.{numbers_said, kept_said, head_said, part_said};
 ghost use Rattle.logger_wire.specs.Value.{body_of as said_body, message_of, left_over, IsSendable};
 
 use crate::layout::{
@@ -55,26 +56,26 @@ fn put_kind(m: &Msg<'_>, out: &mut [u8]) -> usize
 {
     let boot = m.boot;
     match m.body {
-        Body::HelloMsg => put_hello(boot, out),
-        Body::SummaryMsg { count } => put_count(Kind::Summary, boot, count, out),
-        Body::ListMsg { index } => put_count(Kind::List, boot, index, out),
-        Body::EntryMsg { .. } => put_entry(m, out),
-        Body::BytesMsg { key, offset } => put_from(Kind::Bytes, boot, key, offset, &[], out),
-        Body::PartMsg { key, offset, bytes } => put_from(Kind::Part, boot, key, offset, bytes, out),
-        Body::CutsMsg { key, first } => put_from(Kind::Cuts, boot, key, first, &[], out),
-        Body::LensMsg { key, first, lens } => {
+        Body::Hello => put_hello(boot, out),
+        Body::Summary { count } => put_count(Kind::Summary, boot, count, out),
+        Body::List { index } => put_count(Kind::List, boot, index, out),
+        Body::Entry { index, head } => put_entry(boot, index, &head, out),
+        Body::Bytes { key, offset } => put_from(Kind::Bytes, boot, key, offset, &[], out),
+        Body::Part { key, offset, bytes } => put_from(Kind::Part, boot, key, offset, bytes, out),
+        Body::Cuts { key, first } => put_from(Kind::Cuts, boot, key, first, &[], out),
+        Body::Lens { key, first, lens } => {
             put_from(Kind::Lens, boot, key, first, two_bytes_each(lens), out)
         }
-        Body::OpenMsg { .. } => put_opening(Kind::Open, m, out),
-        Body::OpenedMsg { .. } => put_opening(Kind::Opened, m, out),
-        Body::DataMsg { .. } => put_data(m, out),
-        Body::StableMsg { .. } => put_kept(Kind::Stable, m, out),
-        Body::ReadMsg { key, index, length } => put_read(boot, key, index, length, out),
-        Body::ReadsMsg { .. } => put_kept(Kind::Reads, m, out),
-        Body::DoneMsg { key } => put_only_key(Kind::Done, boot, key, out),
-        Body::EndedMsg { key } => put_only_key(Kind::Ended, boot, key, out),
-        Body::StaleMsg { newer } => put_stale(boot, newer, out),
-        Body::FullMsg { key } => put_only_key(Kind::Full, boot, key, out),
+        Body::Open(numbers) => put_opening(Kind::Open, boot, &numbers, out),
+        Body::Opened(numbers) => put_opening(Kind::Opened, boot, &numbers, out),
+        Body::Data(part) => put_data(boot, &part, out),
+        Body::Stable(kept) => put_kept(Kind::Stable, boot, &kept, out),
+        Body::Read { key, index, length } => put_read(boot, key, index, length, out),
+        Body::Reads(kept) => put_kept(Kind::Reads, boot, &kept, out),
+        Body::Done { key } => put_only_key(Kind::Done, boot, key, out),
+        Body::Ended { key } => put_only_key(Kind::Ended, boot, key, out),
+        Body::Stale { newer } => put_stale(boot, newer, out),
+        Body::Full { key } => put_only_key(Kind::Full, boot, key, out),
     }
 }
 
@@ -104,15 +105,13 @@ fn put_count(kind: Kind, boot: u64, n: u16, out: &mut [u8]) -> usize
     finish(kind, boot, AFTER_COUNT, out)
 }
 
-fn put_entry(m: &Msg<'_>, out: &mut [u8]) -> usize
-    requires entry { has_entry (said_body m.now.body) ≡ true }
-    requires room { behind_at Kind.Entry ≤ length out.old }
+fn put_entry(boot: u64, index: u16, head: &EntryHead, out: &mut [u8]) -> usize
+    requires { behind_at Kind.Entry ≤ length out.old }
     ensures length { result ≡ behind_at Kind.Entry }
-    ensures bytes { out.new ≡ put 0 (sealed Kind.Entry m.now.boot (body_bytes (said_body m.now.body))) out.old }
+    ensures bytes { out.new ≡ put 0 (sealed Kind.Entry boot (body_bytes (EntryMsg index (head_said head.now)))) out.old }
 {
-    let (index, entry) = EntryHead::of(&m.body);
-    entry.put(index, out);
-    finish(Kind::Entry, m.boot, EntryHead::END, out)
+    head.put(index, out);
+    finish(Kind::Entry, boot, EntryHead::END, out)
 }
 
 /// Writes a message of a kind that has a key, the offset or index at which its bytes or lengths start, and these.
@@ -128,37 +127,33 @@ fn put_from(kind: Kind, boot: u64, key: Key, start: u32, behind: &[u8], out: &mu
 }
 
 /// Writes an Open, or an Opened.
-fn put_opening(kind: Kind, m: &Msg<'_>, out: &mut [u8]) -> usize
-    requires numbers { has_numbers (said_body m.now.body) ≡ true }
-    requires room { behind_at Kind.Open ≤ length out.old }
+fn put_opening(kind: Kind, boot: u64, numbers: &Numbers, out: &mut [u8]) -> usize
+    requires { behind_at Kind.Open ≤ length out.old }
     ensures length { result ≡ behind_at Kind.Open }
-    ensures bytes { out.new ≡ put 0 (sealed kind m.now.boot (body_bytes (said_body m.now.body))) out.old }
+    ensures bytes { out.new ≡ put 0 (sealed kind boot (body_bytes (OpenMsg (numbers_said numbers.now)))) out.old }
 {
-    Numbers::of(&m.body).put(out);
-    finish(kind, m.boot, Numbers::END, out)
+    numbers.put(out);
+    finish(kind, boot, Numbers::END, out)
 }
 
-fn put_data(m: &Msg<'_>, out: &mut [u8]) -> usize
-    requires part { has_part (said_body m.now.body) ≡ true }
-    requires short { message_length (said_body m.now.body) < 2 ^ 16 }
-    requires room { message_length (said_body m.now.body) ≤ length out.old }
-    ensures length { result ≡ message_length (said_body m.now.body) }
-    ensures bytes { out.new ≡ put 0 (sealed Kind.Data m.now.boot (body_bytes (said_body m.now.body))) out.old }
+fn put_data(boot: u64, part: &Part<'_>, out: &mut [u8]) -> usize
+    requires short { message_length (DataMsg (part_said part.now)) < 2 ^ 16 }
+    requires room { message_length (DataMsg (part_said part.now)) ≤ length out.old }
+    ensures length { result ≡ message_length (DataMsg (part_said part.now)) }
+    ensures bytes { out.new ≡ put 0 (sealed Kind.Data boot (body_bytes (DataMsg (part_said part.now)))) out.old }
 {
-    let part = Part::of(&m.body);
     part.put(out);
-    finish_with(Kind::Data, m.boot, Part::END, part.bytes, out)
+    finish_with(Kind::Data, boot, Part::END, part.bytes, out)
 }
 
 /// Writes a Stable, or a Reads.
-fn put_kept(kind: Kind, m: &Msg<'_>, out: &mut [u8]) -> usize
-    requires kept { has_kept (said_body m.now.body) ≡ true }
-    requires room { behind_at Kind.Stable ≤ length out.old }
+fn put_kept(kind: Kind, boot: u64, kept: &Kept, out: &mut [u8]) -> usize
+    requires { behind_at Kind.Stable ≤ length out.old }
     ensures length { result ≡ behind_at Kind.Stable }
-    ensures bytes { out.new ≡ put 0 (sealed kind m.now.boot (body_bytes (said_body m.now.body))) out.old }
+    ensures bytes { out.new ≡ put 0 (sealed kind boot (body_bytes (StableMsg (kept_said kept.now)))) out.old }
 {
-    Kept::of(&m.body).put(out);
-    finish(kind, m.boot, Kept::END, out)
+    kept.put(out);
+    finish(kind, boot, Kept::END, out)
 }
 
 fn put_read(boot: u64, key: Key, index: u32, len: u16, out: &mut [u8]) -> usize

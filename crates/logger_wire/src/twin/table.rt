@@ -1,11 +1,8 @@
 //! The kinds of datagrams between two loggers as the code reads them: their numbers, lengths and ranges.
 
-ghost use Rattle.std.specs.Prelude.{◌≡◌, not};
-ghost use Rattle.seq_arith.specs.Message.{is_answer};
+ghost use Rattle.std.specs.Prelude.{◌≡◌};
 ghost use Rattle.seq_arith.specs.TwinGrammar.{kind_number, kind_numbered, has_length as has_length_lem, is_asking as is_asking_lem, is_sound as is_sound_lem};
-ghost use Rattle.logger_wire.specs.Value.{body_of};
 
-use crate::Body;
 use crate::reading::read_msg;
 use seq_arith::TwinKind;
 
@@ -48,30 +45,13 @@ pub(crate) fn has_length(kind: TwinKind, len: usize) -> bool
     }
 }
 
-/// Whether a server sends such a body to a logger.
-fn asks(body: &Body<'_>) -> bool
-    ensures { result ≡ not (is_answer (body_of body.now)) }
-{
-    match body {
-        Body::HelloMsg
-        | Body::ListMsg { .. }
-        | Body::BytesMsg { .. }
-        | Body::CutsMsg { .. }
-        | Body::OpenMsg { .. }
-        | Body::DataMsg { .. }
-        | Body::ReadMsg { .. }
-        | Body::DoneMsg { .. } => true,
-        _ => false,
-    }
-}
-
 /// Whether bytes are a message that a server may send to a logger.
 #[tactic(auto, unfolding(seq_arith::specs::TwinGrammar::is_asking))]
 pub(crate) fn is_asking(bytes: &[u8]) -> bool
     ensures { result ≡ is_asking_lem bytes.now }
 {
     match read_msg(bytes) {
-        Ok(msg) => asks(&msg.body),
+        Ok(msg) => !msg.body.is_answer(),
         Err(_) => false,
     }
 }

@@ -15,4 +15,4 @@ returns-in-Some-clause-value c =
 pub returns-in-Some-clause-sendable : goal.returns-in-Some-clause-sendable
 returns-in-Some-clause-sendable c =
     all_sendable c.in-Some.kind c.args.bytes.now c.read_kind.result (λ i. omega (arith, c.type_inv.bytes i))
-    (c.read_kind.ensures.value ∙ placed_is c.in-Some.kind c.args.bytes.now) c.read_kind.ensures.plain
+    (c.read_kind.ensures.value ∙ placed_is c.in-Some.kind c.args.bytes.now) c.read_kind.ensures.whole

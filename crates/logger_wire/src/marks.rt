@@ -1,7 +1,7 @@
 //! Marks (checkpoints): the state of a service at a point of a connection, logged in place of the input that led to it. The messages about marks are read and
 //! written here. Their grammar in `seq_arith` defines what a string of bytes says, or with which error it is refused. Nothing here allocates.
 
-pub use mark_msg::{MarkBody, MarkMsg};
+pub use mark_msg::{Mark, MarkBody, MarkMsg};
 pub use reading::read_mark;
 pub use writing::write_mark;
 

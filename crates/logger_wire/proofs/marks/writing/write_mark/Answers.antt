@@ -2,7 +2,7 @@ use Rattle.std.proofs.Common.{◌∙◌, ◌++◌, ap, take, drop, arith}
 use Rattle.seq_arith.specs.MarkGrammar.{reading}
 use Rattle.logger_wire.specs.MarkValue.{message_of}
 use Rattle.logger_wire.proofs.MarkSpelled.{message_fits, spelling_is, read_back}
-use Rattle.logger_wire.proofs.mark.writing.write_mark.Goals as goal
+use Rattle.logger_wire.proofs.marks.writing.write_mark.Goals as goal
 
 pub put_body-requires-clause-short : goal.put_body-requires-clause-short
 put_body-requires-clause-short c = message_fits (message_of c.args.m.now) c.requires.sendable

@@ -4,7 +4,7 @@ use Rattle.seq_arith.specs.Checksum.{checksum}
 use Rattle.seq_arith.specs.MarkGrammar.{has_length}
 use Rattle.logger_wire.specs.MarkValue.{body_of}
 use Rattle.logger_wire.proofs.MarkRead.{is_refused, is_read, is_sendable}
-use Rattle.logger_wire.proofs.mark.reading.read_kind.Goals as goal
+use Rattle.logger_wire.proofs.marks.reading.read_kind.Goals as goal
 
 pub returns-then-not-is_sound-clause-value : goal.returns-then-not-is_sound-clause-value
 returns-then-not-is_sound-clause-value c =

@@ -1,6 +1,6 @@
 use Rattle.std.proofs.Common.{◌+◌, ◌∙◌, length, refl}
 use Rattle.logger_wire.proofs.MarkSpelled.{assembled}
-use Rattle.logger_wire.proofs.mark.writing.put.Goals as goal
+use Rattle.logger_wire.proofs.marks.writing.put.Goals as goal
 
 pub returns-clause-bytes : goal.returns-clause-bytes
 returns-clause-bytes c =

@@ -1,7 +1,7 @@
 use Rattle.std.proofs.Common.{◌∙◌, ◌++◌, false, ap, zero-add}
 use Rattle.seq_arith.specs.Checksum.{word_sum, with_bytes, check_of, nothing_summed}
 use Rattle.seq_arith.proofs.Sums.{pieces_join}
-use Rattle.logger_wire.proofs.mark.writing.checksum_of_parts.Goals as goal
+use Rattle.logger_wire.proofs.marks.writing.checksum_of_parts.Goals as goal
 
 pub returns : goal.returns
 returns c =

@@ -2,7 +2,7 @@ use Rattle.std.proofs.Common.{◌∙◌, [], ◌++◌, ap, take, drop}
 use Rattle.seq_arith.specs.declared.mark.MarkKind.TheVariants as kinds
 use Rattle.logger_wire.specs.MarkSpelling.{sealed}
 use Rattle.logger_wire.proofs.MarkSpelled.{marked_numbers, ask_numbers}
-use Rattle.logger_wire.proofs.mark.writing.put_body.Goals as goal
+use Rattle.logger_wire.proofs.marks.writing.put_body.Goals as goal
 
 pub returns-in-Marked-clause-bytes : goal.returns-in-Marked-clause-bytes
 returns-in-Marked-clause-bytes c =

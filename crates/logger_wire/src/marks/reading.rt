@@ -1,13 +1,13 @@
 //! Reading a message about marks in place: the tests in the order of the grammar, and each field at a constant position.
 
-ghost use Rattle.std.specs.Prelude.{◌≡◌, ◌≤◌, ◌+◌, true, length, drop, IfOk};
+ghost use Rattle.std.specs.Prelude.{◌≡◌, ◌≤◌, ◌+◌, ◌^◌, ◌&&◌, nat_le, true, length, drop, IfOk};
 ghost use Rattle.seq_arith.specs.MessageGrammar.{number_in};
-ghost use Rattle.seq_arith.specs.MarkGrammar.{kind_numbered, has_length as has_length_lem, fields_of, numbers_of, behind_at, behind_of, kind_of, body_in};
+ghost use Rattle.seq_arith.specs.MarkGrammar.{kind_numbered, has_length as has_length_lem, marking, fields_of, numbers_of, behind_at, behind_of, kind_of, mark_in, body_in};
 ghost use Rattle.seq_arith.specs.MarkGrammar.{is_sound as is_sound_lem, reading_of, reading, IsSpellable};
 ghost use Rattle.seq_arith.specs.MessageGrammar.{numbers_in};
-ghost use Rattle.logger_wire.specs.MarkValue.{body_of, message_of, seen};
+ghost use Rattle.logger_wire.specs.MarkValue.{mark_said, body_of, message_of, seen};
 
-use crate::mark::{HEADER, MAGIC, MarkBody, MarkMsg, VERSION};
+use crate::marks::{HEADER, MAGIC, Mark, MarkBody, MarkMsg, VERSION};
 use crate::reading::{checksum_of, word_at};
 use byteorder::{BigEndian, ByteOrder};
 use ft_io::Key;
@@ -96,10 +96,7 @@ fn read_body(kind: MarkKind, bytes: &[u8]) -> MarkBody<'_>
     match kind {
         MarkKind::Mark => MarkBody::Mark {
             key: key(bytes),
-            reads: long(bytes, 22),
-            length: long(bytes, 26),
-            made: long(bytes, 30),
-            state: behind(bytes, 34),
+            mark: mark_after_key(bytes),
         },
         MarkKind::Marked => MarkBody::Marked {
             key: key(bytes),
@@ -108,10 +105,7 @@ fn read_body(kind: MarkKind, bytes: &[u8]) -> MarkBody<'_>
         MarkKind::Ask => MarkBody::Ask { key: key(bytes) },
         MarkKind::Held => MarkBody::Held {
             key: key(bytes),
-            reads: long(bytes, 22),
-            length: long(bytes, 26),
-            made: long(bytes, 30),
-            state: behind(bytes, 34),
+            mark: mark_after_key(bytes),
         },
     }
 }
@@ -122,22 +116,32 @@ fn is_sound(msg: &MarkMsg<'_>) -> bool
     ensures { result ≡ is_sound_lem (kind_of (body_of msg.now.body)) msg.now.boot (length (behind_of (body_of msg.now.body))) (numbers_of (body_of msg.now.body)) }
 {
     let is_body_sound = match msg.body {
-        MarkBody::Mark {
-            reads,
-            length,
-            made,
-            ..
-        } => reads >= 1 && reads <= STREAM + 1 && length <= STREAM && made <= STREAM,
+        MarkBody::Mark { mark, .. } => mark.reads >= 1 && is_in_range(&mark),
         MarkBody::Marked { reads, .. } => reads <= STREAM + 1,
         MarkBody::Ask { .. } => true,
-        MarkBody::Held {
-            reads,
-            length,
-            made,
-            ..
-        } => reads <= STREAM + 1 && length <= STREAM && made <= STREAM,
+        MarkBody::Held { mark, .. } => is_in_range(&mark),
     };
     msg.boot >= 1 && is_body_sound
+}
+
+/// Returns whether the numbers of a mark are in the ranges that those of a Held have.
+fn is_in_range(mark: &Mark<'_>) -> bool
+    ensures { result ≡ (nat_le mark.now.reads (2 ^ 24 + 1) && (nat_le mark.now.length (2 ^ 24) && nat_le mark.now.made (2 ^ 24))) }
+{
+    mark.reads <= STREAM + 1 && mark.length <= STREAM && mark.made <= STREAM
+}
+
+/// Reads the mark that follows the key: its numbers, and then the state.
+fn mark_after_key(bytes: &[u8]) -> Mark<'_>
+    requires { 34 ≤ length bytes.now }
+    ensures { mark_said result ≡ mark_in (numbers_in marking (drop 16 bytes.now)) (drop 34 bytes.now) }
+{
+    Mark {
+        reads: long(bytes, 22),
+        length: long(bytes, 26),
+        made: long(bytes, 30),
+        state: behind(bytes, 34),
+    }
 }
 
 /// Reads the key, which every kind has first: its address, and then its port.

@@ -7,7 +7,7 @@ ghost use Rattle.seq_arith.specs.MarkGrammar.{kind_number, kind_of, marking, beh
 ghost use Rattle.logger_wire.specs.MarkValue.{body_of, message_of};
 ghost use Rattle.logger_wire.specs.MarkSpelling.{header_of, sealed};
 
-use crate::mark::{HEADER, MAGIC, MarkBody, MarkMsg, VERSION};
+use crate::marks::{HEADER, MAGIC, MarkBody, MarkMsg, VERSION};
 use byteorder::{BigEndian, ByteOrder};
 use ft_io::Key;
 use seq_arith::{MarkKind, Sum16};
@@ -36,17 +36,11 @@ fn put_body(boot: u64, body: &MarkBody<'_>, out: &mut [u8]) -> usize
     ensures bytes { out.new ≡ sealed (kind_of (body_of body.now)) boot (behind_header (body_of body.now)) ++ drop result out.old }
 {
     match *body {
-        MarkBody::Mark {
-            key,
-            reads,
-            length,
-            made,
-            state,
-        } => put(
+        MarkBody::Mark { key, mark } => put(
             MarkKind::Mark,
             boot,
-            &numbers(key, reads, length, made),
-            state,
+            &numbers(key, mark.reads, mark.length, mark.made),
+            mark.state,
             out,
         ),
         MarkBody::Marked { key, reads } => put(
@@ -57,17 +51,11 @@ fn put_body(boot: u64, body: &MarkBody<'_>, out: &mut [u8]) -> usize
             out,
         ),
         MarkBody::Ask { key } => put(MarkKind::Ask, boot, &numbers(key, 0, 0, 0)[..6], &[], out),
-        MarkBody::Held {
-            key,
-            reads,
-            length,
-            made,
-            state,
-        } => put(
+        MarkBody::Held { key, mark } => put(
             MarkKind::Held,
             boot,
-            &numbers(key, reads, length, made),
-            state,
+            &numbers(key, mark.reads, mark.length, mark.made),
+            mark.state,
             out,
         ),
     }
