@@ -1,18 +1,9 @@
--- The code's records as plain records of messages, and what a message changes in one entry.
+-- What a message changes in one entry.
 use Rattle.std.specs.Prelude.{true, ◌≤◌, ◌+◌, ◌^◌, length, if◌then◌else◌}
 use Rattle.ft_io.specs.Key.{key_eq}
-use Rattle.seq_arith.specs.Message as said
 use Rattle.seq_arith.specs.Message.{Body}
 use Rattle.seq_arith.specs.Message.Body.{DataMsg, ReadMsg, DoneMsg}
 use Rattle.ft_model.specs.Log.{Entry, with_part, with_read}
-use Rattle.plain_log.specs.declared.entry.Numbers.{Numbers}
-use Rattle.plain_log.specs.declared.entry.Part.{Part}
-
-abbrev pub numbers_in : Numbers → said.Numbers
-numbers_in n = record { key = n.key; cisn = n.cisn; sisn = n.sisn; mss = n.mss }
-
-abbrev pub part_in : Part → said.Part
-part_in p = record { key = p.key; offset = p.offset; acked = p.acked; fin = p.fin; bytes = p.bytes.now }
 
 -- the bytes in a message are within the longest stream
 abbrev pub StaysInStream : Body → Type 0

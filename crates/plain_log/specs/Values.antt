@@ -1,13 +1,8 @@
 -- The code's values as those of the definitions.
 use Rattle.std.specs.Prelude.{◌≡◌, Bool, true, false, Option, Some, None, List, length, if◌then◌else◌}
-use Rattle.seq_arith.specs.Message as said
 use Rattle.ft_model.specs.Restart.{Fetched, Wanted as wanted, lacks_read_bytes, lacks_lengths, lacks_bytes}
-use Rattle.plain_log.specs.declared.fetched.EntryHead.{EntryHead}
 use Rattle.plain_log.specs.declared.wanted.Wanted.{Wanted}
 use Rattle.plain_log.specs.declared.wanted.Wanted.TheVariants.{Entry, Bytes, Lengths}
-
-abbrev pub head_in : EntryHead → said.EntryHead
-head_in h = record { key = h.key; cisn = h.cisn; sisn = h.sisn; mss = h.mss; length = h.length; fin = h.fin; done = h.done; reads = h.reads; acked = h.acked }
 
 abbrev pub wanted_in : Wanted → wanted
 wanted_in (Entry index) = wanted.An_entry index

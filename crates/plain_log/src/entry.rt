@@ -4,11 +4,11 @@ ghost use Rattle.std.specs.Prelude.{◌≡◌, ◌≤◌, ◌+◌, ◌^◌, ◌+
 ghost use Rattle.seq_arith.specs.Message.Body.{EntryMsg, OpenedMsg, StableMsg, ReadsMsg};
 ghost use Rattle.seq_arith.specs.MessageGrammar.{lens_in};
 ghost use Rattle.ft_model.specs.Log.{new_entry, with_bytes, with_its_fin, with_part, with_read, is_next_read, numbers_of_entry, kept_of, head_of, part_of, lens_of};
+ghost use Rattle.logger_wire.specs.Records.{numbers_said, kept_said, part_said};
 ghost use Rattle.logger_wire.specs.Value.{body_of};
-ghost use Rattle.plain_log.specs.Parts.{numbers_in, part_in};
 
 use ft_io::{Key, NoMemory};
-use logger_wire::Body;
+use logger_wire::{Body, EntryHead, Kept, Numbers, Part};
 use std::alloc::Global;
 use std::marker::Model;
 
@@ -17,34 +17,6 @@ const MOST_BYTES: usize = 1_024;
 
 /// The largest number of lengths in one answer.
 const MOST_LENGTHS: usize = 512;
-
-/// The numbers with which a connection is opened.
-#[derive(Clone, Copy)]
-pub(crate) struct Numbers {
-    /// The client's address and port.
-    pub key: Key,
-    /// The client's initial sequence number.
-    pub cisn: u32,
-    /// The server's initial sequence number, as the client knows it.
-    pub sisn: u32,
-    /// The segment size, in bytes.
-    pub mss: u16,
-}
-
-/// A part of a client's stream.
-#[derive(Clone, Copy)]
-pub(crate) struct Part<'a> {
-    /// The client's address and port.
-    pub key: Key,
-    /// Where the bytes begin in the stream.
-    pub offset: u32,
-    /// The units of output that the client has acknowledged.
-    pub acked: u32,
-    /// Whether the client's FIN follows the bytes.
-    pub fin: bool,
-    /// The bytes of text.
-    pub bytes: &'a [u8],
-}
 
 /// The log's entry for one connection. The lengths of its reads are summed as they are logged.
 #[derive(Drop)]
@@ -94,7 +66,7 @@ impl Model for PlainEntry {
 impl PlainEntry {
     /// Creates an entry in which nothing is logged yet. Allocates nothing.
     pub(crate) fn new(alloc: Global, numbers: &Numbers) -> PlainEntry
-        ensures { result ≡ new_entry (numbers_in numbers.now) }
+        ensures { result ≡ new_entry (numbers_said numbers.now) }
     {
         PlainEntry {
             numbers: *numbers,
@@ -168,7 +140,7 @@ impl PlainEntry {
     /// Logs those bytes of a part that aren't logged yet, unless they leave a gap or come after the FIN.
     fn take_bytes(&mut self, part: &Part<'_>) -> Result<(), NoMemory>
         requires { part.now.offset + length part.now.bytes.now ≤ 2 ^ 24 }
-        ensures { OnOk result (self.new ≡ with_bytes (part_in part.now) self.old) }
+        ensures { OnOk result (self.new ≡ with_bytes (part_said part.now) self.old) }
     {
         let logged = self.length();
         if self.fin || part.offset > logged {
@@ -184,7 +156,7 @@ impl PlainEntry {
     /// Logs the FIN of a part that ends where the logged bytes end.
     fn take_fin(&mut self, part: &Part<'_>)
         requires { part.now.offset + length part.now.bytes.now ≤ 2 ^ 24 }
-        ensures { self.new ≡ with_its_fin (part_in part.now) self.old }
+        ensures { self.new ≡ with_its_fin (part_said part.now) self.old }
     {
         let end = part.offset + part.bytes.len() as u32;
         if part.fin && end == self.length() {
@@ -195,7 +167,7 @@ impl PlainEntry {
     /// Logs a part of the client's stream. After `NoMemory` the entry may only be dropped.
     pub(crate) fn take_part(&mut self, part: &Part<'_>) -> Result<(), NoMemory>
         requires { part.now.offset + length part.now.bytes.now ≤ 2 ^ 24 }
-        ensures { OnOk result (self.new ≡ with_part (part_in part.now) self.old) }
+        ensures { OnOk result (self.new ≡ with_part (part_said part.now) self.old) }
     {
         self.take_bytes(part)?;
         self.take_fin(part);
@@ -230,41 +202,36 @@ impl PlainEntry {
     pub(crate) fn head<'a>(&self, index: u16) -> Body<'a>
         ensures { body_of result ≡ EntryMsg index (head_of self.now) }
     {
-        let Numbers {
-            key,
-            cisn,
-            sisn,
-            mss,
-        } = self.numbers;
-        Body::EntryMsg {
-            index,
-            key,
-            cisn,
-            sisn,
-            mss,
+        let head = EntryHead {
+            key: self.numbers.key,
+            cisn: self.numbers.cisn,
+            sisn: self.numbers.sisn,
+            mss: self.numbers.mss,
             length: self.length(),
-            fin: u8::from(self.fin),
-            done: u8::from(self.done),
+            fin: self.fin,
+            done: self.done,
             reads: self.reads(),
             acked: self.acknowledged,
-        }
+        };
+        Body::Entry { index, head }
     }
 
     /// Returns the numbers with which the entry was opened.
     pub(crate) fn opened<'a>(&self) -> Body<'a>
         ensures { body_of result ≡ OpenedMsg (numbers_of_entry self.now) }
     {
-        let Numbers {
-            key,
-            cisn,
-            sisn,
-            mss,
-        } = self.numbers;
-        Body::OpenedMsg {
-            key,
-            cisn,
-            sisn,
-            mss,
+        Body::Opened(self.numbers)
+    }
+
+    /// Returns how much is logged.
+    fn kept(&self) -> Kept
+        ensures { kept_said result ≡ kept_of self.now }
+    {
+        Kept {
+            key: self.key(),
+            length: self.length(),
+            fin: self.fin,
+            reads: self.reads(),
         }
     }
 
@@ -272,24 +239,14 @@ impl PlainEntry {
     pub(crate) fn stable<'a>(&self) -> Body<'a>
         ensures { body_of result ≡ StableMsg (kept_of self.now) }
     {
-        Body::StableMsg {
-            key: self.key(),
-            length: self.length(),
-            fin: u8::from(self.fin),
-            reads: self.reads(),
-        }
+        Body::Stable(self.kept())
     }
 
     /// Returns how much is logged, as the answer to a read.
     pub(crate) fn reads_told<'a>(&self) -> Body<'a>
         ensures { body_of result ≡ ReadsMsg (kept_of self.now) }
     {
-        Body::ReadsMsg {
-            key: self.key(),
-            length: self.length(),
-            fin: u8::from(self.fin),
-            reads: self.reads(),
-        }
+        Body::Reads(self.kept())
     }
 
     /// Returns at most 1,024 of the bytes, from this offset on, or `None` if there are none.
@@ -299,7 +256,7 @@ impl PlainEntry {
         if offset >= self.length() {
             return None;
         }
-        Some(Body::PartMsg {
+        Some(Body::Part {
             key: self.key(),
             offset,
             bytes: front(behind(&self.bytes, offset as usize), MOST_BYTES),
@@ -314,7 +271,7 @@ impl PlainEntry {
         if first >= self.reads() {
             return None;
         }
-        Some(Body::LensMsg {
+        Some(Body::Lens {
             key: self.key(),
             first,
             lens,

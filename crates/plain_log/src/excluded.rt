@@ -32,7 +32,7 @@ fn bytes_of_another_place(
 ) -> Result<bool, NoMemory>
     ensures { IfOk result (λ fits. fits ≡ false) }
 {
-    let body = Body::PartMsg {
+    let body = Body::Part {
         key,
         offset: 1,
         bytes,

@@ -3,37 +3,16 @@
 ghost use Rattle.std.specs.Prelude.{◌≡◌, ◌<◌, ◌≤◌, ◌+◌, ◌++◌, [], ◌∷◌, true, false, OnOk, MatchOption, nat_le, length, sum, option_map};
 ghost use Rattle.std.specs.List.{list_all};
 ghost use Rattle.seq_arith.specs.MessageGrammar.{lens_in};
-ghost use Rattle.plain_log.specs.Values.{head_in, wanted_in, wanted_of};
+ghost use Rattle.logger_wire.specs.Records.{head_said};
+ghost use Rattle.plain_log.specs.Values.{wanted_in, wanted_of};
 ghost use Rattle.plain_log.specs.Following.{follows};
 
 use crate::lengths::split_first;
 use crate::wanted::Wanted;
-use ft_io::{Key, NoMemory};
+use ft_io::NoMemory;
+use logger_wire::EntryHead;
 use std::alloc::Global;
 use std::marker::Model;
-
-/// An entry without its bytes and lengths.
-#[derive(Clone, Copy)]
-pub struct EntryHead {
-    /// The client's address and port.
-    pub key: Key,
-    /// The client's initial sequence number.
-    pub cisn: u32,
-    /// The server's initial sequence number, as the client knows it.
-    pub sisn: u32,
-    /// The segment size, in bytes.
-    pub mss: u16,
-    /// How many of the client's bytes are logged.
-    pub length: u32,
-    /// Whether the client's FIN is logged.
-    pub fin: bool,
-    /// Whether the connection is done.
-    pub done: bool,
-    /// How many reads are logged.
-    pub reads: u32,
-    /// How many units of output the client has acknowledged.
-    pub acked: u32,
-}
 
 /// An entry, as far as it has been fetched. If it is done, only its head is fetched.
 #[derive(Drop)]
@@ -63,11 +42,11 @@ impl Model for PlainFetched {
     ghost use Rattle.std.specs.Prelude.{◌≡◌, ◌==◌, ◌≤◌, true, nat_le, length, sum};
     ghost use Rattle.std.specs.List.{list_any, list_all};
     ghost use Rattle.ft_model.specs.Restart.{Fetched};
-    ghost use Rattle.plain_log.specs.Values.{head_in};
+    ghost use Rattle.logger_wire.specs.Records.{head_said};
 
     ghost Value = { Fetched };
 
-    ghost view = { λ f. record { head = head_in f.head; bytes = f.bytes.items; lengths = f.lengths.items } };
+    ghost view = { λ f. record { head = head_said f.head; bytes = f.bytes.items; lengths = f.lengths.items } };
 
     ghost invariant = { λ f. (f.read ≡ sum f.lengths.items) × (f.closed ≡ list_any (λ k. k == 0) f.lengths.items)
         × (length f.bytes.items ≤ f.head.length) × (length f.lengths.items ≤ f.head.reads) × (f.read ≤ f.head.length)
@@ -80,7 +59,7 @@ impl PlainFetched {
 
     /// Creates an entry of which only the head is fetched. Allocates nothing.
     pub(crate) fn new(alloc: Global, head: EntryHead) -> PlainFetched
-        ensures { result ≡ record { head = head_in head; bytes = []; lengths = [] } }
+        ensures { result ≡ record { head = head_said head; bytes = []; lengths = [] } }
     {
         PlainFetched {
             head,
@@ -93,14 +72,14 @@ impl PlainFetched {
 
     /// Returns its head.
     pub fn head(&self) -> EntryHead
-        ensures { head_in result ≡ self.now.head }
+        ensures { head_said result ≡ self.now.head }
     {
         self.head
     }
 
     /// Returns its parts. The reads end within the entry's length, and none is longer than 2,048 bytes.
     pub fn into_parts(self) -> EntryParts
-        ensures head { head_in result.head ≡ self.head }
+        ensures head { head_said result.head ≡ self.head }
         ensures bytes { result.bytes.items ≡ self.bytes }
         ensures lengths { result.lengths.items ≡ self.lengths }
         ensures within { length self.bytes ≤ self.head.length }

@@ -7,7 +7,7 @@ ghost use Rattle.ft_model.specs.Restart.{is_fetched};
 ghost use Rattle.logger_wire.specs.Value.{body_of};
 ghost use Rattle.plain_log.specs.Values.{wanted_in, IsTakenAs};
 
-use crate::fetched::{EntryHead, PlainFetched};
+use crate::fetched::PlainFetched;
 use crate::wanted::Wanted;
 use ft_io::{Key, NoMemory};
 use logger_wire::Body;
@@ -71,35 +71,12 @@ impl PlainFetching {
     fn take_entry(&mut self, alloc: Global, index: u16, body: &Body<'_>) -> Result<bool, NoMemory>
         ensures { IfOk result (λ fits. IsTakenAs (fetched_by (An_entry index) (body_of body.now) self.old) self.old self.new fits) }
     {
-        let Body::EntryMsg {
-            index: found,
-            key,
-            cisn,
-            sisn,
-            mss,
-            length,
-            fin,
-            done,
-            reads,
-            acked,
-        } = *body
-        else {
+        let Body::Entry { index: found, head } = *body else {
             return Ok(false);
         };
-        if found != index || is_among(self.entries.as_slice(), key) {
+        if found != index || is_among(self.entries.as_slice(), head.key) {
             return Ok(false);
         }
-        let head = EntryHead {
-            key,
-            cisn,
-            sisn,
-            mss,
-            length,
-            fin: fin == 1,
-            done: done == 1,
-            reads,
-            acked,
-        };
         self.entries.insert(0, PlainFetched::new(alloc, head))?;
         Ok(true)
     }
@@ -113,7 +90,7 @@ impl PlainFetching {
     ) -> Result<bool, NoMemory>
         ensures { IfOk result (λ fits. IsTakenAs (fetched_by (Its_bytes key offset) (body_of body.now) self.old) self.old self.new fits) }
     {
-        let Body::PartMsg {
+        let Body::Part {
             key: found,
             offset: at,
             bytes,
@@ -150,7 +127,7 @@ impl PlainFetching {
         requires { list_all (λ len. nat_le len 2048) (lens_of (body_of body.now)) ≡ true }
         ensures { IfOk result (λ fits. IsTakenAs (fetched_by (Its_lengths key first) (body_of body.now) self.old) self.old self.new fits) }
     {
-        let Body::LensMsg {
+        let Body::Lens {
             key: found,
             first: at,
             lens,

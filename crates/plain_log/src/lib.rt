@@ -9,7 +9,7 @@ ghost use Rattle.ft_model.specs.Log.{Log, log_after, answer_to};
 ghost use Rattle.plain_log.specs.Reply.{reply};
 
 pub use entry::PlainEntry;
-pub use fetched::{EntryHead, EntryParts, PlainFetched};
+pub use fetched::{EntryParts, PlainFetched};
 pub use fetching::PlainFetching;
 pub use log::PlainLog;
 pub use wanted::{Wanted, question};

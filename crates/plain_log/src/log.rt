@@ -3,17 +3,17 @@
 ghost use Rattle.std.specs.Prelude.{◌≡◌, ◌≤◌, OnOk, Some, option_map, option_copied, find, map, length, slice_get, ◌||◌, nat_le};
 ghost use Rattle.std.specs.List.{list_any};
 ghost use Rattle.ft_io.specs.Key.{key_eq};
-ghost use Rattle.seq_arith.specs.Message.{is_answer as answer_lem};
 ghost use Rattle.seq_arith.specs.Message.Body.{HelloMsg};
 ghost use Rattle.seq_arith.specs.MessageGrammar.{lens_in};
 ghost use Rattle.ft_model.specs.Log.{Log, empty_log, entry_of, opened, opened_answer, with_body, is_hello as hello_lem, log_after, answer_from, answer_to};
+ghost use Rattle.logger_wire.specs.Records.{numbers_said};
 ghost use Rattle.logger_wire.specs.Value.{body_of, message_of, IsSendable};
-ghost use Rattle.plain_log.specs.Parts.{numbers_in, logged_in, StaysInStream};
+ghost use Rattle.plain_log.specs.Parts.{logged_in, StaysInStream};
 ghost use Rattle.plain_log.specs.Reply.{reply, lengths_asked};
 
-use crate::entry::{Numbers, Part, PlainEntry};
+use crate::entry::PlainEntry;
 use ft_io::{Key, NoMemory};
-use logger_wire::{Body, Msg};
+use logger_wire::{Body, Msg, Numbers};
 use std::alloc::Global;
 use std::marker::Model;
 
@@ -40,31 +40,12 @@ impl Model for PlainLog {
     ghost invariant = { λ l. length l.entries.items ≤ 64 };
 }
 
-/// Returns whether only the logger sends such a body.
-fn is_answer(body: &Body<'_>) -> bool
-    ensures { result ≡ answer_lem (body_of body.now) }
-{
-    match body {
-        Body::SummaryMsg { .. }
-        | Body::EntryMsg { .. }
-        | Body::PartMsg { .. }
-        | Body::LensMsg { .. }
-        | Body::OpenedMsg { .. }
-        | Body::StableMsg { .. }
-        | Body::ReadsMsg { .. }
-        | Body::EndedMsg { .. }
-        | Body::StaleMsg { .. }
-        | Body::FullMsg { .. } => true,
-        _ => false,
-    }
-}
-
 /// Returns whether a body is Hello.
 fn is_hello(body: &Body<'_>) -> bool
     ensures { result ≡ hello_lem (body_of body.now) }
 {
     match body {
-        Body::HelloMsg => true,
+        Body::Hello => true,
         _ => false,
     }
 }
@@ -75,23 +56,11 @@ fn log_in(entry: &mut PlainEntry, body: &Body<'_>) -> Result<(), NoMemory>
     ensures { OnOk result (entry.new ≡ logged_in (body_of body.now) entry.old) }
 {
     match *body {
-        Body::DataMsg {
-            key,
-            offset,
-            acked,
-            fin,
-            bytes,
-        } if entry.key() == key => entry.take_part(&Part {
-            key,
-            offset,
-            acked,
-            fin: fin == 1,
-            bytes,
-        }),
-        Body::ReadMsg { key, index, length } if entry.key() == key => {
+        Body::Data(part) if entry.key() == part.key => entry.take_part(&part),
+        Body::Read { key, index, length } if entry.key() == key => {
             entry.take_read(index, length)
         }
-        Body::DoneMsg { key } if entry.key() == key => {
+        Body::Done { key } if entry.key() == key => {
             entry.end();
             Ok(())
         }
@@ -164,7 +133,7 @@ impl PlainLog {
 
     /// Adds an entry for an unknown key, if there is room.
     fn open(&mut self, alloc: Global, numbers: &Numbers) -> Result<(), NoMemory>
-        ensures { OnOk result (self.new ≡ opened (numbers_in numbers.now) self.old) }
+        ensures { OnOk result (self.new ≡ opened (numbers_said numbers.now) self.old) }
     {
         if !self.turns_away(numbers.key) {
             self.entries.push(PlainEntry::new(alloc, numbers))?;
@@ -178,21 +147,8 @@ impl PlainLog {
         ensures { OnOk result (self.new ≡ with_body (body_of body.now) self.old) }
     {
         match *body {
-            Body::OpenMsg {
-                key,
-                cisn,
-                sisn,
-                mss,
-            } => {
-                let numbers = Numbers {
-                    key,
-                    cisn,
-                    sisn,
-                    mss,
-                };
-                self.open(alloc, &numbers)
-            }
-            Body::DataMsg { .. } | Body::ReadMsg { .. } | Body::DoneMsg { .. } => {
+            Body::Open(numbers) => self.open(alloc, &numbers),
+            Body::Data(_) | Body::Read { .. } | Body::Done { .. } => {
                 log_in_all(&mut self.entries, body)
             }
             _ => Ok(()),
@@ -205,7 +161,7 @@ impl PlainLog {
         requires { IsSendable msg.now }
         ensures { OnOk result (self.new ≡ log_after self.old (message_of msg.now)) }
     {
-        if is_answer(&msg.body) || msg.boot < self.boot {
+        if msg.body.is_answer() || msg.boot < self.boot {
             return Ok(());
         }
         if is_hello(&msg.body) {
@@ -222,7 +178,7 @@ impl PlainLog {
     fn summary<'a>(&self) -> Body<'a>
         ensures { Some (body_of result) ≡ answer_from HelloMsg self.now }
     {
-        Body::SummaryMsg {
+        Body::Summary {
             count: self.entries.len() as u16,
         }
     }
@@ -233,7 +189,7 @@ impl PlainLog {
     {
         match self.find(key) {
             Some(entry) => entry.opened(),
-            None => Body::FullMsg { key },
+            None => Body::Full { key },
         }
     }
 
@@ -243,19 +199,19 @@ impl PlainLog {
         ensures { option_map body_of result ≡ answer_from (body_of body.now) self.now }
     {
         match *body {
-            Body::HelloMsg => Some(self.summary()),
-            Body::ListMsg { index } => {
+            Body::Hello => Some(self.summary()),
+            Body::List { index } => {
                 let entry = self.entries.get(usize::from(index))?;
                 Some(entry.head(index))
             }
-            Body::BytesMsg { key, offset } => self.find(key)?.part(offset),
-            Body::CutsMsg { key, first } => self.find(key)?.lens(first, lens),
-            Body::OpenMsg { key, .. } => Some(self.opened(key)),
-            Body::DataMsg { key, .. } => Some(self.find(key)?.stable()),
-            Body::ReadMsg { key, .. } => Some(self.find(key)?.reads_told()),
-            Body::DoneMsg { key } => {
+            Body::Bytes { key, offset } => self.find(key)?.part(offset),
+            Body::Cuts { key, first } => self.find(key)?.lens(first, lens),
+            Body::Open(numbers) => Some(self.opened(numbers.key)),
+            Body::Data(part) => Some(self.find(part.key)?.stable()),
+            Body::Read { key, .. } => Some(self.find(key)?.reads_told()),
+            Body::Done { key } => {
                 self.find(key)?;
-                Some(Body::EndedMsg { key })
+                Some(Body::Ended { key })
             }
             _ => None,
         }
@@ -266,7 +222,7 @@ impl PlainLog {
         requires { length lens.old.items ≡ 0 }
         ensures { OnOk result (lens_in lens.new.items ≡ lengths_asked (body_of msg.now.body) self.now) }
     {
-        if let Body::CutsMsg { key, first } = msg.body
+        if let Body::Cuts { key, first } = msg.body
             && let Some(entry) = self.find(key)
         {
             return entry.spell_lengths(first, lens);
@@ -282,11 +238,11 @@ impl PlainLog {
         ensures answer { (before : Log) → self.now ≡ log_after before (message_of msg.now) → option_map message_of result ≡ answer_to before (message_of msg.now) }
     {
         let boot = msg.boot;
-        if is_answer(&msg.body) {
+        if msg.body.is_answer() {
             return None;
         }
         if boot < self.boot {
-            let body = Body::StaleMsg { newer: self.boot };
+            let body = Body::Stale { newer: self.boot };
             return Some(Msg { boot, body });
         }
         if boot > self.boot {

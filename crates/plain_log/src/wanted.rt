@@ -24,8 +24,8 @@ pub fn question<'a>(wanted: Wanted) -> Body<'a>
     ensures { body_of result ≡ question (wanted_in wanted) }
 {
     match wanted {
-        Wanted::Entry { index } => Body::ListMsg { index },
-        Wanted::Bytes { key, offset } => Body::BytesMsg { key, offset },
-        Wanted::Lengths { key, first } => Body::CutsMsg { key, first },
+        Wanted::Entry { index } => Body::List { index },
+        Wanted::Bytes { key, offset } => Body::Bytes { key, offset },
+        Wanted::Lengths { key, first } => Body::Cuts { key, first },
     }
 }
