@@ -1,4 +1,4 @@
--- The store's values as the plain records of messages and of the log, the ranges of its numbers, and which messages may need memory.
+-- The ranges of the store's numbers, and which messages may need memory.
 use Rattle.std.specs.Prelude.{ℕ, Bool, true, false, not, List, [], length, sum, ◌≡◌, ◌==◌, ◌≤◌, ◌+◌, ◌-◌, ◌^◌, ◌&&◌, ◌||◌, nat_le, nat_lt, max, Option, Some, None, option_map, IsOk, ◌⊎◌}
 use Rattle.std.specs.List.{list_any, list_all}
 use Rattle.std.specs.Option.{option_map_or}
@@ -9,30 +9,7 @@ use Rattle.seq_arith.specs.Message.Body.{OpenMsg, DataMsg, ReadMsg}
 use Rattle.seq_arith.specs.MessageGrammar.{spelling, reading, flag}
 use Rattle.seq_arith.specs.MarkGrammar as marks
 use Rattle.ft_model.specs.Log.{Log, Entry, with_bytes, is_next_read, entry_of}
-use Rattle.logger_wire.specs.Value.{is_set}
 use Rattle.log_pages.specs.Pages.{room_after, ends_with}
-use Rattle.logger_store.specs.declared.stored_entry.Numbers.{Numbers}
-use Rattle.logger_store.specs.declared.stored_entry.Part.{Part}
-use Rattle.logger_store.specs.declared.entry_head.EntryHead.{EntryHead}
-
-abbrev pub numbers_value : Numbers → said.Numbers
-numbers_value n = record { key = n.key; cisn = n.cisn; sisn = n.sisn; mss = n.mss }
-
-abbrev pub part_value : Part → said.Part
-part_value p = record { key = p.key; offset = p.offset; acked = p.acked; fin = p.fin; bytes = p.bytes.now }
-
-abbrev pub head_value : EntryHead → said.EntryHead
-head_value h = record {
-  key = h.key;
-  cisn = h.cisn;
-  sisn = h.sisn;
-  mss = h.mss;
-  length = h.length;
-  fin = is_set h.fin;
-  done = is_set h.done;
-  reads = h.reads;
-  acked = h.acked;
-}
 
 -- the ranges of an entry's numbers, which are those that a message may have
 pub record IsInRange (mss bytes output : ℕ) : Type 0 where

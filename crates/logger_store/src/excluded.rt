@@ -7,9 +7,9 @@ ghost use Rattle.logger_store.specs.StoreState.{answer_bytes};
 
 use crate::msg_out::MsgOut;
 use crate::store::LogStore;
-use crate::stored_entry::{Part, StoredEntry};
+use crate::stored_entry::StoredEntry;
 use ft_io::{Key, NoMemory};
-use logger_wire::{Body, Msg};
+use logger_wire::{Body, Msg, Part};
 use std::alloc::Global;
 
 /// What an older boot sends changes nothing and gets Stale: the clauses `next` and `answer` of `LogStore::answer`.
@@ -19,7 +19,7 @@ fn keeps_old_boot(store: &mut LogStore, alloc: Global, out: &mut MsgOut) -> Resu
     ensures unchanged { OnOk result (store.new ≡ store.old) }
     ensures stale { OnOk result (out.new ≡ answer_bytes (Some (record { boot = 1; body = StaleMsg 2 }))) }
 {
-    let done = Body::DoneMsg {
+    let done = Body::Done {
         key: Key { ip: 0, port: 0 },
     };
     store.answer(

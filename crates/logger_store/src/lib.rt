@@ -2,12 +2,10 @@
 //! lengths of the reads in runs, and answers a message with at most one message, as bytes. A call that returns `NoMemory` leaves the log unchanged.
 #![tactic(auto)]
 
-pub use entry_head::EntryHead;
 pub use msg_out::MsgOut;
-pub use store::{LogStore, is_answer};
+pub use store::LogStore;
 pub use trimming::{Trim, TrimStore};
 
-mod entry_head;
 mod excluded;
 pub mod laws;
 mod msg_out;

@@ -2,29 +2,28 @@
 
 ghost use Rattle.std.specs.Prelude.{[], ◌≡◌, ◌≤◌, ◌<◌, ◌^◌, ◌+◌, ℕ, Some, None, true, false, option_map, option_copied, OnOk, OnErr, IsOk, IfSome, length};
 ghost use Rattle.std.specs.Prelude.{slice_get, slice_index};
-ghost use Rattle.seq_arith.specs.Message.{is_answer};
 ghost use Rattle.ft_model.specs.Log.{Entry, Log, log_after, answer_to, empty_log, opened, with_body, answer_from, is_hello, entry_of, with_entry};
 ghost use Rattle.ft_model.specs.Log.{with_part, with_read, head_of};
 ghost use Rattle.std.specs.Prelude.{◌||◌, nat_le};
 ghost use Rattle.std.specs.List.{list_any};
 ghost use Rattle.ft_io.specs.Key.{key_eq};
 ghost use Rattle.seq_arith.specs.Message.Body.{OpenMsg, DataMsg, ReadMsg, DoneMsg};
+ghost use Rattle.logger_wire.specs.Records.{numbers_said, head_said, part_said};
 ghost use Rattle.logger_wire.specs.Value.{body_of, message_of, IsSendable};
 ghost use Rattle.logger_store.specs.Changes.{body_changes, changes};
 ghost use Rattle.std.specs.Prelude.{sum, take};
 ghost use Rattle.log_pages.specs.Pages.{changed_at, reads_on, took, without, place_of};
-ghost use Rattle.logger_store.specs.StoreState.{numbers_value, part_value, head_value, adds, answer_bytes, acknowledging, with_boot, wants_memory, bytes_of, lengths_of};
+ghost use Rattle.logger_store.specs.StoreState.{adds, answer_bytes, acknowledging, with_boot, wants_memory, bytes_of, lengths_of};
 
-use crate::entry_head::EntryHead;
 use crate::msg_out::MsgOut;
-use crate::stored_entry::{Numbers, Part, StoredEntry};
+use crate::stored_entry::StoredEntry;
 use crate::telling::{
     tell_ended, tell_head, tell_lengths, tell_opened, tell_part, tell_reads, tell_stable,
     tell_stale,
 };
 use ft_io::{Key, NoMemory};
 use indexmap::IndexMap;
-use logger_wire::{Body, Msg};
+use logger_wire::{Body, EntryHead, Msg, Numbers, Part};
 use std::alloc::Global;
 use std::marker::Model;
 
@@ -52,31 +51,12 @@ impl Model for LogStore {
     ghost invariant = { λ l. (keys l.entries ≡ map (λ e. e.key) (values l.entries)) × (length (values l.entries) ≤ 64) };
 }
 
-/// Whether only the logger sends such a body.
-pub fn is_answer(body: &Body<'_>) -> bool
-    ensures { result ≡ is_answer (body_of body.now) }
-{
-    match body {
-        Body::SummaryMsg { .. }
-        | Body::EntryMsg { .. }
-        | Body::PartMsg { .. }
-        | Body::LensMsg { .. }
-        | Body::OpenedMsg { .. }
-        | Body::StableMsg { .. }
-        | Body::ReadsMsg { .. }
-        | Body::EndedMsg { .. }
-        | Body::StaleMsg { .. }
-        | Body::FullMsg { .. } => true,
-        _ => false,
-    }
-}
-
 /// Whether a body is Hello.
 fn is_hello(body: &Body<'_>) -> bool
     ensures { result ≡ is_hello (body_of body.now) }
 {
     match body {
-        Body::HelloMsg => true,
+        Body::Hello => true,
         _ => false,
     }
 }
@@ -116,8 +96,7 @@ impl LogStore {
 
     /// The entry at place `i`, counted from 0, without its bytes and lengths; `None` exactly if there is no such entry.
     pub fn entry(&self, i: u16) -> Option<EntryHead>
-        ensures value { option_map head_value result ≡ option_map head_of (slice_get self.now.entries i) }
-        ensures flags { IfSome result (λ head. (head.fin ≤ 1) × (head.done ≤ 1)) }
+        ensures value { option_map head_said result ≡ option_map head_of (slice_get self.now.entries i) }
     {
         Some(self.at(i)?.head())
     }
@@ -175,9 +154,9 @@ impl LogStore {
     /// Adds an entry for a key that has none, while there is room.
     fn open(&mut self, alloc: Global, numbers: &Numbers) -> Result<(), NoMemory>
         requires { (64 ≤ numbers.now.mss) × (numbers.now.mss ≤ 1460) }
-        ensures ok { OnOk result (self.new ≡ opened (numbers_value numbers.now) self.old) }
+        ensures ok { OnOk result (self.new ≡ opened (numbers_said numbers.now) self.old) }
         ensures err { OnErr result (self.new ≡ self.old) }
-        ensures known { adds (OpenMsg (numbers_value numbers.now)) self.old ≡ false → IsOk result }
+        ensures known { adds (OpenMsg (numbers_said numbers.now)) self.old ≡ false → IsOk result }
     {
         if self.turns_away(numbers.key) {
             return Ok(());
@@ -192,9 +171,9 @@ impl LogStore {
         requires room { part.now.offset + length part.now.bytes.now ≤ 2 ^ 24 }
         requires few { length part.now.bytes.now ≤ 1460 }
         requires acked { part.now.acked ≤ 2 ^ 24 + 1 }
-        ensures ok { OnOk result (self.new ≡ with_entry part.now.key (with_part (part_value part.now)) self.old) }
+        ensures ok { OnOk result (self.new ≡ with_entry part.now.key (with_part (part_said part.now)) self.old) }
         ensures err { OnErr result (self.new ≡ self.old) }
-        ensures in_page { adds (DataMsg (part_value part.now)) self.old ≡ false → IsOk result }
+        ensures in_page { adds (DataMsg (part_said part.now)) self.old ≡ false → IsOk result }
     {
         let Some(entry) = self.entries.get_mut(&part.key) else {
             return Ok(());
@@ -272,8 +251,8 @@ impl LogStore {
     /// Whether keeping a part changes anything.
     fn part_changes(&self, part: &Part<'_>) -> bool
         requires { part.now.offset + length part.now.bytes.now ≤ 2 ^ 24 }
-        ensures value { result ≡ body_changes (DataMsg (part_value part.now)) self.now }
-        ensures stays { result ≡ false → with_entry part.now.key (with_part (part_value part.now)) self.now ≡ self.now }
+        ensures value { result ≡ body_changes (DataMsg (part_said part.now)) self.now }
+        ensures stays { result ≡ false → with_entry part.now.key (with_part (part_said part.now)) self.now ≡ self.now }
     {
         match self.only(part.key) {
             Some(entry) => entry.part_changes(part),
@@ -311,22 +290,10 @@ impl LogStore {
         ensures stays { result ≡ false → with_body (body_of m.now.body) self.now ≡ self.now }
     {
         match m.body {
-            Body::OpenMsg { key, .. } => !self.turns_away(key),
-            Body::DataMsg {
-                key,
-                offset,
-                acked,
-                fin,
-                bytes,
-            } => self.part_changes(&Part {
-                key,
-                offset,
-                acked,
-                fin: fin == 1,
-                bytes,
-            }),
-            Body::ReadMsg { key, index, length } => self.read_changes(key, index, length),
-            Body::DoneMsg { key } => self.end_changes(key),
+            Body::Open(numbers) => !self.turns_away(numbers.key),
+            Body::Data(part) => self.part_changes(&part),
+            Body::Read { key, index, length } => self.read_changes(key, index, length),
+            Body::Done { key } => self.end_changes(key),
             _ => false,
         }
     }
@@ -339,7 +306,7 @@ impl LogStore {
         ensures stays { result ≡ false → log_after self.now (message_of m.now) ≡ self.now }
         ensures differs { result ≡ true → ¬ (log_after self.now (message_of m.now) ≡ self.now) }
     {
-        if is_answer(&m.body) {
+        if m.body.is_answer() {
             return false;
         }
         if is_hello(&m.body) {
@@ -357,38 +324,10 @@ impl LogStore {
         ensures memory { adds (body_of m.now.body) self.old ≡ false → IsOk result }
     {
         match m.body {
-            Body::OpenMsg {
-                key,
-                cisn,
-                sisn,
-                mss,
-            } => self.open(
-                alloc,
-                &Numbers {
-                    key,
-                    cisn,
-                    sisn,
-                    mss,
-                },
-            ),
-            Body::DataMsg {
-                key,
-                offset,
-                acked,
-                fin,
-                bytes,
-            } => self.take_part(
-                alloc,
-                &Part {
-                    key,
-                    offset,
-                    acked,
-                    fin: fin == 1,
-                    bytes,
-                },
-            ),
-            Body::ReadMsg { key, index, length } => self.take_read(key, index, length),
-            Body::DoneMsg { key } => {
+            Body::Open(numbers) => self.open(alloc, &numbers),
+            Body::Data(part) => self.take_part(alloc, &part),
+            Body::Read { key, index, length } => self.take_read(key, index, length),
+            Body::Done { key } => {
                 self.end(key);
                 Ok(())
             }
@@ -404,19 +343,19 @@ impl LogStore {
         ensures { out.new ≡ answer_bytes (with_boot m.now.boot (answer_from (body_of m.now.body) self.now)) }
     {
         match m.body {
-            Body::HelloMsg => out.put(&Msg {
+            Body::Hello => out.put(&Msg {
                 boot: m.boot,
-                body: Body::SummaryMsg {
+                body: Body::Summary {
                     count: self.count(),
                 },
             }),
-            Body::ListMsg { index } => tell_head(self.at(index), m.boot, index, out),
-            Body::BytesMsg { key, offset } => tell_part(self.find(key), m.boot, offset, out),
-            Body::CutsMsg { key, first } => tell_lengths(self.find(key), m.boot, first, out),
-            Body::OpenMsg { key, .. } => tell_opened(self.find(key), m.boot, key, out),
-            Body::DataMsg { key, .. } => tell_stable(self.find(key), m.boot, out),
-            Body::ReadMsg { key, .. } => tell_reads(self.find(key), m.boot, out),
-            Body::DoneMsg { key } => tell_ended(self.find(key), m.boot, key, out),
+            Body::List { index } => tell_head(self.at(index), m.boot, index, out),
+            Body::Bytes { key, offset } => tell_part(self.find(key), m.boot, offset, out),
+            Body::Cuts { key, first } => tell_lengths(self.find(key), m.boot, first, out),
+            Body::Open(numbers) => tell_opened(self.find(numbers.key), m.boot, numbers.key, out),
+            Body::Data(part) => tell_stable(self.find(part.key), m.boot, out),
+            Body::Read { key, .. } => tell_reads(self.find(key), m.boot, out),
+            Body::Done { key } => tell_ended(self.find(key), m.boot, key, out),
             _ => (),
         }
     }
@@ -434,7 +373,7 @@ impl LogStore {
         ensures memory { wants_memory self.old (message_of m.now) ≡ false → IsOk result }
     {
         out.clear();
-        if is_answer(&m.body) {
+        if m.body.is_answer() {
             return Ok(());
         }
         if m.boot < self.boot {

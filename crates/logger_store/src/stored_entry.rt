@@ -2,45 +2,18 @@
 
 ghost use Rattle.std.specs.Prelude.{[], take, drop, ◌≡◌, ◌≤◌, ◌<◌, ◌+◌, ◌-◌, ◌^◌, ◌&&◌, min, nat_le, true, false, OnOk, OnErr, IsOk, length, slice_index, sum, IfSome};
 ghost use Rattle.std.specs.List.{list_all};
-ghost use Rattle.ft_model.specs.Log.{new_entry, with_bytes, with_its_fin, with_part, with_read, is_next_read, head_of, Entry};
+ghost use Rattle.ft_model.specs.Log.{new_entry, with_bytes, with_its_fin, with_part, with_read, is_next_read, numbers_of_entry, kept_of, head_of, Entry};
 ghost use Rattle.logger_store.specs.Changes.{part_changes};
 ghost use Rattle.log_pages.specs.Pages.{reads_on, took, without};
-ghost use Rattle.logger_store.specs.StoreState.{acknowledging, numbers_value, part_value, head_value, adds_page, begins_run};
+ghost use Rattle.logger_wire.specs.Records.{numbers_said, kept_said, head_said, part_said};
+ghost use Rattle.logger_store.specs.StoreState.{acknowledging, adds_page, begins_run};
 
-use crate::entry_head::EntryHead;
 use arrayvec::ArrayVec;
-use ft_io::{Key, NoMemory};
+use ft_io::NoMemory;
 use log_pages::{Lens, PAGE, PART, Pages, ReadLengths};
+use logger_wire::{EntryHead, Kept, Numbers, Part};
 use std::alloc::Global;
 use std::marker::Model;
-
-/// The numbers of a connection.
-#[derive(Clone, Copy)]
-pub struct Numbers {
-    /// The client's address and port.
-    pub key: Key,
-    /// The client's initial sequence number.
-    pub cisn: u32,
-    /// The server's initial sequence number, as the client knows it.
-    pub sisn: u32,
-    /// The segment size, in bytes.
-    pub mss: u16,
-}
-
-/// A part of a client's stream.
-#[derive(Clone, Copy)]
-pub struct Part<'a> {
-    /// The client's address and port.
-    pub key: Key,
-    /// Where the bytes begin in the stream, in bytes.
-    pub offset: u32,
-    /// How many units of output the client has acknowledged.
-    pub acked: u32,
-    /// Whether the client's FIN follows the bytes.
-    pub fin: bool,
-    /// The bytes of text.
-    pub bytes: &'a [u8],
-}
 
 /// What is logged of a connection. Its reads are counted and summed as they are logged.
 #[derive(Drop)]
@@ -93,7 +66,7 @@ impl StoredEntry {
     /// An entry in which nothing is logged yet. Nothing is allocated.
     pub fn new(alloc: Global, numbers: &Numbers) -> StoredEntry
         requires { (64 ≤ numbers.now.mss) × (numbers.now.mss ≤ 1460) }
-        ensures { result ≡ new_entry (numbers_value numbers.now) }
+        ensures { result ≡ new_entry (numbers_said numbers.now) }
     {
         StoredEntry {
             numbers: *numbers,
@@ -116,10 +89,31 @@ impl StoredEntry {
         self.bytes.len() as u32
     }
 
+    /// The numbers with which it was opened.
+    pub fn numbers(&self) -> Numbers
+        ensures value { numbers_said result ≡ numbers_of_entry self.now }
+        ensures mss { (64 ≤ result.mss) × (result.mss ≤ 1460) }
+    {
+        self.numbers
+    }
+
+    /// How much is logged.
+    pub fn kept(&self) -> Kept
+        ensures value { kept_said result ≡ kept_of self.now }
+        ensures length { result.length ≤ 2 ^ 24 }
+        ensures reads { result.reads ≤ 2 ^ 24 + 1 }
+    {
+        Kept {
+            key: self.numbers.key,
+            length: self.length(),
+            fin: self.fin,
+            reads: self.reads,
+        }
+    }
+
     /// The entry without its bytes and lengths.
     pub fn head(&self) -> EntryHead
-        ensures value { head_value result ≡ head_of self.now }
-        ensures flags { (result.fin ≤ 1) × (result.done ≤ 1) }
+        ensures value { head_said result ≡ head_of self.now }
         ensures mss { (64 ≤ result.mss) × (result.mss ≤ 1460) }
         ensures length { result.length ≤ 2 ^ 24 }
         ensures reads { result.reads ≤ 2 ^ 24 + 1 }
@@ -131,8 +125,8 @@ impl StoredEntry {
             sisn: self.numbers.sisn,
             mss: self.numbers.mss,
             length: self.length(),
-            fin: u8::from(self.fin),
-            done: u8::from(self.done),
+            fin: self.fin,
+            done: self.done,
             reads: self.reads,
             acked: self.acknowledged,
         }
@@ -180,9 +174,9 @@ impl StoredEntry {
     pub(crate) fn take_bytes(&mut self, alloc: Global, part: &Part<'_>) -> Result<(), NoMemory>
         requires room { part.now.offset + length part.now.bytes.now ≤ 2 ^ 24 }
         requires few { length part.now.bytes.now ≤ 1460 }
-        ensures ok { OnOk result (self.new ≡ with_bytes (part_value part.now) self.old) }
+        ensures ok { OnOk result (self.new ≡ with_bytes (part_said part.now) self.old) }
         ensures err { OnErr result (self.new ≡ self.old) }
-        ensures in_page { adds_page (part_value part.now) self.old ≡ false → IsOk result }
+        ensures in_page { adds_page (part_said part.now) self.old ≡ false → IsOk result }
     {
         let logged = self.length();
         if self.fin || part.offset > logged {
@@ -197,7 +191,7 @@ impl StoredEntry {
     /// Logs the FIN of a part that ends where the logged bytes end.
     fn take_fin(&mut self, part: &Part<'_>)
         requires { part.now.offset + length part.now.bytes.now ≤ 2 ^ 24 }
-        ensures { self.new ≡ with_its_fin (part_value part.now) self.old }
+        ensures { self.new ≡ with_its_fin (part_said part.now) self.old }
     {
         let end = part.offset + part.bytes.len() as u32;
         if part.fin && end == self.length() {
@@ -210,9 +204,9 @@ impl StoredEntry {
         requires room { part.now.offset + length part.now.bytes.now ≤ 2 ^ 24 }
         requires few { length part.now.bytes.now ≤ 1460 }
         requires acked { part.now.acked ≤ 2 ^ 24 + 1 }
-        ensures ok { OnOk result (self.new ≡ with_part (part_value part.now) self.old) }
+        ensures ok { OnOk result (self.new ≡ with_part (part_said part.now) self.old) }
         ensures err { OnErr result (self.new ≡ self.old) }
-        ensures in_page { adds_page (part_value part.now) self.old ≡ false → IsOk result }
+        ensures in_page { adds_page (part_said part.now) self.old ≡ false → IsOk result }
         ensures key { self.new.key ≡ self.old.key }
     {
         self.take_bytes(alloc, part)?;
@@ -224,7 +218,7 @@ impl StoredEntry {
     /// Whether keeping a part changes anything.
     pub fn part_changes(&self, part: &Part<'_>) -> bool
         requires { part.now.offset + length part.now.bytes.now ≤ 2 ^ 24 }
-        ensures { result ≡ part_changes (part_value part.now) self.now }
+        ensures { result ≡ part_changes (part_said part.now) self.now }
     {
         let (end, logged) = (part.offset + part.bytes.len() as u32, self.length());
         self.acknowledged < part.acked

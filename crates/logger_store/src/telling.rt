@@ -5,7 +5,6 @@ ghost use Rattle.seq_arith.specs.Message.Body.{EntryMsg, OpenedMsg, StableMsg, R
 ghost use Rattle.ft_model.specs.Log.{head_of, kept_of, part_of, lens_of, on_entry, opened_answer};
 ghost use Rattle.logger_store.specs.StoreState.{answer_bytes, with_boot};
 
-use crate::entry_head::EntryHead;
 use crate::msg_out::MsgOut;
 use crate::stored_entry::StoredEntry;
 use arrayvec::ArrayVec;
@@ -24,28 +23,9 @@ pub fn tell_head(stored: Option<&StoredEntry>, boot: u64, index: u16, out: &mut 
     let Some(entry) = stored else {
         return;
     };
-    let EntryHead {
-        key,
-        cisn,
-        sisn,
-        mss,
-        length,
-        fin,
-        done,
-        reads,
-        acked,
-    } = entry.head();
-    let body = Body::EntryMsg {
+    let body = Body::Entry {
         index,
-        key,
-        cisn,
-        sisn,
-        mss,
-        length,
-        fin,
-        done,
-        reads,
-        acked,
+        head: entry.head(),
     };
     out.put(&Msg { boot, body });
 }
@@ -66,7 +46,7 @@ pub fn tell_part(stored: Option<&StoredEntry>, boot: u64, offset: u32, out: &mut
     }
     let mut part = ArrayVec::new();
     entry.copy_bytes(offset, &mut part);
-    let body = Body::PartMsg {
+    let body = Body::Part {
         key: head.key,
         offset,
         bytes: part.as_slice(),
@@ -90,7 +70,7 @@ pub fn tell_lengths(stored: Option<&StoredEntry>, boot: u64, first: u32, out: &m
     }
     let mut lens = Lens::new();
     entry.copy_lengths(first, &mut lens);
-    let body = Body::LensMsg {
+    let body = Body::Lens {
         key: head.key,
         first,
         lens: lens.as_bytes(),
@@ -105,17 +85,11 @@ pub fn tell_opened(stored: Option<&StoredEntry>, boot: u64, key: Key, out: &mut 
     ensures { out.new ≡ answer_bytes (with_boot boot (opened_answer key (option_copied stored.entry))) }
 {
     let Some(entry) = stored else {
-        let body = Body::FullMsg { key };
+        let body = Body::Full { key };
         out.put(&Msg { boot, body });
         return;
     };
-    let head = entry.head();
-    let body = Body::OpenedMsg {
-        key: head.key,
-        cisn: head.cisn,
-        sisn: head.sisn,
-        mss: head.mss,
-    };
+    let body = Body::Opened(entry.numbers());
     out.put(&Msg { boot, body });
 }
 
@@ -129,19 +103,7 @@ pub fn tell_stable(stored: Option<&StoredEntry>, boot: u64, out: &mut MsgOut)
     let Some(entry) = stored else {
         return;
     };
-    let EntryHead {
-        key,
-        length,
-        fin,
-        reads,
-        ..
-    } = entry.head();
-    let body = Body::StableMsg {
-        key,
-        length,
-        fin,
-        reads,
-    };
+    let body = Body::Stable(entry.kept());
     out.put(&Msg { boot, body });
 }
 
@@ -155,19 +117,7 @@ pub fn tell_reads(stored: Option<&StoredEntry>, boot: u64, out: &mut MsgOut)
     let Some(entry) = stored else {
         return;
     };
-    let EntryHead {
-        key,
-        length,
-        fin,
-        reads,
-        ..
-    } = entry.head();
-    let body = Body::ReadsMsg {
-        key,
-        length,
-        fin,
-        reads,
-    };
+    let body = Body::Reads(entry.kept());
     out.put(&Msg { boot, body });
 }
 
@@ -179,7 +129,7 @@ pub fn tell_ended(stored: Option<&StoredEntry>, boot: u64, key: Key, out: &mut M
     ensures { out.new ≡ answer_bytes (with_boot boot (on_entry (λ e. Some (EndedMsg key)) (option_copied stored.entry))) }
 {
     if stored.is_some() {
-        let body = Body::EndedMsg { key };
+        let body = Body::Ended { key };
         out.put(&Msg { boot, body });
     }
 }
@@ -191,6 +141,6 @@ pub fn tell_stale(boot: u64, newer: u64, out: &mut MsgOut)
     requires newer { boot < newer }
     ensures { out.new ≡ answer_bytes (with_boot boot (Some (StaleMsg newer))) }
 {
-    let body = Body::StaleMsg { newer };
+    let body = Body::Stale { newer };
     out.put(&Msg { boot, body });
 }

@@ -2,16 +2,16 @@
 
 ghost use Rattle.std.specs.Prelude.{[], ◌≡◌, ◌≤◌, ◌<◌, ◌+◌, ◌-◌, ◌^◌, ◌&&◌, ◌==◌, true, false, None, option_map, option_copied, IfSome, OnOk, OnErr, IsOk, length, sum, take, slice_get, slice_index, slice_index_or, slice_set, if◌then◌else◌};
 ghost use Rattle.ft_model.specs.Log.{head_of, with_entry, log_after, answer_to};
+ghost use Rattle.logger_wire.specs.Records.{head_said};
 ghost use Rattle.logger_wire.specs.Value.{body_of, message_of, IsSendable};
-ghost use Rattle.logger_store.specs.StoreState.{acknowledging, head_value, answer_bytes, wants_memory, bytes_of, lengths_of};
+ghost use Rattle.logger_store.specs.StoreState.{acknowledging, answer_bytes, wants_memory, bytes_of, lengths_of};
 ghost use Rattle.log_pages.specs.Pages.{pages, place_of, reads_on, took};
 
-use crate::entry_head::EntryHead;
 use crate::msg_out::MsgOut;
 use crate::store::LogStore;
 use ft_io::{Key, NoMemory};
 use log_pages::PAGE;
-use logger_wire::{Body, Msg};
+use logger_wire::{Body, EntryHead, Msg};
 use std::alloc::Global;
 use std::marker::Model;
 
@@ -75,8 +75,7 @@ impl TrimStore {
 
     /// The entry at place `i`, counted from 0, without its bytes and lengths; `None` exactly if there is no such entry.
     pub fn entry(&self, i: u16) -> Option<EntryHead>
-        ensures value { option_map head_value result ≡ option_map head_of (slice_get self.now.log.entries i) }
-        ensures flags { IfSome result (λ head. (head.fin ≤ 1) × (head.done ≤ 1)) }
+        ensures value { option_map head_said result ≡ option_map head_of (slice_get self.now.log.entries i) }
     {
         self.log.entry(i)
     }
@@ -124,8 +123,8 @@ impl TrimStore {
         ensures { result ≡ is_trimmed self.now (body_of body.now) }
     {
         match *body {
-            Body::BytesMsg { key, offset } => offset < self.trim_of(key).bytes,
-            Body::CutsMsg { key, first } => first < self.trim_of(key).reads,
+            Body::Bytes { key, offset } => offset < self.trim_of(key).bytes,
+            Body::Cuts { key, first } => first < self.trim_of(key).reads,
             _ => false,
         }
     }

@@ -1,4 +1,4 @@
-use Rattle.std.proofs.Common.{◌≡◌, ◌∙◌, ◌≤◌, refl, ap, arith, rules, true, length}
+use Rattle.std.proofs.Common.{◌≡◌, ◌∙◌, ◌≤◌, ap, arith, rules, true, length}
 use Rattle.std.specs.Prelude.{nat_le}
 use Rattle.std.specs.List.{list_all}
 use Rattle.seq_arith.specs.MessageGrammar.{lens_in}
@@ -13,7 +13,6 @@ put-requires c =
     omega (arith, whole, c.copy_lengths.ensures.count, c.if-first-head.false, ap (λ h. h.reads) c.head-head.ensures.value) in
     let few : length (lens_in c.as_bytes.result.now) ≤ 512 = omega (arith, whole, c.copy_lengths.ensures.count) in
     record {
-      flags = refl;
       lens = omega (arith, c.as_bytes.ensures.size);
       spellable = record {
         boot = search rules;

@@ -6,5 +6,5 @@ use Rattle.logger_store.proofs.store.LogStore.take.Goals as goal
 
 pub take_part-requires-clause-few : goal.take_part-requires-clause-few
 take_part-requires-clause-few c =
-    data_few (length c.in-DataMsg.bytes.now)
-    (subst (λ b. has_length (kind_of (body_of b)) (message_length (body_of b)) ≡ true) c.in-DataMsg.is c.requires.spellable.size)
+    data_few (length c.in-Data.part.bytes.now)
+    (subst (λ b. has_length (kind_of (body_of b)) (message_length (body_of b)) ≡ true) c.in-Data.is c.requires.spellable.size)
