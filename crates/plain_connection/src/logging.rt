@@ -18,7 +18,7 @@ use crate::before::Before;
 use crate::connection::PlainConnection;
 use crate::news::News;
 use ft_io::{Key, NoMemory};
-use logger_wire::{Body, Msg};
+use logger_wire::{Body, Msg, Part};
 use plain_packets::PlainPackets;
 use plain_point::Data;
 use segment_codec::PacketRef;
@@ -44,13 +44,13 @@ fn send_data(
     if part.offset > LONGEST_STREAM || part.acked > LONGEST_STREAM + 1 {
         return Ok(());
     }
-    let body = Body::DataMsg {
+    let body = Body::Data(Part {
         key: part.key,
         offset: part.offset as u32,
         acked: part.acked as u32,
-        fin: u8::from(part.fin),
+        fin: part.fin,
         bytes: part.bytes,
-    };
+    });
     sent.send_to_logger(alloc, &Msg { boot, body })
 }
 
@@ -123,7 +123,7 @@ fn send_read(
     if index as u64 > LONGEST_STREAM + 1 {
         return Ok(());
     }
-    let body = Body::ReadMsg {
+    let body = Body::Read {
         key,
         index: index as u32,
         length,
@@ -260,7 +260,7 @@ impl<S: Service> PlainConnection<S> {
         if !self.tells_done(news, was_reset) {
             return Ok(());
         }
-        let body = Body::DoneMsg {
+        let body = Body::Done {
             key: self.point.key(),
         };
         sent.send_to_logger(alloc, &Msg { boot, body })

@@ -4,7 +4,7 @@ ghost use Rattle.std.specs.Prelude.{◌≡◌};
 ghost use Rattle.ft_model.specs.Timer.{is_tick};
 ghost use Rattle.plain_connection.specs.News.{news_in};
 
-use plain_point::Kept;
+use logger_wire::Kept;
 use segment_codec::PacketRef;
 
 /// What happens to one connection in a turn.

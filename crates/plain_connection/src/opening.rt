@@ -6,14 +6,15 @@ ghost use Rattle.server_trait.specs.Service.{machine};
 ghost use Rattle.seq_arith.specs.Profile.{plain};
 ghost use Rattle.ft_model.specs.Opening.{point_opened};
 ghost use Rattle.ft_model.specs.Restart.{entry_in, point_of, is_whole};
-ghost use Rattle.plain_point.specs.Values.{numbers_in};
+ghost use Rattle.logger_wire.specs.Records.{numbers_said};
 ghost use Rattle.plain_connection.specs.State.{IsServed};
 
 use crate::connection::PlainConnection;
 use crate::made_output::Made;
 use ft_io::NoMemory;
+use logger_wire::Numbers;
 use plain_log::{EntryParts, PlainFetched};
-use plain_point::{Numbers, PlainPoint};
+use plain_point::PlainPoint;
 use server_trait::Service;
 use std::alloc::Global;
 
@@ -24,7 +25,7 @@ impl<S: Service> PlainConnection<S> {
         kind: u8,
         numbers: &Numbers,
     ) -> Result<PlainConnection<S>, NoMemory>
-        ensures point { IfOk result (λ c. c.point ≡ point_opened plain (numbers_in numbers.now)) }
+        ensures point { IfOk result (λ c. c.point ≡ point_opened plain (numbers_said numbers.now)) }
         ensures kind { IfOk result (λ c. c.kind ≡ kind) }
         ensures served { IfOk result (λ c. IsServed (machine (S.started kind) S.after) c) }
     {

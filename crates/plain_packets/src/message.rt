@@ -3,11 +3,13 @@
 ghost use Rattle.std.specs.Prelude.{◌≡◌, [], ◌∷◌, ◌≤◌, ◌<◌, ◌+◌, ◌^◌, ◌%◌, ◌&&◌, true, IfOk, IfSome, IfNone, length, nat_le};
 ghost use Rattle.std.specs.List.{list_all};
 ghost use Rattle.seq_arith.specs.declared.kinds.Kind.TheVariants as kinds;
+ghost use Rattle.seq_arith.specs.Message.Body.{EntryMsg};
 ghost use Rattle.seq_arith.specs.MessageGrammar.{kind_of, behind_at, behind_of, message_length, has_length, fields_of, numbers_of, all_in_range, is_sound, lens_of, lens_in, spelling, with_key, key_and, opening, AllFit, IsSpellable};
-ghost use Rattle.logger_wire.specs.Value.{body_of, message_of, flags_of, left_over, IsSendable};
+ghost use Rattle.logger_wire.specs.Records.{head_said};
+ghost use Rattle.logger_wire.specs.Value.{body_of, message_of, left_over, IsSendable};
 
 use ft_io::{Key, NoMemory};
-use logger_wire::{Body, Msg, len_at, put_msg};
+use logger_wire::{Body, EntryHead, Msg, len_at, put_msg};
 use std::alloc::Global;
 
 /// The largest size of a stream, in bytes.
@@ -25,84 +27,24 @@ fn whole(lens: &[u8]) -> &[u8]
     &lens[..lens.len() - lens.len() % 2]
 }
 
-/// Returns the same body with its flags as 0 or 1, and with two bytes for each length.
+/// Returns the same body with two bytes for each length.
 fn plain(body: Body<'_>) -> Body<'_>
     ensures same { body_of result ≡ body_of body.entry }
-    ensures flags { list_all (λ flag. nat_le flag 1) (flags_of result) ≡ true }
     ensures lens { left_over result ≡ 0 }
 {
     match body {
-        Body::EntryMsg {
-            index,
-            key,
-            cisn,
-            sisn,
-            mss,
-            length,
-            fin,
-            done,
-            reads,
-            acked,
-        } => Body::EntryMsg {
-            index,
-            key,
-            cisn,
-            sisn,
-            mss,
-            length,
-            fin: u8::from(fin == 1),
-            done: u8::from(done == 1),
-            reads,
-            acked,
-        },
-        Body::LensMsg { key, first, lens } => Body::LensMsg {
+        Body::Lens { key, first, lens } => Body::Lens {
             key,
             first,
             lens: whole(lens),
-        },
-        Body::DataMsg {
-            key,
-            offset,
-            acked,
-            fin,
-            bytes,
-        } => Body::DataMsg {
-            key,
-            offset,
-            acked,
-            fin: u8::from(fin == 1),
-            bytes,
-        },
-        Body::StableMsg {
-            key,
-            length,
-            fin,
-            reads,
-        } => Body::StableMsg {
-            key,
-            length,
-            fin: u8::from(fin == 1),
-            reads,
-        },
-        Body::ReadsMsg {
-            key,
-            length,
-            fin,
-            reads,
-        } => Body::ReadsMsg {
-            key,
-            length,
-            fin: u8::from(fin == 1),
-            reads,
         },
         _ => body,
     }
 }
 
-/// Returns the same message with its flags as 0 or 1, and with two bytes for each length.
+/// Returns the same message with two bytes for each length.
 fn plain_message<'a>(msg: &Msg<'a>) -> Msg<'a>
     ensures same { message_of result ≡ message_of msg.now }
-    ensures flags { list_all (λ flag. nat_le flag 1) (flags_of result.body) ≡ true }
     ensures lens { left_over result.body ≡ 0 }
 {
     Msg {
@@ -117,18 +59,15 @@ fn fields_end(body: &Body<'_>) -> usize
     ensures most { result ≤ 48 }
 {
     match *body {
-        Body::HelloMsg => 16,
-        Body::SummaryMsg { .. } | Body::ListMsg { .. } => 18,
-        Body::DoneMsg { .. } | Body::EndedMsg { .. } | Body::FullMsg { .. } => 22,
-        Body::StaleMsg { .. } => 24,
-        Body::BytesMsg { .. }
-        | Body::PartMsg { .. }
-        | Body::CutsMsg { .. }
-        | Body::LensMsg { .. } => 26,
-        Body::ReadMsg { .. } => 28,
-        Body::DataMsg { .. } | Body::StableMsg { .. } | Body::ReadsMsg { .. } => 31,
-        Body::OpenMsg { .. } | Body::OpenedMsg { .. } => 32,
-        Body::EntryMsg { .. } => 48,
+        Body::Hello => 16,
+        Body::Summary { .. } | Body::List { .. } => 18,
+        Body::Done { .. } | Body::Ended { .. } | Body::Full { .. } => 22,
+        Body::Stale { .. } => 24,
+        Body::Bytes { .. } | Body::Part { .. } | Body::Cuts { .. } | Body::Lens { .. } => 26,
+        Body::Read { .. } => 28,
+        Body::Data(_) | Body::Stable(_) | Body::Reads(_) => 31,
+        Body::Open(_) | Body::Opened(_) => 32,
+        Body::Entry { .. } => 48,
     }
 }
 
@@ -148,8 +87,9 @@ fn behind(body: &Body<'_>) -> usize
     ensures most { result < 2 ^ 63 }
 {
     match *body {
-        Body::PartMsg { bytes, .. } | Body::DataMsg { bytes, .. } => count(bytes),
-        Body::LensMsg { lens, .. } => count(lens),
+        Body::Part { bytes, .. } => count(bytes),
+        Body::Data(part) => count(part.bytes),
+        Body::Lens { lens, .. } => count(lens),
         _ => 0,
     }
 }
@@ -169,9 +109,9 @@ fn length_fits(body: &Body<'_>, behind: usize) -> bool
     ensures { result ≡ has_length (kind_of (body_of body.now)) (message_length (body_of body.now)) }
 {
     match *body {
-        Body::PartMsg { .. } => 1 <= behind && behind <= 1_024,
-        Body::LensMsg { .. } => lens_length_fits(behind),
-        Body::DataMsg { .. } => behind <= 1_460,
+        Body::Part { .. } => 1 <= behind && behind <= 1_024,
+        Body::Lens { .. } => lens_length_fits(behind),
+        Body::Data(_) => behind <= 1_460,
         _ => true,
     }
 }
@@ -191,6 +131,18 @@ fn offset_fits(offset: u32, behind: usize) -> bool
     offset as usize + behind <= STREAM_LIMIT as usize
 }
 
+/// Returns whether each number of an Entry is in its field's range.
+#[tactic(auto, using(crate::proofs::Ranges::flag_fits))]
+fn head_fits(index: u16, head: &EntryHead) -> bool
+    ensures { result ≡ all_in_range 0 0 (fields_of kinds.Entry) (numbers_of (EntryMsg index (head_said head.now))) }
+{
+    index <= 63
+        && mss_fits(head.mss)
+        && head.length <= STREAM_LIMIT
+        && head.reads <= UNIT_LIMIT
+        && head.acked <= UNIT_LIMIT
+}
+
 /// Returns whether each number of a message is in its field's range.
 #[tactic(auto, using(crate::proofs::Ranges::flag_fits))]
 fn numbers_fit(boot: u64, body: &Body<'_>, behind: usize) -> bool
@@ -198,34 +150,19 @@ fn numbers_fit(boot: u64, body: &Body<'_>, behind: usize) -> bool
     ensures { result ≡ all_in_range boot behind (fields_of (kind_of (body_of body.now))) (numbers_of (body_of body.now)) }
 {
     match *body {
-        Body::SummaryMsg { count } => count <= 64,
-        Body::ListMsg { index } => index <= 63,
-        Body::EntryMsg {
-            index,
-            mss,
-            length,
-            reads,
-            acked,
-            ..
-        } => {
-            index <= 63
-                && mss_fits(mss)
-                && length <= STREAM_LIMIT
-                && reads <= UNIT_LIMIT
-                && acked <= UNIT_LIMIT
+        Body::Summary { count } => count <= 64,
+        Body::List { index } => index <= 63,
+        Body::Entry { index, head } => head_fits(index, &head),
+        Body::Bytes { offset, .. } | Body::Part { offset, .. } => offset_fits(offset, behind),
+        Body::Cuts { first, .. } | Body::Lens { first, .. } => first <= UNIT_LIMIT,
+        Body::Open(numbers) | Body::Opened(numbers) => mss_fits(numbers.mss),
+        Body::Data(part) => offset_fits(part.offset, behind) && part.acked <= UNIT_LIMIT,
+        Body::Stable(kept) | Body::Reads(kept) => {
+            kept.length <= STREAM_LIMIT && kept.reads <= UNIT_LIMIT
         }
-        Body::BytesMsg { offset, .. } | Body::PartMsg { offset, .. } => offset_fits(offset, behind),
-        Body::CutsMsg { first, .. } | Body::LensMsg { first, .. } => first <= UNIT_LIMIT,
-        Body::OpenMsg { mss, .. } | Body::OpenedMsg { mss, .. } => mss_fits(mss),
-        Body::DataMsg { offset, acked, .. } => offset_fits(offset, behind) && acked <= UNIT_LIMIT,
-        Body::StableMsg { length, reads, .. } | Body::ReadsMsg { length, reads, .. } => {
-            length <= STREAM_LIMIT && reads <= UNIT_LIMIT
-        }
-        Body::ReadMsg { index, length, .. } => index <= UNIT_LIMIT && length <= 2_048,
-        Body::StaleMsg { newer } => boot < newer,
-        Body::HelloMsg | Body::DoneMsg { .. } | Body::EndedMsg { .. } | Body::FullMsg { .. } => {
-            true
-        }
+        Body::Read { index, length, .. } => index <= UNIT_LIMIT && length <= 2_048,
+        Body::Stale { newer } => boot < newer,
+        Body::Hello | Body::Done { .. } | Body::Ended { .. } | Body::Full { .. } => { true }
     }
 }
 
@@ -249,7 +186,7 @@ fn lens_fit(body: &Body<'_>) -> bool
     ensures { result ≡ list_all (λ len. nat_le len 2048) (lens_of (body_of body.now)) }
 {
     match *body {
-        Body::LensMsg { lens, .. } => are_reads(lens),
+        Body::Lens { lens, .. } => are_reads(lens),
         _ => true,
     }
 }
@@ -316,70 +253,37 @@ fn fit_read(key: Key, index: u32, length: u16)
     let (_ip, _port, _read) = (key.ip, key.port, (index, length));
 }
 
+/// The numbers of an Entry are in range by their types.
+#[tactic(auto, using(crate::proofs::Ranges::flag_small))]
+fn fit_head(index: u16, head: &EntryHead)
+    ensures { AllFit (fields_of kinds.Entry) (numbers_of (EntryMsg index (head_said head.now))) }
+{
+    fit_word(index);
+    fit_opening(head.key, head.cisn, head.sisn, head.mss);
+    fit_counts(head.key, head.length, 0);
+    fit_counts(head.key, head.reads, head.acked);
+}
+
 /// Each number of a message is in range by its type.
 #[tactic(auto, using(crate::proofs::Ranges::flag_small))]
 fn fit_numbers(body: &Body<'_>)
     ensures { AllFit (fields_of (kind_of (body_of body.now))) (numbers_of (body_of body.now)) }
 {
     match *body {
-        Body::HelloMsg => {}
-        Body::SummaryMsg { count } => fit_word(count),
-        Body::ListMsg { index } => fit_word(index),
-        Body::EntryMsg {
-            index,
-            key,
-            cisn,
-            sisn,
-            mss,
-            length,
-            reads,
-            acked,
-            ..
-        } => {
-            fit_word(index);
-            fit_opening(key, cisn, sisn, mss);
-            fit_counts(key, length, 0);
-            fit_counts(key, reads, acked);
+        Body::Hello => {}
+        Body::Summary { count } => fit_word(count),
+        Body::List { index } => fit_word(index),
+        Body::Entry { index, head } => fit_head(index, &head),
+        Body::Bytes { key, offset } | Body::Part { key, offset, .. } => fit_place(key, offset),
+        Body::Cuts { key, first } | Body::Lens { key, first, .. } => fit_place(key, first),
+        Body::Open(numbers) | Body::Opened(numbers) => {
+            fit_opening(numbers.key, numbers.cisn, numbers.sisn, numbers.mss);
         }
-        Body::BytesMsg { key, offset } => fit_place(key, offset),
-        Body::PartMsg { key, offset, .. } => fit_place(key, offset),
-        Body::CutsMsg { key, first } => fit_place(key, first),
-        Body::LensMsg { key, first, .. } => fit_place(key, first),
-        Body::OpenMsg {
-            key,
-            cisn,
-            sisn,
-            mss,
-        } => fit_opening(key, cisn, sisn, mss),
-        Body::OpenedMsg {
-            key,
-            cisn,
-            sisn,
-            mss,
-        } => fit_opening(key, cisn, sisn, mss),
-        Body::DataMsg {
-            key,
-            offset,
-            acked,
-            ..
-        } => fit_counts(key, offset, acked),
-        Body::StableMsg {
-            key,
-            length,
-            reads,
-            ..
-        } => fit_counts(key, length, reads),
-        Body::ReadMsg { key, index, length } => fit_read(key, index, length),
-        Body::ReadsMsg {
-            key,
-            length,
-            reads,
-            ..
-        } => fit_counts(key, length, reads),
-        Body::DoneMsg { key } => fit_key(key),
-        Body::EndedMsg { key } => fit_key(key),
-        Body::StaleMsg { newer } => fit_huge(newer),
-        Body::FullMsg { key } => fit_key(key),
+        Body::Data(part) => fit_counts(part.key, part.offset, part.acked),
+        Body::Stable(kept) | Body::Reads(kept) => fit_counts(kept.key, kept.length, kept.reads),
+        Body::Read { key, index, length } => fit_read(key, index, length),
+        Body::Done { key } | Body::Ended { key } | Body::Full { key } => fit_key(key),
+        Body::Stale { newer } => fit_huge(newer),
     }
 }
 

@@ -9,18 +9,10 @@ use Rattle.ft_model.specs.Point.{Point}
 use Rattle.ft_model.specs.Sending.{acknowledged_by, window_by}
 use Rattle.plain_point.specs.declared.congestion.Window.{Window}
 use Rattle.plain_point.specs.declared.copying.Data.{Data}
-use Rattle.plain_point.specs.declared.point.Numbers.{Numbers}
 use Rattle.plain_point.specs.declared.sending.Acknowledged.{Acknowledged}
-use Rattle.plain_point.specs.declared.telling.Kept.{Kept}
 
 abbrev pub congestion_in : Window → Congestion
 congestion_in w = record { cwnd = w.cwnd; ssthresh = w.ssthresh; dups = w.dups; recovers = false; lost = 0 }
-
-abbrev pub numbers_in : Numbers → said.Numbers
-numbers_in n = record { key = n.key; cisn = n.cisn; sisn = n.sisn; mss = n.mss }
-
-abbrev pub kept_in : Kept → said.Kept
-kept_in k = record { key = k.key; length = k.length; fin = k.fin; reads = k.reads }
 
 abbrev pub data_in : Data → said.Part
 data_in d = record { key = d.key; offset = d.offset; acked = d.acked; fin = d.fin; bytes = d.bytes.now }

@@ -5,9 +5,8 @@
 pub use congestion::Window;
 pub use copying::Data;
 pub use ending::Timer;
-pub use point::{Numbers, PlainPoint};
+pub use point::PlainPoint;
 pub use sending::Sending;
-pub use telling::Kept;
 
 mod arriving;
 mod congestion;

@@ -1,26 +1,13 @@
 //! The point: its fields, and what is computed from them.
 
 ghost use Rattle.std.specs.Prelude.{◌≡◌, ◌≤◌, ◌+◌, ◌^◌, length};
-ghost use Rattle.plain_point.specs.Values.{numbers_in};
+ghost use Rattle.logger_wire.specs.Records.{numbers_said};
 
 use crate::congestion::Window;
-use ft_io::Key;
+use logger_wire::Numbers;
 use plain_packets::Held;
 use std::alloc::Global;
 use std::marker::Model;
-
-/// The numbers with which a connection is opened.
-#[derive(Clone, Copy)]
-pub struct Numbers {
-    /// The client's address and port.
-    pub key: Key,
-    /// The client's initial sequence number.
-    pub cisn: u32,
-    /// The server's initial sequence number, as the client knows it.
-    pub sisn: u32,
-    /// The segment size, in bytes.
-    pub mss: u16,
-}
 
 /// The point of a live connection. Counts are of bytes or units from the beginning of a stream.
 #[derive(Drop)]
@@ -119,7 +106,7 @@ impl PlainPoint {
 
     /// Creates the point of a new connection: nothing is taken, and nothing may be sent yet. Allocates nothing.
     pub fn opened(alloc: Global, numbers: &Numbers) -> PlainPoint
-        ensures { result ≡ point_opened plain (numbers_in numbers.now) }
+        ensures { result ≡ point_opened plain (numbers_said numbers.now) }
     {
         PlainPoint {
             numbers: *numbers,

@@ -1,10 +1,11 @@
 //! The point of a connection that a restart fetched from the log.
 
 ghost use Rattle.std.specs.Prelude.{◌≡◌, ◌≤◌, ◌^◌, length};
-ghost use Rattle.plain_point.specs.Values.{numbers_in};
+ghost use Rattle.logger_wire.specs.Records.{numbers_said};
 ghost use Rattle.plain_point.specs.Resumed.{point_fetched, with_output_from};
 
-use crate::point::{Numbers, PlainPoint};
+use crate::point::PlainPoint;
+use logger_wire::Numbers;
 use std::alloc::Global;
 
 impl PlainPoint {
@@ -12,7 +13,7 @@ impl PlainPoint {
     /// Nothing is read yet. Allocates nothing.
     pub fn fetched(alloc: Global, numbers: &Numbers, bytes: Vec<u8>, fin: bool) -> PlainPoint
         requires { length bytes.items ≤ 2 ^ 32 }
-        ensures { result ≡ point_fetched (numbers_in numbers.now) bytes.items fin }
+        ensures { result ≡ point_fetched (numbers_said numbers.now) bytes.items fin }
     {
         let len = bytes.len() as u64;
         PlainPoint {

@@ -1,23 +1,10 @@
 //! The law Answered: what the logger's answers say is logged; and what a tick changes at once.
 
 ghost use Rattle.std.specs.Prelude.{◌≡◌};
-ghost use Rattle.plain_point.specs.Values.{kept_in};
+ghost use Rattle.logger_wire.specs.Records.{kept_said};
 
 use crate::point::PlainPoint;
-use ft_io::Key;
-
-/// How much of a connection is logged, as a Stable or a Reads reports it.
-#[derive(Clone, Copy)]
-pub struct Kept {
-    /// The client's address and port.
-    pub key: Key,
-    /// How many of the client's bytes are logged.
-    pub length: u32,
-    /// Whether the client's FIN is logged.
-    pub fin: bool,
-    /// How many reads are logged.
-    pub reads: u32,
-}
+use logger_wire::Kept;
 
 impl PlainPoint {
     ghost use Rattle.ft_model.specs.News.News.{Logged, Ticks};
@@ -26,7 +13,7 @@ impl PlainPoint {
     /// Records how much is logged. Reads that this incarnation hasn't made don't count.
     #[tactic(auto, unfolding(ft_model::specs::Taken::taken_after, ft_model::specs::Taken::early_after, ft_model::specs::Taken::fin_after, ft_model::specs::Answered::answered_after, ft_model::specs::Answered::reads_answered_after, ft_model::specs::Sending::syn_acked_after, ft_model::specs::Sending::acknowledged_after, ft_model::specs::Sending::edge_after, ft_model::specs::Sending::wl1_after, ft_model::specs::Sending::wl2_after, ft_model::specs::Sending::congestion_after))]
     pub fn note_logged(&mut self, kept: Kept)
-        ensures { self.new ≡ noted (Logged (kept_in kept)) self.old }
+        ensures { self.new ≡ noted (Logged (kept_said kept)) self.old }
     {
         let answered = u64::from(kept.length) + u64::from(kept.fin);
         let reads = (kept.reads as usize).min(self.lengths.len());

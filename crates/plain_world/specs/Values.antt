@@ -5,7 +5,7 @@ use Rattle.logger_wire.specs.Value.{message_of, IsSendable}
 use Rattle.segment_codec.specs.Value.{segment_of}
 use Rattle.seq_arith.specs.Profile.{plain}
 use Rattle.ft_model.specs.Node as law
-use Rattle.plain_point.specs.Values.{numbers_in}
+use Rattle.logger_wire.specs.Records.{numbers_said}
 use Rattle.plain_world.specs.declared.incarnation.Incarnation.{Incarnation}
 use Rattle.plain_world.specs.declared.input.Input.{Input}
 use Rattle.plain_world.specs.declared.input.Input.TheVariants as input
@@ -26,7 +26,7 @@ IsReadInput (input.Message msg) = IsSendable msg
 IsReadInput _ = Unit {0}
 
 abbrev pub place_in : {S : Type 0} → PlainPlace S → law.Place
-place_in (place.Opens numbers) = law.Place.Opens (numbers_in numbers)
+place_in (place.Opens numbers) = law.Place.Opens (numbers_said numbers)
 place_in (place.Lives connection) = law.Place.Lives connection.point
 place_in (place.Ended key) = law.Place.Ended key
 

@@ -23,7 +23,7 @@ pub(crate) fn send_hello(alloc: Global, boot: u64, sent: &mut PlainPackets) -> R
         alloc,
         &Msg {
             boot,
-            body: Body::HelloMsg,
+            body: Body::Hello,
         },
     )
 }
@@ -46,7 +46,7 @@ pub(crate) fn summary_count(body: &Body<'_>) -> Option<u16>
     ensures { result ≡ count_lem (body_of body.now) }
 {
     match *body {
-        Body::SummaryMsg { count } => Some(count),
+        Body::Summary { count } => Some(count),
         _ => None,
     }
 }

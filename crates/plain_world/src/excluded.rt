@@ -9,7 +9,7 @@ use crate::incarnation::Incarnation;
 use crate::input::Input;
 use crate::moves::Move;
 use crate::opening::is_asked;
-use plain_point::Numbers;
+use logger_wire::Numbers;
 
 /// No text is accepted at or above the right edge: the contract of `PlainClient::next_text`.
 #[tactic(auto, unfolding(crate::specs::Accepting::next_text))]

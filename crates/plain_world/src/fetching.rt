@@ -8,7 +8,7 @@ ghost use Rattle.logger_wire.specs.Value.{message_of, IsSendable};
 ghost use Rattle.ft_model.specs.Lawful.{Fetches, StageTurn, asked, held};
 ghost use Rattle.ft_model.specs.Node as law;
 ghost use Rattle.ft_model.specs.Restart.{holding_segment, wanted as wanted_lem};
-ghost use Rattle.plain_log.specs.Values.{head_in};
+ghost use Rattle.logger_wire.specs.Records.{head_said};
 ghost use Rattle.plain_packets.specs.Sent.{Appends};
 ghost use Rattle.plain_world.specs.Restored.{stage_then, IsServedThen};
 ghost use Rattle.plain_world.specs.Served.{IsFetchedOf};
@@ -23,8 +23,8 @@ use crate::refusal::send_bare;
 use crate::restoring::restore_all;
 use crate::serving::Serving;
 use ft_io::{Addr, NoMemory};
-use logger_wire::Msg;
-use plain_log::{EntryHead, PlainFetching};
+use logger_wire::{EntryHead, Msg};
+use plain_log::PlainFetching;
 use plain_packets::{PlainPackets, has_rst, number_of};
 use segment_codec::{Head, PacketRef};
 use seq_arith::{ACK, Seq};
@@ -33,7 +33,7 @@ use std::alloc::Global;
 
 /// Returns the answer to a client whose entry has arrived: it acknowledges the logged length and FIN, with window 0.
 fn holding_head(server: Addr, head: &EntryHead) -> Head
-    ensures { record { head = said result; payload = [] } ≡ holding_segment server (head_in head.now) }
+    ensures { record { head = said result; payload = [] } ≡ holding_segment server (head_said head.now) }
 {
     let logged = u64::from(head.length) + u64::from(head.fin);
     Head {

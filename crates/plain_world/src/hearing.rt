@@ -3,7 +3,7 @@
 ghost use Rattle.std.specs.Prelude.{◌≡◌, ◌∷◌, [], ℕ, IfOk, OnOk};
 ghost use Rattle.server_trait.specs.Service.{Machine, machine};
 ghost use Rattle.seq_arith.specs.Message.Body.{OpenedMsg, StableMsg, ReadsMsg, EndedMsg, FullMsg};
-ghost use Rattle.logger_wire.specs.Value.{body_of, is_set};
+ghost use Rattle.logger_wire.specs.Value.{body_of};
 ghost use Rattle.ft_io.specs.declared.Key.{Key as key_type};
 ghost use Rattle.seq_arith.specs.Profile.{plain};
 ghost use Rattle.ft_model.specs.Node as law;
@@ -14,30 +14,17 @@ ghost use Rattle.ft_model.specs.ServingTurn.{Hears, LivesOn};
 ghost use Rattle.plain_world.specs.Served.{IsServedLive, IsServedPlace};
 ghost use Rattle.plain_world.specs.NodeTurns.{SendsBy};
 ghost use Rattle.plain_world.specs.Values.{place_in, left_in, node_of};
-ghost use Rattle.plain_point.specs.Values.{kept_in, numbers_in};
+ghost use Rattle.logger_wire.specs.Records.{kept_said, numbers_said};
 
 use crate::incarnation::Incarnation;
 use crate::place::{PlainPlace, turn_live};
 use crate::refusal::refuse_full;
-use ft_io::{Key, NoMemory};
-use logger_wire::Body;
+use ft_io::NoMemory;
+use logger_wire::{Body, Kept, Numbers};
 use plain_connection::{News, PlainConnection};
 use plain_packets::PlainPackets;
-use plain_point::{Kept, Numbers};
 use server_trait::Service;
 use std::alloc::Global;
-
-/// Returns how much of a connection is logged, from the fields of a message.
-fn kept(key: Key, length: u32, fin: u8, reads: u32) -> Kept
-    ensures { kept_in result ≡ record { key = key; length = length; fin = is_set fin; reads = reads } }
-{
-    Kept {
-        key,
-        length,
-        fin: fin == 1,
-        reads,
-    }
-}
 
 /// Creates a connection and takes its first turn. After `NoMemory` the packets may only be dropped.
 fn begin<S: Service>(
@@ -47,7 +34,7 @@ fn begin<S: Service>(
     sent: &mut PlainPackets,
 ) -> Result<PlainConnection<S>, NoMemory>
     ensures turn { IfOk result (λ c. (stage : law.Stage) → SendsBy (LivesOn (machine (S.started who.kind) S.after) (node_of who stage) Begins
-        (point_opened plain (numbers_in numbers.now)) (Lives c.point ∷ [])) sent.old sent.new) }
+        (point_opened plain (numbers_said numbers.now)) (Lives c.point ∷ [])) sent.old sent.new) }
     ensures served { IfOk result (λ c. IsServedLive who.kind (machine (S.started who.kind) S.after) c) }
 {
     let mut connection = PlainConnection::opened(alloc, who.kind, numbers)?;
@@ -66,9 +53,9 @@ impl<S: Service> PlainPlace<S> {
     ) -> Result<(), NoMemory>
         requires { IsServedPlace who.kind (machine (S.started who.kind) S.after) self.old }
         ensures stable { OnOk result ((stage : law.Stage) → SendsBy (Hears (machine (S.started who.kind) S.after) (node_of who stage)
-            (StableMsg (kept_in kept)) (place_in self.old) (place_in self.new ∷ [])) sent.old sent.new) }
+            (StableMsg (kept_said kept)) (place_in self.old) (place_in self.new ∷ [])) sent.old sent.new) }
         ensures reads { OnOk result ((stage : law.Stage) → SendsBy (Hears (machine (S.started who.kind) S.after) (node_of who stage)
-            (ReadsMsg (kept_in kept)) (place_in self.old) (place_in self.new ∷ [])) sent.old sent.new) }
+            (ReadsMsg (kept_said kept)) (place_in self.old) (place_in self.new ∷ [])) sent.old sent.new) }
         ensures served { OnOk result (IsServedPlace who.kind (machine (S.started who.kind) S.after) self.new) }
     {
         match self {
@@ -102,7 +89,7 @@ impl<S: Service> PlainPlace<S> {
     ) -> Result<bool, NoMemory>
         requires { IsServedPlace who.kind (machine (S.started who.kind) S.after) self.old }
         ensures turn { IfOk result (λ stays. (stage : law.Stage) → SendsBy (Hears (machine (S.started who.kind) S.after) (node_of who stage)
-            (OpenedMsg (numbers_in numbers.now)) (place_in self.old) (left_in stays self.new)) sent.old sent.new) }
+            (OpenedMsg (numbers_said numbers.now)) (place_in self.old) (left_in stays self.new)) sent.old sent.new) }
         ensures served { OnOk result (IsServedPlace who.kind (machine (S.started who.kind) S.after) self.new) }
     {
         let PlainPlace::Opens(asked) = self else {
@@ -147,40 +134,12 @@ impl<S: Service> PlainPlace<S> {
         ensures served { OnOk result (IsServedPlace who.kind (machine (S.started who.kind) S.after) self.new) }
     {
         match *body {
-            Body::StableMsg {
-                key,
-                length,
-                fin,
-                reads,
-            } => {
-                let kept = kept(key, length, fin, reads);
+            Body::Stable(kept) | Body::Reads(kept) => {
                 self.hear_logged(alloc, who, kept, sent)?;
             }
-            Body::ReadsMsg {
-                key,
-                length,
-                fin,
-                reads,
-            } => {
-                let kept = kept(key, length, fin, reads);
-                self.hear_logged(alloc, who, kept, sent)?;
-            }
-            Body::OpenedMsg {
-                key,
-                cisn,
-                sisn,
-                mss,
-            } => {
-                let numbers = Numbers {
-                    key,
-                    cisn,
-                    sisn,
-                    mss,
-                };
-                return self.hear_opened(alloc, who, &numbers, sent);
-            }
-            Body::EndedMsg { .. } => self.hear_ended(),
-            Body::FullMsg { .. } => return self.hear_full(alloc, who, sent),
+            Body::Opened(numbers) => return self.hear_opened(alloc, who, &numbers, sent),
+            Body::Ended { .. } => self.hear_ended(),
+            Body::Full { .. } => return self.hear_full(alloc, who, sent),
             _ => {}
         }
         Ok(true)

@@ -14,7 +14,7 @@ ghost use Rattle.ft_model.specs.Connection.{told_by};
 ghost use Rattle.seq_arith.specs.Message.Body.{OpenMsg};
 ghost use Rattle.seq_arith.specs.Value.{said};
 ghost use Rattle.plain_packets.specs.Sent.{Appends};
-ghost use Rattle.plain_point.specs.Values.{numbers_in};
+ghost use Rattle.logger_wire.specs.Records.{numbers_said};
 ghost use Rattle.plain_world.specs.Values.{input_in, place_in, places_in, node_of};
 
 use crate::incarnation::Incarnation;
@@ -22,9 +22,8 @@ use crate::input::Input;
 use crate::place::{PlainPlace, is_for};
 use crate::refusal::as_listen;
 use ft_io::{Key, NoMemory};
-use logger_wire::{Body, Msg};
+use logger_wire::{Body, Msg, Numbers};
 use plain_packets::{PlainPackets, has_ack, has_rst, has_syn};
-use plain_point::Numbers;
 use segment_codec::{Head, PacketRef};
 use seq_arith::segment_size;
 use server_trait::Service;
@@ -51,7 +50,7 @@ fn initial_number(isn: u32, n: u64) -> u32
 /// Returns the numbers of the nth connection, which a SYN requests.
 fn numbers_for(isn: u32, n: u64, syn: &PacketRef<'_>) -> Numbers
     requires { n ≤ 2 ^ 32 }
-    ensures { numbers_in result ≡ numbers_lem isn n (segment_of syn.now) }
+    ensures { numbers_said result ≡ numbers_lem isn n (segment_of syn.now) }
 {
     Numbers {
         key: syn.head.sender(),
@@ -63,7 +62,7 @@ fn numbers_for(isn: u32, n: u64, syn: &PacketRef<'_>) -> Numbers
 
 /// Returns whether the log is asked for a pending opening: at its SYN, at each retransmission of the SYN, and at each tick.
 pub(crate) fn is_asked(who: Incarnation, input: &Input<'_>, numbers: &Numbers) -> bool
-    ensures { (stage : law.Stage) → result ≡ asked_lem (node_of who stage) (input_in input.now) (numbers_in numbers.now) }
+    ensures { (stage : law.Stage) → result ≡ asked_lem (node_of who stage) (input_in input.now) (numbers_said numbers.now) }
 {
     match input {
         Input::Packet(segment) => {
@@ -84,27 +83,11 @@ fn send_open(
     numbers: &Numbers,
     sent: &mut PlainPackets,
 ) -> Result<(), NoMemory>
-    ensures { OnOk result (Appends sent.old sent.new (told_by who.boot (OpenMsg (numbers_in numbers.now)) ∷ [])) }
+    ensures { OnOk result (Appends sent.old sent.new (told_by who.boot (OpenMsg (numbers_said numbers.now)) ∷ [])) }
 {
-    let Numbers {
-        key,
-        cisn,
-        sisn,
-        mss,
-    } = *numbers;
-    let body = Body::OpenMsg {
-        key,
-        cisn,
-        sisn,
-        mss,
-    };
-    sent.send_to_logger(
-        alloc,
-        &Msg {
-            boot: who.boot,
-            body,
-        },
-    )
+    let boot = who.boot;
+    let body = Body::Open(*numbers);
+    sent.send_to_logger(alloc, &Msg { boot, body })
 }
 
 impl<S: Service> PlainPlace<S> {
@@ -186,7 +169,7 @@ pub(crate) fn newcomer<S: Service>(
     places: &[PlainPlace<S>],
 ) -> Option<Numbers>
     requires { opened ≤ 2 ^ 32 }
-    ensures { (stage : law.Stage) → map (λ n. Opens (numbers_in n)) (option_to_list result)
+    ensures { (stage : law.Stage) → map (λ n. Opens (numbers_said n)) (option_to_list result)
         ≡ newcomers (node_of who stage) (input_in input.now) opened (places_in places.now) }
 {
     let Input::Packet(segment) = input else {

@@ -17,10 +17,9 @@ use crate::incarnation::Incarnation;
 use crate::input::Input;
 use crate::refusal::refuse_closed;
 use ft_io::{Addr, Key, NoMemory};
-use logger_wire::Body;
+use logger_wire::{Body, Numbers};
 use plain_connection::{News, PlainConnection};
 use plain_packets::PlainPackets;
-use plain_point::Numbers;
 use segment_codec::PacketRef;
 use server_trait::Service;
 use std::alloc::Global;
@@ -48,11 +47,9 @@ fn names(body: &Body<'_>, key: Key) -> bool
     ensures { result ≡ names_lem (body_of body.now) key }
 {
     match *body {
-        Body::OpenedMsg { key: named, .. }
-        | Body::StableMsg { key: named, .. }
-        | Body::ReadsMsg { key: named, .. }
-        | Body::EndedMsg { key: named }
-        | Body::FullMsg { key: named } => named == key,
+        Body::Opened(numbers) => numbers.key == key,
+        Body::Stable(kept) | Body::Reads(kept) => kept.key == key,
+        Body::Ended { key: named } | Body::Full { key: named } => named == key,
         _ => false,
     }
 }

@@ -7,11 +7,11 @@ ghost use Rattle.segment_codec.specs.Value.{segment_of};
 ghost use Rattle.ft_model.specs.Network.Packet.{To_client};
 ghost use Rattle.ft_model.specs.Refusal.{as_listen, as_closed, full_rst, rst_behind as behind_lem};
 ghost use Rattle.plain_packets.specs.Sent.{Appends};
-ghost use Rattle.plain_point.specs.Values.{numbers_in};
+ghost use Rattle.logger_wire.specs.Records.{numbers_said};
 
 use ft_io::{Addr, NoMemory};
+use logger_wire::Numbers;
 use plain_packets::{PlainPackets, has_ack, has_rst, number_of, segment_len};
-use plain_point::Numbers;
 use segment_codec::{Head, PacketRef};
 use seq_arith::{ACK, RST, Seq};
 use std::alloc::Global;
@@ -67,7 +67,7 @@ pub(crate) fn refuse_full(
     numbers: &Numbers,
     sent: &mut PlainPackets,
 ) -> Result<(), NoMemory>
-    ensures { OnOk result (Appends sent.old sent.new (To_client (full_rst server (numbers_in numbers.now)) ∷ [])) }
+    ensures { OnOk result (Appends sent.old sent.new (To_client (full_rst server (numbers_said numbers.now)) ∷ [])) }
 {
     let ack = Seq(number_of(numbers.cisn, 0));
     send_bare(

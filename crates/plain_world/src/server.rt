@@ -22,7 +22,7 @@ fn fences(boot: u64, input: &Input<'_>) -> bool
 {
     match input {
         Input::Message(msg) => match msg.body {
-            Body::StaleMsg { newer } => msg.boot == boot && boot < newer,
+            Body::Stale { newer } => msg.boot == boot && boot < newer,
             _ => false,
         },
         _ => false,

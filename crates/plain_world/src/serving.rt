@@ -10,7 +10,7 @@ ghost use Rattle.ft_model.specs.Node as law;
 ghost use Rattle.ft_model.specs.Node.Place.{Opens};
 ghost use Rattle.ft_model.specs.ServingTurn.{PlaceTurn, AllGo, ServingTurn, newcomers, opens_at};
 ghost use Rattle.plain_packets.specs.Sent.{Appends};
-ghost use Rattle.plain_point.specs.Values.{numbers_in};
+ghost use Rattle.logger_wire.specs.Records.{numbers_said};
 ghost use Rattle.plain_world.specs.Served.{AreServed};
 ghost use Rattle.plain_world.specs.NodeTurns.{SendsBy, OneGoes};
 ghost use Rattle.plain_world.specs.Values.{input_in, places_in, node_of};
@@ -21,8 +21,8 @@ use crate::opening::{newcomer, refusal};
 use crate::place::PlainPlace;
 use crate::refusal::send_bare;
 use ft_io::NoMemory;
+use logger_wire::Numbers;
 use plain_packets::PlainPackets;
-use plain_point::Numbers;
 use segment_codec::Head;
 use server_trait::Service;
 use std::alloc::Global;
@@ -111,7 +111,7 @@ impl<S: Service> Serving<S> {
         requires { self.old.opened ≤ 2 ^ 32 }
         ensures opened { OnOk result (self.new.opened ≡ self.old.opened + length (option_to_list newcomer)) }
         ensures few { OnOk result (self.new.opened ≤ self.old.opened + 1) }
-        ensures places { OnOk result (places_in self.new.places.items ≡ places_in self.old.places.items ++ map (λ n. Opens (numbers_in n)) (option_to_list newcomer)) }
+        ensures places { OnOk result (places_in self.new.places.items ≡ places_in self.old.places.items ++ map (λ n. Opens (numbers_said n)) (option_to_list newcomer)) }
         ensures served { OnOk result ((kind : ℕ) (service : Machine S) → AreServed kind service self.old.places.items → AreServed kind service self.new.places.items) }
     {
         if let Some(numbers) = newcomer {

@@ -5,7 +5,7 @@ use Rattle.seq_arith.specs.Value.{said}
 use Rattle.ft_model.specs.Network.Packet.{To_client}
 use Rattle.ft_model.specs.Node.{Stage}
 use Rattle.ft_model.specs.Node.Place.{Opens}
-use Rattle.plain_point.specs.Values.{numbers_in}
+use Rattle.logger_wire.specs.Records.{numbers_said}
 use Rattle.plain_world.specs.Values.{input_in, node_of}
 use Rattle.plain_world.proofs.Places.{on_ok, on_ok_more}
 use Rattle.plain_world.proofs.AllPlaces.{serving_turn, opened_more}
@@ -17,7 +17,7 @@ returns-clause-turn g c =
     (λ asks (stage : Stage).
     serving_turn (machine (g.S.Service.started c.args.who.kind) g.S.Service.after) (node_of c.args.who stage) (input_in c.args.input.now) c.args.self.now.opened
     c.args.self.now.places.items c.go_all.new.places.items c.open.new.self.places.items
-    (map (λ n. Opens (numbers_in n)) (option_to_list c.newcomer-newcomer.result))
+    (map (λ n. Opens (numbers_said n)) (option_to_list c.newcomer-newcomer.result))
     (map (λ head. To_client (record { head = said head; payload = [] })) (option_to_list c.refusal-refusal.result))
     c.args.sent.now c.go_all.new.sent c.refuse.new.sent c.ask_all.new.sent
     (c.in_ok-go_all.ensures.turn stage) c.in_ok-open.ensures.places (rw c.as_slice.ensures.value at (c.newcomer-newcomer.ensures stage))
@@ -28,7 +28,7 @@ pub returns-clause-opened : goal.returns-clause-opened
 returns-clause-opened g c =
     on_ok _ c.ask_all.result
     (λ (stage : Stage).
-    opened_more (λ n. Opens (numbers_in n)) c.newcomer-newcomer.result _ c.args.self.now.opened c.open.new.self.opened c.in_ok-open.ensures.opened
+    opened_more (λ n. Opens (numbers_said n)) c.newcomer-newcomer.result _ c.args.self.now.opened c.open.new.self.opened c.in_ok-open.ensures.opened
     (rw c.as_slice.ensures.value at (c.newcomer-newcomer.ensures stage)))
 
 pub returns-clause-served : goal.returns-clause-served

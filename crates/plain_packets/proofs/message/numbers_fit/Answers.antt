@@ -1,0 +1,9 @@
+use Rattle.std.proofs.Common.{◌∙◌, ap, sym}
+use Rattle.seq_arith.specs.MessageGrammar.{kind_of, fields_of, numbers_of, all_in_range}
+use Rattle.logger_wire.specs.Value.{body_of}
+use Rattle.plain_packets.proofs.message.numbers_fit.Goals as goal
+
+pub returns-in-Entry : goal.returns-in-Entry
+returns-in-Entry c =
+    c.head_fits.ensures
+    ∙ sym (ap (λ b. all_in_range c.args.boot c.args.behind (fields_of (kind_of (body_of b))) (numbers_of (body_of b))) c.in-Entry.is)
