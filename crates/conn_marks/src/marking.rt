@@ -14,7 +14,7 @@ ghost use Rattle.wrapped_conn.proofs.Sendable.{FitsKey};
 ghost use Rattle.conn_marks.specs.Marks.{due_in, is_made, with_due, mark_with, IsTellableMark};
 
 use ft_io::{Key, NoMemory};
-use logger_wire::{MarkBody, MarkMsg};
+use logger_wire::{Mark, MarkBody, MarkMsg};
 use mark_laws::marking::quiet_points_are_found;
 use server_trait::{Saved, Service};
 use std::alloc::Global;
@@ -139,10 +139,12 @@ fn mark_message<'a>(boot: u64, key: Key, quiet: Quiet, state: &'a [u8]) -> MarkM
         boot,
         body: MarkBody::Mark {
             key,
-            reads: quiet.reads,
-            length: quiet.length,
-            made: quiet.made,
-            state,
+            mark: Mark {
+                reads: quiet.reads,
+                length: quiet.length,
+                made: quiet.made,
+                state,
+            },
         },
     }
 }

@@ -4,7 +4,7 @@ ghost use Rattle.std.specs.Prelude.{◌≡◌, ◌≤◌, ◌-◌, ◌+◌, ◌^
 ghost use Rattle.seq_arith.specs.Number.{number_at};
 ghost use Rattle.segment_codec.specs.Value.{said};
 ghost use Rattle.ft_model.specs.News.News.{Comes};
-ghost use Rattle.logger_store.specs.StoreState.{head_value};
+ghost use Rattle.logger_wire.specs.Records.{head_said};
 ghost use Rattle.tcp_endpoint.specs.SendHalf.{IsShort};
 ghost use Rattle.tcp_endpoint.specs.Tcb.{listening};
 ghost use Rattle.endpoint_laws.specs.Turn.{turned};
@@ -12,7 +12,7 @@ ghost use Rattle.connection_laws.specs.Splice.{forged as forged_lem, forged_syn,
 ghost use Rattle.log_replay.specs.LoggedHead.{IsSegmentSize, has_end};
 
 use ft_io::{Addr, Key, NoMemory};
-use logger_store::EntryHead;
+use logger_wire::EntryHead;
 use segment_codec::{Head, PacketRef};
 use seq_arith::{ACK, FIN, SYN, Seq};
 use std::alloc::Global;
@@ -23,9 +23,9 @@ const STREAM: u32 = 16_777_216;
 
 /// Whether a FIN is logged for which the stream has room.
 pub fn has_end(head: &EntryHead) -> bool
-    ensures { result ≡ has_end (head_value head.now) }
+    ensures { result ≡ has_end (head_said head.now) }
 {
-    head.fin == 1 && head.length < STREAM
+    head.fin && head.length < STREAM
 }
 
 /// The header of a segment of the client, with window 0.
@@ -110,7 +110,7 @@ pub fn spliced_endpoint(
 ) -> Result<Endpoint, NoMemory>
     requires stream { head.now.length ≤ 2 ^ 24 }
     requires segments { IsSegmentSize head.now.mss }
-    ensures { IfOk result (λ e. e ≡ spliced head.now.key local head.now.cisn head.now.length head.now.mss isn.0 (has_end (head_value head.now))) }
+    ensures { IfOk result (λ e. e ≡ spliced head.now.key local head.now.cisn head.now.length head.now.mss isn.0 (has_end (head_said head.now))) }
 {
     let mut out = Outbox::new(alloc)?;
     let mut endpoint = connected(alloc, head, local, isn, &mut out)?;

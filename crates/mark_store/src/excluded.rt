@@ -5,16 +5,16 @@ ghost use Rattle.std.specs.Prelude.{ℕ, ◌≡◌, ◌≤◌, ◌+◌, ◌^◌,
 ghost use Rattle.ft_model.specs.Log.{Entry, with_entry};
 ghost use Rattle.logger_store.specs.Trim.{IsLeftOf, trim_at};
 ghost use Rattle.mark_laws.specs.MarkedLog.{MarkedLog, acknowledging, has_closing, keeps};
-ghost use Rattle.mark_store.specs.New.{mark_value};
+ghost use Rattle.logger_wire.specs.MarkValue.{mark_said};
 ghost use Rattle.mark_store.specs.Refinement.{IsLeftOfMarked, mark_at};
 
-use crate::kept_mark::NewMark;
 use crate::store::MarkStore;
 use ft_io::{Key, NoMemory};
+use logger_wire::Mark;
 use std::alloc::Global;
 
 /// A mark with a closing read among its reads isn't kept: the contract of `MarkStore::follows`.
-fn across_an_end_kept(store: &MarkStore, place: u16, mark: &NewMark<'_>) -> bool
+fn across_an_end_kept(store: &MarkStore, place: u16, mark: &Mark<'_>) -> bool
     ensures { (e : Entry) → slice_get store.now.trimmed.log.entries place ≡ Some e → has_closing (take mark.now.reads e.lengths) ≡ true → result ≡ false }
 {
     store.follows(place, mark)
@@ -25,7 +25,7 @@ fn never_trims(
     store: &mut MarkStore,
     alloc: Global,
     key: Key,
-    mark: &NewMark<'_>,
+    mark: &Mark<'_>,
 ) -> Result<(), NoMemory>
     requires numbers { (mark.now.reads ≤ 2 ^ 24 + 1) × (mark.now.length ≤ 2 ^ 24) × (mark.now.made ≤ 2 ^ 24) }
     requires state { length mark.now.state.now ≤ 1100 }
@@ -35,7 +35,7 @@ fn never_trims(
 }
 
 /// A mark after as many reads as the kept one, or after fewer, isn't kept: the contract of `MarkStore::follows`.
-fn older_mark_kept(store: &MarkStore, place: u16, mark: &NewMark<'_>) -> bool
+fn older_mark_kept(store: &MarkStore, place: u16, mark: &Mark<'_>) -> bool
     requires { mark.now.reads ≤ (trim_at store.now.trimmed.trims place).reads }
     ensures { result ≡ false }
 {
@@ -47,11 +47,11 @@ fn output_not_acknowledged(
     store: &mut MarkStore,
     alloc: Global,
     key: Key,
-    mark: &NewMark<'_>,
+    mark: &Mark<'_>,
 ) -> Result<(), NoMemory>
     requires numbers { (mark.now.reads ≤ 2 ^ 24 + 1) × (mark.now.length ≤ 2 ^ 24) × (mark.now.made ≤ 2 ^ 24) }
     requires state { length mark.now.state.now ≤ 1100 }
-    ensures { OnOk result ((l : MarkedLog) → IsLeftOfMarked store.old l → keeps key (mark_value mark.now) l ≡ true → IsLeftOf store.new.trimmed (with_entry key (acknowledging mark.now.made) l.log)) }
+    ensures { OnOk result ((l : MarkedLog) → IsLeftOfMarked store.old l → keeps key (mark_said mark.now) l ≡ true → IsLeftOf store.new.trimmed (with_entry key (acknowledging mark.now.made) l.log)) }
 {
     store.take_mark(alloc, key, mark)
 }

@@ -2,24 +2,12 @@
 
 ghost use Rattle.std.specs.Prelude.{◌≡◌, ◌≤◌, ◌+◌, ◌^◌, IfOk, length};
 ghost use Rattle.mark_laws.specs.MarkedLog.{no_mark};
-ghost use Rattle.mark_store.specs.New.{mark_value};
+ghost use Rattle.logger_wire.specs.MarkValue.{mark_said};
 
 use ft_io::NoMemory;
+use logger_wire::Mark;
 use std::alloc::Global;
 use std::marker::Model;
-
-/// A mark, as a message carries it: its numbers, and the bytes of its state.
-#[derive(Clone, Copy)]
-pub(crate) struct NewMark<'a> {
-    /// After how many reads it lies, at most 2^24 + 1.
-    pub reads: u32,
-    /// How many bytes of input these took, at most 2^24.
-    pub length: u32,
-    /// How many bytes of output the service had made by then, at most 2^24.
-    pub made: u32,
-    /// The form of the service's state, at most 1,100 bytes.
-    pub state: &'a [u8],
-}
 
 /// A stored mark, or none: then its numbers are 0, and it has no state.
 #[derive(Drop)]
@@ -56,12 +44,12 @@ impl KeptMark {
     }
 
     /// A copy of a mark.
-    pub fn new(alloc: Global, mark: &NewMark<'_>) -> Result<KeptMark, NoMemory>
+    pub fn new(alloc: Global, mark: &Mark<'_>) -> Result<KeptMark, NoMemory>
         requires reads { mark.now.reads ≤ 2 ^ 24 + 1 }
         requires length { mark.now.length ≤ 2 ^ 24 }
         requires made { mark.now.made ≤ 2 ^ 24 }
         requires state { length mark.now.state.now ≤ 1100 }
-        ensures { IfOk result (λ kept. kept ≡ mark_value mark.now) }
+        ensures { IfOk result (λ kept. kept ≡ mark_said mark.now) }
     {
         let mut state = Vec::new(alloc);
         state.extend_from_slice(mark.state)?;
@@ -74,14 +62,14 @@ impl KeptMark {
     }
 
     /// The mark, as a message carries it.
-    pub fn mark(&self) -> NewMark<'_>
-        ensures value { mark_value result ≡ self.now }
+    pub fn mark(&self) -> Mark<'_>
+        ensures value { mark_said result ≡ self.now }
         ensures reads { result.reads ≤ 2 ^ 24 + 1 }
         ensures length { result.length ≤ 2 ^ 24 }
         ensures made { result.made ≤ 2 ^ 24 }
         ensures state { length result.state.now ≤ 1100 }
     {
-        NewMark {
+        Mark {
             reads: self.reads,
             length: self.taken,
             made: self.made,

@@ -4,23 +4,23 @@ ghost use Rattle.std.specs.Prelude.{[], ◌≡◌, ◌≤◌, ◌<◌, ◌+◌, 
 ghost use Rattle.std.specs.Option.{option_map_or};
 ghost use Rattle.seq_arith.specs.Mark.MarkBody.{MarkMsg as Marking, AskMsg};
 ghost use Rattle.seq_arith.specs.MarkGrammar.{IsSpellable};
-ghost use Rattle.logger_wire.specs.MarkValue.{body_of, message_of};
+ghost use Rattle.logger_wire.specs.MarkValue.{mark_said, body_of, message_of};
 ghost use Rattle.ft_model.specs.Log.{head_of};
-ghost use Rattle.logger_store.specs.StoreState.{bytes_of, head_value};
+ghost use Rattle.logger_wire.specs.Records.{head_said};
+ghost use Rattle.logger_store.specs.StoreState.{bytes_of};
 ghost use Rattle.logger_store.specs.Trim.{trim_at, MayTrim};
 ghost use Rattle.mark_laws.specs.MarkedLog.{MarkedLog, after_mark, answer_to_mark, is_mark_answer, may_follow, no_mark, nothing_logged, told_of_mark, with_mark_body};
 ghost use Rattle.seq_arith.specs.Message.Body.{StaleMsg};
 ghost use Rattle.mark_laws.specs.MarkedLog.{about_mark};
 ghost use Rattle.mark_laws.specs.MarkedLog.AnyMessage.{Of_log};
 ghost use Rattle.mark_store.specs.Bytes.{after_bytes, kept_at, reply_bytes, reply_to};
-ghost use Rattle.mark_store.specs.New.{mark_value};
 ghost use Rattle.mark_store.specs.Refinement.{IsLeftOfMarked, mark_at};
 
-use crate::kept_mark::{KeptMark, NewMark};
+use crate::kept_mark::KeptMark;
 use crate::telling::{tell_held, tell_marked, tell_stale};
 use ft_io::{Key, NoMemory};
-use logger_store::{EntryHead, MsgOut, TrimStore};
-use logger_wire::{MarkBody, MarkMsg, read_mark, read_msg};
+use logger_store::{MsgOut, TrimStore};
+use logger_wire::{EntryHead, Mark, MarkBody, MarkMsg, read_mark, read_msg};
 use std::alloc::Global;
 use std::marker::Model;
 
@@ -116,15 +116,15 @@ impl MarkStore {
 
     /// The entry at place `i`, counted from 0, without its bytes and lengths; `None` exactly if there is no such entry.
     pub fn entry(&self, i: u16) -> Option<EntryHead>
-        ensures value { (l : MarkedLog) → IsLeftOfMarked self.now l → option_map head_value result ≡ option_map head_of (slice_get l.log.entries i) }
+        ensures value { (l : MarkedLog) → IsLeftOfMarked self.now l → option_map head_said result ≡ option_map head_of (slice_get l.log.entries i) }
     {
         self.log.entry(i)
     }
 
     /// Whether a mark may replace that of the entry at this place: it lies after more reads, these are logged and took its `length` bytes, and no closing
     /// read is among them.
-    pub(crate) fn follows(&self, place: u16, mark: &NewMark<'_>) -> bool
-        ensures value { result ≡ option_map_or (may_follow (record no_mark { reads = (trim_at self.now.trimmed.trims place).reads }) (mark_value mark.now)) (slice_get self.now.trimmed.log.entries place) false }
+    pub(crate) fn follows(&self, place: u16, mark: &Mark<'_>) -> bool
+        ensures value { result ≡ option_map_or (may_follow (record no_mark { reads = (trim_at self.now.trimmed.trims place).reads }) (mark_said mark.now)) (slice_get self.now.trimmed.log.entries place) false }
         ensures trims { result ≡ true → MayTrim place mark.now.length mark.now.reads self.now.trimmed }
         ensures within { result ≡ true → mark.now.length ≤ length (bytes_of (slice_get self.now.trimmed.log.entries place)) }
     {
@@ -145,13 +145,13 @@ impl MarkStore {
         &mut self,
         alloc: Global,
         key: Key,
-        mark: &NewMark<'_>,
+        mark: &Mark<'_>,
     ) -> Result<(), NoMemory>
         requires reads { mark.now.reads ≤ 2 ^ 24 + 1 }
         requires length { mark.now.length ≤ 2 ^ 24 }
         requires made { mark.now.made ≤ 2 ^ 24 }
         requires state { length mark.now.state.now ≤ 1100 }
-        ensures ok { OnOk result ((l : MarkedLog) → IsLeftOfMarked self.old l → IsLeftOfMarked self.new (with_mark_body (Marking key (mark_value mark.now)) l)) }
+        ensures ok { OnOk result ((l : MarkedLog) → IsLeftOfMarked self.old l → IsLeftOfMarked self.new (with_mark_body (Marking key (mark_said mark.now)) l)) }
         ensures err { OnErr result (self.new ≡ self.old) }
     {
         let Some(place) = self.log.place_of(key) else {
@@ -174,29 +174,14 @@ impl MarkStore {
         ensures err { OnErr result (self.new ≡ self.old) }
     {
         match m.body {
-            MarkBody::Mark {
-                key,
-                reads,
-                length,
-                made,
-                state,
-            } => self.take_mark(
-                alloc,
-                key,
-                &NewMark {
-                    reads,
-                    length,
-                    made,
-                    state,
-                },
-            ),
+            MarkBody::Mark { key, mark } => self.take_mark(alloc, key, &mark),
             _ => Ok(()),
         }
     }
 
     /// The mark of the entry at this place.
-    fn mark_at(&self, place: u16) -> NewMark<'_>
-        ensures value { mark_value result ≡ mark_at self.now.marks place }
+    fn mark_at(&self, place: u16) -> Mark<'_>
+        ensures value { mark_said result ≡ mark_at self.now.marks place }
         ensures reads { result.reads ≤ 2 ^ 24 + 1 }
         ensures length { result.length ≤ 2 ^ 24 }
         ensures made { result.made ≤ 2 ^ 24 }
@@ -204,7 +189,7 @@ impl MarkStore {
     {
         match self.marks.get(usize::from(place)) {
             Some(mark) => mark.mark(),
-            None => NewMark {
+            None => Mark {
                 reads: 0,
                 length: 0,
                 made: 0,

@@ -4,16 +4,14 @@ ghost use Rattle.std.specs.Prelude.{◌≡◌, ◌≤◌, ◌<◌, ◌+◌, ◌^
 ghost use Rattle.seq_arith.specs.Mark.MarkBody.{MarkedMsg, HeldMsg};
 ghost use Rattle.seq_arith.specs.Message.Body.{StaleMsg};
 ghost use Rattle.seq_arith.specs.MarkGrammar.{IsSpellable, spelling};
-ghost use Rattle.logger_wire.specs.MarkValue.{message_of};
+ghost use Rattle.logger_wire.specs.MarkValue.{mark_said, message_of};
 ghost use Rattle.logger_store.specs.StoreState.{answer_bytes};
 ghost use Rattle.mark_laws.specs.MarkedLog.{about_mark};
 ghost use Rattle.mark_store.specs.Bytes.{reply_bytes};
-ghost use Rattle.mark_store.specs.New.{mark_value};
 
-use crate::kept_mark::NewMark;
 use ft_io::Key;
 use logger_store::MsgOut;
-use logger_wire::{Body, MarkBody, MarkMsg, Msg, write_mark};
+use logger_wire::{Body, Mark, MarkBody, MarkMsg, Msg, write_mark};
 
 /// Replaces the content of `out` by a message about marks.
 fn put_mark(m: &MarkMsg<'_>, out: &mut MsgOut)
@@ -38,27 +36,15 @@ pub(crate) fn tell_marked(boot: u64, key: Key, reads: u32, out: &mut MsgOut)
 
 /// Writes Held into `out`: the key's mark itself.
 #[tactic(auto, unfolding(seq_arith::specs::MarkGrammar::has_length, seq_arith::specs::MarkGrammar::is_sound))]
-pub(crate) fn tell_held(boot: u64, key: Key, mark: &NewMark<'_>, out: &mut MsgOut)
+pub(crate) fn tell_held(boot: u64, key: Key, mark: &Mark<'_>, out: &mut MsgOut)
     requires boot { 1 ≤ boot }
     requires reads { mark.now.reads ≤ 2 ^ 24 + 1 }
     requires length { mark.now.length ≤ 2 ^ 24 }
     requires made { mark.now.made ≤ 2 ^ 24 }
     requires state { length mark.now.state.now ≤ 1100 }
-    ensures { out.new ≡ reply_bytes (Some (about_mark boot (HeldMsg key (mark_value mark.now)))) }
+    ensures { out.new ≡ reply_bytes (Some (about_mark boot (HeldMsg key (mark_said mark.now)))) }
 {
-    let NewMark {
-        reads,
-        length,
-        made,
-        state,
-    } = *mark;
-    let body = MarkBody::Held {
-        key,
-        reads,
-        length,
-        made,
-        state,
-    };
+    let body = MarkBody::Held { key, mark: *mark };
     put_mark(&MarkMsg { boot, body }, out);
 }
 
@@ -69,6 +55,6 @@ pub(crate) fn tell_stale(boot: u64, newer: u64, out: &mut MsgOut)
     requires newer { boot < newer }
     ensures { out.new ≡ answer_bytes (Some (record { boot = boot; body = StaleMsg newer })) }
 {
-    let body = Body::StaleMsg { newer };
+    let body = Body::Stale { newer };
     out.put(&Msg { boot, body });
 }

@@ -8,8 +8,9 @@ use Rattle.seq_arith.specs.PacketGrammar.{reading}
 use Rattle.seq_arith.specs.Message.{Kept, Numbers}
 use Rattle.server_trait.specs.Service.{Machine}
 use Rattle.logger_wire.specs.declared.Body.{Body as Said}
-use Rattle.logger_wire.specs.declared.Body.TheVariants.{StableMsg, ReadsMsg, EndedMsg}
-use Rattle.logger_wire.specs.Value.{body_of, is_set}
+use Rattle.logger_wire.specs.declared.Body.TheVariants as body
+use Rattle.logger_wire.specs.Records.{kept_said}
+use Rattle.logger_wire.specs.Value.{body_of}
 use Rattle.seq_arith.specs.Profile.{plain}
 use Rattle.ft_model.specs.News.{News}
 use Rattle.ft_model.specs.News.News.{Comes, Logged, Ticks, Begins as Becomes_live}
@@ -82,9 +83,9 @@ rests_same : {S : Type 0} (c was now : ConnState S) → IsSame c was → now ≡
 rests_same c was now same is = subst (IsSame c) (sym is) same
 
 pub told_same : {S : Type 0} (service : Machine S) (said : Said) (c now : ConnState S) (out messages : List (List ℕ)) → IsTold service.after said c now out messages → IsSame c now
-told_same service (StableMsg key len fin reads) c now out messages r = hears_same service (record { key = key; length = len; fin = is_set fin; reads = reads }) c now out messages r
-told_same service (ReadsMsg key len fin reads) c now out messages r = hears_same service (record { key = key; length = len; fin = is_set fin; reads = reads }) c now out messages r
-told_same service (EndedMsg key) c now out messages r = rests_same c _ now (record { key = refl; local = refl; boot = refl }) r.state
+told_same service (body.Stable kept) c now out messages r = hears_same service (kept_said kept) c now out messages r
+told_same service (body.Reads kept) c now out messages r = hears_same service (kept_said kept) c now out messages r
+told_same service (body.Ended key) c now out messages r = rests_same c _ now (record { key = refl; local = refl; boot = refl }) r.state
 told_same service _ c now out messages r = rests_same c c now (record { key = refl; local = refl; boot = refl }) r.state
 
 -- no more reads are known to be logged than were made
@@ -125,9 +126,9 @@ segment_acts service server boot p c now bytes segment segments messages small t
 -- what a message says is logged is what the connection hears
 pub heard_in : {S : Type 0} (service : Machine S) (said : Said) (kept : Kept) (c now : ConnState S) (segments messages : List (List ℕ)) → logged_in (body_of said) ≡ Some kept
     → IsTold service.after said c now segments messages → Hears service.after kept.length kept.fin kept.reads c now segments messages
-heard_in service (StableMsg key length fin reads) kept c now segments messages e r =
+heard_in service (body.Stable logged) kept c now segments messages e r =
     subst (λ (k : Kept). Hears service.after k.length k.fin k.reads c now segments messages) (some_is _ kept e) r
-heard_in service (ReadsMsg key length fin reads) kept c now segments messages e r =
+heard_in service (body.Reads logged) kept c now segments messages e r =
     subst (λ (k : Kept). Hears service.after k.length k.fin k.reads c now segments messages) (some_is _ kept e) r
 heard_in service _ kept c now segments messages e r = none_is_some kept e
 

@@ -10,7 +10,7 @@ use Rattle.seq_arith.specs.Mark.{Mark, MarkMessage}
 use Rattle.seq_arith.specs.Mark.MarkBody.{MarkMsg}
 use Rattle.seq_arith.specs.MarkGrammar as marks
 use Rattle.server_trait.specs.Service.{Machine, AreBytes}
-use Rattle.logger_wire.specs.declared.mark.mark_msg.MarkMsg.{MarkMsg as CodeMsg}
+use Rattle.logger_wire.specs.declared.marks.mark_msg.MarkMsg.{MarkMsg as CodeMsg}
 use Rattle.logger_wire.specs.MarkValue.{message_of}
 use Rattle.ft_model.specs.Node.{Node, Place}
 use Rattle.ft_model.specs.Node.Place.{Opens, Lives, Ended}

@@ -19,10 +19,9 @@ front_told message out len spellable is =
     in ap (λ n. take n (spelling message ++ drop len out)) size ∙ take-append_seam (spelling message) (drop len out)
 
 pub open_tells : (boot : ℕ) (key : Key) (cisn sisn mss : ℕ) → 1 ≤ boot → boot < 2 ^ 64 → key.ip < 2 ^ 32 → key.port < 2 ^ 16 → cisn < 2 ^ 32 → sisn < 2 ^ 32 → 64 ≤ mss → mss ≤ 1460
-    → IsSendable (record { boot = boot; body = body.OpenMsg key cisn sisn mss })
+    → IsSendable (record { boot = boot; body = body.Open (record { key = key; cisn = cisn; sisn = sisn; mss = mss }) })
 unfolding is_sound has_length
 open_tells boot key cisn sisn mss first most ip port own peer least large = record {
-  flags = refl;
   lens = refl;
   spellable = record {
     boot = omega arith;
@@ -34,10 +33,9 @@ open_tells boot key cisn sisn mss first most ip port own peer least large = reco
   };
 }
 
-pub hello_tells : (boot : ℕ) → 1 ≤ boot → boot < 2 ^ 64 → IsSendable (record { boot = boot; body = body.HelloMsg })
+pub hello_tells : (boot : ℕ) → 1 ≤ boot → boot < 2 ^ 64 → IsSendable (record { boot = boot; body = body.Hello })
 unfolding is_sound has_length
 hello_tells boot first most = record {
-  flags = refl;
   lens = refl;
   spellable = record {
     boot = omega arith;

@@ -24,7 +24,6 @@ use Rattle.ft_model.specs.Wire.{Wire}
 use Rattle.ft_model.proofs.Lists.{same_key, key_is, all_append}
 use Rattle.logger_wire.specs.declared.Body.{Body as Said}
 use Rattle.logger_wire.specs.declared.Body.TheVariants as said
-use Rattle.logger_wire.specs.Value.{is_set}
 use Rattle.north_wrap.specs.declared.read_record.ReadRecord.{ReadRecord}
 use Rattle.north_wrap.specs.Refinement.{messages_of}
 use Rattle.south_wrap.specs.Translation.{copied, is_some_copied}
@@ -213,11 +212,11 @@ receives_own service segment c now segments messages r =
     }))
 
 pub told_own : {S : Type 0} (after : S → List ℕ → Served S) (said : Said) (c now : ConnState S) (segments messages : List (List ℕ)) → IsTold after said c now segments messages → TellsOwn c messages
-told_own after (said.StableMsg key len fin reads) c now segments messages r =
-    either c.reset r (λ k. record { bodies = []; are = k.told; own = tt }) (λ k. goes_own [] (new_reads (with_logged len (is_set fin) reads c) now) c messages tt k.told)
-told_own after (said.ReadsMsg key len fin reads) c now segments messages r =
-    either c.reset r (λ k. record { bodies = []; are = k.told; own = tt }) (λ k. goes_own [] (new_reads (with_logged len (is_set fin) reads c) now) c messages tt k.told)
-told_own after (said.EndedMsg key) c now segments messages r = record { bodies = []; are = r.told; own = tt }
+told_own after (said.Stable kept) c now segments messages r =
+    either c.reset r (λ k. record { bodies = []; are = k.told; own = tt }) (λ k. goes_own [] (new_reads (with_logged kept.length kept.fin kept.reads c) now) c messages tt k.told)
+told_own after (said.Reads kept) c now segments messages r =
+    either c.reset r (λ k. record { bodies = []; are = k.told; own = tt }) (λ k. goes_own [] (new_reads (with_logged kept.length kept.fin kept.reads c) now) c messages tt k.told)
+told_own after (said.Ended key) c now segments messages r = record { bodies = []; are = r.told; own = tt }
 told_own after _ c now segments messages r = record { bodies = []; are = r.told; own = tt }
 
 pub ticks_own : {S : Type 0} (c now : ConnState S) (segments messages : List (List ℕ)) → TicksOn c now segments messages → TellsOwn c messages

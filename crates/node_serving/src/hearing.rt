@@ -205,26 +205,21 @@ pub(crate) fn hear<S: Service>(
     ensures sound { OnOk result (AllSound who slots.new.entries) }
 {
     match m.body {
-        Body::StableMsg { key, .. } => tell_known(who, key, slots, m, turn),
-        Body::ReadsMsg { key, .. } => tell_known(who, key, slots, m, turn),
-        Body::EndedMsg { key } => {
+        Body::Stable(kept) => tell_known(who, kept.key, slots, m, turn),
+        Body::Reads(kept) => tell_known(who, kept.key, slots, m, turn),
+        Body::Ended { key } => {
             end_known(key, slots);
             Ok(())
         }
-        Body::OpenedMsg {
-            key,
-            cisn,
-            sisn,
-            mss,
-        } => {
-            let numbers = Opening {
-                cisn: Seq(cisn),
-                sisn: Seq(sisn),
-                mss,
+        Body::Opened(numbers) => {
+            let opening = Opening {
+                cisn: Seq(numbers.cisn),
+                sisn: Seq(numbers.sisn),
+                mss: numbers.mss,
             };
-            open_known(who, key, numbers, slots, turn)
+            open_known(who, numbers.key, opening, slots, turn)
         }
-        Body::FullMsg { key } => refuse_known(who, key, slots, turn),
+        Body::Full { key } => refuse_known(who, key, slots, turn),
         _ => Ok(()),
     }
 }

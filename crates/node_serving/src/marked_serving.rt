@@ -159,12 +159,12 @@ pub fn serve_packet_marked<S: Saved>(
 fn key_named(body: &Body<'_>) -> Option<Key>
     ensures { MatchOption result ((key : Client) → names (body_of body.now) key ≡ false) (λ named. (key : Client) → names (body_of body.now) key ≡ key_eq named key) }
 {
-    match body {
-        Body::StableMsg { key, .. } => Some(*key),
-        Body::ReadsMsg { key, .. } => Some(*key),
-        Body::EndedMsg { key } => Some(*key),
-        Body::OpenedMsg { key, .. } => Some(*key),
-        Body::FullMsg { key } => Some(*key),
+    match *body {
+        Body::Opened(numbers) => Some(numbers.key),
+        Body::Stable(kept) => Some(kept.key),
+        Body::Reads(kept) => Some(kept.key),
+        Body::Ended { key } => Some(key),
+        Body::Full { key } => Some(key),
         _ => None,
     }
 }

@@ -26,7 +26,7 @@ use crate::slots::{add_slot, key_at};
 use crate::turn::Turn;
 use ft_io::{Key, NoMemory};
 use indexmap::IndexMap;
-use logger_wire::{Body, Msg};
+use logger_wire::{Body, Msg, Numbers};
 use segment_codec::{Head, PacketRef};
 use seq_arith::{ACK, RST, SYN, Seq, has, segment_size};
 use server_trait::Service;
@@ -46,12 +46,12 @@ fn ask(who: Identity, key: Key, opening: Opening, turn: &mut Turn) -> Result<(),
 {
     let message = Msg {
         boot: who.boot,
-        body: Body::OpenMsg {
+        body: Body::Open(Numbers {
             key,
             cisn: opening.cisn.0,
             sisn: opening.sisn.0,
             mss: opening.mss,
-        },
+        }),
     };
     tell(&message, turn)
 }

@@ -82,7 +82,7 @@ fn says_done(bytes: &[u8]) -> bool
     ensures { result ≡ says_done_in (reading bytes.now) }
 {
     match read_msg(bytes) {
-        Ok(m) => matches!(m.body, Body::DoneMsg { .. }),
+        Ok(m) => matches!(m.body, Body::Done { .. }),
         Err(_) => false,
     }
 }

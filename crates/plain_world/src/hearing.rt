@@ -134,7 +134,10 @@ impl<S: Service> PlainPlace<S> {
         ensures served { OnOk result (IsServedPlace who.kind (machine (S.started who.kind) S.after) self.new) }
     {
         match *body {
-            Body::Stable(kept) | Body::Reads(kept) => {
+            Body::Stable(kept) => {
+                self.hear_logged(alloc, who, kept, sent)?;
+            }
+            Body::Reads(kept) => {
                 self.hear_logged(alloc, who, kept, sent)?;
             }
             Body::Opened(numbers) => return self.hear_opened(alloc, who, &numbers, sent),

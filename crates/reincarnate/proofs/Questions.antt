@@ -10,10 +10,9 @@ use Rattle.logger_wire.specs.declared.Body.TheVariants as body
 use Rattle.reincarnate.specs.Questions.{IsAskable}
 use Rattle.wrapped_conn.proofs.Sendable.{FitsKey}
 
-pub hello_askable : IsAskable body.HelloMsg
+pub hello_askable : IsAskable body.Hello
 unfolding is_sound has_length
 hello_askable boot live fits = record {
-  flags = refl;
   lens = refl;
   spellable = record {
     boot = omega (arith, fits);
@@ -23,10 +22,9 @@ hello_askable boot live fits = record {
   };
 }
 
-pub list_askable : (index : ℕ) → index ≤ 63 → IsAskable (body.ListMsg index)
+pub list_askable : (index : ℕ) → index ≤ 63 → IsAskable (body.List index)
 unfolding is_sound has_length
 list_askable index few boot live fits = record {
-  flags = refl;
   lens = refl;
   spellable = record {
     boot = omega (arith, fits);
@@ -37,10 +35,9 @@ list_askable index few boot live fits = record {
   };
 }
 
-pub bytes_askable : (key : Key) (offset : ℕ) → FitsKey key → offset ≤ 2 ^ 24 → IsAskable (body.BytesMsg key offset)
+pub bytes_askable : (key : Key) (offset : ℕ) → FitsKey key → offset ≤ 2 ^ 24 → IsAskable (body.Bytes key offset)
 unfolding is_sound has_length
 bytes_askable key offset k within boot live fits = record {
-  flags = refl;
   lens = refl;
   spellable = record {
     boot = omega (arith, fits);
@@ -56,10 +53,9 @@ pub few_reads : (count sum len : ℕ) (ended : Bool) → count ≤ sum + one_if 
 few_reads count sum len true have within short = omega (arith, have, within, short)
 few_reads count sum len false have within short = omega (arith, have, within, short)
 
-pub cuts_askable : (key : Key) (first : ℕ) → FitsKey key → first ≤ 2 ^ 24 + 1 → IsAskable (body.CutsMsg key first)
+pub cuts_askable : (key : Key) (first : ℕ) → FitsKey key → first ≤ 2 ^ 24 + 1 → IsAskable (body.Cuts key first)
 unfolding is_sound has_length
 cuts_askable key first k few boot live fits = record {
-  flags = refl;
   lens = refl;
   spellable = record {
     boot = omega (arith, fits);

@@ -9,11 +9,13 @@ use Rattle.log_replay.specs.LoggedHead.{IsSegmentSize}
 use Rattle.logger_wire.specs.declared.Msg.{Msg}
 use Rattle.logger_wire.specs.declared.Body.{Body}
 use Rattle.logger_wire.specs.declared.Body.TheVariants as body
+use Rattle.logger_wire.specs.declared.records.EntryHead.{EntryHead}
 use Rattle.logger_wire.specs.Value.{body_of, IsSendable}
 use Rattle.seq_arith.specs.MarkGrammar as marks
-use Rattle.logger_wire.specs.declared.mark.mark_msg.MarkMsg.{MarkMsg}
-use Rattle.logger_wire.specs.declared.mark.mark_msg.MarkBody.{MarkBody}
-use Rattle.logger_wire.specs.declared.mark.mark_msg.MarkBody.TheVariants as mark_body
+use Rattle.logger_wire.specs.declared.marks.mark_msg.Mark.{Mark}
+use Rattle.logger_wire.specs.declared.marks.mark_msg.MarkMsg.{MarkMsg}
+use Rattle.logger_wire.specs.declared.marks.mark_msg.MarkBody.{MarkBody}
+use Rattle.logger_wire.specs.declared.marks.mark_msg.MarkBody.TheVariants as mark_body
 use Rattle.logger_wire.specs.MarkValue as checkpoint
 
 sound_of : (m : Msg) (b : Body) → IsSendable m → m.body ≡ b
@@ -34,16 +36,15 @@ seventh a b c d e f g rest all =
     let tail = (and_parts f (g && rest) tail).1 in
     (and_parts g rest tail).0
 
-pub head_in_range : (m : Msg) (index : ℕ) (key : Key) (cisn sisn mss len fin done reads acked : ℕ) → IsSendable m
-    → m.body ≡ body.EntryMsg index key cisn sisn mss len fin done reads acked → len ≤ 2 ^ 24
+pub head_in_range : (m : Msg) (index : ℕ) (head : EntryHead) → IsSendable m → m.body ≡ body.Entry index head → head.length ≤ 2 ^ 24
 unfolding is_sound
-head_in_range m index key cisn sisn mss len fin done reads acked sendable is =
-    let b : Body = body.EntryMsg index key cisn sisn mss len fin done reads acked in
+head_in_range m index head sendable is =
+    let b : Body = body.Entry index head in
     let fields : Bool = all_in_range m.boot 0 (fields_of kinds.Entry) (numbers_of (body_of b)) in
     let lens : Bool = list_all (λ k. nat_le k 2048) (lens_of (body_of b)) in
     let sound = sound_of m b sendable is in
     let all : fields ≡ true = (and_parts (nat_le 1 m.boot) fields (and_parts (nat_le 1 m.boot && fields) lens sound).0).1 in
-    let most = seventh (nat_le index 63) true true true true (nat_le 64 mss && nat_le mss 1460) (nat_le len (2 ^ 24))
+    let most = seventh (nat_le index 63) true true true true (nat_le 64 head.mss && nat_le head.mss 1460) (nat_le head.length (2 ^ 24))
     (all_in_range m.boot 0 (drop 7 (fields_of kinds.Entry)) (drop 7 (numbers_of (body_of b)))) all in
     grind (arith, most)
 
@@ -56,25 +57,24 @@ sixth a b c d e f rest all =
     let tail = (and_parts e (f && rest) tail).1 in
     (and_parts f rest tail).0
 
-pub mss_in_range : (m : Msg) (index : ℕ) (key : Key) (cisn sisn mss len fin done reads acked : ℕ) → IsSendable m
-    → m.body ≡ body.EntryMsg index key cisn sisn mss len fin done reads acked → IsSegmentSize mss
+pub mss_in_range : (m : Msg) (index : ℕ) (head : EntryHead) → IsSendable m → m.body ≡ body.Entry index head → IsSegmentSize head.mss
 unfolding is_sound
-mss_in_range m index key cisn sisn mss len fin done reads acked sendable is =
-    let b : Body = body.EntryMsg index key cisn sisn mss len fin done reads acked in
+mss_in_range m index head sendable is =
+    let b : Body = body.Entry index head in
     let fields : Bool = all_in_range m.boot 0 (fields_of kinds.Entry) (numbers_of (body_of b)) in
     let lens : Bool = list_all (λ k. nat_le k 2048) (lens_of (body_of b)) in
     let sound = sound_of m b sendable is in
     let all : fields ≡ true = (and_parts (nat_le 1 m.boot) fields (and_parts (nat_le 1 m.boot && fields) lens sound).0).1 in
-    let size = sixth (nat_le index 63) true true true true (nat_le 64 mss && nat_le mss 1460)
+    let size = sixth (nat_le index 63) true true true true (nat_le 64 head.mss && nat_le head.mss 1460)
     (all_in_range m.boot 0 (drop 6 (fields_of kinds.Entry)) (drop 6 (numbers_of (body_of b)))) all in
-    let ends = and_parts (nat_le 64 mss) (nat_le mss 1460) size in
+    let ends = and_parts (nat_le 64 head.mss) (nat_le head.mss 1460) size in
     (grind (arith, ends), grind (arith, ends))
 
-pub part_in_range : (m : Msg) (key : Key) (offset : ℕ) (bytes : _) → IsSendable m → m.body ≡ body.PartMsg key offset bytes → length bytes.now ≤ 1024
+pub part_in_range : (m : Msg) (key : Key) (offset : ℕ) (bytes : _) → IsSendable m → m.body ≡ body.Part key offset bytes → length bytes.now ≤ 1024
 unfolding has_length
 part_in_range m key offset bytes sendable is =
     let n : ℕ = 26 + length bytes.now in
-    let size = size_of m (body.PartMsg key offset bytes) sendable is in
+    let size = size_of m (body.Part key offset bytes) sendable is in
     let most = (and_parts (nat_le 27 n) (nat_le n 1050) (and_parts (nat_le 27 n && nat_le n 1050) true size).0).1 in
     grind (arith, most)
 
@@ -82,10 +82,10 @@ all_short : (lens : List ℕ) → list_all (λ len. nat_le len 2048) lens ≡ tr
 all_short [] all = tt
 all_short (n ∷ lens) all = let parts = and_parts (nat_le n 2048) (list_all (λ len. nat_le len 2048) lens) all in (grind (arith, parts.0), all_short lens parts.1)
 
-pub lens_in_range : (m : Msg) (key : Key) (first : ℕ) (lens : _) → IsSendable m → m.body ≡ body.LensMsg key first lens → AllByRecursion (λ n. n ≤ 2048) (lens_in lens.now)
+pub lens_in_range : (m : Msg) (key : Key) (first : ℕ) (lens : _) → IsSendable m → m.body ≡ body.Lens key first lens → AllByRecursion (λ n. n ≤ 2048) (lens_in lens.now)
 unfolding is_sound
 lens_in_range m key first lens sendable is =
-    let b : Body = body.LensMsg key first lens in
+    let b : Body = body.Lens key first lens in
     let fields : Bool = all_in_range m.boot (length (behind_of (body_of b))) (fields_of kinds.Lens) (numbers_of (body_of b)) in
     let sound = sound_of m b sendable is in
     all_short (lens_in lens.now) (and_parts (nat_le 1 m.boot && fields) (list_all (λ k. nat_le k 2048) (lens_in lens.now)) sound).1
@@ -99,14 +99,14 @@ fifth a b c d e rest all =
     let tail = (and_parts d (e && rest) tail).1 in
     (and_parts e rest tail).0
 
-pub held_in_range : (m : MarkMsg) (key : Key) (reads len made : ℕ) (state : _) → marks.IsSpellable (checkpoint.message_of m)
-    → m.body ≡ mark_body.Held key reads len made state → made ≤ 2 ^ 24
+pub held_in_range : (m : MarkMsg) (key : Key) (mark : Mark) → marks.IsSpellable (checkpoint.message_of m) → m.body ≡ mark_body.Held key mark
+    → mark.made ≤ 2 ^ 24
 unfolding marks.is_sound
-held_in_range m key reads len made state spellable is =
-    let b : MarkBody = mark_body.Held key reads len made state in
+held_in_range m key mark spellable is =
+    let b : MarkBody = mark_body.Held key mark in
     let sound : marks.is_sound (marks.kind_of (checkpoint.body_of b)) m.boot (length (marks.behind_of (checkpoint.body_of b))) (marks.numbers_of (checkpoint.body_of b)) ≡ true =
     subst (λ x. marks.is_sound (marks.kind_of (checkpoint.body_of x)) m.boot (length (marks.behind_of (checkpoint.body_of x))) (marks.numbers_of (checkpoint.body_of x)) ≡ true) is spellable.sound in
-    let fields : Bool = all_in_range m.boot (length state.now) marks.marking (marks.numbers_of (checkpoint.body_of b)) in
-    let all : fields ≡ true = (and_parts (nat_le 1 m.boot) fields (and_parts (nat_le 1 m.boot && fields) (nat_le 0 reads) sound).0).1 in
-    let most = fifth true true (nat_le reads (2 ^ 24 + 1)) (nat_le len (2 ^ 24)) (nat_le made (2 ^ 24)) true all in
+    let fields : Bool = all_in_range m.boot (length mark.state.now) marks.marking (marks.numbers_of (checkpoint.body_of b)) in
+    let all : fields ≡ true = (and_parts (nat_le 1 m.boot) fields (and_parts (nat_le 1 m.boot && fields) (nat_le 0 mark.reads) sound).0).1 in
+    let most = fifth true true (nat_le mark.reads (2 ^ 24 + 1)) (nat_le mark.length (2 ^ 24)) (nat_le mark.made (2 ^ 24)) true all in
     grind (arith, most)

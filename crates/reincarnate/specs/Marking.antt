@@ -13,7 +13,6 @@ use Rattle.mark_laws.specs.MarkedLog.AnyMessage.{About_mark, Of_log}
 use Rattle.mark_laws.specs.Restart.{awaits_after, lies_within}
 use Rattle.reincarnate.specs.declared.any_msg.AnyMsg.{AnyMsg}
 use Rattle.reincarnate.specs.declared.any_msg.AnyMsg.TheVariants as any
-use Rattle.reincarnate.specs.declared.logged_mark.LoggedMark.{LoggedMark}
 use Rattle.reincarnate.specs.declared.marks.Marks.{Marks}
 use Rattle.reincarnate.specs.declared.marks.Marks.TheVariants as marks
 use Rattle.reincarnate.specs.Progress.{EntryState, begun_entry}
@@ -26,9 +25,6 @@ any_of (any.Mark m) = About_mark (checkpoint.message_of m)
 abbrev pub IsAnySendable : AnyMsg → Type 0
 IsAnySendable (any.Log m) = IsSendable m
 IsAnySendable (any.Mark m) = IsSpellable (checkpoint.message_of m)
-
-abbrev pub mark_value : LoggedMark → Mark
-mark_value m = record { reads = m.reads; length = m.length; made = m.made; state = m.state.now }
 
 -- whether marks are asked for
 abbrev pub used_if : Bool → Marks

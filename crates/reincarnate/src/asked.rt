@@ -50,7 +50,7 @@ impl Asked {
         fit_boot(self.boot);
         Msg {
             boot: self.boot,
-            body: Body::HelloMsg,
+            body: Body::Hello,
         }
     }
 

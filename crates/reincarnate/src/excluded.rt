@@ -2,17 +2,16 @@
 //! make false. It is proved from the other's contract alone, so it is no longer proved once that contract lets the wrong body pass.
 
 ghost use Rattle.std.specs.Prelude.{◌≡◌, ◌^◌, ◌≤◌, true, length};
-ghost use Rattle.logger_store.specs.StoreState.{head_value};
+ghost use Rattle.logger_wire.specs.Records.{head_said};
 ghost use Rattle.mark_laws.specs.Restart.{lies_within};
-ghost use Rattle.reincarnate.specs.Marking.{mark_value};
+ghost use Rattle.logger_wire.specs.MarkValue.{mark_said};
 ghost use Rattle.log_replay.specs.LoggedHead.{IsSegmentSize};
 
 use crate::fetched_entry::FetchedEntry;
-use crate::logged_mark::LoggedMark;
 use crate::replayed::south_behind;
 use ft_io::Key;
 use log_replay::Cuts;
-use logger_store::EntryHead;
+use logger_wire::{EntryHead, Mark};
 use seq_arith::Seq;
 use server_trait::Service;
 use south_wrap::South;
@@ -28,8 +27,8 @@ fn delta_without_syn() -> South
         sisn: 5000,
         mss: 1460,
         length: 0,
-        fin: 0,
-        done: 0,
+        fin: false,
+        done: false,
         reads: 0,
         acked: 100,
     };
@@ -59,13 +58,13 @@ fn forgets_the_fetched_output(head: &EntryHead, cuts: Cuts, isn: Seq) -> South
 fn replays_from_the_start<S: Service>(
     alloc: Global,
     head: EntryHead,
-    mark: &LoggedMark<'_>,
+    mark: &Mark<'_>,
     service: S,
 ) -> FetchedEntry<S>
     requires stream { head.length ≤ 2 ^ 24 }
     requires segments { IsSegmentSize head.mss }
     requires made { mark.now.made ≤ 2 ^ 24 }
-    requires within { lies_within (head_value head) (mark_value mark.now) ≡ true }
+    requires within { lies_within (head_said head) (mark_said mark.now) ≡ true }
     ensures { result.bytes ≡ mark.now.length }
 {
     FetchedEntry::begin_at(alloc, head, mark, service)

@@ -3,25 +3,25 @@
 ghost use Rattle.std.specs.Prelude.{◌≡◌, ◌⊎◌, ◌<◌, ◌≤◌, ◌+◌, ◌^◌, ◌++◌, true, false, length, sum, option_map, OnOk, IfOk, IfSome};
 ghost use Rattle.std.specs.List.{AllByRecursion};
 ghost use Rattle.seq_arith.specs.MessageGrammar.{lens_in};
+ghost use Rattle.logger_wire.specs.MarkValue.{mark_said};
 ghost use Rattle.logger_wire.specs.Value.{body_of};
 ghost use Rattle.ft_io.specs.Key.{key_eq};
 ghost use Rattle.log_replay.specs.ReadLengths.{HaveBytes};
-ghost use Rattle.logger_store.specs.StoreState.{head_value};
+ghost use Rattle.logger_wire.specs.Records.{head_said};
 ghost use Rattle.mark_laws.specs.Restart.{lies_within};
 ghost use Rattle.reincarnate.specs.Questions.{IsAskable};
-ghost use Rattle.reincarnate.specs.Marking.{begun_at, begun_from, mark_value};
+ghost use Rattle.reincarnate.specs.Marking.{begun_at, begun_from};
 ghost use Rattle.reincarnate.specs.Progress.{begun_entry, lacks, asked_for, asks_bytes, asks_lengths, part_fits, lengths_fit, with_bytes, cuts_with};
 ghost use Rattle.reincarnate.specs.Progress.{with_lengths, first_whole, replayed_from, replayed_state};
 ghost use Rattle.log_replay.specs.LoggedHead.{IsSegmentSize};
 
 use crate::lack::Lack;
-use crate::logged_mark::LoggedMark;
+use crate::logged_mark::lies_within;
 use crate::ranges::fit_key;
 use crate::replayed::Replayed;
 use ft_io::{Key, NoMemory};
 use log_replay::{Cuts, Replay};
-use logger_store::EntryHead;
-use logger_wire::{Body, len_at};
+use logger_wire::{Body, EntryHead, Mark, len_at};
 use server_trait::{Saved, Service};
 use std::alloc::Global;
 use std::collections::VecDeque;
@@ -43,15 +43,15 @@ pub(crate) struct FetchedEntry<S: Service> {
 }
 
 impl<S: Service> Model for FetchedEntry<S> {
-    ghost use Rattle.logger_store.specs.StoreState.{head_value};
+    ghost use Rattle.logger_wire.specs.Records.{head_said};
     ghost use Rattle.reincarnate.specs.Progress.{EntryState, IsSized};
 
     ghost Value = { EntryState S };
 
-    ghost view = { λ e. record { head = head_value e.head; bytes = e.bytes; cuts = e.cuts; waiting = e.waiting.items; replay = e.replay } };
+    ghost view = { λ e. record { head = head_said e.head; bytes = e.bytes; cuts = e.cuts; waiting = e.waiting.items; replay = e.replay } };
 
     ghost invariant = { λ e. IsSized {S = S} (record {
-      head = head_value e.head;
+      head = head_said e.head;
       bytes = e.bytes;
       cuts = e.cuts;
       waiting = e.waiting.items;
@@ -64,7 +64,7 @@ impl<S: Service> FetchedEntry<S> {
     pub(crate) fn begin(alloc: Global, kind: u8, head: EntryHead) -> FetchedEntry<S>
         requires stream { head.length ≤ 2 ^ 24 }
         requires segments { IsSegmentSize head.mss }
-        ensures { result ≡ begun_entry (S.started kind) (head_value head) }
+        ensures { result ≡ begun_entry (S.started kind) (head_said head) }
     {
         FetchedEntry {
             head,
@@ -80,14 +80,14 @@ impl<S: Service> FetchedEntry<S> {
     pub(crate) fn begin_at(
         alloc: Global,
         head: EntryHead,
-        mark: &LoggedMark<'_>,
+        mark: &Mark<'_>,
         service: S,
     ) -> FetchedEntry<S>
         requires stream { head.length ≤ 2 ^ 24 }
         requires segments { IsSegmentSize head.mss }
         requires made { mark.now.made ≤ 2 ^ 24 }
-        requires within { lies_within (head_value head) (mark_value mark.now) ≡ true }
-        ensures { result ≡ begun_at (head_value head) (mark_value mark.now) service }
+        requires within { lies_within (head_said head) (mark_said mark.now) ≡ true }
+        ensures { result ≡ begun_at (head_said head) (mark_said mark.now) service }
     {
         FetchedEntry {
             head,
@@ -99,7 +99,7 @@ impl<S: Service> FetchedEntry<S> {
     }
 
     pub(crate) fn head(&self) -> EntryHead
-        ensures { head_value result ≡ self.now.head }
+        ensures { head_said result ≡ self.now.head }
     {
         self.head
     }
@@ -114,7 +114,7 @@ impl<S: Service> FetchedEntry<S> {
     pub(crate) fn lacks(&self) -> Lack
         ensures { result ≡ lacks self.now }
     {
-        if self.head.done == 1 {
+        if self.head.done {
             return Lack::Nothing;
         }
         if self.bytes < self.cuts.sum {
@@ -136,11 +136,11 @@ impl<S: Service> FetchedEntry<S> {
     {
         fit_key(self.head.key);
         match self.lacks() {
-            Lack::Bytes => Some(Body::BytesMsg {
+            Lack::Bytes => Some(Body::Bytes {
                 key: self.head.key,
                 offset: self.bytes,
             }),
-            Lack::Lengths => Some(Body::CutsMsg {
+            Lack::Lengths => Some(Body::Cuts {
                 key: self.head.key,
                 first: self.cuts.count,
             }),
@@ -214,8 +214,7 @@ impl<S: Service> FetchedEntry<S> {
         if !self.lengths_fit(key, first, lens.len() / 2) {
             return None;
         }
-        self.cuts
-            .through(lens, self.head.length, self.head.fin == 1)
+        self.cuts.through(lens, self.head.length, self.head.fin)
     }
 
     /// The entry with these lengths, after which the reads are `cuts`.
@@ -249,7 +248,7 @@ impl<S: Service> FetchedEntry<S> {
     pub(crate) fn is_done(&self) -> bool
         ensures { result ≡ self.now.head.done }
     {
-        self.head.done == 1
+        self.head.done
     }
 
     /// The restored entry, where nothing is missing.
@@ -276,12 +275,12 @@ impl<S: Saved> FetchedEntry<S> {
         &self,
         alloc: Global,
         kind: u8,
-        mark: &LoggedMark<'_>,
+        mark: &Mark<'_>,
     ) -> Result<Option<FetchedEntry<S>>, NoMemory>
         requires { mark.now.made ≤ 2 ^ 24 }
-        ensures { IfOk result (λ begun. begun ≡ begun_from (S.started kind) (S.state_of kind) (mark_value mark.now) self.now.head) }
+        ensures { IfOk result (λ begun. begun ≡ begun_from (S.started kind) (S.state_of kind) (mark_said mark.now) self.now.head) }
     {
-        if !mark.lies_within(&self.head) {
+        if !lies_within(mark, &self.head) {
             return Ok(None);
         }
         if mark.reads == 0 {

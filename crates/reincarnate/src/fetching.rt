@@ -14,9 +14,9 @@ ghost use Rattle.seq_arith.specs.MarkGrammar.{IsSpellable};
 ghost use Rattle.logger_wire.specs.MarkValue.{message_of as mark_message_of};
 ghost use Rattle.mark_laws.specs.MarkedLog.AnyMessage.{About_mark};
 ghost use Rattle.mark_laws.specs.Restart.{FetchedSoFar, next_question};
-ghost use Rattle.reincarnate.specs.Marking.{any_of, IsAnySendable, mark_value, awaits, marks_after, marked_on};
+ghost use Rattle.reincarnate.specs.Marking.{any_of, IsAnySendable, awaits, marks_after, marked_on};
 ghost use Rattle.logger_wire.specs.Value.{body_of, message_of, IsSendable};
-ghost use Rattle.logger_store.specs.StoreState.{head_value};
+ghost use Rattle.logger_wire.specs.Records.{head_said};
 ghost use Rattle.reincarnate.specs.Progress.{AreReady};
 ghost use Rattle.log_replay.specs.LoggedHead.{IsSegmentSize};
 ghost use Rattle.reincarnate.specs.Questions.{any_asked, any_heard, log_heard, noted, held_heard, mark_heard, mark_asked};
@@ -27,12 +27,10 @@ ghost use Rattle.reincarnate.specs.Refinement.{StandsFetching, StandsSoFar, Stan
 use crate::any_msg::AnyMsg;
 use crate::entries::Entries;
 use crate::fetched_entry::FetchedEntry;
-use crate::logged_mark::LoggedMark;
 use crate::marks::Marks;
 use crate::ranges::{fit_boot, fit_key};
 use ft_io::{Key, NoMemory};
-use logger_store::EntryHead;
-use logger_wire::{Body, MarkBody, MarkMsg, Msg};
+use logger_wire::{Body, EntryHead, Mark, MarkBody, MarkMsg, Msg};
 use server_trait::{Saved, Service};
 use std::alloc::Global;
 use std::marker::Model;
@@ -109,7 +107,7 @@ impl<S: Service> Fetching<S> {
     {
         let index = self.fetched();
         if index < usize::from(self.count) {
-            return Some(Body::ListMsg {
+            return Some(Body::List {
                 index: index as u16,
             });
         }
@@ -182,15 +180,15 @@ impl<S: Service> Fetching<S> {
 
     /// Returns the head of this key's entry, or None if no such entry is fetched yet.
     pub fn known(&self, key: Key) -> Option<EntryHead>
-        ensures value { option_map head_value result ≡ option_map (λ e. e.head) (entry_known key self.now) }
+        ensures value { option_map head_said result ≡ option_map (λ e. e.head) (entry_known key self.now) }
         ensures law { (fetched : List Fetched) → StandsFetching (machine (S.started self.now.kind) S.after) fetched self.now
-            → option_map head_value result ≡ option_map (λ f. f.head) (find (λ f. key_eq f.head.key key) fetched) }
+            → option_map head_said result ≡ option_map (λ f. f.head) (find (λ f. key_eq f.head.key key) fetched) }
     {
         self.head_of(key)
     }
 
     fn head_of(&self, key: Key) -> Option<EntryHead>
-        ensures { option_map head_value result ≡ option_map (λ e. e.head) (entry_known key self.now) }
+        ensures { option_map head_said result ≡ option_map (λ e. e.head) (entry_known key self.now) }
     {
         match &self.newest {
             Some(entry) if entry.has_key(key) => Some(entry.head()),
@@ -256,34 +254,9 @@ impl<S: Service> Fetching<S> {
             ((fits ≡ false) × (self.new ≡ self.old)) (λ s. (fits ≡ true) × (self.new ≡ s))) }
     {
         match m.body {
-            Body::EntryMsg {
-                index,
-                key,
-                cisn,
-                sisn,
-                mss,
-                length,
-                fin,
-                done,
-                reads,
-                acked,
-            } => self.on_head(
-                alloc,
-                index,
-                EntryHead {
-                    key,
-                    cisn,
-                    sisn,
-                    mss,
-                    length,
-                    fin,
-                    done,
-                    reads,
-                    acked,
-                },
-            ),
-            Body::PartMsg { key, offset, bytes } => self.on_part(key, offset, bytes),
-            Body::LensMsg { key, first, lens } => self.on_lens(key, first, lens),
+            Body::Entry { index, head } => self.on_head(alloc, index, head),
+            Body::Part { key, offset, bytes } => self.on_part(key, offset, bytes),
+            Body::Lens { key, first, lens } => self.on_lens(key, first, lens),
             _ => Ok(false),
         }
     }
@@ -294,7 +267,7 @@ impl<S: Service> Fetching<S> {
         requires stream { head.length ≤ 2 ^ 24 }
         requires segments { IsSegmentSize head.mss }
         ensures fits { IfOk result (λ fits. fits ≡ head_fits index head.key self.old) }
-        ensures state { IfOk result (λ fits. self.new ≡ (if fits then with_head (S.started self.old.kind) (head_value head) self.old else self.old)) }
+        ensures state { IfOk result (λ fits. self.new ≡ (if fits then with_head (S.started self.old.kind) (head_said head) self.old else self.old)) }
     {
         if !self.head_fits(index, head.key) {
             return Ok(false);
@@ -406,30 +379,15 @@ impl<S: Saved> Fetching<S> {
             return Ok(false);
         }
         match m.body {
-            MarkBody::Held {
-                key,
-                reads,
-                length,
-                made,
-                state,
-            } => self.on_held(
-                alloc,
-                key,
-                &LoggedMark {
-                    reads,
-                    length,
-                    made,
-                    state,
-                },
-            ),
+            MarkBody::Held { key, mark } => self.on_held(alloc, key, &mark),
             _ => Ok(false),
         }
     }
 
     /// Takes the mark of the newest entry: if it is an answer, the entry begins there.
-    fn on_held(&mut self, alloc: Global, key: Key, mark: &LoggedMark<'_>) -> Result<bool, NoMemory>
+    fn on_held(&mut self, alloc: Global, key: Key, mark: &Mark<'_>) -> Result<bool, NoMemory>
         requires { mark.now.made ≤ 2 ^ 24 }
-        ensures value { IfOk result (λ fits. MatchOption (held_heard S.started S.state_of (HeldMsg key (mark_value mark.now)) self.old)
+        ensures value { IfOk result (λ fits. MatchOption (held_heard S.started S.state_of (HeldMsg key (mark_said mark.now)) self.old)
             ((fits ≡ false) × (self.new ≡ self.old)) (λ s. (fits ≡ true) × (self.new ≡ s))) }
     {
         let Some(entry) = self.begun_from(alloc, key, mark)? else {
@@ -445,10 +403,10 @@ impl<S: Saved> Fetching<S> {
         &self,
         alloc: Global,
         key: Key,
-        mark: &LoggedMark<'_>,
+        mark: &Mark<'_>,
     ) -> Result<Option<FetchedEntry<S>>, NoMemory>
         requires { mark.now.made ≤ 2 ^ 24 }
-        ensures { IfOk result (λ begun. begun ≡ marked_on (S.started self.now.kind) (S.state_of self.now.kind) key (mark_value mark.now) self.now.newest) }
+        ensures { IfOk result (λ begun. begun ≡ marked_on (S.started self.now.kind) (S.state_of self.now.kind) key (mark_said mark.now) self.now.newest) }
     {
         match &self.newest {
             Some(entry) if entry.has_key(key) => entry.from_mark(alloc, self.kind, mark),
@@ -493,7 +451,7 @@ fn set_aside<S: Service>(
 /// The head of the first of these entries that has this key.
 #[tactic(auto, using(crate::proofs::Finding::found_here, crate::proofs::Finding::passed_here, crate::proofs::Finding::none_here))]
 fn head_among<S: Service>(entries: &[FetchedEntry<S>], key: Key) -> Option<EntryHead>
-    ensures { option_map head_value result ≡ option_map (λ e. e.head) (find (λ e. key_eq e.head.key key) entries.now) }
+    ensures { option_map head_said result ≡ option_map (λ e. e.head) (find (λ e. key_eq e.head.key key) entries.now) }
 {
     for entry in entries {
         if entry.has_key(key) {

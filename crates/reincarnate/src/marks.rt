@@ -51,7 +51,7 @@ impl Marks {
         ensures { result ≡ (if awaits_after true (body_of body.now) then Marks.Awaited else Marks.Used) }
     {
         match *body {
-            Body::EntryMsg { done, reads, .. } if done != 1 && reads > 0 => Marks::Awaited,
+            Body::Entry { head, .. } if !head.done && head.reads > 0 => Marks::Awaited,
             _ => Marks::Used,
         }
     }

@@ -9,14 +9,14 @@ ghost use Rattle.south_wrap.specs.SouthState.{resumed_south};
 ghost use Rattle.reincarnate.specs.Refinement.{IsReplayed};
 ghost use Rattle.reincarnate.specs.Splice.{spliced_from, EntryNumbersFit, IsSpliced};
 ghost use Rattle.log_replay.specs.ReadLengths.{HaveBytes};
-ghost use Rattle.logger_store.specs.StoreState.{head_value};
+ghost use Rattle.logger_wire.specs.Records.{head_said};
 ghost use Rattle.log_replay.specs.LoggedHead.{IsSegmentSize, has_end};
 
 use crate::lost::{LostIn, Stage};
 use crate::spliced::Spliced;
 use ft_io::Addr;
 use log_replay::{Cuts, Replay, has_end, spliced_endpoint};
-use logger_store::EntryHead;
+use logger_wire::EntryHead;
 use seq_arith::Seq;
 use server_trait::Service;
 use south_wrap::South;
@@ -37,13 +37,13 @@ pub struct Replayed<S: Service> {
 impl<S: Service> Model for Replayed<S> {
     ghost use Rattle.std.specs.Prelude.{◌≡◌, ◌+◌, ◌^◌, ◌≤◌, length};
     ghost use Rattle.log_replay.specs.ReadLengths.{HaveBytes};
-    ghost use Rattle.logger_store.specs.StoreState.{head_value};
+    ghost use Rattle.logger_wire.specs.Records.{head_said};
     ghost use Rattle.reincarnate.specs.Progress.{ReplayedState};
     ghost use Rattle.log_replay.specs.LoggedHead.{IsSegmentSize};
 
     ghost Value = { ReplayedState S };
 
-    ghost view = { λ r. record { head = head_value r.head; cuts = r.cuts; replay = r.replay } };
+    ghost view = { λ r. record { head = head_said r.head; cuts = r.cuts; replay = r.replay } };
 
     ghost invariant = { λ r. (r.head.length ≤ 2 ^ 24) × IsSegmentSize r.head.mss × HaveBytes r.cuts × (r.cuts.sum + length r.replay.held ≡ r.head.length) };
 }
@@ -54,14 +54,14 @@ impl<S: Service> Replayed<S> {
         requires segments { IsSegmentSize head.mss }
         requires have { HaveBytes cuts }
         requires whole { cuts.sum + length replay.held ≡ head.length }
-        ensures { result ≡ record { head = head_value head; cuts = cuts; replay = replay } }
+        ensures { result ≡ record { head = head_said head; cuts = cuts; replay = replay } }
     {
         Replayed { head, cuts, replay }
     }
 
     /// Returns the entry without its bytes and lengths.
     pub fn head(&self) -> EntryHead
-        ensures { head_value result ≡ self.now.head }
+        ensures { head_said result ≡ self.now.head }
     {
         self.head
     }
@@ -126,7 +126,7 @@ pub(crate) fn south_behind(head: &EntryHead, cuts: Cuts, made: u32, closed: bool
     requires read { cuts.sum ≤ 2 ^ 24 }
     ensures numbers { (head.now.sisn < 2 ^ 32) × (isn.0 < 2 ^ 32) }
     ensures value { result ≡ record (resumed_south head.now.cisn head.now.sisn head.now.length (made + one_if closed)
-        (has_end (head_value head.now)) (min head.now.acked made) isn.0) { read = cuts.sum } }
+        (has_end (head_said head.now)) (min head.now.acked made) isn.0) { read = cuts.sum } }
 {
     let mut south = South::resumed(
         Seq(head.cisn),

@@ -11,10 +11,10 @@ use Rattle.logger_wire.specs.declared.Body.{Body}
 use Rattle.logger_wire.specs.declared.Body.TheVariants as body
 use Rattle.logger_wire.specs.Value.{body_of, IsSendable}
 
-pub summary_in_range : (m : Msg) (count : ℕ) → IsSendable m → m.body ≡ body.SummaryMsg count → count ≤ 64
+pub summary_in_range : (m : Msg) (count : ℕ) → IsSendable m → m.body ≡ body.Summary count → count ≤ 64
 unfolding is_sound
 summary_in_range m count sendable is =
-    let b : Body = body.SummaryMsg count in
+    let b : Body = body.Summary count in
     let sound = subst (λ x. is_sound (kind_of (body_of x)) m.boot (length (behind_of (body_of x))) (numbers_of (body_of x)) (lens_of (body_of x)) ≡ true) is sendable.spellable.sound in
     let fields = (and_parts (nat_le 1 m.boot) (all_in_range m.boot 0 (fields_of kinds.Summary) (numbers_of (body_of b)))
     (and_parts (nat_le 1 m.boot && all_in_range m.boot 0 (fields_of kinds.Summary) (numbers_of (body_of b))) (list_all (λ k. nat_le k 2048) (lens_of (body_of b))) sound).0).1 in
@@ -25,5 +25,5 @@ pub count_in_range : (m : Msg) (count : ℕ) → IsSendable m → summary_count 
 count_in_range m count sendable e = go m.body refl e
   where
     go : (b : Body) → m.body ≡ b → summary_count (body_of b) ≡ Some count → count ≤ 64
-    go (body.SummaryMsg n) is e = subst (λ k. k ≤ 64) (some_is n count e) (summary_in_range m n sendable is)
+    go (body.Summary n) is e = subst (λ k. k ≤ 64) (some_is n count e) (summary_in_range m n sendable is)
     go _ is e = none_is_some count e

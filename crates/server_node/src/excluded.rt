@@ -47,7 +47,7 @@ use server_trait::{Saved, Service};
 fn fenced_by_an_older_boot() -> Option<u64>
     ensures { result ≡ None }
 {
-    newer_than(2, &Body::StaleMsg { newer: 1 })
+    newer_than(2, &Body::Stale { newer: 1 })
 }
 
 /// A restored connection has inside the initial sequence number that follows those of the connections restored before it: the clause `turn` of `restore`.

@@ -310,7 +310,7 @@ fn fit_part(m: &AnyMsg<'_>)
     match m {
         AnyMsg::Log(
             Msg {
-                body: Body::PartMsg { bytes, .. },
+                body: Body::Part { bytes, .. },
                 ..
             },
         ) => fit(bytes),
@@ -325,10 +325,10 @@ fn note_last(alloc: Global, m: &AnyMsg<'_>, marks: &mut Marks) -> Result<(), NoM
     match m {
         AnyMsg::Mark(
             MarkMsg {
-                body: MarkBody::Held { key, reads, .. },
+                body: MarkBody::Held { key, mark },
                 ..
             },
-        ) => marks.begin(alloc, *key, *reads),
+        ) => marks.begin(alloc, *key, mark.reads),
         _ => Ok(()),
     }
 }

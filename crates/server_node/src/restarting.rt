@@ -6,7 +6,7 @@ ghost use Rattle.seq_arith.specs.Packet.{has_rst};
 ghost use Rattle.seq_arith.specs.Value.{said};
 ghost use Rattle.segment_codec.specs.Value.{segment_of};
 ghost use Rattle.logger_wire.specs.Value.{message_of, IsSendable};
-ghost use Rattle.logger_store.specs.StoreState.{head_value};
+ghost use Rattle.logger_wire.specs.Records.{head_said};
 ghost use Rattle.reincarnate.specs.Questions.{asked as asked_of, after_answer};
 ghost use Rattle.reincarnate.specs.Marking.{any_of, IsAnySendable};
 ghost use Rattle.reincarnate.specs.Refinement.{StandsFetching, AnswerLeads, fetched_then};
@@ -22,8 +22,7 @@ ghost use Rattle.node_serving.specs.Turns.{SendsFor};
 use crate::reviving::restore_all;
 use crate::stage::Stage;
 use ft_io::{Key, NoMemory};
-use logger_store::EntryHead;
-use logger_wire::Msg;
+use logger_wire::{EntryHead, Msg};
 use node_serving::{Identity, Turn, send_bare, tell};
 use reincarnate::{AnyMsg, Asked, Fetching};
 use segment_codec::{Head, PacketRef};
@@ -153,9 +152,9 @@ pub(crate) fn ask<S: Service>(
 
 /// The answer to a client whose entry has come: it acknowledges the logged bytes and FIN, with window 0.
 fn holding(who: Identity, entry: &EntryHead) -> Head
-    ensures { record { head = said result; payload = [] } ≡ holding_segment who.local (head_value entry.now) }
+    ensures { record { head = said result; payload = [] } ≡ holding_segment who.local (head_said entry.now) }
 {
-    let fin = u32::from(entry.fin == 1);
+    let fin = u32::from(entry.fin);
     Head {
         src: who.local.ip,
         dst: entry.key.ip,
@@ -180,13 +179,13 @@ fn may_be_held(who: Identity, segment: &PacketRef<'_>) -> bool
 /// The head of a key's entry, unless its connection has ended.
 fn live_head<S: Service>(fetching: &Fetching<S>, key: Key) -> Option<EntryHead>
     ensures law { (count : ℕ) (fetched : List Fetched) → FetchingStands (machine (S.started fetching.now.kind) S.after) count fetched fetching.now
-        → option_map head_value result ≡ option_map (λ f. f.head) (live_entry key fetched) }
+        → option_map head_said result ≡ option_map (λ f. f.head) (live_entry key fetched) }
     ensures keyed { IfSome result (λ entry. entry.key ≡ key) }
 {
     let Some(entry) = fetching.known(key) else {
         return None;
     };
-    if entry.done == 1 {
+    if entry.done {
         return None;
     }
     Some(entry)

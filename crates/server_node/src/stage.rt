@@ -80,7 +80,7 @@ pub(crate) fn send_hello(who: Identity, turn: &mut Turn) -> Result<(), NoMemory>
 {
     let message = Msg {
         boot: who.boot,
-        body: Body::HelloMsg,
+        body: Body::Hello,
     };
     tell(&message, turn)
 }
@@ -148,7 +148,7 @@ pub(crate) fn count_in(body: &Body<'_>) -> Option<u16>
     ensures { result ≡ summary_count (body_of body.now) }
 {
     match body {
-        Body::SummaryMsg { count } => Some(*count),
+        Body::Summary { count } => Some(*count),
         _ => None,
     }
 }
@@ -174,7 +174,7 @@ pub(crate) fn newer_than(boot: u64, body: &Body<'_>) -> Option<u64>
     ensures { result ≡ newer_than boot (body_of body.now) }
 {
     match body {
-        Body::StaleMsg { newer } => (boot < *newer).then_some(*newer),
+        Body::Stale { newer } => (boot < *newer).then_some(*newer),
         _ => None,
     }
 }

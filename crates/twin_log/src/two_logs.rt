@@ -14,7 +14,7 @@ ghost use Rattle.twin_log.specs.Outbox.{answer_out, request_in, is_asking_messag
 use crate::twin_out::TwinOut;
 use crate::waiting::{WAITING, Waiting};
 use ft_io::NoMemory;
-use logger_store::{LogStore, MsgOut, is_answer};
+use logger_store::{LogStore, MsgOut};
 use logger_wire::{Msg, TwinMsg, read_msg, read_twin};
 use std::alloc::Global;
 use std::marker::Model;
@@ -240,7 +240,7 @@ impl TwinLog {
         ensures refused { OnErr result (self.new ≡ self.old) }
         ensures empty { OnErr result (out.new ≡ []) }
     {
-        if is_answer(&msg.body) {
+        if msg.body.is_answer() {
             return Ok(());
         }
         self.keep(alloc, msg, bytes)?;

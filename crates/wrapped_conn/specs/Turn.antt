@@ -6,8 +6,7 @@ use Rattle.seq_arith.specs.Packet.{Segment}
 use Rattle.seq_arith.specs.Message.{Body}
 use Rattle.server_trait.specs.Service.{Served}
 use Rattle.logger_wire.specs.declared.Body.{Body as Said}
-use Rattle.logger_wire.specs.declared.Body.TheVariants.{StableMsg, ReadsMsg, EndedMsg}
-use Rattle.logger_wire.specs.Value.{is_set}
+use Rattle.logger_wire.specs.declared.Body.TheVariants.{Stable, Reads, Ended}
 use Rattle.south_wrap.specs.SouthState.{with_stable}
 use Rattle.south_wrap.specs.Translation.{repeats_syn}
 use Rattle.north_wrap.specs.declared.read_record.ReadRecord.{ReadRecord}
@@ -83,9 +82,9 @@ Hears after length fin reads old new segments messages =
 
 -- a message arrives
 abbrev pub IsTold : {S : Type 0} → (S → List ℕ → Served S) → Said → (old new : ConnState S) → (segments messages : List (List ℕ)) → Type 0
-IsTold after (StableMsg key length fin reads) old new segments messages = Hears after length (is_set fin) reads old new segments messages
-IsTold after (ReadsMsg key length fin reads) old new segments messages = Hears after length (is_set fin) reads old new segments messages
-IsTold after (EndedMsg key) old new segments messages = Rests (record old { stage = Done }) new segments messages
+IsTold after (Stable kept) old new segments messages = Hears after kept.length kept.fin kept.reads old new segments messages
+IsTold after (Reads kept) old new segments messages = Hears after kept.length kept.fin kept.reads old new segments messages
+IsTold after (Ended key) old new segments messages = Rests (record old { stage = Done }) new segments messages
 IsTold after other old new segments messages = Rests old new segments messages
 
 -- a tick passes for TCP ..

@@ -2,7 +2,6 @@
 
 ghost use Rattle.std.specs.Prelude.{◌≡◌, ℕ, List, length};
 ghost use Rattle.ft_io.specs.declared.Addr.{Addr};
-ghost use Rattle.ft_io.specs.declared.Key.{Key};
 ghost use Rattle.seq_arith.specs.Message.{Numbers};
 ghost use Rattle.seq_arith.specs.Packet.{Segment};
 ghost use Rattle.server_trait.specs.Service.{machine};
@@ -12,8 +11,9 @@ ghost use Rattle.ft_model.specs.News.News.{Comes, Logged, Ticks, Begins};
 ghost use Rattle.ft_model.specs.Opening.{point_opened};
 ghost use Rattle.ft_model.specs.Point.{Point};
 ghost use Rattle.ft_model.specs.Restart.{point_of, resumed_at};
-ghost use Rattle.logger_wire.specs.declared.Body.TheVariants.{StableMsg, ReadsMsg};
-ghost use Rattle.logger_wire.specs.Value.{is_set};
+ghost use Rattle.logger_wire.specs.declared.Body.TheVariants.{Stable, Reads};
+ghost use Rattle.logger_wire.specs.declared.records.Kept.{Kept};
+ghost use Rattle.logger_wire.specs.Records.{kept_said};
 ghost use Rattle.north_wrap.specs.NorthState.{NorthState};
 ghost use Rattle.north_wrap.specs.Refinement.{HasReplayed};
 ghost use Rattle.south_wrap.specs.SouthPoint.{south_at};
@@ -59,24 +59,12 @@ pub fn connections_receive_as_the_law_says<S: Service>()
 
 /// The turn of a message that says how much of the connection is logged is lawful.
 pub fn connections_hear_as_the_law_says<S: Service>()
-    ensures stable { (fresh : S) (p : Point) (key : Key) (length fin reads : ℕ) (old new : ConnState S) (segments messages : List (List ℕ)) → IsSound old
-        → IsSound new
-        → Stands (machine fresh S.after) old p → IsTold S.after (StableMsg key length fin reads) old new segments messages
-        → Leads (machine fresh S.after) old.local old.boot (Logged (record {
-          key = key;
-          length = length;
-          fin = is_set fin;
-          reads = reads;
-        })) p new segments messages }
-    ensures reads { (fresh : S) (p : Point) (key : Key) (length fin reads : ℕ) (old new : ConnState S) (segments messages : List (List ℕ)) → IsSound old
-        → IsSound new
-        → Stands (machine fresh S.after) old p → IsTold S.after (ReadsMsg key length fin reads) old new segments messages
-        → Leads (machine fresh S.after) old.local old.boot (Logged (record {
-          key = key;
-          length = length;
-          fin = is_set fin;
-          reads = reads;
-        })) p new segments messages }
+    ensures stable { (fresh : S) (p : Point) (kept : Kept) (old new : ConnState S) (segments messages : List (List ℕ)) → IsSound old → IsSound new
+        → Stands (machine fresh S.after) old p → IsTold S.after (Stable kept) old new segments messages
+        → Leads (machine fresh S.after) old.local old.boot (Logged (kept_said kept)) p new segments messages }
+    ensures reads { (fresh : S) (p : Point) (kept : Kept) (old new : ConnState S) (segments messages : List (List ℕ)) → IsSound old → IsSound new
+        → Stands (machine fresh S.after) old p → IsTold S.after (Reads kept) old new segments messages
+        → Leads (machine fresh S.after) old.local old.boot (Logged (kept_said kept)) p new segments messages }
 {}
 
 /// A tick's turn is lawful.

@@ -11,7 +11,7 @@ ghost use Rattle.wrapped_conn.specs.LoggerMessages.{spelled, dones, text_length,
 use crate::conn::Conn;
 use crate::stage::ConnStage;
 use ft_io::Key;
-use logger_wire::{Body, Msg, put_msg};
+use logger_wire::{Body, Msg, Part, put_msg};
 use north_wrap::ReadRecords;
 use server_trait::Service;
 use tcp_endpoint::Outbox;
@@ -46,13 +46,13 @@ impl<S: Service> Conn<S> {
         ensures short { byte_count out.new ≤ byte_count out.old + 64 + length bytes.now }
     {
         fit(self.key, self.boot);
-        let body = Body::DataMsg {
+        let body = Body::Data(Part {
             key: self.key,
             offset,
             acked,
-            fin: u8::from(fin),
+            fin,
             bytes,
-        };
+        });
         if bytes.len() <= SHORT_TEXT {
             tell(self.boot, body, &mut [0; 128], out)
         } else {
@@ -86,12 +86,7 @@ impl<S: Service> Conn<S> {
         }
         self.stage = ConnStage::Ending;
         fit(self.key, self.boot);
-        tell(
-            self.boot,
-            Body::DoneMsg { key: self.key },
-            &mut [0; 22],
-            out,
-        );
+        tell(self.boot, Body::Done { key: self.key }, &mut [0; 22], out);
     }
 }
 
@@ -122,12 +117,7 @@ fn tell_reads(boot: u64, key: Key, reads: &ReadRecords, out: &mut Outbox)
     fit(key, boot);
     for i in 0..reads.len() {
         let (index, length) = reads.get(i);
-        tell(
-            boot,
-            Body::ReadMsg { key, index, length },
-            &mut [0; 28],
-            out,
-        );
+        tell(boot, Body::Read { key, index, length }, &mut [0; 28], out);
     }
 }
 

@@ -23,7 +23,7 @@ use crate::conn::Conn;
 use crate::stage::{Before, ConnStage};
 use crate::turn_out::TurnOut;
 use ft_io::NoMemory;
-use logger_wire::{Body, Msg};
+use logger_wire::{Body, Kept, Msg};
 use north_wrap::ReadRecords;
 use segment_codec::{Head, read_accepted};
 use seq_arith::{RST, has};
@@ -228,19 +228,9 @@ impl<S: Service> Conn<S> {
         ensures sound { OnOk result (IsSound self.new) }
     {
         match m.body {
-            Body::StableMsg {
-                length,
-                fin,
-                reads,
-                ..
-            } => self.hear(alloc, length, fin == 1, reads, out),
-            Body::ReadsMsg {
-                length,
-                fin,
-                reads,
-                ..
-            } => self.hear(alloc, length, fin == 1, reads, out),
-            Body::EndedMsg { .. } => {
+            Body::Stable(kept) => self.hear(alloc, kept, out),
+            Body::Reads(kept) => self.hear(alloc, kept, out),
+            Body::Ended { .. } => {
                 self.stage = ConnStage::Done;
                 Ok(())
             }
@@ -249,22 +239,15 @@ impl<S: Service> Conn<S> {
     }
 
     /// The turn of an answer that says how much of the connection is logged.
-    fn hear(
-        &mut self,
-        alloc: Global,
-        length: u32,
-        fin: bool,
-        reads: u32,
-        out: &mut TurnOut,
-    ) -> Result<(), NoMemory>
+    fn hear(&mut self, alloc: Global, kept: Kept, out: &mut TurnOut) -> Result<(), NoMemory>
         requires sound { IsSound self.old }
-        requires most { length ≤ 2 ^ 24 }
+        requires most { kept.length ≤ 2 ^ 24 }
         requires no_segment { out.old.segments ≡ [] }
         requires no_message { out.old.messages ≡ [] }
-        ensures turn { OnOk result (Hears S.after length fin reads self.old self.new out.new.segments out.new.messages) }
+        ensures turn { OnOk result (Hears S.after kept.length kept.fin kept.reads self.old self.new out.new.segments out.new.messages) }
         ensures sound { OnOk result (IsSound self.new) }
     {
-        let is_news = self.note_logged(length, fin, reads);
+        let is_news = self.note_logged(kept.length, kept.fin, kept.reads);
         if self.reset {
             return Ok(());
         }

@@ -1,12 +1,12 @@
 use Rattle.server_trait.specs.Service.{machine}
-use Rattle.logger_wire.specs.Value.{is_set}
+use Rattle.logger_wire.specs.Records.{kept_said}
 use Rattle.wrapped_conn.proofs.Hearing.{hears}
 use Rattle.wrapped_conn.proofs.laws.connections_hear_as_the_law_says.Goals as goal
 
 pub returns-clause-stable : goal.returns-clause-stable
-returns-clause-stable g c = λ fresh p key length fin reads old new segments messages sound sound_new stands turn.
-    hears (machine fresh g.S.Service.after) p old new (record { key = key; length = length; fin = is_set fin; reads = reads }) segments messages sound sound_new stands turn
+returns-clause-stable g c = λ fresh p kept old new segments messages sound sound_new stands turn.
+    hears (machine fresh g.S.Service.after) p old new (kept_said kept) segments messages sound sound_new stands turn
 
 pub returns-clause-reads : goal.returns-clause-reads
-returns-clause-reads g c = λ fresh p key length fin reads old new segments messages sound sound_new stands turn.
-    hears (machine fresh g.S.Service.after) p old new (record { key = key; length = length; fin = is_set fin; reads = reads }) segments messages sound sound_new stands turn
+returns-clause-reads g c = λ fresh p kept old new segments messages sound sound_new stands turn.
+    hears (machine fresh g.S.Service.after) p old new (kept_said kept) segments messages sound sound_new stands turn

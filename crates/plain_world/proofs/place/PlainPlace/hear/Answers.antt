@@ -1,4 +1,3 @@
-use Rattle.std.proofs.Common.{⊎_elim}
 use Rattle.server_trait.specs.Service.{machine}
 use Rattle.ft_model.specs.Node.{Stage}
 use Rattle.plain_world.specs.Values.{node_of}
@@ -22,5 +21,7 @@ pub returns-in-Ended-clause-served : goal.returns-in-Ended-clause-served
 returns-in-Ended-clause-served g c = c.hear_ended.ensures.served _ _
 
 pub returns-in_ok-hear_logged-in-Stable-clause-turn : goal.returns-in_ok-hear_logged-in-Stable-clause-turn
-returns-in_ok-hear_logged-in-Stable-clause-turn g c =
-    ⊎_elim (λ is. rw is c.in_ok-hear_logged-in-Stable.ensures.stable) (λ is. rw is c.in_ok-hear_logged-in-Stable.ensures.reads) c.in-Stable.is
+returns-in_ok-hear_logged-in-Stable-clause-turn g c = rw c.in-Stable.is c.in_ok-hear_logged-in-Stable.ensures.stable
+
+pub returns-in_ok-hear_logged-in-Reads-clause-turn : goal.returns-in_ok-hear_logged-in-Reads-clause-turn
+returns-in_ok-hear_logged-in-Reads-clause-turn g c = rw c.in-Reads.is c.in_ok-hear_logged-in-Reads.ensures.reads

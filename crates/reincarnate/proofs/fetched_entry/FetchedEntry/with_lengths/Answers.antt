@@ -1,6 +1,6 @@
 use Rattle.std.proofs.Common.{◌≡◌, ◌+◌, ◌++◌, ◌∙◌, true, ap, sym, subst, sum, ◌≤◌}
 use Rattle.seq_arith.specs.MessageGrammar.{lens_in}
-use Rattle.logger_store.specs.StoreState.{head_value}
+use Rattle.logger_wire.specs.Records.{head_said}
 use Rattle.reincarnate.specs.Progress.{EntryState, Waiting, lacks, asks_lengths, replayed_from, waits_on, IsSized}
 use Rattle.reincarnate.proofs.Sized.{lengths_sized}
 use Rattle.reincarnate.proofs.fetched_entry.FetchedEntry.with_lengths.Goals as goal
@@ -8,7 +8,7 @@ use Rattle.reincarnate.proofs.fetched_entry.FetchedEntry.with_lengths.Goals as g
 pub invariant_of-result : goal.invariant_of-result
 invariant_of-result g c =
     let e : EntryState _ = record {
-      head = head_value c.self.inside.head;
+      head = head_said c.self.inside.head;
       bytes = c.self.inside.bytes;
       cuts = c.self.inside.cuts;
       waiting = c.self.inside.waiting.items;

@@ -1,6 +1,6 @@
 use Rattle.std.proofs.Common.{◌≡◌, ◌∙◌, ◌+◌, ◌≤◌, ◌^◌, length, min, sym, ap, ap₂, subst}
 use Rattle.ft_model.specs.Offset.{one_if}
-use Rattle.logger_store.specs.StoreState.{head_value}
+use Rattle.logger_wire.specs.Records.{head_said}
 use Rattle.south_wrap.specs.SouthState.{resumed_south}
 use Rattle.wrapped_conn.specs.Sound.{IsSound}
 use Rattle.reincarnate.specs.Progress.{ReplayedState}
@@ -12,12 +12,12 @@ use Rattle.reincarnate.proofs.replayed.Replayed.join.Goals as goal
 pub invariant_of-result : goal.invariant_of-result
 invariant_of-result g c =
     let h = c.self.inside.head in
-    let r : ReplayedState _ = record { head = head_value h; cuts = c.self.inside.cuts; replay = c.self.inside.replay } in
+    let r : ReplayedState _ = record { head = head_said h; cuts = c.self.inside.cuts; replay = c.self.inside.replay } in
     let numbers = c.south_behind-south.ensures.numbers in
     let fits : EntryNumbersFit r c.args.isn.0 = record { stream = c.self.invariant.0; segments = c.self.invariant.1; sisn = numbers.0; i_fits = numbers.1 } in
     let south : c.south_behind-south.result ≡ south_from c.args.isn.0 r =
     c.south_behind-south.ensures.value
-    ∙ ap₂ (λ m closed. record (resumed_south h.cisn h.sisn h.length (m + one_if closed) (has_end (head_value h)) (min h.acked m) c.args.isn.0) { read = c.self.inside.cuts.sum }) c.made.ensures.value c.has_closed.ensures in
+    ∙ ap₂ (λ m closed. record (resumed_south h.cisn h.sisn h.length (m + one_if closed) (has_end (head_said h)) (min h.acked m) c.args.isn.0) { read = c.self.inside.cuts.sum }) c.made.ensures.value c.has_closed.ensures in
     let is : spliced_from c.args.boot c.args.local c.args.isn.0 r
     ≡ record { boot = c.args.boot; key = h.key; local = c.args.local; south = c.south_behind-south.result; endpoint = c.in-Ok.endpoint; north = c.into_north.result } =
     λ j. record { boot = c.args.boot; key = h.key; local = c.args.local; south = sym south j; endpoint = sym c.in-Ok.ensures j; north = sym c.into_north.ensures j } in
