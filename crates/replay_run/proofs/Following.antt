@@ -12,8 +12,9 @@ use Rattle.ft_model.specs.Wire.{wire_of, HasWire}
 use Rattle.ft_model.specs.World.{client_at}
 use Rattle.ft_model.specs.declared.schedule.Schedule.{Schedule}
 use Rattle.ft_model.proofs.Lists.{some_is, none_is_some, index_within}
-use Rattle.logger_store.specs.StoreState.{head_value, lengths_of}
-use Rattle.logger_store.specs.declared.entry_head.EntryHead.{EntryHead}
+use Rattle.logger_wire.specs.Records.{head_said}
+use Rattle.logger_store.specs.StoreState.{lengths_of}
+use Rattle.logger_wire.specs.declared.records.EntryHead.{EntryHead}
 use Rattle.net_schedule.specs.SentPackets.{reported_way}
 use Rattle.schedule_text.specs.Bytes.{packet_in, said_as}
 
@@ -67,12 +68,12 @@ pub client_there : (clients : List Client) (i : ℕ) (o : Option Client) → o �
 client_there clients i o e = let place : i + 1 ≡ suc i = omega arith in sym (e ∙ ap (client_at clients) place)
 
 -- what the log tells of an entry
-pub reads_are : (o : Option Entry) (head : EntryHead) → ◌≡◌ (Some (head_value head)) (option_map head_of o) → head.reads ≡ length (lengths_of o)
-reads_are None head e = none_is_some (head_value head) (sym e)
-reads_are (Some entry) head e = ap (λ h. h.reads) (some_is (head_value head) (head_of entry) e)
+pub reads_are : (o : Option Entry) (head : EntryHead) → ◌≡◌ (Some (head_said head)) (option_map head_of o) → head.reads ≡ length (lengths_of o)
+reads_are None head e = none_is_some (head_said head) (sym e)
+reads_are (Some entry) head e = ap (λ h. h.reads) (some_is (head_said head) (head_of entry) e)
 
-pub entry_written : (o : Option Entry) (head : EntryHead) (reads now next : List ℕ) (entry : Entry) → ◌≡◌ (Some (head_value head)) (option_map head_of o) → o ≡ Some entry → reads ≡ lengths_of o
+pub entry_written : (o : Option Entry) (head : EntryHead) (reads now next : List ℕ) (entry : Entry) → ◌≡◌ (Some (head_said head)) (option_map head_of o) → o ≡ Some entry → reads ≡ lengths_of o
     → next ≡ now ++ entry_line head.key head.length (head.fin == 1) head.acked (head.done == 1) reads → next ≡ now ++ log_line entry
 entry_written o head reads now next entry e is lengths written =
-    let same : head_value head ≡ head_of entry = some_is (head_value head) (head_of entry) (e ∙ ap (option_map head_of) is) in
+    let same : head_said head ≡ head_of entry = some_is (head_said head) (head_of entry) (e ∙ ap (option_map head_of) is) in
     written ∙ ap₂ (λ h ls. now ++ entry_line h.key h.length h.fin h.acked h.done ls) same (lengths ∙ ap lengths_of is)

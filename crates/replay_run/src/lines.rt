@@ -144,9 +144,9 @@ fn write_entry(alloc: Global, log: &LogStore, i: u16, lines: &mut Vec<u8>) -> Re
     let line = LogLine {
         key: head.key,
         length: head.length,
-        fin: head.fin == 1,
+        fin: head.fin,
         acked: head.acked,
-        done: head.done == 1,
+        done: head.done,
         reads: reads.as_slice(),
     };
     write_log_line(alloc, &line, lines)

@@ -9,10 +9,10 @@ use Rattle.ft_io.proofs.Choices.{by_cases, holds_if, if_false, if_true}
 use Rattle.seq_arith.specs.Mark.{Mark, MarkBody, MarkMessage}
 use Rattle.seq_arith.specs.Mark.MarkBody.{MarkMsg, MarkedMsg, AskMsg, HeldMsg}
 use Rattle.seq_arith.specs.Message.Body.{DataMsg}
-use Rattle.std.specs.Borrow.{Bor}
 use Rattle.logger_wire.specs.MarkValue.{body_of}
-use Rattle.logger_wire.specs.declared.mark.mark_msg.MarkBody.{MarkBody as Told}
-use Rattle.logger_wire.specs.declared.mark.mark_msg.MarkBody.TheVariants as told
+use Rattle.logger_wire.specs.declared.marks.mark_msg.Mark.{Mark as ToldMark}
+use Rattle.logger_wire.specs.declared.marks.mark_msg.MarkBody.{MarkBody as Told}
+use Rattle.logger_wire.specs.declared.marks.mark_msg.MarkBody.TheVariants as told
 use Rattle.ft_model.specs.Log.{Log, Entry, entry_of, with_entry, with_part, log_after}
 use Rattle.ft_model.specs.Keys.{AreDistinct, has_key}
 use Rattle.ft_model.proofs.Lists.{none_is_some, some_is, same_key}
@@ -151,11 +151,11 @@ abbrev pub is_mark : MarkBody → Bool
 is_mark (MarkMsg key m) = true
 is_mark _ = false
 
-pub other_body : (b : Told) → ((key : Key) (reads bytes made : ℕ) (state : Bor (List ℕ)) → b ≡ told.Mark key reads bytes made state → ⊥) → is_mark (body_of b) ≡ false
-other_body (told.Mark key reads bytes made state) other = absurd (other key reads bytes made state refl)
+pub other_body : (b : Told) → ((key : Key) (mark : ToldMark) → b ≡ told.Mark key mark → ⊥) → is_mark (body_of b) ≡ false
+other_body (told.Mark key mark) other = absurd (other key mark refl)
 other_body (told.Marked key reads) other = refl
 other_body (told.Ask key) other = refl
-other_body (told.Held key reads bytes made state) other = refl
+other_body (told.Held key mark) other = refl
 
 others_stay : (l : MarkedLog) (body : MarkBody) → is_mark body ≡ false → with_mark_body body l ≡ l
 others_stay l (MarkMsg key m) e = absurd (true≢false e)

@@ -18,7 +18,7 @@ use crate::packets::Packets;
 use ft_io::{Key, NoMemory};
 use ft_model::Way;
 use logger_store::{LogStore, MsgOut};
-use logger_wire::{Body, MarkBody, MarkMsg, Msg, read_mark, read_msg};
+use logger_wire::{Body, MarkBody, MarkMsg, Msg, Part, read_mark, read_msg};
 use mark_store::MarkStore;
 use std::alloc::Global;
 use std::marker::Model;
@@ -91,13 +91,13 @@ impl MarkedLog {
         requires made { made ≤ 2 ^ 24 }
         ensures { OnOk result (self.new ≡ record self.old { journal = log_after self.old.journal (record { boot = boot; body = DataMsg (no_bytes key length made) }) }) }
     {
-        let body = Body::DataMsg {
+        let body = Body::Data(Part {
             key,
             offset: length,
             acked: made,
-            fin: 0,
+            fin: false,
             bytes: &[],
-        };
+        });
         self.journal
             .answer(alloc, &Msg { boot, body }, &mut self.answer)
     }
@@ -107,18 +107,12 @@ impl MarkedLog {
         requires { IsSpellable (mark_message_of message.now) }
         ensures { OnOk result (Notes (λ l. after_mark l (mark_message_of message.now)) self.old self.new) }
     {
-        let MarkBody::Mark {
-            key,
-            length,
-            made,
-            ..
-        } = message.body
-        else {
+        let MarkBody::Mark { key, mark } = message.body else {
             return Ok(());
         };
         match acknowledged(&self.store, key) {
-            Some(units) if units >= made => {
-                self.acknowledge(alloc, message.boot, key, length, made)
+            Some(units) if units >= mark.made => {
+                self.acknowledge(alloc, message.boot, key, mark.length, mark.made)
             }
             _ => Ok(()),
         }

@@ -3,13 +3,13 @@
 ghost use Rattle.std.specs.Prelude.{◌≡◌, ◌++◌, OnOk};
 ghost use Rattle.ft_model.specs.Texts.{spaced};
 ghost use Rattle.mark_laws.specs.MarkedReport.{fields_of_mark, mark_words, name_of_mark, words_of_mark};
-ghost use Rattle.logger_wire.specs.MarkValue.{body_of, message_of};
+ghost use Rattle.logger_wire.specs.MarkValue.{mark_said, body_of, message_of};
 
 use crate::line_out::LineOut;
 use crate::line_text::{put_field, put_hex, put_word};
 use crate::message_text::put_key;
 use ft_io::{Key, NoMemory};
-use logger_wire::{MarkBody, MarkMsg};
+use logger_wire::{Mark, MarkBody, MarkMsg};
 
 /// Appends a message about marks: its name, its boot number, then the fields of its body.
 #[tactic(auto, using(crate::proofs::LineLemmas::line_rules), unfolding(mark_laws::specs::MarkedReport::mark_words))]
@@ -41,20 +41,7 @@ fn put_fields(body: &MarkBody<'_>, line: &mut LineOut) -> Result<(), NoMemory>
     ensures before { line.new.before ≡ line.old.before }
 {
     match *body {
-        MarkBody::Mark {
-            key,
-            reads,
-            length,
-            made,
-            state,
-        }
-        | MarkBody::Held {
-            key,
-            reads,
-            length,
-            made,
-            state,
-        } => put_mark(key, reads, length, made, state, line),
+        MarkBody::Mark { key, mark } | MarkBody::Held { key, mark } => put_mark(key, &mark, line),
         MarkBody::Marked { key, reads } => {
             put_key(key, line)?;
             put_field(" reads ", u64::from(reads), line)
@@ -65,22 +52,14 @@ fn put_fields(body: &MarkBody<'_>, line: &mut LineOut) -> Result<(), NoMemory>
 
 /// Appends a mark of a connection: its numbers, and the form of its state.
 #[tactic(auto, using(crate::proofs::LineLemmas::line_rules))]
-fn put_mark(
-    key: Key,
-    reads: u32,
-    length: u32,
-    made: u32,
-    state: &[u8],
-    line: &mut LineOut,
-) -> Result<(), NoMemory>
-    ensures ok { OnOk result (line.new.words
-        ≡ line.old.words ++ spaced (words_of_mark key (record { reads = reads; length = length; made = made; state = state.now }))) }
+fn put_mark(key: Key, mark: &Mark<'_>, line: &mut LineOut) -> Result<(), NoMemory>
+    ensures ok { OnOk result (line.new.words ≡ line.old.words ++ spaced (words_of_mark key (mark_said mark.now))) }
     ensures before { line.new.before ≡ line.old.before }
 {
     put_key(key, line)?;
-    put_field(" reads ", u64::from(reads), line)?;
-    put_field(" length ", u64::from(length), line)?;
-    put_field(" made ", u64::from(made), line)?;
+    put_field(" reads ", u64::from(mark.reads), line)?;
+    put_field(" length ", u64::from(mark.length), line)?;
+    put_field(" made ", u64::from(mark.made), line)?;
     line.append_text(" state")?;
-    put_hex(state, line)
+    put_hex(mark.state, line)
 }

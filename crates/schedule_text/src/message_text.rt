@@ -4,13 +4,14 @@ ghost use Rattle.std.specs.Prelude.{◌≡◌, ◌+◌, ◌*◌, ◌++◌, ◌�
 ghost use Rattle.std.specs.List.{join_with_byte};
 ghost use Rattle.seq_arith.specs.MessageGrammar.{lens_in};
 ghost use Rattle.ft_model.specs.Texts.{spaced, key_text, bit_text, hex_text, list_text, behind_commas};
-ghost use Rattle.ft_model.specs.Report.{key_words, numbers_words, kept_words, part_words, read_words, field_words, name_of, message_words};
-ghost use Rattle.logger_wire.specs.Value.{is_set, body_of, message_of};
+ghost use Rattle.ft_model.specs.Report.{key_words, numbers_words, kept_words, entry_words, part_words, read_words, field_words, name_of, message_words};
+ghost use Rattle.logger_wire.specs.Records.{numbers_said, kept_said, head_said, part_said};
+ghost use Rattle.logger_wire.specs.Value.{body_of, message_of};
 
 use crate::line_out::LineOut;
 use crate::line_text::{put_address, put_bit, put_dash, put_digits, put_field, put_hex, put_word};
 use ft_io::{Key, NoMemory};
-use logger_wire::{Body, Msg};
+use logger_wire::{Body, EntryHead, Kept, Msg, Numbers, Part};
 
 /// Appends a message: its name, its boot number, then the fields of its body.
 #[tactic(auto, using(crate::proofs::LineLemmas::line_rules), unfolding(ft_model::specs::Report::message_words))]
@@ -28,24 +29,24 @@ fn name(body: &Body<'_>) -> &'static str
     ensures { result.now ≡ name_of (body_of body.now) }
 {
     match body {
-        Body::HelloMsg => "Hello",
-        Body::SummaryMsg { .. } => "Summary",
-        Body::ListMsg { .. } => "List",
-        Body::EntryMsg { .. } => "Entry",
-        Body::BytesMsg { .. } => "Bytes",
-        Body::PartMsg { .. } => "Part",
-        Body::CutsMsg { .. } => "Cuts",
-        Body::LensMsg { .. } => "Lens",
-        Body::OpenMsg { .. } => "Open",
-        Body::OpenedMsg { .. } => "Opened",
-        Body::DataMsg { .. } => "Data",
-        Body::StableMsg { .. } => "Stable",
-        Body::ReadMsg { .. } => "Read",
-        Body::ReadsMsg { .. } => "Reads",
-        Body::DoneMsg { .. } => "Done",
-        Body::EndedMsg { .. } => "Ended",
-        Body::StaleMsg { .. } => "Stale",
-        Body::FullMsg { .. } => "Full",
+        Body::Hello => "Hello",
+        Body::Summary { .. } => "Summary",
+        Body::List { .. } => "List",
+        Body::Entry { .. } => "Entry",
+        Body::Bytes { .. } => "Bytes",
+        Body::Part { .. } => "Part",
+        Body::Cuts { .. } => "Cuts",
+        Body::Lens { .. } => "Lens",
+        Body::Open(_) => "Open",
+        Body::Opened(_) => "Opened",
+        Body::Data(_) => "Data",
+        Body::Stable(_) => "Stable",
+        Body::Read { .. } => "Read",
+        Body::Reads(_) => "Reads",
+        Body::Done { .. } => "Done",
+        Body::Ended { .. } => "Ended",
+        Body::Stale { .. } => "Stale",
+        Body::Full { .. } => "Full",
     }
 }
 
@@ -56,66 +57,23 @@ fn put_fields(body: &Body<'_>, line: &mut LineOut) -> Result<(), NoMemory>
     ensures before { line.new.before ≡ line.old.before }
 {
     match *body {
-        Body::HelloMsg => Ok(()),
-        Body::SummaryMsg { count } => put_field(" count ", u64::from(count), line),
-        Body::ListMsg { index } => put_field(" index ", u64::from(index), line),
-        Body::EntryMsg {
-            index,
-            key,
-            cisn,
-            sisn,
-            mss,
-            length,
-            fin,
-            done,
-            reads,
-            acked,
-        } => {
+        Body::Hello => Ok(()),
+        Body::Summary { count } => put_field(" count ", u64::from(count), line),
+        Body::List { index } => put_field(" index ", u64::from(index), line),
+        Body::Entry { index, head } => {
             put_field(" index ", u64::from(index), line)?;
-            put_numbers(key, cisn, sisn, mss, line)?;
-            put_field(" length ", u64::from(length), line)?;
-            put_standing(fin, done, reads, acked, line)
+            put_head(&head, line)
         }
-        Body::BytesMsg { key, offset } => put_place(key, " offset ", offset, line),
-        Body::PartMsg { key, offset, bytes } => put_part(key, offset, bytes, line),
-        Body::CutsMsg { key, first } => put_place(key, " first ", first, line),
-        Body::LensMsg { key, first, lens } => put_lens(key, first, lens, line),
-        Body::OpenMsg {
-            key,
-            cisn,
-            sisn,
-            mss,
-        }
-        | Body::OpenedMsg {
-            key,
-            cisn,
-            sisn,
-            mss,
-        } => put_numbers(key, cisn, sisn, mss, line),
-        Body::DataMsg {
-            key,
-            offset,
-            acked,
-            fin,
-            bytes,
-        } => put_data(key, offset, acked, fin, bytes, line),
-        Body::StableMsg {
-            key,
-            length,
-            fin,
-            reads,
-        }
-        | Body::ReadsMsg {
-            key,
-            length,
-            fin,
-            reads,
-        } => put_kept(key, length, fin, reads, line),
-        Body::ReadMsg { key, index, length } => put_read(key, index, length, line),
-        Body::DoneMsg { key } | Body::EndedMsg { key } | Body::FullMsg { key } => put_key(
-            key, line,
-        ),
-        Body::StaleMsg { newer } => put_field(" newer ", newer, line),
+        Body::Bytes { key, offset } => put_place(key, " offset ", offset, line),
+        Body::Part { key, offset, bytes } => put_part(key, offset, bytes, line),
+        Body::Cuts { key, first } => put_place(key, " first ", first, line),
+        Body::Lens { key, first, lens } => put_lens(key, first, lens, line),
+        Body::Open(numbers) | Body::Opened(numbers) => put_numbers(&numbers, line),
+        Body::Data(part) => put_data(&part, line),
+        Body::Stable(kept) | Body::Reads(kept) => put_kept(&kept, line),
+        Body::Read { key, index, length } => put_read(key, index, length, line),
+        Body::Done { key } | Body::Ended { key } | Body::Full { key } => put_key(key, line),
+        Body::Stale { newer } => put_field(" newer ", newer, line),
     }
 }
 
@@ -141,46 +99,54 @@ fn put_place(key: Key, name: &str, place: u32, line: &mut LineOut) -> Result<(),
 
 /// Appends the numbers of a connection: its key, both initial sequence numbers and its MSS.
 #[tactic(auto, using(crate::proofs::LineLemmas::line_rules))]
-fn put_numbers(key: Key, cisn: u32, sisn: u32, mss: u16, line: &mut LineOut) -> Result<(), NoMemory>
-    ensures ok { OnOk result (line.new.words ≡ line.old.words ++ spaced (numbers_words (record { key = key; cisn = cisn; sisn = sisn; mss = mss }))) }
+fn put_numbers(numbers: &Numbers, line: &mut LineOut) -> Result<(), NoMemory>
+    ensures ok { OnOk result (line.new.words ≡ line.old.words ++ spaced (numbers_words (numbers_said numbers.now))) }
     ensures before { line.new.before ≡ line.old.before }
 {
-    put_key(key, line)?;
-    put_field(" cisn ", u64::from(cisn), line)?;
-    put_field(" sisn ", u64::from(sisn), line)?;
-    put_field(" mss ", u64::from(mss), line)
+    put_key(numbers.key, line)?;
+    put_field(" cisn ", u64::from(numbers.cisn), line)?;
+    put_field(" sisn ", u64::from(numbers.sisn), line)?;
+    put_field(" mss ", u64::from(numbers.mss), line)
 }
 
 /// Appends how much of a connection is logged.
 #[tactic(auto, using(crate::proofs::LineLemmas::line_rules))]
-fn put_kept(key: Key, length: u32, fin: u8, reads: u32, line: &mut LineOut) -> Result<(), NoMemory>
-    ensures ok { OnOk result (line.new.words ≡ line.old.words ++ spaced (kept_words (record { key = key; length = length; fin = is_set fin; reads = reads }))) }
+fn put_kept(kept: &Kept, line: &mut LineOut) -> Result<(), NoMemory>
+    ensures ok { OnOk result (line.new.words ≡ line.old.words ++ spaced (kept_words (kept_said kept.now))) }
     ensures before { line.new.before ≡ line.old.before }
 {
-    put_key(key, line)?;
-    put_field(" length ", u64::from(length), line)?;
-    put_bit(" fin ", fin == 1, line)?;
-    put_field(" reads ", u64::from(reads), line)
+    put_key(kept.key, line)?;
+    put_field(" length ", u64::from(kept.length), line)?;
+    put_bit(" fin ", kept.fin, line)?;
+    put_field(" reads ", u64::from(kept.reads), line)
+}
+
+/// Appends an entry without its bytes and lengths: its numbers, the number of its bytes, and its state.
+#[tactic(auto, using(crate::proofs::LineLemmas::line_rules))]
+fn put_head(head: &EntryHead, line: &mut LineOut) -> Result<(), NoMemory>
+    ensures ok { OnOk result (line.new.words ≡ line.old.words ++ spaced (entry_words (head_said head.now))) }
+    ensures before { line.new.before ≡ line.old.before }
+{
+    put_key(head.key, line)?;
+    put_field(" cisn ", u64::from(head.cisn), line)?;
+    put_field(" sisn ", u64::from(head.sisn), line)?;
+    put_field(" mss ", u64::from(head.mss), line)?;
+    put_field(" length ", u64::from(head.length), line)?;
+    put_standing(head, line)
 }
 
 /// Appends the state of a logged connection, which follows the number of its bytes.
 #[tactic(auto, using(crate::proofs::LineLemmas::line_rules))]
-fn put_standing(
-    fin: u8,
-    done: u8,
-    reads: u32,
-    acked: u32,
-    line: &mut LineOut,
-) -> Result<(), NoMemory>
+fn put_standing(head: &EntryHead, line: &mut LineOut) -> Result<(), NoMemory>
     ensures ok { OnOk result (line.new.words
-        ≡ line.old.words ++ spaced (codes "fin" ∷ bit_text (is_set fin) ∷ codes "done" ∷ bit_text (is_set done) ∷ codes "reads" ∷ decimal reads ∷ codes "acked"
-        ∷ decimal acked ∷ [])) }
+        ≡ line.old.words ++ spaced (codes "fin" ∷ bit_text head.now.fin ∷ codes "done" ∷ bit_text head.now.done ∷ codes "reads" ∷ decimal head.now.reads
+        ∷ codes "acked" ∷ decimal head.now.acked ∷ [])) }
     ensures before { line.new.before ≡ line.old.before }
 {
-    put_bit(" fin ", fin == 1, line)?;
-    put_bit(" done ", done == 1, line)?;
-    put_field(" reads ", u64::from(reads), line)?;
-    put_field(" acked ", u64::from(acked), line)
+    put_bit(" fin ", head.fin, line)?;
+    put_bit(" done ", head.done, line)?;
+    put_field(" reads ", u64::from(head.reads), line)?;
+    put_field(" acked ", u64::from(head.acked), line)
 }
 
 /// Appends logged bytes.
@@ -197,28 +163,15 @@ fn put_part(key: Key, offset: u32, bytes: &[u8], line: &mut LineOut) -> Result<(
 
 /// Appends bytes to be logged.
 #[tactic(auto, using(crate::proofs::LineLemmas::line_rules))]
-fn put_data(
-    key: Key,
-    offset: u32,
-    acked: u32,
-    fin: u8,
-    bytes: &[u8],
-    line: &mut LineOut,
-) -> Result<(), NoMemory>
-    ensures ok { OnOk result (line.new.words ≡ line.old.words ++ spaced (part_words (record {
-      key = key;
-      offset = offset;
-      acked = acked;
-      fin = is_set fin;
-      bytes = bytes.now;
-    }))) }
+fn put_data(part: &Part<'_>, line: &mut LineOut) -> Result<(), NoMemory>
+    ensures ok { OnOk result (line.new.words ≡ line.old.words ++ spaced (part_words (part_said part.now))) }
     ensures before { line.new.before ≡ line.old.before }
 {
-    put_place(key, " offset ", offset, line)?;
-    put_field(" acked ", u64::from(acked), line)?;
-    put_bit(" fin ", fin == 1, line)?;
+    put_place(part.key, " offset ", part.offset, line)?;
+    put_field(" acked ", u64::from(part.acked), line)?;
+    put_bit(" fin ", part.fin, line)?;
     line.append_text(" bytes")?;
-    put_hex(bytes, line)
+    put_hex(part.bytes, line)
 }
 
 /// Appends the length of a read.

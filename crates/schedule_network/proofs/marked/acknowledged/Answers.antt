@@ -1,7 +1,7 @@
 use Rattle.std.proofs.Common.{◌≡◌, ◌∙◌, ◌≤◌, sym, ap, true, false, option_map, length, arith}
 use Rattle.ft_io.specs.Key.{key_eq}
 use Rattle.ft_model.specs.Log.{Entry}
-use Rattle.logger_store.specs.StoreState.{head_value}
+use Rattle.logger_wire.specs.Records.{head_said}
 use Rattle.logger_store.proofs.LeftLogs.{same_count}
 use Rattle.schedule_network.proofs.ByKey.{found_here, found_later, found_no_more, nothing_from}
 use Rattle.schedule_network.proofs.marked.acknowledged.Goals as goal
@@ -13,13 +13,13 @@ returns-in_default c = λ l a.
 pub returns-then-eq : goal.returns-then-eq
 returns-then-eq c = λ l a.
     let same : key_eq c.in-Some.head.key c.args.key ≡ true = sym c.eq.ensures ∙ c.if-eq.true in
-    found_here c.args.key l.log.entries c.loop-i.i (head_value c.in-Some.head) (c.in-Some.ensures.value l a) same
+    found_here c.args.key l.log.entries c.loop-i.i (head_said c.in-Some.head) (c.in-Some.ensures.value l a) same
     ∙ sym (ap (option_map (λ (e : Entry). e.acknowledged)) (c.loop-i.invariant l a))
 
 pub loop-i-preserved : goal.loop-i-preserved
 loop-i-preserved c = λ l a.
     let other : key_eq c.in-Some.head.key c.args.key ≡ false = sym c.eq.ensures ∙ c.if-eq.false in
-    c.loop-i.invariant l a ∙ found_later c.args.key l.log.entries c.loop-i.i (head_value c.in-Some.head) (c.in-Some.ensures.value l a) other
+    c.loop-i.invariant l a ∙ found_later c.args.key l.log.entries c.loop-i.i (head_said c.in-Some.head) (c.in-Some.ensures.value l a) other
 
 pub returns : goal.returns
 returns c = λ l a.
