@@ -56,21 +56,16 @@ fn check_message(bytes: &[u8], after: Inside, has_ended: bool) -> Kept {
         return Err(Rule::Message);
     };
     let holds = match message.body {
-        Body::DataMsg {
-            offset,
-            acked,
-            bytes,
-            ..
-        } => {
-            let place = usize::try_from(offset).unwrap_or(0);
+        Body::Data(part) => {
+            let place = usize::try_from(part.offset).unwrap_or(0);
             let taken = usize::try_from(after.taken).unwrap_or(0);
             place <= taken
-                && bytes.len() <= taken - place
-                && acked == after.una
-                && CLIENTS.is_part(offset, bytes)
+                && part.bytes.len() <= taken - place
+                && part.acked == after.una
+                && CLIENTS.is_part(part.offset, part.bytes)
         }
-        Body::ReadMsg { index, .. } => index < after.reads,
-        Body::DoneMsg { .. } => has_ended,
+        Body::Read { index, .. } => index < after.reads,
+        Body::Done { .. } => has_ended,
         _ => false,
     };
     require(holds && message.boot == 1, Rule::Message)

@@ -3,7 +3,7 @@
 use crate::tell_answer;
 use ft_io::{Key, NoMemory};
 use logger_store::MsgOut;
-use logger_wire::{MarkBody, MarkMsg, write_mark};
+use logger_wire::{Mark, MarkBody, MarkMsg, write_mark};
 use mark_store::MarkStore;
 use std::alloc::Global;
 use test_data::{Said, bytes_of_word};
@@ -112,10 +112,12 @@ fn give_mark(
     }
     let body = MarkBody::Mark {
         key,
-        reads,
-        length,
-        made,
-        state,
+        mark: Mark {
+            reads,
+            length,
+            made,
+            state,
+        },
     };
     let mut bytes = [0; 2_048];
     let len = write_mark(&MarkMsg { boot, body }, &mut bytes);

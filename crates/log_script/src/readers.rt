@@ -1,6 +1,7 @@
 //! The lines that trim an entry of a log, and those that print what it keeps.
 
-use logger_store::{EntryHead, TrimStore};
+use logger_store::TrimStore;
+use logger_wire::EntryHead;
 use test_data::Said;
 
 /// Two numbers, separated by a space.
@@ -50,12 +51,11 @@ pub(crate) fn tell_key(place: u16, entry: &EntryHead, said: &mut Said) {
 pub(crate) fn tell_extent(entry: &EntryHead, said: &mut Said) {
     let EntryHead {
         length,
-        fin,
-        done,
         reads,
         acked,
         ..
     } = *entry;
+    let (fin, done) = (u8::from(entry.fin), u8::from(entry.done));
     write!(
         said,
         "length {length} fin {fin} done {done} reads {reads} acked {acked}"

@@ -7,7 +7,7 @@ ghost use Rattle.reincarnate.specs.Marking.{IsAnySendable};
 
 use ft_io::{Key, NoMemory};
 use logger_store::{LogStore, MsgOut};
-use logger_wire::{Body, MarkMsg, Msg, read_msg, write_mark, write_msg};
+use logger_wire::{Body, MarkMsg, Msg, Numbers, read_msg, write_mark, write_msg};
 use mark_store::MarkStore;
 use reincarnate::AnyMsg;
 use seq_arith::Seq;
@@ -83,19 +83,19 @@ impl Logger {
     /// Tells it that the server has started.
     #[tactic(auto, unfolding(seq_arith::specs::MessageGrammar::has_length, seq_arith::specs::MessageGrammar::is_sound))]
     pub(crate) fn begin(&mut self, alloc: Global) -> Result<(), NoMemory> {
-        let body = Body::HelloMsg;
+        let body = Body::Hello;
         self.say(alloc, &Msg { boot: BOOT, body })
     }
 
     /// Opens an entry.
     #[tactic(auto, unfolding(seq_arith::specs::MessageGrammar::has_length, seq_arith::specs::MessageGrammar::is_sound))]
     pub(crate) fn open(&mut self, alloc: Global, key: Key) -> Result<(), NoMemory> {
-        let body = Body::OpenMsg {
+        let body = Body::Open(Numbers {
             key,
             cisn: CLIENT_ISN.0,
             sisn: SERVER_ISN.0,
             mss: MSS,
-        };
+        });
         self.say(alloc, &Msg { boot: BOOT, body })
     }
 

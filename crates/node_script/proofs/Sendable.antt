@@ -5,10 +5,9 @@ use Rattle.seq_arith.specs.MessageGrammar.{is_sound, has_length}
 use Rattle.logger_wire.specs.declared.Body.TheVariants as body
 use Rattle.logger_wire.specs.Value.{IsSendable}
 
-pub stale_sendable : (boot newer : ℕ) → 1 ≤ boot → boot < newer → newer < 2 ^ 64 → IsSendable (record { boot = boot; body = body.StaleMsg newer })
+pub stale_sendable : (boot newer : ℕ) → 1 ≤ boot → boot < newer → newer < 2 ^ 64 → IsSendable (record { boot = boot; body = body.Stale newer })
 unfolding is_sound has_length
 stale_sendable boot newer live larger fits = record {
-  flags = refl;
   lens = refl;
   spellable = record {
     boot = omega (arith, larger, fits);

@@ -51,7 +51,7 @@ fn write_stale(draws: &mut Draws, out: &mut [u8; 2_048]) -> usize
     ensures { result ≤ 2048 }
 {
     let boot = u64::from(draws.below(1_000)) + 1_000;
-    let body = Body::StaleMsg { newer: boot + 1 };
+    let body = Body::Stale { newer: boot + 1 };
     write_msg(&Msg { boot, body }, out).min(2_048)
 }
 

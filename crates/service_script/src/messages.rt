@@ -49,22 +49,10 @@ fn tell_mark(msg: &MarkMsg<'_>, said: &mut Said) {
     let (boot, Key { ip, port }) = (msg.boot, key);
     write!(said, "{kind} boot {boot} ip {ip} port {port}");
     match msg.body {
-        MarkBody::Mark {
-            reads,
-            length,
-            made,
-            state,
-            ..
-        }
-        | MarkBody::Held {
-            reads,
-            length,
-            made,
-            state,
-            ..
-        } => {
+        MarkBody::Mark { mark, .. } | MarkBody::Held { mark, .. } => {
+            let (reads, length, made) = (mark.reads, mark.length, mark.made);
             write!(said, " reads {reads} length {length} made {made} state ");
-            said.hex(state);
+            said.hex(mark.state);
         }
         MarkBody::Marked { reads, .. } => write!(said, " reads {reads}"),
         MarkBody::Ask { .. } => (),

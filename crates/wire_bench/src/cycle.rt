@@ -6,7 +6,7 @@ ghost use Rattle.schedule_text.specs.Bytes.{content_in};
 
 use crate::CLIENT;
 use ft_io::Key;
-use logger_wire::{Body, Msg, write_msg};
+use logger_wire::{Body, Kept, Msg, Part, write_msg};
 use schedule_text::{Way, is_packet};
 use segment_codec::write_packet;
 use seq_arith::{ACK, Head, Seq};
@@ -94,13 +94,13 @@ fn push_data(alloc: Global, offset: u32, bytes: &[u8], sent: &mut Run)
     requires few { length bytes.now ≤ 1 }
     requires within { offset ≤ 100000 }
 {
-    let body = Body::DataMsg {
+    let body = Body::Data(Part {
         key: CLIENT,
         offset,
         acked: offset,
-        fin: 0,
+        fin: false,
         bytes,
-    };
+    });
     push_message(alloc, Way::ServerToLogger, &Msg { boot: 1, body }, sent);
 }
 
@@ -109,7 +109,7 @@ fn push_data(alloc: Global, offset: u32, bytes: &[u8], sent: &mut Run)
 fn push_read(alloc: Global, index: u32, sent: &mut Run)
     requires { index ≤ 100000 }
 {
-    let body = Body::ReadMsg {
+    let body = Body::Read {
         key: CLIENT,
         index,
         length: 1,
@@ -123,12 +123,12 @@ fn push_stable(alloc: Global, length: u32, reads: u32, sent: &mut Run)
     requires length { length ≤ 100000 }
     requires reads { reads ≤ 100000 }
 {
-    let body = Body::StableMsg {
+    let body = Body::Stable(Kept {
         key: CLIENT,
         length,
-        fin: 0,
+        fin: false,
         reads,
-    };
+    });
     push_message(alloc, Way::LoggerToServer, &Msg { boot: 1, body }, sent);
 }
 
@@ -137,12 +137,12 @@ fn push_stable(alloc: Global, length: u32, reads: u32, sent: &mut Run)
 fn push_reads(alloc: Global, count: u32, sent: &mut Run)
     requires { count ≤ 100000 }
 {
-    let body = Body::ReadsMsg {
+    let body = Body::Reads(Kept {
         key: CLIENT,
         length: count,
-        fin: 0,
+        fin: false,
         reads: count,
-    };
+    });
     push_message(alloc, Way::LoggerToServer, &Msg { boot: 1, body }, sent);
 }
 

@@ -18,7 +18,7 @@ use crate::CLIENT;
 use anyhow::{Context, Result, bail, ensure};
 use ft_io::NoMemory;
 use logger_store::{LogStore, MsgOut};
-use logger_wire::{Body, Msg, read_msg, write_msg};
+use logger_wire::{Body, Msg, Numbers, Part, read_msg, write_msg};
 use mark_store::MarkStore;
 use marking::{Seen, run_marks};
 use std::alloc::Global;
@@ -206,7 +206,7 @@ fn hello() -> Msg<'static>
 {
     Msg {
         boot: 1,
-        body: Body::HelloMsg,
+        body: Body::Hello,
     }
 }
 
@@ -217,12 +217,12 @@ fn opening() -> Msg<'static>
 {
     Msg {
         boot: 1,
-        body: Body::OpenMsg {
+        body: Body::Open(Numbers {
             key: CLIENT,
             cisn: 1_000,
             sisn: 5_000,
             mss: 1_460,
-        },
+        }),
     }
 }
 
@@ -231,13 +231,13 @@ fn give_bytes(alloc: Global, talk: &mut Talk, offset: u32, bytes: &[u8])
     requires few { length bytes.now ≤ 1460 }
     requires within { offset + length bytes.now ≤ 2 ^ 24 }
 {
-    let body = Body::DataMsg {
+    let body = Body::Data(Part {
         key: CLIENT,
         offset,
         acked: 0,
-        fin: 0,
+        fin: false,
         bytes,
-    };
+    });
     talk.say(alloc, &Msg { boot: 1, body });
 }
 
@@ -246,7 +246,7 @@ fn give_read(alloc: Global, talk: &mut Talk, index: u32, len: u32)
     requires index { index ≤ 2 ^ 24 }
     requires len { len ≤ 2048 }
 {
-    let body = Body::ReadMsg {
+    let body = Body::Read {
         key: CLIENT,
         index,
         length: len as u16,
@@ -258,7 +258,7 @@ fn give_read(alloc: Global, talk: &mut Talk, index: u32, len: u32)
 fn fetch_bytes(alloc: Global, talk: &mut Talk, offset: u32)
     requires { offset ≤ 2 ^ 24 }
 {
-    let body = Body::BytesMsg {
+    let body = Body::Bytes {
         key: CLIENT,
         offset,
     };
@@ -269,6 +269,6 @@ fn fetch_bytes(alloc: Global, talk: &mut Talk, offset: u32)
 fn fetch_lengths(alloc: Global, talk: &mut Talk, first: u32)
     requires { first ≤ 2 ^ 24 }
 {
-    let body = Body::CutsMsg { key: CLIENT, first };
+    let body = Body::Cuts { key: CLIENT, first };
     talk.say(alloc, &Msg { boot: 1, body });
 }

@@ -7,7 +7,7 @@ ghost use Rattle.logger_wire.specs.Value.{IsSendable};
 
 use crate::CLIENT;
 use anyhow::{Context, Result, bail};
-use logger_wire::{Body, Msg, read_msg, write_msg};
+use logger_wire::{Body, Msg, Part, read_msg, write_msg};
 use std::alloc::{AllocError, Global};
 
 const MESSAGES: u32 = 64;
@@ -37,18 +37,18 @@ fn message(is_data: bool, i: u32, text: &[u8]) -> Msg<'_>
     if is_data {
         return Msg {
             boot: 1,
-            body: Body::DataMsg {
+            body: Body::Data(Part {
                 key: CLIENT,
                 offset: i,
                 acked: 0,
-                fin: 0,
+                fin: false,
                 bytes: text,
-            },
+            }),
         };
     }
     Msg {
         boot: 1,
-        body: Body::ReadMsg {
+        body: Body::Read {
             key: CLIENT,
             index: i,
             length: 5,
@@ -104,8 +104,8 @@ fn read_all(is_data: bool, text: &[u8], rounds: u32, messages: &mut Vec<u8>) -> 
 /// Its number, and how many bytes or which length it brings.
 fn told(body: &Body<'_>) -> u64 {
     match body {
-        Body::DataMsg { offset, bytes, .. } => u64::from(*offset) + bytes.len() as u64 % 65_536,
-        Body::ReadMsg { index, length, .. } => u64::from(*index) + u64::from(*length),
+        Body::Data(part) => u64::from(part.offset) + part.bytes.len() as u64 % 65_536,
+        Body::Read { index, length, .. } => u64::from(*index) + u64::from(*length),
         _ => 0,
     }
 }

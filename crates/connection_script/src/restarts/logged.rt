@@ -77,15 +77,15 @@ fn answer(
     question: &Msg<'_>,
 ) -> Result<Vec<u8>, NoMemory> {
     match question.body {
-        Body::ListMsg { index } => match entries.get(usize::from(index)) {
+        Body::List { index } => match entries.get(usize::from(index)) {
             Some(entry) => head_of(alloc, boot, index, entry),
             None => Ok(Vec::new(alloc)),
         },
-        Body::BytesMsg { key, offset } => match entry_of(entries, key) {
+        Body::Bytes { key, offset } => match entry_of(entries, key) {
             Some(entry) => part_of(alloc, boot, entry, offset),
             None => Ok(Vec::new(alloc)),
         },
-        Body::CutsMsg { key, first } => match entry_of(entries, key) {
+        Body::Cuts { key, first } => match entry_of(entries, key) {
             Some(entry) => lens_of(alloc, boot, entry, first),
             None => Ok(Vec::new(alloc)),
         },

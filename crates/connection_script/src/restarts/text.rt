@@ -8,9 +8,9 @@ use test_data::Said;
 pub(crate) fn tell_question(question: &AnyMsg<'_>, said: &mut Said) {
     match question {
         AnyMsg::Log(question) => match question.body {
-            Body::ListMsg { index } => write!(said, "list {index}\n"),
-            Body::BytesMsg { offset, .. } => write!(said, "bytes {offset}\n"),
-            Body::CutsMsg { first, .. } => write!(said, "cuts {first}\n"),
+            Body::List { index } => write!(said, "list {index}\n"),
+            Body::Bytes { offset, .. } => write!(said, "bytes {offset}\n"),
+            Body::Cuts { first, .. } => write!(said, "cuts {first}\n"),
             _ => said.line("another"),
         },
         AnyMsg::Mark(

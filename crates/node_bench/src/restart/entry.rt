@@ -5,7 +5,7 @@ ghost use Rattle.std.specs.Prelude.{◌≤◌, ◌+◌, ◌^◌, length};
 use crate::logger::{BOOT, Logger};
 use crate::{CLIENT, STREAM};
 use ft_io::NoMemory;
-use logger_wire::{Body, MarkBody, MarkMsg, Msg};
+use logger_wire::{Body, Mark, MarkBody, MarkMsg, Msg, Part};
 use sample_servers::AnyService;
 use server_trait::Service;
 use std::alloc::Global;
@@ -55,13 +55,13 @@ fn give_bytes(alloc: Global, logger: &mut Logger, offset: u32, bytes: &[u8]) -> 
     requires few { length bytes.now ≤ 1460 }
     requires within { offset + length bytes.now ≤ 2 ^ 24 }
 {
-    let body = Body::DataMsg {
+    let body = Body::Data(Part {
         key: CLIENT,
         offset,
         acked: STREAM,
-        fin: 0,
+        fin: false,
         bytes,
-    };
+    });
     logger.say(alloc, &Msg { boot: BOOT, body })
 }
 
@@ -70,7 +70,7 @@ fn give_read(alloc: Global, logger: &mut Logger, index: u32, len: u32) -> Result
     requires index { index ≤ 2 ^ 24 }
     requires len { len ≤ 2048 }
 {
-    let body = Body::ReadMsg {
+    let body = Body::Read {
         key: CLIENT,
         index,
         length: len as u16,
@@ -92,10 +92,12 @@ pub(crate) fn mark(
     let output = output_of(alloc, kind, read)?;
     let body = MarkBody::Mark {
         key: CLIENT,
-        reads: reads.max(1).min(STREAM),
-        length: reads.saturating_mul(u32::from(read)).min(STREAM),
-        made: reads.saturating_mul(output).min(STREAM),
-        state: &[],
+        mark: Mark {
+            reads: reads.max(1).min(STREAM),
+            length: reads.saturating_mul(u32::from(read)).min(STREAM),
+            made: reads.saturating_mul(output).min(STREAM),
+            state: &[],
+        },
     };
     logger.say_mark(alloc, &MarkMsg { boot: BOOT, body })
 }

@@ -53,7 +53,7 @@ pub(crate) fn restart(
     let count = match read_msg(logger.answer()) {
         Ok(
             Msg {
-                body: Body::SummaryMsg { count },
+                body: Body::Summary { count },
                 ..
             },
         ) => count.min(64),

@@ -7,7 +7,7 @@ use crate::CLIENT;
 use crate::log::{hello, opening};
 use anyhow::{Context, Result, bail, ensure};
 use logger_store::MsgOut;
-use logger_wire::{Body, MarkBody, MarkMsg, Msg, write_mark, write_msg};
+use logger_wire::{Body, Mark, MarkBody, MarkMsg, Msg, Part, write_mark, write_msg};
 use mark_store::MarkStore;
 use std::alloc::Global;
 use std::time::{Clock, Instant};
@@ -48,16 +48,16 @@ fn give_reads(alloc: Global, talk: &mut Talk, first: u32)
     requires { first + 64 ≤ 2 ^ 20 }
 {
     let text = [b'a'; 1_024];
-    let body = Body::DataMsg {
+    let body = Body::Data(Part {
         key: CLIENT,
         offset: 16 * first,
         acked: 0,
-        fin: 0,
+        fin: false,
         bytes: &text,
-    };
+    });
     talk.say(alloc, &Msg { boot: 1, body });
     for i in 0..EVERY {
-        let body = Body::ReadMsg {
+        let body = Body::Read {
             key: CLIENT,
             index: first + i,
             length: if i % 2 == 0 { 15 } else { 17 },
@@ -74,10 +74,12 @@ fn mark_after(reads: u32, datagram: &mut [u8; 2_048]) -> usize
 {
     let body = MarkBody::Mark {
         key: CLIENT,
-        reads,
-        length: 16 * reads,
-        made: 0,
-        state: b"a state.",
+        mark: Mark {
+            reads,
+            length: 16 * reads,
+            made: 0,
+            state: b"a state.",
+        },
     };
     write_mark(&MarkMsg { boot: 1, body }, datagram)
 }

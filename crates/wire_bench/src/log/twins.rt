@@ -94,13 +94,13 @@ fn data(i: u32) -> Datagram
     let text = [b'a'; 100];
     spelled(&Msg {
         boot: 1,
-        body: Body::DataMsg {
+        body: Body::Data(logger_wire::Part {
             key: CLIENT,
             offset: i * DATA,
             acked: 0,
-            fin: 0,
+            fin: false,
             bytes: &text,
-        },
+        }),
     })
 }
 
