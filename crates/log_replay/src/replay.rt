@@ -8,7 +8,7 @@ ghost use Rattle.log_replay.specs.Replay.{served_on, fed_on};
 use crate::cuts::Cuts;
 use crate::held::Held;
 use ft_io::NoMemory;
-use north_wrap::North;
+use north_wrap::{North, ReplayedReads};
 use server_trait::{Next, Service};
 use std::alloc::Global;
 use std::marker::Model;
@@ -109,7 +109,7 @@ impl<S: Service> Replay<S> {
     }
 
     /// A north wrapper that continues after these reads.
-    pub fn into_north(self, alloc: Global, cuts: Cuts) -> North<S>
+    pub fn into_north(self, cuts: Cuts) -> North<S>
         requires have { HaveBytes cuts }
         requires within { cuts.sum + length self.held ≤ 2 ^ 24 }
         ensures { result ≡ resumed_north self.service self.held self.pending cuts.count cuts.sum self.made cuts.ended self.closed }
@@ -123,17 +123,16 @@ impl<S: Service> Replay<S> {
             fresh: _,
             held,
         } = self;
-        North::resumed(
-            alloc,
+        North::after_reads(ReplayedReads {
             service,
-            held.into_vec(),
-            output,
-            cuts.count,
-            cuts.sum,
+            rest: held.into_vec(),
+            pending: output,
+            count: cuts.count,
+            read: cuts.sum,
             made,
-            cuts.ended,
+            ended: cuts.ended,
             closed,
-        )
+        })
     }
 
     /// Adds fetched bytes to those that wait.

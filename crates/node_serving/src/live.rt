@@ -39,12 +39,11 @@ pub(crate) fn begin_live<S: Service>(
         turn.alloc,
         who.boot,
         key,
-        who.local,
-        numbers.cisn,
-        numbers.sisn,
-        numbers.mss,
-        who.kind,
-    )?;
+        cisn: numbers.cisn,
+        sisn: numbers.sisn,
+        mss: numbers.mss,
+    };
+    let mut conn = Conn::open(turn.alloc, who.boot, who.local, opened, who.kind)?;
     turn.out.clear();
     if let Err(lack) = conn.start(turn.alloc, &mut turn.out) {
         drop(conn);

@@ -5,11 +5,13 @@
 pub use north::North;
 pub use read_record::ReadRecord;
 pub use records::ReadRecords;
+pub use replayed_reads::ReplayedReads;
 
 mod excluded;
 pub mod laws;
 mod north;
 mod read_record;
 mod records;
+mod replayed_reads;
 mod rest;
 mod service_run;

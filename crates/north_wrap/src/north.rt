@@ -13,6 +13,7 @@ ghost use Rattle.north_wrap.specs.NorthState.{is_empty};
 
 use crate::read_record::ReadRecord;
 use crate::records::ReadRecords;
+use crate::replayed_reads::ReplayedReads;
 use crate::rest::Rest;
 use crate::service_run::ServiceRun;
 use ft_io::NoMemory;
@@ -85,7 +86,7 @@ impl<S: Service> North<S> {
 
     /// Returns a wrapper at the end of a restart. `rest` are the fetched bytes that aren't read, and `pending` the output that the client hasn't acknowledged.
     /// `reads` reads were fetched, of `read` bytes together, and they made `made` bytes of output. `ended` says that one of them has length 0, and `closed`
-    /// that the service has closed. All of these reads are answered.
+    /// that the service has closed. All of these reads are answered. `after_reads` takes the same as one record.
     pub fn resumed(
         _alloc: Global,
         service: S,
@@ -102,6 +103,35 @@ impl<S: Service> North<S> {
         requires reads { reads ≤ read + one_if ended }
         ensures { result ≡ resumed_north service rest.items pending.items reads read made ended closed }
     {
+        North::after_reads(ReplayedReads {
+            service,
+            rest,
+            pending,
+            count: reads,
+            read,
+            made,
+            ended,
+            closed,
+        })
+    }
+
+    /// Returns a wrapper at the end of a restart, which goes on after these reads.
+    pub fn after_reads(replayed: ReplayedReads<S>) -> North<S>
+        requires within { replayed.read + length replayed.rest.items ≤ 2 ^ 24 }
+        requires made { replayed.made ≤ 2 ^ 24 }
+        requires reads { replayed.count ≤ replayed.read + one_if replayed.ended }
+        ensures { result ≡ resumed_north replayed.service replayed.rest.items replayed.pending.items replayed.count replayed.read replayed.made replayed.ended replayed.closed }
+    {
+        let ReplayedReads {
+            service,
+            rest,
+            pending,
+            count,
+            read,
+            made,
+            ended,
+            closed,
+        } = replayed;
         North {
             run: ServiceRun::new(service, pending, made, closed),
             rest: Rest::new(rest),
@@ -113,7 +143,7 @@ impl<S: Service> North<S> {
             },
             reads: ReadRecords::new(),
             read,
-            count: reads,
+            count,
             ended,
             shut: false,
         }

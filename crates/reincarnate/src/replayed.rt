@@ -19,7 +19,7 @@ use log_replay::{Cuts, Replay, has_end, spliced_endpoint};
 use logger_wire::EntryHead;
 use seq_arith::Seq;
 use server_trait::Service;
-use south_wrap::South;
+use south_wrap::{Fetched, South};
 use std::alloc::Global;
 use std::marker::Model;
 
@@ -113,7 +113,7 @@ impl<S: Service> Replayed<S> {
             local,
             south,
             endpoint,
-            north: replay.into_north(alloc, cuts),
+            north: replay.into_north(cuts),
         })
     }
 }
@@ -128,15 +128,15 @@ pub(crate) fn south_behind(head: &EntryHead, cuts: Cuts, made: u32, closed: bool
     ensures value { result ≡ record (resumed_south head.now.cisn head.now.sisn head.now.length (made + one_if closed)
         (has_end (head_said head.now)) (min head.now.acked made) isn.0) { read = cuts.sum } }
 {
-    let mut south = South::resumed(
-        Seq(head.cisn),
-        Seq(head.sisn),
-        head.length,
-        made + u32::from(closed),
-        has_end(head),
-        head.acked.min(made),
-        isn,
-    );
+    let fetched = Fetched {
+        cisn: Seq(head.cisn),
+        sisn: Seq(head.sisn),
+        length: head.length,
+        fin: has_end(head),
+        output: made + u32::from(closed),
+        acked: head.acked.min(made),
+    };
+    let mut south = South::after_fetch(fetched, isn);
     south.read_to(cuts.sum);
     south
 }

@@ -4,6 +4,7 @@
 ghost use Rattle.std.specs.Prelude.{◌≡◌, ◌≤◌, ◌+◌, ◌^◌, true};
 ghost use Rattle.south_wrap.specs.SouthState.{acknowledges_unsent, lowered};
 
+use crate::fetched::Fetched;
 use crate::south::South;
 use seq_arith::Seq;
 
@@ -15,11 +16,19 @@ fn lowers_without_a_bound(south: &South, ack: Seq) -> Seq
     south.inner_ack(ack)
 }
 
-/// The wrapper at the end of a restart knows how much output an earlier incarnation may have sent: the contract of `South::resumed`.
+/// The wrapper at the end of a restart knows how much output an earlier incarnation may have sent: the contract of `South::after_fetch`.
 fn forgets_the_fetched_output(fetched_output: u32, acked: u32) -> South
     requires most { fetched_output ≤ 2 ^ 24 + 1 }
     requires acked { acked ≤ 2 ^ 24 }
     ensures { result.fetched_output ≡ fetched_output }
 {
-    South::resumed(Seq(0), Seq(0), 0, fetched_output, false, acked, Seq(0))
+    let fetched = Fetched {
+        cisn: Seq(0),
+        sisn: Seq(0),
+        length: 0,
+        fin: false,
+        output: fetched_output,
+        acked,
+    };
+    South::after_fetch(fetched, Seq(0))
 }

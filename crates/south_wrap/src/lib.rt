@@ -4,11 +4,13 @@
 #![tactic(auto)]
 
 pub use answers::{AckOut, CopyPart, Inward};
+pub use fetched::Fetched;
 pub use south::South;
 
 mod answers;
 mod copying;
 mod excluded;
+mod fetched;
 pub mod laws;
 mod passing;
 mod patching;

@@ -10,6 +10,7 @@ ghost use Rattle.south_wrap.specs.SouthState.{most, acknowledges_unsent, is_high
 ghost use Rattle.south_wrap.specs.Translation.{repeats_syn};
 
 use crate::answers::AckOut;
+use crate::fetched::Fetched;
 use segment_codec::Head;
 use seq_arith::{ACK, RST, SYN, Seq, has};
 use std::marker::Model;
@@ -94,7 +95,7 @@ impl South {
 
     /// The wrapper of a connection at the end of a restart. The log has `length` bytes of the client, and its FIN if `fin`. Its reads make `fetched_output` units
     /// of output, all of which an earlier incarnation may have sent. The client had acknowledged `acked` units. The new TCP has the initial sequence number
-    /// `inner`, from which it counts the output after these.
+    /// `inner`, from which it counts the output after these. `after_fetch` takes what was fetched as one record.
     pub fn resumed(
         cisn: Seq,
         sisn: Seq,
@@ -109,12 +110,39 @@ impl South {
         requires acked { acked ≤ 2 ^ 24 }
         ensures { result ≡ resumed_south cisn.0 sisn.0 length fetched_output fin acked inner.0 }
     {
+        let fetched = Fetched {
+            cisn,
+            sisn,
+            length,
+            fin,
+            output: fetched_output,
+            acked,
+        };
+        South::after_fetch(fetched, inner)
+    }
+
+    /// The wrapper of a connection at the end of a restart, which goes on after what was fetched. The new TCP has the initial sequence number `inner`, from which
+    /// it counts the output after what the client had acknowledged.
+    pub fn after_fetch(fetched: Fetched, inner: Seq) -> South
+        requires length { fetched.length ≤ 2 ^ 24 }
+        requires output { fetched.output ≤ 2 ^ 24 + 1 }
+        requires acked { fetched.acked ≤ 2 ^ 24 }
+        ensures { result ≡ resumed_south fetched.cisn.0 fetched.sisn.0 fetched.length fetched.output fetched.fin fetched.acked inner.0 }
+    {
+        let Fetched {
+            cisn,
+            sisn,
+            length,
+            fin,
+            output,
+            acked,
+        } = fetched;
         South {
             cisn,
             sisn,
             delta: sisn.add(acked).minus(inner),
             fetched: length,
-            fetched_output,
+            fetched_output: output,
             taken: length,
             fin,
             answered: length + u32::from(fin),

@@ -4,7 +4,7 @@ use Rattle.endpoint_laws.specs.Laws.{IsBounded}
 use Rattle.endpoint_laws.proofs.Bounding.{bounded_at_listen, bounded_is_short}
 use Rattle.wrapped_conn.specs.Sound.{IsSound}
 use Rattle.wrapped_conn.proofs.Begun.{first_is, first_sound}
-use Rattle.wrapped_conn.proofs.conn.Conn.first.Goals as goal
+use Rattle.wrapped_conn.proofs.conn.Conn.open.Goals as goal
 
 pub returns-clause-state : goal.returns-clause-state
 returns-clause-state g c =
