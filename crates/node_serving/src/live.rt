@@ -18,7 +18,7 @@ use crate::turn::Turn;
 use ft_io::{Key, NoMemory};
 use logger_wire::Msg;
 use server_trait::Service;
-use wrapped_conn::Conn;
+use wrapped_conn::{Conn, Opened};
 
 /// Makes a new connection, with the numbers that the log keeps, and takes its first turn.
 #[tactic(auto, unfolding(crate::specs::Conn::IsSound))]
@@ -35,15 +35,13 @@ pub(crate) fn begin_live<S: Service>(
     ensures alone { IfOk result (λ conn. SendsFor key turn.old turn.new) }
     ensures sound { IfOk result (λ conn. Belongs who key conn) }
 {
-    let mut conn = Conn::first(
-        turn.alloc,
-        who.boot,
+    let opened = Opened {
         key,
         cisn: numbers.cisn,
         sisn: numbers.sisn,
         mss: numbers.mss,
     };
-    let mut conn = Conn::open(turn.alloc, who.boot, who.local, opened, who.kind)?;
+    let mut conn = Conn::first(turn.alloc, who.boot, who.local, opened, who.kind)?;
     turn.out.clear();
     if let Err(lack) = conn.start(turn.alloc, &mut turn.out) {
         drop(conn);

@@ -1,7 +1,6 @@
 //! One connection: what it is, and how it begins.
 
-ghost use Rattle.std.specs.Prelude.{◌≡◌, ◌<◌, ◌≤◌, ◌-◌, ◌%◌, ◌^◌, ◌+◌, false, Some, [], IfOk};
-ghost use Rattle.seq_arith.specs.Offset.{one_if};
+ghost use Rattle.std.specs.Prelude.{◌≡◌, ◌<◌, ◌≤◌, ◌-◌, false, Some, [], IfOk};
 ghost use Rattle.segment_codec.specs.Value.{said};
 ghost use Rattle.server_trait.specs.Service.{machine};
 ghost use Rattle.ft_model.specs.Point.{Point, whole_run};
@@ -23,6 +22,19 @@ use tcp_endpoint::{Endpoint, StateName};
 
 /// The most bytes of a stream.
 pub(crate) const STREAM: u32 = 16_777_216;
+
+/// What the log keeps of a connection's opening, as its Opened says.
+#[derive(Clone, Copy)]
+pub struct Opened {
+    /// The client's address and port.
+    pub key: Key,
+    /// The client's initial sequence number.
+    pub cisn: Seq,
+    /// The server's initial sequence number.
+    pub sisn: Seq,
+    /// The segment size, 64 to 1,460 bytes.
+    pub mss: u16,
+}
 
 /// One wrapped connection with the client `key` at the server's address `local`.
 #[derive(Drop)]
@@ -69,51 +81,26 @@ impl<S: Service> Model for Conn<S> {
 }
 
 impl<S: Service> Conn<S> {
-    /// A connection that this incarnation opens: a fresh TCP has received its client's SYN, and `start` sends TCP's SYN-ACK. `mss` is the segment size, 64 to
-    /// 1,460 bytes, and `kind` the service's kind. `open` takes what the log keeps as one record.
+    /// A connection that this incarnation opens: a fresh TCP has received its client's SYN, and `start` sends TCP's SYN-ACK. `kind` is the service's kind.
     pub fn first(
         alloc: Global,
         boot: u64,
-        key: Key,
         local: Addr,
-        cisn: Seq,
-        sisn: Seq,
-        mss: u16,
+        opened: Opened,
         kind: u8,
     ) -> Result<Conn<S>, NoMemory>
         requires boot { 1 ≤ boot }
-        requires least { 64 ≤ mss }
-        requires most { mss ≤ 1460 }
-        ensures state { IfOk result (λ c. c ≡ first_conn boot key local cisn.0 sisn.0 mss (S.started kind)) }
+        requires least { 64 ≤ opened.mss }
+        requires most { opened.mss ≤ 1460 }
+        ensures state { IfOk result (λ c. c ≡ first_conn boot opened.key local opened.cisn.0 opened.sisn.0 opened.mss (S.started kind)) }
         ensures sound { IfOk result (λ c. IsSound c) }
     {
-        let opened = Opened {
+        let Opened {
             key,
             cisn,
             sisn,
             mss,
-        };
-        Conn::open(alloc, boot, local, opened, kind)
-    }
-
-    /// A connection that this incarnation opens, with the numbers that the log keeps: a fresh TCP has received its client's SYN, and `start` sends TCP's
-    /// SYN-ACK. `kind` is the service's kind.
-    pub fn open(
-        alloc: Global,
-        boot: u64,
-        local: Addr,
-        cisn: Seq,
-        sisn: Seq,
-        mss: u16,
-        kind: u8,
-    ) -> Result<Conn<S>, NoMemory>
-        requires boot { 1 ≤ boot }
-        requires least { 64 ≤ mss }
-        requires most { mss ≤ 1460 }
-        ensures state { IfOk result (λ c. c ≡ first_conn boot key local cisn.0 sisn.0 mss (S.started kind)) }
-        ensures sound { IfOk result (λ c. IsSound c) }
-    {
-        fit(sisn);
+        } = opened;
         let mut endpoint = Endpoint::listen(alloc, local, sisn, STREAM)?;
         endpoint.on_packet(PacketRef {
             head: syn_of(key, local, cisn, mss),
@@ -186,13 +173,6 @@ impl<S: Service> Conn<S> {
     {
         self.stage
     }
-}
-
-/// A fact for proofs: a number fits its type.
-fn fit(number: Seq)
-    ensures { number.0 < 2 ^ 32 }
-{
-    let _number = number.0;
 }
 
 /// The client's SYN.

@@ -2,7 +2,7 @@
 //! user is the north wrapper. The connection also sends segments of its own, for what TCP doesn't know, and the messages to the logger.
 #![tactic(auto)]
 
-pub use conn::Conn;
+pub use conn::{Conn, Opened};
 pub use inside::Inside;
 pub use quiet::Quiet;
 pub use stage::ConnStage;

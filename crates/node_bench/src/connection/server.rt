@@ -12,7 +12,7 @@ use sample_servers::Echo;
 use segment_codec::read_packet;
 use std::alloc::Global;
 use tcp_endpoint::Outbox;
-use wrapped_conn::{Conn, ConnStage, TurnOut};
+use wrapped_conn::{Conn, ConnStage, Opened, TurnOut};
 
 /// The kind of the echo service.
 const ECHO: u8 = 1;
@@ -41,7 +41,13 @@ impl Server {
     pub(crate) fn new(alloc: Global, key: Key) -> Result<Server, NoMemory>
         ensures { IfOk result (λ server. IsSound server.conn) }
     {
-        let conn = Conn::first(alloc, BOOT, key, SERVER, CLIENT_ISN, SERVER_ISN, MSS, ECHO)?;
+        let opened = Opened {
+            key,
+            cisn: CLIENT_ISN,
+            sisn: SERVER_ISN,
+            mss: MSS,
+        };
+        let conn = Conn::first(alloc, BOOT, SERVER, opened, ECHO)?;
         Ok(Server { conn, segments: 0 })
     }
 

@@ -1,4 +1,4 @@
-use Rattle.std.proofs.Common.{◌^◌, sym, subst, [], arith}
+use Rattle.std.proofs.Common.{rules, ◌^◌, sym, subst, [], arith}
 use Rattle.segment_codec.specs.Value.{said}
 use Rattle.endpoint_laws.specs.Laws.{IsBounded}
 use Rattle.endpoint_laws.proofs.Bounding.{bounded_at_listen, bounded_is_short}
@@ -10,15 +10,15 @@ pub returns-clause-state : goal.returns-clause-state
 returns-clause-state g c =
     let e = c.in_ok-endpoint.endpoint in
     let is = c.in_ok-endpoint.ensures in
-    let short = bounded_is_short e (subst IsBounded (sym is) (bounded_at_listen c.args.local c.args.sisn.0 (2 ^ 24) (omega arith))) in
-    first_is c.args.boot c.args.key c.args.local c.args.cisn.0 c.args.sisn.0 c.args.mss (g.S.Service.started c.args.kind) c.new-south.result e c.on_packet.new.self c.new-north.result
+    let short = bounded_is_short e (subst IsBounded (sym is) (bounded_at_listen c.args.local c.args.opened.sisn.0 (2 ^ 24) (omega arith))) in
+    first_is c.args.boot c.args.opened.key c.args.local c.args.opened.cisn.0 c.args.opened.sisn.0 c.args.opened.mss (g.S.Service.started c.args.kind) c.new-south.result e c.on_packet.new.self c.new-north.result
     (record { head = said c.syn_of.result; payload = [] }) c.joined.result c.joined.ensures c.new-south.ensures c.new-north.ensures (c.on_packet.ensures.whole (omega arith) short) is c.syn_of.ensures
 
 pub returns-clause-sound : goal.returns-clause-sound
 returns-clause-sound g c =
     let e = c.in_ok-endpoint.endpoint in
     let is = c.in_ok-endpoint.ensures in
-    let short = bounded_is_short e (subst IsBounded (sym is) (bounded_at_listen c.args.local c.args.sisn.0 (2 ^ 24) (omega arith))) in
-    subst IsSound (sym (first_is c.args.boot c.args.key c.args.local c.args.cisn.0 c.args.sisn.0 c.args.mss (g.S.Service.started c.args.kind) c.new-south.result e c.on_packet.new.self c.new-north.result
+    let short = bounded_is_short e (subst IsBounded (sym is) (bounded_at_listen c.args.local c.args.opened.sisn.0 (2 ^ 24) (omega arith))) in
+    subst IsSound (sym (first_is c.args.boot c.args.opened.key c.args.local c.args.opened.cisn.0 c.args.opened.sisn.0 c.args.opened.mss (g.S.Service.started c.args.kind) c.new-south.result e c.on_packet.new.self c.new-north.result
     (record { head = said c.syn_of.result; payload = [] }) c.joined.result c.joined.ensures c.new-south.ensures c.new-north.ensures (c.on_packet.ensures.whole (omega arith) short) is c.syn_of.ensures))
-    (first_sound c.args.boot c.args.key c.args.local c.args.cisn.0 c.args.sisn.0 c.args.mss (g.S.Service.started c.args.kind) c.requires.boot c.fit.ensures)
+    (first_sound c.args.boot c.args.opened.key c.args.local c.args.opened.cisn.0 c.args.opened.sisn.0 c.args.opened.mss (g.S.Service.started c.args.kind) c.requires.boot (search rules))
