@@ -21,6 +21,15 @@ use plain_packets::PlainPackets;
 use server_trait::Service;
 use std::alloc::Global;
 
+/// The incarnation of a server that takes a turn.
+#[derive(Clone, Copy)]
+struct Incarnation {
+    /// The server's address and port.
+    server: Addr,
+    /// Its boot number.
+    boot: u64,
+}
+
 impl<S: Service> PlainConnection<S> {
     ghost use Rattle.ft_model.specs.ResetAndEnd.{is_end_tick as end_lem};
     ghost use Rattle.ft_model.specs.Sending.{sent_after as sent_lem};
@@ -105,8 +114,7 @@ impl<S: Service> PlainConnection<S> {
     fn send_turn(
         &self,
         alloc: Global,
-        server: Addr,
-        boot: u64,
+        who: Incarnation,
         news: &News<'_>,
         before: &Before,
         sent: &mut PlainPackets,
@@ -114,8 +122,9 @@ impl<S: Service> PlainConnection<S> {
         requires served { IsServed (machine (S.started self.now.kind) S.after) self.now }
         requires taken { before.now.taken ≤ 2 ^ 63 }
         ensures { (p : Point) → p.reset ≡ false → IsBefore (machine (S.started self.now.kind) S.after) (news_in news.now) p before.now
-            → OnOk result (Appends sent.old sent.new (sent_by (machine (S.started self.now.kind) S.after) server boot (news_in news.now) p self.now.point)) }
+            → OnOk result (Appends sent.old sent.new (sent_by (machine (S.started self.now.kind) S.after) who.server who.boot (news_in news.now) p self.now.point)) }
     {
+        let Incarnation { server, boot } = who;
         self.send_segments(alloc, server, before, sent)?;
         self.send_copies(alloc, boot, news, before, sent)?;
         self.send_reads_told(alloc, boot, news, before, sent)?;
@@ -157,6 +166,6 @@ impl<S: Service> PlainConnection<S> {
             return self.send_dones(alloc, boot, news, was_reset, sent);
         }
         self.advance(alloc, news, &before)?;
-        self.send_turn(alloc, server, boot, news, &before, sent)
+        self.send_turn(alloc, Incarnation { server, boot }, news, &before, sent)
     }
 }

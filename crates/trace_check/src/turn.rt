@@ -13,6 +13,7 @@ ghost use Rattle.trace_check.specs.Turn.{AreSent, EndsTurn, IsChecked, IsTold, T
 
 use crate::lines::{between, line_end};
 use crate::sent::write_wires;
+use crate::walk::Played;
 use ft_io::NoMemory;
 use line_check::is_packet_line;
 use plain_packets::PlainPackets;
@@ -100,30 +101,32 @@ pub(crate) fn told_end(
     }
 }
 
-/// Reads the packet lines after the first `from` bytes of a text, if they are the lines of all packets after the first `before`. `due` is overwritten.
+/// Reads the packet lines of an event, if they are the lines of all packets that were sent at it. `due` is overwritten.
 pub(crate) fn read_sent(
     alloc: Global,
     schedule: &Schedule,
     text: &[u8],
-    from: usize,
+    played: Played,
     packets: &PlainPackets,
-    before: usize,
     due: &mut Vec<u8>,
 ) -> Result<Option<PacketLines>, NoMemory>
-    requires within { (from ≤ length text.now) × (before ≤ length packets.now) }
+    requires within { (played.place.at ≤ length text.now) × (played.before ≤ length packets.now) }
     requires schedule { IsChecked schedule.now }
-    requires sent { (sent : List Packet) × AreSent packets.now before sent }
-    ensures within { IfOk result (λ read. IfSome read (λ p. (from + p.count ≤ p.end) × (p.end ≤ length text.now) × (before + p.count ≡ length packets.now) × (before + p.count ≤ 200000))) }
-    ensures told { IfOk result (λ read. (sent : List Packet) → AreSent packets.now before sent
-        → MatchOption read ((end : ℕ) → TellsTurn text.now schedule.now from end (before + 1) sent → ⊥) (λ p. TellsTurn text.now schedule.now from p.end (before + 1) sent)) }
+    requires sent { (sent : List Packet) × AreSent packets.now played.before sent }
+    ensures within { IfOk result (λ read. IfSome read (λ p. (played.place.at + p.count ≤ p.end) × (p.end ≤ length text.now)
+        × (played.before + p.count ≡ length packets.now) × (played.before + p.count ≤ 200000))) }
+    ensures told { IfOk result (λ read. (sent : List Packet) → AreSent packets.now played.before sent
+        → MatchOption read ((end : ℕ) → TellsTurn text.now schedule.now played.place.at end (played.before + 1) sent → ⊥)
+        (λ p. TellsTurn text.now schedule.now played.place.at p.end (played.before + 1) sent)) }
 {
+    let before = played.before;
     let all = packets.as_slice();
     if PACKET_LIMIT < all.len() {
         return Ok(None);
     }
     due.clear();
     write_wires(alloc, schedule, before as u32 + 1, &all[before..], due)?;
-    match told_end(schedule, text, from, due, all.len() as u32 + 1) {
+    match told_end(schedule, text, played.place.at, due, all.len() as u32 + 1) {
         Some(end) => Ok(Some(PacketLines {
             end,
             count: (all.len() - before) as u32,

@@ -21,7 +21,6 @@ use crate::next::{EventRead, read_event};
 use crate::sent::actor;
 use crate::turn::{read_packet_lines, read_sent};
 use ft_io::NoMemory;
-use ft_model::laws::legal_traces_are_determined;
 use ft_model::{Event, Schedule};
 use plain_world::PlainWorld;
 use report_laws::Law;
@@ -40,6 +39,24 @@ pub(crate) struct Place {
     pub lines: u32,
     /// The size in bytes of the schedule's own text up to it.
     pub size: usize,
+}
+
+/// The line of an event: where it begins, and what is read of it.
+#[derive(Clone, Copy)]
+struct EventLine {
+    place: Place,
+    read: EventRead,
+}
+
+/// An event that was just played.
+#[derive(Clone, Copy)]
+pub(crate) struct Played {
+    /// Where the lines of its packets begin.
+    pub place: Place,
+    /// How many packets were sent before it.
+    pub before: usize,
+    /// The law that rejects a wrong packet line: that of the party whose turn it was.
+    pub law: Law,
 }
 
 /// Returns whether an event may not happen then, or is one too many.
@@ -73,35 +90,26 @@ fn reject_turn<S: Service>(
     }
 }
 
-/// Judges the packet lines after a place, of an event that was just played: they must be the lines of all packets after the first `before`.
+/// Judges the packet lines of an event: they must be the lines of all packets that were sent at it.
 fn judge<S: Service>(
     alloc: Global,
     schedule: &Schedule,
     text: &[u8],
-    place: Place,
-    before: usize,
-    law: Law,
+    played: Played,
     world: &PlainWorld<S>,
     due: &mut Vec<u8>,
 ) -> Result<Place, CheckEnd>
     requires schedule { IsChecked schedule.now }
-    requires within { IsPlaceIn text.now place × (length text.now ≤ 2 ^ 28) }
-    requires known { (before ≤ length world.now.packets) × (before ≤ 200000) }
-    requires played { (trace : List Moment) × (moment : Moment) × IsPlayed (machines S.started S.after) text.now schedule.now trace moment place before law world.now }
-    ensures within { IfOk result (λ after. IsPlaceIn text.now after × (place.at ≤ after.at)) }
+    requires within { IsPlaceIn text.now played.place × (length text.now ≤ 2 ^ 28) }
+    requires known { (played.before ≤ length world.now.packets) × (played.before ≤ 200000) }
+    requires played { (trace : List Moment) × (moment : Moment)
+        × IsPlayed (machines S.started S.after) text.now schedule.now trace moment played.place played.before played.law world.now }
+    ensures within { IfOk result (λ after. IsPlaceIn text.now after × (played.place.at ≤ after.at)) }
     ensures walked { IfOk result (λ after. (trace : List Moment) × IsWalked (machines S.started S.after) text.now schedule.now trace after world.now) }
     ensures rejected { IfErr result (IsRejection (machines S.started S.after) text.now) }
 {
-    legal_traces_are_determined::<S>();
-    match read_sent(
-        alloc,
-        schedule,
-        text,
-        place.at,
-        world.packets(),
-        before,
-        due,
-    ) {
+    let Played { place, before, law } = played;
+    match read_sent(alloc, schedule, text, played, world.packets(), due) {
         Ok(Some(read)) => Ok(Place {
             at: read.end,
             lines: place.lines + read.count,
@@ -112,26 +120,26 @@ fn judge<S: Service>(
     }
 }
 
-/// Plays the event of the line after a place. The text is rejected if the event may not happen then, or if its packet lines aren't those of its turn. After
+/// Plays the event of a line. The text is rejected if the event may not happen then, or if its packet lines aren't those of its turn. After
 /// `NoMemory` the world may only be dropped.
 fn take_event<S: Service>(
     alloc: Global,
     schedule: &Schedule,
     text: &[u8],
-    place: Place,
-    read: &EventRead,
+    line: EventLine,
     world: &mut PlainWorld<S>,
     due: &mut Vec<u8>,
 ) -> Result<Place, CheckEnd>
     requires schedule { IsChecked schedule.now }
-    requires within { IsPlaceIn text.now place × (length text.now ≤ 2 ^ 28) × (world.old.turns ≤ 100000) }
-    requires read { (place.at < read.now.end) × (read.now.end ≤ length text.now) × (read.now.size ≤ 8388609) }
-    requires walked { (trace : List Moment) × IsWalked (machines S.started S.after) text.now schedule.now trace place world.old
-        × ReadsEvent (machines S.started S.after) text.now (schedule_through schedule.now trace) trace read.now.event place.at read.now.end place.lines read.now.size }
-    ensures within { IfOk result (λ after. IsPlaceIn text.now after × (place.at < after.at) × (world.new.turns ≤ 100000)) }
+    requires within { IsPlaceIn text.now line.place × (length text.now ≤ 2 ^ 28) × (world.old.turns ≤ 100000) }
+    requires read { (line.place.at < line.read.end) × (line.read.end ≤ length text.now) × (line.read.size ≤ 8388609) }
+    requires walked { (trace : List Moment) × IsWalked (machines S.started S.after) text.now schedule.now trace line.place world.old
+        × ReadsEvent (machines S.started S.after) text.now (schedule_through schedule.now trace) trace line.read.event line.place.at line.read.end line.place.lines line.read.size }
+    ensures within { IfOk result (λ after. IsPlaceIn text.now after × (line.place.at < after.at) × (world.new.turns ≤ 100000)) }
     ensures walked { IfOk result (λ after. (trace : List Moment) × IsWalked (machines S.started S.after) text.now schedule.now trace after world.new) }
     ensures rejected { IfErr result (IsRejection (machines S.started S.after) text.now) }
 {
+    let EventLine { place, read } = line;
     if is_refused(world, &read.event) {
         return Err(CheckEnd::Reject {
             line: place.lines + 1,
@@ -140,13 +148,14 @@ fn take_event<S: Service>(
     }
     let law = actor(world.packets(), &read.event);
     let before = world.packets().len();
-    let next = Place {
+    let place = Place {
         at: read.end,
         lines: place.lines + 1,
         size: read.size,
     };
+    let played = Played { place, before, law };
     match world.step(alloc, &read.event) {
-        Ok(()) => judge(alloc, schedule, text, next, before, law, world, due),
+        Ok(()) => judge(alloc, schedule, text, played, world, due),
         Err(NoMemory) => Err(CheckEnd::NoMemory),
     }
 }
@@ -176,7 +185,8 @@ pub(crate) fn walk<S: Service>(
         place.size,
         world.turns(),
     )? {
-        place = take_event(alloc, schedule, text, place, &read, world, &mut due)?;
+        let line = EventLine { place, read };
+        place = take_event(alloc, schedule, text, line, world, &mut due)?;
     }
     Ok(place)
 }

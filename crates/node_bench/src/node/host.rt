@@ -53,6 +53,31 @@ impl Counts {
     };
 }
 
+/// A segment that a client sends.
+#[derive(Clone, Copy)]
+struct Sent {
+    /// How far it begins after the client's initial sequence number.
+    place: u32,
+    /// How far it acknowledges after the server's.
+    acked: u32,
+    flags: u8,
+    /// The bytes of its text.
+    size: u16,
+}
+
+impl Sent {
+    fn bare(place: u32, acked: u32, flags: u8) -> Sent
+        ensures { result.size ≡ 0 }
+    {
+        Sent {
+            place,
+            acked,
+            flags,
+            size: 0,
+        }
+    }
+}
+
 /// A server and its log.
 #[derive(Drop)]
 pub(crate) struct Host {
@@ -119,18 +144,16 @@ impl Host {
         Ok(())
     }
 
-    /// A segment of the ith client, this far after its initial sequence number, which acknowledges this far after the server's.
-    fn send(
-        &mut self,
-        alloc: Global,
-        i: u16,
-        place: u32,
-        acked: u32,
-        flags: u8,
-        size: u16,
-    ) -> Result<(), NoMemory>
-        requires { size ≤ 1460 }
+    /// The ith client sends a segment.
+    fn send(&mut self, alloc: Global, i: u16, segment: Sent) -> Result<(), NoMemory>
+        requires { segment.size ≤ 1460 }
     {
+        let Sent {
+            place,
+            acked,
+            flags,
+            size,
+        } = segment;
         let mut packet = [0u8; 1_500];
         let head = head_of(i, place, acked, flags);
         let len = write_packet(&head, &[b'a'; 1_460][..usize::from(size)], &mut packet).min(1_500);
@@ -149,8 +172,8 @@ impl Host {
         count_and_queue(self.node.sent(), &mut self.letters, &mut self.counts);
         self.exchange_with_log(alloc)?;
         for i in 0..clients {
-            self.send(alloc, i, 0, 0, SYN, 0)?;
-            self.send(alloc, i, 1, 1, ACK, 0)?;
+            self.send(alloc, i, Sent::bare(0, 0, SYN))?;
+            self.send(alloc, i, Sent::bare(1, 1, ACK))?;
         }
         self.counts = Counts::NONE;
         Ok(())
@@ -179,7 +202,13 @@ impl Host {
             let place = if size == 0 { 0 } else { sent.wrapping_add(1) };
             let back = if self.kind == ECHO { sent } else { 0 };
             for i in 0..clients {
-                self.send(alloc, i, place, back.wrapping_add(1), ACK, size)?;
+                let segment = Sent {
+                    place,
+                    acked: back.wrapping_add(1),
+                    flags: ACK,
+                    size,
+                };
+                self.send(alloc, i, segment)?;
             }
         }
         Ok(())
