@@ -47,6 +47,12 @@ fn from_mark(
 
 /// Connections with a mark, whose reads end at it or continue.
 pub(crate) fn with_marks(alloc: Global, said: &mut Said) {
+    with_empty_states(alloc, said);
+    with_states(alloc, said);
+}
+
+/// The services of these marks have nothing to save.
+fn with_empty_states(alloc: Global, said: &mut Said) {
     from_mark(
         alloc,
         "restart_from_mark",
@@ -68,6 +74,10 @@ pub(crate) fn with_marks(alloc: Global, said: &mut Said) {
         },
         said,
     );
+}
+
+/// The services of these marks hold bytes, or a count.
+fn with_states(alloc: Global, said: &mut Said) {
     from_mark(
         alloc,
         "state_with_held_bytes",
