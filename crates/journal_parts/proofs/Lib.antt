@@ -3,5 +3,3 @@ pub mod EndReport
 pub mod Gathering
 pub mod Living
 pub mod Rounding
-pub mod Handing
-pub mod PairRun

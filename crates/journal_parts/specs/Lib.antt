@@ -4,9 +4,3 @@ pub mod Outcome
 pub mod Rounds
 pub mod RoundParts
 pub mod Words
-pub mod PairOutcome
-pub mod PartLife
-pub mod PartTurns
-pub mod StopNotice
-pub mod PartSteps
-pub mod PairWords

@@ -17,13 +17,3 @@ abbrev pub IsTold : Result (Unit {0}) ProcessEnd → (err_old err_new : Option (
 IsTold (Ok _) err_old err_new code = (code ≡ 0) × (err_new ≡ err_old)
 IsTold (Err end) err_old err_new code =
     ((code ≡ code_of end) × Appends err_old err_new (text_of end)) ⊎ ((code ≡ 5) × AppendsFront err_old err_new (text_of end))
-
--- what was done and what is reported agree
-pub record HasKept (role : JournalRole) (file : Option (List ℕ)) (old new : Option (List DeskCall)) (out_old out_new err_old err_new : Option (List ℕ)) (code : ℕ) : Type 0 where
-  pub end : Result (Unit {0}) ProcessEnd
-  pub keeps : KeepsJournal role file end old new out_old out_new
-  pub told : IsTold end err_old err_new code
-
--- the statuses of such a logger
-abbrev pub MayEnd : (code : ℕ) → Type 0
-MayEnd code = (code ≡ 0) ⊎ ((code ≡ 3) ⊎ ((code ≡ 4) ⊎ ((code ≡ 5) ⊎ ((code ≡ 11) ⊎ ((code ≡ 12) ⊎ (code ≡ 13))))))

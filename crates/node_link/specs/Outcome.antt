@@ -69,7 +69,3 @@ module _ {State : Type 0} (services : ℕ → Machine State) where
 -- the same for a program with the four services
 abbrev pub HasEnded : Option NodeRole → (before after : Given) → (err_old err_new : Option (List ℕ)) → (code : ℕ) → Type 0
 HasEnded = HasEndedWith (machines any_started any_after)
-
--- a process with nothing but a link and a sink
-abbrev pub with_link : (calls : Option (List LinkCall)) → (out : Option (List ℕ)) → Given
-with_link calls out = record { left = None; calls = calls; started = 0; spawned = None; out = out }

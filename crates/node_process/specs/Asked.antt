@@ -5,8 +5,8 @@ use Rattle.link_parts.specs.Options.{Text}
 use Rattle.link_parts.specs.Ranges as node
 use Rattle.link_parts.specs.Ranges.{most_turns}
 use Rattle.link_parts.specs.Roles.{lasting_role_of, own_role_of, is_pair, reads_input}
-use Rattle.journal_parts.specs.PairWords.{twin_of}
-use Rattle.journal_parts.specs.PartSteps as twin
+use Rattle.chain_parts.specs.PairWords.{twin_of}
+use Rattle.chain_parts.specs.PartSteps as twin
 use Rattle.journal_parts.specs.Words.{journal_of}
 use Rattle.node_process.specs.declared.role.Role.{Role}
 use Rattle.node_process.specs.declared.role.Role.TheVariants.{Node, Journal, Twin}

@@ -6,7 +6,7 @@ use Rattle.link_parts.specs.declared.status.NodeEnd.TheVariants.{Usage, NoMemory
 use Rattle.link_parts.specs.Options.{Text}
 use Rattle.node_link.specs.Outcome as node
 use Rattle.journal_parts.specs.Outcome.{KeepsJournal, IsTold}
-use Rattle.journal_parts.specs.PairOutcome as twin
+use Rattle.chain_parts.specs.PairOutcome as twin
 use Rattle.journal_parts.specs.declared.status.ProcessEnd.{ProcessEnd}
 use Rattle.journal_parts.specs.declared.status.ProcessEnd.TheVariants as ends
 use Rattle.node_process.specs.declared.role.Role.{Role}

@@ -3,7 +3,7 @@
 
 ghost use Rattle.std.specs.Prelude.{◌≡◌, Some, map, string_bytes};
 ghost use Rattle.journal_parts.specs.declared.role.JournalRole.{JournalRole};
-ghost use Rattle.journal_parts.specs.declared.pair_role.TwinRole.{TwinRole};
+ghost use Rattle.chain_parts.specs.declared.pair_role.TwinRole.{TwinRole};
 ghost use Rattle.node_process.specs.Asked.{asked_of};
 ghost use Rattle.node_process.specs.declared.role.Role.TheVariants as roles;
 

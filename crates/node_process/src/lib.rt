@@ -3,7 +3,8 @@
 //! the other has stopped. The service is any. `run_program` gives a role what the system has, and `run_ftnode` is the program `ftnode`.
 #![tactic(auto)]
 
-pub use journal_parts::{AloneRole, FileName, JournalRole, PartRole, ProcessEnd, TwinRole};
+pub use chain_parts::{AloneRole, PartRole, TwinRole};
+pub use journal_parts::{FileName, JournalRole, ProcessEnd};
 pub use process::Process;
 pub use program::{run_ftnode, run_program};
 pub use role::{Role, Services, read_role};

@@ -4,8 +4,9 @@ ghost use Rattle.std.specs.Prelude.{◌≡◌, List, map, string_bytes, IfOk, If
 ghost use Rattle.link_parts.specs.Ranges as node;
 ghost use Rattle.node_process.specs.Asked.{InRange, asked_of, node_role_of};
 
+use chain_parts::{TwinRole, read_twin_role};
 use ft_io::NoMemory;
-use journal_parts::{JournalRole, TwinRole, read_journal_role, read_twin_role};
+use journal_parts::{JournalRole, read_journal_role};
 use link_parts::{NodeRole, read_lasting_role, read_own_role};
 use std::alloc::Global;
 

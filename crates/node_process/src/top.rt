@@ -11,9 +11,10 @@ ghost use Rattle.node_process.specs.Run.{RunsAs, Runs, HasRun};
 
 use crate::process::Process;
 use crate::role::{Role, Services, read_role};
+use chain_parts::{TwinRole, run_part, run_teller};
 use disk::Desk;
 use ft_io::{Link, Sink, Source, Spawner};
-use journal_parts::{ProcessEnd, TwinRole, run_keeper, run_part, run_teller, tell};
+use journal_parts::{ProcessEnd, run_keeper, tell};
 use link_parts::{NodeEnd, Status};
 use node_link::run_role;
 use server_trait::Saved;

@@ -1,9 +1,0 @@
-use Rattle.std.proofs.Common.{◌≡◌}
-use Rattle.journal_parts.specs.PartSteps.{standing_of, IsServing}
-use Rattle.journal_parts.proofs.part.serve.Given as goal
-
--- so many turns are done, and no bind failed
-abbrev pub invariant-loop-turn : goal.invariant-loop-turn
-invariant-loop-turn g l =
-    IsServing l.role l._turn (standing_of l.twin) (g.L.Link.told l.initial.link) (g.L.Link.told l.link) l.counts
-    × (g.L.Link.bind_fault_count l.link ≡ g.L.Link.bind_fault_count l.initial.link)
