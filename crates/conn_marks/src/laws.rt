@@ -13,7 +13,6 @@ ghost use Rattle.ft_model.specs.ResetAndEnd.{dones};
 ghost use Rattle.ft_model.specs.Timer.{is_tick};
 ghost use Rattle.mark_laws.specs.Marking.{Marking, MarkingTurn, IsSettled, with_new, new_marks, outstanding_in, with_marks, marks_out};
 
-use mark_laws::marking::ticks_make_no_new_mark;
 use server_trait::Service;
 
 /// In a turn other than a tick's, the mark that the turn makes is sent, and no other.
@@ -30,6 +29,4 @@ pub fn outstanding_marks_go_out_again<S: Service>()
         → IsSettled (machine fresh S.after) every m p → ConnectionTurn (machine fresh S.after) server boot Ticks p q packets
         → MarkingTurn (machine fresh S.after) writing every server boot Ticks p q m m
         (with_marks (length (dones Ticks p q)) (marks_out boot q (outstanding_in m)) packets) }
-{
-    ticks_make_no_new_mark::<S>();
-}
+{}

@@ -14,8 +14,7 @@ ghost use Rattle.wrapped_conn.proofs.Sendable.{FitsKey};
 ghost use Rattle.conn_marks.specs.Marks.{due_in, is_made, with_due, mark_with, IsTellableMark};
 
 use ft_io::{Key, NoMemory};
-use logger_wire::{Mark, MarkBody, MarkMsg};
-use mark_laws::marking::quiet_points_are_found;
+use logger_wire::{MarkBody, MarkMsg};
 use server_trait::{Saved, Service};
 use std::alloc::Global;
 use std::marker::Model;
@@ -70,7 +69,6 @@ impl Marking {
         ensures law { IfOk result (λ made. (0 < every → S.is_savable ≡ true) → (kind : ℕ) (p : Point) → Stands (machine (S.started kind) S.after) conn.now p → AreBytes p.taken
             → self.new ≡ with_new (machine (S.started kind) S.after) (writing S.form (S.state_of kind)) every p self.old) }
     {
-        quiet_points_are_found::<S>();
         self.make(every, conn)
     }
 

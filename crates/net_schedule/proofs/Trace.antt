@@ -2,7 +2,7 @@
 use Rattle.std.proofs.Common.{◌≡◌, ◌∙◌, sym, ap, subst, refl, ℕ, ◌+◌, ◌-◌, ◌<◌, ◌≤◌, Some, None, List, [], ◌∷◌, ◌++◌, length, Result, Ok, Err, arith, length-append}
 use Rattle.std.specs.List.{AllByRecursion}
 use Rattle.std.specs.Prelude.{IfOk, IfErr, OnOk}
-use Rattle.server_trait.specs.Service.{Machine}
+use Rattle.server_trait.specs.Service.{Machine, WritesBytes}
 use Rattle.server_trait.specs.declared.Service.{Ghosts}
 use Rattle.ft_model.specs.Client.{received}
 use Rattle.ft_model.specs.Lawful.{IsNearInput, IsSoundInput, fence}
@@ -16,10 +16,15 @@ use Rattle.ft_model.specs.declared.event.Event.{Event}
 use Rattle.ft_model.specs.declared.schedule.Schedule.{Schedule}
 use Rattle.ft_model.proofs.Acknowledged.{start_is}
 use Rattle.ft_model.proofs.FaithfulKept.{received_same}
+use Rattle.ft_model.proofs.FormedWorld.{wires_after}
 use Rattle.ft_model.proofs.Happened.{Happened, holds_after}
 use Rattle.ft_model.proofs.Happened.Happened.{log_heard, client_heard, client_moved, server_turned, server_booted, server_down}
 use Rattle.ft_model.proofs.Lists.{same_key}
 use Rattle.ft_model.proofs.ClientKeys.{keys_in, keys_stay}
+use Rattle.ft_model.proofs.Running.{HasSmallOutputs}
+use Rattle.ft_model.proofs.Unfenced.{no_fence}
+use Rattle.trace_laws.proofs.Legal.{inputs_near}
+use Rattle.trace_laws.proofs.Sound.{inputs_sound}
 use Rattle.node_serving.specs.Markers.{Saving}
 use Rattle.net_schedule.specs.WorldView.{kept, services_of}
 use Rattle.net_schedule.specs.Premises.{Premises}
@@ -58,6 +63,15 @@ pub record AreLaws {State : Type 0} (services : ℕ → Machine State) : Type 0 
   pub unfenced : (schedule : Schedule) (trace : List Moment) (node : Node) (input : Input) → Legal services schedule trace
       → (world_after (start_of schedule) trace).node ≡ Some node → MayCome (world_after (start_of schedule) trace) input → fence node input ≡ None
   pub wires : (kind : ℕ) (start : Seen) (trace : List Moment) → Joint (services kind) start trace → AllByRecursion HasWire (world_after start trace).packets
+
+pub laws_hold : {State : Type 0} (services : ℕ → Machine State) → ((kind : ℕ) → HasSmallOutputs (services kind)) → ((kind : ℕ) → WritesBytes (services kind)) → AreLaws services
+laws_hold services small writes = record {
+  near = λ schedule trace node input legal up comes. inputs_near services small schedule trace node input legal up comes;
+  sound = λ schedule trace node input legal up comes.
+  (inputs_sound (services (kind_of schedule.service)) (small (kind_of schedule.service)) (start_of schedule) trace node input legal.joint up comes).0;
+  unfenced = λ schedule trace node input legal up comes. no_fence (services (kind_of schedule.service)) (start_of schedule) trace node input legal.joint up comes;
+  wires = λ kind start trace joint. wires_after (services kind) (small kind) (writes kind) start trace joint;
+}
 
 module _ {State : Type 0} (services : ℕ → Machine State) where
   -- a trace of the first events is one of the schedule that ends there

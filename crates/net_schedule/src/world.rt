@@ -9,8 +9,6 @@ ghost use Rattle.net_schedule.specs.Every.{every_in};
 use crate::laws::marked_logs_have_distinct_keys;
 use crate::sending::keep_sent;
 use ft_io::{Addr, Key, NoMemory};
-use ft_model::grammar::playable_schedules_start;
-use ft_model::wire::packets_have_wires;
 use ft_model::{Event, EventWhy, Schedule, Way};
 use logger_store::LogStore;
 use mark_laws::{marked_parcels_are_written, marked_premises_hold};
@@ -21,7 +19,6 @@ use server_node::{Input, Node, TurnEnd};
 use server_trait::{Saved, Service};
 use std::alloc::Global;
 use std::mem;
-use trace_laws::premises_hold;
 use twin_laws::{flat_traces_show_all, legal_traces_are_masked, parcels_are_written};
 use twin_log::Part;
 
@@ -121,7 +118,6 @@ impl<S: Saved> World<S> {
         ensures marked { IfOk result (λ w. (every : ℕ) → S.is_savable ≡ true → schedule.now.twin ≡ false → schedule.now.marks ≡ Some every → 0 < every
             → MarkedStandsAfter (marker_for (saving S.form S.state_of S.is_savable) (services_of w) every) schedule.now [] [] (kept w)) }
     {
-        playable_schedules_start();
         let lines = schedule.clients.as_slice();
         let every = every_of::<S>(schedule);
         Ok(World {
@@ -405,8 +401,7 @@ impl<S: Saved> World<S> {
         ensures marked_ends { IfErr result (λ end. MarkedEndsAlong (saving S.form S.state_of S.is_savable) event.now end self.old self.new) }
         ensures keeps { IfErr result (KeepsAtRefusal (kept self.old) (kept self.new)) }
     {
-        premises_hold::<S>();
-        packets_have_wires::<S>();
+        // Laws for the proof, of two loggers and of marks. A law does nothing when it is called.
         legal_traces_are_masked::<S>();
         flat_traces_show_all::<S>();
         parcels_are_written::<S>();

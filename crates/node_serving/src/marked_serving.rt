@@ -30,7 +30,6 @@ use crate::slot::{Slot, live_conn, tick_slot};
 use crate::slots::{conn_at, key_at};
 use crate::turn::Turn;
 use conn_marks::Marks;
-use conn_marks::laws::outstanding_marks_go_out_again;
 use ft_io::{Key, NoMemory};
 use indexmap::IndexMap;
 use logger_wire::{Body, MarkBody, MarkMsg, Msg};
@@ -51,7 +50,6 @@ fn tick_marked<S: Saved>(
     ensures alone { OnOk result (SlotTickBeside S.Service who key slot.old slot.new turn.old turn.new) }
     ensures sound { OnOk result (IsSoundSlot who key slot.new) }
 {
-    outstanding_marks_go_out_again::<S>();
     let from = turn.sent.len();
     tick_slot(who, key, slot, turn)?;
     match live_conn(slot) {

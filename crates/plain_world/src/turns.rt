@@ -14,8 +14,6 @@ use crate::node::PlainNode;
 use crate::world::PlainWorld;
 use ft_io::NoMemory;
 use ft_model::Event;
-use ft_model::headline::no_server_is_fenced;
-use ft_model::wire::packets_have_wires;
 use plain_packets::PlainPackets;
 use server_trait::Service;
 use std::alloc::Global;
@@ -116,8 +114,6 @@ impl<S: Service> PlainWorld<S> {
         ensures { OnOk result ((schedule : Written) (trace : List Moment) → IsAt (machines S.started S.after) schedule trace self.old → FitsSchedule schedule → FitsEvent event.now
             → refusal_lem (world_after (start_of schedule) trace) event.now ≡ None → Steps (machines S.started S.after) schedule trace event.now self.old self.new) }
     {
-        no_server_is_fenced::<S>();
-        packets_have_wires::<S>();
         self.act(alloc, event)?;
         self.turns += 1;
         Ok(())

@@ -1,8 +1,10 @@
 use Rattle.std.proofs.Common.{◌∙◌, sym, ap, subst, length}
 use Rattle.std.specs.Option.{option_copied}
 use Rattle.std.proofs.lemmas.Result.{on_ok_weaker}
+use Rattle.server_trait.specs.Service.{machine}
 use Rattle.mark_laws.specs.Marking.{outstanding_in}
 use Rattle.conn_marks.specs.MarkSends.{SendsMarks}
+use Rattle.conn_marks.proofs.Marked.{tick_sends_again}
 use Rattle.node_serving.specs.Identity.{node_of}
 use Rattle.node_serving.specs.Markers.{saving, marker_of}
 use Rattle.node_serving.proofs.MarkedTicks.{slot_ticks, again_live, again_none, TickLaw}
@@ -18,7 +20,7 @@ returns-in-Some-clause-turn g c =
     (λ sends every standing marking place keeps settled st.
     let by = marker_of g.S.Service (saving g.S.Saved.form g.S.Saved.state_of g.S.Saved.is_savable) c.args.who every in
     let law : TickLaw by (node_of c.args.who standing) =
-    λ p q m packets calm t. (c.outstanding_marks_go_out_again.ensures (g.S.Service.started c.args.who.kind) by.writing by.every c.args.who.local c.args.who.boot p q m packets calm t).marking in
+    λ p q m packets calm t. (tick_sends_again (machine (g.S.Service.started c.args.who.kind) g.S.Service.after) by.writing by.every c.args.who.local c.args.who.boot p q m packets calm t).marking in
     let again = subst (λ n. SendsMarks c.args.who.boot c.args.key n (outstanding_in (marking c.args.key)) c.tick_slot.new.turn.sent.items c.send_outstanding.new.turn.sent.items) c.len-from.ensures
     (subst (λ m. SendsMarks c.args.who.boot c.args.key c.len-from.result (outstanding_in m) c.tick_slot.new.turn.sent.items c.send_outstanding.new.turn.sent.items) (keeps.each c.args.key) sends) in
     slot_ticks by (node_of c.args.who standing) marking c.args.key place c.tick_slot.new.slot c.args.turn.now.sent.items c.tick_slot.new.turn.sent.items c.send_outstanding.new.turn.sent.items law settled
@@ -31,7 +33,7 @@ returns-in-None-clause-turn g c = λ every standing marking place keeps settled 
     let told = rw c.in_ok-tick_slot.was at c.tick_slot.ensures.turn in
     let by = marker_of g.S.Service (saving g.S.Saved.form g.S.Saved.state_of g.S.Saved.is_savable) c.args.who every in
     let law : TickLaw by (node_of c.args.who standing) =
-    λ p q m packets calm t. (c.outstanding_marks_go_out_again.ensures (g.S.Service.started c.args.who.kind) by.writing by.every c.args.who.local c.args.who.boot p q m packets calm t).marking in
+    λ p q m packets calm t. (tick_sends_again (machine (g.S.Service.started c.args.who.kind) g.S.Service.after) by.writing by.every c.args.who.local c.args.who.boot p q m packets calm t).marking in
     slot_ticks by (node_of c.args.who standing) marking c.args.key place c.tick_slot.new.slot c.args.turn.now.sent.items c.tick_slot.new.turn.sent.items c.tick_slot.new.turn.sent.items law settled
     (told standing place tt st)
     (again_none c.args.who.boot c.args.key (length c.args.turn.now.sent.items) c.tick_slot.new.slot (marking c.args.key) c.tick_slot.new.turn.sent.items
