@@ -54,7 +54,7 @@ fn flags(draws: &mut Draws) -> u8 {
 }
 
 /// Writes a packet of the client with these numbers, whose text is the client's at its place, and answers its length.
-fn packet(draws: &mut Draws, seq: Seq, ack: Seq, out: &mut [u8; 1_500]) -> usize
+fn packet(draws: &mut Draws, seq: Seq, ack: Seq, out: &mut [u8; limits::PACKET]) -> usize
     ensures { result ≤ 1500 }
 {
     let head = Head {
@@ -75,7 +75,7 @@ fn packet(draws: &mut Draws, seq: Seq, ack: Seq, out: &mut [u8; 1_500]) -> usize
 }
 
 /// Every second datagram is a packet, and every second of these is near to the connection's numbers.
-fn datagram(draws: &mut Draws, number: u32, inside: Inside, out: &mut [u8; 1_500]) -> usize
+fn datagram(draws: &mut Draws, number: u32, inside: Inside, out: &mut [u8; limits::PACKET]) -> usize
     ensures { result ≤ 1500 }
 {
     match number % 4 {
@@ -117,7 +117,7 @@ fn meet(
     arrange(alloc, conn, situation, out)?;
     tally.begun = Some((conn.endpoint().state().name, conn.stage()));
     let mut is_reset = situation == Situation::Reset;
-    let mut bytes = [0u8; 1_500];
+    let mut bytes = [0u8; limits::PACKET];
     for i in 0..DATAGRAMS {
         let before = conn.inside();
         let len = datagram(draws, i, before, &mut bytes);

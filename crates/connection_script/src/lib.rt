@@ -4,8 +4,8 @@
 
 use ft_io::NoMemory;
 use hostile::{Tally, attack};
-use limits::{make_all, make_unacknowledged};
 use meter::fill_all;
+use most_output::{make_all, make_unacknowledged};
 use restarts::play_all;
 use segment_codec::Head;
 use situations::{SITUATIONS, Situation};
@@ -14,8 +14,8 @@ use test_data::Said;
 use wrapped_conn::TurnOut;
 
 mod hostile;
-mod limits;
 mod meter;
+mod most_output;
 mod peers;
 mod restarts;
 mod rules;

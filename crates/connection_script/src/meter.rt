@@ -70,7 +70,7 @@ fn fill_stream(
 ) -> Result<Filled, NoMemory>
     requires { IsSound conn.old }
 {
-    let text = [120u8; 1_460];
+    let text = [120u8; limits::TEXT];
     start(alloc, conn, out)?;
     for number in 0..SEGMENTS {
         let _acknowledged = fill(alloc, conn, number, &text[..], out)?;

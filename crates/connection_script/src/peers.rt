@@ -126,7 +126,7 @@ pub(crate) fn say_acked(
         window: 65_535,
         mss: None,
     };
-    let mut packet = [0u8; 1_500];
+    let mut packet = [0u8; limits::PACKET];
     let len = write_packet(&head, text, &mut packet);
     take_packet(alloc, conn, &mut packet[..len], out)
 }

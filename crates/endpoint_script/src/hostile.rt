@@ -157,7 +157,7 @@ impl Attack {
     }
 
     /// Writes a datagram whose text is that of the peer's stream at its number, and returns its length.
-    fn write(&mut self, scene: &Scene, out: &mut [u8; 1_500]) -> usize
+    fn write(&mut self, scene: &Scene, out: &mut [u8; limits::PACKET]) -> usize
         ensures { result ≤ 1500 }
     {
         let head = self.head(scene);
@@ -238,7 +238,7 @@ impl Attack {
     /// One datagram, damaged in one byte or not, comes to an endpoint. One that is damaged is refused and isn't handed over: nothing changes, and nothing leaves. A
     /// tick passes after some of them.
     fn meet_one(&mut self, scene: &mut Scene) -> Kept {
-        let mut packet = [0u8; 1_500];
+        let mut packet = [0u8; limits::PACKET];
         let len = self.write(scene, &mut packet);
         let is_damaged = self.draws.below(2) == 0;
         if is_damaged {

@@ -3,6 +3,7 @@
 use crate::scene::{Met, Scene, differs};
 use crate::script::{Join, Opening};
 use ft_io::{Addr, NoMemory};
+use limits::STREAM;
 use segment_codec::read_packet;
 use socket_layer::Socket;
 use std::alloc::{AllocError, Global};
@@ -18,8 +19,6 @@ pub(crate) const SERVER: Addr = Addr {
     ip: 0xC000_0264,
     port: 7,
 };
-
-pub(crate) const LIMIT: u32 = 1 << 24;
 
 /// What both users write is part of this stream. The client's text begins at place 0, the server's at `SERVER_PLACE`.
 const STREAM: Pattern = Pattern::Numbers;
@@ -148,7 +147,7 @@ fn join_server(alloc: Global, join: Join, client: &mut Side) -> Met {
         local: SERVER,
         remote: None,
         isn: join.server.isn,
-        limit: LIMIT,
+        limit: STREAM,
     };
     let mut server = Side::new(alloc, opening, join.server.bytes, SERVER_PLACE)?;
     play(alloc, join, client, &mut server)
@@ -160,7 +159,7 @@ pub(crate) fn join(alloc: Global, join: Join) -> Met {
         local: CLIENT,
         remote: Some(SERVER),
         isn: join.client.isn,
-        limit: LIMIT,
+        limit: STREAM,
     };
     let mut client = Side::new(alloc, opening, join.client.bytes, 0)?;
     join_server(alloc, join, &mut client)

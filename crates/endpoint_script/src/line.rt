@@ -2,9 +2,7 @@
 
 use crate::script::{Action, Counted, Deed, Hostile, Join, Joiner, Opening, Quantity};
 use crate::words::{Why, Words};
-
-/// The limit of the receive window's right edge, if a line gives none.
-const LIMIT: u32 = 1 << 24;
+use limits::STREAM;
 
 /// What a line does or says, by its first word and the others. `ways` is how many parts of the script there are up to the last way.
 pub(crate) fn action<'a>(keyword: &str, words: &mut Words<'a>, ways: usize) -> Action<'a> {
@@ -49,7 +47,7 @@ fn opening(words: &mut Words<'_>, is_active: bool) -> Opening {
         limit: if words.has("limit") {
             words.number()
         } else {
-            LIMIT
+            STREAM
         },
     }
 }

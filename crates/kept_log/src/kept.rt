@@ -20,13 +20,11 @@ use crate::opening::{OpenEnd, open_file};
 use crate::reading::BEYOND;
 use disk::Disk;
 use ft_io::NoMemory;
+use limits::MESSAGE;
 use logger_store::{LogStore, MsgOut};
 use logger_wire::Msg;
 use std::alloc::Global;
 use std::marker::Model;
-
-/// The longest message, in bytes.
-const LONGEST: usize = 1_491;
 
 /// A log, and the round of messages that have changed it and aren't in its journal yet. The caller has the journal's file, and passes the same one to each
 /// call.
@@ -88,7 +86,7 @@ impl KeptLog {
     pub fn is_full(&self) -> bool
         ensures { result ≡ is_full self.now }
     {
-        self.round.len() > MOST_BODY - LONGEST
+        self.round.len() > MOST_BODY - MESSAGE
     }
 
     /// Applies a message to the log, and replaces the content of `out` by the answer, or by nothing if there is none. If the message changes the log, its bytes

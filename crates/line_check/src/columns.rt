@@ -12,7 +12,7 @@ use crate::words::{Words, named};
 use seq_arith::Field;
 
 /// The largest size of a stream, in bytes.
-const STREAM_LIMIT: u64 = 1 << 24;
+const STREAM_LIMIT: u64 = limits::STREAM as u64;
 
 /// What the range of a field depends on: the boot number of its message, and how many bytes follow the message's fields.
 #[derive(Clone, Copy)]

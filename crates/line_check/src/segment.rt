@@ -7,10 +7,8 @@ ghost use Rattle.line_check.specs.Words as spelled;
 use crate::columns::{Limits, number_fits};
 use crate::values::{are_flags, byte_count, option_size};
 use crate::words::{Words, last_named, named, next_word};
+use limits::PACKET;
 use seq_arith::Field;
-
-/// The largest size of a packet, in bytes.
-const PACKET_LIMIT: usize = 1_500;
 
 /// The size of a packet's two headers, in bytes.
 const HEADER_BYTES: usize = 40;
@@ -25,10 +23,10 @@ fn sizes_fit(option: Option<usize>, payload: Option<usize>) -> bool
     let Some(payload) = payload else {
         return false;
     };
-    if PACKET_LIMIT - HEADER_BYTES < option {
+    if PACKET - HEADER_BYTES < option {
         return false;
     }
-    payload <= PACKET_LIMIT - HEADER_BYTES - option
+    payload <= PACKET - HEADER_BYTES - option
 }
 
 /// Returns whether these are the last words of a segment: its option and its payload, with sizes that fit a packet.

@@ -25,10 +25,10 @@ use std::alloc::Global;
 use tcp_endpoint::Outbox;
 
 /// The most bytes of a script.
-const SCRIPT_LIMIT: usize = 1 << 24;
+const SCRIPT_LIMIT: usize = limits::STREAM as usize;
 
 /// A client's receive buffer, in bytes.
-const ACCEPT_ROOM: usize = 65_535;
+const ACCEPT_ROOM: usize = limits::BUFFER as usize;
 
 /// Reads the whole input as a script. It takes at most one byte more than a script may have.
 fn read_script<I: Source>(alloc: Global, input: &mut I) -> Result<Vec<u8>, NodeEnd>

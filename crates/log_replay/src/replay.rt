@@ -8,13 +8,11 @@ ghost use Rattle.log_replay.specs.Replay.{served_on, fed_on};
 use crate::cuts::Cuts;
 use crate::held::Held;
 use ft_io::NoMemory;
+use limits::STREAM;
 use north_wrap::{North, ReplayedReads};
 use server_trait::{Next, Service};
 use std::alloc::Global;
 use std::marker::Model;
-
-/// The most bytes of a stream.
-const STREAM: u32 = 16_777_216;
 
 /// A service that has replayed the fetched reads so far. It holds the bytes that aren't replayed, and the output after the client's acknowledgement.
 #[derive(Drop)]

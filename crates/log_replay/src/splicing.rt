@@ -12,14 +12,12 @@ ghost use Rattle.connection_laws.specs.Splice.{forged as forged_lem, forged_syn,
 ghost use Rattle.log_replay.specs.LoggedHead.{IsSegmentSize, has_end};
 
 use ft_io::{Addr, Key, NoMemory};
-use logger_wire::EntryHead;
+use limits::STREAM;
+use logger_store::EntryHead;
 use segment_codec::{Head, PacketRef};
 use seq_arith::{ACK, FIN, SYN, Seq};
 use std::alloc::Global;
 use tcp_endpoint::{Endpoint, Outbox};
-
-/// The most bytes of a stream.
-const STREAM: u32 = 16_777_216;
 
 /// Whether a FIN is logged for which the stream has room.
 pub fn has_end(head: &EntryHead) -> bool

@@ -2,14 +2,12 @@
 
 use crate::tell_answer;
 use ft_io::{Key, NoMemory};
+use limits::STREAM;
 use logger_store::MsgOut;
 use logger_wire::{Mark, MarkBody, MarkMsg, write_mark};
 use mark_store::MarkStore;
 use std::alloc::Global;
 use test_data::{Said, bytes_of_word};
-
-/// The most that a length and the output may be, in bytes.
-const STREAM: u32 = 1 << 24;
 
 /// The longest state, in bytes.
 const STATE: usize = 1_100;

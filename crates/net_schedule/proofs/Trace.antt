@@ -68,7 +68,7 @@ pub laws_hold : {State : Type 0} (services : ℕ → Machine State) → ((kind :
 laws_hold services small writes = record {
   near = λ schedule trace node input legal up comes. inputs_near services small schedule trace node input legal up comes;
   sound = λ schedule trace node input legal up comes.
-  (inputs_sound (services (kind_of schedule.service)) (small (kind_of schedule.service)) (start_of schedule) trace node input legal.joint up comes).0;
+      (inputs_sound (services (kind_of schedule.service)) (small (kind_of schedule.service)) (start_of schedule) trace node input legal.joint up comes).0;
   unfenced = λ schedule trace node input legal up comes. no_fence (services (kind_of schedule.service)) (start_of schedule) trace node input legal.joint up comes;
   wires = λ kind start trace joint. wires_after (services kind) (small kind) (writes kind) start trace joint;
 }

@@ -10,6 +10,7 @@ use crate::laws::marked_logs_have_distinct_keys;
 use crate::sending::keep_sent;
 use ft_io::{Addr, Key, NoMemory};
 use ft_model::{Event, EventWhy, Schedule, Way};
+use limits::PACKET;
 use logger_store::LogStore;
 use mark_laws::{marked_parcels_are_written, marked_premises_hold};
 use peer_client::Client;
@@ -24,9 +25,6 @@ use twin_log::Part;
 
 /// The largest number of packets in a run.
 const PACKET_LIMIT: usize = 200_000;
-
-/// The largest size of a client's packet, in bytes.
-const PACKET_ROOM: usize = 1_500;
 
 /// Replaces the contents of a buffer by these bytes.
 fn refill(buffer: &mut Vec<u8>, bytes: &[u8]) -> Result<(), NoMemory>
@@ -84,7 +82,7 @@ pub struct World<S: Service> {
     /// A copy of the packet that is being delivered.
     copy: Vec<u8>,
     /// The buffer for the packet that a client sends.
-    room: [u8; PACKET_ROOM],
+    room: [u8; PACKET],
     ghost few: { length keys.items ≤ 16 },
 }
 
@@ -131,7 +129,7 @@ impl<S: Saved> World<S> {
             boot: 0,
             node: None,
             copy: Vec::new(alloc),
-            room: [0; PACKET_ROOM],
+            room: [0; PACKET],
         })
     }
 
@@ -326,10 +324,8 @@ impl<S: Saved> World<S> {
             return Err(StepEnd::BadEvent(EventWhy::Client));
         }
         let len = self.clients[place - 1].step(event, &mut self.room)?;
-        self.packets.push(
-            Way::ClientToServer(number),
-            &self.room[..len.min(PACKET_ROOM)],
-        )?;
+        self.packets
+            .push(Way::ClientToServer(number), &self.room[..len.min(PACKET)])?;
         Ok(())
     }
 

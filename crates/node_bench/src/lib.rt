@@ -10,6 +10,7 @@
 #![tactic(auto)]
 
 use ft_io::{Addr, Key};
+use limits::STREAM;
 use std::io;
 use std::io::Read;
 
@@ -19,9 +20,6 @@ mod logger;
 mod node;
 mod restart;
 mod service;
-
-/// The most bytes of a connection's stream.
-const STREAM: u32 = 1 << 24;
 
 /// The server's address.
 const SERVER: Addr = Addr {

@@ -6,6 +6,7 @@ ghost use Rattle.logger_wire.specs.Value.{IsSendable};
 ghost use Rattle.reincarnate.specs.Marking.{IsAnySendable};
 
 use ft_io::{Key, NoMemory};
+use limits::SEGMENT;
 use logger_store::{LogStore, MsgOut};
 use logger_wire::{Body, MarkMsg, Msg, Numbers, read_msg, write_mark, write_msg};
 use mark_store::MarkStore;
@@ -22,8 +23,6 @@ pub(crate) const BOOT: u64 = 1;
 pub(crate) const CLIENT_ISN: Seq = Seq(1_000);
 
 pub(crate) const SERVER_ISN: Seq = Seq(5_000);
-
-pub(crate) const MSS: u16 = 1_460;
 
 /// A log without marks, or with marks.
 #[derive(Drop)]
@@ -94,8 +93,8 @@ impl Logger {
             key,
             cisn: CLIENT_ISN.0,
             sisn: SERVER_ISN.0,
-            mss: MSS,
-        });
+            mss: SEGMENT,
+        };
         self.say(alloc, &Msg { boot: BOOT, body })
     }
 

@@ -8,7 +8,8 @@ ghost use Rattle.std.specs.Prelude.{◌≤◌, IfSome};
 
 use crate::without_memory;
 use ft_io::NoMemory;
-use host::{Counts, Host, MOST};
+use host::{Counts, Host};
+use limits::SEGMENT;
 use std::alloc::Global;
 use std::io;
 use wrapped_conn::Inside;
@@ -44,7 +45,7 @@ fn work_of(words: &[&str]) -> Option<Work>
     let (Ok(rounds), Ok(ticks)) = (rounds.parse::<u32>(), ticks.parse::<u32>()) else {
         return None;
     };
-    let fits = (1..=CLIENTS).contains(&clients) && size <= MOST;
+    let fits = (1..=CLIENTS).contains(&clients) && size <= SEGMENT;
     fits.then_some(Work {
         kind,
         clients,

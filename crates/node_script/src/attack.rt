@@ -103,7 +103,9 @@ pub(crate) fn attack(
         let input = match draws.below(4) {
             0 => {
                 let size = draws.below(61) as usize;
-                let len = write_packet(&head(&mut draws), &text[..size], &mut bytes).min(1_500);
+                let len = write_packet(&head(&mut draws), &text[..size], &mut bytes).min(
+                    limits::PACKET,
+                );
                 Input::Packet(&bytes[..len])
             }
             1 => {

@@ -199,7 +199,7 @@ pub(crate) fn strike(
         let head = head(&mut draws, blow);
         let text = [draws.byte(); 20];
         let size = draws.below(blow.room) as usize;
-        let len = write_packet(&head, &text[..size], &mut bytes).min(1_500);
+        let len = write_packet(&head, &text[..size], &mut bytes).min(limits::PACKET);
         if node.turn(alloc, Input::Packet(&bytes[..len])).is_err() {
             return Err(NoMemory);
         }

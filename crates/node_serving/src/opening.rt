@@ -26,13 +26,11 @@ use crate::slots::{add_slot, key_at};
 use crate::turn::Turn;
 use ft_io::{Key, NoMemory};
 use indexmap::IndexMap;
-use logger_wire::{Body, Msg, Numbers};
+use limits::PENDING;
+use logger_wire::{Body, Msg};
 use segment_codec::{Head, PacketRef};
 use seq_arith::{ACK, RST, SYN, Seq, has, segment_size};
 use server_trait::Service;
-
-/// How many openings may be pending.
-const PENDING: usize = 64;
 
 /// The distance from one connection's initial sequence number to the next one's.
 pub const STRIDE: u32 = 65_536;

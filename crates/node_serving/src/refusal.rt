@@ -20,7 +20,7 @@ use seq_arith::{ACK, FIN, RST, SYN, Seq, has};
 pub fn send_bare(head: Head, turn: &mut Turn) -> Result<(), NoMemory>
     ensures { OnOk result (SendsSegments (record { head = said head; payload = [] } ∷ []) turn.old turn.new) }
 {
-    let mut text = [0; 1_500];
+    let mut text = [0; limits::PACKET];
     let len = write_packet(&head, &[], &mut text);
     let to = To::Client(Key {
         ip: head.dst,

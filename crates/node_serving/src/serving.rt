@@ -115,7 +115,13 @@ pub fn serve_bytes<S: Service>(
     if packet.len() <= SHORT_PACKET {
         return serve_packet(who, segment, copied(packet, &mut [0; 128]), serving, turn);
     }
-    serve_packet(who, segment, copied(packet, &mut [0; 1_500]), serving, turn)
+    serve_packet(
+        who,
+        segment,
+        copied(packet, &mut [0; limits::PACKET]),
+        serving,
+        turn,
+    )
 }
 
 /// Copies a packet to the beginning of this buffer, and returns the copy.

@@ -17,6 +17,7 @@ use crate::replayed_reads::ReplayedReads;
 use crate::rest::Rest;
 use crate::service_run::ServiceRun;
 use ft_io::NoMemory;
+use limits::BUFFER;
 use server_trait::{CHUNK_LIMIT, Service};
 use socket_layer::Socket;
 use std::alloc::Global;
@@ -156,7 +157,7 @@ impl<S: Service> North<S> {
         ensures { result ≡ is_free_to_read una self.now }
     {
         let made = self.run.made();
-        made <= self.last.made.min(una + 65_535)
+        made <= self.last.made.min(una + BUFFER)
             && made <= MADE_LIMIT
             && self.reads.len() < READ_LIMIT
     }

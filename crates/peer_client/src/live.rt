@@ -15,15 +15,13 @@ ghost use Rattle.ft_model.specs.Client.{Client, new_client};
 ghost use Rattle.ft_model.specs.Client.ClientKind.{Live};
 
 use ft_io::{Addr, NoMemory};
+use limits::STREAM;
 use segment_codec::{PacketRef, read_packet};
 use seq_arith::Seq;
 use socket_layer::Socket;
 use std::alloc::Global;
 use std::marker::Model;
 use tcp_endpoint::{Endpoint, Outbox, StateName};
-
-/// The most bytes of the server's stream that the client takes.
-const LIMIT: u32 = 1 << 24;
 
 /// How a live client's connection ended.
 #[derive(Clone, Copy, Debug, PartialEq, Eq)]
@@ -83,7 +81,7 @@ impl LiveClient {
         // A new live client of the model corresponds to it.
         ensures beside { IfOk result (λ client. IsDue client (new_client Live server (record { ip = local.ip; port = local.port }) isn script.items)) }
     {
-        let endpoint = Endpoint::connect(alloc, local, server, Seq(isn), LIMIT)?;
+        let endpoint = Endpoint::connect(alloc, local, server, Seq(isn), STREAM)?;
         Ok(LiveClient {
             local,
             server,

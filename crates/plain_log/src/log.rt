@@ -18,7 +18,7 @@ use std::alloc::Global;
 use std::marker::Model;
 
 /// The largest number of entries in a log.
-const ENTRY_LIMIT: usize = 64;
+const ENTRY_LIMIT: usize = limits::ENTRIES as usize;
 
 /// The log of a schedule's run.
 #[derive(Drop)]

@@ -5,17 +5,15 @@ ghost use Rattle.seq_arith.specs.PacketGrammar.{packet_length, spelling};
 ghost use Rattle.segment_codec.specs.Value.{segment_of};
 
 use ft_io::NoMemory;
+use limits::PACKET;
 use segment_codec::{PacketRef, payload_start, write_header};
 use std::alloc::Global;
-
-/// The largest size of a packet, in bytes.
-const LONGEST_PACKET: usize = 1_500;
 
 /// Returns whether a segment fits a packet.
 pub(crate) fn fits_packet(segment: &PacketRef<'_>) -> bool
     ensures { IsTrue result ↔ (packet_length (segment_of segment.now) ≤ 1500) }
 {
-    payload_start(segment.head.mss) + segment.payload.len() <= LONGEST_PACKET
+    payload_start(segment.head.mss) + segment.payload.len() <= PACKET
 }
 
 /// Returns the bytes of a segment that fits a packet.

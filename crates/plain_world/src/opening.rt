@@ -22,15 +22,13 @@ use crate::input::Input;
 use crate::place::{PlainPlace, is_for};
 use crate::refusal::as_listen;
 use ft_io::{Key, NoMemory};
-use logger_wire::{Body, Msg, Numbers};
+use limits::PENDING;
+use logger_wire::{Body, Msg};
 use plain_packets::{PlainPackets, has_ack, has_rst, has_syn};
 use segment_codec::{Head, PacketRef};
 use seq_arith::segment_size;
 use server_trait::Service;
 use std::alloc::Global;
-
-/// The largest number of pending openings.
-const MOST_PENDING: usize = 64;
 
 /// Returns whether a segment opens a connection: a SYN without ACK and RST.
 fn is_syn(segment: &PacketRef<'_>) -> bool
@@ -158,7 +156,7 @@ fn may_open<S: Service>(who: Incarnation, segment: &PacketRef<'_>, places: &[Pla
     if !is_strange(who, segment, places) {
         return false;
     }
-    pending_count(places) < MOST_PENDING
+    pending_count(places) < PENDING
 }
 
 /// Returns the opening that a SYN of an unknown client makes, while fewer than 64 are pending.

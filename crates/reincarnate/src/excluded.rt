@@ -25,7 +25,7 @@ fn delta_without_syn() -> South
         key: Key { ip: 0, port: 0 },
         cisn: 0,
         sisn: 5000,
-        mss: 1460,
+        mss: limits::SEGMENT,
         length: 0,
         fin: false,
         done: false,

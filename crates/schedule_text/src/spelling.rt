@@ -19,7 +19,7 @@ pub(crate) const NUMBER_DIGITS: usize = 20;
 const ADDRESS_DIGITS: usize = 5;
 
 /// The largest size of a script, in bytes.
-const SCRIPT_LIMIT: usize = 1 << 24;
+const SCRIPT_LIMIT: usize = limits::STREAM as usize;
 
 fn is_digit(byte: u8) -> bool
     ensures { result ≡ is_ascii_digit byte }

@@ -4,13 +4,11 @@ ghost use Rattle.std.specs.Prelude.{◌≤◌, ◌<◌};
 
 use crate::count_and_seed;
 use ft_io::{Key, NoMemory};
+use limits::STREAM;
 use logger_wire::{BadMark, MarkBody, MarkMsg, read_mark, write_mark};
 use seq_arith::flip;
 use std::alloc::Global;
 use test_data::{Draws, Said, bytes_of_word, hashed, seal};
-
-/// The most that a length may be, in bytes.
-const STREAM: u32 = 1 << 24;
 
 /// The address of each key.
 const ADDRESS: u32 = 0xC000_0201;

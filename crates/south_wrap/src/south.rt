@@ -11,15 +11,10 @@ ghost use Rattle.south_wrap.specs.Translation.{repeats_syn};
 
 use crate::answers::AckOut;
 use crate::fetched::Fetched;
+use limits::{BUFFER, STREAM};
 use segment_codec::Head;
 use seq_arith::{ACK, RST, SYN, Seq, has};
 use std::marker::Model;
-
-/// The most bytes of a stream.
-const STREAM: u32 = 16_777_216;
-
-/// The bytes that TCP buffers for a reader.
-const BUFFER: u32 = 65_535;
 
 /// The south wrapper of one connection. Lengths are in bytes; units are bytes and one more for a FIN.
 #[derive(Drop)]

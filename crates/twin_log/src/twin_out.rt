@@ -7,13 +7,11 @@ ghost use Rattle.logger_wire.specs.TwinValue.{said_by};
 
 use crate::datagram::Datagram;
 use ft_io::NoMemory;
+use limits::WAITING;
 use logger_wire::TwinMsg;
 use std::alloc::Global;
 use std::marker::Model;
 use twin_laws::Side;
-
-/// The most datagrams that one turn sends.
-const ROOM: usize = 64;
 
 /// The datagrams that a logger sends in one turn, at most 64, in order. In contracts they are a list, each with its addressee.
 #[derive(Drop)]
@@ -70,7 +68,7 @@ impl TwinOut {
         ensures { IfOk result (λ out. out ≡ []) }
     {
         Ok(TwinOut {
-            datagrams: make_room(alloc, ROOM)?,
+            datagrams: make_room(alloc, WAITING)?,
             count: 0,
         })
     }

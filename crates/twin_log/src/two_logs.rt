@@ -12,9 +12,10 @@ ghost use Rattle.twin_laws.specs.declared.part.Side.TheVariants as sides;
 ghost use Rattle.twin_log.specs.Outbox.{answer_out, request_in, is_asking_message};
 
 use crate::twin_out::TwinOut;
-use crate::waiting::{WAITING, Waiting};
+use crate::waiting::Waiting;
 use ft_io::NoMemory;
-use logger_store::{LogStore, MsgOut};
+use limits::WAITING;
+use logger_store::{LogStore, MsgOut, is_answer};
 use logger_wire::{Msg, TwinMsg, read_msg, read_twin};
 use std::alloc::Global;
 use std::marker::Model;

@@ -8,13 +8,11 @@ ghost use Rattle.twin_log.specs.Outbox.{AreAsking, texts_of};
 
 use crate::twin_out::TwinOut;
 use ft_io::NoMemory;
+use limits::WAITING;
 use logger_wire::TwinMsg;
 use std::alloc::Global;
 use std::collections::VecDeque;
 use std::marker::Model;
-
-/// The most unconfirmed messages.
-pub(crate) const WAITING: usize = 64;
 
 /// At most 64 messages in order, as the bytes in which they arrived. The queue's capacity is allocated once.
 #[derive(Drop)]

@@ -83,7 +83,7 @@ fn push_segment(alloc: Global, is_client: bool, seq: u32, ack: u32, text: &[u8],
         window: 65_535,
         mss: None,
     };
-    let mut out = [0u8; 1_500];
+    let mut out = [0u8; limits::PACKET];
     let len = write_packet(&head, text, &mut out);
     push(alloc, way, &out[..len], sent);
 }

@@ -17,6 +17,7 @@ ghost use Rattle.logger_wire.specs.Value.{IsSendable};
 use crate::CLIENT;
 use anyhow::{Context, Result, bail, ensure};
 use ft_io::NoMemory;
+use limits::STREAM;
 use logger_store::{LogStore, MsgOut};
 use logger_wire::{Body, Msg, Numbers, Part, read_msg, write_msg};
 use mark_store::MarkStore;
@@ -29,15 +30,12 @@ mod marking;
 mod twins;
 
 /// The most bytes of a Data.
-const DATA: u32 = 1_460;
+const DATA: u32 = limits::SEGMENT as u32;
 
 /// The most bytes of a Part, and the most lengths of a Lens.
 const PART: u32 = 1_024;
 
 const LENS: u32 = 512;
-
-/// The most bytes of a stream.
-const STREAM: u32 = 1 << 24;
 
 /// Does what the words after `log` ask for, and prints what came of it.
 pub(crate) fn run<R: AllocGlobal + Print + Clock>(rt: &R, command: &[&str]) -> Result<()> {
@@ -175,7 +173,7 @@ fn fill_and_fetch(
 {
     talk.say(alloc, &hello());
     talk.say(alloc, &opening());
-    let text = [b'a'; 1_460];
+    let text = [b'a'; limits::TEXT];
     let mut read = 0u32;
     for i in 0..bytes.div_ceil(DATA) {
         let offset = i * DATA;
@@ -221,8 +219,8 @@ fn opening() -> Msg<'static>
             key: CLIENT,
             cisn: 1_000,
             sisn: 5_000,
-            mss: 1_460,
-        }),
+            mss: limits::SEGMENT,
+        },
     }
 }
 

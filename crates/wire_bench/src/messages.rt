@@ -19,7 +19,7 @@ pub(crate) fn total(alloc: Global, words: &[&str]) -> Result<u64> {
     };
     let rounds: u32 = rounds.parse().context("ROUNDS")?;
     let is_data = *kind == "data";
-    let text = [b'a'; 1460];
+    let text = [b'a'; limits::TEXT];
     if *what == "write" {
         return Ok(write_all(is_data, &text, rounds));
     }

@@ -35,8 +35,8 @@ fn push_packets(bytes: usize, packets: &mut Vec<u8>) -> Result<(), AllocError>
     requires long { 40 ≤ bytes }
     requires short { bytes ≤ 1500 }
 {
-    let text = [b'a'; 1460];
-    let mut out = [0u8; 1500];
+    let text = [b'a'; limits::TEXT];
+    let mut out = [0u8; limits::PACKET];
     for i in 0..PACKETS {
         let head = Head {
             src: 0xC000_0201,

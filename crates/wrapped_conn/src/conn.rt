@@ -11,6 +11,7 @@ ghost use Rattle.wrapped_conn.specs.Refinement.{Stands};
 
 use crate::stage::ConnStage;
 use ft_io::{Addr, Key, NoMemory};
+use limits::STREAM;
 use north_wrap::North;
 use segment_codec::{Head, PacketRef};
 use seq_arith::{SYN, Seq};
@@ -19,9 +20,6 @@ use south_wrap::South;
 use std::alloc::Global;
 use std::marker::Model;
 use tcp_endpoint::{Endpoint, StateName};
-
-/// The most bytes of a stream.
-pub(crate) const STREAM: u32 = 16_777_216;
 
 /// What the log keeps of a connection's opening, as its Opened says.
 #[derive(Clone, Copy)]

@@ -18,7 +18,7 @@ use server_trait::Service;
 use tcp_endpoint::Outbox;
 
 /// The most bytes of a Data.
-const DATA: u32 = 1_460;
+const DATA: u32 = limits::SEGMENT as u32;
 
 impl<S: Service> Conn<S> {
     /// Sends the copied part of a segment, and after it the text and the FIN that were held and are taken now. If there is nothing to send, reports to the

@@ -12,6 +12,7 @@ ghost use Rattle.wrapped_conn.specs.Sound.{IsSound};
 
 use crate::conn::Conn;
 use crate::stage::Before;
+use limits::SEGMENT;
 use segment_codec::{Head, write_header};
 use seq_arith::{ACK, SYN, Seq};
 use server_trait::Service;
@@ -22,9 +23,6 @@ use tcp_endpoint::Outbox;
 const BARE: usize = 40;
 
 const WITH_MSS: usize = 44;
-
-/// The segment size that a SYN-ACK offers.
-const OWN_MSS: u16 = 1_460;
 
 impl<S: Service> Conn<S> {
     /// Ends TCP's turn, and passes on what it sends.
@@ -74,7 +72,7 @@ impl<S: Service> Conn<S> {
             return;
         }
         let mut packet = [0u8; WITH_MSS];
-        let head = self.head(self.south.sisn(), SYN | ACK, Some(OWN_MSS));
+        let head = self.head(self.south.sisn(), SYN | ACK, Some(SEGMENT));
         write_header(&head, &mut packet);
         out.push(&packet);
     }

@@ -12,18 +12,16 @@ ghost use Rattle.wrapped_conn.specs.Numbers.{sent_units, logged_units, resets, i
 ghost use Rattle.wrapped_conn.specs.LoggerMessages.{end_of};
 ghost use Rattle.wrapped_conn.specs.Sound.{IsSound};
 
-use crate::conn::{Conn, STREAM, has_fin, is_over};
+use crate::conn::{Conn, has_fin, is_over};
+use limits::{BUFFER, STREAM};
 use segment_codec::{Head, PacketRef};
 use seq_arith::{ACK, FIN, RST, SYN, Seq, has};
 use server_trait::Service;
 use socket_layer::Socket;
 use tcp_endpoint::StateName;
 
-/// The bytes that TCP buffers for a reader.
-const BUFFER: u32 = 65_535;
-
 /// The most units of a stream: its bytes and the FIN.
-const UNITS: i64 = 16_777_217;
+const UNITS: i64 = limits::UNITS as i64;
 
 impl<S: Service> Conn<S> {
     /// Whether its TCP is CLOSED.

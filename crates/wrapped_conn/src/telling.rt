@@ -56,7 +56,7 @@ impl<S: Service> Conn<S> {
         if bytes.len() <= SHORT_TEXT {
             tell(self.boot, body, &mut [0; 128], out)
         } else {
-            tell(self.boot, body, &mut [0; 1_491], out)
+            tell(self.boot, body, &mut [0; limits::MESSAGE], out)
         }
     }
 

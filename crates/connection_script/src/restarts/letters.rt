@@ -1,6 +1,7 @@
 //! Messages as bytes, made field by field.
 
 use ft_io::{Key, NoMemory};
+use limits::MESSAGE;
 use std::alloc::Global;
 use test_data::{Said, seal};
 
@@ -8,9 +9,6 @@ use test_data::{Said, seal};
 pub(crate) const LOG: u8 = b'T';
 
 pub(crate) const MARK: u8 = b'V';
-
-/// The bytes of the longest message.
-const LONGEST: usize = 1_491;
 
 /// A message of this kind without fields, and without its length and checksum.
 pub(crate) fn begin_letter(alloc: Global, magic: u8, kind: u8, boot: u8) -> Said {
@@ -27,7 +25,7 @@ pub(crate) fn add_key(fields: &mut Said, key: Key) {
 
 /// The message with these fields, or no bytes where it would be longer than any.
 pub(crate) fn end_letter(alloc: Global, fields: &Said) -> Result<Vec<u8>, NoMemory> {
-    if fields.len() > LONGEST {
+    if fields.len() > MESSAGE {
         return Ok(Vec::new(alloc));
     }
     let bytes = fields.bytes()?;

@@ -70,7 +70,7 @@ struct Known {
 }
 
 /// Writes a packet to the client, whose text is the server's at its place, and returns its length.
-fn packet(draws: &mut Draws, known: Known, out: &mut [u8; 1_500]) -> usize
+fn packet(draws: &mut Draws, known: Known, out: &mut [u8; limits::PACKET]) -> usize
     ensures { result ≤ 1500 }
 {
     let head = Head {
@@ -91,7 +91,7 @@ fn packet(draws: &mut Draws, known: Known, out: &mut [u8; 1_500]) -> usize
 }
 
 /// The server's SYN-ACK.
-fn syn_ack(out: &mut [u8; 1_500]) -> usize
+fn syn_ack(out: &mut [u8; limits::PACKET]) -> usize
     ensures { result ≤ 1500 }
 {
     let head = Head {
@@ -109,7 +109,7 @@ fn syn_ack(out: &mut [u8; 1_500]) -> usize
 }
 
 /// Every second datagram is a packet.
-fn datagram(draws: &mut Draws, number: u32, known: Known, out: &mut [u8; 1_500]) -> usize {
+fn datagram(draws: &mut Draws, number: u32, known: Known, out: &mut [u8; limits::PACKET]) -> usize {
     if number % 2 == 0 {
         draws.anything(&mut out[..])
     } else {
@@ -133,7 +133,7 @@ fn script(alloc: Global) -> Result<Vec<u8>, NoMemory>
 
 /// A scripted client sends its SYN and, where it is open, gets the server's and sends some of its script.
 fn begin(alloc: Global, client: &mut Client, is_open: bool) -> Result<(), NoMemory> {
-    let mut out = [0u8; 1_500];
+    let mut out = [0u8; limits::PACKET];
     let _syn = client.step(
         &Event::Begin {
             client: 1,
@@ -199,7 +199,7 @@ fn meet_all(
 ) -> Result<(), NoMemory> {
     begin(alloc, client, is_open)?;
     let mut base = is_open.then_some(Seq(SERVER_ISN));
-    let mut out = [0u8; 1_500];
+    let mut out = [0u8; limits::PACKET];
     for _ in 0..AGE {
         let before = readers_of(client);
         let from = base.unwrap_or(Seq(SERVER_ISN));
@@ -209,7 +209,7 @@ fn meet_all(
             sent: Seq(ISN).add(1).add(before.sent),
         };
         let len = datagram(draws, tally.datagrams, known, &mut out);
-        let bytes = &out[..len.min(1_500)];
+        let bytes = &out[..len.min(limits::PACKET)];
         client.deliver(alloc, bytes)?;
         base = base.or(opening(bytes));
         let is_packet = read_packet(bytes).is_ok();
@@ -305,7 +305,7 @@ impl Target {
     /// The client sends its SYN, gets the server's in three of four cases, and meets as many datagrams as one gets.
     fn meet_all(&mut self, draws: &mut Draws, out: &mut Outbox, tally: &mut Tally) {
         self.flush(out);
-        let mut packet = [0u8; 1_500];
+        let mut packet = [0u8; limits::PACKET];
         if draws.below(4) > 0 {
             let len = syn_ack(&mut packet);
             self.client.on_packet(&packet[..len]);
@@ -320,7 +320,7 @@ impl Target {
                 sent: Seq(ISN).add(1).add(draws.below(22)),
             };
             let len = datagram(draws, tally.datagrams, known, &mut packet);
-            let bytes = &packet[..len.min(1_500)];
+            let bytes = &packet[..len.min(limits::PACKET)];
             let is_packet = read_packet(bytes).is_ok();
             tally.note(is_packet, self.meet(bytes, is_packet, draws, out));
             if tally.is_complete() {

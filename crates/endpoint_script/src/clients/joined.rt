@@ -3,8 +3,9 @@
 ghost use Rattle.std.specs.Prelude.{◌≤◌, length};
 
 use crate::clients::rules::SERVERS;
-use crate::joined::{CLIENT, LIMIT, SERVER};
+use crate::joined::{CLIENT, SERVER};
 use ft_io::NoMemory;
+use limits::STREAM;
 use peer_client::{ClientEnd, LiveClient};
 use segment_codec::read_packet;
 use seq_arith::Seq;
@@ -117,7 +118,7 @@ impl Exchange {
     fn new(alloc: Global, seed: u64) -> Result<Exchange, NoMemory> {
         let script = CLIENTS.part(alloc, 0, LENGTH as usize)?;
         let client = LiveClient::new(alloc, CLIENT, SERVER, 1_000, script)?;
-        let server = Endpoint::listen(alloc, SERVER, Seq(5_000), LIMIT)?;
+        let server = Endpoint::listen(alloc, SERVER, Seq(5_000), STREAM)?;
         Ok(Exchange {
             client,
             accepted: Came::nothing(),

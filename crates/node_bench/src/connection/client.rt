@@ -3,14 +3,12 @@
 use crate::SERVER;
 use crate::logger::CLIENT_ISN;
 use ft_io::{Addr, Key, NoMemory};
+use limits::STREAM;
 use segment_codec::read_packet;
 use socket_layer::Socket;
 use std::alloc::Global;
 use tcp_endpoint::{Endpoint, Outbox, StateName};
 use test_data::PatternTable;
-
-/// The right edge of a connection's receive window never passes this many bytes.
-const LIMIT: u32 = 1 << 24;
 
 /// What each client does.
 #[derive(Clone, Copy, Debug)]
@@ -26,7 +24,7 @@ pub(crate) struct Client {
     endpoint: Endpoint,
     work: Work,
     pattern: PatternTable,
-    buf: [u8; 1_460],
+    buf: [u8; limits::TEXT],
     written: u32,
     /// How many bytes came back.
     pub(crate) echoed: u32,
@@ -43,10 +41,10 @@ impl Client {
             port: key.port,
         };
         Ok(Client {
-            endpoint: Endpoint::connect(alloc, local, SERVER, CLIENT_ISN, LIMIT)?,
+            endpoint: Endpoint::connect(alloc, local, SERVER, CLIENT_ISN, STREAM)?,
             work,
             pattern: PatternTable::new(),
-            buf: [0; 1_460],
+            buf: [0; limits::TEXT],
             written: 0,
             echoed: 0,
             differs: false,

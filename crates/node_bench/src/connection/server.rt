@@ -5,8 +5,9 @@ ghost use Rattle.wrapped_conn.specs.Sound.{IsSound};
 
 use crate::SERVER;
 use crate::connection::client::Client;
-use crate::logger::{BOOT, CLIENT_ISN, Logger, MSS, SERVER_ISN};
+use crate::logger::{BOOT, CLIENT_ISN, Logger, SERVER_ISN};
 use ft_io::{Key, NoMemory};
+use limits::SEGMENT;
 use logger_wire::read_msg;
 use sample_servers::Echo;
 use segment_codec::read_packet;
@@ -41,13 +42,9 @@ impl Server {
     pub(crate) fn new(alloc: Global, key: Key) -> Result<Server, NoMemory>
         ensures { IfOk result (λ server. IsSound server.conn) }
     {
-        let opened = Opened {
-            key,
-            cisn: CLIENT_ISN,
-            sisn: SERVER_ISN,
-            mss: MSS,
-        };
-        let conn = Conn::first(alloc, BOOT, SERVER, opened, ECHO)?;
+        let conn = Conn::first(
+            alloc, BOOT, key, SERVER, CLIENT_ISN, SERVER_ISN, SEGMENT, ECHO,
+        )?;
         Ok(Server { conn, segments: 0 })
     }
 

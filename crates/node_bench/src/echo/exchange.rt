@@ -117,7 +117,7 @@ pub(crate) struct Exchange {
     pub(crate) client: Side,
     pub(crate) server: Side,
     pattern: PatternTable,
-    buf: [u8; 1_460],
+    buf: [u8; limits::TEXT],
     way: Way,
     /// The ticks that passed because nothing else came.
     pub(crate) ticks: u32,
@@ -142,7 +142,7 @@ impl Exchange {
             client: Side::new(alloc, true)?,
             server: Side::new(alloc, false)?,
             pattern: PatternTable::new(),
-            buf: [0; 1_460],
+            buf: [0; limits::TEXT],
             way,
             ticks: 0,
             write,

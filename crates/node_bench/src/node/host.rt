@@ -4,6 +4,7 @@ ghost use Rattle.std.specs.Prelude.{◌≡◌, ◌≤◌, None};
 
 use crate::{CLIENT, SERVER};
 use ft_io::NoMemory;
+use limits::SEGMENT;
 use logger_store::{LogStore, MsgOut};
 use logger_wire::read_msg;
 use sample_servers::AnyService;
@@ -24,9 +25,6 @@ const STRIDE: u32 = 65_536;
 
 /// The kind of Echo, whose clients acknowledge what comes back.
 const ECHO: u8 = 1;
-
-/// The most text of a segment.
-pub(crate) const MOST: u16 = 1_460;
 
 /// The bytes of a packet's headers.
 const HEADERS: usize = 40;
@@ -154,9 +152,14 @@ impl Host {
             flags,
             size,
         } = segment;
-        let mut packet = [0u8; 1_500];
+        let mut packet = [0u8; limits::PACKET];
         let head = head_of(i, place, acked, flags);
-        let len = write_packet(&head, &[b'a'; 1_460][..usize::from(size)], &mut packet).min(1_500);
+        let len = write_packet(
+            &head,
+            &[b'a'; limits::TEXT][..usize::from(size)],
+            &mut packet,
+        )
+        .min(limits::PACKET);
         turn(
             alloc,
             &mut self.node,

@@ -11,7 +11,7 @@ use server_trait::Service;
 use std::alloc::Global;
 
 /// The most bytes of a Data.
-const DATA: u32 = 1_460;
+const DATA: u32 = limits::SEGMENT as u32;
 
 /// Logs a connection with this many bytes, in reads of this size, whose client has acknowledged all output.
 pub(crate) fn fill(
@@ -24,7 +24,7 @@ pub(crate) fn fill(
     requires read { read ≤ 2048 }
 {
     logger.open(alloc, CLIENT)?;
-    let text = [b'a'; 1_460];
+    let text = [b'a'; limits::TEXT];
     for i in 0..bytes.div_ceil(DATA) {
         let offset = i * DATA;
         let len = DATA.min(bytes.saturating_sub(offset));

@@ -23,8 +23,8 @@ const SEGMENTS: u32 = 21;
 const ACKNOWLEDGEMENTS: u32 = 100;
 
 /// A segment of requests for `size` bytes each.
-fn requests(size: u16) -> [u8; 1_460] {
-    let mut text = [0u8; 1_460];
+fn requests(size: u16) -> [u8; limits::TEXT] {
+    let mut text = [0u8; limits::TEXT];
     for i in 0..REQUESTS {
         text[4 * i + 2..4 * i + 4].copy_from_slice(&size.to_be_bytes());
     }
