@@ -2,6 +2,7 @@ pub mod Collecting
 pub mod Outcomes
 pub mod AllSlots
 pub mod OneKey
+pub mod AtPlace
 pub mod SegmentArrival
 pub mod Heard
 pub mod Opened

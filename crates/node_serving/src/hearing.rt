@@ -1,7 +1,8 @@
 //! What a message of the logger does at the slot of the key that it names.
 
-ghost use Rattle.std.specs.Prelude.{◌≡◌, ◌≤◌, List, Some, OnOk, IsSome};
-ghost use Rattle.std.specs.Map.{lookup, set_value, remove_entry, keys_of};
+ghost use Rattle.std.specs.Prelude.{◌≡◌, ◌<◌, ◌≤◌, List, Some, OnOk, IfSome, length, option_map, position, remove};
+ghost use Rattle.std.specs.Map.{lookup, keys_of};
+ghost use Rattle.indexmap.specs.IndexMap.{set_value_at};
 ghost use Rattle.std.specs.List.{IsDistinct};
 ghost use Rattle.ft_io.specs.Key.{key_eq};
 ghost use Rattle.seq_arith.specs.Message.{Kept, Message};
@@ -98,6 +99,25 @@ pub(crate) fn end_known<S: Service>(key: Key, slots: &mut IndexMap<Key, Slot<S>>
     }
 }
 
+/// A pending opening, and the place of its slot.
+#[derive(Clone, Copy)]
+struct PendingAt {
+    place: usize,
+    opening: Opening,
+}
+
+/// The opening that is pending for a key, with the place of the key's slot.
+fn pending_at<S: Service>(key: Key, slots: &IndexMap<Key, Slot<S>>) -> Option<PendingAt>
+    ensures found { option_map (λ at. at.opening) result ≡ opening_in (lookup (key_eq key) slots.now.entries) }
+    ensures place { IfSome result (λ at. position (key_eq key) (keys_of slots.now.entries) ≡ Some at.place) }
+    ensures within { IfSome result (λ at. at.place < length slots.now.entries) }
+    ensures unique { IsDistinct key_eq (keys_of slots.now.entries) }
+{
+    let place = slots.get_index_of(&key)?;
+    let opening = opening_of(&slots[place])?;
+    Some(PendingAt { place, opening })
+}
+
 /// The opening that is pending for a key.
 pub(crate) fn opening_at<S: Service>(key: Key, slots: &IndexMap<Key, Slot<S>>) -> Option<Opening>
     ensures found { result ≡ opening_in (lookup (key_eq key) slots.now.entries) }
@@ -116,20 +136,19 @@ fn opening_of<S: Service>(slot: &Slot<S>) -> Option<Opening>
     }
 }
 
-/// Replaces the slot of a key.
-fn put_slot<S: Service>(key: Key, slots: &mut IndexMap<Key, Slot<S>>, slot: Slot<S>)
-    requires { IsSome (lookup (key_eq key) slots.old.entries) }
-    ensures { slots.new.entries ≡ set_value (key_eq key) slots.old.entries slot }
+/// Replaces the slot at a place.
+fn put_slot<S: Service>(place: usize, slots: &mut IndexMap<Key, Slot<S>>, slot: Slot<S>)
+    requires { place < length slots.old.entries }
+    ensures { slots.new.entries ≡ set_value_at slots.old.entries place slot }
 {
-    let place = slots.get_mut(&key).unwrap();
-    drop(mem::replace(place, slot));
+    drop(mem::replace(&mut slots[place], slot));
 }
 
-/// Removes the slot of a key. The others keep their order.
-fn drop_slot<S: Service>(key: Key, slots: &mut IndexMap<Key, Slot<S>>)
-    ensures { slots.new.entries ≡ remove_entry (key_eq key) slots.old.entries }
+/// Removes the slot at a place. The others keep their order.
+fn drop_slot<S: Service>(place: usize, slots: &mut IndexMap<Key, Slot<S>>)
+    ensures { slots.new.entries ≡ remove slots.old.entries place }
 {
-    drop(slots.shift_remove(&key));
+    drop(slots.shift_remove_index(place));
 }
 
 /// Handles the message that the log has an entry for a key, with these numbers: a pending opening with the same initial sequence number of the client becomes
@@ -152,15 +171,16 @@ pub(crate) fn open_known<S: Service>(
     ensures known { OnOk result (known_in slots.new.entries ≡ known_after (OpenedMsg (numbers_of key numbers)) (known_in slots.old.entries)) }
     ensures sound { OnOk result (AllSound who slots.new.entries) }
 {
-    let Some(opening) = opening_at(key, slots) else {
+    let Some(pending) = pending_at(key, slots) else {
         return Ok(());
     };
+    let opening = pending.opening;
     if opening.cisn.0 != numbers.cisn.0 {
-        drop_slot(key, slots);
+        drop_slot(pending.place, slots);
         return Ok(());
     }
     let conn = begin_live(who, key, numbers, turn)?;
-    put_slot(key, slots, Slot::Live(conn));
+    put_slot(pending.place, slots, Slot::Live(conn));
     Ok(())
 }
 
@@ -179,11 +199,11 @@ pub(crate) fn refuse_known<S: Service>(
     ensures known { OnOk result (known_in slots.new.entries ≡ known_after (FullMsg key) (known_in slots.old.entries)) }
     ensures sound { OnOk result (AllSound who slots.new.entries) }
 {
-    let Some(opening) = opening_at(key, slots) else {
+    let Some(pending) = pending_at(key, slots) else {
         return Ok(());
     };
-    refuse_full(who, key, opening, turn)?;
-    drop_slot(key, slots);
+    refuse_full(who, key, pending.opening, turn)?;
+    drop_slot(pending.place, slots);
     Ok(())
 }
 
