@@ -73,7 +73,7 @@ reads_are None head e = none_is_some (head_said head) (sym e)
 reads_are (Some entry) head e = ap (λ h. h.reads) (some_is (head_said head) (head_of entry) e)
 
 pub entry_written : (o : Option Entry) (head : EntryHead) (reads now next : List ℕ) (entry : Entry) → ◌≡◌ (Some (head_said head)) (option_map head_of o) → o ≡ Some entry → reads ≡ lengths_of o
-    → next ≡ now ++ entry_line head.key head.length (head.fin == 1) head.acked (head.done == 1) reads → next ≡ now ++ log_line entry
+    → next ≡ now ++ entry_line head.key head.length head.fin head.acked head.done reads → next ≡ now ++ log_line entry
 entry_written o head reads now next entry e is lengths written =
     let same : head_said head ≡ head_of entry = some_is (head_said head) (head_of entry) (e ∙ ap (option_map head_of) is) in
     written ∙ ap₂ (λ h ls. now ++ entry_line h.key h.length h.fin h.acked h.done ls) same (lengths ∙ ap lengths_of is)
