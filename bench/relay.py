@@ -1,18 +1,19 @@
 #!/usr/bin/env python3
-"""A path with losses and delay between two ends: relay.py LISTEN TARGET LOSS DELAY_MS SEED [SWAPPED]
+"""A path with losses and delay between two ends: relay.py LISTEN TARGET LOSS DELAY_MS SEED [SWAPPED [FLIPPED]]
 
-LOSS and SWAPPED are percents of the packets, in each direction: a lost one doesn't arrive, and a swapped one arrives DELAY_MS and 2 ms after it was sent, so after
-later ones. SEED determines which ones these are. LISTEN and TARGET are one of these two:
+LOSS, SWAPPED and FLIPPED are percents of the packets, in each direction: a lost one doesn't arrive, a swapped one arrives DELAY_MS and 2 ms after it was sent, so
+after later ones, and a flipped one has one bit changed. SEED determines which ones these are. LISTEN and TARGET are one of these two:
 
     ADDRESS:PORT ADDRESS:PORT   datagrams of `ftnode`: its client sends to LISTEN instead of the server at TARGET. Their packets contain the addresses of both ends,
                                 so addresses, ports and checksums are changed in them, as in network address translation
     tun:NAME tun:NAME           packets between two TUN devices, which it makes, for sockets of the kernel in two network namespaces; it needs root
 
-It prints `up` once it listens, runs until SIGTERM, and then prints how many packets arrived, were lost and were swapped.
+It prints `up` once it listens, runs until SIGTERM, and then prints how many packets arrived, were lost, were swapped and were flipped.
 """
 import fcntl
 import heapq
 import os
+import pathlib
 import random
 import selectors
 import signal
@@ -21,36 +22,33 @@ import struct
 import sys
 import time
 
+sys.path.insert(0, str(pathlib.Path(__file__).parent.parent / "tools"))
+from internet import between  # noqa: E402
+
 SET_DEVICE, TUN, NO_HEADER = 0x400454CA, 0x0001, 0x1000  # TUNSETIFF, IFF_TUN, IFF_NO_PI
 BEHIND = 0.002  # seconds that a swapped packet is late
-ENDS = slice(12, 24)  # source, destination and both ports of a packet
 
 
-def changed_sum(old, before, after):
-    """A checksum once some words of what it sums are others (RFC 1624)."""
-    total = (old ^ 0xFFFF) + sum(word ^ 0xFFFF for word in before) + sum(after)
-    while total > 0xFFFF:
-        total = (total & 0xFFFF) + (total >> 16)
-    return total ^ 0xFFFF
-
-
-def between(packet, source, target):
+def translated(packet, source, target):
     """The packet between other ends; without a TCP header in IPv4 of 20 bytes it stays."""
-    if len(packet) < 40 or packet[0] != 0x45 or packet[9] != 6:
-        return packet
-    ends = source[0] + target[0] + struct.pack(">HH", source[1], target[1])
-    before, after = struct.unpack(">6H", packet[ENDS]), struct.unpack(">6H", ends)
-    ip = changed_sum(int.from_bytes(packet[10:12], "big"), before[:4], after[:4])
-    tcp = changed_sum(int.from_bytes(packet[36:38], "big"), before, after)
-    return packet[:10] + struct.pack(">H", ip) + ends + packet[24:36] + struct.pack(">H", tcp) + packet[38:]
+    is_tcp = len(packet) >= 40 and packet[0] == 0x45 and packet[9] == 6
+    return between(packet, source, target) if is_tcp else packet
 
 
 class Way:
     """What is under way, by the time at which it comes."""
 
-    def __init__(self, loss, delay, seed, swapped):
-        self.dice, self.loss, self.delay, self.swapped = random.Random(seed), loss, delay, swapped
-        self.waiting, self.count, self.lost, self.late = [], 0, 0, 0
+    def __init__(self, loss, delay, seed, swapped=0.0, flipped=0.0):
+        self.dice, self.loss, self.delay, self.swapped, self.flipped = random.Random(seed), loss, delay, swapped, flipped
+        self.waiting, self.count, self.lost, self.late, self.damaged = [], 0, 0, 0, 0
+
+    def damage(self, packet):
+        """The packet, or one with a flipped bit in its place."""
+        if not self.flipped or self.dice.random() * 100 >= self.flipped:
+            return packet
+        self.damaged += 1
+        at = self.dice.randrange(8 * len(packet))
+        return packet[:at // 8] + bytes([packet[at // 8] ^ 1 << at % 8]) + packet[at // 8 + 1:]
 
     def take(self, deliver):
         """A packet is sent: `deliver` is called when it comes."""
@@ -81,16 +79,18 @@ class Datagrams:
 
     def from_client(self):
         data, client = self.front.recvfrom(65536)
+        data = self.way.damage(data)
         if client not in self.clients:
             self.clients[client] = bound((self.front.getsockname()[0], 0))
             self.selector.register(self.clients[client], selectors.EVENT_READ, lambda: self.to_client(client))
         back = self.clients[client]
-        data = between(data, packed(back.getsockname()), packed(self.target))
+        data = translated(data, packed(back.getsockname()), packed(self.target))
         self.way.take(lambda: back.sendto(data, self.target))
 
     def to_client(self, client):
         data, _ = self.clients[client].recvfrom(65536)
-        data = between(data, packed(self.front.getsockname()), packed(client))
+        data = self.way.damage(data)
+        data = translated(data, packed(self.front.getsockname()), packed(client))
         self.way.take(lambda: self.front.sendto(data, client))
 
 
@@ -103,7 +103,7 @@ class Devices:
             selector.register(came, selectors.EVENT_READ, lambda came=came, goes=goes: self.pass_on(came, goes))
 
     def pass_on(self, came, goes):
-        packet = os.read(came, 65536)
+        packet = self.way.damage(os.read(came, 65536))
         self.way.take(lambda: os.write(goes, packet))
 
 
@@ -134,10 +134,10 @@ def stop(*_):
 
 
 def main():
-    if len(sys.argv) not in (6, 7):
-        sys.exit("relay.py LISTEN TARGET LOSS DELAY_MS SEED [SWAPPED]")
-    (listen, target), (loss, delay, seed, *swapped) = map(end_of, sys.argv[1:3]), sys.argv[3:]
-    way, selector = Way(float(loss), float(delay) / 1000, int(seed), float(swapped[0]) if swapped else 0), selectors.DefaultSelector()
+    if not 6 <= len(sys.argv) <= 8:
+        sys.exit("relay.py LISTEN TARGET LOSS DELAY_MS SEED [SWAPPED [FLIPPED]]")
+    (listen, target), (loss, delay, seed, *more) = map(end_of, sys.argv[1:3]), sys.argv[3:]
+    way, selector = Way(float(loss), float(delay) / 1000, int(seed), *map(float, more)), selectors.DefaultSelector()
     signal.signal(signal.SIGTERM, stop)
     try:
         ends = Devices(listen[1], target[1], way, selector) if listen[0] == "tun" else Datagrams(listen, target, way, selector)
@@ -148,7 +148,7 @@ def main():
     except OSError as why:
         sys.exit(f"relay: {why}")
     except KeyboardInterrupt:
-        print(f"{way.count} packets, {way.lost} lost, {way.late} swapped", flush=True)
+        print(f"{way.count} packets, {way.lost} lost, {way.late} swapped, {way.damaged} flipped", flush=True)
 
 
 if __name__ == "__main__":

@@ -24,6 +24,25 @@ def checksum(data):
     return total ^ 0xFFFF
 
 
+def changed_sum(old, before, after):
+    """A checksum once some of the words that it sums are others (RFC 1624). It is wrong exactly if the old one was."""
+    total = (old ^ 0xFFFF) + sum(word ^ 0xFFFF for word in before) + sum(after)
+    while total > 0xFFFF:
+        total = (total & 0xFFFF) + (total >> 16)
+    return total ^ 0xFFFF
+
+
+def between(packet, source, destination):
+    """A TCP packet, in IPv4 without options, between other ends. Both sums change by what changes in them, so a damaged packet stays one that is refused."""
+    ends = source[0] + destination[0] + struct.pack(">HH", source[1], destination[1])
+    if packet[12:24] == ends:
+        return packet
+    before, after = struct.unpack(">6H", packet[12:24]), struct.unpack(">6H", ends)
+    ip = changed_sum(int.from_bytes(packet[10:12], "big"), before[:4], after[:4])
+    tcp = changed_sum(int.from_bytes(packet[36:38], "big"), before, after)
+    return packet[:10] + struct.pack(">H", ip) + ends + packet[24:36] + struct.pack(">H", tcp) + packet[38:]
+
+
 SYN, RST, ACK = 0x02, 0x04, 0x10
 
 
