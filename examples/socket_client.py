@@ -2,7 +2,7 @@
 """An ordinary socket of the kernel: socket_client.py SENT WANTED HOST PORT PROGRESS [PIECE].
 
 It sends the bytes of the file SENT, PIECE (2,000 where nothing is said) every 20 ms, ends its side when all are sent, and compares what comes with those of the
-file WANTED. How many bytes have come stands in the file PROGRESS."""
+file WANTED. How many bytes have come stands in the file PROGRESS. It prints the longest time in which nothing came."""
 import os
 import select
 import socket
@@ -13,9 +13,10 @@ PATIENCE = 60
 data, wanted = [open(name, "rb").read() for name in sys.argv[1:3]]
 host, port, progress = sys.argv[3], int(sys.argv[4]), sys.argv[5]
 piece = int(sys.argv[6]) if len(sys.argv) > 6 else 2000
-back, sent, due = b"", 0, time.monotonic()
+back, sent, due, pause = b"", 0, time.monotonic(), 0
 link = socket.create_connection((host, port), timeout=PATIENCE)
 print("from", link.getsockname(), flush=True)
+last = time.monotonic()
 while True:
     wait = max(0, due - time.monotonic()) if sent < len(data) else PATIENCE
     if select.select([link], [], [], wait)[0]:
@@ -23,6 +24,8 @@ while True:
         if not more:
             break
         back += more
+        now = time.monotonic()
+        pause, last = max(pause, now - last), now
         with open(progress + ".new", "w", encoding="ascii") as file:
             file.write(str(len(back)))
         os.replace(progress + ".new", progress)
@@ -33,5 +36,5 @@ while True:
         due += 0.02
         if sent == len(data):
             link.shutdown(socket.SHUT_WR)
-print(f"sent {sent} bytes, {len(back)} came:", "as wanted" if back == wanted else "DIFFERENT", flush=True)
+print(f"sent {sent} bytes, {len(back)} came:", "as wanted" if back == wanted else "DIFFERENT", f"longest pause {pause:.1f} s", flush=True)
 sys.exit(back != wanted)
