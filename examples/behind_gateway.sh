@@ -1,7 +1,10 @@
 # Sourced by gateway.sh, bench/gateway.sh and bench/gateway_faults.sh, which set `name` and `program` (a built ftnode). Three network namespaces are the machines of
 # plain clients, with an address and a default route and nothing else. One is the server's machine, with tools/gateway.py, and one is ftnode's namespace on it.
-program=$(realpath "$program") service=10.77.0.2 port=7 log=10.77.0.3:7008
-host=ftgw$$ node=ftnode$$ machines=(ftc1_$$ ftc2_$$ ftc3_$$) room=$(mktemp -d) started=()
+# Where `remote` is the logger's host, the logger is on the third machine, and `log` is its address there. `syn_proxy` may be yes.
+program=$(realpath "$program") service=10.77.0.2 port=7 log=${log:-10.77.0.3:7008} remote=${remote:-} syn_proxy=${syn_proxy:-no}
+host=ftgw$$ node=ftnode$$ machines=(ftc1_$$ ftc2_$$ ftc3_$$) room=$(mktemp -d) started=() clients=() gateways=0
+homes=("${machines[@]}") inner=${log%:*} logger_space=$node # where clients are, the namespace's own addresses, where the logger is
+[ -z "$remote" ] || inner='' logger_space=${machines[2]}
 
 missing() { echo "$name: not run: $1" >&2; exit 2; }
 [ "$(id -u)" = 0 ] || missing "it needs root"
@@ -32,8 +35,8 @@ end_by() { # SIGNAL PROCESS: its status
 
 # The namespace of ftnode and the devices, as an operator makes them
 devices() { # up or down
-    nsenter --net="/run/netns/$host" env NETNS="$node" SERVICES="$service ${more_services:-}" INNER="${log%:*}" REMOTE="${remote:-}" SYNPROXY="${syn_proxy:-no}" \
-        MTU="${mtu:-1500}" examples/systemd/netns.sh "$1" >"$room/devices" 2>&1 || missing "the devices can't be made: $(cat "$room/devices")"
+    nsenter --net="/run/netns/$host" env NETNS="$node" SERVICES="$service" INNER="$inner" REMOTE="$remote" SYNPROXY="$syn_proxy" examples/systemd/netns.sh "$1" \
+        >"$room/devices" 2>&1 || missing "the devices can't be made: $(cat "$room/devices")"
 }
 
 add_machines() {
@@ -62,14 +65,14 @@ wait_for() { # FILE WORD: until the word is in the file
 }
 
 start_gateway() { # WORD..
-    gateways=$((${gateways:-0} + 1))
+    gateways=$((gateways + 1))
     start_in "$host" "gateway.$gateways" tools/gateway.py --netns "$node" "$@"
     gateway_process=$last
     wait_for "$room/gateway.$gateways" up
 }
 
 start_logger() { # WORD..
-    start_in "$node" logger "$program" logger --local "$log" --turns 1000000 --times 1000 "$@"
+    start_in "$logger_space" logger "$program" logger --local "$log" --turns 1000000 --times 1000 "$@"
     logger_process=$last
 }
 
@@ -87,17 +90,24 @@ stop_gateway() {
 start_client() { # N BYTES PIECE
     python3 -c "import random, sys; sys.stdout.buffer.write(random.Random($1).randbytes($2))" >"$room/sent.$1"
     echo 0 >"$room/came.$1"
-    start_in "${machines[$1 % 3]}" "client.$1" examples/socket_client.py "$room/sent.$1" "$room/sent.$1" "$service" "$port" "$room/came.$1" "$3"
+    start_in "${homes[$1 % ${#homes[@]}]}" "client.$1" examples/socket_client.py "$room/sent.$1" "$room/sent.$1" "$service" "$port" "$room/came.$1" "$3"
     clients[$1]=$last
 }
 
-# How many bytes have come back to all clients
-came() {
-    local number all=0 some
+# How many bytes have come back to the client that has most
+most_came() {
+    local number some most=0
     for number in "${!clients[@]}"; do
-        read -r some <"$room/came.$number" && all=$((all + some))
+        some=$(<"$room/came.$number")
+        ((some > most)) && most=$some
     done
-    echo "$all"
+    echo "$most"
+}
+
+# Whether no client is done yet
+all_run() {
+    local process
+    for process in "${clients[@]}"; do kill -0 "$process" 2>/dev/null || return 1; done
 }
 
 # Waits for all clients, and counts those that have all their bytes in `right`.

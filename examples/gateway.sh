@@ -17,13 +17,13 @@ start_again() { # VICTIM
     esac
 }
 
-# Kills each victim when a further eighth of all bytes has come back, and starts it again.
+# Kills each victim when the fastest client has a further eighth of its bytes, and starts it again. So no client is done before the last kill.
 kill_all() {
     local number=0 victim process
     for victim in "${victims[@]}"; do
         number=$((number + 1))
-        while kill -0 "${clients[@]}" 2>/dev/null && [ "$(came)" -lt $((16 * bytes / 8 * number)) ]; do sleep 0.05; done
-        kill -0 "${clients[@]}" 2>/dev/null || { echo "a client was done before the last kill"; return 1; }
+        while all_run && [ "$(most_came)" -lt $((bytes * number / 8)) ]; do sleep 0.05; done
+        all_run || { echo "a client was done before the last kill"; return 1; }
         process=${victim}_process
         end_by 9 "${!process}"
         [ $? = 137 ] || { echo "the $victim ended by itself"; return 1; }
@@ -34,7 +34,7 @@ kill_all() {
 
 one_run() (
     . examples/behind_gateway.sh
-    boot=1 clients=() failed=0
+    boot=1 failed=0
     add_machines
     start_gateway
     rights=$(sed -n 's/^Cap\(Prm\|Eff\):\t//p' "/proc/$gateway_process/status" | sort -u)
