@@ -211,10 +211,10 @@ def main():
     try:
         held = descriptors({"outside": (words.outside, None), "inside": (words.inside, words.netns)})
         gateway = Gateway(held["outside"], held["inside"], words.passed)
-        become(words.user)
         signal.signal(signal.SIGTERM, stop)
         signal.signal(signal.SIGUSR1, lambda *_: print(gateway.counts(), flush=True))
         tell("READY=1")
+        become(words.user)
         print("gateway: up", flush=True)
         gateway.run()
     except (OSError, KeyError) as why:
