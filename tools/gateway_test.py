@@ -9,7 +9,7 @@ import tempfile
 import unittest
 from unittest import mock
 
-from drawn_packets import UDP, drawn, flipped, is_good, is_header_good
+from drawn_packets import UDP, drawn, flipped, is_good, is_header_good, with_sums
 from gateway import HEADERS, Gateway, ends_in, enclosed, kept, released, tell
 from internet import checksum
 
@@ -55,6 +55,8 @@ class Headers(unittest.TestCase):
         for number in range(65536):
             changed = packet[:10] + struct.pack(">H", number) + packet[12:]
             self.assertEqual(is_header_good(datagram_of(changed)), is_header_good(changed))
+            renumbered = with_sums(packet[:4] + struct.pack(">H", number) + packet[6:])
+            self.assertTrue(is_header_good(datagram_of(renumbered)))
 
 
 class Damage(unittest.TestCase):
@@ -117,6 +119,18 @@ class Refused(unittest.TestCase):
         for at in range(12):
             for place in (12 + at, HEADERS + 12 + at):
                 self.assertIsNone(released(datagram[:place] + bytes([datagram[place] ^ 1]) + datagram[place + 1:]))
+        ends = [(packet[at:at + 4], int.from_bytes(packet[port:port + 2], "big")) for at, port in ((12, 20), (16, 22))]
+        inner = {
+            "UDP": packet[:9] + b"\x11" + packet[10:],
+            "a fragment": packet[:6] + b"\x20\0" + packet[8:],
+            "IPv4 options": b"\x46" + packet[1:],
+            "a packet that is cut": packet[:-1],
+            "no TCP header": packet[:2] + b"\0\x27" + packet[4:39],
+        }
+        self.assertEqual(released(udp(*ends, packet)), packet)
+        for what, row in inner.items():
+            with self.subTest(inside=what):
+                self.assertIsNone(released(udp(*ends, row)))
         for what, row in {"TCP": packet, "ICMP with a datagram in it": datagram[:9] + b"\x01" + datagram[10:], "a fragment": datagram[:6] + b"\x20" + datagram[7:],
                           "a datagram that is cut": datagram[:-1], "one without a packet": udp(SERVER, LOGGER, b"FT")}.items():
             with self.subTest(what=what):
