@@ -15,13 +15,14 @@ name=gateway_faults program=${1:-crates/ftnode/out/ftnode}
 [ $# -gt 0 ] && shift
 [ $# -gt 0 ] || set -- junk flips syn remote kept reboot
 
-# Everything is made and started; the gateway by the function START.
-begin() { # START LOGGER'S WORD..
+# Everything is made and started; the gateway by the function START, the logger with a journal where that is said.
+begin() { # START [journal]
     . examples/behind_gateway.sh
-    boot=1 failed=0
+    boot=1 failed=0 journal=()
+    [ $# -lt 2 ] || journal=(--journal "$room/journal")
     add_machines
     "$1"
-    start_logger "${@:2}"
+    start_logger "${journal[@]}"
     start_server 1
 }
 
@@ -35,8 +36,8 @@ kill_server() {
     start_server "$boot"
 }
 
-# The numbers of the gateway's line, of which $1 is the name
-count_of() { # WORDS
+# A number of the gateway's line, by its name
+count_of() { # NAME
     kill -USR1 "$gateway_process"
     sleep 0.3
     tail -n 1 "$room/gateway.$gateways" | sed "s/.*$1 \([0-9]*\).*/\1/"
@@ -180,8 +181,7 @@ kept() {
 }
 
 reboot() {
-    begin keeping_gateway --journal /tmp/gateway_faults.$$.journal
-    trap 'rm -f /tmp/gateway_faults.$$.journal; clean_up' EXIT
+    begin keeping_gateway journal
     for number in {1..12}; do start_client "$number" 200000 500; done
     for _ in 1 2; do
         sleep 2
@@ -192,7 +192,7 @@ reboot() {
         sleep 2
         devices up
         boot=$((boot + 1))
-        start_logger --journal /tmp/gateway_faults.$$.journal
+        start_logger "${journal[@]}"
         start_server "$boot"
     done
     all_run || fails "a client was done before the last kill"

@@ -38,8 +38,7 @@ syn_proxy() {
 
 # The inner device is removed by name: a gateway that still has it open would keep it, and the namespace, alive.
 down() {
-    nft delete table ip ftnode || true
-    [ "${SYNPROXY:-no}" != yes ] || nft delete table ip ftnode_synproxy || true
+    for table in ftnode ftnode_synproxy; do nft delete table ip "$table" 2>/dev/null || true; done
     ip link del ftgw0 || true
     ip -n "$space" link del ftn0 || true
     ip netns del "$space" || true
