@@ -56,7 +56,7 @@ end() { # CLIENTS: what came of it
 
 junk() {
     begin start_gateway
-    start_client 1 200000 500
+    start_clients 200000 500 1
     sleep 1
     kinds=$(ip netns exec "${machines[2]}" bench/junk.py junk "$service:$port" 10.78.1.2 20000)
     echo "sent: $kinds"
@@ -89,7 +89,7 @@ flips() {
     begin start_gateway
     add_flipped_path
     homes=("ftc4_$$")
-    for number in {1..4}; do start_client "$number" 200000 1000; done
+    start_clients 200000 1000 {1..4}
     wait_for_clients
     end_by TERM "$relay_process"
     tail -n 1 "$room/relay"
@@ -104,15 +104,15 @@ syn() {
     syn_proxy=yes
     begin start_gateway
     ip netns exec "$host" sh -c 'echo 0 >/proc/sys/net/ipv4/conf/all/rp_filter; echo 0 >/proc/sys/net/ipv4/conf/v3/rp_filter'
-    start_client 1 300000 1000
+    start_clients 300000 1000 1
     sleep 1
     start_in "${machines[2]}" flood bench/junk.py syn "$service:$port" 20000 5
     flood=$last
     sleep 1
-    start_client 3 100000 2000
+    start_clients 100000 2000 3
     sleep 1
     end_by 9 "$server_process"
-    start_client 4 100000 2000
+    start_clients 100000 2000 4
     sleep 2
     boot=2
     start_server 2
@@ -131,7 +131,7 @@ remote_part() { # SEGMENTS: small or full
     begin remote_gateway
     [ "$1" = small ] || ip netns exec "$host" nft delete table ip ftnode
     homes=("${machines[@]:0:2}")
-    for number in {1..8}; do start_client "$number" 200000 1000; done
+    start_clients 200000 1000 {1..8}
     for _ in 1 2; do sleep 1 && kill_server; done
     wait_for_clients
     through=$(count_of 'passed through')
@@ -172,7 +172,7 @@ end_kept() { # CLIENTS
 
 kept() {
     begin keeping_gateway
-    for number in {1..16}; do start_client "$number" 200000 250; done
+    start_clients 200000 250 {1..16}
     sleep 1
     for _ in {1..8}; do sleep 0.7 && kill_kept_gateway; done
     all_run || fails "a client was done before the last kill"
@@ -182,7 +182,7 @@ kept() {
 
 reboot() {
     begin keeping_gateway journal
-    for number in {1..12}; do start_client "$number" 200000 500; done
+    start_clients 200000 500 {1..12}
     for _ in 1 2; do
         sleep 2
         end_by 9 "$server_process"

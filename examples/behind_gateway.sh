@@ -86,12 +86,21 @@ stop_gateway() {
     tail -n 1 "$room/gateway.$gateways"
 }
 
-# Starts client number N, which echoes BYTES bytes of its own, PIECE bytes every 20 ms.
-start_client() { # N BYTES PIECE
-    python3 -c "import random, sys; sys.stdout.buffer.write(random.Random($1).randbytes($2))" >"$room/sent.$1"
-    echo 0 >"$room/came.$1"
-    start_in "${homes[$1 % ${#homes[@]}]}" "client.$1" examples/socket_client.py "$room/sent.$1" "$room/sent.$1" "$service" "$port" "$room/came.$1" "$3"
-    clients[$1]=$last
+# Starts clients with these numbers at once. Each echoes BYTES bytes of its own, PIECE bytes every 20 ms.
+start_clients() { # BYTES PIECE N..
+    local number
+    python3 - "$room/sent" "$1" "${@:3}" <<'END'
+import random, sys
+for number in sys.argv[3:]:
+    with open(f"{sys.argv[1]}.{number}", "wb") as file:
+        file.write(random.Random(int(number)).randbytes(int(sys.argv[2])))
+END
+    for number in "${@:3}"; do
+        echo 0 >"$room/came.$number"
+        start_in "${homes[number % ${#homes[@]}]}" "client.$number" examples/socket_client.py "$room/sent.$number" "$room/sent.$number" "$service" "$port" \
+            "$room/came.$number" "$2"
+        clients[number]=$last
+    done
 }
 
 # How many bytes have come back to the client that has most

@@ -41,7 +41,7 @@ one_run() (
     start_logger --journal "$room/journal"
     start_server 1
     SECONDS=0
-    for number in {1..16}; do start_client "$number" "$bytes" $((bytes / 400)); done
+    start_clients "$bytes" $((bytes / 400)) {1..16}
     kill_all || failed=1
     wait_for_clients
     took=$SECONDS
