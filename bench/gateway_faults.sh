@@ -104,6 +104,8 @@ syn() {
     syn_proxy=yes
     begin start_gateway
     ip netns exec "$host" sh -c 'echo 0 >/proc/sys/net/ipv4/conf/all/rp_filter; echo 0 >/proc/sys/net/ipv4/conf/v3/rp_filter'
+    # the proxy's own rules must do: without the first one, and without this table, the client that connects while the server is down waits for ever
+    ip netns exec "$host" nft delete table ip ftnode
     start_clients 300000 1000 1
     sleep 1
     start_in "${machines[2]}" flood bench/junk.py syn "$service:$port" 20000 5
