@@ -3,8 +3,10 @@
 # Alone: a C program sends packets of 40 and of 1,440 bytes through it as fast as it can, and nobody takes them. Printed are how many came through in a second, and the
 # gateway's processor time for one. Goal: 50,000 packets of 1,440 bytes a second.
 # In use: plain clients in three network namespaces echo through it by ftnode's server and logger, and by a kernel's echo server behind the same two hops, three times
-# each in turn: one connection of 8 MB, and 16 connections of 1 MB at once. No socket has window scaling or selective acknowledgements. Printed are medians, their
-# ratio, and the processor time of gateway, server and logger for a megabyte each way. Goal: the gateway takes at most 15 % of the three with 16 connections.
+# each in turn: one connection of 8 MB, and 16 connections of 1 MB at once; these also with sockets' default buffers of 16 MiB (net.core.rmem_default), which it sets
+# back at the end. No socket has window scaling or selective acknowledgements. Printed are medians, their ratio, and the processor time of gateway, server and logger
+# for a megabyte each way. That of the gateway includes what the kernel does with its packets at once, up to the clients' TCP. Goal: the gateway takes at most 15 % of
+# the three with 16 connections.
 #     sudo bench/gateway.sh [PROGRAM]        a built ftnode, by default this checkout's
 # Status 0 if both goals are met, 1 if one is missed, 2 if it can't run. The environment may set SECONDS_EACH (4) of the first part and MEGABYTES (8) of the second.
 set -eu
@@ -14,9 +16,10 @@ if [ -z "$program" ]; then
     build ftnode logger --local 127.0.0.1:7040 --turns 1
     program=$PWD/crates/ftnode/out/ftnode
 fi
+buffers=/proc/sys/net/core/rmem_default usual=$(cat /proc/sys/net/core/rmem_default)
 name=gateway seconds=${SECONDS_EACH:-4} megabytes=${MEGABYTES:-8} missed=0 kernel=ftkern$$ kernel_ip=10.79.0.2
 . examples/behind_gateway.sh
-trap 'set +e; ip netns del "$kernel" 2>/dev/null; clean_up; rm -rf "$work"' EXIT
+trap 'set +e; echo "$usual" >$buffers; ip netns del "$kernel" 2>/dev/null; clean_up; rm -rf "$work"' EXIT
 machine
 gcc -O2 -Wall -o "$work/flood" bench/flood.c
 
@@ -77,6 +80,10 @@ echoes() { # ADDRESS CONNECTIONS BYTES
 median() { sort -g "$work/$1" | sed -n 2p; }
 
 in_use() { # CONNECTIONS
+    start_logger
+    boot=$((boot + 1))
+    start_server "$boot"
+    sleep 1
     local bytes=$((megabytes * 1000000)) all=$megabytes spent process
     [ "$1" = 1 ] || { bytes=1000000 all=$1; }
     rm -f "$work/ours" "$work/kernels"
@@ -86,13 +93,15 @@ in_use() { # CONNECTIONS
         echoes "$kernel_ip" "$1" "$bytes" >>"$work/kernels"
     done
     for process in gateway server logger; do spent=${process}_process && spent_by "${!spent}" >>"$work/$process"; done
-    echo "$1 $all $(median ours) $(median kernels) $(tr '\n' ' ' <"$work/gateway") $(tr '\n' ' ' <"$work/server") $(tr '\n' ' ' <"$work/logger")" | awk '{
+    echo "$1 $all $(median ours) $(median kernels) $(tr '\n' ' ' <"$work/gateway") $(tr '\n' ' ' <"$work/server") $(tr '\n' ' ' <"$work/logger")" | awk -v buffers="$(cat $buffers)" '{
         all = 3 * $2; gateway = ($6 - $5) / 1000; server = ($8 - $7) / 1000; logger = ($10 - $9) / 1000; share = 100 * gateway / (gateway + server + logger)
         goal = $1 == 16 ? (share <= 15 ? ", goal met" : ", goal MISSED") : ""
-        printf "%d connections: %.2f MB a second each way; the kernel server %.2f; ratio %.3f\n", $1, $2 / $3, $2 / $4, $4 / $3
+        printf "%d connections, buffers of %d bytes: %.2f MB a second each way; the kernel server %.2f; ratio %.3f\n", $1, buffers, $2 / $3, $2 / $4, $4 / $3
         printf "    processor time for a megabyte: gateway %.1f ms, server %.1f, logger %.1f; the gateway %.1f %% of them%s\n", gateway / all, server / all, logger / all, share, goal
         exit goal ~ /MISSED/
     }' || missed=1
+    end_by 9 "$server_process" || true
+    end_by 9 "$logger_process" || true
 }
 
 add_machines
@@ -100,10 +109,10 @@ for space in "${machines[@]}"; do ip netns exec "$space" sh -c 'cd /proc/sys/net
 start_gateway
 alone
 add_kernel_server
-start_logger
-start_server 1
-sleep 1
+boot=0
 in_use 1
+in_use 16
+echo 16777216 >$buffers
 in_use 16
 stop_gateway
 exit $missed

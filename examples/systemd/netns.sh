@@ -9,10 +9,13 @@
 #     MTU       of the way to these (1500). A message with a full segment has 1,519 bytes: where the route isn't told, it is sent whole, and lost
 #     SYNPROXY  yes: the kernel's SYN proxy is in front (ftnode-synproxy.nft)
 #     NETNS     the namespace's name (ftnode)
+# It also raises the machine's default for sockets' buffers to 16 MiB, where that is allowed: a datagram that finds a full buffer is lost, and the usual 212,992 bytes are
+# too few for several clients at full speed.
 set -eu
-here=$(dirname "$0") space=${NETNS:-ftnode}
+here=$(dirname "$0") space=${NETNS:-ftnode} room=/proc/sys/net/core/rmem_default
 
 up() {
+    [ ! -w $room ] || [ "$(cat $room)" -ge 16777216 ] || echo 16777216 >$room
     echo 1 >/proc/sys/net/ipv4/ip_forward
     ip netns add "$space"
     ip -n "$space" link set lo up
