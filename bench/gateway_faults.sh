@@ -7,7 +7,7 @@
 #     kept     the gateway is killed eight times while its descriptors are kept, by a stand-in for systemd (bench/descriptor_store.py)
 #     reboot   server, logger and gateway are killed, devices and namespace removed, and all are made anew two seconds later, twice; the logger has a journal, and the
 #              stand-in keeps descriptors that are of no use any more
-# It takes three minutes. It needs root, nft and a built ftnode:
+# It takes a minute and a half. It needs root, nft and a built ftnode:
 #     sudo bench/gateway_faults.sh [PROGRAM [PART..]]       defaults: PROGRAM crates/ftnode/out/ftnode, PART all
 set -u
 cd "$(dirname "$0")/.." || exit 2
@@ -92,8 +92,9 @@ flips() {
     start_clients 200000 1000 {1..4}
     wait_for_clients
     end_by TERM "$relay_process"
-    tail -n 1 "$room/relay"
-    grep -q '[1-9][0-9]* flipped' "$room/relay" || fails "no bit was flipped"
+    refused=$(ip netns exec "ftc4_$$" awk '/^Tcp:/ { sums = $NF } END { print sums }' /proc/net/snmp)
+    echo "the path: $(tail -n 1 "$room/relay"); the clients' kernel refused $refused packets with a wrong TCP checksum"
+    [ "$refused" -gt 0 ] || fails "no damaged packet came to a client"
     # what each client sent is logged, and nothing else
     logged=$(log_status | grep -c 'bytes 200000 fin 1')
     [ "$logged" = 4 ] || fails "the log has 200,000 bytes of $logged clients, and not of 4"
