@@ -4,12 +4,12 @@
 # network namespaces. The kernel's sockets have no window scaling and no selective acknowledgements. Each runs with three seeds, alternately, at each loss. Printed
 # are the seconds, the medians and their ratios. A kernel's transfer that isn't done in five minutes is reported so, and counts as longer than all others.
 #     bench/loss.sh [PROGRAM [OLDER]]     a built ftnode, by default this checkout's; and an older one to compare with
-# The environment may set SIZE (500000), LOSS (1; a list of percents such as "0 1 3 5"), DELAY (8, in ms), SWAPPED (0, a percent), PORT (7300) and CONTROL (the
-# congestion control of the kernel's sockets, such as reno; by default the system's).
+# The environment may set SIZE (500000), LOSS (1; a list of percents such as "0 1 3 5"), DELAY (8, in ms), SWAPPED and FLIPPED (0, percents of packets that are late
+# or have a flipped bit), PORT (7300) and CONTROL (the congestion control of the kernel's sockets, such as reno; by default the system's).
 set -eu
 older=${2:+$(realpath "$2")} program=${1:+$(realpath "$1")}
 . "$(dirname "$0")/common.sh"
-size=${SIZE:-500000} losses=${LOSS:-1} delay=${DELAY:-8} swapped=${SWAPPED:-0} base=${PORT:-7300} at=127.0.0.1
+size=${SIZE:-500000} losses=${LOSS:-1} delay=${DELAY:-8} swapped=${SWAPPED:-0} flipped=${FLIPPED:-0} base=${PORT:-7300} at=127.0.0.1
 control=${CONTROL:-$(cat /proc/sys/net/ipv4/tcp_congestion_control 2>/dev/null || true)}
 if [ -z "$program" ]; then
     build ftnode logger --local 127.0.0.1:7040 --turns 1
@@ -36,7 +36,7 @@ start() { # NAME WORD..
 
 # starts the relay and waits until it is up
 relay() { # LISTEN TARGET SEED
-    start relay bench/relay.py "$1" "$2" "$loss" "$delay" "$3" "$swapped"
+    start relay bench/relay.py "$1" "$2" "$loss" "$delay" "$3" "$swapped" "$flipped"
     relay_pid=$last
     for _ in {1..100}; do
         grep -qs up "$work/relay" && return
@@ -139,7 +139,7 @@ median() { sort -g "$work/$1.seconds" | sed -n 2p; }
 # three runs of each at this loss, in turn, and what their medians are
 compare_at() { # LOSS
     loss=$1
-    echo "$size bytes each way, $loss % lost, $swapped % swapped, $delay ms each way"
+    echo "$size bytes each way, $loss % lost, $swapped % swapped, $flipped % with a flipped bit, $delay ms each way"
     rm -f "$work"/*.seconds
     for seed in 1 2 3; do
         through_ftnode ftnode "$program" "$seed"
