@@ -1,5 +1,5 @@
-/* Sends one TCP packet again and again, as fast as it can: flood SOURCE DESTINATION PORT BYTES SECONDS. The packet has BYTES bytes with its headers, no flag but ACK,
-   and a right IPv4 checksum (the kernel fills it in). It prints how many it sent. It needs root (a raw socket). For bench/gateway.sh. */
+/* Sends one TCP packet again and again, as fast as it can: flood SOURCE DESTINATION PORT BYTES SECONDS. The packet has BYTES bytes with its headers, no flag but
+   ACK, and a right IPv4 checksum (the kernel fills it in). It prints how many it sent. It needs root (a raw socket). For bench/gateway.sh. */
 #define _GNU_SOURCE
 #include <arpa/inet.h>
 #include <stdio.h>

@@ -1,12 +1,12 @@
 #!/usr/bin/env bash
 # How fast the gateway (tools/gateway.py) is, in two parts.
-# Alone: a C program sends packets of 40 and of 1,440 bytes through it as fast as it can, and nobody takes them. Printed are how many came through in a second, and the
-# gateway's processor time for one. Goal: 50,000 packets of 1,440 bytes a second.
-# In use: plain clients in three network namespaces echo through it by ftnode's server and logger, and by a kernel's echo server behind the same two hops, three times
-# each in turn: one connection of 8 MB, and 16 connections of 1 MB at once; these also with sockets' default buffers of 16 MiB (net.core.rmem_default), which it sets
-# back at the end. No socket has window scaling or selective acknowledgements. Printed are medians, their ratio, and the processor time of gateway, server and logger
-# for a megabyte each way. That of the gateway includes what the kernel does with its packets at once, up to the clients' TCP. Goal: the gateway takes at most 15 % of
-# the three with 16 connections.
+# Alone: a C program sends packets of 40 and of 1,440 bytes through it as fast as it can, and nobody takes them. Printed are how many came through in a second, and
+# the gateway's processor time for one. Goal: 50,000 packets of 1,440 bytes a second.
+# In use: plain clients in three network namespaces echo through it by ftnode's server and logger, and by a kernel's echo server behind the same two hops, three
+# times each in turn: one connection of 8 MB, and 16 connections of 1 MB at once; these also with sockets' default buffers of 16 MiB (net.core.rmem_default), which
+# it sets back at the end. No socket has window scaling or selective acknowledgements. Printed are medians, their ratio, and the processor time of gateway, server
+# and logger for a megabyte each way. That of the gateway includes what the kernel does with its packets at once, up to the clients' TCP. Goal: the gateway takes at
+# most 15 % of the three with 16 connections.
 #     sudo bench/gateway.sh [PROGRAM]        a built ftnode, by default this checkout's
 # Status 0 if both goals are met, 1 if one is missed, 2 if it can't run. The environment may set SECONDS_EACH (4) of the first part and MEGABYTES (8) of the second.
 set -eu
@@ -19,7 +19,8 @@ fi
 buffers=/proc/sys/net/core/rmem_default usual=$(cat /proc/sys/net/core/rmem_default)
 name=gateway seconds=${SECONDS_EACH:-4} megabytes=${MEGABYTES:-8} missed=0 kernel=ftkern$$ kernel_ip=10.79.0.2
 . examples/behind_gateway.sh
-trap 'set +e; echo "$usual" >$buffers; ip netns del "$kernel" 2>/dev/null; clean_up; rm -rf "$work"' EXIT
+spaces+=("$kernel")
+trap 'set +e; echo "$usual" >$buffers; clean_up; rm -rf "$work"' EXIT
 machine
 gcc -O2 -Wall -o "$work/flood" bench/flood.c
 
@@ -38,8 +39,11 @@ flood() { # BYTES
 
 alone() {
     local bytes packets time spent
-    start_in "$node" sink python3 -c 'import socket, sys, time; s = socket.socket(type=socket.SOCK_DGRAM); s.bind((sys.argv[1], int(sys.argv[2]))); time.sleep(1e6)' \
-        "$service" "$port"
+    start_in "$node" sink python3 -c '
+import socket, sys, time
+link = socket.socket(type=socket.SOCK_DGRAM)
+link.bind((sys.argv[1], int(sys.argv[2])))
+time.sleep(1e6)' "$service" "$port"
     sink=$last
     sleep 0.5
     for bytes in 40 1440; do
@@ -79,29 +83,44 @@ echoes() { # ADDRESS CONNECTIONS BYTES
 
 median() { sort -g "$work/$1" | sed -n 2p; }
 
+# The processor time that each of the three has taken
+note_times() {
+    local process
+    for process in gateway server logger; do
+        local number=${process}_process
+        spent_by "${!number}" >>"$work/$process"
+    done
+}
+
+# The numbers of a series in a line: connections, megabytes, buffers, seconds by ours and by the kernel's, and the times of the three before and after
 in_use() { # CONNECTIONS
+    local bytes=$((megabytes * 1000000)) all=$megabytes
+    [ "$1" = 1 ] || { bytes=1000000 all=$1; }
+    rm -f "$work"/{ours,kernels,gateway,server,logger}
     start_logger
     boot=$((boot + 1))
     start_server "$boot"
     sleep 1
-    local bytes=$((megabytes * 1000000)) all=$megabytes spent process
-    [ "$1" = 1 ] || { bytes=1000000 all=$1; }
-    rm -f "$work/ours" "$work/kernels"
-    for process in gateway server logger; do spent=${process}_process && spent_by "${!spent}" >"$work/$process"; done
+    note_times
     for _ in 1 2 3; do
         echoes "$service" "$1" "$bytes" >>"$work/ours"
         echoes "$kernel_ip" "$1" "$bytes" >>"$work/kernels"
     done
-    for process in gateway server logger; do spent=${process}_process && spent_by "${!spent}" >>"$work/$process"; done
-    echo "$1 $all $(median ours) $(median kernels) $(tr '\n' ' ' <"$work/gateway") $(tr '\n' ' ' <"$work/server") $(tr '\n' ' ' <"$work/logger")" | awk -v buffers="$(cat $buffers)" '{
-        all = 3 * $2; gateway = ($6 - $5) / 1000; server = ($8 - $7) / 1000; logger = ($10 - $9) / 1000; share = 100 * gateway / (gateway + server + logger)
-        goal = $1 == 16 ? (share <= 15 ? ", goal met" : ", goal MISSED") : ""
-        printf "%d connections, buffers of %d bytes: %.2f MB a second each way; the kernel server %.2f; ratio %.3f\n", $1, buffers, $2 / $3, $2 / $4, $4 / $3
-        printf "    processor time for a megabyte: gateway %.1f ms, server %.1f, logger %.1f; the gateway %.1f %% of them%s\n", gateway / all, server / all, logger / all, share, goal
-        exit goal ~ /MISSED/
-    }' || missed=1
+    note_times
     end_by 9 "$server_process" || true
     end_by 9 "$logger_process" || true
+    echo "$1 $all $(cat $buffers) $(median ours) $(median kernels) $(cat "$work"/{gateway,server,logger} | tr '\n' ' ')"
+}
+
+show() {
+    awk '{
+        all = 3 * $2; gateway = ($7 - $6) / 1000; server = ($9 - $8) / 1000; logger = ($11 - $10) / 1000; share = 100 * gateway / (gateway + server + logger)
+        goal = $1 == 16 ? (share <= 15 ? ", goal met" : ", goal MISSED") : ""
+        printf "%d connections, buffers of %d bytes: %.2f MB a second each way; the kernel server %.2f; ratio %.3f\n", $1, $3, $2 / $4, $2 / $5, $5 / $4
+        printf "    processor time for a megabyte: gateway %.1f ms, server %.1f, logger %.1f; ", gateway / all, server / all, logger / all
+        printf "the gateway %.1f %% of them%s\n", share, goal
+        exit goal ~ /MISSED/
+    }' "$work/series" || missed=1
 }
 
 add_machines
@@ -110,9 +129,9 @@ start_gateway
 alone
 add_kernel_server
 boot=0
-in_use 1
-in_use 16
+in_use 1 >"$work/series" && show
+in_use 16 >"$work/series" && show
 echo 16777216 >$buffers
-in_use 16
+in_use 16 >"$work/series" && show
 stop_gateway
 exit $missed

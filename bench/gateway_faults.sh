@@ -1,12 +1,12 @@
 #!/usr/bin/env bash
 # What the gateway (tools/gateway.py) has to stand. Plain clients echo through it meanwhile, and every one must get all its bytes back:
-#     junk     20,000 packets that are no TCP of a client, or have wrong sums: those that `ftnode` couldn't read are refused and counted, and no place of the log is taken
+#     junk     20,000 packets that are no TCP of a client, or have wrong sums: what `ftnode` couldn't read is refused and counted, and no place of the log is taken
 #     flips    a path on which 3 % of the packets have a flipped bit, both ways
 #     syn      20,000 forged SYNs behind the kernel's SYN proxy, with a kill of the server and a client that connects while it is down: only clients take places
 #     remote   the logger is on another machine (--pass), with small segments and then with full ones, and the server is killed twice each time
 #     kept     the gateway is killed eight times while its descriptors are kept, by a stand-in for systemd (bench/descriptor_store.py)
-#     reboot   server, logger and gateway are killed, devices and namespace removed, and all are made anew two seconds later, twice; the logger has a journal, and the
-#              stand-in keeps descriptors that are of no use any more
+#     reboot   server, logger and gateway are killed, devices and namespace removed, and all are made anew two seconds later, twice; the logger has a journal, and
+#              the stand-in keeps descriptors that are of no use any more
 # It takes a minute and a half. It needs root, nft and a built ftnode:
 #     sudo bench/gateway_faults.sh [PROGRAM [PART..]]       defaults: PROGRAM crates/ftnode/out/ftnode, PART all
 set -u
@@ -73,7 +73,7 @@ junk() {
 # A fourth machine, on a path of two TUN devices that bench/relay.py joins
 add_flipped_path() {
     ip netns add "ftc4_$$"
-    machines+=("ftc4_$$")
+    spaces+=("ftc4_$$")
     start_in "$host" relay bench/relay.py tun:flip0 tun:flip1 0 0 1 0 3
     relay_process=$last
     wait_for "$room/relay" up

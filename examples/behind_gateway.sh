@@ -2,7 +2,8 @@
 # plain clients, with an address and a default route and nothing else. One is the server's machine, with tools/gateway.py, and one is ftnode's namespace on it.
 # Where `remote` is the logger's host, the logger is on the third machine, and `log` is its address there. `syn_proxy` may be yes.
 program=$(realpath "$program") service=10.77.0.2 port=7 log=${log:-10.77.0.3:7008} remote=${remote:-} syn_proxy=${syn_proxy:-no}
-host=ftgw$$ node=ftnode$$ machines=(ftc1_$$ ftc2_$$ ftc3_$$) room=$(mktemp -d) started=() clients=() gateways=0
+host=ftgw$$ node=ftnode$$ machines=(ftc1_$$ ftc2_$$ ftc3_$$) room=$(mktemp -d) clients=() gateways=0
+spaces=("$host" "$node" "${machines[@]}") # which are removed at the end, with all that runs in them
 homes=("${machines[@]}") inner=${log%:*} logger_space=$node # where clients are, the namespace's own addresses, where the logger is
 [ -z "$remote" ] || inner='' logger_space=${machines[2]}
 
@@ -14,9 +15,9 @@ for command in ip nft python3 nsenter; do command -v "$command" >/dev/null || mi
 
 clean_up() {
     exec 2>/dev/null
-    for process in "${started[@]}"; do kill -9 "$process"; done
+    for space in "${spaces[@]}"; do ip netns pids "$space" | xargs -r kill -9; done
     wait
-    for space in "$host" "$node" "${machines[@]}"; do ip netns del "$space"; done
+    for space in "${spaces[@]}"; do ip netns del "$space"; done
     rm -rf "$room"
 }
 trap clean_up EXIT
@@ -25,7 +26,6 @@ trap clean_up EXIT
 start_in() { # NAMESPACE NAME WORD..
     ip netns exec "$1" "${@:3}" >"$room/$2" 2>&1 &
     last=$!
-    started+=("$last")
 }
 
 # The shell prints nothing about killed processes.
@@ -77,7 +77,8 @@ start_logger() { # WORD..
 }
 
 start_server() { # BOOT
-    start_in "$node" "server.$1" "$program" server --local "$service:$port" --logger "$log" --service echo --boot "$1" --isn "$((100000 * $1))" --turns 1000000 --times 1000
+    start_in "$node" "server.$1" "$program" server --local "$service:$port" --logger "$log" --service echo --boot "$1" --isn "$((100000 * $1))" \
+        --turns 1000000 --times 1000
     server_process=$last
 }
 

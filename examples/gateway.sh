@@ -1,9 +1,9 @@
 #!/usr/bin/env bash
-# Unchanged TCP clients on three machines, and nothing of this project on any of them: tools/gateway.py is on the server's machine. Sixteen clients (kernel sockets in
-# three network namespaces) echo 400,000 bytes each, at once. Meanwhile the server is killed with kill -9 three times, the gateway twice, and the logger, which has a
-# journal, twice; each is started again 0.2 seconds later. Every client must get all its bytes back. It makes five network namespaces and two TUN devices, and removes
-# them at the end. It needs root, nft and a built ftnode:
-#     sudo examples/gateway.sh [PROGRAM] [RUNS]       defaults: PROGRAM crates/ftnode/out/ftnode, RUNS 1
+# Unchanged TCP clients on three machines, and nothing of this project on any of them: tools/gateway.py is on the server's machine. Sixteen clients (kernel sockets
+# in three network namespaces) echo 400,000 bytes each, at once. Meanwhile the server is killed with kill -9 three times, the gateway twice, and the logger, which
+# has a journal, twice; each is started again 0.2 seconds later. Every client must get all its bytes back. It makes five network namespaces and two TUN devices, and
+# removes them at the end. It needs root, nft and a built ftnode:
+#     sudo examples/gateway.sh [PROGRAM] [RUNS]       defaults: PROGRAM crates/ftnode/out/ftnode, RUNS 1. The environment may set BYTES (400000)
 set -u
 cd "$(dirname "$0")/.." || exit 2
 name=gateway program=${1:-crates/ftnode/out/ftnode} runs=${2:-1}

@@ -8,8 +8,9 @@ A TCP packet that comes from outside is written inside as the UDP datagram that 
 header with the packet's own addresses and ports. A datagram that comes from inside is written outside without these 28 bytes, if what follows is a TCP packet
 with the datagram's own addresses and ports. Nothing else gets through, except, unchanged, UDP from and to the addresses of --pass: loggers on other machines.
 
-It knows no service and no client, and keeps no state, so it may end and be started again at any time: what is lost meanwhile is retransmitted. Both devices have to
-exist already (`ip tuntap add`), so that routes stay while it is down. If systemd keeps its descriptors meanwhile (FileDescriptorStoreMax=2), next to nothing is lost.
+It knows no service and no client, and keeps no state, so it may end and be started again at any time: what is lost meanwhile is retransmitted. Both devices have
+to exist already (`ip tuntap add`), so that routes stay while it is down. If systemd keeps its descriptors meanwhile (FileDescriptorStoreMax=2), next to nothing is
+lost.
 
 It needs Linux, root at its start, and only Python's standard library. It then becomes --user, and has no right left. SIGUSR1 has it print how many packets it has
 carried and refused; SIGTERM ends it with the same line. It is outside the proofs: nothing about it is proved.
