@@ -17,12 +17,12 @@ start_again() { # VICTIM
     esac
 }
 
-# Kills each victim when the fastest client has a further eighth of its bytes, and starts it again. So no client is done before the last kill.
+# Kills each victim when the fastest client has a further ninth of its bytes, and starts it again. So no client is done before the last kill.
 kill_all() {
     local number=0 victim process
     for victim in "${victims[@]}"; do
         number=$((number + 1))
-        while all_run && [ "$(most_came)" -lt $((bytes * number / 8)) ]; do sleep 0.05; done
+        while all_run && [ "$(most_came)" -lt $((bytes * number / 9)) ]; do sleep 0.05; done
         all_run || { echo "a client was done before the last kill"; return 1; }
         process=${victim}_process
         end_by 9 "${!process}"

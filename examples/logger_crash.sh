@@ -3,7 +3,7 @@
 # of ftnode, whose logger has a journal. During the transfers the server and the logger are each killed (kill -9) 30 times, independently and at random moments,
 # and started again: the server with the next boot number, the logger with the same words. Both clients must get all bytes back, and at the end the journal must
 # open once more. The moments and the bytes are drawn from a seed, which is printed. It makes two network namespaces and a TUN device, and removes them at the end.
-# A run takes about 50 seconds. It needs root and a built ftnode:
+# A run takes about a minute. It needs root and a built ftnode:
 #     sudo examples/logger_crash.sh [PROGRAM] [RUNS] [SEED]
 # Defaults: PROGRAM crates/ftnode/out/ftnode, RUNS 10, SEED random. SEED is the first run's seed; each further run has the next number.
 set -u
