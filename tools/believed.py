@@ -243,7 +243,7 @@ class Source:
         self.crate, self.file = crate, file
         lines = lines_of(crate, file)
         self.ghosts = ghost_imports(lines)
-        self.uses, self.items, self.impls, self.functions, self.exports = {}, {}, [], [], []
+        self.uses, self.items, self.impls, self.functions, self.starts, self.exports = {}, {}, [], [], [], []
         self.tests = next((i for i, line in enumerate(lines) if line.startswith("#[cfg(test)]")), len(lines))
         lines = lines[:self.tests]
         text = joined(lines)
@@ -278,6 +278,7 @@ class Source:
                 inside = owner if fun.group(1) else None
                 shown = fun.group(2) == "pub " or (inside is not None and inside[2])
                 self.functions.append((inside[0] if inside else None, fun.group(3), shown, (inside[1] if inside else []) + contract(lines, i)))
+                self.starts.append(i)
             i += 1
 
     @staticmethod
@@ -485,10 +486,8 @@ def whole(crate, file):
     return sum(1 for line in lines_of(crate, file) if line.strip() and not re.match(r"^(ghost )?(pub )?(use|mod) ", line))
 
 
-def public_functions(crate):
-    """The functions that a library exports, with their contracts: (name, source, lines). Of a program: none."""
-    if "src/lib.rt" not in files_of(crate):
-        return
+def shown_names(crate):
+    """The names that a library exports."""
     root = source_file(crate, "src/lib.rt")
     shown = {name for name in root.exports}
     for file in files_of(crate):
@@ -498,12 +497,25 @@ def public_functions(crate):
             shown |= {name for name in source.exports}
             shown |= {name for _, name, public, _ in source.functions if public}
             shown |= {name for name, (_, _, public) in source.items.items() if public}
-    shown |= {name for _, name, public, _ in root.functions if public} | {name for name, (_, _, public) in root.items.items() if public}
+    return shown | {name for _, name, public, _ in root.functions if public} | {name for name, (_, _, public) in root.items.items() if public}
+
+
+def placed_functions(crate):
+    """The functions that a library exports: (owner or nothing, name, source, lines of the contract, the line at which it begins). Of a program: none."""
+    if "src/lib.rt" not in files_of(crate):
+        return
+    shown = shown_names(crate)
     for file in files_of(crate):
         source = source_file(crate, file)
-        for owner, name, public, lines in source.functions:
+        for (owner, name, public, lines), start in zip(source.functions, source.starts):
             if public and (owner or name) in shown:
-                yield (f"{owner}::{name}" if owner else name), source, lines
+                yield owner, name, source, lines, start
+
+
+def public_functions(crate):
+    """The functions that a library exports, with their contracts: (name, source, lines)."""
+    for owner, name, source, lines, _ in placed_functions(crate):
+        yield (f"{owner}::{name}" if owner else name), source, lines
 
 
 def believed(asked):
