@@ -35,6 +35,7 @@ its comment and its clauses. The code has the whole comments and clauses. The pr
 
 HEAD = re.compile(r"^ *(requires|ensures)\b\*? *(\w+)? *(\{.*)$")
 SENTENCE = re.compile(r"(.+?\.)(?: (?=[A-Z`*\"])|$)")
+LINK = re.compile(r"\[([^\]]+)\](?:\([^)]*\))?")
 # What a formula introduces, as (n : ℕ).
 BINDER = re.compile(r"\([^():→]+ : [^()→]*\)")
 
@@ -136,7 +137,7 @@ def comment_above(lines, start, mark="///"):
 def first_sentence(text):
     """The first sentence of a comment, with a full stop."""
     match = SENTENCE.match(text)
-    sentence = (match.group(1) if match else text).strip()
+    sentence = LINK.sub(r"\1", (match.group(1) if match else text).strip())
     return sentence + ("." if sentence and not sentence.endswith(".") else "")
 
 
