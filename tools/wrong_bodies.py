@@ -3,13 +3,14 @@
 
     tools/wrong_bodies.py CRATE..      in the repository's root; without names, of all crates
     tools/wrong_bodies.py --list       prints how many there are, by crate: those that the gate tries, and the others
-    tools/wrong_bodies.py --table      prints docs/EXCLUDED.md: what stands for each wrong body in the gate
+    tools/wrong_bodies.py --table      prints docs/EXCLUDED.md: what each wrong body does and what refuses it, and what stands for it in the gate
+    tools/wrong_bodies.py --check      says whether that page is up to date
 
 The crates' files at HEAD are checked out in a temporary folder, where all wrong bodies are edits that `rt must-fail` tries. The status is that of `rt must-fail`:
 0 if all are refused. Each takes 15 to 80 processor seconds, after the crate and those below it are built.
 
-For the table, a function of the module `excluded` stands for the wrong body of its name, and `tools/excluded.tsv` says of each which clause or law it stands on and
-whether it was seen to fail once that was taken out. The status is 1 if the two don't agree.
+The table has the first line of each edit. In it, a function of the module `excluded` stands for the wrong body of its name, and `tools/excluded.tsv` says of each which clause or law it stands on and
+whether it was seen to fail once that was taken out. The status is 1 if the two don't agree, or the page isn't up to date.
 """
 import argparse
 import csv
@@ -22,11 +23,13 @@ import tempfile
 TRIED = "must-fail"
 UNTRIED = "wrong-bodies"
 RECORDS = "tools/excluded.tsv"
+PAGE = "docs/EXCLUDED.md"
 
 HEAD = """# What stands for each wrong body
 
 `tools/wrong_bodies.py --table` writes this page. [EDITS.md](EDITS.md) says what a wrong body is. Each is an edit, in `crates/CRATE/must-fail` or
-`crates/CRATE/wrong-bodies`, and `tools/wrong_bodies.py CRATE` tries all edits of a crate. In the gate one of these stands for it:
+`crates/CRATE/wrong-bodies`, and `tools/wrong_bodies.py CRATE` tries all edits of a crate. The edit's first line says what refuses it, and what is wrong. In the
+gate one of these stands for it:
 
 - *the edit itself*, which the gate tries;
 - *a function* of the module `excluded` with the edit's name. It calls the function whose body the edit changes, and promises what the wrong body makes false; so it
@@ -65,6 +68,12 @@ def records_of(top):
         return {(row["crate"], row["edit"]): row for row in csv.DictReader(file, delimiter="\t", quoting=csv.QUOTE_NONE)}
 
 
+def first_line(top, crate, edit):
+    """What the first line of an edit says."""
+    path = next(top.glob(f"crates/{crate}/*/{edit}.edit"))
+    return path.read_text(encoding="utf-8").partition("\n")[0].removeprefix("# ")
+
+
 def stand_in(key, tried, functions, records):
     """What stands for a wrong body in the gate, in words."""
     if tried:
@@ -76,13 +85,12 @@ def stand_in(key, tried, functions, records):
     return "nothing"
 
 
-def table(top):
-    """Prints the table. The status is 1 if a function has no edit, or no record, or a record nothing that it speaks of."""
+def page(top):
+    """The text of the page, and the status: 1 if a function has no edit, or no record, or a record nothing that it speaks of."""
     tried, untried = edits_of(top, TRIED), edits_of(top, UNTRIED)
     functions, records = excluded_functions(top), records_of(top)
     keys = [(crate, edit) for crate in sorted({*tried, *untried}) for edit in sorted([*tried.get(crate, []), *untried.get(crate, [])])]
-    print(HEAD)
-    print("| crate | wrong body | in the gate stands for it | which rests on |\n|---|---|---|---|")
+    out = [HEAD, "| crate | wrong body | what refuses it, and what is wrong | in the gate stands for it | which rests on |", "|---|---|---|---|---|"]
     count = {}
     for crate, edit in keys:
         words = stand_in((crate, edit), edit in tried.get(crate, []), functions, records)
@@ -90,13 +98,31 @@ def table(top):
         count[kind] = count.get(kind, 0) + 1
         record = records.get((crate, edit))
         rests = "" if record is None else record["clause"] + ("" if record["seen"] == "yes" else f" ({record['seen']})")
-        print(f"| `{crate}` | `{edit}` | {words} | {rests} |")
-    print(f"\n{len(keys)} in all: " + ", ".join(f"{n} {kind}" for kind, n in sorted(count.items())) + ".")
+        out.append(f"| `{crate}` | `{edit}` | {first_line(top, crate, edit)} | {words} | {rests} |")
+    out.append(f"\n{len(keys)} in all: " + ", ".join(f"{n} {kind}" for kind, n in sorted(count.items())) + ".")
     wrong = [key for key in functions if key not in keys or key not in records]
     wrong += [key for key, row in records.items() if key not in keys or not (row["law"] or key in functions)]
     for key in sorted(set(wrong)):
         print(f"{RECORDS} and the crates don't agree on {key[0]}/{key[1]}", file=sys.stderr)
-    return 1 if wrong else 0
+    return "\n".join(out) + "\n", 1 if wrong else 0
+
+
+def table(top):
+    """Prints the page."""
+    text, status = page(top)
+    sys.stdout.write(text)
+    return status
+
+
+def check(top):
+    """Says whether the page is up to date."""
+    text, status = page(top)
+    kept = top / PAGE
+    if kept.is_file() and kept.read_text(encoding="utf-8") == text:
+        print("up to date")
+        return status
+    print(f"{PAGE} isn't what tools/wrong_bodies.py --table prints")
+    return 1
 
 
 def put_in_place(top):
@@ -124,6 +150,7 @@ def main():
     parser.add_argument("crates", nargs="*", metavar="CRATE")
     parser.add_argument("--list", action="store_true")
     parser.add_argument("--table", action="store_true")
+    parser.add_argument("--check", action="store_true")
     words = parser.parse_args()
     top = pathlib.Path.cwd()
     tried, untried = edits_of(top, TRIED), edits_of(top, UNTRIED)
@@ -131,8 +158,8 @@ def main():
     lacking = [name for name in words.crates if name not in names]
     if lacking:
         parser.error(f"no wrong bodies in {lacking[0]}")
-    if words.table:
-        return table(top)
+    if words.table or words.check:
+        return table(top) if words.table else check(top)
     if words.list:
         for name in names:
             print(f"{len(tried.get(name, [])):3} {len(untried.get(name, [])):3} {name}")
