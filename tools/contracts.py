@@ -23,7 +23,7 @@ NAMED_LIMIT, UNNAMED_LIMIT = 100, 200
 INTRODUCTION = f"""# Contracts of the libraries
 
 `tools/contracts.py --table` writes this page: for each crate, in the order of [crates.txt](../crates.txt), its public functions, each with the first sentence of
-its comment and its clauses. The code has the whole comments and clauses. The prover has accepted each function with its contract.
+its comment and its clauses. The code has the whole comments and clauses. The gate refuses a function that isn't proved with its contract.
 [PROMISES.md](PROMISES.md) says what these contracts mean, what they leave open, and what is only tested.
 
 - A *clause* is a precondition (requires), which the caller has to prove, or a promise (ensures). Its name is in italics. A clause without a name says all that
@@ -230,10 +230,9 @@ def section(crate):
 
 def page():
     """The text of docs/CONTRACTS.md."""
-    out = [INTRODUCTION, ""]
-    for crate in believed.crates():
-        out += section(crate)
-    return "\n".join(out)
+    sections = {crate: lines for crate in believed.crates() if (lines := section(crate))}
+    index = ", ".join(f"[`{crate}`](#{crate})" for crate in sections)
+    return "\n".join([INTRODUCTION, "", index + ".", ""] + [line for lines in sections.values() for line in lines])
 
 
 def check(text):
