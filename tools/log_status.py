@@ -31,6 +31,7 @@ from internet import address, checksum
 LIST, ENTRY, STALE = 3, 4, 17
 HEADER = struct.Struct("!2sBBHHQ")
 FIELDS = struct.Struct("!H4sHIIHIBBII")
+NEWER = struct.Struct("!Q")
 PLACES = 64
 TRIES = 3
 
@@ -58,6 +59,13 @@ def read(data):
     return boot, kind, data[HEADER.size :]
 
 
+def is_answer(kind, fields, boot, index):
+    """Whether this answers the question of this boot number for this index: an Entry of that index, or a Stale that names a newer boot number."""
+    if kind == STALE:
+        return len(fields) == NEWER.size and NEWER.unpack(fields)[0] > boot
+    return kind == ENTRY and len(fields) == FIELDS.size and FIELDS.unpack(fields)[0] == index
+
+
 class Logger:
     """A logger that is asked over UDP."""
 
@@ -66,23 +74,37 @@ class Logger:
         self.where, self.wait, self.boot = (socket.inet_ntoa(ip), port), wait, 1
         self.socket = socket.socket(socket.AF_INET, socket.SOCK_DGRAM)
 
+    def __enter__(self):
+        return self
+
+    def __exit__(self, *_):
+        self.socket.close()
+
+    def heard(self, index):
+        """The kind and the fields of an answer to the question for an index that arrives in time, or None."""
+        until = time.monotonic() + self.wait
+        while (left := until - time.monotonic()) > 0:
+            self.socket.settimeout(left)
+            try:
+                data, source = self.socket.recvfrom(2048)
+            except socket.timeout:
+                return None
+            found = read(data) if source == self.where else None
+            if found and found[0] == self.boot and is_answer(*found[1:], self.boot, index):
+                return found[1:]
+        return None
+
     def answer(self, index):
         """The kind and the fields of what answers the question for an index, with the boot that is asked with; None where nothing does."""
         question = message(self.boot, LIST, struct.pack("!H", index))
         for _ in range(TRIES):
-            self.socket.sendto(question, self.where)
-            until = time.monotonic() + self.wait
-            while (left := until - time.monotonic()) > 0:
-                self.socket.settimeout(left)
-                try:
-                    data, source = self.socket.recvfrom(2048)
-                except socket.timeout:
-                    break
-                found = read(data)
-                if source != self.where or found is None or found[0] != self.boot:
-                    continue
-                if found[1] == STALE or found[1] == ENTRY and found[2][:2] == question[HEADER.size :]:
-                    return found[1:]
+            try:
+                self.socket.sendto(question, self.where)
+            except OSError:
+                time.sleep(self.wait)  # there is no way to the logger
+                continue
+            if answer := self.heard(index):
+                return answer
         return None
 
     def entries(self):
@@ -94,7 +116,7 @@ class Logger:
                 return found if found or self.boot > 1 else None
             kind, fields = answer
             if kind == STALE:
-                (self.boot,) = struct.unpack("!Q", fields)
+                (self.boot,) = NEWER.unpack(fields)
                 found = []
             else:
                 found.append(FIELDS.unpack(fields))
@@ -126,11 +148,11 @@ def main():
     words.add_argument("--wait", type=float, default=0.5, help="seconds to wait for each answer")
     words.add_argument("--watch", action="store_true", help="print it again each 60 seconds")
     given = words.parse_args()
-    logger = Logger(given.logger, given.wait)
-    status = report(logger, given.warn)
-    while given.watch:
-        time.sleep(60)
+    with Logger(given.logger, given.wait) as logger:
         status = report(logger, given.warn)
+        while given.watch:
+            time.sleep(60)
+            status = report(logger, given.warn)
     return status
 
 
