@@ -1,0 +1,115 @@
+#!/usr/bin/env python3
+"""Tests of tools/lemma_twins.py on small crates that are made here. Run it: tools/lemma_twins_test.py"""
+import contextlib
+import io
+import pathlib
+import tempfile
+import unittest
+from unittest import mock
+
+import lemma_twins
+
+LOW = """\
+-- Sums.
+use Rattle.std.specs.Naturals
+
+-- Zero on the right.
+add_zero : (n : Nat) → n + 0 ≡ n
+add_zero n = refl
+
+pub add_swap : (left right : Nat) → left + right ≡ right + left
+add_swap = by auto
+
+unfoldable twice : Nat → Nat
+twice n = n + n
+
+long : {A : Type} (xs ys : List A)
+    → length (xs ++ ys)
+    ≡ length xs + length ys
+long = by auto
+"""
+MIDDLE = """\
+pub zero_after : (m : Nat) → m + 0 ≡ m
+zero_after = by auto
+other : (m : Nat) → 0 + m ≡ m
+other = by auto
+primed : (m' m : Nat) → m' + m ≡ m + m'
+primed = by auto
+"""
+TOP = """\
+split : {T : Type} (front back : List T) → length (front ++ back) ≡ length front + length back
+split = by auto
+named : (n : Nat) → n.length + 0 ≡ n
+named = by auto
+swapped : (a b : Nat) → b + a ≡ a + b
+swapped = by auto
+"""
+FOUND = """\
+($0 : Nat) → $0 + 0 ≡ $0
+    low/proofs/Sums: add_zero
+    middle/proofs/More: zero_after
+($0 $1 : Nat) → $0 + $1 ≡ $1 + $0
+    low/proofs/Sums: add_swap
+    middle/proofs/More: primed
+{$0 : Type} ($1 $2 : List $0) → length ($1 ++ $2) ≡ length $1 + length $2
+    low/proofs/Sums: long
+    top/proofs/Lists: split
+3 signatures stand more than once
+"""
+
+
+class Twins(unittest.TestCase):
+    def setUp(self):
+        room = tempfile.TemporaryDirectory()
+        self.addCleanup(room.cleanup)
+        self.top = pathlib.Path(room.name)
+        (self.top / "crates.txt").write_text("# crates\ntop: middle std  # the program\nmiddle: low\nlow:\n")
+        for crate, file, text in (("low", "Sums", LOW), ("middle", "More", MIDDLE), ("top", "Lists", TOP)):
+            self.put(crate, file, text)
+        patch = mock.patch.object(lemma_twins, "TOP", self.top)
+        patch.start()
+        self.addCleanup(patch.stop)
+
+    def put(self, crate, file, text):
+        path = self.top / f"crates/{crate}/proofs/{file}.antt"
+        path.parent.mkdir(parents=True, exist_ok=True)
+        path.write_text(text)
+
+    def found(self, *words):
+        out = io.StringIO()
+        with contextlib.redirect_stdout(out), mock.patch("sys.argv", ["lemma_twins.py", *words]):
+            lemma_twins.main()
+        return out.getvalue()
+
+    def test_order(self):
+        """A crate comes after those that it stands on."""
+        self.assertEqual(lemma_twins.order_of_crates(), {"low": 0, "middle": 1, "top": 2})
+
+    def test_groups(self):
+        """The same but for names and line breaks. Sides the other way round aren't the same, nor is a name that is a part of a word."""
+        self.assertEqual(self.found(), FOUND)
+
+    def test_one_crate(self):
+        """The groups of one crate, with the others' places in them."""
+        self.assertEqual(self.found("--crate", "top").splitlines()[:-1], FOUND.splitlines()[6:9])
+        self.assertEqual(len(self.found("--crate", "low").splitlines()), 10)
+
+    def test_most_first(self):
+        self.put("top", "More", "again : (x : Nat) → x + 0 ≡ x\nagain = by auto\n")
+        self.assertEqual(self.found().splitlines()[:4][1:], ["    low/proofs/Sums: add_zero", "    middle/proofs/More: zero_after", "    top/proofs/More: again"])
+
+    def test_left_out(self):
+        """What is said of a run of its own, and answers of proofs (files in a folder below)."""
+        for name in ("CrashShown", "Report2", "OnLiterals"):
+            self.put("top", name, "again : (x : Nat) → x + 0 ≡ x\nagain = by auto\n")
+        self.put("top", "module/function/Answers", "again : (x : Nat) → x + 0 ≡ x\nagain = by auto\n")
+        self.assertEqual(len(self.found().splitlines()), 10)
+
+    def test_one_file(self):
+        """Twice in one file."""
+        self.put("low", "Both", "one : (a : Bool) → a ≡ a\none = refl\ntwo : (b : Bool) → b ≡ b\ntwo = refl\n")
+        self.assertIn("($0 : Bool) → $0 ≡ $0\n    low/proofs/Both: one\n    low/proofs/Both: two\n", self.found())
+
+
+if __name__ == "__main__":
+    unittest.main()
