@@ -96,7 +96,8 @@ class Twins(unittest.TestCase):
 
     def test_most_first(self):
         self.put("top", "More", "again : (x : Nat) → x + 0 ≡ x\nagain = by auto\n")
-        self.assertEqual(self.found().splitlines()[:4][1:], ["    low/proofs/Sums: add_zero", "    middle/proofs/More: zero_after", "    top/proofs/More: again"])
+        places = self.found().splitlines()[1:4]
+        self.assertEqual(places, ["    low/proofs/Sums: add_zero", "    middle/proofs/More: zero_after", "    top/proofs/More: again"])
 
     def test_left_out(self):
         """What is said of a run of its own, and answers of proofs (files in a folder below)."""
