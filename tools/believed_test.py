@@ -134,6 +134,9 @@ pub trait Counts {
     /// Counts on.
     fn step(&mut self)
         ensures { tenfold self.old };
+
+    /// A law.
+    ghost lawful: { value 1 ≡ double 1 };
 }
 
 pub fn leaky(c: &Counter)
@@ -231,7 +234,7 @@ class Following(Repository):
         self.assertEqual(self.found("low::Counter::new"), wanted)
 
     def test_trait(self):
-        """Of a trait its ghost members count, and no law."""
+        """Of a trait its ghost members count, and no law: what a function promises, and ghost members after the functions."""
         self.assertEqual(self.found("top::used"), {"top/src/lib.rt": (["Counts"], 1)})
 
     def test_kit(self):

@@ -23,6 +23,9 @@ add_swap = by auto
 unfoldable twice : Nat → Nat
 twice n = n + n
 
+own_field : (n : Tally) → n.n ≡ 0
+own_field = by auto
+
 long : {A : Type} (xs ys : List A)
     → length (xs ++ ys)
     ≡ length xs + length ys
@@ -33,6 +36,8 @@ pub zero_after : (m : Nat) → m + 0 ≡ m
 zero_after = by auto
 other : (m : Nat) → 0 + m ≡ m
 other = by auto
+field_zero : (m : Tally) → m.n ≡ 0
+field_zero = by auto
 primed : (m' m : Nat) → m' + m ≡ m + m'
 primed = by auto
 """
@@ -51,10 +56,13 @@ FOUND = """\
 ($0 $1 : Nat) → $0 + $1 ≡ $1 + $0
     low/proofs/Sums: add_swap
     middle/proofs/More: primed
+($0 : Tally) → $0.n ≡ 0
+    low/proofs/Sums: own_field
+    middle/proofs/More: field_zero
 {$0 : Type} ($1 $2 : List $0) → length ($1 ++ $2) ≡ length $1 + length $2
     low/proofs/Sums: long
     top/proofs/Lists: split
-3 signatures stand more than once
+4 signatures stand more than once
 """
 
 
@@ -91,8 +99,8 @@ class Twins(unittest.TestCase):
 
     def test_one_crate(self):
         """The groups of one crate, with the others' places in them."""
-        self.assertEqual(self.found("--crate", "top").splitlines()[:-1], FOUND.splitlines()[6:9])
-        self.assertEqual(len(self.found("--crate", "low").splitlines()), 10)
+        self.assertEqual(self.found("--crate", "top").splitlines()[:-1], FOUND.splitlines()[9:12])
+        self.assertEqual(len(self.found("--crate", "low").splitlines()), 13)
 
     def test_most_first(self):
         self.put("top", "More", "again : (x : Nat) → x + 0 ≡ x\nagain = by auto\n")
@@ -104,7 +112,7 @@ class Twins(unittest.TestCase):
         for name in ("CrashShown", "Report2", "OnLiterals"):
             self.put("top", name, "again : (x : Nat) → x + 0 ≡ x\nagain = by auto\n")
         self.put("top", "module/function/Answers", "again : (x : Nat) → x + 0 ≡ x\nagain = by auto\n")
-        self.assertEqual(len(self.found().splitlines()), 10)
+        self.assertEqual(len(self.found().splitlines()), 13)
 
     def test_one_file(self):
         """Twice in one file."""

@@ -116,6 +116,12 @@ class Spelling(unittest.TestCase):
         found = records(report_pcap.capture(read_report(text)))
         self.assertEqual([(time, data.hex()) for time, data in found], [((1, place), data) for place, (data, _) in enumerate(SPELLINGS)])
 
+    def test_flags(self):
+        """Each flag alone has its bit (RFC 9293, 3.1)."""
+        letters = "FSRPAUEC"
+        text = HEAD + "".join(f"packet {place} 1>S {it} seq 1 ack 2 window 3 mss - data -\n" for place, it in enumerate(letters, 1))
+        self.assertEqual([data[33] for _, data in records(report_pcap.capture(read_report(text)))], [1, 2, 4, 8, 16, 32, 64, 128])
+
     def test_greatest(self):
         """A segment with the size option, the greatest numbers, odd text, of a client at the greatest address."""
         text = HEAD.replace("192.0.2.1:40000", "255.255.255.255:65535")
