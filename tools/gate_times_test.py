@@ -131,12 +131,12 @@ class Processes(unittest.TestCase):
         self.assertFalse(gate_times.is_running(child.pid))
 
     def test_watch(self):
-        """It looks until the run has ended, and saves what it has seen."""
-        with tempfile.TemporaryDirectory() as room, prover("true", "--crate-name", "low"), mock.patch("time.sleep"):
-            turns = iter([False, False, True])
-            runs = gate_times.watch(os.getpid(), f"{room}/times", lambda: next(turns))
-            self.assertEqual([run[:2] for run in runs], [("low", "proof")])
-            self.assertEqual([run[:2] for run in gate_times.read(f"{room}/times")], [("low", "proof")])
+        """It looks until the run has ended, and what is saved then has its last look, too."""
+        turns = iter([False, False, True])
+        look = lambda _root, runs: runs.update({len(runs): RUNS[len(runs)]})
+        with tempfile.TemporaryDirectory() as room, mock.patch("time.sleep"), mock.patch.object(gate_times, "look", look):
+            self.assertEqual(gate_times.watch(os.getpid(), f"{room}/times", lambda: next(turns)), RUNS[:2])
+            self.assertEqual(gate_times.read(f"{room}/times"), RUNS[:2])
             self.assertEqual(os.listdir(room), ["times"])
 
 

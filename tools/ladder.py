@@ -219,8 +219,9 @@ class Ladder:
 
     def place_actors(self):
         """Where each lifeline stands. Clients of which nothing is shown are left out."""
-        shown = {packet.sender for event in self.events for packet in event.packets}
-        shown |= {d.receiver for d in self.deliveries if d.event.number in self.numbers}
+        packets = [packet for event in self.events for packet in event.packets]
+        packets += [delivery.packet for delivery in self.deliveries if delivery.event.number in self.numbers]
+        shown = {end for packet in packets for end in (packet.sender, packet.receiver)}
         clients = [name for name in self.report.clients if name in shown] or list(self.report.clients)[:1]
         self.x = {name: FIRST_LINE + CLIENT_GAP * place for place, name in enumerate(clients)}
         self.gap_left = max(self.x.values(), default=FIRST_LINE)

@@ -189,6 +189,14 @@ class Examples(unittest.TestCase):
             self.assertEqual(numbers, list(range(1, len(numbers) + 1)), path.name)
             self.assertEqual(len(numbers), len(re.findall("^packet ", text, re.M)), path.name)
 
+    def test_parts(self):
+        """Each part of four events has the heads of the whole picture in it, whoever sent earlier what arrives, or is sent what arrives later."""
+        for name in ("many_clients", "two_loggers"):
+            whole = picture(example(name)).heads()
+            for first in range(1, len(re.findall("^event ", example(name), re.M)), 3):
+                seen = picture(example(name), "--from", str(first), "--to", str(first + 3))
+                self.assertEqual(seen.heads(), [it for it in whole if first <= it[1] <= first + 3], (name, first))
+
     def test_inside(self):
         """Nothing begins outside of the picture."""
         for path in EXAMPLES:
@@ -305,6 +313,9 @@ class Made(unittest.TestCase):
         self.assertEqual([line for line in seen.printed("under") if "bytes" in line or "length" in line], [])
         (bar,) = [it for it in seen.of("rect", "up") if float(it.get("y")) < seen.bottom]
         self.assertEqual(float(bar.get("y")), seen.rows[5], "the server is down in event 4")
+        for first, last, wanted in (("4", "4", 0), ("1", "4", 1), ("2", "2", 1), ("2", "6", 2)):
+            seen = picture(MADE, "--from", first, "--to", last)
+            self.assertEqual(len([it for it in seen.of("rect", "up") if float(it.get("y")) < seen.bottom]), wanted, (first, last))
 
     def test_ticks(self):
         seen = picture(MADE)

@@ -31,6 +31,12 @@ def run(where, *words):
     return status, out.getvalue().splitlines(), err.getvalue().splitlines()
 
 
+def versioned(version, data):
+    """The message with another version: the sum of its words grows by the difference, and so its complement shrinks."""
+    check = int.from_bytes(data[6:8], "big") - (version - data[2]) * 256
+    return data[:2] + bytes([version]) + data[3:6] + struct.pack(">H", check % 0xFFFF) + data[8:]
+
+
 class Messages(unittest.TestCase):
     """The bytes of docs/FORMATS.md."""
 
@@ -73,10 +79,10 @@ class States(unittest.TestCase):
         log.answer(Message("Data", 7, {"key": first, "offset": 0, "acked": 0, "fin": 0, "bytes": b"hello world"}))
         log.answer(Message("Read", 7, {"key": first, "index": 0, "length": 5}))
         log.answer(Message("Data", 7, {"key": first, "offset": 11, "acked": 4, "fin": 0, "bytes": b""}))
-        log.answer(Message("Data", 7, {"key": second, "offset": 0, "acked": 0, "fin": 1, "bytes": b"x"}))
+        log.answer(Message("Data", 7, {"key": first, "offset": 11, "acked": 4, "fin": 1, "bytes": b"!"}))
         log.answer(Message("Done", 7, {"key": second}))
-        lines = ["boot 7: 2 of 64 places", "192.0.2.1:40000 bytes 11 fin 0 reads 1 acknowledged 4 done 0"]
-        self.assertEqual(self.ask(log), (0, [*lines, "198.51.100.255:65535 bytes 1 fin 1 reads 0 acknowledged 0 done 1"], []))
+        lines = ["boot 7: 2 of 64 places", "192.0.2.1:40000 bytes 12 fin 1 reads 1 acknowledged 4 done 0"]
+        self.assertEqual(self.ask(log), (0, [*lines, "198.51.100.255:65535 bytes 0 fin 0 reads 0 acknowledged 0 done 1"], []))
         self.assertEqual((log.boot, len(log.entries)), (7, 2))
 
     def test_empty(self):
@@ -133,6 +139,8 @@ class Answers(unittest.TestCase):
             "junk": b"junk",
             "another index": spell_message(Message("Entry", 1, {**entry, "index": 1})),
             "another boot number": spell_message(Message("Entry", 2, entry)),
+            "another version": versioned(2, spell_message(Message("Entry", 1, entry))),
+            "an Entry's fields in another kind": spelled(b"FT", 2, 1, fields),
             "another kind": spell_message(Message("Summary", 1, {"count": 0})),
             "a short entry": spelled(b"FT", 4, 1, fields[:-1]),
             "a long entry": spelled(b"FT", 4, 1, fields + b"\0"),
@@ -164,17 +172,15 @@ class Answers(unittest.TestCase):
             self.assertEqual(self.ask(from_elsewhere, "0.02")[0], 3)
 
     def test_restart(self):
-        """A server's restart between two answers: all is asked again, with the new boot number."""
-        log, count = log_of(4, clients(64)), [0]
-        right = logger(log)
+        """Another log, of a newer boot number, between two answers: all of it is asked for, and nothing of the old one is printed."""
+        logs, count = [log_of(4, clients(64)), log_of(9, [key("198.51.100.7", 1 + place) for place in range(64)])], [0]
 
         def restarted(data, asker):
             count[0] += 1
-            if count[0] == 10:
-                log.answer(Message("Hello", 9, {}))
-            return right(data, asker)
+            return logger(logs[count[0] > 9])(data, asker)
 
-        self.assertEqual(self.ask(restarted, "0.5"), (1, ["boot 9: 64 of 64 places", *FULL], []))
+        lines = [f"198.51.100.7:{1 + place} bytes 0 fin 0 reads 0 acknowledged 0 done 0" for place in range(64)]
+        self.assertEqual(self.ask(restarted, "0.5"), (1, ["boot 9: 64 of 64 places", *lines], []))
 
 
 class Words(unittest.TestCase):
