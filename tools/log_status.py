@@ -10,9 +10,9 @@
 `bytes`, `reads` and `fin` are what is logged of the client's stream, `acknowledged` what the client has acknowledged of the output, and `done` is 1 once the
 connection has ended. An ended connection keeps its place. --watch prints all of it every 60 seconds.
 
-It changes nothing: it sends only List, with the logger's present boot number (a smaller one is answered by Stale, which names the present one), and never Hello.
-Each index is asked for at most three times; the first that isn't answered counts as the end. A logger that no server has sent anything doesn't answer, and neither
-does one with boot number 1 and no connections.
+It changes nothing: it sends only List, with the logger's present boot number (a smaller one is answered by Stale, which names the present one), and never
+Hello. Each index is asked for at most three times; the first that isn't answered counts as the end. A logger that no server has sent anything doesn't answer,
+and neither does one with boot number 1 and no connections.
 
 Never ask a logger that runs with --part: it would treat these questions as its server's, and no longer answer the server.
 

@@ -1,5 +1,5 @@
 #!/usr/bin/env python3
-"""Tests of tools/report_pcap.py: its captures are read here by the formats of pcap, IPv4 and TCP, and not by what wrote them. Run it: tools/report_pcap_test.py"""
+"""Tests of tools/report_pcap.py: its captures are read here by the formats of pcap, IPv4 and TCP, not by what wrote them. Run it: tools/report_pcap_test.py"""
 import collections
 import contextlib
 import io
@@ -176,7 +176,8 @@ class Examples(unittest.TestCase):
 class Commands(unittest.TestCase):
     def test_streams(self):
         """Standard input and output, by `-`; a report without packets has the header alone."""
-        self.assertEqual(run("-", "-", text="ftreplay 1\nservice echo\nserver 192.0.2.100:7\nend 0\n").hex(), "d4c3b2a1020004000000000000000000ffff000065000000")
+        said = "ftreplay 1\nservice echo\nserver 192.0.2.100:7\nend 0\n"
+        self.assertEqual(run("-", "-", text=said).hex(), "d4c3b2a1020004000000000000000000ffff000065000000")
 
     def test_no_report(self):
         rows = {"": "line 1", "ftreplay 2\n": "line 1", "ftreplay 1\nwhat 1\n": "line 2", HEAD + "packet 1 1>X S\n": "line 6", HEAD + "event\n": "line 6"}

@@ -4,16 +4,19 @@
     tools/server_status.py --server 10.77.0.2:7 [--logger 10.77.0.3:7008 [--boot BOOT]] [--wait SECONDS]
 
 It sends the server an acknowledgement from a port that has no connection. A server that has restarted answers with a RST, as a listening TCP does (RFC 9293,
-3.10.7.2). A server that is restarting, or that has had no answer from its logger since it started, doesn't answer. No connection is opened, and no place of the log
-is used. It asks at most three times, each time from another port.
+3.10.7.2). A server that is restarting, or that has had no answer from its logger since it started, doesn't answer. No connection is opened, and no place of
+the log is used. It asks at most three times, each time from another port.
 
-That isn't enough for a client to open: the logger has to be up, with the log that the server began with, and with a free place. A server whose logger has died since,
-or was started again with a new log, answers all the same. So with --logger it asks the logger, too, as tools/log_status.py does, and prints `serves` only if both answer and
-a place is free. With --boot, the server's boot number, it also requires the logger to have that one: with a larger one the server is fenced. Without --logger it
-prints `answers`. **Never name a logger that runs with --part**: it would treat the questions as its server's.
+That isn't enough for a client to open: the logger has to be up, with the log that the server began with, and with a free place. A server whose logger has died
+since, or was started again with a new log, answers all the same. So with --logger it asks the logger, too, as tools/log_status.py does, and prints `serves`
+only if both answer and a place is free. With --boot, the server's boot number, it also requires the logger to have that one: if the logger's is larger, the
+server is fenced. Without --logger it prints `answers`.
+
+Never name a logger that runs with --part: it would treat the questions as its server's.
 
 Exit status, for a monitor: 0, it serves, or without --logger it answers; 1, it answers, but no further client can open: the log is full, or has another boot
-number; 2, wrong words; 3, the server or the logger doesn't answer. A new log doesn't answer, and neither does one of boot number 1 before its first connection.
+number; 2, wrong words; 3, the server or the logger doesn't answer. A new log doesn't answer, and neither does one of boot number 1 before its first
+connection.
 
 It is outside the proofs, and needs only Python's standard library.
 """

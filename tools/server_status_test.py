@@ -135,9 +135,10 @@ class Loggers(unittest.TestCase):
 
     def test_other_boot(self):
         """A server that is fenced, one of whose log another server began, and one with the log's number."""
-        for boot, wanted in ((4, 1), (6, 1), (5, 0)):
-            self.assertEqual(self.check(log_of(5, []), boot, "--boot", str(boot))[0], wanted, boot)
-        self.assertIn("boot number 5, and the server 4", self.check(log_of(5, []), 4, "--boot", "4")[1])
+        for boot, wanted, words in ((4, 1, "boot number 5, and the server 4"), (6, 1, "boot number 5, and the server 6"), (5, 0, "")):
+            status, err = self.check(log_of(5, []), boot, "--boot", str(boot))
+            self.assertEqual(status, wanted, boot)
+            self.assertIn(words, err)
 
     def test_no_logger(self):
         for answers in (silent, lambda _data, _asker: [b"junk"]):
