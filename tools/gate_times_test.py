@@ -167,6 +167,7 @@ class Tables(unittest.TestCase):
             (line,) = [line for line in file if line.startswith("tcp_endpoint:") or line.startswith("tcp_endpoint ")]
         self.assertTrue(set(below["tcp_endpoint"]) <= set(line.partition("#")[0].replace(":", " ").split()))
         self.assertIn("tcp_buffers", below["tcp_endpoint"])
+        self.assertLessEqual({name for names in below.values() for name in names}, set(below), "a crate of the kit has no times here")
 
     def test_log(self):
         lines = ["fn low::a::b: proved", "fn low::c: proved (kept)", "fn low::d: not proved", "rt: low proved", "fn top::e: proved"]

@@ -10,6 +10,7 @@ A limit has one home, the crate `limits`: its constants are what code uses. A pl
 else are in ELSEWHERE, each with what it means there. The status is 1 if code outside of the home spells a limit.
 """
 import os
+import pathlib
 import re
 import sys
 
@@ -103,8 +104,8 @@ def places(crate):
                 if not name.endswith(end):
                     continue
                 path = f'{top}/{name}'
-                for at, text in enumerate(open(path, encoding='utf-8'), 1):
-                    line = bare(text.rstrip('\n'), mark)
+                for at, text in enumerate(pathlib.Path(path).read_text(encoding='utf-8').splitlines(), 1):
+                    line = bare(text, mark)
                     if NO_LIMIT.search(line) and not re.search(r'24|1_?\d{3}|65_?535', line):
                         continue
                     for value, limit, pattern in PATTERNS:
