@@ -14,7 +14,7 @@ ghost use Rattle.wrapped_conn.proofs.Sendable.{FitsKey};
 ghost use Rattle.conn_marks.specs.Marks.{due_in, is_made, with_due, mark_with, IsTellableMark};
 
 use ft_io::{Key, NoMemory};
-use logger_wire::{MarkBody, MarkMsg};
+use logger_wire::{Mark, MarkBody, MarkMsg};
 use server_trait::{Saved, Service};
 use std::alloc::Global;
 use std::marker::Model;

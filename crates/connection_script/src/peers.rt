@@ -11,7 +11,7 @@ use seq_arith::Seq;
 use std::alloc::Global;
 use tcp_endpoint::StateName;
 use test_data::seal;
-use wrapped_conn::{Conn, Opened, TurnOut};
+use wrapped_conn::{Conn, TurnOut};
 
 pub(crate) const SERVER: Addr = Addr {
     ip: 0xC000_0264,
@@ -47,13 +47,7 @@ pub(crate) enum Answer {
 pub(crate) fn connection(alloc: Global, kind: u8) -> Result<Conn<AnyService>, NoMemory>
     ensures { IfOk result (λ c. IsSound c) }
 {
-    let opened = Opened {
-        key: CLIENT,
-        cisn: CISN,
-        sisn: SISN,
-        mss: 536,
-    };
-    Conn::first(alloc, 1, SERVER, opened, kind)
+    Conn::first(alloc, 1, CLIENT, SERVER, CISN, SISN, 536, kind)
 }
 
 /// The first turn of a connection, which sends its SYN-ACK.

@@ -21,7 +21,7 @@ pub(crate) const SERVER: Addr = Addr {
 };
 
 /// What both users write is part of this stream. The client's text begins at place 0, the server's at `SERVER_PLACE`.
-const STREAM: Pattern = Pattern::Numbers;
+const TEXT: Pattern = Pattern::Numbers;
 
 const SERVER_PLACE: u32 = 100;
 
@@ -102,14 +102,14 @@ impl Side {
         if name != StateName::SynSent && name != StateName::Listen {
             let mut buf = [0u8; 700];
             let count = self.scene.endpoint.read(&mut buf[..300]).min(300);
-            let is_next = STREAM.is_part(peer.place.wrapping_add(self.read), &buf[..count]);
+            let is_next = TEXT.is_part(peer.place.wrapping_add(self.read), &buf[..count]);
             self.is_true = self.is_true && is_next;
             self.read = self.read.wrapping_add(count as u32);
             let next = self.bytes.saturating_sub(self.written).min(700) as usize;
             if next == 0 {
                 self.scene.endpoint.close();
             }
-            STREAM.fill(self.place.wrapping_add(self.written), &mut buf);
+            TEXT.fill(self.place.wrapping_add(self.written), &mut buf);
             let count = self.scene.endpoint.write(&buf[..next]).min(next);
             self.written = self.written.wrapping_add(count as u32);
         }

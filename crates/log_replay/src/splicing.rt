@@ -13,7 +13,7 @@ ghost use Rattle.log_replay.specs.LoggedHead.{IsSegmentSize, has_end};
 
 use ft_io::{Addr, Key, NoMemory};
 use limits::STREAM;
-use logger_store::EntryHead;
+use logger_wire::EntryHead;
 use segment_codec::{Head, PacketRef};
 use seq_arith::{ACK, FIN, SYN, Seq};
 use std::alloc::Global;

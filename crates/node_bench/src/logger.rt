@@ -94,7 +94,7 @@ impl Logger {
             cisn: CLIENT_ISN.0,
             sisn: SERVER_ISN.0,
             mss: SEGMENT,
-        };
+        });
         self.say(alloc, &Msg { boot: BOOT, body })
     }
 

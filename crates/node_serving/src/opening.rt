@@ -27,7 +27,7 @@ use crate::turn::Turn;
 use ft_io::{Key, NoMemory};
 use indexmap::IndexMap;
 use limits::PENDING;
-use logger_wire::{Body, Msg};
+use logger_wire::{Body, Msg, Numbers};
 use segment_codec::{Head, PacketRef};
 use seq_arith::{ACK, RST, SYN, Seq, has, segment_size};
 use server_trait::Service;

@@ -23,7 +23,7 @@ use crate::place::{PlainPlace, is_for};
 use crate::refusal::as_listen;
 use ft_io::{Key, NoMemory};
 use limits::PENDING;
-use logger_wire::{Body, Msg};
+use logger_wire::{Body, Msg, Numbers};
 use plain_packets::{PlainPackets, has_ack, has_rst, has_syn};
 use segment_codec::{Head, PacketRef};
 use seq_arith::segment_size;

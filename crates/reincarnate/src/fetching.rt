@@ -11,7 +11,7 @@ ghost use Rattle.ft_model.specs.Restart.{Fetched};
 ghost use Rattle.server_trait.specs.Saved.{writing};
 ghost use Rattle.seq_arith.specs.Mark.MarkBody.{AskMsg, HeldMsg};
 ghost use Rattle.seq_arith.specs.MarkGrammar.{IsSpellable};
-ghost use Rattle.logger_wire.specs.MarkValue.{message_of as mark_message_of};
+ghost use Rattle.logger_wire.specs.MarkValue.{mark_said, message_of as mark_message_of};
 ghost use Rattle.mark_laws.specs.MarkedLog.AnyMessage.{About_mark};
 ghost use Rattle.mark_laws.specs.Restart.{FetchedSoFar, next_question};
 ghost use Rattle.reincarnate.specs.Marking.{any_of, IsAnySendable, awaits, marks_after, marked_on};

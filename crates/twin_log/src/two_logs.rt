@@ -15,7 +15,7 @@ use crate::twin_out::TwinOut;
 use crate::waiting::Waiting;
 use ft_io::NoMemory;
 use limits::WAITING;
-use logger_store::{LogStore, MsgOut, is_answer};
+use logger_store::{LogStore, MsgOut};
 use logger_wire::{Msg, TwinMsg, read_msg, read_twin};
 use std::alloc::Global;
 use std::marker::Model;

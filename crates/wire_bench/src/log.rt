@@ -220,7 +220,7 @@ fn opening() -> Msg<'static>
             cisn: 1_000,
             sisn: 5_000,
             mss: limits::SEGMENT,
-        },
+        }),
     }
 }
 

@@ -79,8 +79,36 @@ impl<S: Service> Model for Conn<S> {
 }
 
 impl<S: Service> Conn<S> {
-    /// A connection that this incarnation opens: a fresh TCP has received its client's SYN, and `start` sends TCP's SYN-ACK. `kind` is the service's kind.
+    /// A connection that this incarnation opens: a fresh TCP has received its client's SYN, and `start` sends TCP's SYN-ACK. `mss` is the segment size, 64 to
+    /// 1,460 bytes, and `kind` the service's kind. `open` takes what the log keeps as one record.
     pub fn first(
+        alloc: Global,
+        boot: u64,
+        key: Key,
+        local: Addr,
+        cisn: Seq,
+        sisn: Seq,
+        mss: u16,
+        kind: u8,
+    ) -> Result<Conn<S>, NoMemory>
+        requires boot { 1 ≤ boot }
+        requires least { 64 ≤ mss }
+        requires most { mss ≤ 1460 }
+        ensures state { IfOk result (λ c. c ≡ first_conn boot key local cisn.0 sisn.0 mss (S.started kind)) }
+        ensures sound { IfOk result (λ c. IsSound c) }
+    {
+        let opened = Opened {
+            key,
+            cisn,
+            sisn,
+            mss,
+        };
+        Conn::open(alloc, boot, local, opened, kind)
+    }
+
+    /// A connection that this incarnation opens, with the numbers that the log keeps: a fresh TCP has received its client's SYN, and `start` sends TCP's
+    /// SYN-ACK. `kind` is the service's kind.
+    pub fn open(
         alloc: Global,
         boot: u64,
         local: Addr,

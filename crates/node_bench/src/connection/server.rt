@@ -13,7 +13,7 @@ use sample_servers::Echo;
 use segment_codec::read_packet;
 use std::alloc::Global;
 use tcp_endpoint::Outbox;
-use wrapped_conn::{Conn, ConnStage, Opened, TurnOut};
+use wrapped_conn::{Conn, ConnStage, TurnOut};
 
 /// The kind of the echo service.
 const ECHO: u8 = 1;
