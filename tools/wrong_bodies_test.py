@@ -42,11 +42,11 @@ fn takes_too_much()
     ),
 }
 ROWS = """\
-| `low` | `forgets_the_fin` | the function `forgets_the_fin` | `fin` of "close" |
-| `low` | `loses_a_byte` | the edit itself |  |
-| `low` | `swaps_two` | the law `order_of_two` | `order` |
-| `low` | `takes_too_much` | the law `takes_too_much` | `bound` (not tried) |
-| `top` | `never_ends` | nothing |  |
+| `low` | `forgets_the_fin` | fin | the function `forgets_the_fin` | `fin` of "close" |
+| `low` | `loses_a_byte` | exact | the edit itself |  |
+| `low` | `swaps_two` | order | the law `order_of_two` | `order` |
+| `low` | `takes_too_much` | bound | the law `takes_too_much` | `bound` (not tried) |
+| `top` | `never_ends` | end | nothing |  |
 
 5 in all: 1 nothing, 1 the edit itself, 1 the function, 2 the law.
 """
@@ -88,7 +88,14 @@ class Tables(Repository):
     def test_table(self):
         status, out, err = self.run_tool("--table")
         self.assertEqual((status, err), (0, ""))
-        self.assertEqual(out.partition("|---|---|---|---|\n")[2], ROWS)
+        self.assertEqual(out.partition("|---|---|---|---|---|\n")[2], ROWS)
+
+    def test_check(self):
+        """The page that `--table` prints is up to date until a record changes."""
+        self.put("docs/EXCLUDED.md", self.run_tool("--table")[1])
+        self.assertEqual(self.run_tool("--check")[0], 0)
+        self.put("crates/top/wrong-bodies/never_ends.edit", "# start\n")
+        self.assertEqual(self.run_tool("--check")[0], 1)
 
     def test_list(self):
         self.assertEqual(self.run_tool("--list"), (0, "  1   3 low\n  0   1 top\n  1   4 in all\n", ""))
