@@ -6,8 +6,7 @@ use Rattle.ft_io.specs.declared.Addr.{Addr}
 use Rattle.seq_arith.specs.Arrival.{una_after}
 use Rattle.seq_arith.specs.Packet.{Segment, has_ack}
 use Rattle.server_trait.specs.Service.{Machine}
-use Rattle.seq_arith.specs.Profile.{plain}
-use Rattle.ft_model.proofs.Profiles.{live_keeps}
+use Rattle.endpoint_laws.specs.Laws.{KeepsTime}
 use Rattle.ft_model.specs.Offset.{first_of, ack_of}
 use Rattle.ft_model.specs.Point.{Point, most, target}
 use Rattle.ft_model.specs.News.{News}
@@ -56,7 +55,7 @@ by_ack u i delta segment true h p g f =
       wl2 = above_if u m (acknowledged_by p segment) p.wl2 from g.wl2;
     }
 by_ack u i delta segment false h p g f =
-    let m : Moves (Comes segment) p 0 i Begins = stays_inside 0 i p segment (unacknowledged p segment h) in
+    let m : Moves (Comes segment) p 0 i Begins = stays_inside 0 i p segment g.timing (unacknowledged p segment h) in
     let una : p.una ≡ acknowledged_after (Comes segment) p = minus_none p.una (acknowledged_after (Comes segment) p) m.una in
     let edge : p.edge ≡ edge_after (Comes segment) p = minus_none p.edge (edge_after (Comes segment) p) m.edge in
     let wl2 : p.wl2 ≡ wl2_after (Comes segment) p = minus_none p.wl2 (wl2_after (Comes segment) p) m.wl2 in
@@ -77,23 +76,23 @@ record Same (news : News) (p : Point) : Type 0 where
   early : early_after news p ≡ p.early
   edge : edge_after news p ≡ p.edge
 
-same : (i : ℕ) (news : News) (p : Point) → syn_acked_after news p ≡ false → Same news p
+same : (i : ℕ) (news : News) (p : Point) → KeepsTime p.timing → syn_acked_after news p ≡ false → Same news p
 unfolding syn_acked_after taken_after early_after fin_after edge_after
-same i (Comes segment) p h =
+same i (Comes segment) p keeps h =
     let k = or_parts p.syn_acked (counts p segment) h in
-    let m : Moves (Comes segment) p 0 i Begins = stays_inside 0 i p segment k.1 in
+    let m : Moves (Comes segment) p 0 i Begins = stays_inside 0 i p segment keeps k.1 in
     record { syn_acked = k.0; taken = sym m.taken; fin = sym m.fin; early = sym m.early; edge = sym (minus_none p.edge (edge_after (Comes segment) p) m.edge) }
-same i (Logged kept) p h = record { syn_acked = h; taken = refl; fin = refl; early = refl; edge = refl }
-same i Ticks p h = record { syn_acked = h; taken = refl; fin = refl; early = refl; edge = refl }
-same i Begins p h = record { syn_acked = h; taken = refl; fin = refl; early = refl; edge = refl }
+same i (Logged kept) p keeps h = record { syn_acked = h; taken = refl; fin = refl; early = refl; edge = refl }
+same i Ticks p keeps h = record { syn_acked = h; taken = refl; fin = refl; early = refl; edge = refl }
+same i Begins p keeps h = record { syn_acked = h; taken = refl; fin = refl; early = refl; edge = refl }
 
 pub none_sent : (t e : ℕ) → max 0 (min t (min 0 e)) + 0 ≡ 0
 none_sent t e = omega arith
 
 pub goes_on_again : {State : Type 0} (service : Machine State) (server : Addr) (boot u i delta : ℕ) (news : News) (p q : Point) (sent : List Packet)
-    → GoesOn u i delta p → NewsFit p news → LiveTurn service server boot news p q sent → q.sent ≤ 2 ^ 25 + 1 → GoesOn u i delta q
+    → GoesOn u i delta p → NewsFit p news → LiveTurn service server boot news p q sent → q.sent ≤ 2 ^ 25 + 1 → KeepsTime q.timing → GoesOn u i delta q
 unfolding sent_after sent_at_once
-goes_on_again service server boot u i delta news p q sent g f l few =
+goes_on_again service server boot u i delta news p q sent g f l few keeps =
     let s : Stays u news p = stays u i delta news p g f in
     record {
       shift = g.shift ∙ ap (λ n. (n + u) % 2 ^ 32) (sym l.same.sisn);
@@ -106,9 +105,9 @@ goes_on_again service server boot u i delta news p q sent g f l few =
       sent = few;
       edge = omega (arith, l.edge, s.edge);
       wl2 = omega (arith, l.wl2, s.wl2);
-      profile = live_keeps service plain server boot news p q sent g.profile l;
+      timing = keeps;
       syn_unacked = λ h.
-          let k : Same news p = same i news p (sym l.syn_acked ∙ h) in
+          let k : Same news p = same i news p g.timing (sym l.syn_acked ∙ h) in
           let o = g.syn_unacked k.syn_acked in
           let edge : q.edge ≡ 0 = l.edge ∙ k.edge ∙ o.2 in
           let probe : probes news p ≡ false = middle_false (expires news p) p.syn_acked (not (nat_lt p.una p.sent)) k.syn_acked in (

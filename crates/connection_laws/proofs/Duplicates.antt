@@ -4,7 +4,8 @@ use Rattle.std.proofs.Common.{◌≡◌, ℕ, ◌<◌, ◌≤◌, ◌+◌, ◌-�
 use Rattle.std.specs.Prelude.{ℤ, pos, ◌==◌, ◌&&◌, nat_abs, nat_lt, int_le, if◌then◌else◌}
 use Rattle.std.proofs.lemmas.Int.{ints}
 use Rattle.std.proofs.lemmas.Bool.{false≢true}
-use Rattle.seq_arith.specs.Congestion.{Congestion, with_new_data, with_duplicate}
+use Rattle.seq_arith.specs.Congestion.{Congestion, is_partial, with_new_data, with_duplicate}
+use Rattle.ft_io.proofs.Booleans.{and_when}
 use Rattle.connection_laws.proofs.Lowered.{Lowers, window_inside, window_usual, unsigned}
 
 -- what the laws ask of the numbers: it acknowledges what no segment did before, ..
@@ -143,3 +144,11 @@ congestion_inside u una sent most edge window mss c t f ack inner now a b e l =
     (λ i. if more_inside u una sent most c ack inner a b l i then with_new_data mss (min (nat_abs inner) (sent - u) - (una - u)) now
     else (if duplicates_inside u una sent most edge window c t f ack inner a b e l i then with_duplicate mss (flight_inside u una sent a i) now else now))
     ∙ by_units (acknowledges_more una sent c ack) _ _ mss now _ _ (units_inside u una sent most c ack inner a b l) refl
+
+-- it is partial on both sides or on neither
+pub partial_inside : (u una sent most : ℕ) (c : Bool) (ack inner : ℤ) (now : Congestion) → u ≤ una → una ≤ sent → Lowers u sent most ack inner
+    → (acknowledges_more (una - u) (sent - u) c inner && is_partial (min (nat_abs inner) (sent - u) - (una - u)) now)
+    ≡ (acknowledges_more una sent c ack && is_partial (min (nat_abs ack) sent - una) now)
+partial_inside u una sent most c ack inner now a b l =
+    ap (λ v. v && is_partial (min (nat_abs inner) (sent - u) - (una - u)) now) (more_inside u una sent most c ack inner a b l)
+    ∙ and_when (acknowledges_more una sent c ack) _ _ (λ m. ap (λ n. is_partial n now) (units_inside u una sent most c ack inner a b l m))

@@ -168,8 +168,8 @@ fed_written service u q given more m t f last w held una sent fin_sent =
 pub fed_flushed : {State : Type 0} (service : Machine State) (u : ℕ) (q : Point) (given : ℕ) (t : Tcb) → IsBounded t → Feeds service u q given t → Feeds service u q given (flushed t)
 fed_flushed service u q given t bounds f =
     let output : List ℕ = (answered_run service q).output in
-    let held = flush_keeps (λ (s : Sending). s.held) t (record { sends = λ s n. refl; ends = λ s. refl; times = λ s x y. refl }) in
-    let una = flush_keeps (λ (s : Sending). s.una) t (record { sends = λ s n. refl; ends = λ s. refl; times = λ s x y. refl }) in
+    let held = flush_keeps (λ (s : Sending). s.held) t (record { sends = λ s n. refl; ends = λ s. refl; times = λ s t x y. refl }) in
+    let una = flush_keeps (λ (s : Sending). s.una) t (record { sends = λ s n. refl; ends = λ s. refl; times = λ s t x y. refl }) in
     record {
       holds = held ∙ f.holds ∙ ap (λ n. drop (n + u) (take given output)) (sym una);
       until = ap (λ n. n + u) (end_flushed t bounds) ∙ f.until;
@@ -266,7 +266,7 @@ reading lengths q = record q { lengths = lengths }
 pub full_flushed : {State : Type 0} (service : Machine State) (q : Point) (given : ℕ) (w : Tcb) → (given ≡ released service q) ⊎ (length w.sending.held ≡ 65535)
     → (given ≡ released service q) ⊎ (length (flushed w).sending.held ≡ 65535)
 full_flushed service q given w h =
-    let held = flush_keeps (λ (s : Sending). s.held) w (record { sends = λ s n. refl; ends = λ s. refl; times = λ s x y. refl }) in
+    let held = flush_keeps (λ (s : Sending). s.held) w (record { sends = λ s n. refl; ends = λ s. refl; times = λ s t x y. refl }) in
     ⊎_elim (λ g. inl g) (λ full. inr (ap length held ∙ full)) h
 
 pub north_calls_feed : {S : Type 0} (service : Machine S) (u i given : ℕ) (lengths : List ℕ) (q : Point) (old new : NorthState S) (reads : List ReadRecord) (m t : Tcb)
@@ -327,7 +327,7 @@ north_calls_feed service u i given lengths q old new reads m t ready lengths_are
         is_used = used_inside service u i q (given + more) w fed (record { closed_is = closed_w ∙ shut_as; all_or_full = full }) read;
         feeds = fed_flushed service u q (given + more) w bounds fed;
         kept = flushed_reset w ∙ reset_w;
-        shut = flush_keeps (λ (s : Sending). s.closed) w (record { sends = λ s n. refl; ends = λ s. refl; times = λ s x y. refl }) ∙ closed_w;
+        shut = flush_keeps (λ (s : Sending). s.closed) w (record { sends = λ s n. refl; ends = λ s. refl; times = λ s t x y. refl }) ∙ closed_w;
         exact = shut_as;
         all_or_full = full_flushed service q (given + more) w full;
       },

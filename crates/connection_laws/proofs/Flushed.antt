@@ -6,7 +6,7 @@ use Rattle.seq_arith.specs.Offset.{one_if}
 use Rattle.tcp_endpoint.specs.States.{has_begun}
 use Rattle.tcp_endpoint.specs.SendHalf.{Sending, bytes_end, timed, send_edge, sendable, sends_fin, with_sent, with_fin_sent}
 use Rattle.tcp_endpoint.specs.Tcb.{Tcb}
-use Rattle.tcp_endpoint.specs.Output.{probes_text, probes_fin, with_probe, with_text_sent, with_fin_out, after_full, with_advertised, with_turn_ended, flushed}
+use Rattle.tcp_endpoint.specs.Output.{probes_text, probes_fin, with_probe, with_text_sent, with_fin_out, with_timed, after_full, with_advertised, with_turn_ended, flushed}
 use Rattle.endpoint_laws.specs.Laws.{IsBounded}
 use Rattle.endpoint_laws.proofs.TurnLaw.{after_steps}
 use Rattle.ft_io.proofs.Booleans.{left_true, right_true}
@@ -52,7 +52,7 @@ end_steps begun pt pf s unsent ends =
     (λ h. texted_end ∙ probed_end)
 
 end_timed : (runs : Bool) (s : Sending) → bytes_end (timed runs s) ≡ bytes_end s
-end_timed true s = same_if (s.rest == 0) (record s { interval = 1; rest = 1 }) s (bytes_end s) (λ h. refl) (λ h. refl)
+end_timed true s = same_if (s.rest == 0) (record s { interval = s.timing.base; rest = s.timing.base }) s (bytes_end s) (λ h. refl) (λ h. refl)
 end_timed false s = refl
 
 -- .. and the FIN as one where no byte waits to be sent
@@ -69,10 +69,10 @@ ends_of p b o f c una len sent order flight h =
     (unsent, all_sent f una len sent order flight unsent (right_true (p && b && o && not f) none probed))
 
 pub end_flushed : (u : Tcb) → IsBounded u → bytes_end (flushed u).sending ≡ bytes_end u.sending
-unfolding flushed with_turn_ended with_advertised after_full with_fin_out with_text_sent with_probe
+unfolding flushed with_turn_ended with_advertised after_full with_timed with_fin_out with_text_sent with_probe
 end_flushed u b =
     let s : Sending = u.sending in
-    end_timed _ (after_steps (has_begun u.name) (probes_text u) (probes_fin u) u.sending)
+    end_timed _ (after_full u).sending
     ∙ end_steps (has_begun u.name) (probes_text u) (probes_fin u) s
     (λ h. unsent_of u.probe (has_begun u.name) s.syn_acked s.fin_sent (nat_lt (s.sent - s.una) (length s.held)) h)
     (λ h. ends_of u.probe (has_begun u.name) s.syn_acked s.fin_sent s.closed s.una (length s.held) s.sent b.order b.flight h)

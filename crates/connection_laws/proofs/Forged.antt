@@ -1,24 +1,24 @@
 -- A forged segment at the next number, without text and with window 0, changes what it is to change, and nothing else.
 use Rattle.std.proofs.Common.{◌≡◌, ℕ, zero, suc, ◌<◌, ◌+◌, ◌-◌, ◌^◌, Bool, true, false, not, [], ◌++◌, length, take, drop, sum, min, max, refl, sym, ap, subst, arith, append-nil, ◌∙◌}
-use Rattle.std.specs.Prelude.{ℤ, pos, ◌+ℤ◌, ◌==◌, ◌&&◌, ◌||◌, nat_abs, nat_lt, int_lt, int_le, if◌then◌else◌}
+use Rattle.std.specs.Prelude.{ℤ, pos, ◌+ℤ◌, ◌==◌, ◌&&◌, ◌||◌, nat_abs, nat_lt, int_lt, int_le, nat_le, if◌then◌else◌}
 use Rattle.std.proofs.lemmas.Int.{ints}
 use Rattle.std.proofs.lemmas.Bool.{false≢true, and_right}
 use Rattle.seq_arith.specs.Arrival.{int_eq, is_acceptable, is_at_right_edge, is_allowed_at_zero, is_usable, is_beyond, una_after, updates_window}
 use Rattle.seq_arith.specs.Coming.{nothing_came, nothing_early, comes}
-use Rattle.seq_arith.specs.Congestion.{with_new_data, with_duplicate}
+use Rattle.seq_arith.specs.Congestion.{is_partial, is_third, with_new_data, with_duplicate}
 use Rattle.seq_arith.proofs.Coming.{in_order, ComesAlone, comes_alone}
 use Rattle.seq_arith.specs.Packet.{Segment, has_fin, has_syn, has_rst, has_ack}
 use Rattle.server_trait.specs.Service.{Machine, reference}
-use Rattle.seq_arith.specs.Timing.{initial_timing}
-use Rattle.ft_model.proofs.Profiles.{turn_stays}
+use Rattle.seq_arith.specs.Timing.{Timing, with_acknowledged, with_sample, without_trip, with_sent}
 use Rattle.ft_model.specs.Offset.{one_if, first_of, ack_of, text_of, fin_of, length_of}
 use Rattle.ft_model.specs.Point.{Point, taken_units, most, receive_edge, room, target}
 use Rattle.ft_model.specs.News.News.{Comes}
 use Rattle.ft_model.specs.Taken.{uses, acknowledges_unsent, counts, came, taken_after, early_after, fin_after}
-use Rattle.ft_model.specs.Sending.{syn_acked_after, acknowledged_after, edge_after, wl1_after, wl2_after, is_duplicate, congestion_after, flight, sent_at_once, sent_after, acknowledged_by, window_by}
-use Rattle.ft_model.specs.Timer.{must_run, interval_after, rest_after}
+use Rattle.ft_model.specs.Sending.{syn_acked_after, acknowledged_after, edge_after, wl1_after, wl2_after, is_duplicate, is_third_duplicate, is_partial_ack, resends, congestion_after, flight, sent_at_once, sent_after, timing_after, acknowledged_by, window_by}
+use Rattle.ft_model.specs.Timer.{timing_noted, must_run, interval_after, rest_after}
 use Rattle.endpoint_laws.specs.Refinement.{MeetsLaws}
 use Rattle.ft_io.proofs.Booleans.{or_true, and_true, middle_false}
+use Rattle.ft_io.proofs.Choices.{if_false}
 use Rattle.ft_io.proofs.Numbers.{plus_none}
 use Rattle.ft_model.proofs.StreamAgreement.{drop_nothing}
 use Rattle.endpoint_laws.proofs.FirstPoint.{none_more}
@@ -48,8 +48,8 @@ pub record IsFresh (p : Point) : Type 0 where
   pub lengths : p.lengths ≡ []
   pub fetched : p.fetched ≡ length p.taken
   pub wl1 : p.syn_acked ≡ true → p.wl1 ≡ pos (length p.taken)
-  pub timing : p.timing ≡ initial_timing false
-  pub timer : (p.syn_acked ≡ true → (p.rest ≡ 0) × (p.interval ≡ 1)) × (p.syn_acked ≡ false → p.rest ≡ 1)
+  pub timed : p.timing.timed ≡ false
+  pub rest : p.syn_acked ≡ true → p.rest ≡ 0
 
 take_none : (n : ℕ) → take {A = ℕ} n [] ≡ []
 take_none zero = refl
@@ -139,7 +139,7 @@ forged_came p segment fin f s few =
 
 -- the point after it
 abbrev pub after_forged : Bool → Point → Point
-after_forged fin p = record p { syn_acked = true; fin = fin; answered = length p.taken + one_if fin; wl1 = pos (length p.taken); interval = 1; rest = 0 }
+after_forged fin p = record p { syn_acked = true; fin = fin; answered = length p.taken + one_if fin; wl1 = pos (length p.taken); interval = p.timing.base; rest = 0 }
 
 wl1_by : (c : Bool) (first wl1 w : ℤ) (m v : Bool) → first ≡ w → (c ≡ true → wl1 ≡ w) → m ≡ true → (if m && (not c || v) then first else wl1) ≡ w
 wl1_by true first wl1 w m v a b h = either (m && (false || v)) first wl1 (a ∙ sym (b refl)) ∙ b refl
@@ -152,6 +152,23 @@ starts_by false rest una h = or_true (rest == 0) ∙ ap (λ b. (rest == 0) || b)
 
 at_once_none : (t cwnd : ℕ) → 0 ≡ max 0 (min t (min 0 (0 + cwnd))) + 0
 at_once_none t cwnd = omega arith
+
+none_at_once : (t cwnd : ℕ) → max 0 (min t (min 0 (0 + cwnd))) ≡ 0
+none_at_once t cwnd = omega arith
+
+-- nothing is timed, and nothing is sent: the estimate stays
+no_trip : (units : ℕ) (t : Timing) → t.timed ≡ false → with_acknowledged units t ≡ t
+unfolding with_acknowledged
+no_trip units t h = if_false t.timed (if nat_le t.ahead units then with_sample t else record t { ahead = t.ahead - units }) t h
+
+timing_stays : (p q : Point) (segment : Segment) → p.timing.timed ≡ false → resends (Comes segment) p ≡ false → nat_lt p.sent (sent_at_once silent p q) ≡ false
+    → timing_after silent (Comes segment) p q ≡ p.timing
+unfolding timing_after timing_noted
+timing_stays p q segment off again none =
+    let t : Timing = with_acknowledged (q.una - p.una) p.timing in
+    let noted : Timing = if resends (Comes segment) p then without_trip t else t in
+    if_false (nat_lt p.sent (sent_at_once silent p q)) (with_sent (p.sent + 1 - q.una) noted) noted none ∙ if_false (resends (Comes segment) p) (without_trip t) t again
+    ∙ no_trip (q.una - p.una) p.timing off
 
 pub run_is : (p : Point) → p.lengths ≡ [] → reference silent p.taken (take p.reads_answered p.lengths) ≡ record { state = 0; output = []; closed = false }
 unfolding reference
@@ -171,7 +188,7 @@ wl2_none false = refl
 
 pub forged_laws : (p : Point) (segment : Segment) (fin : Bool) → IsFresh p → IsForged p segment fin → (fin ≡ true → length p.taken < 2 ^ 24)
     → MeetsLaws silent (Comes segment) p (after_forged fin p)
-unfolding taken_after early_after fin_after syn_acked_after acknowledged_after edge_after wl1_after wl2_after is_duplicate congestion_after sent_after sent_at_once interval_after rest_after must_run
+unfolding taken_after early_after fin_after syn_acked_after acknowledged_after edge_after wl1_after wl2_after is_duplicate is_third_duplicate is_partial_ack congestion_after sent_after sent_at_once interval_after rest_after must_run
 forged_laws p segment fin f s few =
     let k : came p segment ≡ nothing_came nothing_early fin = forged_came p segment fin f s few in
     let c : counts p segment ≡ true = forged_counts p segment fin f s few in
@@ -179,13 +196,17 @@ forged_laws p segment fin f s few =
     let m : (counts p segment && int_le (pos 0) (ack_of p.sisn segment)) ≡ true = (λ j. c j && int_le (pos 0) (s.back j)) ∙ start in
     let w : Bool = updates_window p.una p.wl1 p.wl2 (first_of p.cisn segment) (acknowledged_by p segment) in
     let moves : Bool = (counts p segment && int_le (pos 0) (ack_of p.sisn segment)) && (not p.syn_acked || w) in
-    let anew : true ≡ (p.rest == 0 || (nat_lt p.una p.una || (true && not p.syn_acked))) = starts_by p.syn_acked p.rest p.una (λ h. (f.timer.0 h).0) in
+    let anew : true ≡ (p.rest == 0 || (nat_lt p.una p.una || (true && not p.syn_acked))) = starts_by p.syn_acked p.rest p.una f.rest in
     let used : Bool = counts p segment && int_le (pos 0) (ack_of p.sisn segment) in
     let fresh : (used && nat_lt p.una (acknowledged_by p segment)) ≡ false =
     and_right used (nat_lt p.una (acknowledged_by p segment)) (λ j. nat_lt (f.una j) (min (nat_abs (s.back j)) (f.sent j))) in
     let single : is_duplicate p segment ≡ false =
     middle_false (used && length (text_of segment) == 0 && not (fin_of segment) && acknowledged_by p segment == p.una) (nat_lt p.una p.sent)
     (acknowledged_by p segment + window_by p segment == p.edge) (λ j. nat_lt (f.una j) (f.sent j)) in
+    let again : resends (Comes segment) p ≡ false = λ j. (single j && is_third p.congestion) || (fresh j && is_partial (acknowledged_by p segment - p.una) p.congestion) in
+    let none : nat_lt p.sent (sent_at_once silent p (after_forged fin p)) ≡ false =
+    (λ j. nat_lt (f.sent j) (max (f.sent j) (min (target silent (after_forged fin p)) (min (f.edge j) (f.una j + p.congestion.cwnd)))))
+    ∙ ap (nat_lt 0) (none_at_once (target silent (after_forged fin p)) p.congestion.cwnd) in
     record {
       same = record { key = refl; cisn = refl; sisn = refl; mss = refl; fetched = refl; fetched_output = refl; delays = refl };
       taken = sym (ap (λ x. p.taken ++ x.added) k ∙ append-nil p.taken);
@@ -202,8 +223,8 @@ forged_laws p segment fin f s few =
           else (if single j then with_duplicate p.mss (flight p) p.congestion else p.congestion));
       sent = f.sent ∙ at_once_none (target silent (after_forged fin p)) p.congestion.cwnd
           ∙ sym (λ j. max (f.sent j) (min (target silent (after_forged fin p)) (min (f.edge j) (f.una j + p.congestion.cwnd))) + 0);
-      timing = f.timing ∙ sym (turn_stays silent (Comes segment) p (after_forged fin p) f.timing);
-      interval = λ j. if anew j then (sym f.timing j).base else p.interval;
+      timing = sym (timing_stays p (after_forged fin p) segment f.timed again none);
+      interval = λ j. if anew j then p.timing.base else p.interval;
       rest = sym (λ j. if nat_lt (f.una j) (max (f.sent j) (length (run_is p f.lengths j).output + (if (run_is p f.lengths j).closed then 1 else 0)))
           then (if (p.rest == 0 || (nat_lt p.una p.una || (true && not p.syn_acked))) || false then interval_after (Comes segment) p (after_forged fin p) else p.rest) else 0);
     }

@@ -74,7 +74,6 @@ pub record Sends {State : Type 0} (service : Machine State) (news inner : News) 
   pub sisn : q.sisn < 2 ^ 32
   pub expires : expires inner (inside u i p) ≡ expires news p
   pub again : resends inner (inside u i p) ≡ resends news p
-  pub delays : p.delays ≡ false
   pub sent : u ≤ p.sent
   pub una : u ≤ q.una
   pub edge : u ≤ q.edge

@@ -15,6 +15,7 @@ pub mod ResetNumber
 pub mod Quiet
 pub mod Reassembly
 pub mod Outliving
+pub mod Delaying
 pub mod SendBuffer
 pub mod FinTaken
 pub mod TcpEnd

@@ -6,10 +6,10 @@ use Rattle.ft_io.specs.declared.Addr.{Addr}
 use Rattle.seq_arith.specs.Message.{Numbers}
 use Rattle.seq_arith.specs.Packet.{Segment}
 use Rattle.server_trait.specs.Service.{Machine}
-use Rattle.seq_arith.specs.Profile.{plain}
+use Rattle.seq_arith.specs.Profile.{Profile}
 use Rattle.ft_model.specs.News.News.{Begins}
 use Rattle.ft_model.specs.Opening.{point_opened}
-use Rattle.ft_model.specs.PendingAck.{is_ack_pending}
+use Rattle.ft_model.specs.PendingAck.{is_delayed, is_ack_pending}
 use Rattle.ft_model.specs.Point.{Point, released, made}
 use Rattle.ft_model.specs.Segments.{segments_of, syn_ack, bare_segment, or_bare}
 use Rattle.ft_model.specs.Sending.{acknowledged_after}
@@ -19,13 +19,13 @@ use Rattle.ft_model.proofs.Settled.{settled}
 use Rattle.ft_model.proofs.TurnTells.{settled_reads}
 use Rattle.ft_model.proofs.Turns.{all_is_sent}
 use Rattle.tcp_endpoint.specs.Arrival.{received, begun}
-use Rattle.tcp_endpoint.specs.Output.{leaving}
+use Rattle.tcp_endpoint.specs.Output.{full_out, leaving}
 use Rattle.tcp_endpoint.specs.States.{has_begun, is_closed}
-use Rattle.tcp_endpoint.specs.Tcb.{Tcb, listening}
+use Rattle.tcp_endpoint.specs.Tcb.{Tcb, listening, listening_measuring}
 use Rattle.tcp_endpoint.specs.UserCalls.{write_room, is_ended}
 use Rattle.endpoint_laws.specs.Laws.{IsBounded}
 use Rattle.endpoint_laws.specs.Turn.{Call, used}
-use Rattle.endpoint_laws.proofs.Bounding.{bounded_at_listen, bounded_in_listen}
+use Rattle.endpoint_laws.proofs.Bounding.{bounded_at_listen_measuring, bounded_in_listen}
 use Rattle.endpoint_laws.proofs.Calls.{FinIsLast}
 use Rattle.endpoint_laws.proofs.EndingLaw.{flushed_name}
 use Rattle.endpoint_laws.proofs.Listening.{begun_by}
@@ -34,10 +34,11 @@ use Rattle.north_wrap.specs.NorthState.{NorthState, lengths_of, Turns as NorthTu
 use Rattle.north_wrap.specs.Refinement.{NorthStands, SocketStands, NorthTurn, given_more, given_text, off_socket}
 use Rattle.north_wrap.proofs.Logged.{answered_front}
 use Rattle.north_wrap.proofs.WholeTurn.{whole_turn}
-use Rattle.connection_laws.specs.Traffic.{passed, needs_ack_besides}
+use Rattle.connection_laws.specs.Traffic.{passed, tcp_out, needs_ack_besides}
 use Rattle.connection_laws.specs.FirstSyn.{MayOpen, BeginsInside, opened_syn, listens_with}
 use Rattle.connection_laws.specs.OutputFeed.{tcp_reader, tcp_writer, Feeds, north_calls}
 use Rattle.connection_laws.specs.Parts.{PartsTurn}
+use Rattle.connection_laws.proofs.Delaying.{waits_segment}
 use Rattle.connection_laws.proofs.FirstSyn.{begins_inside}
 use Rattle.connection_laws.proofs.Fed.{reading, north_calls_feed}
 use Rattle.connection_laws.proofs.Joining.{socket_laws, hears, socket_stands}
@@ -55,10 +56,10 @@ record IsFreshTcp (m : Tcb) : Type 0 where
   closed : m.sending.closed ≡ false
   kept : m.reset ≡ false
 
-fresh_tcp : (local : Addr) (numbers : Numbers) → IsFreshTcp (received (listens_with local numbers) (opened_syn local numbers))
-unfolding begun listening
-fresh_tcp local numbers =
-    subst IsFreshTcp (sym (begun_by (listens_with local numbers) (opened_syn local numbers) refl refl))
+fresh_tcp : (measures : Bool) (local : Addr) (numbers : Numbers) → IsFreshTcp (received (listens_with measures local numbers) (opened_syn local numbers))
+unfolding begun listening_measuring listening
+fresh_tcp measures local numbers =
+    subst IsFreshTcp (sym (begun_by (listens_with measures local numbers) (opened_syn local numbers) refl refl))
     (record { read = refl; unread = refl; fin = refl; held = refl; una = refl; fin_sent = refl; closed = refl; kept = refl })
 
 fed_none : {S : Type 0} (service : Machine S) (q : Point) (m : Tcb) → IsFreshTcp m → Feeds service 0 q 0 m
@@ -69,10 +70,10 @@ fed_none service q m f = record {
   queued = subst (λ (l : List ℕ). length l ≤ 65535) (sym f.held) (omega arith);
 }
 
-listens : (local : Addr) (numbers : Numbers) → IsBounded (received (listens_with local numbers) (opened_syn local numbers))
-unfolding listening
-listens local numbers =
-    bounded_in_listen (listens_with local numbers) (opened_syn local numbers) refl refl (bounded_at_listen local numbers.sisn (2 ^ 24) (omega arith))
+listens : (measures : Bool) (local : Addr) (numbers : Numbers) → IsBounded (received (listens_with measures local numbers) (opened_syn local numbers))
+unfolding listening_measuring listening
+listens measures local numbers =
+    bounded_in_listen (listens_with measures local numbers) (opened_syn local numbers) refl refl (bounded_at_listen_measuring measures local numbers.sisn (2 ^ 24) (omega arith))
 
 alone_or : (ack_pending : Bool) (bare x : Segment) (xs ys : List Segment) → xs ≡ ys → ys ≡ x ∷ [] → or_bare ack_pending bare (xs ++ []) ≡ ys
 alone_or ack_pending bare x xs ys a b = (λ j. or_bare ack_pending bare ((a ∙ b) j ++ [])) ∙ sym b
@@ -80,18 +81,18 @@ alone_or ack_pending bare x xs ys a b = (λ j. or_bare ack_pending bare ((a ∙ 
 at_none : (n : ℕ) → n ≡ 0 → max 0 0 ≡ n + 0
 at_none n h = omega (arith, h)
 
-pub starts_together : {S : Type 0} (service : Machine S) (boot : ℕ) (local : Addr) (numbers : Numbers) (old new : NorthState S) (reads : List ReadRecord) (t : Tcb) → MayOpen numbers
-    → NorthStands service (point_opened plain numbers) 0 old → old.shut ≡ false
-    → NorthTurns service.after tcp_reader tcp_writer 0 old (received (listens_with local numbers) (opened_syn local numbers)) reads new t → new.run.made ≤ 2 ^ 24
-    → PartsTurn service local boot 0 numbers.sisn 0 Begins (point_opened plain numbers) (lengths_of reads) new t
+pub starts_together : {S : Type 0} (service : Machine S) (profile : Profile) (boot : ℕ) (local : Addr) (numbers : Numbers) (old new : NorthState S) (reads : List ReadRecord) (t : Tcb) → MayOpen numbers
+    → NorthStands service (point_opened profile numbers) 0 old → old.shut ≡ false
+    → NorthTurns service.after tcp_reader tcp_writer 0 old (received (listens_with profile.measures local numbers) (opened_syn local numbers)) reads new t → new.run.made ≤ 2 ^ 24
+    → PartsTurn service local boot 0 numbers.sisn 0 Begins (point_opened profile numbers) (lengths_of reads) new t
 unfolding taken_after fin_after acknowledged_after
-starts_together service boot local numbers old new reads t o st open_still turns few =
+starts_together service profile boot local numbers old new reads t o st open_still turns few =
     let ks : List ℕ = lengths_of reads in
-    let p : Point = point_opened plain numbers in
+    let p : Point = point_opened profile numbers in
     let q : Point = settled service Begins p ks in
     let b : Point = reading [] q in
-    let m : Tcb = received (listens_with local numbers) (opened_syn local numbers) in
-    let f : IsFreshTcp m = fresh_tcp local numbers in
+    let m : Tcb = received (listens_with profile.measures local numbers) (opened_syn local numbers) in
+    let f : IsFreshTcp m = fresh_tcp profile.measures local numbers in
     let north : NorthStands service b 0 old = hears service Begins p b 0 old refl refl refl refl st in
     let socket : SocketStands b old m.receiving.unread m.receiving.fin (is_ended m) =
     socket_stands b old m (at_none m.receiving.read f.read) (ap (λ n. drop (n + 0) []) f.read ∙ sym f.unread) (sym f.fin) f.kept (f.closed ∙ sym open_still) in
@@ -102,7 +103,7 @@ starts_together service boot local numbers old new reads t o st open_still turns
     let last : FinIsLast m.sending = λ h. absurd (false≢true (sym f.fin_sent ∙ h)) in
     let by = north_calls_feed service 0 numbers.sisn 0 [] q old new reads m t (record {
       fed = fed_none service q m f;
-      bounds = listens local numbers;
+      bounds = listens profile.measures local numbers;
       last = last;
       kept = f.kept;
       shut = f.closed ∙ sym open_still;
@@ -110,8 +111,11 @@ starts_together service boot local numbers old new reads t o st open_still turns
       short = most;
     }) refl north turn in
     let calls : List Call = north_calls (given_text service b (write_room m) 0) turn.closes (off_socket (length old.rest) ks) in
+    let t1 : Tcb = used calls m in
+    let at_once : tcp_out Begins p q t1 ≡ leaving t1 =
+    λ j. if waits_segment (is_delayed Begins p q) Begins p q refl refl j then full_out t1 else leaving t1 in
     let l = goes service local boot Begins p ks turn.makes in
-    let begins : BeginsInside service local numbers q calls = begins_inside service boot local numbers q calls _ o by.1.may l in
+    let begins : BeginsInside service profile local numbers q calls = begins_inside service profile boot local numbers q calls _ o by.1.may l in
     subst (λ x. PartsTurn service local boot 0 numbers.sisn 0 Begins p ks new x) (sym by.0)
     (record {
       after = q;
@@ -133,6 +137,6 @@ starts_together service boot local numbers old new reads t o st open_still turns
         all_or_full = by.1.all_or_full;
       };
       segments = alone_or (needs_ack_besides service Begins p q || (is_closed (used calls m).name && is_ack_pending service Begins p q)) (bare_segment local q) (syn_ack local q)
-          (passed 0 q (leaving (used calls m))) (segments_of service local Begins p q) begins.segments begins.alone;
+          (passed 0 q (tcp_out Begins p q t1)) (segments_of service local Begins p q) (ap (passed 0 q) at_once ∙ begins.segments) begins.alone;
       closed = λ h. absurd (false≢true (sym (begun_open (used calls m).name (ap has_begun (sym (flushed_name (used calls m))) ∙ begins.stands.begun)) ∙ h));
     })

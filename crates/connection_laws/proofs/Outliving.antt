@@ -7,12 +7,10 @@ use Rattle.ft_io.proofs.Numbers.{plus_none}
 use Rattle.seq_arith.specs.Arrival.{una_after}
 use Rattle.seq_arith.specs.Coming.{nothing_came, comes, early_from, StandsBehind}
 use Rattle.seq_arith.specs.Congestion.{Congestion}
+use Rattle.seq_arith.specs.Timing.{Timing}
 use Rattle.seq_arith.proofs.Coming.{comes_ended}
 use Rattle.seq_arith.specs.Packet.{Segment, has_rst, has_ack}
 use Rattle.server_trait.specs.Service.{Machine, reference}
-use Rattle.seq_arith.specs.Profile.{plain}
-use Rattle.ft_model.proofs.PlainTurns.{plain_resends}
-use Rattle.ft_model.proofs.Profiles.{live_keeps}
 use Rattle.ft_model.specs.Growth.{IsPrefix}
 use Rattle.ft_model.specs.Offset.{one_if, first_of, ack_of, text_of, fin_of}
 use Rattle.ft_model.specs.Point.{Point, answered_run, released, target, receive_edge, HoldsBehind}
@@ -21,7 +19,7 @@ use Rattle.ft_model.specs.News.{News}
 use Rattle.ft_model.specs.News.News.{Comes, Logged, Ticks, Begins}
 use Rattle.ft_model.specs.Answered.{reads_answered_after}
 use Rattle.ft_model.specs.Taken.{counts, came, taken_after, early_after, fin_after}
-use Rattle.ft_model.specs.Sending.{syn_acked_after, acknowledges, acknowledged_after, is_third_duplicate, send_edge, sent_at_once, sent_after}
+use Rattle.ft_model.specs.Sending.{syn_acked_after, acknowledges, acknowledged_after, resends, send_edge, sent_at_once, sent_after}
 use Rattle.ft_model.specs.Timer.{is_tick, must_run, expires, rest_after, interval_after, is_set_anew}
 use Rattle.ft_model.specs.Segments.{opens_with}
 use Rattle.ft_model.specs.Opening.{is_syn}
@@ -39,7 +37,7 @@ use Rattle.endpoint_laws.specs.Laws.{IsBounded, Bounds}
 use Rattle.endpoint_laws.specs.Turn.{Call, arrived, used}
 use Rattle.endpoint_laws.specs.Unconnected.{sent_in_closed}
 use Rattle.tcp_endpoint.specs.States.{has_begun}
-use Rattle.tcp_endpoint.specs.Output.{flushed, with_turn_ended, with_advertised, after_full, with_fin_out, with_text_sent, with_probe, probes, probes_text, probes_fin}
+use Rattle.tcp_endpoint.specs.Output.{flushed, with_turn_ended, with_advertised, after_full, with_fin_out, with_text_sent, with_probe, probes, with_timed}
 use Rattle.endpoint_laws.proofs.TurnLaw.{after_steps, timed_sent}
 use Rattle.endpoint_laws.proofs.EndingLaw.{flushed_name}
 use Rattle.endpoint_laws.proofs.NoConnection.{closed_stays_law, closed_answers_law, same_closed}
@@ -54,7 +52,7 @@ use Rattle.endpoint_laws.specs.Refinement.{ReceivesAt}
 use Rattle.endpoint_laws.proofs.Calls.{FinIsLast, IsUsed, used_is, bounded_used, last_used}
 use Rattle.connection_laws.specs.ClosedTcp.{StandsClosed, ReadsOn, GoesOnClosed}
 use Rattle.connection_laws.proofs.SendBuffer.{KeepsOutput, kept_same, kept_ticked}
-use Rattle.connection_laws.proofs.Quiet.{no_third, quiet_sends}
+use Rattle.connection_laws.proofs.Quiet.{resends_still, quiet_sends}
 use Rattle.connection_laws.proofs.Forged.{either}
 use Rattle.connection_laws.proofs.Reassembly.{behind_at}
 
@@ -189,16 +187,18 @@ still_halves e m r s k = record {
   last = λ l. subst FinIsLast (sym s) l;
 }
 
-last_ticked : (s : Sending) (b : Bool) (c : Congestion) → FinIsLast s
-    → FinIsLast (if b then record s { congestion = c; interval = min 64 (2 * s.interval); rest = min 64 (2 * s.interval) } else record s { rest = s.rest - 1 })
-last_ticked s true c l = l
-last_ticked s false c l = l
+last_ticked : (s : Sending) (b : Bool) (c : Congestion) (t w : Timing) → FinIsLast s
+    → FinIsLast (if b then record s { congestion = c; timing = t; interval = min 64 (2 * s.interval); rest = min 64 (2 * s.interval) }
+    else record s { timing = w; rest = s.rest - 1 })
+last_ticked s true c t w l = l
+last_ticked s false c t w l = l
 
-part_ticked : {X : Type 0} (f : Sending → X) (s : Sending) (b : Bool) (c : Congestion)
-    → ((c : Congestion) (interval rest : ℕ) → f (record s { congestion = c; interval = interval; rest = rest }) ≡ f s)
-    → f (if b then record s { congestion = c; interval = min 64 (2 * s.interval); rest = min 64 (2 * s.interval) } else record s { rest = s.rest - 1 }) ≡ f s
-part_ticked f s true c h = h c (min 64 (2 * s.interval)) (min 64 (2 * s.interval))
-part_ticked f s false c h = h s.congestion s.interval (s.rest - 1)
+part_ticked : {X : Type 0} (f : Sending → X) (s : Sending) (b : Bool) (c : Congestion) (t w : Timing)
+    → ((c : Congestion) (t : Timing) (interval rest : ℕ) → f (record s { congestion = c; timing = t; interval = interval; rest = rest }) ≡ f s)
+    → f (if b then record s { congestion = c; timing = t; interval = min 64 (2 * s.interval); rest = min 64 (2 * s.interval) }
+    else record s { timing = w; rest = s.rest - 1 }) ≡ f s
+part_ticked f s true c t w h = h c t (min 64 (2 * s.interval)) (min 64 (2 * s.interval))
+part_ticked f s false c t w h = h s.congestion w s.interval (s.rest - 1)
 
 pub still : (news : News) (e : Tcb) → e.name ≡ Closed → IsStill e (arrived news e)
 unfolding after_tick timer_ticked waited with_reset_reply with_reset_reply_without_ack
@@ -208,13 +208,13 @@ still (Comes p) e closed =
 still (Logged kept) e closed = still_halves e e refl refl refl
 still Ticks e closed = record {
   receiving = refl;
-  iss = part_ticked (λ x. x.iss) e.sending (sending.expires e.sending) (sending.congestion_expired e.sending) (λ c a b. refl);
-  syn_acked = part_ticked (λ x. x.syn_acked) e.sending (sending.expires e.sending) (sending.congestion_expired e.sending) (λ c a b. refl);
-  una = part_ticked (λ x. x.una) e.sending (sending.expires e.sending) (sending.congestion_expired e.sending) (λ c a b. refl);
+  iss = part_ticked (λ x. x.iss) e.sending (sending.expires e.sending) (sending.congestion_expired e.sending) _ _ (λ c t a b. refl);
+  syn_acked = part_ticked (λ x. x.syn_acked) e.sending (sending.expires e.sending) (sending.congestion_expired e.sending) _ _ (λ c t a b. refl);
+  una = part_ticked (λ x. x.una) e.sending (sending.expires e.sending) (sending.congestion_expired e.sending) _ _ (λ c t a b. refl);
   keeps = kept_ticked e.sending;
   kept = refl;
   bounds = λ b. bounded_by_tick e b;
-  last = λ l. last_ticked e.sending (sending.expires e.sending) (sending.congestion_expired e.sending) l;
+  last = λ l. last_ticked e.sending (sending.expires e.sending) (sending.congestion_expired e.sending) _ _ l;
 }
 still Begins e closed = still_halves e e refl refl refl
 
@@ -224,11 +224,11 @@ off_second_of true b o f h = ap (λ x. x && o && f) h
 off_second_of false b o f h = refl
 
 pub closed_sent : (w : Tcb) → has_begun w.name ≡ false → (flushed w).sending.sent ≡ w.sending.sent
-unfolding flushed with_turn_ended with_advertised after_full with_fin_out with_text_sent with_probe
+unfolding flushed with_turn_ended with_advertised after_full with_timed with_fin_out with_text_sent with_probe
 closed_sent w off =
     let s : Sending = w.sending in
     let none : probes w ≡ false = off_second_of w.probe (has_begun w.name) s.syn_acked (not s.fin_sent) off in
-    timed_sent _ (after_steps (has_begun w.name) (probes_text w) (probes_fin w) s)
+    timed_sent _ (after_full w).sending
     ∙ (λ j. (after_steps (off j) (none j && nat_lt (s.sent - s.una) (length s.held)) (none j && not (nat_lt (s.sent - s.una) (length s.held)) && s.closed) s).sent)
     ∙ plus_none s.sent
 
@@ -270,7 +270,7 @@ outlives service server boot u i delta news p q calls e sent st l reads =
     let una_sent : q.una ≡ q.sent = una ∙ st.acknowledged ∙ sym sent_is in
     let sent_all : q.sent ≡ target service q = sent_is ∙ st.all_sent ∙ sym all in
     let past : released service q + 1 ≤ p.sent = grind (arith, out, over.1, st.acknowledged) in
-    let third : is_third_duplicate news p ≡ false = no_third news p (una_stays news p st.acknowledged ∙ st.acknowledged) in
+    let again : resends news p ≡ false = resends_still news p (una_stays news p st.acknowledged ∙ st.acknowledged) st.acknowledged in
     let inner : News = news_inside delta p news in
     let m : Tcb = arrived inner e in
     let w : Tcb = used calls m in
@@ -295,15 +295,15 @@ outlives service server boot u i delta news p q calls e sent st l reads =
         name = stays.0;
         kept = stays.3 ∙ st.kept;
         reset_reply = stays.1;
-        ended = flush_keeps (λ (x : Sending). x.closed) w (record { sends = λ x n. refl; ends = λ x. refl; times = λ x y z. refl }) ∙ a.sends.closed (s.keeps.closed ∙ st.ended);
+        ended = flush_keeps (λ (x : Sending). x.closed) w (record { sends = λ x n. refl; ends = λ x. refl; times = λ x t y z. refl }) ∙ a.sends.closed (s.keeps.closed ∙ st.ended);
         bounds = bounded_by_flush w bounds;
         fin_last = last_flushed w bounds last;
         receives = flushed_receives q w at;
         counts = record {
-          iss = flush_keeps (λ (x : Sending). x.iss) w (record { sends = λ x n. refl; ends = λ x. refl; times = λ x y z. refl }) ∙ a.sends.iss ∙ s.iss ∙ st.counts.iss;
-          syn_acked = flush_keeps (λ (x : Sending). x.syn_acked) w (record { sends = λ x n. refl; ends = λ x. refl; times = λ x y z. refl }) ∙ a.sends.syn_acked ∙ s.syn_acked ∙ st.counts.syn_acked;
+          iss = flush_keeps (λ (x : Sending). x.iss) w (record { sends = λ x n. refl; ends = λ x. refl; times = λ x t y z. refl }) ∙ a.sends.iss ∙ s.iss ∙ st.counts.iss;
+          syn_acked = flush_keeps (λ (x : Sending). x.syn_acked) w (record { sends = λ x n. refl; ends = λ x. refl; times = λ x t y z. refl }) ∙ a.sends.syn_acked ∙ s.syn_acked ∙ st.counts.syn_acked;
           una = ap (λ k. k - u) una ∙ st.counts.una
-              ∙ sym (flush_keeps (λ (x : Sending). x.una) w (record { sends = λ x n. refl; ends = λ x. refl; times = λ x y z. refl }) ∙ a.sends.una ∙ s.una);
+              ∙ sym (flush_keeps (λ (x : Sending). x.una) w (record { sends = λ x n. refl; ends = λ x. refl; times = λ x t y z. refl }) ∙ a.sends.una ∙ s.una);
           sent = ap (λ k. k - u) sent_is ∙ st.counts.sent ∙ sym (closed_sent w (ap has_begun (sym (flushed_name w) ∙ stays.0)) ∙ a.sends.sent ∙ s.keeps.sent);
           above = subst (λ k. u ≤ k) (sym una) st.counts.above;
           small = st.counts.small;
@@ -316,10 +316,9 @@ outlives service server boot u i delta news p q calls e sent st l reads =
         acknowledged = una_sent;
         all_sent = sent_all;
         still = l.rest ∙ rest_stops service news p q syn_acked una_sent sent_all;
-        profile = live_keeps service plain server boot news p q sent st.profile l;
       };
       silent = ap (passed delta q) (closed_answers_law inner calls e st.name st.reset_reply) ∙ refusals_stay delta q e.local inner;
       syn_acked = st.syn_acked;
       taken = λ j. length (taken j) + one_if ((fin ∙ sym over.0) j);
-      segments = quiet_sends service server news p q (record { opens = opens_not news p over.0 st.syn_acked; expires = still_p; again = plain_resends news p st.profile.recovers ∙ third; past = past });
+      segments = quiet_sends service server news p q (record { opens = opens_not news p over.0 st.syn_acked; expires = still_p; again = again; past = past });
     }

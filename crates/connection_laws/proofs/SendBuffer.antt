@@ -4,6 +4,7 @@ use Rattle.std.specs.Prelude.{ℤ, nat_abs, if◌then◌else◌}
 use Rattle.seq_arith.specs.Arrival.{is_new_ack}
 use Rattle.seq_arith.specs.Congestion.{Congestion}
 use Rattle.seq_arith.specs.Offset.{one_if}
+use Rattle.seq_arith.specs.Timing.{Timing}
 use Rattle.ft_model.specs.News.{News}
 use Rattle.ft_model.specs.News.News.{Comes, Logged, Ticks, Begins}
 use Rattle.tcp_endpoint.specs.States.{has_begun}
@@ -11,7 +12,7 @@ use Rattle.tcp_endpoint.specs.SendHalf.{Sending, acknowledged, with_syn_acked, b
 use Rattle.tcp_endpoint.specs.Tcb.{Tcb}
 use Rattle.tcp_endpoint.specs.Arrival.{ack_at}
 use Rattle.tcp_endpoint.specs.UserCalls.{after_tick, timer_ticked, waited}
-use Rattle.endpoint_laws.specs.Laws.{IsBounded, counts, congestion_by}
+use Rattle.endpoint_laws.specs.Laws.{IsBounded, counts, congestion_by, timing_by}
 use Rattle.endpoint_laws.specs.Turn.{IsUsualNews, arrived}
 use Rattle.endpoint_laws.proofs.SendingLaw.{later_by, used_by, sending_is}
 
@@ -31,9 +32,9 @@ let_go false n una held = none_dropped una held
 pub kept_same : (s : Sending) → KeepsOutput s s
 kept_same s = record { held = none_dropped s.una s.held; fin_sent = refl; closed = refl; sent = refl }
 
-kept_acked : (s : Sending) (seq : ℕ) (ack : ℤ) (window : ℕ) (c : Congestion) → KeepsOutput s (record (acknowledged s seq ack window) { congestion = c })
+kept_acked : (s : Sending) (seq : ℕ) (ack : ℤ) (window : ℕ) (c : Congestion) (t : Timing) → KeepsOutput s (record (acknowledged s seq ack window) { congestion = c; timing = t })
 unfolding acknowledged
-kept_acked s seq ack window c = record { held = let_go (is_new_ack s.una s.sent ack) (nat_abs ack) s.una s.held; fin_sent = refl; closed = refl; sent = refl }
+kept_acked s seq ack window c t = record { held = let_go (is_new_ack s.una s.sent ack) (nat_abs ack) s.una s.held; fin_sent = refl; closed = refl; sent = refl }
 
 kept_syn_acked : (s : Sending) (seq window : ℕ) → s.sent ≡ 0 → KeepsOutput s (with_syn_acked s seq window)
 kept_syn_acked s seq window none =
@@ -54,7 +55,8 @@ news_keep (Comes segment) e begun bounds usual =
     subst (λ (m : Sending). KeepsOutput e.sending m) (sym (sending_is e segment begun bounds usual))
     (kept_if e.sending (counts e segment) (used_by e segment) e.sending
     (λ h. kept_if e.sending e.sending.syn_acked (later_by e segment) (with_syn_acked e.sending segment.head.seq segment.head.window)
-    (λ o. kept_acked e.sending segment.head.seq (ack_at e segment) segment.head.window (congestion_by e segment))
+    (λ o. kept_acked e.sending segment.head.seq (ack_at e segment) segment.head.window (congestion_by e segment)
+    (timing_by e segment (acknowledged e.sending segment.head.seq (ack_at e segment) segment.head.window).una))
     (λ o. kept_syn_acked e.sending segment.head.seq segment.head.window (bounds.syn_unacked o)))
     (λ h. kept_same e.sending))
 news_keep (Logged kept) e begun bounds usual = kept_same e.sending

@@ -7,7 +7,6 @@ use Rattle.ft_io.specs.declared.Addr.{Addr}
 use Rattle.seq_arith.specs.Arrival.{int_eq}
 use Rattle.seq_arith.specs.Packet.{Segment, has_syn, has_rst, has_ack}
 use Rattle.server_trait.specs.Service.{Machine}
-use Rattle.ft_model.proofs.PlainTurns.{plain_resends, due_is_pending}
 use Rattle.ft_model.specs.Offset.{first_of, ack_of, length_of}
 use Rattle.ft_model.specs.Point.{Point, taken_units, most, advertised_edge, released}
 use Rattle.ft_model.specs.Point as point
@@ -16,10 +15,10 @@ use Rattle.ft_model.specs.News.News.{Comes, Logged, Ticks, Begins}
 use Rattle.ft_model.specs.Network.{Packet}
 use Rattle.ft_model.specs.Answered.{answered_after}
 use Rattle.ft_model.specs.Taken.{accepts, uses, acknowledges_unsent, counts, taken_after, fin_after}
-use Rattle.ft_model.specs.PendingAck.{is_refused, is_unsent_ack, needs_ack, asks}
+use Rattle.ft_model.specs.PendingAck.{is_refused, is_unsent_ack, needs_ack, asks, is_delayed}
 use Rattle.ft_model.specs.PendingAck as outer
 use Rattle.ft_model.specs.Reads.{MakesReads, next_length, may_read}
-use Rattle.ft_model.specs.Sending.{edge_after, is_third_duplicate, sent_at_once, syn_acked_after, resends}
+use Rattle.ft_model.specs.Sending.{edge_after, is_third_duplicate, is_partial_ack, sent_at_once, syn_acked_after, resends}
 use Rattle.ft_model.specs.Segments.{texts, new_length, fin_if_closed}
 use Rattle.ft_model.specs.Refusal.{rst_at_ack}
 use Rattle.ft_model.specs.Opening.{is_syn}
@@ -29,12 +28,12 @@ use Rattle.connection_laws.specs.Inside.{swallowing, inside, GoesOn}
 use Rattle.connection_laws.specs.Traffic.{news_inside, passed, asks_besides, needs_ack_besides, leaves}
 use Rattle.south_wrap.specs.Translation.{inward}
 use Rattle.south_wrap.specs.SouthPoint.{south_at}
-use Rattle.endpoint_laws.specs.Refinement.{MeetsLaws, news_needs_ack, is_ack_pending, refuses, refusals, segments_by_laws}
+use Rattle.endpoint_laws.specs.Refinement.{MeetsLaws, news_needs_ack, is_ack_pending, refuses, refusals, full_by_laws, segments_by_laws}
 use Rattle.connection_laws.specs.Turn.{Turns, SegmentFits}
 use Rattle.connection_laws.proofs.Lowered.{Lowers, LowersAt, lowers, same_sign, unsent_inside}
 use Rattle.connection_laws.proofs.Meets.{Moves, moves_inside_all, stays_inside, laws_inside, minus_none}
 use Rattle.connection_laws.proofs.Leaving.{Sends, full, passed_is, or_besides}
-use Rattle.ft_io.proofs.Booleans.{left_false, middle_false, second_of_three}
+use Rattle.ft_io.proofs.Booleans.{and_false, left_false, middle_false, second_of_three}
 use Rattle.ft_io.proofs.Choices.{if_none}
 use Rattle.ft_io.proofs.Numbers.{equal_itself, not_less_itself}
 use Rattle.ft_model.proofs.Running.{none_made}
@@ -96,21 +95,54 @@ needs_ack_is u i delta p segment g f =
     else (if refused_is u i delta p segment g f j then false else nat_lt 0 (length_of segment) || unsent j)))
     else not (has_rst segment)
 
+-- what TCP sends by the laws, where its ACK may wait
+abbrev pub out_by_laws : {State : Type 0} → Machine State → Addr → (u i : ℕ) → (news inner : News) → (before after : Point) → List Segment
+out_by_laws service server u i news inner before after =
+    if is_delayed news before after then full_by_laws (swallowing u service) server inner (inside u i before) (inside u i after)
+    else segments_by_laws (swallowing u service) server inner (inside u i before) (inside u i after)
+
+quiet_or : (bare : Segment) (xs : List Segment) → or_bare false bare xs ≡ xs
+quiet_or bare [] = refl
+quiet_or bare (x ∷ xs) = refl
+
+delayed_or : (d o : Bool) (bare : Segment) (xs : List Segment) → (if d then xs else or_bare o bare xs) ≡ or_bare (not d && o) bare xs
+delayed_or true o bare xs = sym (quiet_or bare xs)
+delayed_or false o bare xs = refl
+
+-- where the ACK waits, none is pending besides
+delayed_ack : (d o b due : Bool) → (d ≡ true → b ≡ false) → (o || b) ≡ due → ((not d && o) || b) ≡ (not d && due)
+delayed_ack true o b due none is = none refl
+delayed_ack false o b due none is = is
+
+out_is : {State : Type 0} (service : Machine State) (server : Addr) (u i : ℕ) (news inner : News) (p q : Point)
+    → out_by_laws service server u i news inner p q
+    ≡ or_bare (not (is_delayed news p q) && is_ack_pending inner (inside u i p) (inside u i q)) (bare_segment server (inside u i q))
+    (full_by_laws (swallowing u service) server inner (inside u i p) (inside u i q))
+out_is service server u i news inner p q =
+    delayed_or (is_delayed news p q) (is_ack_pending inner (inside u i p) (inside u i q)) (bare_segment server (inside u i q))
+    (full_by_laws (swallowing u service) server inner (inside u i p) (inside u i q))
+
+-- where TCP's ACK waits, the connection adds none
+abbrev pub AddsNone : {State : Type 0} → Machine State → News → (before after : Point) → Type 0
+AddsNone service news before after = is_delayed news before after ≡ true → needs_ack_besides service news before after ≡ false
+
 usually : {State : Type 0} (service : Machine State) (server : Addr) (news inner : News) (p q : Point) (u i delta : ℕ) → u ≤ q.sent
     → Sends service news inner p q u i delta → refusals server inner (inside u i p) ≡ [] → opens_with news p ≡ false
-    → (news_needs_ack inner (inside u i p) || asks_besides service news p) ≡ asks service news p
-    → leaves service server news p q (passed delta q (segments_by_laws (swallowing u service) server inner (inside u i p) (inside u i q)))
-    ≡ segments_of service server news p q
-unfolding segments_of full_segments outer.is_ack_due
-usually service server news inner p q u i delta above s none opens asked =
+    → (news_needs_ack inner (inside u i p) || asks_besides service news p) ≡ asks service news p → AddsNone service news p q
+    → leaves service server news p q (passed delta q (out_by_laws service server u i news inner p q)) ≡ segments_of service server news p q
+unfolding segments_of full_segments outer.is_ack_due outer.is_ack_pending
+usually service server news inner p q u i delta above s none opens asked alone =
     let bare : Segment = bare_segment server q in
     let b : Bool = needs_ack_besides service news p q in
-    let o : Bool = is_ack_pending inner (inside u i p) (inside u i q) in
-    let ack_pending : (o || b) ≡ outer.is_ack_pending service news p q =
+    let d : Bool = is_delayed news p q in
+    let now : Bool = is_ack_pending inner (inside u i p) (inside u i q) in
+    let o : Bool = not d && now in
+    let due : (now || b) ≡ outer.is_ack_due service news p q =
     or_five (news_needs_ack inner (inside u i p)) (not (taken_units p == taken_units q)) (not (advertised_edge p == advertised_edge q)) (asks_besides service news p) (nat_lt p.answered q.answered)
-    ∙ ap (λ a. a || nat_lt p.answered q.answered || not (taken_units p == taken_units q) || not (advertised_edge p == advertised_edge q)) asked
-    ∙ sym (due_is_pending service news p q s.delays) in
-    (λ j. or_bare b bare ((if opens j then syn_ack server q ∷ [] else [])
+    ∙ ap (λ a. a || nat_lt p.answered q.answered || not (taken_units p == taken_units q) || not (advertised_edge p == advertised_edge q)) asked in
+    let ack_pending : (o || b) ≡ outer.is_ack_pending service news p q = delayed_ack d now b (outer.is_ack_due service news p q) alone due in
+    ap (λ xs. leaves service server news p q (passed delta q xs)) (out_is service server u i news inner p q)
+    ∙ (λ j. or_bare b bare ((if opens j then syn_ack server q ∷ [] else [])
     ++ passed delta q (or_bare o (bare_segment server (inside u i q)) (none j ++ full (swallowing u service) server inner (inside u i p) (inside u i q)))))
     ∙ ap (or_bare b bare) (passed_is service server news inner p q u i delta o above s)
     ∙ or_besides o b bare (full service server news p q)
@@ -148,10 +180,6 @@ nothing_new p q a b c d =
     (λ j. not (taken_units p == length (a j) + (if b j then 1 else 0)) || not (advertised_edge p == min (max (c j) (sum (d j)) + 65535) (2 ^ 24) + (if b j then 1 else 0)))
     ∙ (λ j. not (equal_itself (taken_units p) j) || not (equal_itself (advertised_edge p) j))
 
-quiet_or : (bare : Segment) (xs : List Segment) → or_bare false bare xs ≡ xs
-quiet_or bare [] = refl
-quiet_or bare (x ∷ xs) = refl
-
 pub units_none : (n : ℕ) (b : Bool) → (n + (if b then 1 else 0) == 0) ≡ true → (n ≡ 0) × (b ≡ false)
 units_none n true h = absurd (grind (arith, h))
 units_none n false h = (grind (arith, h), refl)
@@ -163,15 +191,16 @@ syn_at p segment = is_syn segment && segment.head.seq == p.cisn
 pub repeated : {State : Type 0} (service : Machine State) (server : Addr) (boot : ℕ) (segment : Segment) (p q : Point) (sent : List Packet) (u i delta : ℕ) → u ≤ q.sent
     → Sends service (Comes segment) Begins p q u i delta → p.fetched ≤ length p.taken → repeats_syn p segment ≡ true → LiveTurn service server boot (Comes segment) p q sent
     → MeetsLaws (swallowing u service) Begins (inside u i p) (inside u i q)
-    → leaves service server (Comes segment) p q (passed delta q (segments_by_laws (swallowing u service) server Begins (inside u i p) (inside u i q)))
-    ≡ segments_of service server (Comes segment) p q
+    → leaves service server (Comes segment) p q (passed delta q (out_by_laws service server u i (Comes segment) Begins p q)) ≡ segments_of service server (Comes segment) p q
 unfolding segments_of full_segments taken_after fin_after
 repeated service server boot segment p q sent u i delta above s few opens l laws =
     let units = units_none (length p.taken) p.fin (second_of_three (syn_at p segment) (taken_units p == 0) (p.una == 0) opens) in
     let lens : q.lengths ≡ p.lengths =
     same_lengths service p q l.reads (ap length laws.taken ∙ units.0) (l.same.fetched ∙ omega (arith, few, units.0)) (laws.fin ∙ units.1) in
-    let quiet : is_ack_pending Begins (inside u i p) (inside u i q) ≡ false = nothing_new p q laws.taken laws.fin l.same.fetched lens in
-    (λ j. or_bare (needs_ack_besides service (Comes segment) p q) (bare_segment server q) ((if opens j then syn_ack server q ∷ [] else [])
+    let quiet : (not (is_delayed (Comes segment) p q) && is_ack_pending Begins (inside u i p) (inside u i q)) ≡ false =
+    ap (λ o. not (is_delayed (Comes segment) p q) && o) (nothing_new p q laws.taken laws.fin l.same.fetched lens) ∙ and_false (not (is_delayed (Comes segment) p q)) in
+    ap (λ xs. leaves service server (Comes segment) p q (passed delta q xs)) (out_is service server u i (Comes segment) Begins p q)
+    ∙ (λ j. or_bare (needs_ack_besides service (Comes segment) p q) (bare_segment server q) ((if opens j then syn_ack server q ∷ [] else [])
     ++ passed delta q (or_bare (quiet j) (bare_segment server (inside u i q)) (full (swallowing u service) server Begins (inside u i p) (inside u i q)))))
     ∙ ap (λ xs. syn_ack server q ∷ xs) (passed_is service server (Comes segment) Begins p q u i delta false above s ∙ quiet_or (bare_segment server q) (full service server (Comes segment) p q))
     ∙ (λ j. or_bare (outer.is_ack_pending service (Comes segment) p q) (bare_segment server q) ((if sym opens j then syn_ack server q ∷ [] else []) ++ full service server (Comes segment) p q))
@@ -212,11 +241,11 @@ record IsRefused (p q : Point) (segment : Segment) : Type 0 where
   new : (not (taken_units p == taken_units q) || not (advertised_edge p == advertised_edge q)) ≡ false
   sent : p.sent ≡ 0
   edge : q.edge ≡ 0
-  third : is_third_duplicate (Comes segment) p ≡ false
+  again : resends (Comes segment) p ≡ false
 
 refused_turn : {State : Type 0} (service : Machine State) (server : Addr) (boot : ℕ) (segment : Segment) (p q : Point) (sent : List Packet) (u i delta : ℕ)
     → GoesOn u i delta p → refuses p segment ≡ true → LiveTurn service server boot (Comes segment) p q sent → IsRefused p q segment
-unfolding needs_ack counts answered_after taken_after fin_after edge_after is_third_duplicate
+unfolding needs_ack counts answered_after taken_after fin_after edge_after is_third_duplicate is_partial_ack
 refused_turn service server boot segment p q sent u i delta g r l =
     let f = four_of (accepts p segment) (has_rst segment) (has_syn segment) (is_refused p segment) r in
     let k = three_of p.syn_acked (has_ack segment) (int_lt (ack_of p.sisn segment) (pos 0) || acknowledges_unsent p segment) f.3 in
@@ -224,7 +253,7 @@ refused_turn service server boot segment p q sent u i delta g r l =
     let none : counts p segment ≡ false =
     off_refused (has_ack segment && not (has_syn segment) && not (has_rst segment) && uses p segment) p.syn_acked (int_le (pos 0) (ack_of p.sisn segment))
     (acknowledges_unsent p segment) k.0 (ap (λ b. b || acknowledges_unsent p segment) (sym (less_is (ack_of p.sisn segment))) ∙ k.1) in
-    let m : Moves (Comes segment) p 0 i Begins = stays_inside 0 i p segment none in
+    let m : Moves (Comes segment) p 0 i Begins = stays_inside 0 i p segment g.timing none in
     let taken : q.taken ≡ p.taken = l.taken ∙ sym m.taken in
     let fin : q.fin ≡ p.fin = l.fin ∙ sym m.fin in
     let lens : q.lengths ≡ p.lengths =
@@ -239,14 +268,14 @@ refused_turn service server boot segment p q sent u i delta g r l =
       new = nothing_new p q taken fin l.same.fetched lens;
       sent = o.1;
       edge = l.edge ∙ minus_none (edge_after (Comes segment) p) p.edge (sym m.edge) ∙ o.2;
-      third = sym m.third;
+      again = sym m.again;
     }
 
 refused : {State : Type 0} (service : Machine State) (server : Addr) (boot : ℕ) (segment inner : Segment) (p q : Point) (sent : List Packet) (u i delta : ℕ)
     → GoesOn u i delta p → refuses p segment ≡ true → refuses (inside u i p) inner ≡ true → LiveTurn service server boot (Comes segment) p q sent
-    → leaves service server (Comes segment) p q (passed delta q (segments_by_laws (swallowing u service) server (Comes inner) (inside u i p) (inside u i q)))
+    → leaves service server (Comes segment) p q (passed delta q (out_by_laws service server u i (Comes segment) (Comes inner) p q))
     ≡ segments_of service server (Comes segment) p q
-unfolding segments_of full_segments outer.is_ack_due resent new_texts new_fin sent_at_once
+unfolding segments_of full_segments outer.is_ack_due outer.is_ack_pending resent new_texts new_fin sent_at_once
 refused service server boot segment inner p q sent u i delta g r s l =
     let t : IsRefused p q segment = refused_turn service server boot segment p q sent u i delta g r l in
     let once : sent_at_once service p q ≡ 0 = (λ j. max (t.sent j) (min (point.target service q) (min (t.edge j) (q.una + q.congestion.cwnd))))
@@ -254,16 +283,17 @@ refused service server boot segment inner p q sent u i delta g r s l =
     let long : new_length service p q ≡ 0 = (λ j. min (once j) (released service q) - t.sent j) ∙ nothing_long (released service q) in
     let rose : nat_lt p.answered q.answered ≡ false = ap (nat_lt p.answered) t.answered ∙ not_less_itself p.answered in
     let besides : needs_ack_besides service (Comes segment) p q ≡ false = λ j. (t.fin j && nat_lt (released service p) p.una && not (has_rst segment)) || rose j in
-    let again : resends (Comes segment) p ≡ false = plain_resends (Comes segment) p g.profile.recovers ∙ t.third in
+    let again : resends (Comes segment) p ≡ false = t.again in
     let rest : full service server (Comes segment) p q ≡ [] =
     (λ j. (if again j then (if is_unacknowledged p q then first_unacknowledged service server p q else probe service server p q) else [])
     ++ (texts service server q (long j) p.sent (long j) ++ (if nat_lt (released service q) (once j) && nat_le p.sent (released service q) then fin_if_closed service server q else [])))
     ∙ (λ j. if never (released service q) j && nat_le p.sent (released service q) then fin_if_closed service server q else []) in
     let ack_pending : outer.is_ack_pending service (Comes segment) p q ≡ false =
-    due_is_pending service (Comes segment) p q g.profile.delays
-    ∙ (λ j. ((t.ack_pending j || (t.fin j && nat_lt (released service p) p.una && not (has_rst segment))) || rose j || not (taken_units p == taken_units q)) || not (advertised_edge p == advertised_edge q)) ∙ t.new in
-    (λ j. or_bare (besides j) (bare_segment server q) ((if t.opens j then syn_ack server q ∷ [] else [])
-    ++ passed delta q (or_bare (is_ack_pending (Comes inner) (inside u i p) (inside u i q)) (bare_segment server (inside u i q))
+    ap (λ o. not (is_delayed (Comes segment) p q) && o)
+    ((λ j. ((t.ack_pending j || (t.fin j && nat_lt (released service p) p.una && not (has_rst segment))) || rose j || not (taken_units p == taken_units q)) || not (advertised_edge p == advertised_edge q)) ∙ t.new) ∙ and_false (not (is_delayed (Comes segment) p q)) in
+    ap (λ xs. leaves service server (Comes segment) p q (passed delta q xs)) (out_is service server u i (Comes segment) (Comes inner) p q)
+    ∙ (λ j. or_bare (besides j) (bare_segment server q) ((if t.opens j then syn_ack server q ∷ [] else [])
+    ++ passed delta q (or_bare (not (is_delayed (Comes segment) p q) && is_ack_pending (Comes inner) (inside u i p) (inside u i q)) (bare_segment server (inside u i q))
     ((if s j then rst_at_ack server inner ∷ [] else []) ++ full (swallowing u service) server (Comes inner) (inside u i p) (inside u i q)))))
     ∙ (λ j. or_bare (sym ack_pending j) (bare_segment server q) ((if sym t.opens j then syn_ack server q ∷ [] else []) ++ sym rest j))
 
@@ -281,9 +311,7 @@ sends service server boot news p q sent u i delta t before after = record {
   shift = after.shift;
   sisn = after.sisn;
   expires = (moves_inside_all u i delta p news before t.fits).expires;
-  again = plain_resends (news_inside delta p news) (inside u i p) before.profile.recovers ∙ (moves_inside_all u i delta p news before t.fits).third
-      ∙ sym (plain_resends news p before.profile.recovers);
-  delays = before.profile.delays;
+  again = (moves_inside_all u i delta p news before t.fits).again;
   sent = omega (arith, before.una, before.order);
   una = after.una;
   edge = after.edge;
@@ -293,45 +321,45 @@ sends service server boot news p q sent u i delta t before after = record {
 
 comes : {State : Type 0} (service : Machine State) (server : Addr) (boot : ℕ) (segment : Segment) (p q : Point) (sent : List Packet) (u i delta : ℕ) (b : Bool)
     → Turns service server boot (Comes segment) p q sent u i delta → GoesOn u i delta p → GoesOn u i delta q → refuses p segment ≡ b → repeats_syn p segment ≡ false
-    → Sends service (Comes segment) (Comes (inward (south_at delta p) segment)) p q u i delta
-    → leaves service server (Comes segment) p q (passed delta q (segments_by_laws (swallowing u service) server (Comes (inward (south_at delta p) segment)) (inside u i p) (inside u i q)))
+    → Sends service (Comes segment) (Comes (inward (south_at delta p) segment)) p q u i delta → AddsNone service (Comes segment) p q
+    → leaves service server (Comes segment) p q (passed delta q (out_by_laws service server u i (Comes segment) (Comes (inward (south_at delta p) segment)) p q))
     ≡ segments_of service server (Comes segment) p q
 unfolding accepts
-comes service server boot segment p q sent u i delta true t before after r opens s =
+comes service server boot segment p q sent u i delta true t before after r opens s alone =
     let inner : Segment = inward (south_at delta p) segment in
     let same : refuses (inside u i p) inner ≡ refuses p segment =
     ap (λ v. accepts p segment && not (has_rst segment) && not (has_syn segment) && v) (refused_is u i delta p segment before t.fits) in
     refused service server boot segment inner p q sent u i delta before r (same ∙ r) t.goes
-comes service server boot segment p q sent u i delta false t before after r opens s =
+comes service server boot segment p q sent u i delta false t before after r opens s alone =
     let inner : Segment = inward (south_at delta p) segment in
     let same : refuses (inside u i p) inner ≡ refuses p segment =
     ap (λ v. accepts p segment && not (has_rst segment) && not (has_syn segment) && v) (refused_is u i delta p segment before t.fits) in
     let none : refusals server (Comes inner) (inside u i p) ≡ [] = none_if (refuses (inside u i p) inner) (rst_at_ack server inner) (same ∙ r) in
     let asked : (news_needs_ack (Comes inner) (inside u i p) || asks_besides service (Comes segment) p) ≡ asks service (Comes segment) p =
     ap (λ v. v || asks_besides service (Comes segment) p) (needs_ack_is u i delta p segment before t.fits) in
-    usually service server (Comes segment) (Comes inner) p q u i delta (omega (arith, after.una, after.order)) s none opens asked
+    usually service server (Comes segment) (Comes inner) p q u i delta (omega (arith, after.una, after.order)) s none opens asked alone
 
 by_syn : {State : Type 0} (service : Machine State) (server : Addr) (boot : ℕ) (segment : Segment) (p q : Point) (sent : List Packet) (u i delta : ℕ) (b : Bool)
     → repeats_syn p segment ≡ b → Turns service server boot (Comes segment) p q sent u i delta → GoesOn u i delta p → GoesOn u i delta q
     → Sends service (Comes segment) (if b then Begins else Comes (inward (south_at delta p) segment)) p q u i delta
     → MeetsLaws (swallowing u service) (if b then Begins else Comes (inward (south_at delta p) segment)) (inside u i p) (inside u i q)
-    → leaves service server (Comes segment) p q (passed delta q (segments_by_laws (swallowing u service) server (if b then Begins else Comes (inward (south_at delta p) segment)) (inside u i p) (inside u i q)))
+    → AddsNone service (Comes segment) p q
+    → leaves service server (Comes segment) p q (passed delta q (out_by_laws service server u i (Comes segment) (if b then Begins else Comes (inward (south_at delta p) segment)) p q))
     ≡ segments_of service server (Comes segment) p q
-by_syn service server boot segment p q sent u i delta true opens t before after s laws =
+by_syn service server boot segment p q sent u i delta true opens t before after s laws alone =
     repeated service server boot segment p q sent u i delta (omega (arith, after.una, after.order)) s t.few opens t.goes laws
-by_syn service server boot segment p q sent u i delta false opens t before after s laws =
-    comes service server boot segment p q sent u i delta (refuses p segment) t before after refl opens s
+by_syn service server boot segment p q sent u i delta false opens t before after s laws alone =
+    comes service server boot segment p q sent u i delta (refuses p segment) t before after refl opens s alone
 
 pub sent_is : {State : Type 0} (service : Machine State) (server : Addr) (boot : ℕ) (news : News) (p q : Point) (sent : List Packet) (u i delta : ℕ)
-    → Turns service server boot news p q sent u i delta → GoesOn u i delta p → GoesOn u i delta q
-    → leaves service server news p q (passed delta q (segments_by_laws (swallowing u service) server (news_inside delta p news) (inside u i p) (inside u i q)))
-    ≡ segments_of service server news p q
-sent_is service server boot (Comes segment) p q sent u i delta t before after =
+    → Turns service server boot news p q sent u i delta → GoesOn u i delta p → GoesOn u i delta q → AddsNone service news p q
+    → leaves service server news p q (passed delta q (out_by_laws service server u i news (news_inside delta p news) p q)) ≡ segments_of service server news p q
+sent_is service server boot (Comes segment) p q sent u i delta t before after alone =
     by_syn service server boot segment p q sent u i delta (repeats_syn p segment) refl t before after (sends service server boot (Comes segment) p q sent u i delta t before after)
-    (laws_inside service server boot u i delta (Comes segment) p q sent before t.fits after.una t.given t.goes)
-sent_is service server boot (Logged kept) p q sent u i delta t before after =
-    usually service server (Logged kept) (Logged kept) p q u i delta (omega (arith, after.una, after.order)) (sends service server boot (Logged kept) p q sent u i delta t before after) refl refl refl
-sent_is service server boot Ticks p q sent u i delta t before after =
-    usually service server Ticks Ticks p q u i delta (omega (arith, after.una, after.order)) (sends service server boot Ticks p q sent u i delta t before after) refl refl refl
-sent_is service server boot Begins p q sent u i delta t before after =
-    usually service server Begins Begins p q u i delta (omega (arith, after.una, after.order)) (sends service server boot Begins p q sent u i delta t before after) refl (ap not t.later) refl
+    (laws_inside service server boot u i delta (Comes segment) p q sent before t.fits after.una t.given t.goes) alone
+sent_is service server boot (Logged kept) p q sent u i delta t before after alone =
+    usually service server (Logged kept) (Logged kept) p q u i delta (omega (arith, after.una, after.order)) (sends service server boot (Logged kept) p q sent u i delta t before after) refl refl refl alone
+sent_is service server boot Ticks p q sent u i delta t before after alone =
+    usually service server Ticks Ticks p q u i delta (omega (arith, after.una, after.order)) (sends service server boot Ticks p q sent u i delta t before after) refl refl refl alone
+sent_is service server boot Begins p q sent u i delta t before after alone =
+    usually service server Begins Begins p q u i delta (omega (arith, after.una, after.order)) (sends service server boot Begins p q sent u i delta t before after) refl (ap not t.later) refl alone

@@ -12,7 +12,7 @@ use Rattle.tcp_endpoint.specs.ReceiveHalf.{next}
 use Rattle.seq_arith.specs.Packet.{Segment}
 use Rattle.seq_arith.proofs.Shifts.{offset_of_number}
 use Rattle.server_trait.specs.Service.{Machine}
-use Rattle.seq_arith.specs.Profile.{plain}
+use Rattle.seq_arith.specs.Profile.{Profile}
 use Rattle.ft_model.specs.Offset.{one_if, first_of, ack_of}
 use Rattle.ft_model.specs.Log.{Entry}
 use Rattle.ft_model.specs.Point.{Point, answered_run}
@@ -20,7 +20,7 @@ use Rattle.ft_model.specs.News.News.{Comes}
 use Rattle.ft_model.specs.Restart.{point_of, resumed_at}
 use Rattle.tcp_endpoint.specs.States.{has_begun}
 use Rattle.tcp_endpoint.specs.SendHalf.{Sending}
-use Rattle.tcp_endpoint.specs.Tcb.{Tcb, listening}
+use Rattle.tcp_endpoint.specs.Tcb.{Tcb, listening, listening_measuring}
 use Rattle.tcp_endpoint.specs.Arrival.{received, begun}
 use Rattle.endpoint_laws.specs.Laws.{IsUsual, IsSentBy}
 use Rattle.endpoint_laws.specs.Turn.{IsBetweenTurns, turned}
@@ -31,8 +31,9 @@ use Rattle.endpoint_laws.proofs.Arrivals.{Arrived, arrives}
 use Rattle.endpoint_laws.proofs.EndingLaw.{named_law, ending_law, begun_named_law, flushed_name}
 use Rattle.endpoint_laws.proofs.TurnEnd.{flush_keeps}
 use Rattle.endpoint_laws.proofs.Turns.{leads_law}
-use Rattle.endpoint_laws.proofs.Listening.{listens_at_listen, begun_by}
+use Rattle.endpoint_laws.proofs.Listening.{listens_at_listen_measuring, begun_by}
 use Rattle.endpoint_laws.proofs.FirstPoint.{begins_law}
+use Rattle.endpoint_laws.proofs.Timings.{initial_keeps}
 use Rattle.connection_laws.specs.Inside.{inside}
 use Rattle.std.proofs.lemmas.List.{take_all}
 use Rattle.server_trait.specs.Service.{reference}
@@ -46,7 +47,7 @@ use Rattle.connection_laws.specs.OutputFeed.{Feeds}
 use Rattle.connection_laws.specs.Parts.{PartsStand}
 use Rattle.connection_laws.specs.Splice.{delta_from}
 use Rattle.connection_laws.proofs.TcpEnd.{flushed_reset}
-use Rattle.connection_laws.specs.Splice.{GoesOnFrom, StandsAtEntry, forged_syn, forged_ack, forged_fin, connected, spliced}
+use Rattle.connection_laws.specs.Splice.{GoesOnFrom, StandsAtEntry, forged_syn, forged_ack, forged_fin, connected_measuring, spliced_measuring}
 use Rattle.connection_laws.proofs.Forged.{silent, IsForged, IsFresh, after_forged, forged_laws, run_is}
 use Rattle.ft_io.proofs.Choices.{by_cases}
 use Rattle.ft_io.proofs.Booleans.{false_by}
@@ -119,24 +120,24 @@ forged_turn p e segment fin t f s few seq =
       named = named_law (Comes segment) [] e t.begun t.between t.named;
       stands = led.stands;
       idle = record {
-        held = flush_keeps (λ (q : Sending). q.held) u (record { sends = λ x n. refl; ends = λ x. refl; times = λ x j r. refl }) ∙ held;
-        closed = flush_keeps (λ (q : Sending). q.closed) u (record { sends = λ x n. refl; ends = λ x. refl; times = λ x j r. refl }) ∙ closed;
+        held = flush_keeps (λ (q : Sending). q.held) u (record { sends = λ x n. refl; ends = λ x. refl; times = λ x t j r. refl }) ∙ held;
+        closed = flush_keeps (λ (q : Sending). q.closed) u (record { sends = λ x n. refl; ends = λ x. refl; times = λ x t j r. refl }) ∙ closed;
       };
       kept = flushed_reset u ∙ reset_law (Comes segment) [] e t.begun ∙ (λ j. t.kept j || (s.rst j && int_eq (first_of e.receiving.irs segment) (pos (next e.receiving))));
     }
 
-abbrev begun_at : Key → Addr → Entry → ℕ → Point
-begun_at key local e i = point_begun e.bytes (numbers_with e.cisn i (forged_syn key local e.cisn (length e.bytes) e.mss))
+abbrev begun_at : (measures : Bool) → Key → Addr → Entry → ℕ → Point
+begun_at measures key local e i = point_begun measures e.bytes (numbers_with e.cisn i (forged_syn key local e.cisn (length e.bytes) e.mss))
 
-syn_turn : {State : Type 0} (service : Machine State) (local : Addr) (e : Entry) (i : ℕ) → GoesOnFrom service e i
-    → Stood (begun_at e.key local e i) (turned (Comes (forged_syn e.key local e.cisn (length e.bytes) e.mss)) [] (listening local i (2 ^ 24 - length e.bytes)))
-unfolding listening begun
-syn_turn service local e i g =
+syn_turn : {State : Type 0} (service : Machine State) (measures : Bool) (local : Addr) (e : Entry) (i : ℕ) → GoesOnFrom service e i
+    → Stood (begun_at measures e.key local e i) (turned (Comes (forged_syn e.key local e.cisn (length e.bytes) e.mss)) [] (listening_measuring measures local i (2 ^ 24 - length e.bytes)))
+unfolding listening_measuring listening begun
+syn_turn service measures local e i g =
     let syn : Segment = forged_syn e.key local e.cisn (length e.bytes) e.mss in
     let limit : ℕ = 2 ^ 24 - length e.bytes in
-    let l : Tcb = listening local i limit in
-    let listens = listens_at_listen local i limit in
-    let b : BeginsAt (begun_at e.key local e i) l syn [] = begins_law l i limit e.cisn e.bytes syn [] listens (omega (arith, g.short)) refl refl tt in
+    let l : Tcb = listening_measuring measures local i limit in
+    let listens = listens_at_listen_measuring measures local i limit in
+    let b : BeginsAt (begun_at measures e.key local e i) l syn [] = begins_law l i limit e.cisn e.bytes syn [] listens (omega (arith, g.short)) refl refl tt in
     let m : received l syn ≡ begun l syn = begun_by l syn refl refl in
     record {
       begun = b.begun;
@@ -144,14 +145,14 @@ syn_turn service local e i g =
       named = begun_named_law l i limit syn [] listens refl;
       stands = b.stands;
       idle = record {
-        held = flush_keeps (λ (q : Sending). q.held) (received l syn) (record { sends = λ x n. refl; ends = λ x. refl; times = λ x j r. refl }) ∙ ap (λ (t : Tcb). t.sending.held) m;
-        closed = flush_keeps (λ (q : Sending). q.closed) (received l syn) (record { sends = λ x n. refl; ends = λ x. refl; times = λ x j r. refl }) ∙ ap (λ (t : Tcb). t.sending.closed) m;
+        held = flush_keeps (λ (q : Sending). q.held) (received l syn) (record { sends = λ x n. refl; ends = λ x. refl; times = λ x t j r. refl }) ∙ ap (λ (t : Tcb). t.sending.held) m;
+        closed = flush_keeps (λ (q : Sending). q.closed) (received l syn) (record { sends = λ x n. refl; ends = λ x. refl; times = λ x t j r. refl }) ∙ ap (λ (t : Tcb). t.sending.closed) m;
       };
       kept = flushed_reset (received l syn) ∙ ap (λ (t : Tcb). t.reset) m;
     }
 
-begun_fresh : (local : Addr) (e : Entry) (i : ℕ) → IsFresh (begun_at e.key local e i)
-begun_fresh local e i = record {
+begun_fresh : (measures : Bool) (local : Addr) (e : Entry) (i : ℕ) → IsFresh (begun_at measures e.key local e i)
+begun_fresh measures local e i = record {
   fin = refl;
   early = refl;
   una = refl;
@@ -161,12 +162,12 @@ begun_fresh local e i = record {
   lengths = refl;
   fetched = refl;
   wl1 = λ h. absurd (false≢true h);
-  timing = refl;
-  timer = ((λ h. absurd (false≢true h)), (λ h. refl));
+  timed = refl;
+  rest = λ h. absurd (false≢true h);
 }
 
-acked_fresh : (local : Addr) (e : Entry) (i : ℕ) → IsFresh (after_forged false (begun_at e.key local e i))
-acked_fresh local e i = record {
+acked_fresh : (measures : Bool) (local : Addr) (e : Entry) (i : ℕ) → IsFresh (after_forged false (begun_at measures e.key local e i))
+acked_fresh measures local e i = record {
   fin = refl;
   early = refl;
   una = refl;
@@ -176,12 +177,12 @@ acked_fresh local e i = record {
   lengths = refl;
   fetched = refl;
   wl1 = λ h. refl;
-  timing = refl;
-  timer = ((λ h. (refl, refl)), (λ h. absurd (false≢true (sym h))));
+  timed = refl;
+  rest = λ h. refl;
 }
 
-ack_is_forged : {State : Type 0} (service : Machine State) (local : Addr) (e : Entry) (i : ℕ) → GoesOnFrom service e i → IsForged (begun_at e.key local e i) (forged_ack e.key local e.cisn (length e.bytes) i) false
-ack_is_forged service local e i g = record {
+ack_is_forged : {State : Type 0} (service : Machine State) (measures : Bool) (local : Addr) (e : Entry) (i : ℕ) → GoesOnFrom service e i → IsForged (begun_at measures e.key local e i) (forged_ack e.key local e.cisn (length e.bytes) i) false
+ack_is_forged service measures local e i g = record {
   ack = refl;
   syn = refl;
   rst = refl;
@@ -192,9 +193,9 @@ ack_is_forged service local e i g = record {
   back = offset_of_number i 0 (omega arith);
 }
 
-fin_is_forged : {State : Type 0} (service : Machine State) (local : Addr) (e : Entry) (i : ℕ) → GoesOnFrom service e i
-    → IsForged (after_forged false (begun_at e.key local e i)) (forged_fin e.key local e.cisn (length e.bytes) i) true
-fin_is_forged service local e i g = record {
+fin_is_forged : {State : Type 0} (service : Machine State) (measures : Bool) (local : Addr) (e : Entry) (i : ℕ) → GoesOnFrom service e i
+    → IsForged (after_forged false (begun_at measures e.key local e i)) (forged_fin e.key local e.cisn (length e.bytes) i) true
+fin_is_forged service measures local e i g = record {
   ack = refl;
   syn = refl;
   rst = refl;
@@ -208,18 +209,18 @@ fin_is_forged service local e i g = record {
 number_fits : (n k : ℕ) → number_at n k < 2 ^ 32
 number_fits n k = omega arith
 
-ack_turn : {State : Type 0} (service : Machine State) (local : Addr) (e : Entry) (i : ℕ) → GoesOnFrom service e i → Stood (after_forged false (begun_at e.key local e i)) (connected e.key local e.cisn (length e.bytes) e.mss i)
-unfolding connected
-ack_turn service local e i g =
-    forged_turn (begun_at e.key local e i) _ (forged_ack e.key local e.cisn (length e.bytes) i) false (syn_turn service local e i g) (begun_fresh local e i) (ack_is_forged service local e i g)
+ack_turn : {State : Type 0} (service : Machine State) (measures : Bool) (local : Addr) (e : Entry) (i : ℕ) → GoesOnFrom service e i → Stood (after_forged false (begun_at measures e.key local e i)) (connected_measuring measures e.key local e.cisn (length e.bytes) e.mss i)
+unfolding connected_measuring
+ack_turn service measures local e i g =
+    forged_turn (begun_at measures e.key local e i) _ (forged_ack e.key local e.cisn (length e.bytes) i) false (syn_turn service measures local e i g) (begun_fresh measures local e i) (ack_is_forged service measures local e i g)
     (λ h. absurd (false≢true h)) (number_fits e.cisn (length e.bytes))
 
-whole : {State : Type 0} (service : Machine State) (local : Addr) (e : Entry) (i : ℕ) (fin : Bool) → GoesOnFrom service e i → (fin ≡ true → length e.bytes < 2 ^ 24)
-    → Stood (record (after_forged fin (begun_at e.key local e i)) { fin = fin; answered = length e.bytes + one_if fin }) (spliced e.key local e.cisn (length e.bytes) e.mss i fin)
-whole service local e i true g few =
-    forged_turn (after_forged false (begun_at e.key local e i)) (connected e.key local e.cisn (length e.bytes) e.mss i) (forged_fin e.key local e.cisn (length e.bytes) i) true
-    (ack_turn service local e i g) (acked_fresh local e i) (fin_is_forged service local e i g) few (number_fits e.cisn (length e.bytes))
-whole service local e i false g few = ack_turn service local e i g
+whole : {State : Type 0} (service : Machine State) (measures : Bool) (local : Addr) (e : Entry) (i : ℕ) (fin : Bool) → GoesOnFrom service e i → (fin ≡ true → length e.bytes < 2 ^ 24)
+    → Stood (record (after_forged fin (begun_at measures e.key local e i)) { fin = fin; answered = length e.bytes + one_if fin }) (spliced_measuring measures e.key local e.cisn (length e.bytes) e.mss i fin)
+whole service measures local e i true g few =
+    forged_turn (after_forged false (begun_at measures e.key local e i)) (connected_measuring measures e.key local e.cisn (length e.bytes) e.mss i) (forged_fin e.key local e.cisn (length e.bytes) i) true
+    (ack_turn service measures local e i g) (acked_fresh measures local e i) (fin_is_forged service measures local e i g) few (number_fits e.cisn (length e.bytes))
+whole service measures local e i false g few = ack_turn service measures local e i g
 
 pub size_stays : (mss : ℕ) → 64 ≤ mss → mss ≤ 1460 → mss ≡ max 64 (min 1460 mss)
 size_stays mss a b = omega (arith, a, b)
@@ -230,10 +231,10 @@ less_self u = omega arith
 cut_read : (f s r : ℕ) → s ≤ f → max f 0 ≡ r + f → max f s ≡ r + f
 cut_read f s r a b = omega (arith, a, b)
 
-at_entry : {State : Type 0} (service : Machine State) (local : Addr) (e : Entry) (i : ℕ) (t : Tcb) → GoesOnFrom service e i
-    → StandsAt (record (after_forged e.fin (begun_at e.key local e i)) { fin = e.fin; answered = length e.bytes + one_if e.fin }) t
-    → StandsAt (inside (resumed_at service e) i (point_of service plain e)) t
-at_entry service local e i t g st =
+at_entry : {State : Type 0} (service : Machine State) (profile : Profile) (local : Addr) (e : Entry) (i : ℕ) (t : Tcb) → GoesOnFrom service e i
+    → StandsAt (record (after_forged e.fin (begun_at profile.measures e.key local e i)) { fin = e.fin; answered = length e.bytes + one_if e.fin }) t
+    → StandsAt (inside (resumed_at service e) i (point_of service profile e)) t
+at_entry service profile local e i t g st =
     let u : ℕ = resumed_at service e in
     record {
       ip = st.ip;
@@ -255,7 +256,7 @@ at_entry service local e i t g st =
         edge = less_self u ∙ st.sends.edge;
         wl1 = st.sends.wl1;
         wl2 = less_self u ∙ st.sends.wl2;
-        congestion = ap (initial_congestion false) (size_stays e.mss g.least g.most) ∙ st.sends.congestion;
+        congestion = ap (initial_congestion profile.measures) (size_stays e.mss g.least g.most) ∙ st.sends.congestion;
       };
       sent = less_self u ∙ st.sent;
       fetched_output = refl;
@@ -275,11 +276,11 @@ end_none : (f c : Bool) (una sent len u : ℕ) → (f ≡ true → c ≡ true) �
 end_none true c una sent len u last off a b = absurd (false≢true (sym off ∙ last refl))
 end_none false c una sent len u last off a b = omega (arith, a, b)
 
-fed_nothing : {State : Type 0} (service : Machine State) (local : Addr) (e : Entry) (i : ℕ) (t : Tcb) → IsBetweenTurns t → IsIdle t.sending → 0 ≡ t.sending.una
-    → Feeds service (resumed_at service e) (point_of service plain e) (resumed_at service e) t
-fed_nothing service local e i t between idle una =
+fed_nothing : {State : Type 0} (service : Machine State) (profile : Profile) (local : Addr) (e : Entry) (i : ℕ) (t : Tcb) → IsBetweenTurns t → IsIdle t.sending → 0 ≡ t.sending.una
+    → Feeds service (resumed_at service e) (point_of service profile e) (resumed_at service e) t
+fed_nothing service profile local e i t between idle una =
     let u : ℕ = resumed_at service e in
-    let output : List ℕ = (answered_run service (point_of service plain e)).output in
+    let output : List ℕ = (answered_run service (point_of service profile e)).output in
     let whole_output : output ≡ (run_of service e).output = ap (λ l. (reference service e.bytes l).output) (take_all (length e.lengths) e.lengths (omega arith)) in
     record {
       holds = idle.held ∙ sym (none_left u output) ∙ ap (λ n. drop n (take u output)) (omega (arith, una));
@@ -288,8 +289,9 @@ fed_nothing service local e i t between idle una =
       queued = subst (λ (l : List ℕ). length l ≤ 65535) (sym idle.held) (omega arith);
     }
 
-goes_on_from : {State : Type 0} (service : Machine State) (e : Entry) (i : ℕ) → GoesOnFrom service e i → GoesOn (resumed_at service e) i (delta_from service e i) (point_of service plain e)
-goes_on_from service e i g = record {
+goes_on_from : {State : Type 0} (service : Machine State) (profile : Profile) (e : Entry) (i : ℕ) → GoesOnFrom service e i
+    → GoesOn (resumed_at service e) i (delta_from service e i) (point_of service profile e)
+goes_on_from service profile e i g = record {
   shift = back_again (resumed_at service e) i e.sisn g.i_fits;
   small = g.small;
   sisn = g.sisn;
@@ -300,34 +302,36 @@ goes_on_from service e i g = record {
   sent = omega (arith, g.small);
   edge = omega arith;
   wl2 = omega arith;
-  profile = record { measures = refl; recovers = refl; delays = refl; timing = λ off. refl; lost = λ off. refl };
+  timing = initial_keeps profile.measures;
   syn_unacked = λ h. absurd (false≢true (sym h));
 }
   where
     back_again : (u i sisn : ℕ) → i < 2 ^ 32 → (i + ((sisn + u) % 2 ^ 32 + 2 ^ 32 - i) % 2 ^ 32) % 2 ^ 32 ≡ (sisn + u) % 2 ^ 32
     back_again u i sisn h = omega (arith, h)
 
-pub splices : {State : Type 0} (service : Machine State) (local : Addr) (e : Entry) (i : ℕ) → GoesOnFrom service e i
-    → StandsAtEntry service e i (spliced e.key local e.cisn (length e.bytes) e.mss i e.fin)
-splices service local e i g =
-    let t = whole service local e i e.fin g g.fin in
-    let tcb : Tcb = spliced e.key local e.cisn (length e.bytes) e.mss i e.fin in
-    let at = at_entry service local e i tcb g t.stands in
+pub splices : {State : Type 0} (service : Machine State) (profile : Profile) (local : Addr) (e : Entry) (i : ℕ) → GoesOnFrom service e i
+    → StandsAtEntry service profile e i (spliced_measuring profile.measures e.key local e.cisn (length e.bytes) e.mss i e.fin)
+splices service profile local e i g =
+    let t = whole service profile.measures local e i e.fin g g.fin in
+    let tcb : Tcb = spliced_measuring profile.measures e.key local e.cisn (length e.bytes) e.mss i e.fin in
+    let at = at_entry service profile local e i tcb g t.stands in
     record {
-      tcp = record { stands = record { begun = t.begun; between = t.between; stands = at; goes_on = goes_on_from service e i g }; named = t.named };
-      feeds = fed_nothing service local e i tcb t.between t.idle (sym (less_self (resumed_at service e)) ∙ at.sends.una);
+      tcp = record { stands = record { begun = t.begun; between = t.between; stands = at; goes_on = goes_on_from service profile e i g }; named = t.named };
+      feeds = fed_nothing service profile local e i tcb t.between t.idle (sym (less_self (resumed_at service e)) ∙ at.sends.una);
       kept = t.kept;
       open_still = t.idle.closed;
     }
 
 -- with the north wrapper beside it that was replayed
-pub splices_parts : {S : Type 0} (service : Machine S) (local : Addr) (e : Entry) (i : ℕ) (n : NorthState S) → GoesOnFrom service e i → HasReplayed service (point_of service plain e) (resumed_at service e) n
-    → PartsStand service (resumed_at service e) i (delta_from service e i) (resumed_at service e) (point_of service plain e) n (spliced e.key local e.cisn (length e.bytes) e.mss i e.fin)
-splices_parts service local e i n g replayed =
-    let t = splices service local e i g in
+pub splices_parts : {S : Type 0} (service : Machine S) (profile : Profile) (local : Addr) (e : Entry) (i : ℕ) (n : NorthState S) → GoesOnFrom service e i
+    → HasReplayed service (point_of service profile e) (resumed_at service e) n
+    → PartsStand service (resumed_at service e) i (delta_from service e i) (resumed_at service e) (point_of service profile e) n
+    (spliced_measuring profile.measures e.key local e.cisn (length e.bytes) e.mss i e.fin)
+splices_parts service profile local e i n g replayed =
+    let t = splices service profile local e i g in
     record {
       tcp = inl t.tcp;
-      north = begins_here service (point_of service plain e) (resumed_at service e) n replayed;
+      north = begins_here service (point_of service profile e) (resumed_at service e) n replayed;
       feeds = t.feeds;
       unreset = refl;
       kept = t.kept;

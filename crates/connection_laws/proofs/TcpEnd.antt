@@ -4,9 +4,7 @@ use Rattle.std.specs.Prelude.{◌⊎◌, ◌==◌, ◌&&◌, ◌||◌, nat_lt, i
 use Rattle.std.proofs.lemmas.Bool.{false≢true, and_parts}
 use Rattle.ft_io.proofs.Numbers.{equal_of_test}
 use Rattle.server_trait.specs.Service.{Machine}
-use Rattle.seq_arith.specs.Profile.{plain}
-use Rattle.ft_model.proofs.PlainTurns.{plain_resends}
-use Rattle.ft_model.proofs.Profiles.{live_keeps}
+use Rattle.seq_arith.specs.Congestion.{Congestion}
 use Rattle.ft_model.specs.Offset.{one_if}
 use Rattle.ft_model.specs.Point.{Point, answered_run, released, target}
 use Rattle.ft_model.specs.Network.{Packet}
@@ -20,7 +18,7 @@ use Rattle.seq_arith.specs.Packet.{Segment}
 use Rattle.tcp_endpoint.specs.States.{has_begun}
 use Rattle.tcp_endpoint.specs.SendHalf.{Sending, must_run}
 use Rattle.tcp_endpoint.specs.Tcb.{Tcb}
-use Rattle.tcp_endpoint.specs.Output.{flushed, with_turn_ended, with_advertised, after_full, with_fin_out, with_text_sent, with_probe}
+use Rattle.tcp_endpoint.specs.Output.{flushed, with_turn_ended, with_advertised, after_full, with_timed, with_fin_out, with_text_sent, with_probe}
 use Rattle.endpoint_laws.specs.ConnectionEnd.{IsNamedRightly, resets}
 use Rattle.endpoint_laws.specs.Laws.{IsBounded}
 use Rattle.endpoint_laws.specs.Turn.{Call, MayUse, arrived, before_flush}
@@ -43,7 +41,7 @@ use Rattle.connection_laws.proofs.Meets.{laws_inside}
 use Rattle.connection_laws.proofs.Again.{stays}
 use Rattle.connection_laws.proofs.ResetNumber.{resets_is}
 use Rattle.connection_laws.proofs.Whole.{usual_news, above}
-use Rattle.connection_laws.proofs.Quiet.{no_third, quiet_sends}
+use Rattle.connection_laws.proofs.Quiet.{resends_none, quiet_sends}
 use Rattle.connection_laws.proofs.Outliving.{rest_stops, taken_stays, closed_sent}
 use Rattle.connection_laws.proofs.FinTaken.{taken_before}
 use Rattle.connection_laws.proofs.SendBuffer.{news_keep}
@@ -156,11 +154,11 @@ less_same : (u a b w : ℕ) → u ≤ a → u ≤ b → a ≡ b → a - u ≡ w 
 less_same u a b w x y h k = omega (arith, x, y, h, k)
 
 flushed_reset_reply : (w : Tcb) → (flushed w).reset_reply ≡ None
-unfolding flushed with_turn_ended with_advertised after_full with_fin_out with_text_sent with_probe
+unfolding flushed with_turn_ended with_advertised after_full with_timed with_fin_out with_text_sent with_probe
 flushed_reset_reply w = refl
 
 pub flushed_reset : (w : Tcb) → (flushed w).reset ≡ w.reset
-unfolding flushed with_turn_ended with_advertised after_full with_fin_out with_text_sent with_probe
+unfolding flushed with_turn_ended with_advertised after_full with_timed with_fin_out with_text_sent with_probe
 flushed_reset w = refl
 
 pub ends_inside : {State : Type 0} (service : Machine State) (boot u i delta : ℕ) (news : News) (p q : Point) (calls : List Call) (e : Tcb) (sent : List Packet)
@@ -206,20 +204,22 @@ ends_inside service boot u i delta news p q calls e sent st named unreset_p off 
     ∙ stands_by e.sending.rest (must_run e.sending) st.between.runs
     (runs_not e.sending.syn_acked e.sending.fin_sent e.sending.una e.sending.sent (e.sending.una + length e.sending.held + one_if e.sending.closed) e_syn_acked fin_sent una) in
     let fin : q.fin ≡ true = end.receives.fin ∙ over.0 in
+    let few : p.congestion.lost ≤ p.sent - p.una =
+    omega (arith, st.between.bounds.lost, st.stands.sent, st.stands.sends.una, ap (λ (c : Congestion). c.lost) st.stands.sends.congestion, st.goes_on.una) in
     let r : ReceivesAt (inside u i q) (flushed w) = flushed_receives (inside u i q) w end.receives in
     record {
       stands = record {
         name = flushed_name w ∙ end.closed;
         reset_reply = flushed_reset_reply w;
         kept = flushed_reset w ∙ reset_law inner calls e st.begun ∙ (λ j. kept j || none j);
-        ended = flush_keeps (λ (s : Sending). s.closed) w (record { sends = λ s n. refl; ends = λ s. refl; times = λ s x y. refl })
+        ended = flush_keeps (λ (s : Sending). s.closed) w (record { sends = λ s n. refl; ends = λ s. refl; times = λ s t x y. refl })
             ∙ (last (and_parts w.sending.fin_sent (w.sending.una == w.sending.sent) over.1).0).0;
         bounds = bounded_by_flush w bounds;
         fin_last = last_flushed w bounds last;
         counts = record {
-          iss = flush_keeps (λ (s : Sending). s.iss) w (record { sends = λ s n. refl; ends = λ s. refl; times = λ s x y. refl }) ∙ sym end.sends.sisn;
-          syn_acked = flush_keeps (λ (s : Sending). s.syn_acked) w (record { sends = λ s n. refl; ends = λ s. refl; times = λ s x y. refl }) ∙ h.syn_acked;
-          una = end.sends.una ∙ sym (flush_keeps (λ (s : Sending). s.una) w (record { sends = λ s n. refl; ends = λ s. refl; times = λ s x y. refl }));
+          iss = flush_keeps (λ (s : Sending). s.iss) w (record { sends = λ s n. refl; ends = λ s. refl; times = λ s t x y. refl }) ∙ sym end.sends.sisn;
+          syn_acked = flush_keeps (λ (s : Sending). s.syn_acked) w (record { sends = λ s n. refl; ends = λ s. refl; times = λ s t x y. refl }) ∙ h.syn_acked;
+          una = end.sends.una ∙ sym (flush_keeps (λ (s : Sending). s.una) w (record { sends = λ s n. refl; ends = λ s. refl; times = λ s t x y. refl }));
           sent = end.sent ∙ sym (closed_sent w l.ended);
           above = una_above;
           small = st.goes_on.small;
@@ -233,7 +233,6 @@ ends_inside service boot u i delta news p q calls e sent st named unreset_p off 
         acknowledged = acknowledged;
         all_sent = all_sent;
         still = t.goes.rest ∙ rest_stops service news p q syn_acked acknowledged all_sent;
-        profile = live_keeps service plain e.local boot news p q sent st.goes_on.profile t.goes;
       };
       silent = end.silent;
       syn_acked = st.stands.sends.syn_acked ∙ opened_by e.sending.syn_acked e.sending.sent st.between.bounds.syn_unacked (omega (arith, e_sent, h.some));
@@ -241,7 +240,7 @@ ends_inside service boot u i delta news p q calls e sent st named unreset_p off 
       segments = quiet_sends service e.local news p q (record {
         opens = opens_not u i delta p e news calls t.later st.begun l.may l.ended;
         expires = expires_not news p at_tick;
-        again = plain_resends news p st.goes_on.profile.recovers ∙ no_third news p (sym t.goes.una ∙ acknowledged ∙ sym before);
+        again = resends_none news p (sym t.goes.una ∙ acknowledged ∙ sym before) few;
         past = omega (arith, past, acknowledged, before);
       });
     }

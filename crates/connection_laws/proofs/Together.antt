@@ -7,9 +7,7 @@ use Rattle.seq_arith.specs.Congestion.{Congestion}
 use Rattle.seq_arith.specs.Packet.{Segment, has_syn, has_ack, has_rst}
 use Rattle.seq_arith.specs.Offset.{one_if}
 use Rattle.server_trait.specs.Service.{Machine, reference}
-use Rattle.seq_arith.specs.Profile.{plain}
-use Rattle.ft_model.proofs.PlainTurns.{plain_resends, due_is_pending}
-use Rattle.ft_model.specs.Profiled.{HasProfile}
+use Rattle.seq_arith.specs.Timing.{Timing}
 use Rattle.ft_model.specs.Answered.{answered_after, reads_answered_after}
 use Rattle.ft_model.specs.Connection.{LiveTurn, sent_by}
 use Rattle.ft_model.specs.ResetAndEnd.{reset_after, end_ticks_after}
@@ -20,19 +18,19 @@ use Rattle.ft_model.specs.PendingAck.{is_ack_pending, needs_ack, is_ack_due, is_
 use Rattle.ft_model.specs.Point.{Point, taken_units, advertised_edge, answered_run, released, target, made, is_over, HoldsBehind}
 use Rattle.ft_model.specs.Reads.{Makes, next_read, next_length, may_read}
 use Rattle.ft_model.specs.Segments.{opens_with, repeats_syn, syn_ack, bare_segment, or_bare, segments_of, full_segments, resent, new_texts, new_fin, new_length, texts, fin_if_closed, is_unacknowledged, first_unacknowledged, probe}
-use Rattle.ft_model.specs.Sending.{acknowledged_after, edge_after, congestion_after, is_third_duplicate, send_edge, sent_at_once, sent_after, resends, timing_after}
+use Rattle.ft_model.specs.Sending.{acknowledged_after, edge_after, congestion_after, is_third_duplicate, is_partial_ack, send_edge, sent_at_once, sent_after, resends, timing_after}
 use Rattle.ft_model.specs.Taken.{taken_after, fin_after}
 use Rattle.ft_model.specs.Timer.{interval_after, rest_after, must_run, timing_noted}
 use Rattle.ft_model.proofs.Settled.{settled}
 use Rattle.ft_model.proofs.TurnTells.{settled_reads}
 use Rattle.tcp_endpoint.specs.declared.states.StateName.TheVariants.{Closed}
-use Rattle.tcp_endpoint.specs.Output.{leaving, flushed}
+use Rattle.tcp_endpoint.specs.Output.{full_out, leaving, flushed}
 use Rattle.tcp_endpoint.specs.ReceiveHalf as receiver
 use Rattle.tcp_endpoint.specs.States.{has_begun, is_closed}
 use Rattle.tcp_endpoint.specs.SendHalf.{Sending, bytes_end, expires, congestion_expired}
 use Rattle.tcp_endpoint.specs.Tcb.{Tcb}
 use Rattle.tcp_endpoint.specs.UserCalls.{after_tick, timer_ticked, waited, write_room, is_ended}
-use Rattle.endpoint_laws.specs.Laws.{IsBounded}
+use Rattle.endpoint_laws.specs.Laws.{KeepsTime, IsBounded}
 use Rattle.endpoint_laws.specs.Turn.{Call, IsUsualNews, arrived, before_flush}
 use Rattle.endpoint_laws.proofs.Calls.{FinIsLast}
 use Rattle.endpoint_laws.proofs.Arrivals.{Arrived, arrives}
@@ -45,7 +43,7 @@ use Rattle.north_wrap.proofs.WholeTurn.{whole_turn}
 use Rattle.north_wrap.proofs.Logged.{answered_front}
 use Rattle.ft_model.proofs.Services.{RunExtends, goes_refl, prefix_length}
 use Rattle.connection_laws.specs.Inside.{inside}
-use Rattle.connection_laws.specs.Traffic.{news_inside, passed, needs_ack_besides, leaves}
+use Rattle.connection_laws.specs.Traffic.{news_inside, passed, tcp_out, needs_ack_besides, leaves}
 use Rattle.connection_laws.specs.Turn.{NewsFit, IsLater, TurnsInside}
 use Rattle.connection_laws.specs.ClosedTcp.{StandsClosed, EndsInside, GoesOnClosed}
 use Rattle.connection_laws.specs.OutputFeed.{tcp_reader, tcp_writer, Feeds, north_calls, FedBy}
@@ -53,6 +51,7 @@ use Rattle.connection_laws.specs.Parts.{StandsOpen, PartsStand, PartsRest, Parts
 use Rattle.connection_laws.proofs.Meets.{Moves, moves_inside_all, stays_inside, nothing_counts, is_syn_has, minus_none}
 use Rattle.connection_laws.proofs.Sent.{nothing_new, same_lengths, syn_at, units_none}
 use Rattle.connection_laws.proofs.Whole.{usual_news, turns_inside}
+use Rattle.connection_laws.proofs.Delaying.{waits_none}
 use Rattle.connection_laws.proofs.Outliving.{IsStill, still, outlives, opens_not, reads_rise, taken_stays, fin_stays}
 use Rattle.connection_laws.proofs.TcpEnd.{unreset, flushed_reset, ends_inside, opens_not as opens_by_end}
 use Rattle.connection_laws.proofs.SendBuffer.{KeepsOutput, news_keep}
@@ -124,10 +123,16 @@ all_due service (Logged kept) p q = any_ack_pending (nat_lt p.answered q.answere
 all_due service Ticks p q = any_ack_pending (nat_lt p.answered q.answered) (not (taken_units p == taken_units q)) (not (advertised_edge p == advertised_edge q))
 all_due service Begins p q = refl
 
-all_ack_pending : {S : Type 0} (service : Machine S) (news : News) (p q : Point) → p.delays ≡ false
+pending_by : (d b due : Bool) → d ≡ false → (b || due) ≡ due → (b || (not d && due)) ≡ (not d && due)
+pending_by true b due off is = absurd (false≢true (sym off))
+pending_by false b due off is = is
+
+all_ack_pending : {S : Type 0} (service : Machine S) (news : News) (p q : Point) → taken_units q ≡ taken_units p
     → (needs_ack_besides service news p q || is_ack_pending service news p q) ≡ is_ack_pending service news p q
-all_ack_pending service news p q off =
-    subst (λ b. (needs_ack_besides service news p q || b) ≡ b) (sym (due_is_pending service news p q off)) (all_due service news p q)
+unfolding is_ack_pending
+all_ack_pending service news p q same =
+    pending_by (is_delayed news p q) (needs_ack_besides service news p q) (is_ack_due service news p q) (waits_none (is_delayed news p q) news p q same refl)
+    (all_due service news p q)
 
 no_repeat : (news : News) (p : Point) → opens_with news p ≡ false → repeats news p ≡ false
 no_repeat (Comes segment) p h = h
@@ -136,11 +141,13 @@ no_repeat Ticks p h = refl
 no_repeat Begins p h = refl
 
 -- TCP CLOSED: nothing is passed on, and no SYN is repeated
-closed_leaves : {S : Type 0} (service : Machine S) (server : Addr) (delta : ℕ) (news : News) (p q : Point) (t : Tcb) → p.delays ≡ false → t.name ≡ Closed → passed delta q (leaving t) ≡ [] → repeats news p ≡ false
+closed_leaves : {S : Type 0} (service : Machine S) (server : Addr) (delta : ℕ) (news : News) (p q : Point) (t : Tcb) → taken_units q ≡ taken_units p → t.name ≡ Closed → passed delta q (leaving t) ≡ [] → repeats news p ≡ false
     → segments_of service server news p q ≡ or_bare (is_ack_pending service news p q) (bare_segment server q) [] → leaves_with service server delta news p q t ≡ segments_of service server news p q
-closed_leaves service server delta news p q t off closed silent none alone =
-    (λ j. or_bare (on_closed (needs_ack_besides service news p q) (is_closed t.name) (is_ack_pending service news p q) (ap is_closed closed) (all_ack_pending service news p q off) j) (bare_segment server q)
-    (silent j ++ (if none j then syn_ack server q ∷ [] else []))) ∙ sym alone
+closed_leaves service server delta news p q t same closed silent none alone =
+    let out : passed delta q (tcp_out news p q t) ≡ [] =
+    ap (λ d. passed delta q (if d then full_out t else leaving t)) (waits_none (is_delayed news p q) news p q same refl) ∙ silent in
+    (λ j. or_bare (on_closed (needs_ack_besides service news p q) (is_closed t.name) (is_ack_pending service news p q) (ap is_closed closed) (all_ack_pending service news p q same) j) (bare_segment server q)
+    (out j ++ (if none j then syn_ack server q ∷ [] else []))) ∙ sym alone
 
 -- a repeated SYN: TCP sends nothing, so that the kept SYN-ACK leaves alone
 abbrev tail_of : List Segment → List Segment
@@ -156,13 +163,13 @@ no_fin s t e t' e' r h a b = let m : max s (min t' e') ≡ s = omega (arith, h, 
     apart : (r s : ℕ) → (nat_lt r s && nat_le s r) ≡ false
     apart r s = grind arith
 
-repeated_alone : {S : Type 0} (service : Machine S) (server : Addr) (boot : ℕ) (segment : Segment) (p q : Point) (sent : List Packet) (xs : List Segment) → HasProfile plain p → p.fetched ≤ length p.taken
+repeated_alone : {S : Type 0} (service : Machine S) (server : Addr) (boot : ℕ) (segment : Segment) (p q : Point) (sent : List Packet) (xs : List Segment) → KeepsTime p.timing → p.fetched ≤ length p.taken
     → min (target service p) (send_edge p) ≤ p.sent → repeats_syn p segment ≡ true → LiveTurn service server boot (Comes segment) p q sent
     → leaves service server (Comes segment) p q xs ≡ segments_of service server (Comes segment) p q → xs ≡ []
-unfolding segments_of full_segments resent new_texts new_fin taken_after fin_after sent_at_once reads_answered_after acknowledged_after edge_after congestion_after is_third_duplicate
-repeated_alone service server boot segment p q sent xs profile few rest opens l same =
+unfolding segments_of full_segments resent new_texts new_fin taken_after fin_after sent_at_once reads_answered_after acknowledged_after edge_after congestion_after is_third_duplicate is_partial_ack
+repeated_alone service server boot segment p q sent xs keeps few rest opens l same =
     let none = nothing_counts p segment (is_syn_has (has_syn segment) (has_ack segment) (has_rst segment) (segment.head.seq == p.cisn) (taken_units p == 0) (p.una == 0) opens) in
-    let m : Moves (Comes segment) p 0 0 Begins = stays_inside 0 0 p segment none in
+    let m : Moves (Comes segment) p 0 0 Begins = stays_inside 0 0 p segment keeps none in
     let units = units_none (length p.taken) p.fin (second_of_three (syn_at p segment) (taken_units p == 0) (p.una == 0) opens) in
     let taken : q.taken ≡ p.taken = l.taken ∙ sym m.taken in
     let fin : q.fin ≡ p.fin = l.fin ∙ sym m.fin in
@@ -170,7 +177,7 @@ repeated_alone service server boot segment p q sent xs profile few rest opens l 
     let una : q.una ≡ p.una = l.una ∙ minus_none (acknowledged_after (Comes segment) p) p.una (sym m.una) in
     let congestion : q.congestion ≡ p.congestion = l.congestion ∙ sym m.congestion in
     let edge : send_edge q ≡ send_edge p = λ j. min (right j) (una j + (congestion j).cwnd) in
-    let again : resends (Comes segment) p ≡ false = plain_resends (Comes segment) p profile.recovers ∙ sym m.third in
+    let again : resends (Comes segment) p ≡ false = sym m.again in
     let lens : q.lengths ≡ p.lengths = same_lengths service p q l.reads (ap length taken ∙ units.0) (l.same.fetched ∙ omega (arith, few, units.0)) (fin ∙ units.1) in
     let run : answered_run service q ≡ answered_run service p = λ j. reference service (taken j) (take (l.reads_answered j) (lens j)) in
     let target_is : target service q ≡ target service p = ap (λ r. length r.output + one_if r.closed) run in
@@ -188,40 +195,40 @@ repeated_alone service server boot segment p q sent xs profile few rest opens l 
 nothing_behind : (xs : List Segment) → xs ++ [] ≡ xs
 nothing_behind xs = append-nil xs
 
-by_repeat : {S : Type 0} (service : Machine S) (server : Addr) (boot delta : ℕ) (segment : Segment) (p q : Point) (sent : List Packet) (xs : List Segment) (b : Bool) → repeats_syn p segment ≡ b → HasProfile plain p
+by_repeat : {S : Type 0} (service : Machine S) (server : Addr) (boot delta : ℕ) (segment : Segment) (p q : Point) (sent : List Packet) (xs : List Segment) (b : Bool) → repeats_syn p segment ≡ b → KeepsTime p.timing
     → p.fetched ≤ length p.taken → min (target service p) (send_edge p) ≤ p.sent → LiveTurn service server boot (Comes segment) p q sent
     → leaves service server (Comes segment) p q xs ≡ segments_of service server (Comes segment) p q
     → or_bare (needs_ack_besides service (Comes segment) p q) (bare_segment server q) (xs ++ (if repeats_syn p segment then syn_ack server q ∷ [] else []))
     ≡ segments_of service server (Comes segment) p q
-by_repeat service server boot delta segment p q sent xs true is profile few rest l same =
-    let none : xs ≡ [] = repeated_alone service server boot segment p q sent xs profile few rest is l same in
+by_repeat service server boot delta segment p q sent xs true is keeps few rest l same =
+    let none : xs ≡ [] = repeated_alone service server boot segment p q sent xs keeps few rest is l same in
     (λ j. or_bare (needs_ack_besides service (Comes segment) p q) (bare_segment server q) (none j ++ (if is j then syn_ack server q ∷ [] else [])))
     ∙ (λ j. or_bare (needs_ack_besides service (Comes segment) p q) (bare_segment server q) ((if sym is j then syn_ack server q ∷ [] else []) ++ sym none j)) ∙ same
-by_repeat service server boot delta segment p q sent xs false is profile few rest l same =
+by_repeat service server boot delta segment p q sent xs false is keeps few rest l same =
     (λ j. or_bare (needs_ack_besides service (Comes segment) p q) (bare_segment server q) (xs ++ (if is j then syn_ack server q ∷ [] else [])))
     ∙ ap (or_bare (needs_ack_besides service (Comes segment) p q) (bare_segment server q)) (nothing_behind xs)
     ∙ (λ j. or_bare (needs_ack_besides service (Comes segment) p q) (bare_segment server q) ((if sym is j then syn_ack server q ∷ [] else []) ++ xs)) ∙ same
 
-by_news : {S : Type 0} (service : Machine S) (server : Addr) (boot delta : ℕ) (news : News) (p q : Point) (sent : List Packet) (xs : List Segment) → IsLater news p → HasProfile plain p
+by_news : {S : Type 0} (service : Machine S) (server : Addr) (boot delta : ℕ) (news : News) (p q : Point) (sent : List Packet) (xs : List Segment) → IsLater news p → KeepsTime p.timing
     → p.fetched ≤ length p.taken → min (target service p) (send_edge p) ≤ p.sent → LiveTurn service server boot news p q sent
     → leaves service server news p q xs ≡ segments_of service server news p q
     → or_bare (needs_ack_besides service news p q) (bare_segment server q) (xs ++ (if repeats news p then syn_ack server q ∷ [] else [])) ≡ segments_of service server news p q
-by_news service server boot delta (Comes segment) p q sent xs later profile few rest l same =
-    by_repeat service server boot delta segment p q sent xs (repeats_syn p segment) refl profile few rest l same
-by_news service server boot delta (Logged kept) p q sent xs later profile few rest l same = ap (or_bare (needs_ack_besides service (Logged kept) p q) (bare_segment server q)) (nothing_behind xs) ∙ same
-by_news service server boot delta Ticks p q sent xs later profile few rest l same = ap (or_bare (needs_ack_besides service Ticks p q) (bare_segment server q)) (nothing_behind xs) ∙ same
-by_news service server boot delta Begins p q sent xs later profile few rest l same =
+by_news service server boot delta (Comes segment) p q sent xs later keeps few rest l same =
+    by_repeat service server boot delta segment p q sent xs (repeats_syn p segment) refl keeps few rest l same
+by_news service server boot delta (Logged kept) p q sent xs later keeps few rest l same = ap (or_bare (needs_ack_besides service (Logged kept) p q) (bare_segment server q)) (nothing_behind xs) ∙ same
+by_news service server boot delta Ticks p q sent xs later keeps few rest l same = ap (or_bare (needs_ack_besides service Ticks p q) (bare_segment server q)) (nothing_behind xs) ∙ same
+by_news service server boot delta Begins p q sent xs later keeps few rest l same =
     ap (or_bare true (bare_segment server q)) (nothing_behind xs)
     ∙ (λ j. or_bare true (bare_segment server q) ((if not (sym later j) then syn_ack server q ∷ [] else []) ++ xs)) ∙ same
 
-open_leaves : {S : Type 0} (service : Machine S) (server : Addr) (boot delta : ℕ) (news : News) (p q : Point) (sent : List Packet) (t : Tcb) → has_begun t.name ≡ true → IsLater news p → HasProfile plain p
+open_leaves : {S : Type 0} (service : Machine S) (server : Addr) (boot delta : ℕ) (news : News) (p q : Point) (sent : List Packet) (t : Tcb) → has_begun t.name ≡ true → IsLater news p → KeepsTime p.timing
     → p.fetched ≤ length p.taken → min (target service p) (send_edge p) ≤ p.sent → LiveTurn service server boot news p q sent
-    → leaves service server news p q (passed delta q (leaving t)) ≡ segments_of service server news p q
+    → leaves service server news p q (passed delta q (tcp_out news p q t)) ≡ segments_of service server news p q
     → leaves_with service server delta news p q t ≡ segments_of service server news p q
-open_leaves service server boot delta news p q sent t begun later profile few rest l same =
+open_leaves service server boot delta news p q sent t begun later keeps few rest l same =
     (λ j. or_bare (or_off (needs_ack_besides service news p q) (is_closed t.name) (is_ack_pending service news p q) (begun_open t.name begun) j) (bare_segment server q)
-    (passed delta q (leaving t) ++ (if repeats news p then syn_ack server q ∷ [] else [])))
-    ∙ by_news service server boot delta news p q sent (passed delta q (leaving t)) later profile few rest l same
+    (passed delta q (tcp_out news p q t) ++ (if repeats news p then syn_ack server q ∷ [] else [])))
+    ∙ by_news service server boot delta news p q sent (passed delta q (tcp_out news p q t)) later keeps few rest l same
 
 -- what TCP is before and after its user's calls
 pub record IsServed {S : Type 0} (service : Machine S) (u i delta given given' : ℕ) (news : News) (p q : Point) (old new : NorthState S) (calls : List Call) (e : Tcb) : Type 0 where
@@ -232,10 +239,6 @@ pub record IsServed {S : Type 0} (service : Machine S) (u i delta given given' :
   pub above_u : u ≤ released service q
   pub by : FedBy service u i q given' new calls (arrived (news_inside delta p news) e)
   pub north : NorthStands service q given' new
-
--- a connection whose parts stand is plain
-pub profile_of : {S : Type 0} (service : Machine S) (u i delta given : ℕ) (p : Point) (n : NorthState S) (e : Tcb) → PartsStand service u i delta given p n e → HasProfile plain p
-profile_of service u i delta given p n e stand = ⊎_elim (λ s. s.stands.goes_on.profile) (λ s. s.profile) stand.tcp
 
 -- TCP after it, and what leaves
 record IsDone {S : Type 0} (service : Machine S) (server : Addr) (u i delta : ℕ) (news : News) (p q : Point) (w : Tcb) : Type 0 where
@@ -254,7 +257,7 @@ done_open service boot u i delta given given' news p q old new calls e sent true
     (record { may = s.by.may; begun = begun; used = s.by.is_used }) in
     record {
       tcp = inl (record { stands = t.stands; named = named_law inner calls e st.stands.begun st.stands.between st.named });
-      segments = open_leaves service e.local boot delta news p q sent (before_flush inner calls e) begun s.later st.stands.goes_on.profile s.before.north.fetched s.before.all_sent l t.segments;
+      segments = open_leaves service e.local boot delta news p q sent (before_flush inner calls e) begun s.later st.stands.goes_on.timing s.before.north.fetched s.before.all_sent l t.segments;
       closed = λ h. absurd (false≢true (sym (begun_open (before_flush inner calls e).name begun) ∙ h));
     }
 done_open service boot u i delta given given' news p q old new calls e sent false s l st ended =
@@ -266,7 +269,7 @@ done_open service boot u i delta given given' news p q old new calls e sent fals
     let none : opens_with news p ≡ false = opens_by_end u i delta p e news calls s.later st.stands.begun s.by.may ended in
     record {
       tcp = inr t.stands;
-      segments = closed_leaves service e.local delta news p q w st.stands.goes_on.profile.delays (sym (flushed_name w) ∙ t.stands.name) (ap (passed delta q) t.silent) (no_repeat news p none) t.segments;
+      segments = closed_leaves service e.local delta news p q w t.taken (sym (flushed_name w) ∙ t.stands.name) (ap (passed delta q) t.silent) (no_repeat news p none) t.segments;
       closed = λ h. (t.syn_acked, t.taken);
     }
 
@@ -279,7 +282,7 @@ done_closed service boot u i delta given given' news p q old new calls e sent s 
     outlives service e.local boot u i delta news p q calls e sent st l (record { may = s.by.may; read = s.by.is_used.read }) in
     record {
       tcp = inr t.stands;
-      segments = closed_leaves service e.local delta news p q w st.profile.delays (sym (flushed_name w) ∙ t.stands.name) t.silent (no_repeat news p (opens_not news p (and_parts p.fin (nat_lt (released service p) p.una) st.over).0 st.syn_acked)) t.segments;
+      segments = closed_leaves service e.local delta news p q w t.taken (sym (flushed_name w) ∙ t.stands.name) t.silent (no_repeat news p (opens_not news p (and_parts p.fin (nat_lt (released service p) p.una) st.over).0 st.syn_acked)) t.segments;
       closed = λ h. (t.syn_acked, t.taken);
     }
 
@@ -430,14 +433,15 @@ turns_together service boot u i delta given news p old new reads e t st fits lat
     }) refl (goes service e.local boot news p ks turn.makes)
 
 -- a tick
-held_ticked : (s : Sending) (b : Bool) (c : Congestion)
-    → (if b then record s { congestion = c; interval = min 64 (2 * s.interval); rest = min 64 (2 * s.interval) } else record s { rest = s.rest - 1 }).held ≡ s.held
-held_ticked s true c = refl
-held_ticked s false c = refl
+held_ticked : (s : Sending) (b : Bool) (c : Congestion) (t w : Timing)
+    → (if b then record s { congestion = c; timing = t; interval = min 64 (2 * s.interval); rest = min 64 (2 * s.interval) }
+    else record s { timing = w; rest = s.rest - 1 }).held ≡ s.held
+held_ticked s true c t w = refl
+held_ticked s false c t w = refl
 
 tick_holds : (e : Tcb) → (after_tick e).sending.held ≡ e.sending.held
 unfolding after_tick timer_ticked waited
-tick_holds e = held_ticked e.sending (expires e.sending) (congestion_expired e.sending)
+tick_holds e = held_ticked e.sending (expires e.sending) (congestion_expired e.sending) _ _
 
 no_more : {S : Type 0} (service : Machine S) (p : Point) (lengths : List ℕ) → next_read service p ≡ None → Makes service (reading p.lengths (settled service Ticks p lengths)) []
 unfolding taken_after fin_after acknowledged_after reads_answered_after next_length may_read
@@ -485,7 +489,7 @@ ticks_together service boot u i delta given p n e r =
         is_used = used_inside service u i q given m fed (record { closed_is = shut ∙ exact; all_or_full = full }) read;
         feeds = fed_flushed service u q given m at.bounds fed;
         kept = flushed_reset m ∙ at.kept;
-        shut = flush_keeps (λ (s : Sending). s.closed) m (record { sends = λ s n. refl; ends = λ s. refl; times = λ s x y. refl }) ∙ shut;
+        shut = flush_keeps (λ (s : Sending). s.closed) m (record { sends = λ s n. refl; ends = λ s. refl; times = λ s t x y. refl }) ∙ shut;
         exact = exact;
         all_or_full = full_flushed service q given m full;
       };
@@ -495,7 +499,7 @@ ticks_together service boot u i delta given p n e r =
 -- at a tick no ACK waits for the log
 ticks_delay_none : {S : Type 0} (service : Machine S) (p q : Point) (d : Bool) → p.delays ≡ d → is_ack_pending service Ticks p q ≡ is_ack_due service Ticks p q
 unfolding is_ack_pending is_delayed
-ticks_delay_none service p q false off = due_is_pending service Ticks p q off
+ticks_delay_none service p q false on = ap (λ d. not (is_delayed Ticks (record p { delays = d }) q) && is_ack_due service Ticks p q) on
 ticks_delay_none service p q true on = ap (λ d. not (is_delayed Ticks (record p { delays = d }) q) && is_ack_due service Ticks p q) on
 
 -- at a tick nothing is pending besides

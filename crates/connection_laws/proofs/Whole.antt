@@ -1,5 +1,5 @@
 -- The inner TCP leads from the point inside to the point inside, and the connection sends what the law says.
-use Rattle.std.proofs.Common.{◌≡◌, ℕ, ◌+◌, ◌-◌, ◌^◌, ◌≤◌, true, false, Bool, List, refl, ap, arith, ◌∙◌}
+use Rattle.std.proofs.Common.{◌≡◌, ℕ, ◌+◌, ◌-◌, ◌^◌, ◌≤◌, true, false, Bool, List, refl, sym, subst, arith, ◌∙◌}
 use Rattle.std.specs.Prelude.{if◌then◌else◌}
 use Rattle.server_trait.specs.Service.{Machine}
 use Rattle.seq_arith.specs.Packet.{Segment}
@@ -9,11 +9,13 @@ use Rattle.ft_model.specs.News.News.{Comes, Logged, Ticks, Begins}
 use Rattle.ft_model.specs.Point.{Point}
 use Rattle.ft_model.specs.Segments.{repeats_syn}
 use Rattle.ft_model.specs.Offset.{one_if}
+use Rattle.ft_model.specs.PendingAck.{is_delayed}
 use Rattle.ft_model.specs.Sending.{acknowledged_after}
+use Rattle.endpoint_laws.specs.Laws.{KeepsTime}
 use Rattle.tcp_endpoint.specs.States.{has_begun}
 use Rattle.tcp_endpoint.specs.Tcb.{Tcb}
 use Rattle.endpoint_laws.specs.Turn.{Call, IsUsualNews, before_flush, turned}
-use Rattle.tcp_endpoint.specs.Output.{flushed, with_turn_ended, with_advertised, after_full, with_fin_out, with_text_sent, with_probe}
+use Rattle.tcp_endpoint.specs.Output.{flushed, with_turn_ended, with_advertised, after_full, with_fin_out, with_text_sent, with_probe, with_timed}
 use Rattle.endpoint_laws.specs.Refinement.{StandsAt, LeadsTo}
 use Rattle.endpoint_laws.proofs.Turns.{leads_law}
 use Rattle.connection_laws.specs.Inside.{swallowing, inside, GoesOn}
@@ -23,6 +25,8 @@ use Rattle.south_wrap.specs.SouthPoint.{south_at}
 use Rattle.connection_laws.specs.Turn.{SegmentFits, NewsFit, Turns, StandsInside, UsesInside, TurnsInside}
 use Rattle.connection_laws.proofs.Meets.{laws_inside}
 use Rattle.connection_laws.proofs.Sent.{sent_is}
+use Rattle.connection_laws.proofs.Delaying.{adds_none}
+use Rattle.connection_laws.proofs.Reassembly.{behind_at}
 use Rattle.connection_laws.proofs.Again.{stays, goes_on_again}
 use Rattle.connection_laws.proofs.Usual.{usual_inside}
 
@@ -38,7 +42,7 @@ usual_news u i delta p e Ticks g st f = tt
 usual_news u i delta p e Begins g st f = tt
 
 begun_still : (e : Tcb) → has_begun (flushed e).name ≡ has_begun e.name
-unfolding flushed with_turn_ended with_advertised after_full with_fin_out with_text_sent with_probe
+unfolding flushed with_turn_ended with_advertised after_full with_timed with_fin_out with_text_sent with_probe
 begun_still e = refl
 
 pub above : (u a b : ℕ) → u ≤ a → b ≡ a → u ≤ b
@@ -59,8 +63,11 @@ turns_inside service boot u i delta news p q calls e sent st t uses =
     (laws_inside service e.local boot u i delta news p q sent st.goes_on t.fits (above u (acknowledged_after news p) q.una rises.una t.goes.una) t.given t.goes) uses.used in
     let after : GoesOn u i delta q =
     goes_on_again service e.local boot u i delta news p q sent st.goes_on t.fits t.goes
-    (short u q.sent (turned inner calls e).sending.sent (turned inner calls e).sending.fin_sent st.goes_on.small led.stands.sent led.between.bounds.sent) in
+    (short u q.sent (turned inner calls e).sending.sent (turned inner calls e).sending.fin_sent st.goes_on.small led.stands.sent led.between.bounds.sent)
+    (subst KeepsTime (sym led.stands.timing) led.between.bounds.timing) in
     record {
       stands = record { begun = begun_still (before_flush inner calls e) ∙ uses.begun; between = led.between; stands = led.stands; goes_on = after };
-      segments = ap (λ xs. leaves service e.local news p q (passed delta q xs)) led.segments ∙ sent_is service e.local boot news p q sent u i delta t st.goes_on after;
+      segments = (λ j. leaves service e.local news p q (passed delta q (if is_delayed news p q then led.full j else led.segments j)))
+          ∙ sent_is service e.local boot news p q sent u i delta t st.goes_on after
+          (adds_none service e.local boot news p q sent (behind_at (inside u i p) e st.stands.receives st.between.bounds) t.goes);
     }

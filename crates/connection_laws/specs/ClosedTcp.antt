@@ -3,8 +3,6 @@
 use Rattle.std.specs.Prelude.{◌≡◌, ◌^◌, ◌%◌, ◌<◌, ℕ, true, false, ◌+◌, ◌-◌, ◌≤◌, length, max, sum, List, [], None}
 use Rattle.ft_io.specs.declared.Addr.{Addr}
 use Rattle.server_trait.specs.Service.{Machine}
-use Rattle.seq_arith.specs.Profile.{plain}
-use Rattle.ft_model.specs.Profiled.{HasProfile}
 use Rattle.ft_model.specs.News.{News}
 use Rattle.ft_model.specs.PendingAck.{is_ack_pending}
 use Rattle.ft_model.specs.Point.{Point, taken_units, target, is_over}
@@ -46,7 +44,6 @@ pub record StandsClosed {State : Type 0} (service : Machine State) (u i delta : 
   pub acknowledged : p.una ≡ p.sent
   pub all_sent : p.sent ≡ target service p
   pub still : p.rest ≡ 0
-  pub profile : HasProfile plain p
 
 -- what is sent is a pure ACK, if an ACK is pending by the law, and nothing else
 abbrev pub SendsAlone : {State : Type 0} → Machine State → Addr → News → (before after : Point) → Type 0

@@ -1,15 +1,15 @@
 -- How a new connection begins: its TCP receives the SYN with the logged numbers, and sends the SYN-ACK (RFC 9293, 3.10.7.2).
-use Rattle.std.specs.Prelude.{◌≡◌, ◌≤◌, ◌<◌, ◌^◌, List, [], ◌∷◌}
+use Rattle.std.specs.Prelude.{Bool, ◌≡◌, ◌≤◌, ◌<◌, ◌^◌, List, [], ◌∷◌}
 use Rattle.ft_io.specs.declared.Addr.{Addr}
 use Rattle.seq_arith.specs.Message.{Numbers}
 use Rattle.seq_arith.specs.Packet.{Segment}
 use Rattle.server_trait.specs.Service.{Machine}
-use Rattle.seq_arith.specs.Profile.{plain}
+use Rattle.seq_arith.specs.Profile.{Profile}
 use Rattle.ft_model.specs.News.News.{Comes, Begins}
 use Rattle.ft_model.specs.Opening.{point_opened}
 use Rattle.ft_model.specs.Point.{Point}
 use Rattle.ft_model.specs.Segments.{segments_of, syn_ack}
-use Rattle.tcp_endpoint.specs.Tcb.{Tcb, listening}
+use Rattle.tcp_endpoint.specs.Tcb.{Tcb, listening_measuring}
 use Rattle.endpoint_laws.specs.ConnectionEnd.{IsNamedRightly}
 use Rattle.endpoint_laws.specs.Turn.{Call, turned, sent_in}
 use Rattle.connection_laws.specs.Traffic.{passed}
@@ -27,13 +27,14 @@ pub record MayOpen (numbers : Numbers) : Type 0 where
 abbrev pub opened_syn : Addr → Numbers → Segment
 opened_syn local numbers = forged_syn numbers.key local numbers.cisn 0 numbers.mss
 
-abbrev pub listens_with : Addr → Numbers → Tcb
-listens_with local numbers = listening local numbers.sisn (2 ^ 24)
+abbrev pub listens_with : (measures : Bool) → Addr → Numbers → Tcb
+listens_with measures local numbers = listening_measuring measures local numbers.sisn (2 ^ 24)
 
 -- output begins at its start, with the initial sequence number that the client knows. What is sent, as the client receives it, is what the law says, and the
 -- connection adds nothing
-pub record BeginsInside {State : Type 0} (service : Machine State) (local : Addr) (numbers : Numbers) (q : Point) (calls : List Call) : Type 0 where
-  pub stands : StandsInside 0 numbers.sisn 0 q (turned (Comes (opened_syn local numbers)) calls (listens_with local numbers))
-  pub named : IsNamedRightly (turned (Comes (opened_syn local numbers)) calls (listens_with local numbers))
-  pub segments : passed 0 q (sent_in (Comes (opened_syn local numbers)) calls (listens_with local numbers)) ≡ segments_of service local Begins (point_opened plain numbers) q
-  pub alone : segments_of service local Begins (point_opened plain numbers) q ≡ syn_ack local q ∷ []
+pub record BeginsInside {State : Type 0} (service : Machine State) (profile : Profile) (local : Addr) (numbers : Numbers) (q : Point) (calls : List Call) : Type 0 where
+  pub stands : StandsInside 0 numbers.sisn 0 q (turned (Comes (opened_syn local numbers)) calls (listens_with profile.measures local numbers))
+  pub named : IsNamedRightly (turned (Comes (opened_syn local numbers)) calls (listens_with profile.measures local numbers))
+  pub segments : passed 0 q (sent_in (Comes (opened_syn local numbers)) calls (listens_with profile.measures local numbers))
+      ≡ segments_of service local Begins (point_opened profile numbers) q
+  pub alone : segments_of service local Begins (point_opened profile numbers) q ≡ syn_ack local q ∷ []

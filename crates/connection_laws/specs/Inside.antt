@@ -4,9 +4,8 @@
 use Rattle.std.specs.Prelude.{◌≡◌, ℕ, false, ◌+◌, ◌-◌, ◌%◌, ◌^◌, ◌<◌, ◌≤◌, [], drop, length}
 use Rattle.server_trait.specs.Service.{Machine, Served, Run}
 use Rattle.seq_arith.specs.Coming.{nothing_early}
-use Rattle.seq_arith.specs.Profile.{plain}
 use Rattle.ft_model.specs.Point.{Point, taken_units}
-use Rattle.ft_model.specs.Profiled.{HasProfile}
+use Rattle.endpoint_laws.specs.Laws.{KeepsTime}
 
 -- a service's answer to a chunk, where the next `left` bytes of output are swallowed: they were acknowledged before, and TCP doesn't get them
 abbrev pub swallowed : {State : Type 0} → (left : ℕ) → Served State → Served (State × ℕ)
@@ -20,10 +19,11 @@ swallowing u service = record { fresh = (service.fresh, u); after = λ state chu
 abbrev pub swallowed_run : {State : Type 0} → ℕ → Run State → Run (State × ℕ)
 swallowed_run u run = record { state = (run.state, u - length run.output); output = drop u run.output; closed = run.closed }
 
--- the point inside: the server's initial sequence number is i, output counts from u on, and TCP, which knows of no log, may acknowledge all that it took. It
--- knows of no earlier incarnation either
+-- the point inside: the server's initial sequence number is i, output counts from u on, and TCP, which knows of no log, may acknowledge all that it took, and
+-- delays no ACK. It knows of no earlier incarnation either
 abbrev pub inside : (u i : ℕ) → Point → Point
-inside u i p = record p { sisn = i; fetched_output = 0; answered = taken_units p; una = p.una - u; sent = p.sent - u; edge = p.edge - u; wl2 = p.wl2 - u }
+inside u i p =
+    record p { sisn = i; fetched_output = 0; answered = taken_units p; una = p.una - u; sent = p.sent - u; edge = p.edge - u; wl2 = p.wl2 - u; delays = false }
 
 -- The output of a connection continues inside at u, with the initial sequence number i: delta is the difference of one unit's sequence numbers, and u isn't
 -- past what is acknowledged, sent, or allowed by the client's window
@@ -38,6 +38,6 @@ pub record GoesOn (u i delta : ℕ) (p : Point) : Type 0 where
   pub sent : p.sent ≤ 2 ^ 25 + 1
   pub edge : u ≤ p.edge
   pub wl2 : u ≤ p.wl2
-  pub profile : HasProfile plain p
+  pub timing : KeepsTime p.timing
   -- until an acknowledgement has counted nothing is taken, sent or fetched
   pub syn_unacked : p.syn_acked ≡ false → (u ≡ 0) × (p.sent ≡ 0) × (p.edge ≡ 0) × (p.taken ≡ []) × (p.fin ≡ false) × (p.early ≡ nothing_early) × (p.fetched ≡ 0)

@@ -11,13 +11,13 @@ use Rattle.ft_model.specs.Reads.{next_read}
 use Rattle.ft_model.specs.Sending.{send_edge}
 use Rattle.ft_model.specs.Segments.{repeats_syn, syn_ack, bare_segment, or_bare, segments_of}
 use Rattle.seq_arith.specs.Packet.{Segment}
-use Rattle.tcp_endpoint.specs.Output.{leaving, flushed}
+use Rattle.tcp_endpoint.specs.Output.{flushed}
 use Rattle.tcp_endpoint.specs.States.{is_closed}
 use Rattle.tcp_endpoint.specs.Tcb.{Tcb}
 use Rattle.endpoint_laws.specs.ConnectionEnd.{IsNamedRightly}
 use Rattle.north_wrap.specs.NorthState.{NorthState, answered_on}
 use Rattle.north_wrap.specs.Refinement.{NorthStands, is_all_given}
-use Rattle.connection_laws.specs.Traffic.{passed, needs_ack_besides}
+use Rattle.connection_laws.specs.Traffic.{passed, tcp_out, needs_ack_besides}
 use Rattle.connection_laws.specs.Turn.{StandsInside}
 use Rattle.connection_laws.specs.ClosedTcp.{StandsClosed}
 use Rattle.connection_laws.specs.OutputFeed.{Feeds}
@@ -63,7 +63,7 @@ adds service news before after t = needs_ack_besides service news before after |
 abbrev pub leaves_with : {S : Type 0} → Machine S → Addr → (delta : ℕ) → News → (before after : Point) → Tcb → List Segment
 leaves_with service server delta news before after t =
     or_bare (adds service news before after t) (bare_segment server after)
-    (passed delta after (leaving t) ++ (if repeats news before then syn_ack server after ∷ [] else []))
+    (passed delta after (tcp_out news before after t) ++ (if repeats news before then syn_ack server after ∷ [] else []))
 
 -- a turn with these reads: it leads to a point after it by the laws, at which the parts then are, and what is sent is what the laws say
 pub record PartsTurn {S : Type 0} (service : Machine S) (server : Addr) (boot u i delta : ℕ) (news : News) (before : Point) (reads : List ℕ) (new : NorthState S) (t : Tcb) : Type 0 where

@@ -5,14 +5,14 @@ use Rattle.ft_io.specs.declared.Key.{Key}
 use Rattle.seq_arith.specs.declared.flags.TheConstants.{FIN, SYN, ACK}
 use Rattle.seq_arith.specs.Number.{distance, number_at}
 use Rattle.seq_arith.specs.Packet.{Segment}
-use Rattle.seq_arith.specs.Profile.{plain}
+use Rattle.seq_arith.specs.Profile.{Profile}
 use Rattle.ft_model.specs.News.News.{Comes}
 use Rattle.server_trait.specs.Service.{Machine}
 use Rattle.ft_model.specs.Log.{Entry}
 use Rattle.ft_model.specs.Restart.{point_of, resumed_at}
 use Rattle.connection_laws.specs.OutputFeed.{Feeds}
 use Rattle.connection_laws.specs.Parts.{StandsOpen}
-use Rattle.tcp_endpoint.specs.Tcb.{Tcb, listening}
+use Rattle.tcp_endpoint.specs.Tcb.{Tcb, listening_measuring}
 use Rattle.endpoint_laws.specs.Turn.{turned}
 
 -- a segment of the client with these numbers, no text and window 0
@@ -35,15 +35,22 @@ abbrev pub forged_fin : Key → Addr → (cisn fetched i : ℕ) → Segment
 forged_fin key local cisn fetched i = forged key local (number_at cisn fetched) (number_at i 0) (FIN + ACK) None
 
 -- what each turn sends is discarded
-unfoldable pub connected : Key → Addr → (cisn fetched mss i : ℕ) → Tcb
-connected key local cisn fetched mss i =
+unfoldable pub connected_measuring : (measures : Bool) → Key → Addr → (cisn fetched mss i : ℕ) → Tcb
+connected_measuring measures key local cisn fetched mss i =
     turned (Comes (forged_ack key local cisn fetched i)) []
-    (turned (Comes (forged_syn key local cisn fetched mss)) [] (listening local i (2 ^ 24 - fetched)))
+    (turned (Comes (forged_syn key local cisn fetched mss)) [] (listening_measuring measures local i (2 ^ 24 - fetched)))
+
+abbrev pub spliced_measuring : (measures : Bool) → Key → Addr → (cisn fetched mss i : ℕ) → (fin : Bool) → Tcb
+spliced_measuring measures key local cisn fetched mss i fin =
+    if fin then turned (Comes (forged_fin key local cisn fetched i)) [] (connected_measuring measures key local cisn fetched mss i)
+    else connected_measuring measures key local cisn fetched mss i
+
+-- .. and where nothing is measured
+abbrev pub connected : Key → Addr → (cisn fetched mss i : ℕ) → Tcb
+connected = connected_measuring false
 
 abbrev pub spliced : Key → Addr → (cisn fetched mss i : ℕ) → (fin : Bool) → Tcb
-spliced key local cisn fetched mss i fin =
-    if fin then turned (Comes (forged_fin key local cisn fetched i)) [] (connected key local cisn fetched mss i)
-    else connected key local cisn fetched mss i
+spliced = spliced_measuring false
 
 -- the entry and the initial sequence number from which a restart continues
 pub record GoesOnFrom {State : Type 0} (service : Machine State) (e : Entry) (i : ℕ) : Type 0 where
@@ -61,8 +68,8 @@ abbrev pub delta_from : {State : Type 0} → Machine State → Entry → (i : �
 delta_from service e i = distance ((e.sisn + resumed_at service e) % 2 ^ 32) i
 
 -- the endpoint is at the point inside that of the entry. Nothing is written to it yet, so it holds nothing of the output
-pub record StandsAtEntry {State : Type 0} (service : Machine State) (e : Entry) (i : ℕ) (t : Tcb) : Type 0 where
-  pub tcp : StandsOpen (resumed_at service e) i (delta_from service e i) (point_of service plain e) t
-  pub feeds : Feeds service (resumed_at service e) (point_of service plain e) (resumed_at service e) t
+pub record StandsAtEntry {State : Type 0} (service : Machine State) (profile : Profile) (e : Entry) (i : ℕ) (t : Tcb) : Type 0 where
+  pub tcp : StandsOpen (resumed_at service e) i (delta_from service e i) (point_of service profile e) t
+  pub feeds : Feeds service (resumed_at service e) (point_of service profile e) (resumed_at service e) t
   pub kept : t.reset ≡ false
   pub open_still : t.sending.closed ≡ false

@@ -7,7 +7,10 @@ use Rattle.server_trait.specs.Service.{Machine}
 use Rattle.ft_model.specs.Point.{Point, is_over}
 use Rattle.ft_model.specs.News.{News}
 use Rattle.ft_model.specs.News.News.{Comes, Begins}
+use Rattle.ft_model.specs.PendingAck.{is_delayed}
 use Rattle.ft_model.specs.Segments.{syn_acks, bare_segment, or_bare}
+use Rattle.tcp_endpoint.specs.Output.{full_out, leaving}
+use Rattle.tcp_endpoint.specs.Tcb.{Tcb}
 use Rattle.south_wrap.specs.Translation.{inward, outward, repeats_syn}
 use Rattle.south_wrap.specs.SouthPoint.{south_at}
 
@@ -19,6 +22,10 @@ news_inside delta before news = news
 -- TCP's segments are passed out as the south wrapper changes them. A RST, which TCP sends alone, isn't
 abbrev pub passed : (delta : ℕ) → Point → List Segment → List Segment
 passed delta after segments = if list_any has_rst segments then [] else map (outward (south_at delta after)) segments
+
+-- what TCP sends, where it is t before its flush: where the ACK waits for the log, the connection has TCP delay it
+abbrev pub tcp_out : News → (before after : Point) → Tcb → List Segment
+tcp_out news before after t = if is_delayed news before after then full_out t else leaving t
 
 -- an ACK is pending for a reason that TCP doesn't know: the connection was over before, or just became live ..
 abbrev pub asks_besides : {State : Type 0} → Machine State → News → Point → Bool

@@ -12,10 +12,10 @@ use Rattle.ft_model.specs.Connection.{LiveTurn}
 use Rattle.ft_model.specs.Segments.{segments_of}
 use Rattle.tcp_endpoint.specs.States.{has_begun}
 use Rattle.tcp_endpoint.specs.Tcb.{Tcb}
-use Rattle.endpoint_laws.specs.Turn.{Call, MayUse, IsBetweenTurns, arrived, before_flush, turned, sent_in}
+use Rattle.endpoint_laws.specs.Turn.{Call, MayUse, IsBetweenTurns, arrived, before_flush, turned}
 use Rattle.endpoint_laws.specs.Refinement.{StandsAt, IsUsedAt}
 use Rattle.connection_laws.specs.Inside.{swallowing, inside, GoesOn}
-use Rattle.connection_laws.specs.Traffic.{news_inside, passed, leaves}
+use Rattle.connection_laws.specs.Traffic.{news_inside, passed, tcp_out, leaves}
 
 -- a segment whose fields fit their bytes, and which acknowledges nothing far before the stream
 pub record SegmentFits (p : Point) (segment : Segment) : Type 0 where
@@ -58,4 +58,5 @@ pub record UsesInside {State : Type 0} (service : Machine State) (u i delta : �
 -- TCP is then at the point inside, and what it sent, as the client receives it and with what the connection adds, is what the law says
 pub record TurnsInside {State : Type 0} (service : Machine State) (u i delta : ℕ) (news : News) (p q : Point) (calls : List Call) (e : Tcb) : Type 0 where
   pub stands : StandsInside u i delta q (turned (news_inside delta p news) calls e)
-  pub segments : leaves service e.local news p q (passed delta q (sent_in (news_inside delta p news) calls e)) ≡ segments_of service e.local news p q
+  pub segments : leaves service e.local news p q (passed delta q (tcp_out news p q (before_flush (news_inside delta p news) calls e)))
+      ≡ segments_of service e.local news p q

@@ -3,7 +3,7 @@
 ghost use Rattle.std.specs.Prelude.{◌≡◌, ◌≤◌, ◌<◌, ◌^◌, ◌++◌, ℕ, false, List, [], length};
 ghost use Rattle.ft_io.specs.declared.Addr.{Addr};
 ghost use Rattle.server_trait.specs.Service.{machine};
-ghost use Rattle.seq_arith.specs.Profile.{plain};
+ghost use Rattle.seq_arith.specs.Profile.{Profile};
 ghost use Rattle.ft_model.specs.Log.{Entry};
 ghost use Rattle.ft_model.specs.Restart.{point_of, resumed_at};
 ghost use Rattle.ft_model.specs.Network.{Packet};
@@ -31,7 +31,7 @@ ghost use Rattle.connection_laws.specs.Traffic.{news_inside};
 ghost use Rattle.connection_laws.specs.Parts.{PartsStand, PartsRest, PartsTurn, north_after_news, adds};
 ghost use Rattle.connection_laws.specs.PointNumbers.{PartsTell, NewsTell};
 ghost use Rattle.connection_laws.specs.Turn.{NewsFit, IsLater, Turns, StandsInside, UsesInside, TurnsInside};
-ghost use Rattle.connection_laws.specs.Splice.{GoesOnFrom, delta_from, StandsAtEntry, spliced};
+ghost use Rattle.connection_laws.specs.Splice.{GoesOnFrom, delta_from, StandsAtEntry, spliced_measuring};
 
 use server_trait::Service;
 
@@ -48,20 +48,21 @@ pub fn connections_turn_by_their_tcp<S: Service>()
 /// A fresh endpoint that has received the forged segments of an entry is at the point inside that of the entry. The parts of a connection are then at the point
 /// of the entry, if its north wrapper was replayed.
 pub fn splices_stand_at_the_entry<S: Service>()
-    ensures tcp { (fresh : S) (i : ℕ) (local : Addr) (e : Entry) → GoesOnFrom (machine fresh S.after) e i
-        → StandsAtEntry (machine fresh S.after) e i (spliced e.key local e.cisn (length e.bytes) e.mss i e.fin) }
-    ensures parts { (fresh : S) (i : ℕ) (local : Addr) (e : Entry) (n : NorthState S) → GoesOnFrom (machine fresh S.after) e i
-        → HasReplayed (machine fresh S.after) (point_of (machine fresh S.after) plain e) (resumed_at (machine fresh S.after) e) n
+    ensures tcp { (fresh : S) (profile : Profile) (i : ℕ) (local : Addr) (e : Entry) → GoesOnFrom (machine fresh S.after) e i
+        → StandsAtEntry (machine fresh S.after) profile e i (spliced_measuring profile.measures e.key local e.cisn (length e.bytes) e.mss i e.fin) }
+    ensures parts { (fresh : S) (profile : Profile) (i : ℕ) (local : Addr) (e : Entry) (n : NorthState S) → GoesOnFrom (machine fresh S.after) e i
+        → HasReplayed (machine fresh S.after) (point_of (machine fresh S.after) profile e) (resumed_at (machine fresh S.after) e) n
         → PartsStand (machine fresh S.after) (resumed_at (machine fresh S.after) e) i (delta_from (machine fresh S.after) e i)
-        (resumed_at (machine fresh S.after) e) (point_of (machine fresh S.after) plain e) n (spliced e.key local e.cisn (length e.bytes) e.mss i e.fin) }
+        (resumed_at (machine fresh S.after) e) (point_of (machine fresh S.after) profile e) n
+        (spliced_measuring profile.measures e.key local e.cisn (length e.bytes) e.mss i e.fin) }
 {}
 
 /// A new connection begins with its SYN: its TCP is at the point inside, with delta 0, and sends only the law's SYN-ACK.
 pub fn new_connections_begin_by_their_syn<S: Service>()
-    ensures { (fresh : S) (boot : ℕ) (local : Addr) (numbers : Numbers) (after : Point) (calls : List Call) (sent : List Packet) → MayOpen numbers
-        → MayUse calls (received (listens_with local numbers) (opened_syn local numbers))
-        → LiveTurn (machine fresh S.after) local boot Begins (point_opened plain numbers) after sent
-        → BeginsInside (machine fresh S.after) local numbers after calls }
+    ensures { (fresh : S) (profile : Profile) (boot : ℕ) (local : Addr) (numbers : Numbers) (after : Point) (calls : List Call) (sent : List Packet) → MayOpen numbers
+        → MayUse calls (received (listens_with profile.measures local numbers) (opened_syn local numbers))
+        → LiveTurn (machine fresh S.after) local boot Begins (point_opened profile numbers) after sent
+        → BeginsInside (machine fresh S.after) profile local numbers after calls }
 {}
 
 /// In the turn in which TCP becomes CLOSED, since it has taken the client's FIN and its own is acknowledged, TCP sends nothing, and the connection is over. A
@@ -101,10 +102,10 @@ pub fn connections_turn_by_their_parts<S: Service>()
 
 /// A new connection starts in the same way, from the SYN that its TCP has received: only its SYN-ACK is sent.
 pub fn new_connections_start_with_their_parts<S: Service>()
-    ensures { (fresh : S) (boot : ℕ) (local : Addr) (numbers : Numbers) (old new : NorthState S) (reads : List ReadRecord) (t : Tcb) → MayOpen numbers
-        → NorthStands (machine fresh S.after) (point_opened plain numbers) 0 old → old.shut ≡ false
-        → NorthTurns S.after tcp_reader tcp_writer 0 old (received (listens_with local numbers) (opened_syn local numbers)) reads new t → new.run.made ≤ 2 ^ 24
-        → PartsTurn (machine fresh S.after) local boot 0 numbers.sisn 0 Begins (point_opened plain numbers) (lengths_of reads) new t }
+    ensures { (fresh : S) (profile : Profile) (boot : ℕ) (local : Addr) (numbers : Numbers) (old new : NorthState S) (reads : List ReadRecord) (t : Tcb) → MayOpen numbers
+        → NorthStands (machine fresh S.after) (point_opened profile numbers) 0 old → old.shut ≡ false
+        → NorthTurns S.after tcp_reader tcp_writer 0 old (received (listens_with profile.measures local numbers) (opened_syn local numbers)) reads new t → new.run.made ≤ 2 ^ 24
+        → PartsTurn (machine fresh S.after) local boot 0 numbers.sisn 0 Begins (point_opened profile numbers) (lengths_of reads) new t }
 {}
 
 /// At a tick the north wrapper needs no turn, since nothing is due between two turns, and the connection adds nothing.

@@ -12,8 +12,8 @@ use Rattle.ft_model.specs.News.News.{Comes, Logged, Ticks, Begins}
 use Rattle.tcp_endpoint.specs.States.{is_closed, is_syn_sent, has_begun}
 use Rattle.tcp_endpoint.specs.ReceiveHalf.{next, window, advertised_edge}
 use Rattle.tcp_endpoint.specs.SendHalf.{in_flight, is_unacknowledged}
-use Rattle.tcp_endpoint.specs.Tcb.{Tcb, listening, connecting}
-use Rattle.tcp_endpoint.specs.Output.{or_bare, head_at, opening_segment, text_at, fin_at, texts, reset_reply_segments, reset_reply_out, retransmitted_segment, retransmission_out, probes_text, probes_fin, probe_out, with_probe, new_length, text_out, with_text_sent, new_fin, fin_out, with_fin_out, full_out, after_full, is_ack_pending, bare_segment, leaving, with_advertised, with_turn_ended, flushed}
+use Rattle.tcp_endpoint.specs.Tcb.{Tcb, listening, listening_measuring, connecting_measuring}
+use Rattle.tcp_endpoint.specs.Output.{or_bare, head_at, opening_segment, text_at, fin_at, texts, reset_reply_segments, reset_reply_out, retransmitted_segment, retransmission_out, probes_text, probes_fin, probe_out, with_probe, new_length, text_out, with_text_sent, new_fin, fin_out, with_fin_out, full_out, after_full, is_ack_pending, bare_segment, leaving, with_advertised, with_turn_ended, flushed, with_timed}
 use Rattle.tcp_endpoint.specs.UserCalls.{after_tick, timer_ticked, waited}
 use Rattle.endpoint_laws.specs.Laws.{last_advertised, asks}
 use Rattle.endpoint_laws.specs.Turn.{Call, Events, arrived, called, used, before_flush, turned, sent_in}
@@ -108,7 +108,7 @@ unfolding with_text_sent with_probe
 texted_fin_tells u = fin_out_tells (with_text_sent (with_probe u))
 
 bare_tells : (u : Tcb) → Tells u (bare_segment (after_full u))
-unfolding bare_segment head_at after_full with_fin_out with_text_sent with_probe
+unfolding bare_segment head_at after_full with_timed with_fin_out with_text_sent with_probe
 bare_tells u = (refl, refl, refl, refl)
 
 -- a RST answers, or nothing
@@ -276,7 +276,7 @@ record TellsAll (e : Tcb) : Type 0 where
   heard : has_begun e.name ≡ true → last_advertised e ≡ (next e.receiving, advertised_edge e.receiving)
 
 tells_flushed : (u : Tcb) → TellsAll (flushed u)
-unfolding flushed with_turn_ended with_advertised after_full with_fin_out with_text_sent with_probe
+unfolding flushed with_turn_ended with_advertised after_full with_timed with_fin_out with_text_sent with_probe
 tells_flushed u = record { reset_reply = refl; heard = λ begun. told_by_flush u begun }
 
 turn_told : (news : News) (calls : List Call) (e : Tcb) → TellsAll e → ReadsOnlyTaken calls (arrived news e) → has_begun (before_flush news calls e).name ≡ true
@@ -293,12 +293,16 @@ acknowledges_on (turn ∷ turns) e t = (
   acknowledges_on turns (turned turn.news turn.calls e) (tells_flushed (before_flush turn.news turn.calls e)),
 )
 
-opens_untold : (local remote : Addr) (iss limit : ℕ) → TellsAll (listening local iss limit) × TellsAll (connecting local remote iss limit)
-unfolding connecting listening
-opens_untold local remote iss limit =
+opens_untold : (measures : Bool) (local remote : Addr) (iss limit : ℕ)
+    → TellsAll (listening_measuring measures local iss limit) × TellsAll (connecting_measuring measures local remote iss limit)
+unfolding connecting_measuring listening_measuring listening
+opens_untold measures local remote iss limit =
     (record { reset_reply = refl; heard = λ begun. absurd (false≢true begun) }, record { reset_reply = refl; heard = λ begun. absurd (false≢true begun) })
 
-pub acknowledges_law : (local remote : Addr) (iss limit : ℕ) (turns : List Events)
-    → AcknowledgesAll (listening local iss limit) turns × AcknowledgesAll (connecting local remote iss limit) turns
-acknowledges_law local remote iss limit turns =
-    let t = opens_untold local remote iss limit in (acknowledges_on turns (listening local iss limit) t.0, acknowledges_on turns (connecting local remote iss limit) t.1)
+pub acknowledges_law : (measures : Bool) (local remote : Addr) (iss limit : ℕ) (turns : List Events)
+    → AcknowledgesAll (listening_measuring measures local iss limit) turns × AcknowledgesAll (connecting_measuring measures local remote iss limit) turns
+acknowledges_law measures local remote iss limit turns =
+    let t = opens_untold measures local remote iss limit in (
+      acknowledges_on turns (listening_measuring measures local iss limit) t.0,
+      acknowledges_on turns (connecting_measuring measures local remote iss limit) t.1,
+    )

@@ -5,11 +5,11 @@ use Rattle.seq_arith.specs.Packet.{Segment}
 use Rattle.segment_codec.specs.declared.Head.{Head}
 use Rattle.tcp_endpoint.specs.declared.states.StateName.TheVariants.{Closed, Listen, SynSent}
 use Rattle.tcp_endpoint.specs.Tcb.{Tcb}
-use Rattle.tcp_endpoint.specs.Output.{reset_reply_segments, reset_reply_out, retransmission_out, probe_out, with_probe, text_out, texts, with_text_sent, fin_out, with_fin_out, full_out, after_full, is_ack_pending, leaving}
+use Rattle.tcp_endpoint.specs.Output.{reset_reply_segments, reset_reply_out, retransmission_out, probe_out, with_probe, text_out, texts, with_text_sent, fin_out, with_fin_out, full_out, after_full, is_ack_pending, leaving, with_timed}
 
 reset_reply_alone : (u : Tcb) (retransmission_due probe : Bool) (reset_reply : Option Head)
     → leaving (record u { name = Closed; retransmission_due = retransmission_due; probe = probe; reset_reply = reset_reply }) ≡ reset_reply_segments reset_reply
-unfolding leaving full_out reset_reply_out retransmission_out probe_out with_probe text_out texts with_text_sent fin_out is_ack_pending after_full with_fin_out
+unfolding leaving full_out reset_reply_out retransmission_out probe_out with_probe text_out texts with_text_sent fin_out is_ack_pending after_full with_timed with_fin_out
 reset_reply_alone u true true None = refl
 reset_reply_alone u true false None = refl
 reset_reply_alone u false true None = refl
@@ -35,7 +35,7 @@ closed_sends u closed = (λ i. leaving (record u { name = closed i })) ∙ reset
 -- .. and so in LISTEN and SYN-SENT, where nothing goes out again
 listen_alone : (u : Tcb) (probe : Bool) (reset_reply : Option Head)
     → leaving (record u { name = Listen; retransmission_due = false; probe = probe; reset_reply = reset_reply }) ≡ reset_reply_segments reset_reply
-unfolding leaving full_out reset_reply_out retransmission_out probe_out with_probe text_out texts with_text_sent fin_out is_ack_pending after_full with_fin_out
+unfolding leaving full_out reset_reply_out retransmission_out probe_out with_probe text_out texts with_text_sent fin_out is_ack_pending after_full with_timed with_fin_out
 listen_alone u true None = refl
 listen_alone u false None = refl
 listen_alone u true (Some head) = refl
@@ -43,7 +43,7 @@ listen_alone u false (Some head) = refl
 
 syn_sent_alone : (u : Tcb) (probe : Bool) (reset_reply : Option Head)
     → leaving (record u { name = SynSent; retransmission_due = false; probe = probe; reset_reply = reset_reply }) ≡ reset_reply_segments reset_reply
-unfolding leaving full_out reset_reply_out retransmission_out probe_out with_probe text_out texts with_text_sent fin_out is_ack_pending after_full with_fin_out
+unfolding leaving full_out reset_reply_out retransmission_out probe_out with_probe text_out texts with_text_sent fin_out is_ack_pending after_full with_timed with_fin_out
 syn_sent_alone u true None = refl
 syn_sent_alone u false None = refl
 syn_sent_alone u true (Some head) = refl

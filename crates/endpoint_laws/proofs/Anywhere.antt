@@ -35,6 +35,7 @@ point_of e = record (blank_point plain (record { ip = e.remote.ip; port = e.remo
   wl1 = offset_of e.receiving.irs e.sending.wl1 +ℤ pos (ahead e);
   wl2 = e.sending.wl2;
   congestion = e.sending.congestion;
+  timing = e.sending.timing;
   syn_acked = e.sending.syn_acked;
   interval = e.sending.interval;
   rest = e.sending.rest;

@@ -1,10 +1,11 @@
 -- What a turn's news make of an endpoint that stands at a point: they lead it to where the laws lead the point, and say what is due.
-use Rattle.std.proofs.Common.{◌≡◌, ℕ, ◌≤◌, ◌+◌, ◌-◌, Bool, true, false, not, Option, Some, None, List, [], ◌∷◌, length, max, refl, sym, ap, subst, arith, ◌∙◌}
+use Rattle.std.proofs.Common.{◌≡◌, ℕ, ◌≤◌, ◌+◌, ◌-◌, Bool, true, false, not, Option, Some, None, List, [], ◌∷◌, length, max, min, ◌*◌, refl, sym, ap, subst, arith, ◌∙◌}
 use Rattle.std.specs.Prelude.{pos, ◌+ℤ◌, ◌==◌, ◌&&◌, ◌||◌, nat_abs, nat_lt, int_lt, if◌then◌else◌}
 use Rattle.std.proofs.lemmas.Bool.{false≢true, or_left}
 use Rattle.seq_arith.specs.Number.{offset_of}
 use Rattle.seq_arith.specs.Arrival.{int_eq, una_after}
 use Rattle.seq_arith.specs.Congestion.{Congestion, with_expiry}
+use Rattle.seq_arith.specs.Timing.{Timing, with_acknowledged, with_tick, without_trip, with_backoff}
 use Rattle.seq_arith.specs.Packet.{Segment, has_syn, has_rst, has_ack}
 use Rattle.segment_codec.specs.declared.Head.{Head}
 use Rattle.seq_arith.specs.Offset.{one_if, first_of, length_of}
@@ -12,8 +13,7 @@ use Rattle.ft_model.specs.Point.{Point, taken_units}
 use Rattle.ft_model.specs.News.{News}
 use Rattle.ft_model.specs.News.News.{Comes, Logged, Ticks, Begins}
 use Rattle.ft_model.specs.Taken.{taken_after, early_after, fin_after}
-use Rattle.ft_model.specs.Sending.{syn_acked_after, acknowledged_after, edge_after, wl1_after, wl2_after, is_third_duplicate, congestion_after, is_first_expiry}
-use Rattle.ft_model.proofs.PlainTurns.{plain_first_expiry}
+use Rattle.ft_model.specs.Sending.{syn_acked_after, acknowledged_after, edge_after, wl1_after, wl2_after, is_third_duplicate, is_partial_ack, resends, congestion_after, is_first_expiry}
 use Rattle.ft_model.specs.Timer as timer
 use Rattle.ft_model.specs.PendingAck as rule
 use Rattle.tcp_endpoint.specs.States.{has_begun}
@@ -23,7 +23,8 @@ use Rattle.tcp_endpoint.specs.Tcb.{Tcb}
 use Rattle.tcp_endpoint.specs.Arrival.{first, ack_at, rst, received, with_reset_reply}
 use Rattle.tcp_endpoint.specs.Output.{reset_reply_segments, reset_reply_out}
 use Rattle.tcp_endpoint.specs.UserCalls.{after_tick, timer_ticked, waited}
-use Rattle.endpoint_laws.specs.Laws.{accepts, counts, acknowledges, congestion_ticked, misses_syn, is_refused, is_unsent_ack, needs_ack, IsSentBy, IsBounded, IsUsual, ProbesRightly, last_advertised}
+use Rattle.endpoint_laws.specs.Laws.{accepts, counts, acknowledges, congestion_ticked, misses_syn, is_refused, is_unsent_ack, needs_ack, IsSentBy, IsBounded, IsUsual, ProbesRightly, last_advertised, timing_by}
+use Rattle.endpoint_laws.specs.Laws as law
 use Rattle.endpoint_laws.specs.Turn.{IsUsualNews, IsBetweenTurns, arrived}
 use Rattle.endpoint_laws.specs.Refinement.{ReceivesAt, SendsAt, StandsAt, news_needs_ack, refuses, refusals}
 use Rattle.endpoint_laws.proofs.TakenLaw.{same_if, if_when}
@@ -34,7 +35,7 @@ use Rattle.endpoint_laws.proofs.OwedLaw.{ack_pending_law}
 use Rattle.endpoint_laws.proofs.ToldLaw.{told_by_segment, probed_by_tick}
 use Rattle.endpoint_laws.proofs.ResetReply.{Beside, IsApart, apart_beside, beside_is, reset_reply_is}
 use Rattle.endpoint_laws.proofs.Calls.{FinIsLast}
-use Rattle.endpoint_laws.proofs.StandingLaw.{Meets, next_is, accepts_is, first_is, ack_is, unsent_is, third_is, received_receives, received_sends}
+use Rattle.endpoint_laws.proofs.StandingLaw.{Meets, next_is, accepts_is, first_is, ack_is, unsent_is, una_is, loss_is, received_receives, received_sends}
 use Rattle.ft_io.proofs.Booleans.{false_or, or_false}
 use Rattle.ft_io.proofs.Choices.{of_if}
 use Rattle.seq_arith.proofs.Shifts.{point_shift}
@@ -63,7 +64,8 @@ pub record Arrived (news : News) (before : Point) (e m : Tcb) : Type 0 where
   pub bounds : IsBounded m
   pub fin_last : FinIsLast m.sending
   pub told : last_advertised m ≡ last_advertised e
-  pub retransmission_due : m.retransmission_due ≡ ((timer.expires news before && is_unacknowledged e.sending) || is_third_duplicate news before)
+  pub timing : m.sending.timing ≡ timer.timing_noted news (resends news before) before (acknowledged_after news before)
+  pub retransmission_due : m.retransmission_due ≡ ((timer.expires news before && is_unacknowledged e.sending) || resends news before)
   pub probe : m.probe ≡ (timer.expires news before && not (is_unacknowledged e.sending))
   pub probes : ProbesRightly m
   pub reset_reply : reset_reply_out m ≡ refusals e.local news before
@@ -238,6 +240,16 @@ ack_pending_is (Logged kept) p e begun between stands usual none = between.ack_p
 ack_pending_is Ticks p e begun between stands usual none = between.ack_pending
 ack_pending_is Begins p e begun between stands usual none = between.ack_pending
 
+-- the estimate after a segment
+timing_is : (p : Point) (e : Tcb) (segment : Segment) (una : ℕ) → Meets p e segment → p.timing ≡ e.sending.timing
+    → una ≡ acknowledged_after (Comes segment) p
+    → timing_by e segment una ≡ timer.timing_noted (Comes segment) (resends (Comes segment) p) p (acknowledged_after (Comes segment) p)
+unfolding timer.timing_noted
+timing_is p e segment una m timing same =
+    let measured : with_acknowledged (una - e.sending.una) e.sending.timing ≡ with_acknowledged (acknowledged_after (Comes segment) p - p.una) p.timing =
+    λ i. with_acknowledged (same i - sym m.sends.una i) (sym timing i) in
+    λ i. if sym (loss_is p e segment m) i then without_trip (measured i) else measured i
+
 -- the three kinds of news
 segment_arrives : (p : Point) (e : Tcb) (segment : Segment) → has_begun e.name ≡ true → IsBetweenTurns e → StandsAt p e → IsUsual e segment
     → Arrived (Comes segment) p e (received e segment)
@@ -257,7 +269,8 @@ segment_arrives p e segment begun between stands usual =
       fin_last = fin_last_kept e.sending (received e segment).sending (fin_sent_is e segment begun b usual) by.closed by.sent b.order una by.held
           between.fin_last;
       told = told_by_segment e segment begun;
-      retransmission_due = retransmission_law e segment begun b usual ∙ false_or e.retransmission_due _ between.retransmission_due ∙ sym (third_is p e segment m);
+      timing = by.timing ∙ timing_is p e segment (received e segment).sending.una m stands.timing (by.una ∙ sym (una_is p e segment m));
+      retransmission_due = retransmission_law e segment begun b usual ∙ false_or e.retransmission_due _ between.retransmission_due ∙ sym (loss_is p e segment m);
       probe = probe_is e segment begun b ∙ between.probe;
       probes = no_probe (received e segment) (probe_is e segment begun b ∙ between.probe);
       reset_reply = segment_reset_reply p e segment m begun between.reset_reply;
@@ -266,9 +279,10 @@ segment_arrives p e segment begun between stands usual =
     }
 
 nothing_arrives : (news : News) (p : Point) (e : Tcb) → IsBetweenTurns e → StandsAt p e → timer.is_tick news ≡ false
-    → is_third_duplicate news p ≡ false → moved news p ≡ p → refusals e.local news p ≡ [] → Arrived news p e e
+    → resends news p ≡ false → timer.timing_noted news (resends news p) p (acknowledged_after news p) ≡ p.timing → moved news p ≡ p
+    → refusals e.local news p ≡ [] → Arrived news p e e
 unfolding reset_reply_out
-nothing_arrives news p e between stands still none same quiet =
+nothing_arrives news p e between stands still none timing same quiet =
     let P : Point → Type 0 = λ q. ReceivesAt q e in
     let Q : Point → Type 0 = λ q. SendsAt q e in
     record {
@@ -280,6 +294,7 @@ nothing_arrives news p e between stands still none same quiet =
       bounds = between.bounds;
       fin_last = between.fin_last;
       told = refl;
+      timing = sym stands.timing ∙ sym timing;
       retransmission_due = between.retransmission_due ∙ (λ i. (sym still i && p.rest == 1 && is_unacknowledged e.sending) || sym none i);
       probe = between.probe ∙ sym (ap (λ v. v && p.rest == 1 && not (is_unacknowledged e.sending)) still);
       probes = no_probe e between.probe;
@@ -288,31 +303,32 @@ nothing_arrives news p e between stands still none same quiet =
       una = omega arith;
     }
 
--- a tick touches the timer and the congestion window alone
-ticked_by : {X : Type 0} (g : Sending → X) (s : Sending) (b : Bool) (c : Congestion) (interval rest left : ℕ)
-    → (g (record s { congestion = c; interval = interval; rest = rest }) ≡ g s)
-    → (g (record s { rest = left }) ≡ g s) → g (if b then record s { congestion = c; interval = interval; rest = rest } else record s { rest = left }) ≡ g s
-ticked_by g s true c interval rest left a b = a
-ticked_by g s false c interval rest left a b = b
+-- a tick touches the timer, its estimate and the congestion window alone
+ticked_by : {X : Type 0} (g : Sending → X) (s : Sending) (b : Bool) (c : Congestion) (t t' : Timing) (interval rest left : ℕ)
+    → (g (record s { congestion = c; timing = t; interval = interval; rest = rest }) ≡ g s) → (g (record s { timing = t'; rest = left }) ≡ g s)
+    → g (if b then record s { congestion = c; timing = t; interval = interval; rest = rest } else record s { timing = t'; rest = left }) ≡ g s
+ticked_by g s true c t t' interval rest left a b = a
+ticked_by g s false c t t' interval rest left a b = b
 
 tick_keeps : {X : Type 0} (g : Sending → X) (s : Sending)
-    → ((c : Congestion) (interval rest : ℕ) → g (record s { congestion = c; interval = interval; rest = rest }) ≡ g s) → g (ticked s) ≡ g s
-tick_keeps g s same = ticked_by g s (expires s) (congestion_expired s) _ _ _ (same _ _ _) (same s.congestion s.interval (s.rest - 1))
+    → ((c : Congestion) (t : Timing) (interval rest : ℕ) → g (record s { congestion = c; timing = t; interval = interval; rest = rest }) ≡ g s)
+    → g (ticked s) ≡ g s
+tick_keeps g s same = ticked_by g s (expires s) (congestion_expired s) _ _ _ _ _ (same _ _ _ _) (same s.congestion _ s.interval (s.rest - 1))
 
 ticked_sends : (p : Point) (e : Tcb) (c : Congestion) → (ticked e.sending).congestion ≡ c → SendsAt p e → SendsAt (record p { congestion = c }) (after_tick e)
 unfolding after_tick timer_ticked waited
 ticked_sends p e c congestion s =
     let t : Sending = e.sending in
-    let syn_acked : (ticked t).syn_acked ≡ t.syn_acked = tick_keeps (λ (q : Sending). q.syn_acked) t (λ c i r. refl) in
+    let syn_acked : (ticked t).syn_acked ≡ t.syn_acked = tick_keeps (λ (q : Sending). q.syn_acked) t (λ c t i r. refl) in
     record {
-      sisn = s.sisn ∙ sym (tick_keeps (λ (q : Sending). q.iss) t (λ c i r. refl));
-      mss = s.mss ∙ sym (tick_keeps (λ (q : Sending). q.mss) t (λ c i r. refl));
+      sisn = s.sisn ∙ sym (tick_keeps (λ (q : Sending). q.iss) t (λ c t i r. refl));
+      mss = s.mss ∙ sym (tick_keeps (λ (q : Sending). q.mss) t (λ c t i r. refl));
       syn_acked = s.syn_acked ∙ sym syn_acked;
-      una = s.una ∙ sym (tick_keeps (λ (q : Sending). q.una) t (λ c i r. refl));
-      edge = s.edge ∙ sym (tick_keeps (λ (q : Sending). q.edge) t (λ c i r. refl));
+      una = s.una ∙ sym (tick_keeps (λ (q : Sending). q.una) t (λ c t i r. refl));
+      edge = s.edge ∙ sym (tick_keeps (λ (q : Sending). q.edge) t (λ c t i r. refl));
       wl1 = λ h. s.wl1 (sym syn_acked ∙ h)
-          ∙ ap (λ n. offset_of e.receiving.irs n +ℤ pos p.fetched) (sym (tick_keeps (λ (q : Sending). q.wl1) t (λ c i r. refl)));
-      wl2 = s.wl2 ∙ sym (tick_keeps (λ (q : Sending). q.wl2) t (λ c i r. refl));
+          ∙ ap (λ n. offset_of e.receiving.irs n +ℤ pos p.fetched) (sym (tick_keeps (λ (q : Sending). q.wl1) t (λ c t i r. refl)));
+      wl2 = s.wl2 ∙ sym (tick_keeps (λ (q : Sending). q.wl2) t (λ c t i r. refl));
       congestion = sym congestion;
     }
 
@@ -324,20 +340,21 @@ lost_is : (p : Point) (e : Tcb) → StandsAt p e → congestion_ticked e.sending
 unfolding congestion_after
 lost_is p e stands =
     let s : SendsAt p e = stands.sends in
-    let first : (e.sending.interval == 1) ≡ is_first_expiry p = ap (λ n. n == 1) (sym stands.interval) ∙ sym (plain_first_expiry p stands.timing) in λ i.
+    let first : law.is_first_expiry e.sending ≡ is_first_expiry p =
+    λ i. if (sym stands.timing i).measures then not (sym stands.timing i).backed_off else sym stands.interval i == 1 in λ i.
     if sym stands.rest i == 1 && nat_lt (sym s.una i) (sym stands.sent i) && nat_lt (sym s.una i) (sym s.edge i)
     then with_expiry (sym s.mss i) (sym stands.sent i - sym s.una i) (first i) (sym s.congestion i) else sym s.congestion i
 
 tick_arrives : (p : Point) (e : Tcb) → IsBetweenTurns e → StandsAt p e → Arrived Ticks p e (after_tick e)
 unfolding after_tick timer_ticked waited taken_after early_after fin_after syn_acked_after acknowledged_after edge_after wl1_after wl2_after congestion_after
-    is_third_duplicate reset_reply_out
+    is_third_duplicate is_partial_ack timer.timing_noted reset_reply_out
 tick_arrives p e between stands =
     let t : Sending = e.sending in
     let runs_out : expires t ≡ timer.expires Ticks p = ap (λ n. n == 1) (sym stands.rest) in
     let lost : (ticked t).congestion ≡ congestion_after Ticks p = sending.ticked_law e between.bounds ∙ lost_is p e stands in
-    let sent : (ticked t).sent ≡ t.sent = tick_keeps (λ (q : Sending). q.sent) t (λ c i r. refl) in
-    let una : (ticked t).una ≡ t.una = tick_keeps (λ (q : Sending). q.una) t (λ c i r. refl) in
-    let held : length (ticked t).held ≡ length t.held = tick_keeps (λ (q : Sending). length q.held) t (λ c i r. refl) in
+    let sent : (ticked t).sent ≡ t.sent = tick_keeps (λ (q : Sending). q.sent) t (λ c t i r. refl) in
+    let una : (ticked t).una ≡ t.una = tick_keeps (λ (q : Sending). q.una) t (λ c t i r. refl) in
+    let held : length (ticked t).held ≡ length t.held = tick_keeps (λ (q : Sending). length q.held) t (λ c t i r. refl) in
     record {
       local = refl;
       remote = refl;
@@ -345,21 +362,24 @@ tick_arrives p e between stands =
       sends = ticked_sends p e _ lost stands.sends;
       sent = sent;
       bounds = bounded_by_tick e between.bounds;
-      fin_last = fin_last_kept t (ticked t) (tick_keeps (λ (q : Sending). q.fin_sent) t (λ c i r. refl))
-          (tick_keeps (λ (q : Sending). q.closed) t (λ c i r. refl)) sent between.bounds.order (omega (arith, una)) (omega (arith, una, held)) between.fin_last;
+      fin_last = fin_last_kept t (ticked t) (tick_keeps (λ (q : Sending). q.fin_sent) t (λ c t i r. refl))
+          (tick_keeps (λ (q : Sending). q.closed) t (λ c t i r. refl)) sent between.bounds.order (omega (arith, una)) (omega (arith, una, held)) between.fin_last;
       told = refl;
+      timing = sending.ticked_timing e
+          ∙ (λ i. if sym stands.rest i == 1 then with_backoff (min 64 (2 * sym stands.interval i)) (sym stands.timing i) else with_tick (sym stands.timing i));
       retransmission_due = false_or e.retransmission_due _ between.retransmission_due ∙ ap (λ v. v && is_unacknowledged t) runs_out ∙ or_false _;
       probe = false_or e.probe _ between.probe ∙ ap (λ v. v && not (is_unacknowledged t)) runs_out;
       probes = probed_by_tick e between.probe between.bounds between.shut;
       reset_reply = ap reset_reply_segments between.reset_reply;
-      target = λ h. omega (arith, tick_keeps target t (λ c i r. refl));
+      target = λ h. omega (arith, tick_keeps target t (λ c t i r. refl));
       una = omega (arith, una);
     }
 
 -- all kinds
 pub arrives : (news : News) (p : Point) (e : Tcb) → has_begun e.name ≡ true → IsBetweenTurns e → StandsAt p e → IsUsualNews news e → Arrived news p e (arrived news e)
-unfolding taken_after early_after fin_after syn_acked_after acknowledged_after edge_after wl1_after wl2_after congestion_after is_third_duplicate
+unfolding taken_after early_after fin_after syn_acked_after acknowledged_after edge_after wl1_after wl2_after congestion_after is_third_duplicate is_partial_ack
+    timer.timing_noted
 arrives (Comes segment) p e begun between stands usual = segment_arrives p e segment begun between stands usual
-arrives (Logged kept) p e begun between stands usual = nothing_arrives (Logged kept) p e between stands refl refl refl refl
+arrives (Logged kept) p e begun between stands usual = nothing_arrives (Logged kept) p e between stands refl refl refl refl refl
 arrives Ticks p e begun between stands usual = tick_arrives p e between stands
-arrives Begins p e begun between stands usual = nothing_arrives Begins p e between stands refl refl refl refl
+arrives Begins p e begun between stands usual = nothing_arrives Begins p e between stands refl refl refl refl refl

@@ -1,5 +1,5 @@
 -- The bounds on an endpoint's offsets are kept.
-use Rattle.std.proofs.Common.{◌≡◌, ℕ, ◌<◌, ◌≤◌, ◌+◌, ◌-◌, ◌^◌, Bool, true, false, not, List, ◌++◌, length, length-append, length-drop, drop, max, min, Option, Some, None, refl, sym, ap, subst, arith, ◌∙◌}
+use Rattle.std.proofs.Common.{◌≡◌, ℕ, ◌<◌, ◌≤◌, ◌+◌, ◌-◌, ◌*◌, ◌^◌, Bool, true, false, not, List, ◌++◌, length, length-append, length-drop, drop, max, min, Option, Some, None, refl, sym, ap, subst, arith, ◌∙◌}
 use Rattle.std.specs.Prelude.{ℤ, pos, ◌==◌, ◌&&◌, nat_abs, nat_lt, int_le, if◌then◌else◌}
 use Rattle.std.proofs.lemmas.Int.{ints}
 use Rattle.std.proofs.lemmas.Bool.{false≢true}
@@ -9,7 +9,7 @@ use Rattle.seq_arith.specs.Coming.{Came, StandsBehind}
 use Rattle.seq_arith.proofs.Gaps.{offset_leads}
 use Rattle.seq_arith.specs.Congestion.{Congestion, with_new_data, with_duplicate, with_expiry, IsOpen}
 use Rattle.seq_arith.proofs.Congested.{opens, new_data_open, duplicate_open, expiry_open}
-use Rattle.seq_arith.proofs.Unmeasured.{duplicate_recovers}
+use Rattle.seq_arith.specs.Timing.{Timing, with_sent as with_unit_sent}
 use Rattle.seq_arith.specs.Packet.{Segment, segment_size, has_syn, has_rst, has_ack}
 use Rattle.ft_io.specs.declared.Addr.{Addr}
 use Rattle.seq_arith.specs.Offset.{one_if, text_of, fin_of}
@@ -18,16 +18,17 @@ use Rattle.tcp_endpoint.specs.declared.states.StateName.{StateName}
 use Rattle.tcp_endpoint.specs.declared.states.StateName.TheVariants.{Listen, SynSent}
 use Rattle.tcp_endpoint.specs.States.{has_begun}
 use Rattle.tcp_endpoint.specs.ReceiveHalf.{Receiving, taken, receive_edge, came, with_came, with_segment, read_out}
-use Rattle.tcp_endpoint.specs.SendHalf.{Sending, with_segment_size, with_syn_acked, acknowledged, moves_edge, send_edge, sendable, expires, is_lost, ticked, timed, with_sent, with_fin_sent, IsShort}
-use Rattle.tcp_endpoint.specs.Tcb.{Tcb, listening, connecting}
+use Rattle.tcp_endpoint.specs.SendHalf.{Sending, with_segment_size, with_syn_acked, acknowledged, moves_edge, send_edge, sendable, expires, is_lost, ticked, timed, with_sent, with_fin_sent, with_unit_timed, timing_acknowledged, in_flight, IsShort}
+use Rattle.tcp_endpoint.specs.Tcb.{Tcb, listening, listening_measuring, connecting, connecting_measuring}
 use Rattle.tcp_endpoint.specs.Arrival.{first, ack_at, received, received_in, in_listen, begun, with_reset_reply, answered, in_syn_sent}
-use Rattle.tcp_endpoint.specs.Output.{probes_text, probes_fin, with_probe, with_text_sent, new_fin, with_fin_out, after_full, with_advertised, is_timed, with_turn_ended, flushed}
+use Rattle.tcp_endpoint.specs.Output.{probes_text, probes_fin, with_probe, with_text_sent, new_fin, with_fin_out, with_timed, after_full, with_advertised, is_timed, with_turn_ended, flushed}
 use Rattle.tcp_endpoint.specs.UserCalls.{after_tick, timer_ticked, waited, after_read, after_write}
-use Rattle.endpoint_laws.specs.Laws.{counts, acknowledges, is_duplicate, congestion_by, taken_by, Bounds, IsBounded, IsUsual}
-use Rattle.endpoint_laws.proofs.TakenLaw.{taken_law}
-use Rattle.endpoint_laws.proofs.SendingLaw.{sending_is, held_field, near_of_counts}
+use Rattle.endpoint_laws.specs.Laws.{counts, acknowledges, is_duplicate, congestion_by, timing_by, taken_by, KeepsTime, Bounds, IsBounded, IsUsual}
+use Rattle.endpoint_laws.proofs.TakenLaw.{taken_law, counted}
+use Rattle.endpoint_laws.proofs.SendingLaw.{new_test, sending_is, held_field, near_of_counts}
+use Rattle.endpoint_laws.proofs.Timings.{choice_within, initial_keeps, acknowledged_keeps, tick_keeps, trip_keeps, backoff_keeps, unit_keeps, by_ack_lost, expiry_lost}
 use Rattle.seq_arith.proofs.Coming.{stays_behind, comes_within, behind_within, behind_up, nothing_behind}
-use Rattle.ft_io.proofs.Booleans.{left_true}
+use Rattle.ft_io.proofs.Booleans.{left_true, right_true}
 use Rattle.ft_io.proofs.Choices.{holds_either_way}
 
 -- what is held comes after the bytes taken
@@ -37,9 +38,13 @@ HoldsBehind r = StandsBehind (taken r) (receive_edge r) r.fin r.early
 pub bounded_is_short : (e : Tcb) → IsBounded e → IsShort e.sending
 bounded_is_short e b = record { sent = grind (arith, b.sent); wl2 = grind (arith, b.wl2, b.order, b.sent) }
 
-pub bounded_at_listen : (local : Addr) (iss limit : ℕ) → limit ≤ 2 ^ 24 → IsBounded (listening local iss limit)
-unfolding listening
-bounded_at_listen local iss limit small = record {
+some_base : (measures : Bool) → 1 ≤ (if measures then 10 else 1)
+some_base true = omega arith
+some_base false = omega arith
+
+pub bounded_at_listen_measuring : (measures : Bool) (local : Addr) (iss limit : ℕ) → limit ≤ 2 ^ 24 → IsBounded (listening_measuring measures local iss limit)
+unfolding listening_measuring listening
+bounded_at_listen_measuring measures local iss limit small = record {
   limit = grind arith;
   taken = omega arith;
   early = nothing_behind 0 (min 65535 (min limit (2 ^ 30))) false (omega arith);
@@ -54,9 +59,15 @@ bounded_at_listen local iss limit small = record {
   wl2 = omega arith;
   edge = omega arith;
   reach = omega arith;
-  congestion = opens false 536 (omega arith);
-  recovers = refl;
+  congestion = opens measures 536 (omega arith);
+  lost = omega arith;
+  timing = initial_keeps measures;
+  interval = some_base measures;
 }
+
+pub bounded_at_listen : (local : Addr) (iss limit : ℕ) → limit ≤ 2 ^ 24 → IsBounded (listening local iss limit)
+unfolding listening_measuring listening
+bounded_at_listen local iss limit small = bounded_at_listen_measuring false local iss limit small
 
 -- a segment has room for text, whatever the peer's SYN offers
 some_size : (mss : Option ℕ) → 1 ≤ segment_size mss
@@ -82,7 +93,9 @@ syn_unacked_irs r s irs mss some syn_unacked b = record {
   edge = b.edge;
   reach = b.reach;
   congestion = opens s.congestion.recovers mss some;
-  recovers = b.recovers;
+  lost = omega arith;
+  timing = b.timing;
+  interval = b.interval;
 }
 
 bounded_if : (b : Bool) (x y : Tcb) → IsBounded x → IsBounded y → IsBounded (if b then x else y)
@@ -142,14 +155,31 @@ by_segment_open : (e : Tcb) (p : Segment) → IsBounded e → IsOpen e.sending.m
 by_segment_open e p b =
     by_ack_open (acknowledges e p && nat_lt e.sending.una (nat_abs (ack_at e p))) (is_duplicate e p) e.sending.mss _ _ e.sending.congestion b.congestion
 
-by_segment_recovers : (e : Tcb) (p : Segment) → IsBounded e → (congestion_by e p).recovers ≡ false
-unfolding with_new_data
-by_segment_recovers e p b =
+less_up : (m n : ℕ) → nat_lt m n ≡ true → m ≤ n
+less_up m n h = grind arith
+
+by_segment_lost : (e : Tcb) (p : Segment) → IsBounded e → IsUsual e p → counts e p ≡ true
+    → (congestion_by e p).lost ≤ e.sending.sent - (if is_new_ack e.sending.una e.sending.sent (ack_at e p) then nat_abs (ack_at e p) else e.sending.una)
+by_segment_lost e p b usual does_count =
     let s : Sending = e.sending in
-    let Plain : Congestion → Type 0 = λ x. x.recovers ≡ false in
-    holds_either_way Plain (acknowledges e p && nat_lt s.una (nat_abs (ack_at e p))) (with_new_data s.mss (nat_abs (ack_at e p) - s.una) s.congestion) _ b.recovers
-    (holds_either_way Plain (is_duplicate e p) (with_duplicate s.mss (s.sent - s.una) s.congestion) s.congestion
-    (duplicate_recovers s.mss (s.sent - s.una) s.congestion ∙ b.recovers) b.recovers)
+    let ack : ℕ = nat_abs (ack_at e p) in
+    let new : Bool = acknowledges e p && nat_lt s.una ack in
+    let is_new : is_new_ack s.una s.sent (ack_at e p) ≡ new =
+    new_test s.una s.sent (ack_at e p) (counted e p does_count).sent ∙ ap (λ v. v && int_le (pos 0) (ack_at e p) && nat_lt s.una ack) (sym does_count) in
+    subst (λ (v : Bool). (congestion_by e p).lost ≤ s.sent - (if v then ack else s.una)) (sym is_new)
+    (by_ack_lost new (is_duplicate e p) s.mss s.una ack s.sent s.congestion b.lost (λ h. less_up s.una ack (right_true (acknowledges e p) (nat_lt s.una ack) h)))
+
+-- the estimate, and the interval
+by_segment_keeps : (e : Tcb) (p : Segment) (una : ℕ) → IsBounded e → KeepsTime (timing_by e p una)
+by_segment_keeps e p una b = trip_keeps _ _ (acknowledged_keeps (una - e.sending.una) e.sending.timing b.timing)
+
+choice_some : (x y : ℕ) (b : Bool) → 1 ≤ x → 1 ≤ y → 1 ≤ (if b then x else y)
+choice_some x y true p q = p
+choice_some x y false p q = q
+
+acknowledged_some : (s : Sending) (z : ℤ) → KeepsTime s.timing → 1 ≤ (timing_acknowledged s z).base
+acknowledged_some s z k =
+    holds_either_way (λ (t : Timing). 1 ≤ t.base) (is_new_ack s.una s.sent z) _ s.timing (acknowledged_keeps (nat_abs z - s.una) s.timing k).base k.base
 
 -- the sending half, for a later acknowledgement
 pub new_within : (una sent : ℕ) (z : ℤ) → una ≤ sent → (if is_new_ack una sent z then nat_abs z else una) ≤ sent
@@ -163,18 +193,15 @@ pub near_of_choice : (irs x y : ℕ) (b : Bool) → IsNearFirst (offset_of irs x
 near_of_choice irs x y true p q = p
 near_of_choice irs x y false p q = q
 
-pub choice_within : (x y n : ℕ) (b : Bool) → (b ≡ true → x ≤ n) → y ≤ n → (if b then x else y) ≤ n
-choice_within x y n true p q = p refl
-choice_within x y n false p q = q
-
 pub not_less : (una sent : ℕ) (z : ℤ) → una ≤ (if is_new_ack una sent z then nat_abs z else una)
 not_less una sent z = grind (arith, ints)
 
-later_bounds : (r : Receiving) (s : Sending) (seq window : ℕ) (z : ℤ) (c : Congestion) → Bounds r s → IsOpen s.mss c → c.recovers ≡ false → IsNearFirst (offset_of r.irs seq)
+later_bounds : (r : Receiving) (s : Sending) (seq window : ℕ) (z : ℤ) (c : Congestion) (t : Timing) → Bounds r s → IsOpen s.mss c
+    → c.lost ≤ s.sent - (if is_new_ack s.una s.sent z then nat_abs z else s.una) → KeepsTime t → IsNearFirst (offset_of r.irs seq)
     → seq < 2 ^ 32 → window ≤ 65535 → s.syn_acked ≡ true → (r' : Receiving) → r'.limit ≤ 2 ^ 24 → taken r' ≤ r'.limit → HoldsBehind r' → r'.irs ≡ r.irs
-    → Bounds r' (record (acknowledged s seq z window) { congestion = c })
+    → Bounds r' (record (acknowledged s seq z window) { congestion = c; timing = t })
 unfolding acknowledged
-later_bounds r s seq window z c b wide same near fits small is_syn_acked r' limit within behind irs =
+later_bounds r s seq window z c t b wide few keeps near fits small is_syn_acked r' limit within behind irs =
     let una : ℕ = if is_new_ack s.una s.sent z then nat_abs z else s.una in
     let una_sent : una ≤ s.sent = new_within s.una s.sent z b.order in
     let kept : una + length (if is_new_ack s.una s.sent z then drop (nat_abs z - s.una) s.held else s.held) ≡ max una (s.una + length s.held) =
@@ -197,7 +224,9 @@ later_bounds r s seq window z c b wide same near fits small is_syn_acked r' limi
       edge = choice_within (nat_abs z + window) s.edge (2 ^ 24 + 2 ^ 16 + 1) (moves_edge s seq z) (λ h. grind (arith, moved h, b.sent)) b.edge;
       reach = choice_within (nat_abs z + window) s.edge (una + 65535) (moves_edge s seq z) (λ h. omega (arith, (moved h).0, small)) (omega (arith, b.reach, not_less s.una s.sent z));
       congestion = wide;
-      recovers = same;
+      lost = few;
+      timing = keeps;
+      interval = choice_some (timing_acknowledged s z).base s.interval (is_new_ack s.una s.sent z) (acknowledged_some s z b.timing) b.interval;
     }
 
 first_bounds : (r : Receiving) (s : Sending) (seq window : ℕ) → Bounds r s → IsNearFirst (offset_of r.irs seq) → seq < 2 ^ 32 → window ≤ 65535 → s.syn_acked ≡ false
@@ -220,7 +249,9 @@ first_bounds r s seq window b near fits small syn_unacked r' limit within behind
       edge = omega (arith, small);
       reach = omega (arith, small);
       congestion = b.congestion;
-      recovers = b.recovers;
+      lost = omega (arith, b.lost, b.syn_unacked syn_unacked);
+      timing = b.timing;
+      interval = b.timing.base;
     }
 
 pub other_bounds : (r : Receiving) (s : Sending) → Bounds r s → (r' : Receiving) → r'.limit ≤ 2 ^ 24 → taken r' ≤ r'.limit → HoldsBehind r' → r'.irs ≡ r.irs → Bounds r' s
@@ -240,7 +271,9 @@ other_bounds r s b r' limit within behind irs = record {
   edge = b.edge;
   reach = b.reach;
   congestion = b.congestion;
-  recovers = b.recovers;
+  lost = b.lost;
+  timing = b.timing;
+  interval = b.interval;
 }
 
 chosen_bounds : (r : Receiving) (x y z : Sending) (c o : Bool) → (c ≡ true → o ≡ true → Bounds r x) → (c ≡ true → o ≡ false → Bounds r y) → Bounds r z
@@ -257,9 +290,10 @@ bounded_by_segment e p begun b usual =
     let within : taken r' ≤ r'.limit = w.taken b.taken b.early in
     let behind : HoldsBehind r' = w.behind b.early in
     let bounds = chosen_bounds r' _ _ _ (counts e p) e.sending.syn_acked
-    (λ counted h. later_bounds e.receiving e.sending p.head.seq p.head.window (ack_at e p) (congestion_by e p) b (by_segment_open e p b) (by_segment_recovers e p b)
-    (near_of_counts e p b usual counted) usual.seq usual.window h r' limit within behind w.irs)
-    (λ counted h. first_bounds e.receiving e.sending p.head.seq p.head.window b (near_of_counts e p b usual counted) usual.seq usual.window h r' limit within behind w.irs)
+    (λ does h. later_bounds e.receiving e.sending p.head.seq p.head.window (ack_at e p) (congestion_by e p) _ b (by_segment_open e p b) (by_segment_lost e p b usual does)
+    (by_segment_keeps e p _ b)
+    (near_of_counts e p b usual does) usual.seq usual.window h r' limit within behind w.irs)
+    (λ does h. first_bounds e.receiving e.sending p.head.seq p.head.window b (near_of_counts e p b usual does) usual.seq usual.window h r' limit within behind w.irs)
     (other_bounds e.receiving e.sending b r' limit within behind w.irs) in
     let P : Receiving → Type 0 = λ r. Bounds r (received e p).sending in
     let Q : Sending → Type 0 = λ s. Bounds r' s in
@@ -284,7 +318,9 @@ sent_more r s n b flight sent syn_unacked = record {
   edge = b.edge;
   reach = b.reach;
   congestion = b.congestion;
-  recovers = b.recovers;
+  lost = omega (arith, b.lost);
+  timing = b.timing;
+  interval = b.interval;
 }
 
 fin_more : (r : Receiving) (s : Sending) → Bounds r s → s.fin_sent ≡ false → s.syn_acked ≡ true → Bounds r (with_fin_sent s)
@@ -307,12 +343,14 @@ fin_more r s b unsent is_syn_acked =
       edge = b.edge;
       reach = b.reach;
       congestion = b.congestion;
-      recovers = b.recovers;
+      lost = omega (arith, b.lost);
+      timing = b.timing;
+      interval = b.interval;
     }
 
-timer_bounds : (r : Receiving) (s : Sending) (c : Congestion) (interval rest : ℕ) → Bounds r s → IsOpen s.mss c → c.recovers ≡ false
-    → Bounds r (record s { congestion = c; interval = interval; rest = rest })
-timer_bounds r s c interval rest b wide same = record {
+timer_bounds : (r : Receiving) (s : Sending) (c : Congestion) (t : Timing) (interval rest : ℕ) → Bounds r s → IsOpen s.mss c → c.lost ≤ s.sent - s.una
+    → KeepsTime t → 1 ≤ interval → Bounds r (record s { congestion = c; timing = t; interval = interval; rest = rest })
+timer_bounds r s c t interval rest b wide few keeps some = record {
   limit = b.limit;
   taken = b.taken;
   early = b.early;
@@ -328,7 +366,9 @@ timer_bounds r s c interval rest b wide same = record {
   edge = b.edge;
   reach = b.reach;
   congestion = wide;
-  recovers = same;
+  lost = few;
+  timing = keeps;
+  interval = some;
 }
 
 bounds_if : (r : Receiving) (b : Bool) (x y : Sending) → (b ≡ true → Bounds r x) → (b ≡ false → Bounds r y) → Bounds r (if b then x else y)
@@ -339,15 +379,19 @@ expired_open : (lost : Bool) (mss flight : ℕ) (first : Bool) (c : Congestion) 
 expired_open true mss flight first c o = expiry_open mss flight first c o
 expired_open false mss flight first c o = o
 
-expired_recovers : (lost : Bool) (mss flight : ℕ) (first : Bool) (c : Congestion) → c.recovers ≡ false → (if lost then with_expiry mss flight first c else c).recovers ≡ false
-unfolding with_expiry
-expired_recovers true mss flight first c o = o
-expired_recovers false mss flight first c o = o
+expired_lost : (lost : Bool) (mss flight : ℕ) (first : Bool) (c : Congestion) → c.lost ≤ flight → (if lost then with_expiry mss flight first c else c).lost ≤ flight
+expired_lost true mss flight first c few = expiry_lost mss flight first c
+expired_lost false mss flight first c few = few
+
+longer : (n : ℕ) → 1 ≤ n → 1 ≤ min 64 (2 * n)
+longer n some = omega (arith, some)
 
 ticked_bounds : (r : Receiving) (s : Sending) → Bounds r s → Bounds r (ticked s)
 ticked_bounds r s b =
-    bounds_if r (expires s) _ _ (λ h. timer_bounds r s _ _ _ b (expired_open (is_lost s) s.mss _ _ s.congestion b.congestion) (expired_recovers (is_lost s) s.mss _ _ s.congestion b.recovers))
-    (λ h. timer_bounds r s _ _ _ b b.congestion b.recovers)
+    bounds_if r (expires s) _ _
+    (λ h. timer_bounds r s _ _ _ _ b (expired_open (is_lost s) s.mss _ _ s.congestion b.congestion) (expired_lost (is_lost s) s.mss _ _ s.congestion b.lost)
+    (backoff_keeps (min 64 (2 * s.interval)) s.timing (longer s.interval b.interval) b.timing) (longer s.interval b.interval))
+    (λ h. timer_bounds r s _ _ _ _ b b.congestion b.lost (tick_keeps s.timing b.timing) b.interval)
 
 pub bounded_by_tick : (e : Tcb) → IsBounded e → IsBounded (after_tick e)
 unfolding after_tick timer_ticked waited
@@ -385,7 +429,9 @@ bounded_by_more e bytes few b =
       edge = b.edge;
       reach = b.reach;
       congestion = b.congestion;
-      recovers = b.recovers;
+      lost = b.lost;
+      timing = b.timing;
+      interval = b.interval;
     }
 
 pub bounded_by_write : (e : Tcb) (bytes : List ℕ) → e.sending.una + length e.sending.held + length bytes ≤ 2 ^ 24 → IsBounded e → IsBounded (after_write e bytes)
@@ -475,16 +521,34 @@ fin_bounds e b =
 
 timed_bounds : (r : Receiving) (s : Sending) (runs : Bool) → Bounds r s → Bounds r (timed runs s)
 timed_bounds r s runs b =
-    bounds_if r runs _ _ (λ h. bounds_if r (s.rest == 0) _ _ (λ k. timer_bounds r s _ _ _ b b.congestion b.recovers) (λ k. b)) (λ h. timer_bounds r s _ _ _ b b.congestion b.recovers)
+    bounds_if r runs _ _
+    (λ h. bounds_if r (s.rest == 0) _ _ (λ k. timer_bounds r s _ _ _ _ b b.congestion b.lost b.timing b.timing.base) (λ k. b))
+    (λ h. timer_bounds r s _ _ _ _ b b.congestion b.lost b.timing b.timing.base)
+
+some_more : (n : ℕ) → 1 ≤ n + 1
+some_more n = omega arith
+
+trip_bounds : (r : Receiving) (s : Sending) (place : ℕ) → Bounds r s → Bounds r (with_unit_timed place s)
+trip_bounds r s place b =
+    timer_bounds r s s.congestion (with_unit_timed place s).timing s.interval s.rest b b.congestion b.lost
+    (holds_either_way KeepsTime (nat_lt place (in_flight s)) (with_unit_sent (place + 1) s.timing) s.timing
+    (unit_keeps (place + 1) s.timing (some_more place) b.timing) b.timing)
+    b.interval
 
 pub bounded_by_flush : (e : Tcb) → IsBounded e → IsBounded (flushed e)
-unfolding flushed with_turn_ended with_advertised after_full
+unfolding flushed with_turn_ended with_advertised after_full with_timed
 bounded_by_flush e b =
-    let after : Tcb = with_fin_out (with_text_sent (with_probe e)) in
-    let bounds : IsBounded after = fin_bounds _ (text_bounds _ (probe_bounds e b)) in
-    timed_bounds after.receiving after.sending (is_timed after) bounds
+    let sent : Tcb = with_fin_out (with_text_sent (with_probe e)) in
+    let after : Tcb = with_timed (in_flight (with_probe e).sending) sent in
+    let bounds : IsBounded sent = fin_bounds _ (text_bounds _ (probe_bounds e b)) in
+    timed_bounds after.receiving after.sending (is_timed after) (trip_bounds sent.receiving sent.sending (in_flight (with_probe e).sending) bounds)
 
 -- an active open
+pub bounded_at_connect_measuring : (measures : Bool) (local remote : Addr) (iss limit : ℕ) → limit ≤ 2 ^ 24
+    → IsBounded (connecting_measuring measures local remote iss limit)
+unfolding connecting_measuring listening_measuring listening
+bounded_at_connect_measuring measures local remote iss limit small = bounded_at_listen_measuring measures local iss limit small
+
 pub bounded_at_connect : (local remote : Addr) (iss limit : ℕ) → limit ≤ 2 ^ 24 → IsBounded (connecting local remote iss limit)
 unfolding connecting listening
 bounded_at_connect local remote iss limit small = bounded_at_listen local iss limit small
@@ -513,7 +577,9 @@ answered_bounds r s seq window mss b some fits small syn_unacked =
       edge = omega (arith, small);
       reach = omega (arith, small);
       congestion = opens s.congestion.recovers mss some;
-      recovers = b.recovers;
+      lost = omega arith;
+      timing = b.timing;
+      interval = b.timing.base;
     }
 
 in_syn_sent_bounded : (e : Tcb) (p : Segment) → e.sending.syn_acked ≡ false → IsBounded e → p.head.seq < 2 ^ 32 → p.head.window ≤ 65535 → IsBounded (in_syn_sent e p)

@@ -28,6 +28,7 @@ pub record SendsAs (m u : Sending) : Type 0 where
   pub wl1 : u.wl1 ≡ m.wl1
   pub wl2 : u.wl2 ≡ m.wl2
   pub congestion : u.congestion ≡ m.congestion
+  pub timing : u.timing ≡ m.timing
   pub fin_sent : u.fin_sent ≡ m.fin_sent
   pub mss : u.mss ≡ m.mss
   pub interval : u.interval ≡ m.interval
@@ -64,6 +65,7 @@ sends_same s = record {
   wl1 = refl;
   wl2 = refl;
   congestion = refl;
+  timing = refl;
   fin_sent = refl;
   mss = refl;
   interval = refl;
@@ -83,6 +85,7 @@ sends_on m n u a b = record {
   wl1 = b.wl1 ∙ a.wl1;
   wl2 = b.wl2 ∙ a.wl2;
   congestion = b.congestion ∙ a.congestion;
+  timing = b.timing ∙ a.timing;
   fin_sent = b.fin_sent ∙ a.fin_sent;
   mss = b.mss ∙ a.mss;
   interval = b.interval ∙ a.interval;
@@ -111,6 +114,7 @@ sends_written s held closed more keeps same = record {
   wl1 = refl;
   wl2 = refl;
   congestion = refl;
+  timing = refl;
   fin_sent = refl;
   mss = refl;
   interval = refl;
@@ -260,7 +264,9 @@ bounded_call Closes m may last b = record {
   flight = b.flight;
   written = b.written;
   sent = b.sent;
-  recovers = b.recovers;
+  lost = b.lost;
+  timing = b.timing;
+  interval = b.interval;
   wl1 = b.wl1;
   wl1_fits = b.wl1_fits;
   wl2 = b.wl2;

@@ -6,7 +6,8 @@ use Rattle.std.specs.List.{AllByRecursion}
 use Rattle.std.proofs.lemmas.Bool.{false≢true}
 use Rattle.ft_io.specs.declared.Addr.{Addr}
 use Rattle.seq_arith.specs.Arrival.{int_eq}
-use Rattle.seq_arith.specs.Congestion.{initial_congestion}
+use Rattle.seq_arith.specs.Congestion.{Congestion}
+use Rattle.seq_arith.specs.Timing.{Timing, with_tick, with_backoff}
 use Rattle.seq_arith.specs.Packet.{Segment, has_syn, has_rst, has_ack}
 use Rattle.seq_arith.proofs.Coming.{nothing_behind}
 use Rattle.seq_arith.proofs.Congested.{opens}
@@ -16,18 +17,19 @@ use Rattle.tcp_endpoint.specs.declared.states.StateName.{StateName}
 use Rattle.tcp_endpoint.specs.declared.states.StateName.TheVariants.{Closed, Listen, SynSent, SynReceived, Established, FinWait1, FinWait2, CloseWait, Closing, LastAck, TimeWait}
 use Rattle.tcp_endpoint.specs.States.{after_close, is_closed, is_time_wait, has_begun}
 use Rattle.tcp_endpoint.specs.ReceiveHalf.{Receiving, receiving_up_to, read_out}
-use Rattle.tcp_endpoint.specs.SendHalf.{Sending, sending_from, bytes_end, congestion_expired, expires, ticked, timed}
-use Rattle.tcp_endpoint.specs.Tcb.{Tcb, kept_limit, listening, connecting}
+use Rattle.tcp_endpoint.specs.SendHalf.{Sending, sending_measuring, bytes_end, congestion_expired, expires, ticked, timed}
+use Rattle.tcp_endpoint.specs.Tcb.{Tcb, kept_limit, listening, listening_measuring, connecting, connecting_measuring}
 use Rattle.tcp_endpoint.specs.Arrival.{ack_at, received, received_in, in_syn_sent, answered, with_reset_reply, with_reset}
-use Rattle.tcp_endpoint.specs.Output.{head_at, opening_segment, retransmitted_segment, reset_reply_out, retransmission_out, probe_out, text_out, texts, fin_out, full_out, is_ack_pending, leaving, with_advertised, with_turn_ended, with_fin_out, with_probe, with_text_sent, after_full, is_timed, flushed}
+use Rattle.tcp_endpoint.specs.Output.{head_at, opening_segment, retransmitted_segment, reset_reply_out, retransmission_out, probe_out, text_out, texts, fin_out, full_out, is_ack_pending, leaving, with_advertised, with_turn_ended, with_fin_out, with_probe, with_text_sent, after_full, is_timed, flushed, with_timed}
 use Rattle.tcp_endpoint.specs.UserCalls.{after_tick, timer_ticked, waited}
-use Rattle.endpoint_laws.specs.Laws.{Bounds, IsBounded, asks}
+use Rattle.endpoint_laws.specs.Laws.{KeepsTime, Bounds, IsBounded, asks}
 use Rattle.endpoint_laws.specs.Turn.{Call, MayCall, MayUse, IsBetweenTurns, arrived, called, used, before_flush, turned, sent_in}
 use Rattle.endpoint_laws.specs.Turn.Call.{Reads, Writes, Closes}
 use Rattle.endpoint_laws.specs.ConnectionEnd.{IsNamedRightly}
 use Rattle.endpoint_laws.specs.Advertisement.{Advertises, is_told, ReadsOnlyTaken}
 use Rattle.endpoint_laws.specs.ActiveOpen.{IsConnecting, FieldsFit}
 use Rattle.endpoint_laws.proofs.Bounding.{bounded_in_syn_sent}
+use Rattle.endpoint_laws.proofs.Timings.{initial_keeps, tick_keeps, backoff_keeps, ticked_measures}
 use Rattle.endpoint_laws.proofs.Calls.{FinIsLast, IsUsed, used_is, bounded_used}
 use Rattle.endpoint_laws.proofs.Arrivals.{no_probe}
 use Rattle.endpoint_laws.proofs.TurnLaw.{flushed_timer}
@@ -40,42 +42,45 @@ use Rattle.ft_io.proofs.Booleans.{and_false}
 
 -- the sending half of an endpoint whose SYN is unacknowledged
 pub record Unanswered (iss : ℕ) (s : Sending) : Type 0 where
-  pub same : s ≡ record (sending_from iss) { held = s.held; interval = s.interval; rest = s.rest }
+  pub same : s ≡ record (sending_measuring s.timing.measures iss) { held = s.held; timing = s.timing; interval = s.interval; rest = s.rest }
   pub written : length s.held ≤ 2 ^ 24
+  pub timing : KeepsTime s.timing
   pub interval : 1 ≤ s.interval
 
-retimed : (iss interval rest : ℕ) (s : Sending) → 1 ≤ interval → Unanswered iss s → Unanswered iss (record s { interval = interval; rest = rest })
-retimed iss interval rest s some u = record {
-  same = ap (λ (t : Sending). record t { interval = interval; rest = rest }) u.same;
+retimed : (iss interval rest : ℕ) (s : Sending) (t : Timing) → 1 ≤ interval → KeepsTime t → t.measures ≡ s.timing.measures → Unanswered iss s
+    → Unanswered iss (record s { timing = t; interval = interval; rest = rest })
+retimed iss interval rest s t some keeps measures u = record {
+  same = ap (λ (q : Sending). record q { timing = t; interval = interval; rest = rest }) u.same
+      ∙ ap (λ b. record (sending_measuring b iss) { held = s.held; timing = t; interval = interval; rest = rest }) (sym measures);
   written = u.written;
+  timing = keeps;
   interval = some;
 }
 
 -- no unit of the stream is in flight, so none is lost
-none_lost : (iss : ℕ) (s : Sending) → Unanswered iss s → congestion_expired s ≡ initial_congestion false 536
-none_lost iss s u = ap congestion_expired u.same
+none_lost : (iss : ℕ) (s : Sending) → Unanswered iss s → congestion_expired s ≡ s.congestion
+none_lost iss s u = ap congestion_expired u.same ∙ ap (λ (q : Sending). q.congestion) (sym u.same)
 
 ticked_unanswered : (iss : ℕ) (s : Sending) → Unanswered iss s → Unanswered iss (ticked s)
 ticked_unanswered iss s u =
     let longer : ℕ = min 64 (2 * s.interval) in
     let twice : 1 ≤ longer = omega (arith, u.interval) in
     holds_if (λ (t : Sending). Unanswered iss t) (expires s)
-    (record s { congestion = congestion_expired s; interval = longer; rest = longer }) (record s { rest = s.rest - 1 })
-    (λ h. record {
-      same = (λ i. record (u.same i) { congestion = none_lost iss s u i; interval = longer; rest = longer });
-      written = u.written;
-      interval = twice;
-    })
-    (λ h. retimed iss s.interval (s.rest - 1) s u.interval u)
+    (record s { congestion = congestion_expired s; timing = with_backoff longer s.timing; interval = longer; rest = longer })
+    (record s { timing = with_tick s.timing; rest = s.rest - 1 })
+    (λ h. subst (λ (c : Congestion). Unanswered iss (record s { congestion = c; timing = with_backoff longer s.timing; interval = longer; rest = longer }))
+    (sym (none_lost iss s u))
+    (retimed iss longer longer s (with_backoff longer s.timing) twice (backoff_keeps longer s.timing twice u.timing) (ticked_measures true longer s.timing) u))
+    (λ h. retimed iss s.interval (s.rest - 1) s (with_tick s.timing) u.interval (tick_keeps s.timing u.timing) (ticked_measures false longer s.timing) u)
 
 timed_unanswered : (iss : ℕ) (s : Sending) → Unanswered iss s → Unanswered iss (timed true s)
 timed_unanswered iss s u =
-    holds_if (λ (t : Sending). Unanswered iss t) (s.rest == 0) (record s { interval = 1; rest = 1 }) s
-    (λ h. retimed iss 1 1 s (omega arith) u) (λ h. u)
+    holds_if (λ (t : Sending). Unanswered iss t) (s.rest == 0) (record s { interval = s.timing.base; rest = s.timing.base }) s
+    (λ h. retimed iss s.timing.base s.timing.base s s.timing u.timing.base u.timing refl u) (λ h. u)
 
-runs_timed : (s : Sending) → 1 ≤ (timed true s).rest
-runs_timed s =
-    holds_if (λ (t : Sending). 1 ≤ t.rest) (s.rest == 0) (record s { interval = 1; rest = 1 }) s (λ h. omega arith) (λ h. grind (arith, h))
+runs_timed : (s : Sending) → KeepsTime s.timing → 1 ≤ (timed true s).rest
+runs_timed s k =
+    holds_if (λ (t : Sending). 1 ≤ t.rest) (s.rest == 0) (record s { interval = s.timing.base; rest = s.timing.base }) s (λ h. k.base) (λ h. grind (arith, h))
 
 -- an endpoint in SYN-SENT within a turn, where something may be due
 pub record Connects (local remote : Addr) (iss limit : ℕ) (u : Tcb) : Type 0 where
@@ -92,18 +97,19 @@ connects_between iss limit e c = record {
   remote_is = refl;
   name = c.name;
   receiving = c.receiving;
-  sending = record { same = c.sending; written = c.written; interval = c.interval };
+  sending = record { same = c.sending; written = c.written; timing = c.timing; interval = c.interval };
   probe = c.probe;
 }
 
-pub connects_at_connect : (local remote : Addr) (iss limit : ℕ) → Connects local remote iss limit (connecting local remote iss limit)
-unfolding connecting listening
-connects_at_connect local remote iss limit = record {
+pub connects_at_connect : (measures : Bool) (local remote : Addr) (iss limit : ℕ)
+    → Connects local remote iss limit (connecting_measuring measures local remote iss limit)
+unfolding connecting_measuring listening_measuring listening
+connects_at_connect measures local remote iss limit = record {
   local_is = refl;
   remote_is = refl;
   name = refl;
   receiving = refl;
-  sending = record { same = refl; written = omega arith; interval = omega arith };
+  sending = record { same = refl; written = omega arith; timing = initial_keeps measures; interval = (initial_keeps measures).base };
   probe = refl;
 }
 
@@ -225,7 +231,8 @@ connects_called local remote iss limit (Reads n) m may still c =
     }
 connects_called local remote iss limit (Writes bytes) m may still c =
     let P : Sending → Type 0 = λ s. bytes_end s + length bytes ≤ 2 ^ 24 in
-    let few : bytes_end (record (sending_from iss) { held = m.sending.held; interval = m.sending.interval; rest = m.sending.rest }) + length bytes ≤ 2 ^ 24 =
+    let few : bytes_end (record (sending_measuring m.sending.timing.measures iss) { held = m.sending.held; timing = m.sending.timing; interval = m.sending.interval; rest = m.sending.rest })
+    + length bytes ≤ 2 ^ 24 =
     subst P c.sending.same may.1 in
     record {
       local_is = c.local_is;
@@ -235,6 +242,7 @@ connects_called local remote iss limit (Writes bytes) m may still c =
       sending = record {
         same = ap (λ (s : Sending). record s { held = m.sending.held ++ bytes }) c.sending.same;
         written = omega (arith, few, length-append m.sending.held bytes);
+        timing = c.sending.timing;
         interval = c.sending.interval;
       };
       probe = c.probe;
@@ -257,25 +265,26 @@ pub still_connecting : (local remote : Addr) (iss limit : ℕ) (u : Tcb) → Con
     → u ≡ record u {
       name = SynSent;
       receiving = receiving_up_to (kept_limit limit);
-      sending = record (sending_from iss) { held = u.sending.held; interval = u.sending.interval; rest = u.sending.rest };
+      sending = record (sending_measuring u.sending.timing.measures iss) { held = u.sending.held; timing = u.sending.timing; interval = u.sending.interval; rest = u.sending.rest };
       probe = false;
     }
 still_connecting local remote iss limit u c = λ i.
     record u { name = c.name i; receiving = c.receiving i; sending = c.sending.same i; probe = c.probe i }
 
 connects_flushed : (local remote : Addr) (iss limit : ℕ) (u : Tcb) → Connects local remote iss limit u → Flushed local remote iss limit (flushed u)
-unfolding flushed with_turn_ended with_advertised after_full with_fin_out with_text_sent with_probe
+unfolding flushed with_turn_ended with_advertised after_full with_timed with_fin_out with_text_sent with_probe
 connects_flushed local remote iss limit u c =
-    let s : Sending = record (sending_from iss) { held = u.sending.held; interval = u.sending.interval; rest = u.sending.rest } in
+    let s : Sending = record (sending_measuring u.sending.timing.measures iss) { held = u.sending.held; timing = u.sending.timing; interval = u.sending.interval; rest = u.sending.rest } in
     let P : Tcb → Type 0 = λ t. IsConnecting iss limit (flushed t) in
-    let unanswered : Unanswered iss (timed true s) = timed_unanswered iss s (record { same = refl; written = c.sending.written; interval = c.sending.interval }) in (
+    let unanswered : Unanswered iss (timed true s) = timed_unanswered iss s (record { same = refl; written = c.sending.written; timing = c.sending.timing; interval = c.sending.interval }) in (
       subst P (sym (still_connecting local remote iss limit u c)) (record {
         name = refl;
         receiving = refl;
         sending = unanswered.same;
         written = unanswered.written;
+        timing = unanswered.timing;
         interval = unanswered.interval;
-        runs = runs_timed s;
+        runs = runs_timed s c.sending.timing;
         ack_pending = refl;
         retransmission_due = refl;
         probe = refl;
@@ -296,9 +305,9 @@ connecting_law iss limit news calls e c may still =
 -- an active open sends its SYN
 pub syn_leaves : (local remote : Addr) (iss limit : ℕ) (u : Tcb) → Connects local remote iss limit u → u.retransmission_due ≡ true → u.reset_reply ≡ None
     → leaving u ≡ opening_segment (connecting local remote iss limit) ∷ []
-unfolding leaving full_out reset_reply_out retransmission_out retransmitted_segment probe_out with_probe text_out texts with_text_sent fin_out is_ack_pending after_full with_fin_out opening_segment head_at connecting listening
+unfolding leaving full_out reset_reply_out retransmission_out retransmitted_segment probe_out with_probe text_out texts with_text_sent fin_out is_ack_pending after_full with_timed with_fin_out opening_segment head_at connecting listening
 syn_leaves local remote iss limit u c retransmission_due reset_reply =
-    let s : Sending = record (sending_from iss) { held = u.sending.held; interval = u.sending.interval; rest = u.sending.rest } in
+    let s : Sending = record (sending_measuring u.sending.timing.measures iss) { held = u.sending.held; timing = u.sending.timing; interval = u.sending.interval; rest = u.sending.rest } in
     let alone : leaving (record u {
       local = local;
       remote = remote;
@@ -320,29 +329,29 @@ syn_leaves local remote iss limit u c retransmission_due reset_reply =
       reset_reply = reset_reply i;
     })) ∙ alone
 
-retransmission_at_connect : (local remote : Addr) (iss limit : ℕ)
-    → ((connecting local remote iss limit).retransmission_due ≡ true) × ((connecting local remote iss limit).reset_reply ≡ None)
-unfolding connecting listening
-retransmission_at_connect local remote iss limit = (refl, refl)
+retransmission_at_connect : (measures : Bool) (local remote : Addr) (iss limit : ℕ)
+    → ((connecting_measuring measures local remote iss limit).retransmission_due ≡ true) × ((connecting_measuring measures local remote iss limit).reset_reply ≡ None)
+unfolding connecting_measuring listening_measuring listening
+retransmission_at_connect measures local remote iss limit = (refl, refl)
 
-pub connect_law : (local remote : Addr) (iss limit : ℕ) (calls : List Call) → MayUse calls (connecting local remote iss limit)
-    → (used calls (connecting local remote iss limit)).name ≡ SynSent
-    → IsConnecting iss limit (flushed (used calls (connecting local remote iss limit)))
-    × (leaving (used calls (connecting local remote iss limit)) ≡ opening_segment (connecting local remote iss limit) ∷ [])
-connect_law local remote iss limit calls may still =
-    let m : Tcb = connecting local remote iss limit in
+pub connect_law : (measures : Bool) (local remote : Addr) (iss limit : ℕ) (calls : List Call) → MayUse calls (connecting_measuring measures local remote iss limit)
+    → (used calls (connecting_measuring measures local remote iss limit)).name ≡ SynSent
+    → IsConnecting iss limit (flushed (used calls (connecting_measuring measures local remote iss limit)))
+    × (leaving (used calls (connecting_measuring measures local remote iss limit)) ≡ opening_segment (connecting local remote iss limit) ∷ [])
+connect_law measures local remote iss limit calls may still =
+    let m : Tcb = connecting_measuring measures local remote iss limit in
     let u : Tcb = used calls m in
-    let c : Connects local remote iss limit u = connects_used local remote iss limit calls m may still (connects_at_connect local remote iss limit) in
+    let c : Connects local remote iss limit u = connects_used local remote iss limit calls m may still (connects_at_connect measures local remote iss limit) in
     let a : IsUsed m u = used_is calls m may in
-    let due = retransmission_at_connect local remote iss limit in (
+    let due = retransmission_at_connect measures local remote iss limit in (
       (connects_flushed local remote iss limit u c).0,
       syn_leaves local remote iss limit u c (a.retransmission_due ∙ due.0) (a.reset_reply ∙ due.1),
     )
 
 -- an endpoint that connects is within the bounds
-unanswered_bounds : (iss limit interval rest : ℕ) (held : List ℕ) → limit ≤ 2 ^ 24 → length held ≤ 2 ^ 24
-    → Bounds (receiving_up_to (kept_limit limit)) (record (sending_from iss) { held = held; interval = interval; rest = rest })
-unanswered_bounds iss limit interval rest held small written = record {
+unanswered_bounds : (measures : Bool) (iss limit interval rest : ℕ) (t : Timing) (held : List ℕ) → limit ≤ 2 ^ 24 → length held ≤ 2 ^ 24 → KeepsTime t → 1 ≤ interval
+    → Bounds (receiving_up_to (kept_limit limit)) (record (sending_measuring measures iss) { held = held; timing = t; interval = interval; rest = rest })
+unanswered_bounds measures iss limit interval rest t held small written keeps some = record {
   limit = omega (arith, small);
   taken = omega arith;
   early = nothing_behind 0 (min 65535 (kept_limit limit)) false (omega arith);
@@ -357,21 +366,24 @@ unanswered_bounds iss limit interval rest held small written = record {
   wl2 = omega arith;
   edge = omega arith;
   reach = omega arith;
-  congestion = opens false 536 (omega arith);
-  recovers = refl;
+  congestion = opens measures 536 (omega arith);
+  lost = omega arith;
+  timing = keeps;
+  interval = some;
 }
 
 bounded_connecting : (iss limit : ℕ) (e : Tcb) → limit ≤ 2 ^ 24 → IsConnecting iss limit e → IsBounded e
 bounded_connecting iss limit e small c =
     let P : Receiving → Type 0 = λ r. Bounds r e.sending in
     let Q : Sending → Type 0 = λ s. Bounds (receiving_up_to (kept_limit limit)) s in
-    subst P (sym c.receiving) (subst Q (sym c.sending) (unanswered_bounds iss limit e.sending.interval e.sending.rest e.sending.held small c.written))
+    subst P (sym c.receiving) (subst Q (sym c.sending) (unanswered_bounds e.sending.timing.measures iss limit e.sending.interval e.sending.rest e.sending.timing e.sending.held small
+    c.written c.timing c.interval))
 
 -- an endpoint whose SYN has just been answered
 record Answered (m : Tcb) : Type 0 where
   follows : FollowsAt m
   fin_sent : m.sending.fin_sent ≡ false
-  interval : m.sending.interval ≡ 1
+  interval : m.sending.interval ≡ m.sending.timing.base
   rest : m.sending.rest ≡ 0
   ack_pending : m.ack_pending ≡ true
   probe : m.probe ≡ false
@@ -444,9 +456,10 @@ answers_law iss limit news calls e c small fit may begun =
     let last : FinIsLast m.sending = λ k. absurd (false≢true (sym h.fin_sent ∙ k)) in
     let a : IsUsed m u = used_is calls m may in
     let sent_last : FinIsLast u.sending = λ k. absurd (false≢true (sym (a.sends.fin_sent ∙ h.fin_sent) ∙ k)) in
-    let timer = flushed_timer u 1 0 (a.sends.interval ∙ h.interval) (a.sends.rest ∙ h.rest) in
-    let interval : (flushed u).sending.interval ≡ 1 = timer.interval ∙ same_interval (is_timed (after_full u)) 1 in (
-      between_again u begun (bounded_used calls m may last bounds) (no_probe u (a.probe ∙ h.probe)) sent_last (omega (arith, interval)),
+    let base : ℕ = m.sending.timing.base in
+    let timer = flushed_timer u base base 0 (ap (λ (x : Timing). x.base) a.sends.timing) (a.sends.interval ∙ h.interval) (a.sends.rest ∙ h.rest) in
+    let interval : (flushed u).sending.interval ≡ base = timer.interval ∙ same_interval (is_timed (after_full u)) base in (
+      between_again u begun (bounded_used calls m may last bounds) (no_probe u (a.probe ∙ h.probe)) sent_last (omega (arith, interval, bounds.timing.base)),
       named_at (flushed u) (flush_follows u (used_follows calls m h.follows)),
       ap has_begun (flushed_name u) ∙ begun,
     )

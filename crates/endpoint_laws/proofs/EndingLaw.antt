@@ -5,6 +5,7 @@ use Rattle.std.proofs.lemmas.Int.{ints}
 use Rattle.std.proofs.lemmas.Bool.{false≢true}
 use Rattle.seq_arith.specs.Arrival.{int_eq, is_acceptable, is_at_right_edge, is_new_ack}
 use Rattle.seq_arith.specs.Congestion.{Congestion}
+use Rattle.seq_arith.specs.Timing.{Timing, with_tick, with_backoff}
 use Rattle.seq_arith.specs.Packet.{Segment, has_fin, has_syn, has_rst, has_ack}
 use Rattle.seq_arith.specs.Offset.{one_if, length_of}
 use Rattle.ft_model.specs.Opening.{is_syn}
@@ -15,11 +16,11 @@ use Rattle.tcp_endpoint.specs.declared.states.StateName.{StateName}
 use Rattle.tcp_endpoint.specs.declared.states.StateName.TheVariants.{Closed, Listen, SynSent, SynReceived, Established, FinWait1, FinWait2, CloseWait, Closing, LastAck, TimeWait}
 use Rattle.tcp_endpoint.specs.States.{after_syn_acked, after_close, after_fin, after_fin_acked, is_time_wait, has_begun}
 use Rattle.tcp_endpoint.specs.ReceiveHalf.{Receiving, next, taken, receive_edge, window, with_came, with_segment}
-use Rattle.tcp_endpoint.specs.SendHalf.{Sending, with_syn_acked, acknowledged, fin_acked, congestion_expired, send_edge, sendable, sends_fin, timed, expires, with_sent, with_fin_sent}
+use Rattle.tcp_endpoint.specs.SendHalf.{Sending, with_syn_acked, acknowledged, fin_acked, congestion_expired, send_edge, sendable, sends_fin, timed, expires, with_sent, with_fin_sent, with_unit_timed, in_flight}
 use Rattle.tcp_endpoint.specs.Tcb.{Tcb}
 use Rattle.tcp_endpoint.specs.Arrival.{first, ack_at, with_ack_pending_if, with_reset, entering, with_reset_reply, begun, with_text_and_fin, with_fin_acked, with_first_ack, with_ack_used, with_ack, check_ack, check_syn, check_rst, with_time_wait_restarted, check_sequence, in_others, received}
 use Rattle.tcp_endpoint.specs.Arrival as check
-use Rattle.tcp_endpoint.specs.Output.{probes_text, probes_fin, with_probe, with_text_sent, with_fin_out, after_full, with_advertised, with_turn_ended, flushed, reset_reply_segments}
+use Rattle.tcp_endpoint.specs.Output.{probes_text, probes_fin, with_probe, with_text_sent, with_fin_out, after_full, with_advertised, with_turn_ended, flushed, reset_reply_segments, with_timed}
 use Rattle.tcp_endpoint.specs.UserCalls.{after_tick, timer_ticked, waited}
 use Rattle.endpoint_laws.specs.Turn.{Call, called, used, IsBetweenTurns, arrived, before_flush, turned, sent_in}
 use Rattle.endpoint_laws.specs.Turn.Call.{Reads, Writes, Closes}
@@ -213,11 +214,12 @@ stays_acked : (f : Bool) (una sent : ℕ) (ack : ℤ) → (f && una == sent) ≡
 stays_acked true una sent ack h = grind (arith, ints)
 stays_acked false una sent ack h = absurd (false≢true h)
 
-acked_follows : (e : Tcb) (p : Segment) (c : Congestion) (retransmission_due : Bool) → FollowsAt e → FollowsAt (with_fin_acked (used_with e p c retransmission_due))
+acked_follows : (e : Tcb) (p : Segment) (c : Congestion) (t : Timing) (retransmission_due : Bool) → FollowsAt e
+    → FollowsAt (with_fin_acked (used_with e p c t retransmission_due))
 unfolding with_fin_acked acknowledged
-acked_follows e p c retransmission_due h =
+acked_follows e p c t retransmission_due h =
     let s : Sending = e.sending in
-    let m : Tcb = used_with e p c retransmission_due in
+    let m : Tcb = used_with e p c t retransmission_due in
     let order : m.sending.una ≤ s.sent = new_within s.una s.sent (ack_at e p) h.order in
     let stays : fin_acked s ≡ true → fin_acked m.sending ≡ true = stays_acked s.fin_sent s.una s.sent (ack_at e p) in
     holds_if (λ (t : Tcb). FollowsAt t) (fin_acked m.sending) (entering (after_fin_acked e.name) m) m
@@ -234,21 +236,22 @@ acked_follows e p c retransmission_due h =
       unsent = h.unsent;
     })
 
-acked_syn_acked : (e : Tcb) (p : Segment) (c : Congestion) (retransmission_due : Bool) → (with_fin_acked (used_with e p c retransmission_due)).sending.syn_acked ≡ e.sending.syn_acked
+acked_syn_acked : (e : Tcb) (p : Segment) (c : Congestion) (t : Timing) (retransmission_due : Bool)
+    → (with_fin_acked (used_with e p c t retransmission_due)).sending.syn_acked ≡ e.sending.syn_acked
 unfolding with_fin_acked acknowledged
-acked_syn_acked e p c retransmission_due =
-    let m : Tcb = used_with e p c retransmission_due in
+acked_syn_acked e p c t retransmission_due =
+    let m : Tcb = used_with e p c t retransmission_due in
     holds_if (λ (t : Tcb). t.sending.syn_acked ≡ e.sending.syn_acked) (fin_acked m.sending) (entering (after_fin_acked e.name) m) m (λ h. refl) (λ h. refl)
 
 later_follows : (e : Tcb) (p : Segment) → e.sending.syn_acked ≡ true → FollowsAt e → FollowsAt (with_ack e p)
 unfolding with_ack
 later_follows e p is h =
     let m : Tcb = with_fin_acked (with_ack_used e p) in
-    let used : m ≡ with_fin_acked (used_with e p (answered_at e p).congestion (with_ack_used e p).retransmission_due) = ap with_fin_acked (used_is e p) in
+    let used : m ≡ with_fin_acked (used_with e p (answered_at e p).congestion (answered_at e p).timing (with_ack_used e p).retransmission_due) = ap with_fin_acked (used_is e p) in
     holds_if (λ (t : Tcb). FollowsAt t) (is_ahead e.sending.sent (ack_at e p)) (with_ack_pending_if true e) (with_text_and_fin m p)
     (λ ahead. h)
-    (λ near. text_follows m p (ap (λ (t : Tcb). t.sending.syn_acked) used ∙ acked_syn_acked e p _ _ ∙ is)
-    (subst (λ (t : Tcb). FollowsAt t) (sym used) (acked_follows e p _ _ h)))
+    (λ near. text_follows m p (ap (λ (t : Tcb). t.sending.syn_acked) used ∙ acked_syn_acked e p _ _ _ ∙ is)
+    (subst (λ (t : Tcb). FollowsAt t) (sym used) (acked_follows e p _ _ _ h)))
 
 -- the acknowledgement of the SYN
 first_follows : (e : Tcb) (p : Segment) → e.sending.syn_acked ≡ false → FollowsAt e → FollowsAt (with_first_ack e p)
@@ -310,7 +313,13 @@ tick_follows e h =
     let placed = placed_waited e.name s.syn_acked s.closed e.receiving.fin (fin_acked s) (nat_lt e.wait 2) h.placed in
     let name : StateName = if is_time_wait e.name && nat_lt e.wait 2 then Closed else e.name in
     holds_if (λ (q : Sending). Follows name e.receiving.fin q) (expires s)
-    (record s { congestion = congestion_expired s; interval = min 64 (2 * s.interval); rest = min 64 (2 * s.interval) }) (record s { rest = s.rest - 1 })
+    (record s {
+      congestion = congestion_expired s;
+      timing = with_backoff (min 64 (2 * s.interval)) s.timing;
+      interval = min 64 (2 * s.interval);
+      rest = min 64 (2 * s.interval);
+    })
+    (record s { timing = with_tick s.timing; rest = s.rest - 1 })
     (λ k. record { placed = placed; ends = h.ends; order = h.order; unsent = h.unsent })
     (λ k. record { placed = placed; ends = h.ends; order = h.order; unsent = h.unsent })
 
@@ -402,26 +411,30 @@ steps_follow name fin begun pt pf s unsent ends h =
 
 timed_follows : (name : StateName) (fin runs : Bool) (s : Sending) → Follows name fin s → Follows name fin (timed runs s)
 timed_follows name fin true s h =
-    holds_if (λ (q : Sending). Follows name fin q) (s.rest == 0) (record s { interval = 1; rest = 1 }) s
+    holds_if (λ (q : Sending). Follows name fin q) (s.rest == 0) (record s { interval = s.timing.base; rest = s.timing.base }) s
     (λ k. record { placed = h.placed; ends = h.ends; order = h.order; unsent = h.unsent }) (λ k. h)
 timed_follows name fin false s h = record { placed = h.placed; ends = h.ends; order = h.order; unsent = h.unsent }
 
+unit_follows : (name : StateName) (fin : Bool) (place : ℕ) (s : Sending) → Follows name fin s → Follows name fin (with_unit_timed place s)
+unit_follows name fin place s h = record { placed = h.placed; ends = h.ends; order = h.order; unsent = h.unsent }
+
 pub flush_follows : (u : Tcb) → FollowsAt u → FollowsAt (flushed u)
-unfolding flushed with_turn_ended with_advertised after_full with_fin_out with_text_sent with_probe
+unfolding flushed with_turn_ended with_advertised after_full with_timed with_fin_out with_text_sent with_probe
 flush_follows u h =
     let s : Sending = u.sending in
     let b : Bool = has_begun u.name in
     let p : Bool = u.probe && b && s.syn_acked in
     let f : Bool = not s.fin_sent in
     let waits : Bool = nat_lt (s.sent - s.una) (length s.held) in
-    timed_follows u.name u.receiving.fin _ (after_steps b (probes_text u) (probes_fin u) s)
+    timed_follows u.name u.receiving.fin _ (after_full u).sending
+    (unit_follows u.name u.receiving.fin (in_flight (with_probe u).sending) (after_steps b (probes_text u) (probes_fin u) s)
     (steps_follow u.name u.receiving.fin b (probes_text u) (probes_fin u) s
     (λ k. not_true s.fin_sent (right_true p f (left_true (p && f) waits k)))
     (λ k. let on : (p && f) ≡ true = left_true (p && f) (not waits) (left_true (p && f && not waits) s.closed k) in (
       right_true (u.probe && b) s.syn_acked (left_true p f on),
       right_true (p && f && not waits) s.closed k,
       not_true s.fin_sent (right_true p f on),
-    )) h)
+    )) h))
 
 -- between two turns
 unsent_of : (f : Bool) (sent : ℕ) → (f ≡ true → 1 ≤ sent) → sent ≡ 0 → f ≡ false
@@ -466,7 +479,7 @@ pub reset_closed : (news : News) (calls : List Call) (e : Tcb) → has_begun e.n
 reset_closed news calls e begun h = closed_by_calls calls (arrived news e) (ap (λ (t : Tcb). t.name) (arrived_reset news e begun h).1)
 
 pub flushed_name : (u : Tcb) → (flushed u).name ≡ u.name
-unfolding flushed with_turn_ended with_advertised after_full with_fin_out with_text_sent with_probe
+unfolding flushed with_turn_ended with_advertised after_full with_timed with_fin_out with_text_sent with_probe
 flushed_name u = refl
 
 closed_named : (e : Tcb) → e.name ≡ Closed → IsNamedRightly e

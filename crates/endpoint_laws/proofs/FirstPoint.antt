@@ -7,6 +7,7 @@ use Rattle.std.proofs.Math.Seq.{drop-length}
 use Rattle.ft_io.specs.declared.Addr.{Addr}
 use Rattle.seq_arith.specs.Coming.{early_from, nothing_early}
 use Rattle.seq_arith.specs.Congestion.{initial_congestion}
+use Rattle.seq_arith.specs.Timing.{Timing, first_base, initial_timing}
 use Rattle.seq_arith.specs.Packet.{Segment}
 use Rattle.ft_model.specs.Opening as opening
 use Rattle.seq_arith.specs.Offset.{one_if}
@@ -18,7 +19,7 @@ use Rattle.tcp_endpoint.specs.ReceiveHalf.{Receiving, taken}
 use Rattle.tcp_endpoint.specs.SendHalf.{Sending, is_unacknowledged, target, send_edge, resent_length}
 use Rattle.tcp_endpoint.specs.Tcb.{Tcb}
 use Rattle.tcp_endpoint.specs.Arrival.{source, received, begun}
-use Rattle.tcp_endpoint.specs.Output.{or_bare, with_advertised, with_turn_ended, with_fin_out, fin_at, text_at, reset_reply_segments, reset_reply_out, retransmitted_segment, opening_segment, retransmission_out, probe_out, with_probe, text_out, with_text_sent, fin_out, full_out, is_ack_pending, bare_segment, leaving, after_full, is_timed, flushed}
+use Rattle.tcp_endpoint.specs.Output.{or_bare, with_advertised, with_turn_ended, with_fin_out, fin_at, text_at, reset_reply_segments, reset_reply_out, retransmitted_segment, opening_segment, retransmission_out, probe_out, with_probe, text_out, with_text_sent, fin_out, full_out, is_ack_pending, bare_segment, leaving, after_full, is_timed, flushed, with_timed}
 use Rattle.endpoint_laws.specs.Laws.{IsBounded, ProbesRightly}
 use Rattle.endpoint_laws.specs.Turn.{Call, MayUse, IsBetweenTurns, used, before_flush, turned}
 use Rattle.endpoint_laws.specs.PassiveOpen.{IsListening}
@@ -30,12 +31,14 @@ use Rattle.endpoint_laws.proofs.Listening.{bounded_listening, begun_by}
 use Rattle.endpoint_laws.proofs.TurnLaw.{sent_law, flushed_timer}
 use Rattle.endpoint_laws.proofs.Calls.{FinIsLast, IsUsed, used_is, bounded_used}
 use Rattle.endpoint_laws.proofs.Arrivals.{no_probe}
-use Rattle.endpoint_laws.proofs.TurnEnd.{flushed_sends, full_keeps, full_name}
+use Rattle.endpoint_laws.proofs.TurnEnd.{timing_law, flushed_sends, full_keeps, full_name}
+use Rattle.endpoint_laws.proofs.Timings.{initial_keeps}
+use Rattle.ft_io.proofs.Choices.{if_false}
 use Rattle.endpoint_laws.proofs.Turns.{between_again, flushed_receives, flushed_remote, leads_law}
 use Rattle.endpoint_laws.proofs.SegmentsLaw.{Tells, opening_at, one_retransmission, no_text_probe, no_fin_probe, probe_by, unprobed, no_text_out, no_fin_out, full_out_is}
 
 -- an endpoint that a SYN has just opened
-record Opened (local : Addr) (iss limit : ℕ) (syn : Segment) (m : Tcb) : Type 0 where
+record Opened (measures : Bool) (local : Addr) (iss limit : ℕ) (syn : Segment) (m : Tcb) : Type 0 where
   local_is : m.local ≡ local
   remote : m.remote ≡ source syn
   begun : has_begun m.name ≡ true
@@ -47,16 +50,17 @@ record Opened (local : Addr) (iss limit : ℕ) (syn : Segment) (m : Tcb) : Type 
   sent : m.sending.sent ≡ 0
   edge : m.sending.edge ≡ 0
   wl2 : m.sending.wl2 ≡ 0
-  congestion : m.sending.congestion ≡ initial_congestion false (opening.segment_size syn.head.mss)
+  congestion : m.sending.congestion ≡ initial_congestion measures (opening.segment_size syn.head.mss)
+  timing : m.sending.timing ≡ initial_timing measures
   fin_sent : m.sending.fin_sent ≡ false
-  interval : m.sending.interval ≡ 1
+  interval : m.sending.interval ≡ first_base measures
   rest : m.sending.rest ≡ 0
   retransmission_due : m.retransmission_due ≡ true
   probe : m.probe ≡ false
   reset_reply : m.reset_reply ≡ None
 
 -- LISTEN takes the SYN
-opened_by_syn : (e : Tcb) (iss limit : ℕ) (syn : Segment) → IsListening iss limit e → Opened e.local iss limit syn (begun e syn)
+opened_by_syn : (e : Tcb) (iss limit : ℕ) (syn : Segment) → IsListening iss limit e → Opened e.sending.timing.measures e.local iss limit syn (begun e syn)
 unfolding begun
 opened_by_syn e iss limit syn l = record {
   local_is = refl;
@@ -71,6 +75,7 @@ opened_by_syn e iss limit syn l = record {
   edge = ap (λ (s : Sending). s.edge) l.sending;
   wl2 = ap (λ (s : Sending). s.wl2) l.sending;
   congestion = ap (λ (s : Sending). initial_congestion s.congestion.recovers (opening.segment_size syn.head.mss)) l.sending;
+  timing = ap (λ (s : Sending). s.timing) l.sending;
   fin_sent = ap (λ (s : Sending). s.fin_sent) l.sending;
   interval = ap (λ (s : Sending). s.interval) l.sending;
   rest = ap (λ (s : Sending). s.rest) l.sending;
@@ -89,9 +94,9 @@ nothing_read read limit unread h = omega (arith, h)
 kept_small : (limit fetched : ℕ) → limit + fetched ≡ 2 ^ 24 → min limit (2 ^ 30) + fetched ≡ 2 ^ 24
 kept_small limit fetched h = omega (arith, h)
 
-receives_begun : (local : Addr) (iss limit cisn : ℕ) (fetched : List ℕ) (syn : Segment) (m u : Tcb) → Opened local iss limit syn m → IsUsed m u
-    → limit + length fetched ≡ 2 ^ 24 → syn.head.seq ≡ (cisn + length fetched) % 2 ^ 32 → ReceivesAt (point_begun fetched (numbers_with cisn iss syn)) u
-receives_begun local iss limit cisn fetched syn m u o a whole number =
+receives_begun : (measures : Bool) (local : Addr) (iss limit cisn : ℕ) (fetched : List ℕ) (syn : Segment) (m u : Tcb) → Opened measures local iss limit syn m → IsUsed m u
+    → limit + length fetched ≡ 2 ^ 24 → syn.head.seq ≡ (cisn + length fetched) % 2 ^ 32 → ReceivesAt (point_begun measures fetched (numbers_with cisn iss syn)) u
+receives_begun measures local iss limit cisn fetched syn m u o a whole number =
     let taken_none : taken u.receiving ≡ 0 = a.taken ∙ ap taken o.receiving in
     let read : u.receiving.read ≡ 0 = nothing_read u.receiving.read limit u.receiving.unread taken_none in
     let start : drop (m.receiving.read + length fetched) fetched ≡ m.receiving.unread =
@@ -107,9 +112,9 @@ receives_begun local iss limit cisn fetched syn m u o a whole number =
       early = ap (early_from (length fetched)) (sym (a.early ∙ ap (λ (r : Receiving). r.early) o.receiving));
     }
 
-sends_begun : (local : Addr) (iss limit cisn : ℕ) (fetched : List ℕ) (syn : Segment) (m u : Tcb) → Opened local iss limit syn m → IsUsed m u
-    → SendsAt (point_begun fetched (numbers_with cisn iss syn)) u
-sends_begun local iss limit cisn fetched syn m u o a = record {
+sends_begun : (measures : Bool) (local : Addr) (iss limit cisn : ℕ) (fetched : List ℕ) (syn : Segment) (m u : Tcb) → Opened measures local iss limit syn m → IsUsed m u
+    → SendsAt (point_begun measures fetched (numbers_with cisn iss syn)) u
+sends_begun measures local iss limit cisn fetched syn m u o a = record {
   sisn = sym (a.sends.iss ∙ o.iss_is);
   mss = sym (a.sends.mss ∙ o.mss);
   syn_acked = sym (a.sends.syn_acked ∙ o.syn_acked);
@@ -148,31 +153,37 @@ sent_none : (sent goal edge : ℕ) (probe : Bool) → sent ≡ 0 → edge ≡ 0 
 sent_none sent goal edge true s e p = absurd (false≢true (sym p))
 sent_none sent goal edge false s e p = omega (arith, s, e)
 
+none_timed : (sent goal edge reach : ℕ) → edge ≤ sent → nat_lt sent (max sent (min goal (min edge reach))) ≡ false
+none_timed sent goal edge reach h = grind (arith, h)
+
 -- the timer runs, since the SYN is unacknowledged
 runs_syn_unacked : (u : Tcb) → has_begun u.name ≡ true → u.sending.syn_acked ≡ false → is_timed (after_full u) ≡ true
 runs_syn_unacked u begun syn_unacked =
     let v : Tcb = after_full u in
     let steady : v.sending.syn_acked ≡ u.sending.syn_acked =
-    full_keeps (λ (q : Sending). q.syn_acked) u (record { sends = λ s n. refl; ends = λ s. refl; times = λ s i r. refl }) in
+    full_keeps (λ (q : Sending). q.syn_acked) u (record { sends = λ s n. refl; ends = λ s. refl; times = λ s t i r. refl }) in
     (λ i. (full_name u begun i || is_syn_sent v.name) && (not ((steady ∙ syn_unacked) i) || nat_lt v.sending.una (max v.sending.sent (target v.sending))))
 
-opened_turn : (local : Addr) (iss limit cisn : ℕ) (fetched : List ℕ) (syn : Segment) (m u : Tcb) → Opened local iss limit syn m → IsUsed m u → IsBounded u
+opened_turn : (measures : Bool) (local : Addr) (iss limit cisn : ℕ) (fetched : List ℕ) (syn : Segment) (m u : Tcb) → Opened measures local iss limit syn m → IsUsed m u → IsBounded u
     → limit + length fetched ≡ 2 ^ 24 → syn.head.seq ≡ (cisn + length fetched) % 2 ^ 32
-    → IsBetweenTurns (flushed u) × StandsAt (point_begun fetched (numbers_with cisn iss syn)) (flushed u)
-    × (leaving u ≡ syn_ack local (point_begun fetched (numbers_with cisn iss syn)) ∷ [])
-opened_turn local iss limit cisn fetched syn m u o a bounds whole number =
-    let p : Point = point_begun fetched (numbers_with cisn iss syn) in
+    → IsBetweenTurns (flushed u) × StandsAt (point_begun measures fetched (numbers_with cisn iss syn)) (flushed u)
+    × (leaving u ≡ syn_ack local (point_begun measures fetched (numbers_with cisn iss syn)) ∷ [])
+opened_turn measures local iss limit cisn fetched syn m u o a bounds whole number =
+    let p : Point = point_begun measures fetched (numbers_with cisn iss syn) in
     let begun : has_begun u.name ≡ true = a.begun o.begun in
     let syn_acked : u.sending.syn_acked ≡ false = a.sends.syn_acked ∙ o.syn_acked in
     let probe : u.probe ≡ false = a.probe ∙ o.probe in
     let probes : ProbesRightly u = no_probe u probe in
     let last : FinIsLast u.sending = λ h. absurd (false≢true (sym (a.sends.fin_sent ∙ o.fin_sent) ∙ h)) in
-    let receives : ReceivesAt p u = receives_begun local iss limit cisn fetched syn m u o a whole number in
-    let sends : SendsAt p u = sends_begun local iss limit cisn fetched syn m u o a in
-    let timer = flushed_timer u 1 0 (a.sends.interval ∙ o.interval) (a.sends.rest ∙ o.rest) in
+    let receives : ReceivesAt p u = receives_begun measures local iss limit cisn fetched syn m u o a whole number in
+    let sends : SendsAt p u = sends_begun measures local iss limit cisn fetched syn m u o a in
+    let timing : u.sending.timing ≡ initial_timing measures = a.sends.timing ∙ o.timing in
+    let base : ℕ = first_base measures in
+    let timer = flushed_timer u base base 0 (ap (λ (x : Timing). x.base) timing) (a.sends.interval ∙ o.interval) (a.sends.rest ∙ o.rest) in
     let runs : is_timed (after_full u) ≡ true = runs_syn_unacked u begun syn_acked in
-    let interval : (flushed u).sending.interval ≡ 1 = timer.interval ∙ ap (λ b. if b then 1 else 1) runs in
-    let rest : (flushed u).sending.rest ≡ 1 = timer.rest ∙ ap (λ b. if b then 1 else 0) runs in
+    let interval : (flushed u).sending.interval ≡ base = timer.interval ∙ ap (λ b. if b then base else base) runs in
+    let rest : (flushed u).sending.rest ≡ base = timer.rest ∙ ap (λ b. if b then base else 0) runs in
+    let shut : u.sending.edge ≤ u.sending.sent = omega (arith, a.sends.edge, o.edge) in
     let tells : Tells p u = record {
       ip = ap (λ (r : Addr). r.ip) (sym (a.remote ∙ o.remote));
       port = ap (λ (r : Addr). r.port) (sym (a.remote ∙ o.remote));
@@ -180,7 +191,7 @@ opened_turn local iss limit cisn fetched syn m u o a bounds whole number =
       receives = receives;
       answered = omega arith;
     } in (
-      between_again u begun bounds probes last (omega (arith, interval)),
+      between_again u begun bounds probes last (omega (arith, interval, (initial_keeps measures).base)),
       record {
         ip = tells.ip ∙ ap (λ (r : Addr). r.ip) (sym (flushed_remote u));
         port = tells.port ∙ ap (λ (r : Addr). r.port) (sym (flushed_remote u));
@@ -191,7 +202,8 @@ opened_turn local iss limit cisn fetched syn m u o a bounds whole number =
         fetched_output = refl;
         interval = sym interval;
         rest = sym rest;
-        timing = refl;
+        timing = sym timing ∙ sym (timing_law u begun bounds probes
+            ∙ if_false _ _ _ (none_timed u.sending.sent (target u.sending) u.sending.edge (u.sending.una + u.sending.congestion.cwnd) shut));
         delays = refl;
       },
       syn_ack_leaves p u tells begun (a.retransmission_due ∙ o.retransmission_due) probe (a.reset_reply ∙ o.reset_reply) syn_acked (omega (arith, a.sends.edge, o.edge))
@@ -199,7 +211,7 @@ opened_turn local iss limit cisn fetched syn m u o a bounds whole number =
     )
 
 flushed_name : (u : Tcb) → has_begun u.name ≡ true → has_begun (flushed u).name ≡ true
-unfolding flushed with_turn_ended with_advertised after_full with_fin_out with_text_sent with_probe
+unfolding flushed with_turn_ended with_advertised after_full with_timed with_fin_out with_text_sent with_probe
 flushed_name u begun = begun
 
 limit_small : (limit fetched : ℕ) → limit + fetched ≡ 2 ^ 24 → limit ≤ 2 ^ 24
@@ -207,16 +219,16 @@ limit_small limit fetched h = omega (arith, h)
 
 pub begins_law : (e : Tcb) (iss limit cisn : ℕ) (fetched : List ℕ) (syn : Segment) (calls : List Call) → IsListening iss limit e
     → limit + length fetched ≡ 2 ^ 24 → opening.is_syn syn ≡ true → syn.head.seq ≡ (cisn + length fetched) % 2 ^ 32 → MayUse calls (received e syn)
-    → BeginsAt (point_begun fetched (numbers_with cisn iss syn)) e syn calls
+    → BeginsAt (point_begun e.sending.timing.measures fetched (numbers_with cisn iss syn)) e syn calls
 begins_law e iss limit cisn fetched syn calls l whole is number may =
     let m : Tcb = received e syn in
-    let P : Tcb → Type 0 = λ t. Opened e.local iss limit syn t in
-    let o : Opened e.local iss limit syn m = subst P (sym (begun_by e syn l.name is)) (opened_by_syn e iss limit syn l) in
+    let P : Tcb → Type 0 = λ t. Opened e.sending.timing.measures e.local iss limit syn t in
+    let o : Opened e.sending.timing.measures e.local iss limit syn m = subst P (sym (begun_by e syn l.name is)) (opened_by_syn e iss limit syn l) in
     let last : FinIsLast m.sending = λ h. absurd (false≢true (sym o.fin_sent ∙ h)) in
     let b : IsBounded m =
     bounded_in_listen e syn l.name (ap (λ (s : Sending). s.syn_acked) l.sending) (bounded_listening iss limit e (limit_small limit (length fetched) whole) l) in
     let a : IsUsed m (used calls m) = used_is calls m may in
-    let done = opened_turn e.local iss limit cisn fetched syn m (used calls m) o a (bounded_used calls m may last b) whole number in
+    let done = opened_turn e.sending.timing.measures e.local iss limit cisn fetched syn m (used calls m) o a (bounded_used calls m may last b) whole number in
     record { begun = flushed_name (used calls m) (a.begun o.begun); between = done.0; stands = done.1; segments = done.2 }
 
 -- turn by turn
@@ -239,8 +251,8 @@ runs_on (step ∷ steps) before e begun between named stands = λ s.
 
 pub run_law : (e : Tcb) (iss limit cisn : ℕ) (fetched : List ℕ) (syn : Segment) (calls : List Call) (steps : List Step) → IsListening iss limit e
     → limit + length fetched ≡ 2 ^ 24 → opening.is_syn syn ≡ true → syn.head.seq ≡ (cisn + length fetched) % 2 ^ 32 → MayUse calls (received e syn)
-    → BeginsAt (point_begun fetched (numbers_with cisn iss syn)) e syn calls
-    × RunsByLaws (point_begun fetched (numbers_with cisn iss syn)) (turned (Comes syn) calls e) steps
+    → BeginsAt (point_begun e.sending.timing.measures fetched (numbers_with cisn iss syn)) e syn calls
+    × RunsByLaws (point_begun e.sending.timing.measures fetched (numbers_with cisn iss syn)) (turned (Comes syn) calls e) steps
 run_law e iss limit cisn fetched syn calls steps l whole is number may =
     let b = begins_law e iss limit cisn fetched syn calls l whole is number may in
-    (b, runs_on steps (point_begun fetched (numbers_with cisn iss syn)) (turned (Comes syn) calls e) b.begun b.between (begun_named_law e iss limit syn calls l is) b.stands)
+    (b, runs_on steps (point_begun e.sending.timing.measures fetched (numbers_with cisn iss syn)) (turned (Comes syn) calls e) b.begun b.between (begun_named_law e iss limit syn calls l is) b.stands)

@@ -1,9 +1,9 @@
 -- An endpoint before the flush of a turn that leads from one point of `ft_model` to another.
-use Rattle.std.specs.Prelude.{◌≡◌, ◌-◌, ◌≤◌, Bool, true, false, ◌&&◌, ◌||◌, not, nat_lt, length}
+use Rattle.std.specs.Prelude.{◌≡◌, ◌-◌, ◌≤◌, Bool, true, ◌&&◌, ◌||◌, not, nat_lt, length}
 use Rattle.server_trait.specs.Service.{Machine}
 use Rattle.ft_model.specs.Point.{Point}
 use Rattle.ft_model.specs.News.{News}
-use Rattle.ft_model.specs.Sending.{is_third_duplicate}
+use Rattle.ft_model.specs.Sending.{resends}
 use Rattle.ft_model.specs.Timer.{expires}
 use Rattle.tcp_endpoint.specs.States.{has_begun}
 use Rattle.tcp_endpoint.specs.Tcb.{Tcb}
@@ -26,8 +26,7 @@ pub record Flushes {State : Type 0} (service : Machine State) (news : News) (bef
   pub sends : SendsAt after u
   pub used : IsUsedAt service after u
   pub sent : before.sent ≡ u.sending.sent
-  pub retransmission_due : u.retransmission_due ≡ ((expires news before || is_third_duplicate news before) && waits_for_ack before after)
+  pub retransmission_due : u.retransmission_due ≡ ((expires news before || resends news before) && waits_for_ack before after)
   pub probe : u.probe ≡ (expires news before && not (waits_for_ack before after))
-  pub plain : before.congestion.recovers ≡ false
-  pub third : is_third_duplicate news before ≡ true → waits_for_ack before after ≡ true
+  pub resends : resends news before ≡ true → waits_for_ack before after ≡ true
   pub reset_reply : reset_reply_out u ≡ refusals u.local news before

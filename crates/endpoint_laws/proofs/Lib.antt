@@ -1,5 +1,6 @@
 pub mod AnswersAlone
 pub mod TakenLaw
+pub mod Timings
 pub mod SendingLaw
 pub mod Bounding
 pub mod TurnLaw

@@ -9,19 +9,21 @@ use Rattle.seq_arith.proofs.Congested.{opens}
 use Rattle.ft_model.specs.News.{News}
 use Rattle.ft_model.specs.News.News.{Comes, Logged, Ticks, Begins}
 use Rattle.ft_model.specs.Opening.{is_syn}
+use Rattle.seq_arith.specs.Timing.{with_tick}
 use Rattle.tcp_endpoint.specs.declared.states.StateName.{StateName}
 use Rattle.tcp_endpoint.specs.declared.states.StateName.TheVariants.{Closed, Listen}
 use Rattle.tcp_endpoint.specs.States.{after_close, is_closed}
 use Rattle.tcp_endpoint.specs.ReceiveHalf.{Receiving, receiving_up_to, read_out}
-use Rattle.tcp_endpoint.specs.SendHalf.{Sending, sending_from, bytes_end}
-use Rattle.tcp_endpoint.specs.Tcb.{Tcb, kept_limit, listening}
+use Rattle.tcp_endpoint.specs.SendHalf.{Sending, sending_measuring, bytes_end}
+use Rattle.tcp_endpoint.specs.Tcb.{Tcb, kept_limit, listening, listening_measuring}
 use Rattle.tcp_endpoint.specs.Arrival.{received, received_in, in_listen, begun, with_reset_reply}
-use Rattle.tcp_endpoint.specs.Output.{with_advertised, with_turn_ended, with_fin_out, with_probe, with_text_sent, after_full, flushed}
+use Rattle.tcp_endpoint.specs.Output.{with_advertised, with_turn_ended, with_fin_out, with_probe, with_text_sent, after_full, flushed, with_timed}
 use Rattle.tcp_endpoint.specs.UserCalls.{after_tick, timer_ticked, waited}
 use Rattle.endpoint_laws.specs.Laws.{Bounds, IsBounded}
 use Rattle.endpoint_laws.specs.Turn.{Call, MayCall, MayUse, arrived, called, used, before_flush, turned}
 use Rattle.endpoint_laws.specs.Turn.Call.{Reads, Writes, Closes}
 use Rattle.endpoint_laws.specs.PassiveOpen.{IsListening, brings_syn}
+use Rattle.endpoint_laws.proofs.Timings.{initial_keeps}
 
 -- a passive open listens
 pub listens_at_listen : (local : Addr) (iss limit : ℕ) → IsListening iss limit (listening local iss limit)
@@ -37,10 +39,23 @@ listens_at_listen local iss limit = record {
   reset_reply = refl;
 }
 
+pub listens_at_listen_measuring : (measures : Bool) (local : Addr) (iss limit : ℕ) → IsListening iss limit (listening_measuring measures local iss limit)
+unfolding listening_measuring listening
+listens_at_listen_measuring measures local iss limit = record {
+  name = refl;
+  receiving = refl;
+  sending = refl;
+  written = omega arith;
+  ack_pending = refl;
+  retransmission_due = refl;
+  probe = refl;
+  reset_reply = refl;
+}
+
 -- an endpoint that listens is within the bounds
-unsent_bounds : (iss limit : ℕ) (held : List ℕ) → limit ≤ 2 ^ 24 → length held ≤ 2 ^ 24
-    → Bounds (receiving_up_to (kept_limit limit)) (record (sending_from iss) { held = held })
-unsent_bounds iss limit held small written = record {
+unsent_bounds : (measures : Bool) (iss limit : ℕ) (held : List ℕ) → limit ≤ 2 ^ 24 → length held ≤ 2 ^ 24
+    → Bounds (receiving_up_to (kept_limit limit)) (record (sending_measuring measures iss) { held = held })
+unsent_bounds measures iss limit held small written = record {
   limit = omega (arith, small);
   taken = omega arith;
   early = nothing_behind 0 (min 65535 (kept_limit limit)) false (omega arith);
@@ -55,22 +70,24 @@ unsent_bounds iss limit held small written = record {
   wl2 = omega arith;
   edge = omega arith;
   reach = omega arith;
-  congestion = opens false 536 (omega arith);
-  recovers = refl;
+  congestion = opens measures 536 (omega arith);
+  lost = omega arith;
+  timing = initial_keeps measures;
+  interval = (initial_keeps measures).base;
 }
 
 pub bounded_listening : (iss limit : ℕ) (e : Tcb) → limit ≤ 2 ^ 24 → IsListening iss limit e → IsBounded e
 bounded_listening iss limit e small l =
     let P : Receiving → Type 0 = λ r. Bounds r e.sending in
     let Q : Sending → Type 0 = λ s. Bounds (receiving_up_to (kept_limit limit)) s in
-    subst P (sym l.receiving) (subst Q (sym l.sending) (unsent_bounds iss limit e.sending.held small l.written))
+    subst P (sym l.receiving) (subst Q (sym l.sending) (unsent_bounds e.sending.timing.measures iss limit e.sending.held small l.written))
 
 -- the same within a turn, where a RST may be due
 pub record Listens (local : Addr) (iss limit : ℕ) (u : Tcb) : Type 0 where
   pub local_is : u.local ≡ local
   pub name : u.name ≡ Listen
   pub receiving : u.receiving ≡ receiving_up_to (kept_limit limit)
-  pub sending : u.sending ≡ record (sending_from iss) { held = u.sending.held }
+  pub sending : u.sending ≡ record (sending_measuring u.sending.timing.measures iss) { held = u.sending.held }
   pub written : length u.sending.held ≤ 2 ^ 24
   pub probe : u.probe ≡ false
 
@@ -101,7 +118,7 @@ pub listening_is : (iss limit : ℕ) (e : Tcb) → IsListening iss limit e
     → e ≡ record e {
       name = Listen;
       receiving = receiving_up_to (kept_limit limit);
-      sending = record (sending_from iss) { held = e.sending.held };
+      sending = record (sending_measuring e.sending.timing.measures iss) { held = e.sending.held };
       ack_pending = false;
       retransmission_due = false;
       probe = false;
@@ -111,7 +128,7 @@ listening_is iss limit e l = λ i.
     record e { name = l.name i; receiving = l.receiving i; sending = l.sending i; ack_pending = l.ack_pending i; retransmission_due = l.retransmission_due i; probe = l.probe i; reset_reply = l.reset_reply i }
 
 listens_ticked : (iss limit : ℕ) (e : Tcb) → IsListening iss limit e → Listens e.local iss limit (after_tick e)
-unfolding after_tick timer_ticked waited
+unfolding after_tick timer_ticked waited with_tick
 listens_ticked iss limit e l =
     let P : Tcb → Type 0 = λ t. Listens e.local iss limit (after_tick t) in
     subst P (sym (listening_is iss limit e l)) (record { local_is = refl; name = refl; receiving = refl; sending = refl; written = l.written; probe = refl })
@@ -159,7 +176,7 @@ listens_called local iss limit (Reads n) calls m may still l =
     }
 listens_called local iss limit (Writes bytes) calls m may still l =
     let P : Sending → Type 0 = λ s. bytes_end s + length bytes ≤ 2 ^ 24 in
-    let few : bytes_end (record (sending_from iss) { held = m.sending.held }) + length bytes ≤ 2 ^ 24 = subst P l.sending may.1 in
+    let few : bytes_end (record (sending_measuring m.sending.timing.measures iss) { held = m.sending.held }) + length bytes ≤ 2 ^ 24 = subst P l.sending may.1 in
     record {
       local_is = l.local_is;
       name = l.name;
@@ -179,9 +196,9 @@ listens_used local iss limit (call ∷ calls) m may still l =
 
 -- the flush sends that RST and leaves the rest
 listens_flushed : (local : Addr) (iss limit : ℕ) (u : Tcb) → Listens local iss limit u → IsListening iss limit (flushed u) × ((flushed u).local ≡ local)
-unfolding flushed with_turn_ended with_advertised after_full with_fin_out with_text_sent with_probe
+unfolding flushed with_turn_ended with_advertised after_full with_timed with_fin_out with_text_sent with_probe
 listens_flushed local iss limit u l =
-    let still : Tcb = record u { name = Listen; receiving = receiving_up_to (kept_limit limit); sending = record (sending_from iss) { held = u.sending.held }; probe = false } in
+    let still : Tcb = record u { name = Listen; receiving = receiving_up_to (kept_limit limit); sending = record (sending_measuring u.sending.timing.measures iss) { held = u.sending.held }; probe = false } in
     let same : u ≡ still = λ i. record u { name = l.name i; receiving = l.receiving i; sending = l.sending i; probe = l.probe i } in
     let P : Tcb → Type 0 = λ t. IsListening iss limit (flushed t) in (
       subst P (sym same) (record {

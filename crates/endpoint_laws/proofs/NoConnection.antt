@@ -6,6 +6,7 @@ use Rattle.std.proofs.lemmas.Bool.{false≢true, and_right, and_from, and_left}
 use Rattle.ft_io.specs.declared.Addr.{Addr}
 use Rattle.seq_arith.specs.Arrival.{int_eq}
 use Rattle.seq_arith.specs.Packet.{Segment, has_syn, has_rst, has_ack}
+use Rattle.seq_arith.specs.Timing.{Timing, first_base}
 use Rattle.ft_model.specs.News.{News}
 use Rattle.ft_model.specs.News.News.{Comes, Logged, Ticks, Begins}
 use Rattle.ft_model.specs.Opening.{is_syn}
@@ -15,11 +16,11 @@ use Rattle.tcp_endpoint.specs.declared.states.StateName.TheVariants.{Closed, Lis
 use Rattle.tcp_endpoint.specs.States.{after_close, is_syn_sent, is_time_wait, has_begun}
 use Rattle.tcp_endpoint.specs.ReceiveHalf.{window, receiving_up_to}
 use Rattle.tcp_endpoint.specs.SendHalf.{Sending, expires}
-use Rattle.tcp_endpoint.specs.Tcb.{Tcb, kept_limit, listening, connecting}
+use Rattle.tcp_endpoint.specs.Tcb.{Tcb, kept_limit, listening, listening_measuring, connecting, connecting_measuring}
 use Rattle.tcp_endpoint.specs.Arrival.{ack_at, received, received_in, in_closed, in_listen, in_syn_sent, begun, answered, with_reset_reply, with_reset_reply_without_ack, with_reset}
-use Rattle.tcp_endpoint.specs.Output.{head_at, opening_segment, reset_reply_segments, leaving, with_advertised, is_timed, with_turn_ended, with_fin_out, with_probe, with_text_sent, after_full, flushed}
+use Rattle.tcp_endpoint.specs.Output.{head_at, opening_segment, reset_reply_segments, leaving, with_advertised, is_timed, with_turn_ended, with_fin_out, with_probe, with_text_sent, after_full, flushed, with_timed}
 use Rattle.tcp_endpoint.specs.UserCalls.{after_tick, timer_ticked, waited}
-use Rattle.endpoint_laws.specs.Laws.{ticked_interval, ticked_rest, IsTimedBy}
+use Rattle.endpoint_laws.specs.Laws.{ticked_interval, ticked_rest, IsTimedBy, timing_ticked}
 use Rattle.endpoint_laws.specs.Turn.{Call, MayUse, arrived, called, used, before_flush, turned, sent_in}
 use Rattle.endpoint_laws.specs.Turn.Call.{Reads, Writes, Closes}
 use Rattle.endpoint_laws.specs.Advertisement.{Advertises, is_told, ReadsOnlyTaken}
@@ -29,6 +30,7 @@ use Rattle.endpoint_laws.specs.Unconnected.{sent_in_closed, sent_in_listen, ackn
 use Rattle.endpoint_laws.proofs.AnswersAlone.{reset_reply_none, closed_sends, listen_sends, syn_sent_sends}
 use Rattle.endpoint_laws.proofs.Listening.{begun_by, listening_is, listens_arrived, closed_by_calls}
 use Rattle.endpoint_laws.proofs.TurnLaw.{flushed_timer, ticked_law}
+use Rattle.endpoint_laws.proofs.SendingLaw.{ticked_timing}
 use Rattle.endpoint_laws.proofs.Calls.{IsUsed, used_is}
 use Rattle.endpoint_laws.proofs.EndingLaw.{used_keeps, call_resets}
 use Rattle.endpoint_laws.proofs.Advertised.{reset_reply_used, begun_used, advertises_law, retransmission_is_told}
@@ -111,7 +113,7 @@ call_lasts calls m closed = λ i. (
 )
 
 flushed_lasts : (u : Tcb) → (lasting (flushed u) ≡ lasting u) × ((flushed u).reset_reply ≡ None)
-unfolding lasting flushed with_turn_ended with_advertised after_full with_fin_out with_text_sent with_probe
+unfolding lasting flushed with_turn_ended with_advertised after_full with_timed with_fin_out with_text_sent with_probe
 flushed_lasts u = (refl, refl)
 
 closed_before_flush : (news : News) (calls : List Call) (e : Tcb) → e.name ≡ Closed → e.reset_reply ≡ None → (before_flush news calls e).name ≡ Closed
@@ -419,25 +421,26 @@ syn_sent_sends_law iss limit news calls e c may unbegun =
 
 -- the timer
 waiting_is_timed : (local remote : Addr) (iss limit : ℕ) (u : Tcb) → Connects local remote iss limit u → is_timed (after_full u) ≡ true
-unfolding after_full with_fin_out with_text_sent with_probe
+unfolding after_full with_timed with_fin_out with_text_sent with_probe
 waiting_is_timed local remote iss limit u c =
     let P : Tcb → Type 0 = λ t. is_timed (after_full t) ≡ true in subst P (sym (still_connecting local remote iss limit u c)) refl
 
-some_rest : (runs : Bool) (rest n m : ℕ) → runs ≡ true → 1 ≤ rest → (if runs then (if rest == 0 then n else m) else 1) ≡ m
+some_rest : (runs : Bool) (rest n m : ℕ) → runs ≡ true → 1 ≤ rest → (if runs then (if rest == 0 then n else m) else n) ≡ m
 some_rest true rest n m is some = grind (arith, some)
 some_rest false rest n m is some = absurd (false≢true is)
 
-some_left : (runs : Bool) (rest : ℕ) → runs ≡ true → 1 ≤ rest → (if runs then (if rest == 0 then 1 else rest) else 0) ≡ rest
-some_left true rest is some = grind (arith, some)
-some_left false rest is some = absurd (false≢true is)
+some_left : (runs : Bool) (base rest : ℕ) → runs ≡ true → 1 ≤ rest → (if runs then (if rest == 0 then base else rest) else 0) ≡ rest
+some_left true base rest is some = grind (arith, some)
+some_left false base rest is some = absurd (false≢true is)
 
 unmoved : (e u : Tcb) → 1 ≤ e.sending.rest → is_timed (after_full u) ≡ true → u.sending.interval ≡ e.sending.interval → u.sending.rest ≡ e.sending.rest
     → IsTimedBy (flushed u).sending e.sending.interval e.sending.rest
 unmoved e u some runs interval rest =
-    let t = flushed_timer u e.sending.interval e.sending.rest interval rest in
+    let base : ℕ = u.sending.timing.base in
+    let t = flushed_timer u base e.sending.interval e.sending.rest refl interval rest in
     record {
-      interval = t.interval ∙ some_rest (is_timed (after_full u)) e.sending.rest 1 e.sending.interval runs some;
-      rest = t.rest ∙ some_left (is_timed (after_full u)) e.sending.rest runs some;
+      interval = t.interval ∙ some_rest (is_timed (after_full u)) e.sending.rest base e.sending.interval runs some;
+      rest = t.rest ∙ some_left (is_timed (after_full u)) base e.sending.rest runs some;
     }
 
 half_arrived : (iss limit : ℕ) (e : Tcb) (p : Segment) → IsConnecting iss limit e → (received e p).name ≡ SynSent → (received e p).sending ≡ e.sending
@@ -448,16 +451,17 @@ half_arrived iss limit e p c still =
     (ap (λ (t : Tcb). t.name) (sym same) ∙ still)
 
 timed_sent : (iss limit : ℕ) (news : News) (e u : Tcb) → IsConnecting iss limit e → (arrived news e).name ≡ SynSent → is_timed (after_full u) ≡ true
-    → u.sending.interval ≡ (arrived news e).sending.interval → u.sending.rest ≡ (arrived news e).sending.rest
+    → u.sending.timing ≡ (arrived news e).sending.timing → u.sending.interval ≡ (arrived news e).sending.interval → u.sending.rest ≡ (arrived news e).sending.rest
     → IsTimedBy (flushed u).sending (interval_waiting news e.sending) (rest_waiting news e.sending)
-timed_sent iss limit (Comes p) e u c still runs interval rest =
+timed_sent iss limit (Comes p) e u c still runs timing interval rest =
     let same : (received e p).sending ≡ e.sending = half_arrived iss limit e p c still in
     unmoved e u c.runs runs (interval ∙ ap (λ (s : Sending). s.interval) same) (rest ∙ ap (λ (s : Sending). s.rest) same)
-timed_sent iss limit (Logged kept) e u c still runs interval rest = unmoved e u c.runs runs interval rest
-timed_sent iss limit Ticks e u c still runs interval rest =
-    let P : Bool → Type 0 = λ b. IsTimedBy (flushed u).sending (ticked_interval b e.sending) (ticked_rest b e.sending) in
-    subst P runs (ticked_law e u c.interval interval rest)
-timed_sent iss limit Begins e u c still runs interval rest = unmoved e u c.runs runs interval rest
+timed_sent iss limit (Logged kept) e u c still runs timing interval rest = unmoved e u c.runs runs interval rest
+timed_sent iss limit Ticks e u c still runs timing interval rest =
+    let base : u.sending.timing.base ≡ (timing_ticked e.sending).base = ap (λ (x : Timing). x.base) (timing ∙ ticked_timing e) in
+    let P : Bool → ℕ → Type 0 = λ b n. IsTimedBy (flushed u).sending (ticked_interval b n e.sending) (ticked_rest b n e.sending) in
+    subst (P true) base (subst (λ b. P b u.sending.timing.base) runs (ticked_law e u c.interval timing interval rest))
+timed_sent iss limit Begins e u c still runs timing interval rest = unmoved e u c.runs runs interval rest
 
 pub syn_sent_times_law : (iss limit : ℕ) (news : News) (calls : List Call) (e : Tcb) → IsConnecting iss limit e → MayUse calls (arrived news e)
     → (before_flush news calls e).name ≡ SynSent
@@ -469,26 +473,28 @@ syn_sent_times_law iss limit news calls e c may still =
     let a : IsUsed m u = used_is calls m may in
     let here : Connects e.local e.remote iss limit u =
     connects_used e.local e.remote iss limit calls m may still (connects_arrived iss limit news e c before) in
-    timed_sent iss limit news e u c before (waiting_is_timed e.local e.remote iss limit u here) a.sends.interval a.sends.rest
+    timed_sent iss limit news e u c before (waiting_is_timed e.local e.remote iss limit u here) a.sends.timing a.sends.interval a.sends.rest
 
 -- .. and starts with the SYN
-timer_at_connect : (local remote : Addr) (iss limit : ℕ)
-    → ((connecting local remote iss limit).sending.interval ≡ 1) × ((connecting local remote iss limit).sending.rest ≡ 0)
-unfolding connecting listening
-timer_at_connect local remote iss limit = (refl, refl)
+timer_at_connect : (measures : Bool) (local remote : Addr) (iss limit : ℕ) → let s = (connecting_measuring measures local remote iss limit).sending in
+    (s.timing.base ≡ first_base measures) × (s.interval ≡ first_base measures) × (s.rest ≡ 0)
+unfolding connecting_measuring listening_measuring listening
+timer_at_connect measures local remote iss limit = (refl, refl, refl)
 
-pub opening_times_law : (local remote : Addr) (iss limit : ℕ) (calls : List Call) → MayUse calls (connecting local remote iss limit)
-    → (used calls (connecting local remote iss limit)).name ≡ SynSent
-    → IsTimedBy (flushed (used calls (connecting local remote iss limit))).sending 1 1
-opening_times_law local remote iss limit calls may still =
-    let m : Tcb = connecting local remote iss limit in
+pub opening_times_law : (measures : Bool) (local remote : Addr) (iss limit : ℕ) (calls : List Call)
+    → MayUse calls (connecting_measuring measures local remote iss limit)
+    → (used calls (connecting_measuring measures local remote iss limit)).name ≡ SynSent
+    → IsTimedBy (flushed (used calls (connecting_measuring measures local remote iss limit))).sending (first_base measures) (first_base measures)
+opening_times_law measures local remote iss limit calls may still =
+    let m : Tcb = connecting_measuring measures local remote iss limit in
     let u : Tcb = used calls m in
     let a : IsUsed m u = used_is calls m may in
-    let first = timer_at_connect local remote iss limit in
+    let first = timer_at_connect measures local remote iss limit in
+    let base : ℕ = first_base measures in
     let runs : is_timed (after_full u) ≡ true =
-    waiting_is_timed local remote iss limit u (connects_used local remote iss limit calls m may still (connects_at_connect local remote iss limit)) in
-    let t = flushed_timer u 1 0 (a.sends.interval ∙ first.0) (a.sends.rest ∙ first.1) in
-    record { interval = t.interval ∙ ap (λ b. if b then 1 else 1) runs; rest = t.rest ∙ ap (λ b. if b then 1 else 0) runs }
+    waiting_is_timed local remote iss limit u (connects_used local remote iss limit calls m may still (connects_at_connect measures local remote iss limit)) in
+    let t = flushed_timer u base base 0 (ap (λ (x : Timing). x.base) a.sends.timing ∙ first.0) (a.sends.interval ∙ first.1) (a.sends.rest ∙ first.2) in
+    record { interval = t.interval ∙ ap (λ b. if b then base else base) runs; rest = t.rest ∙ ap (λ b. if b then base else 0) runs }
 
 -- the turn of a SYN: the SYN-ACK leaves
 call_opens : (call : Call) (t : Tcb) → (called call t).sending.syn_acked ≡ t.sending.syn_acked

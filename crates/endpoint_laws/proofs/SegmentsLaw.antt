@@ -12,7 +12,6 @@ use Rattle.ft_model.specs.Point.{Point, taken_units, acknowledgement, released, 
 use Rattle.ft_model.specs.Point as point
 use Rattle.ft_model.specs.News.{News}
 use Rattle.ft_model.specs.Timer.{expires}
-use Rattle.ft_model.proofs.PlainTurns.{plain_resends}
 use Rattle.ft_model.specs.Sending as sender
 use Rattle.ft_model.specs.Segments as model
 use Rattle.tcp_endpoint.specs.declared.states.StateName.{StateName}
@@ -21,7 +20,7 @@ use Rattle.tcp_endpoint.specs.States.{is_closed, is_syn_sent, has_begun}
 use Rattle.tcp_endpoint.specs.ReceiveHalf.{Receiving, next, window}
 use Rattle.tcp_endpoint.specs.SendHalf.{Sending, is_unacknowledged, send_edge, sendable, sends_fin, resent_length, with_sent, with_fin_sent}
 use Rattle.tcp_endpoint.specs.Tcb.{Tcb}
-use Rattle.tcp_endpoint.specs.Output.{head_at, opening_segment, text_at, fin_at, texts, reset_reply_out, retransmitted_segment, retransmission_out, probes, probes_text, probes_fin, probe_out, with_probe, new_length, text_out, with_text_sent, fin_out, with_fin_out, full_out, after_full, bare_segment}
+use Rattle.tcp_endpoint.specs.Output.{head_at, opening_segment, text_at, fin_at, texts, reset_reply_out, retransmitted_segment, retransmission_out, probes, probes_text, probes_fin, probe_out, with_probe, new_length, text_out, with_text_sent, fin_out, with_fin_out, full_out, after_full, bare_segment, with_timed}
 use Rattle.endpoint_laws.specs.Refinement.{ReceivesAt, HasWrittenAll, HasFilled, refusals}
 use Rattle.endpoint_laws.proofs.TakenLaw.{if_when, window_is}
 use Rattle.endpoint_laws.proofs.StandingLaw.{next_is, room_is}
@@ -600,14 +599,13 @@ probed_is {service = service} {before = before} {after = after} {u = u} f false 
     ∙ closed_fin service u.local after (probe_closed service after s none closes f.used.written)
     ∙ ap (λ b. if b then model.text_at service u.local after before.sent 1 ∷ [] else model.fin_if_closed service u.local after) (sym test)
 
--- what the laws want of the timer, and of the third duplicate acknowledgement
+-- what the laws want of the timer, and of an acknowledgement that shows a loss
 resent_by : {State : Type 0} (service : Machine State) (server : Addr) (news : News) (before after : Point) (x t w : Bool)
-    → before.congestion.recovers ≡ false → expires news before ≡ x → sender.is_third_duplicate news before ≡ t → waits_for_ack before after ≡ w
+    → expires news before ≡ x → sender.resends news before ≡ t → waits_for_ack before after ≡ w
     → model.resent service server news before after
     ≡ (if x || t then (if w then model.first_unacknowledged service server before after else model.probe service server before after) else [])
 unfolding model.resent
-resent_by service server news before after x t w plain expiry third wait =
-    let again : sender.resends news before ≡ t = plain_resends news before plain ∙ third in λ i.
+resent_by service server news before after x t w expiry again wait = λ i.
     if expiry i || again i then (if wait i then model.first_unacknowledged service server before after else model.probe service server before after) else []
 
 -- the parts of what leaves, in order
@@ -617,50 +615,50 @@ full_out_is a b c d e a' r d' e' p q s t =
     apart ∙ (λ i. p i ++ (q i ++ (s i ++ t i)))
 
 retransmission_now : {State : Type 0} {service : Machine State} {news : News} {before after : Point} {u : Tcb} → Flushes service news before after u
-    → (x t w : Bool) → expires news before ≡ x → sender.is_third_duplicate news before ≡ t → waits_for_ack before after ≡ w → (x || t) ≡ true → w ≡ true
+    → (x t w : Bool) → expires news before ≡ x → sender.resends news before ≡ t → waits_for_ack before after ≡ w → (x || t) ≡ true → w ≡ true
     → retransmission_out u ≡ model.resent service u.local news before after
-retransmission_now {service = service} {news = news} {before = before} {after = after} {u = u} f x t w expiry third wait due waits =
-    one_retransmission u f.begun (f.retransmission_due ∙ (λ i. (expiry i || third i) && wait i) ∙ (λ i. due i && waits i)) (waits_here f (wait ∙ waits)) ∙ retransmission_is f (wait ∙ waits)
+retransmission_now {service = service} {news = news} {before = before} {after = after} {u = u} f x t w expiry again wait due waits =
+    one_retransmission u f.begun (f.retransmission_due ∙ (λ i. (expiry i || again i) && wait i) ∙ (λ i. due i && waits i)) (waits_here f (wait ∙ waits)) ∙ retransmission_is f (wait ∙ waits)
     ∙ (λ i. if sym due i
     then (if sym waits i then model.first_unacknowledged service u.local before after else model.probe service u.local before after)
     else [])
-    ∙ sym (resent_by service u.local news before after x t w f.plain expiry third wait)
+    ∙ sym (resent_by service u.local news before after x t w expiry again wait)
 
 -- a turn without a probe
 retransmission_by : {State : Type 0} {service : Machine State} {news : News} {before after : Point} {u : Tcb} → Flushes service news before after u
-    → (x t w : Bool) → expires news before ≡ x → sender.is_third_duplicate news before ≡ t → waits_for_ack before after ≡ w → (x && not w) ≡ false
+    → (x t w : Bool) → expires news before ≡ x → sender.resends news before ≡ t → waits_for_ack before after ≡ w → (x && not w) ≡ false
     → retransmission_out u ≡ model.resent service u.local news before after
-retransmission_by {service = service} {news = news} {before = before} {after = after} {u = u} f false false w expiry third wait unprobed =
-    no_retransmission u (f.retransmission_due ∙ (λ i. (expiry i || third i) && waits_for_ack before after))
-    ∙ sym (resent_by service u.local news before after false false w f.plain expiry third wait)
-retransmission_by {service = service} {news = news} {before = before} {after = after} {u = u} f false true w expiry third wait unprobed =
-    retransmission_now f false true w expiry third wait refl (sym wait ∙ f.third third)
-retransmission_by f true t true expiry third wait unprobed = retransmission_now f true t true expiry third wait refl refl
-retransmission_by f true t false expiry third wait unprobed = absurd (false≢true (sym unprobed))
+retransmission_by {service = service} {news = news} {before = before} {after = after} {u = u} f false false w expiry again wait unprobed =
+    no_retransmission u (f.retransmission_due ∙ (λ i. (expiry i || again i) && waits_for_ack before after))
+    ∙ sym (resent_by service u.local news before after false false w expiry again wait)
+retransmission_by {service = service} {news = news} {before = before} {after = after} {u = u} f false true w expiry again wait unprobed =
+    retransmission_now f false true w expiry again wait refl (sym wait ∙ f.resends again)
+retransmission_by f true t true expiry again wait unprobed = retransmission_now f true t true expiry again wait refl refl
+retransmission_by f true t false expiry again wait unprobed = absurd (false≢true (sym unprobed))
 
 unprobed_is : {State : Type 0} {service : Machine State} {news : News} {before after : Point} {u : Tcb} → Flushes service news before after u
-    → (x t w : Bool) → expires news before ≡ x → sender.is_third_duplicate news before ≡ t → waits_for_ack before after ≡ w → (x && not w) ≡ false
+    → (x t w : Bool) → expires news before ≡ x → sender.resends news before ≡ t → waits_for_ack before after ≡ w → (x && not w) ≡ false
     → full_out u ≡ refusals u.local news before ++ (model.resent service u.local news before after ++ (model.new_texts service u.local before after ++ model.new_fin service u.local before after))
 unfolding full_out
-unprobed_is {service = service} {news = news} {before = before} {after = after} {u = u} f x t w expiry third wait unprobed_here =
+unprobed_is {service = service} {news = news} {before = before} {after = after} {u = u} f x t w expiry again wait unprobed_here =
     let probe : u.probe ≡ false = f.probe ∙ (λ i. expiry i && not (wait i)) ∙ unprobed_here in
     full_out_is (reset_reply_out u) (retransmission_out u) (probe_out u) (text_out (with_probe u)) (fin_out (with_text_sent (with_probe u)))
     (refusals u.local news before) (model.resent service u.local news before after) (model.new_texts service u.local before after) (model.new_fin service u.local before after)
     f.reset_reply
     (ap (λ l. retransmission_out u ++ l) (probe_by u false false (no_text_probe u probe) (no_fin_probe u probe)) ∙ append-nil (retransmission_out u)
-    ∙ retransmission_by f x t w expiry third wait unprobed_here)
+    ∙ retransmission_by f x t w expiry again wait unprobed_here)
     (ap text_out (unprobed u probe) ∙ text_out_is f)
     (ap (λ v. fin_out (with_text_sent v)) (unprobed u probe) ∙ fin_out_is f)
 
 -- .. and one with a probe, in which nothing is sent for the first time
 full_by : {State : Type 0} {service : Machine State} {news : News} {before after : Point} {u : Tcb} → Flushes service news before after u
-    → (x t w : Bool) → expires news before ≡ x → sender.is_third_duplicate news before ≡ t → waits_for_ack before after ≡ w
+    → (x t w : Bool) → expires news before ≡ x → sender.resends news before ≡ t → waits_for_ack before after ≡ w
     → full_out u ≡ refusals u.local news before ++ (model.resent service u.local news before after ++ (model.new_texts service u.local before after ++ model.new_fin service u.local before after))
 unfolding full_out
-full_by f false t w expiry third wait = unprobed_is f false t w expiry third wait refl
-full_by f true t true expiry third wait = unprobed_is f true t true expiry third wait refl
-full_by {service = service} {news = news} {before = before} {after = after} {u = u} f true t false expiry third wait =
-    let retransmission_due : u.retransmission_due ≡ false = f.retransmission_due ∙ (λ i. (expiry i || third i) && wait i) in
+full_by f false t w expiry again wait = unprobed_is f false t w expiry again wait refl
+full_by f true t true expiry again wait = unprobed_is f true t true expiry again wait refl
+full_by {service = service} {news = news} {before = before} {after = after} {u = u} f true t false expiry again wait =
+    let retransmission_due : u.retransmission_due ≡ false = f.retransmission_due ∙ (λ i. (expiry i || again i) && wait i) in
     let probe : u.probe ≡ true = f.probe ∙ (λ i. expiry i && not (wait i)) in
     let shut : u.sending.edge ≤ u.sending.sent = f.probes.shut probe in
     let still : (with_probe u).sending.edge ≤ (with_probe u).sending.sent = shut_still u shut in
@@ -669,19 +667,19 @@ full_by {service = service} {news = news} {before = before} {after = after} {u =
     (refusals u.local news before) (model.resent service u.local news before after) (model.new_texts service u.local before after) (model.new_fin service u.local before after)
     f.reset_reply
     ((λ i. no_retransmission u retransmission_due i ++ probed_is f (nat_lt (u.sending.sent - u.sending.una) (length u.sending.held)) probe refl i)
-    ∙ sym (resent_by service u.local news before after true t false f.plain expiry third wait))
+    ∙ sym (resent_by service u.local news before after true t false expiry again wait))
     (no_text_out (with_probe u) still ∙ sym (no_new_texts service u.local before after shut_there))
     (no_fin_out (with_probe u) still ∙ sym (no_new_fin service u.local before after shut_there))
 
 -- all that leaves but for a bare segment
 pub full_is : {State : Type 0} (service : Machine State) (news : News) (before after : Point) (u : Tcb) → Flushes service news before after u
     → full_out u ≡ refusals u.local news before ++ (model.resent service u.local news before after ++ (model.new_texts service u.local before after ++ model.new_fin service u.local before after))
-full_is service news before after u f = full_by f (expires news before) (sender.is_third_duplicate news before) (waits_for_ack before after) refl refl refl
+full_is service news before after u f = full_by f (expires news before) (sender.resends news before) (waits_for_ack before after) refl refl refl
 
 -- a bare segment stands at the end of what is sent
 pub bare_is : {State : Type 0} (service : Machine State) (news : News) (before after : Point) (u : Tcb) → Flushes service news before after u
     → after.sent ≡ (after_full u).sending.sent → bare_segment (after_full u) ≡ model.bare_segment u.local after
-unfolding bare_segment head_at after_full with_fin_out with_text_sent with_probe
+unfolding bare_segment head_at after_full with_timed with_fin_out with_text_sent with_probe
 bare_is service news before after u f sent =
     let s : Sending = after_steps (has_begun u.name) (probes_text u) (probes_fin u) u.sending in
     let iss : s.iss ≡ after.sisn = kept (λ t. t.iss ≡ u.sending.iss) (λ t k h. h) (λ t h. h) (has_begun u.name) (probes_text u) (probes_fin u) u.sending refl ∙ sym f.sends.sisn in

@@ -7,19 +7,21 @@ use Rattle.seq_arith.specs.Number.{offset_of, precedes}
 use Rattle.seq_arith.specs.Arrival.{int_eq, is_new_ack, una_after, updates_window}
 use Rattle.seq_arith.specs.Packet.{Segment, has_fin, has_syn, has_rst, has_ack}
 use Rattle.seq_arith.specs.Offset.{text_of, fin_of, length_of}
-use Rattle.seq_arith.specs.Congestion.{Congestion, with_new_data, is_third, with_duplicate, with_expiry}
+use Rattle.seq_arith.specs.Congestion.{Congestion, is_partial, with_new_data, is_third, with_duplicate, with_expiry}
+use Rattle.seq_arith.specs.Timing.{Timing, with_acknowledged, without_trip}
 use Rattle.tcp_buffers.specs.Near.{IsNearFirst, is_ahead}
 use Rattle.tcp_buffers.proofs.NumbersTell.{between_is, same_is}
 use Rattle.tcp_endpoint.specs.States.{after_syn_acked, after_fin, after_fin_acked, has_begun}
 use Rattle.tcp_endpoint.specs.ReceiveHalf.{Receiving, taken, next, advertised_edge}
-use Rattle.tcp_endpoint.specs.SendHalf.{Sending, with_syn_acked, acknowledged, duplicated, answered_by, fin_acked, moves_edge, expires}
+use Rattle.tcp_endpoint.specs.SendHalf.{Sending, with_syn_acked, acknowledged, timing_acknowledged, duplicated, untimed_if, answered_by, fin_acked, moves_edge, expires}
 use Rattle.tcp_endpoint.specs.SendHalf as sender
 use Rattle.tcp_endpoint.specs.Tcb.{Tcb}
 use Rattle.tcp_endpoint.specs.Arrival.{first, ack_at, with_ack_pending_if, entering, with_text_and_fin, with_fin_acked, with_first_ack, is_bare, with_ack_used, with_ack, with_time_wait_restarted, in_others, received, with_reset_reply}
 use Rattle.tcp_endpoint.specs.UserCalls.{after_tick, timer_ticked, waited}
-use Rattle.endpoint_laws.specs.Laws.{counts, acknowledges, uses_window, is_duplicate, is_third_duplicate, congestion_by, congestion_ticked, IsSentBy, IsBounded, IsUsual}
+use Rattle.endpoint_laws.specs.Laws.{counts, acknowledges, uses_window, is_duplicate, shows_loss, timing_by, congestion_by, is_first_expiry, congestion_ticked, timing_ticked, IsSentBy, IsBounded, IsUsual}
 use Rattle.tcp_endpoint.proofs.Places.{near_of_usable}
 use Rattle.endpoint_laws.proofs.TakenLaw.{same_if, if_when, by_checks, begun_is, Aside, at_ack, goes_on, others_part, segment_taken, few_sent, text_whole, fin_whole, IsCounted, counted, chosen_is}
+use Rattle.endpoint_laws.proofs.Timings.{acknowledged_none, measured}
 use Rattle.ft_io.proofs.Booleans.{or_false, and_false}
 use Rattle.ft_io.proofs.Choices.{of_if}
 
@@ -166,7 +168,7 @@ duplicate_is e p does_count =
     && nat_abs z == s.una && nat_lt s.una s.sent && reached)
 
 -- what acknowledges something new, in the words of the law, is no duplicate
-new_test : (una sent : ℕ) (z : ℤ) → z ≤ℤ pos sent → is_new_ack una sent z ≡ (int_le (pos 0) z && nat_lt una (nat_abs z))
+pub new_test : (una sent : ℕ) (z : ℤ) → z ≤ℤ pos sent → is_new_ack una sent z ≡ (int_le (pos 0) z && nat_lt una (nat_abs z))
 new_test una sent z h = grind (arith, ints)
 
 not_new : (bare late reached : Bool) (una sent : ℕ) (z : ℤ) → (bare && int_eq z (pos una) && late && reached) ≡ true → is_new_ack una sent z ≡ false
@@ -180,25 +182,31 @@ congestion_chosen true false una ack f x y never = refl
 congestion_chosen false true una ack f x y never = refl
 congestion_chosen false false una ack f x y never = refl
 
--- a duplicate changes the congestion window, and nothing else
-duplicate_alone : (duplicate : Bool) (s : Sending)
-    → (if duplicate then duplicated s else s) ≡ record s { congestion = (if duplicate then duplicated s else s).congestion }
-duplicate_alone true s = refl
-duplicate_alone false s = refl
+-- a duplicate changes the congestion window, a loss the estimate, and nothing else changes
+answered_alone : (duplicate loss : Bool) (s : Sending)
+    → untimed_if loss (if duplicate then duplicated s else s)
+    ≡ record s {
+      congestion = (untimed_if loss (if duplicate then duplicated s else s)).congestion;
+      timing = (untimed_if loss (if duplicate then duplicated s else s)).timing;
+    }
+answered_alone true loss s = refl
+answered_alone false loss s = refl
 
--- the endpoint with an acknowledgement used, by its congestion window and by what is due again
-abbrev pub used_with : Tcb → Segment → Congestion → Bool → Tcb
-used_with e p congestion retransmission_due = record e {
-  sending = record (acknowledged e.sending p.head.seq (ack_at e p) p.head.window) { congestion = congestion };
+-- the endpoint with an acknowledgement used, by its congestion window, by the estimate and by what is due again
+abbrev pub used_with : Tcb → Segment → Congestion → Timing → Bool → Tcb
+used_with e p congestion timing retransmission_due = record e {
+  sending = record (acknowledged e.sending p.head.seq (ack_at e p) p.head.window) { congestion = congestion; timing = timing };
   retransmission_due = retransmission_due;
 }
 
-pub used_is : (e : Tcb) (p : Segment) → with_ack_used e p ≡ used_with e p (answered_at e p).congestion (with_ack_used e p).retransmission_due
+pub used_is : (e : Tcb) (p : Segment)
+    → with_ack_used e p ≡ used_with e p (answered_at e p).congestion (answered_at e p).timing (with_ack_used e p).retransmission_due
 unfolding with_ack_used answered_by
 used_is e p =
     let used : Sending = acknowledged e.sending p.head.seq (ack_at e p) p.head.window in
     let retransmission_due : Bool = (with_ack_used e p).retransmission_due in
-    ap (λ s. record e { sending = s; retransmission_due = retransmission_due }) (duplicate_alone (sender.is_duplicate e.sending (is_bare p) (ack_at e p) p.head.window) used)
+    ap (λ s. record e { sending = s; retransmission_due = retransmission_due })
+    (answered_alone (sender.is_duplicate e.sending (is_bare p) (ack_at e p) p.head.window) (sender.shows_loss e.sending (is_bare p) (ack_at e p) p.head.window) used)
 
 -- .. to what the law says
 answered_congestion : (e : Tcb) (p : Segment) → counts e p ≡ true
@@ -218,17 +226,47 @@ answered_congestion e p does_count =
     (not_new (is_bare p) (nat_lt s.una s.sent) (nat_abs z + p.head.window == s.edge) s.una s.sent z)
     ∙ (λ i. if is_new i then grown else (if duplicate_is e p does_count i then after_duplicate else s.congestion))
 
-answered_is : (e : Tcb) (p : Segment) → counts e p ≡ true
-    → answered_at e p ≡ record (acknowledged e.sending p.head.seq (ack_at e p) p.head.window) { congestion = congestion_by e p }
-unfolding answered_by
-answered_is e p does_count =
-    let used : Sending = acknowledged e.sending p.head.seq (ack_at e p) p.head.window in
-    duplicate_alone (sender.is_duplicate e.sending (is_bare p) (ack_at e p) p.head.window) used
-    ∙ ap (λ c. record used { congestion = c }) (answered_congestion e p does_count)
-
--- what a segment that counts makes of the sending half: all but the congestion window goes by the acknowledgement alone
+-- what a segment that counts makes of the sending half: all but the congestion window and the estimate goes by the acknowledgement alone
 abbrev pub later_by : Tcb → Segment → Sending
-later_by e p = record (acknowledged e.sending p.head.seq (ack_at e p) p.head.window) { congestion = congestion_by e p }
+later_by e p =
+    record (acknowledged e.sending p.head.seq (ack_at e p) p.head.window) {
+      congestion = congestion_by e p;
+      timing = timing_by e p (acknowledged e.sending p.head.seq (ack_at e p) p.head.window).una;
+    }
+
+-- whether an acknowledgement acknowledges something new, and whether it shows a loss
+new_is : (e : Tcb) (p : Segment) → counts e p ≡ true
+    → is_new_ack e.sending.una e.sending.sent (ack_at e p) ≡ (acknowledges e p && nat_lt e.sending.una (nat_abs (ack_at e p)))
+new_is e p does_count =
+    new_test e.sending.una e.sending.sent (ack_at e p) (counted e p does_count).sent
+    ∙ ap (λ b. b && int_le (pos 0) (ack_at e p) && nat_lt e.sending.una (nat_abs (ack_at e p))) (sym does_count)
+
+loss_is : (e : Tcb) (p : Segment) → counts e p ≡ true → sender.shows_loss e.sending (is_bare p) (ack_at e p) p.head.window ≡ shows_loss e p
+unfolding sender.shows_loss
+loss_is e p does_count = λ i.
+    (duplicate_is e p does_count i && is_third e.sending.congestion)
+    || (new_is e p does_count i && is_partial (nat_abs (ack_at e p) - e.sending.una) e.sending.congestion)
+
+-- the estimate, as the law says it
+answered_timing : (e : Tcb) (p : Segment) → IsBounded e → counts e p ≡ true
+    → (answered_at e p).timing ≡ timing_by e p (acknowledged e.sending p.head.seq (ack_at e p) p.head.window).una
+unfolding answered_by acknowledged
+answered_timing e p bounded does_count =
+    let s : Sending = e.sending in
+    let z : ℤ = ack_at e p in
+    let used : Sending = acknowledged s p.head.seq z p.head.window in
+    let duplicate : Bool = sender.is_duplicate s (is_bare p) z p.head.window in
+    let same : (if duplicate then duplicated used else used).timing ≡ with_acknowledged ((if is_new_ack s.una s.sent z then nat_abs z else s.una) - s.una) s.timing =
+    of_if (λ (t : Sending). t.timing) duplicate (duplicated used) used ∙ same_if duplicate (timing_acknowledged s z)
+    ∙ measured (is_new_ack s.una s.sent z) s.una (nat_abs z) s.timing bounded.timing in
+    λ i. if loss_is e p does_count i then without_trip (same i) else same i
+
+answered_is : (e : Tcb) (p : Segment) → IsBounded e → counts e p ≡ true → answered_at e p ≡ later_by e p
+unfolding answered_by
+answered_is e p bounded does_count =
+    let used : Sending = acknowledged e.sending p.head.seq (ack_at e p) p.head.window in
+    answered_alone (sender.is_duplicate e.sending (is_bare p) (ack_at e p) p.head.window) (sender.shows_loss e.sending (is_bare p) (ack_at e p) p.head.window) used
+    ∙ (λ i. record used { congestion = answered_congestion e p does_count i; timing = answered_timing e p bounded does_count i })
 
 abbrev pub used_by : Tcb → Segment → Sending
 used_by e p = if e.sending.syn_acked then later_by e p else with_syn_acked e.sending p.head.seq p.head.window
@@ -242,7 +280,7 @@ sending_is e p begun bounded usual =
     ap (λ (t : Tcb). t.sending) (begun_is e.name e p begun) ∙ checks_use e p
     ∙ chosen_is e p (answered_at e p) opened e.sending bounded usual
     ∙ if_when (counts e p) _ _ e.sending e.sending
-    (λ does_count. ap (λ s. if e.sending.syn_acked then s else opened) (answered_is e p does_count)) (λ h. refl)
+    (λ does_count. ap (λ s. if e.sending.syn_acked then s else opened) (answered_is e p bounded does_count)) (λ h. refl)
 
 later_law : (e : Tcb) (p : Segment) → IsBounded e → IsUsual e p → e.sending.syn_acked ≡ true → counts e p ≡ true
     → IsSentBy e p (later_by e p)
@@ -260,6 +298,7 @@ later_law e p bounded usual is_syn_acked does_count =
       wl1 = offset_of_choice e.receiving.irs p.head.seq s.wl1 (moves_edge s p.head.seq z) ∙ ap (λ b. if b then first e p else offset_of e.receiving.irs s.wl1) used;
       wl2 = ap (λ b. if b then nat_abs z else s.wl2) used;
       congestion = refl;
+      timing = refl;
       held = held_field s.una s.sent z s.held bounded.order;
       closed = refl;
     }
@@ -279,6 +318,51 @@ quiet : {X : Type 0} (new acked text fin place late edge : Bool) (x y z : X) →
 quiet new acked text fin place late edge x y z none nothing =
     (λ i. if acked && none i then x else (if acked && text && fin && place && nothing i && edge then y else z))
     ∙ (λ i. if and_false acked i then x else (if and_false (acked && text && fin && place) i && edge then y else z))
+
+-- where none has counted before, nothing is in flight
+first_is_none : (e : Tcb) (p : Segment) → IsBounded e → e.sending.syn_acked ≡ false → is_duplicate e p ≡ false
+first_is_none e p bounded syn_unacked =
+    let s : Sending = e.sending in
+    let before : Bool = acknowledges e p && length (text_of p) == 0 && not (fin_of p) && nat_abs (ack_at e p) == s.una in
+    let edge : Bool = nat_abs (ack_at e p) + p.head.window == s.edge in
+    ap (λ b. before && b && edge) (none_above s.una s.sent (bounded.syn_unacked syn_unacked)) ∙ ap (λ b. b && edge) (and_false before)
+
+-- what doesn't count is no duplicate
+uncounted_is_none : (e : Tcb) (p : Segment) → counts e p ≡ false → is_duplicate e p ≡ false
+uncounted_is_none e p no_count =
+    let s : Sending = e.sending in
+    let ack : ℕ = nat_abs (ack_at e p) in
+    let up : Bool = int_le (pos 0) (ack_at e p) in
+    ap (λ b. b && up && length (text_of p) == 0 && not (fin_of p) && ack == s.una && nat_lt s.una s.sent && ack + p.head.window == s.edge) no_count
+
+-- what acknowledges nothing new and is no duplicate shows no loss, and the estimate stays
+no_loss : (e : Tcb) (p : Segment) → is_duplicate e p ≡ false → (acknowledges e p && nat_lt e.sending.una (nat_abs (ack_at e p))) ≡ false → shows_loss e p ≡ false
+no_loss e p none old = λ i. (none i && is_third e.sending.congestion) || (old i && is_partial (nat_abs (ack_at e p) - e.sending.una) e.sending.congestion)
+
+timing_stays : (e : Tcb) (p : Segment) (una : ℕ) → IsBounded e → shows_loss e p ≡ false → una - e.sending.una ≡ 0 → e.sending.timing ≡ timing_by e p una
+timing_stays e p una bounded none still =
+    let measured_by : Timing = with_acknowledged (una - e.sending.una) e.sending.timing in
+    sym (ap (λ b. if b then without_trip measured_by else measured_by) none ∙ ap (λ n. with_acknowledged n e.sending.timing) still
+    ∙ acknowledged_none e.sending.timing bounded.timing)
+
+-- where none has counted before, there is no loss
+first_no_loss : (e : Tcb) (p : Segment) → IsBounded e → e.sending.syn_acked ≡ false → counts e p ≡ true → shows_loss e p ≡ false
+first_no_loss e p bounded syn_unacked does_count =
+    let c : IsCounted e p = counted e p does_count in
+    let zero : nat_abs (ack_at e p) ≡ 0 = zero_abs (ack_at e p) e.sending.sent c.sent (bounded.syn_unacked syn_unacked) (c.acks_syn syn_unacked) in
+    no_loss e p (first_is_none e p bounded syn_unacked)
+    (ap (λ b. acknowledges e p && b) (none_above e.sending.una (nat_abs (ack_at e p)) zero) ∙ and_false (acknowledges e p))
+
+other_no_loss : (e : Tcb) (p : Segment) → counts e p ≡ false → shows_loss e p ≡ false
+other_no_loss e p no_count =
+    no_loss e p (uncounted_is_none e p no_count)
+    (ap (λ b. b && int_le (pos 0) (ack_at e p) && nat_lt e.sending.una (nat_abs (ack_at e p))) no_count)
+
+zero_less : (una : ℕ) → 0 - una ≡ 0
+zero_less una = omega arith
+
+itself_less : (una : ℕ) → una - una ≡ 0
+itself_less una = omega arith
 
 first_law : (e : Tcb) (p : Segment) → IsBounded e → e.sending.syn_acked ≡ false → counts e p ≡ true
     → IsSentBy e p (with_syn_acked e.sending p.head.seq p.head.window)
@@ -302,20 +386,13 @@ first_law e p bounded syn_unacked does_count =
       wl2 = sym zero ∙ ap (λ b. if b then nat_abs z else s.wl2) (sym used);
       congestion = sym (quiet (nat_lt s.una (nat_abs z)) (acknowledges e p) (length (text_of p) == 0) (not (fin_of p)) (nat_abs z == s.una)
           (nat_lt s.una s.sent) (nat_abs z + p.head.window == s.edge) _ _ s.congestion (none_above s.una (nat_abs z) zero) (none_above s.una s.sent none));
+      timing = timing_stays e p 0 bounded (first_no_loss e p bounded syn_unacked does_count) (zero_less s.una);
       held = omega (arith, una);
       closed = refl;
     }
 
--- what doesn't count is no duplicate
-uncounted_is_none : (e : Tcb) (p : Segment) → counts e p ≡ false → is_duplicate e p ≡ false
-uncounted_is_none e p no_count =
-    let s : Sending = e.sending in
-    let ack : ℕ = nat_abs (ack_at e p) in
-    let up : Bool = int_le (pos 0) (ack_at e p) in
-    ap (λ b. b && up && length (text_of p) == 0 && not (fin_of p) && ack == s.una && nat_lt s.una s.sent && ack + p.head.window == s.edge) no_count
-
-other_law : (e : Tcb) (p : Segment) → counts e p ≡ false → IsSentBy e p e.sending
-other_law e p no_count =
+other_law : (e : Tcb) (p : Segment) → IsBounded e → counts e p ≡ false → IsSentBy e p e.sending
+other_law e p bounded no_count =
     let s : Sending = e.sending in
     let z : ℤ = ack_at e p in
     let unused : uses_window e p ≡ false = ap (λ b. (b && int_le (pos 0) z) && (not s.syn_acked || is_newer e p)) no_count in
@@ -330,6 +407,7 @@ other_law e p no_count =
       congestion = (λ i. if sym no_count i && int_le (pos 0) z && nat_lt s.una (nat_abs z)
           then with_new_data s.mss (nat_abs z - s.una) s.congestion
           else (if sym (uncounted_is_none e p no_count) i then with_duplicate s.mss (s.sent - s.una) s.congestion else s.congestion));
+      timing = timing_stays e p s.una bounded (other_no_loss e p no_count) (itself_less s.una);
       held = omega arith;
       closed = refl;
     }
@@ -348,7 +426,7 @@ sending_law e p begun bounded usual =
     (by_count e p (counts e p) e.sending.syn_acked
     (λ does_count is_syn_acked. later_law e p bounded usual is_syn_acked does_count)
     (λ does_count syn_unacked. first_law e p bounded syn_unacked does_count)
-    (λ no_count. other_law e p no_count))
+    (λ no_count. other_law e p bounded no_count))
 
 -- what is due again
 text_retransmission : (e : Tcb) (p : Segment) → (with_text_and_fin e p).retransmission_due ≡ e.retransmission_due
@@ -363,7 +441,7 @@ unfolding with_fin_acked
 acked_retransmission e = of_if (λ (t : Tcb). t.retransmission_due) (fin_acked e.sending) (entering (after_fin_acked e.name) e) e ∙ same_if (fin_acked e.sending) e.retransmission_due
 
 abbrev later_retransmission : Tcb → Segment → Bool
-later_retransmission e p = e.retransmission_due || sender.is_third_duplicate e.sending (is_bare p) (ack_at e p) p.head.window
+later_retransmission e p = e.retransmission_due || sender.shows_loss e.sending (is_bare p) (ack_at e p) p.head.window
 
 later_ack_retransmission : (e : Tcb) (p : Segment)
     → (with_ack e p).retransmission_due ≡ (if is_ahead e.sending.sent (ack_at e p) then e.retransmission_due else later_retransmission e p)
@@ -402,28 +480,20 @@ checks_repeat e p =
     (λ h. refl))))
     (λ h. refl)
 
--- where none has counted before, nothing is in flight
-first_is_none : (e : Tcb) (p : Segment) → IsBounded e → e.sending.syn_acked ≡ false → is_duplicate e p ≡ false
-first_is_none e p bounded syn_unacked =
-    let s : Sending = e.sending in
-    let before : Bool = acknowledges e p && length (text_of p) == 0 && not (fin_of p) && nat_abs (ack_at e p) == s.una in
-    let edge : Bool = nat_abs (ack_at e p) + p.head.window == s.edge in
-    ap (λ b. before && b && edge) (none_above s.una s.sent (bounded.syn_unacked syn_unacked)) ∙ ap (λ b. b && edge) (and_false before)
+none_due : (e : Tcb) (p : Segment) → shows_loss e p ≡ false → e.retransmission_due ≡ (e.retransmission_due || shows_loss e p)
+none_due e p none = or_false e.retransmission_due ∙ ap (λ b. e.retransmission_due || b) (sym none)
 
-no_third : (e : Tcb) (p : Segment) → is_duplicate e p ≡ false → e.retransmission_due ≡ (e.retransmission_due || is_third_duplicate e p)
-no_third e p none = or_false e.retransmission_due ∙ ap (λ b. e.retransmission_due || (b && is_third e.sending.congestion)) (sym none)
-
-pub retransmission_law : (e : Tcb) (p : Segment) → has_begun e.name ≡ true → IsBounded e → IsUsual e p → (received e p).retransmission_due ≡ (e.retransmission_due || is_third_duplicate e p)
+pub retransmission_law : (e : Tcb) (p : Segment) → has_begun e.name ≡ true → IsBounded e → IsUsual e p → (received e p).retransmission_due ≡ (e.retransmission_due || shows_loss e p)
 unfolding received
 retransmission_law e p begun bounded usual =
-    let goal : Bool = e.retransmission_due || is_third_duplicate e p in
+    let goal : Bool = e.retransmission_due || shows_loss e p in
     ap (λ (t : Tcb). t.retransmission_due) (begun_is e.name e p begun) ∙ checks_repeat e p
     ∙ chosen_is e p (later_retransmission e p) e.retransmission_due e.retransmission_due bounded usual
     ∙ if_when (counts e p) _ goal _ goal
     (λ does_count. if_when e.sending.syn_acked _ goal _ goal
-    (λ h. ap (λ b. e.retransmission_due || (b && is_third e.sending.congestion)) (duplicate_is e p does_count))
-    (λ h. no_third e p (first_is_none e p bounded h)) ∙ same_if e.sending.syn_acked goal)
-    (λ no_count. no_third e p (uncounted_is_none e p no_count))
+    (λ h. ap (λ b. e.retransmission_due || b) (loss_is e p does_count))
+    (λ h. none_due e p (first_no_loss e p bounded h does_count)) ∙ same_if e.sending.syn_acked goal)
+    (λ no_count. none_due e p (other_no_loss e p no_count))
     ∙ same_if (counts e p) goal
 
 -- the right edge stands so near that numbers tell whether it is beyond SND.UNA
@@ -441,7 +511,12 @@ unfolding after_tick timer_ticked waited
 ticked_law e b =
     let s : Sending = e.sending in
     let few : s.una ≤ 2 ^ 24 + 1 = omega (arith, b.order, few_sent s.fin_sent s.sent b.sent) in
-    let lost : Congestion = with_expiry s.mss (s.sent - s.una) (s.interval == 1) s.congestion in
+    let lost : Congestion = with_expiry s.mss (s.sent - s.una) (is_first_expiry s) s.congestion in
     of_if (λ (t : Sending). t.congestion) (expires s) _ _
     ∙ lost_by (expires s) (nat_lt s.una s.sent) (precedes s.una s.edge) lost s.congestion
     ∙ ap (λ v. if expires s && nat_lt s.una s.sent && v then lost else s.congestion) (precedes_is s.una s.edge few b.edge)
+
+-- .. and the interval is backed off
+pub ticked_timing : (e : Tcb) → (after_tick e).sending.timing ≡ timing_ticked e.sending
+unfolding after_tick timer_ticked waited
+ticked_timing e = of_if (λ (t : Sending). t.timing) (expires e.sending) _ _

@@ -7,7 +7,7 @@ use Rattle.std.proofs.lemmas.Bool.{false≢true, and_right, and_left}
 use Rattle.seq_arith.specs.Number.{offset_of}
 use Rattle.seq_arith.specs.Arrival.{int_eq, lies_in, is_acceptable, is_at_right_edge, is_acceptable_or_at_edge, is_allowed_at_zero, is_beyond, una_after, updates_window}
 use Rattle.seq_arith.specs.Coming.{Came, early_from, nothing_came, came_from, comes}
-use Rattle.seq_arith.specs.Congestion.{Congestion, with_new_data, is_third, with_duplicate}
+use Rattle.seq_arith.specs.Congestion.{Congestion, is_partial, with_new_data, is_third, with_duplicate}
 use Rattle.seq_arith.specs.Packet.{Segment, has_syn, has_rst, has_ack}
 use Rattle.seq_arith.proofs.Gaps.{Leads, offset_leads}
 use Rattle.seq_arith.proofs.Shifts.{lies_in_shift, updates_window_shift}
@@ -24,7 +24,7 @@ use Rattle.tcp_endpoint.specs.ReceiveHalf.{Receiving, taken, next, receive_edge,
 use Rattle.tcp_endpoint.specs.SendHalf.{Sending}
 use Rattle.tcp_endpoint.specs.Tcb.{Tcb}
 use Rattle.tcp_endpoint.specs.Arrival.{first, ack_at, received}
-use Rattle.endpoint_laws.specs.Laws.{accepts, uses, acknowledges_unsent, counts, taken_by, acknowledges, uses_window, is_duplicate, is_third_duplicate, congestion_by, IsSentBy, IsBounded, IsUsual}
+use Rattle.endpoint_laws.specs.Laws.{accepts, uses, acknowledges_unsent, counts, taken_by, acknowledges, uses_window, is_duplicate, is_third_duplicate, is_partial_ack, shows_loss, congestion_by, IsSentBy, IsBounded, IsUsual}
 use Rattle.endpoint_laws.specs.Refinement.{ReceivesAt, SendsAt}
 use Rattle.tcp_endpoint.proofs.Places.{near_of_usable}
 use Rattle.endpoint_laws.proofs.TakenLaw.{if_when, counted, taken_law}
@@ -375,9 +375,23 @@ duplicate_is p e segment m =
     (acknowledges_is p e segment m ∙ h)
     ∙ ap (λ b. rest b ack s.una s.sent (ack + segment.head.window) s.edge) (sym h))
 
-pub third_is : (p : Point) (e : Tcb) (segment : Segment) → Meets p e segment → sender.is_third_duplicate (Comes segment) p ≡ is_third_duplicate e segment
+third_is : (p : Point) (e : Tcb) (segment : Segment) → Meets p e segment → sender.is_third_duplicate (Comes segment) p ≡ is_third_duplicate e segment
 unfolding sender.is_third_duplicate
 third_is p e segment m = λ i. duplicate_is p e segment m i && is_third (m.sends.congestion i)
+
+-- what shows a loss
+partial_is : (p : Point) (e : Tcb) (segment : Segment) → Meets p e segment → sender.is_partial_ack (Comes segment) p ≡ is_partial_ack e segment
+unfolding sender.is_partial_ack
+partial_is p e segment m =
+    let s : Sending = e.sending in
+    let part : Bool → ℕ → ℕ → Congestion → Bool = λ acked place una c. acked && nat_lt una place && is_partial (place - una) c in
+    by_cases (acknowledges e segment)
+    (λ h i. part (acknowledges_is p e segment m i) (acknowledged_is p e segment m h i) (m.sends.una i) (m.sends.congestion i))
+    (λ h. (λ i. part ((acknowledges_is p e segment m ∙ h) i) (sender.acknowledged_by p segment) (m.sends.una i) (m.sends.congestion i))
+    ∙ ap (λ b. part b (nat_abs (ack_at e segment)) s.una s.congestion) (sym h))
+
+pub loss_is : (p : Point) (e : Tcb) (segment : Segment) → Meets p e segment → sender.resends (Comes segment) p ≡ shows_loss e segment
+loss_is p e segment m = λ i. third_is p e segment m i || partial_is p e segment m i
 
 -- the congestion window
 congestion_is : (p : Point) (e : Tcb) (segment : Segment) → Meets p e segment → sender.congestion_after (Comes segment) p ≡ congestion_by e segment

@@ -4,7 +4,7 @@ use Rattle.std.specs.Prelude.{◌==◌, ◌&&◌, ◌||◌, nat_lt, if◌then◌
 use Rattle.std.proofs.lemmas.Bool.{false≢true, or_parts}
 use Rattle.server_trait.specs.Service.{Machine}
 use Rattle.seq_arith.specs.Packet.{Segment}
-use Rattle.ft_model.proofs.Profiles.{turn_stays}
+use Rattle.seq_arith.specs.Timing.{Timing}
 use Rattle.ft_model.specs.Point.{Point}
 use Rattle.ft_model.specs.News.{News}
 use Rattle.ft_model.specs.News.News.{Comes, Logged, Ticks, Begins}
@@ -24,28 +24,29 @@ use Rattle.endpoint_laws.proofs.Calls.{IsUsed, runs_used}
 use Rattle.endpoint_laws.proofs.Arrivals.{Arrived}
 
 -- by whether the timer runs, and whether it starts anew: it runs where it doesn't start
-interval_when : (runs anew : Bool) (n : ℕ) → (anew ≡ false → runs ≡ true) → (if runs then (if anew then 1 else n) else 1) ≡ (if anew then 1 else n)
-interval_when true anew n h = refl
-interval_when false true n h = refl
-interval_when false false n h = absurd (false≢true (h refl))
+interval_when : (runs anew : Bool) (base n : ℕ) → (anew ≡ false → runs ≡ true) → (if runs then (if anew then base else n) else base) ≡ (if anew then base else n)
+interval_when true anew base n h = refl
+interval_when false true base n h = refl
+interval_when false false base n h = absurd (false≢true (h refl))
 
 -- at the end of a turn without a tick
-rest_when : (runs anew : Bool) (n k : ℕ) → (if runs then (if anew then 1 else k) else 0)
-    ≡ (if runs then (if anew || false then (if anew then 1 else n) else k) else 0)
-rest_when true true n k = refl
-rest_when true false n k = refl
-rest_when false anew n k = refl
+rest_when : (runs anew : Bool) (base n k : ℕ) → (if runs then (if anew then base else k) else 0)
+    ≡ (if runs then (if anew || false then (if anew then base else n) else k) else 0)
+rest_when true true base n k = refl
+rest_when true false base n k = refl
+rest_when false anew base n k = refl
 
 -- .. and with one
-ticked_interval_when : (runs : Bool) (rest n : ℕ) → ((rest == 0) ≡ false → runs ≡ true)
-    → (if runs then (if rest == 0 then 1 else (if rest == 1 then min 64 (2 * n) else n)) else 1) ≡ (if rest == 0 then 1 else (if rest == 1 then min 64 (2 * n) else n))
-ticked_interval_when runs rest n h = interval_when runs (rest == 0) (if rest == 1 then min 64 (2 * n) else n) h
+ticked_interval_when : (runs : Bool) (rest base n : ℕ) → ((rest == 0) ≡ false → runs ≡ true)
+    → (if runs then (if rest == 0 then base else (if rest == 1 then min 64 (2 * n) else n)) else base)
+    ≡ (if rest == 0 then base else (if rest == 1 then min 64 (2 * n) else n))
+ticked_interval_when runs rest base n h = interval_when runs (rest == 0) base (if rest == 1 then min 64 (2 * n) else n) h
 
-ticked_rest_when : (runs : Bool) (rest n : ℕ)
-    → (if runs then (if rest == 0 then 1 else (if rest == 1 then min 64 (2 * n) else rest - 1)) else 0)
-    ≡ (if runs then (if rest == 0 || rest == 1 then (if rest == 0 then 1 else (if rest == 1 then min 64 (2 * n) else n)) else rest - 1) else 0)
-ticked_rest_when true rest n = grind arith
-ticked_rest_when false rest n = refl
+ticked_rest_when : (runs : Bool) (rest base n : ℕ)
+    → (if runs then (if rest == 0 then base else (if rest == 1 then min 64 (2 * n) else rest - 1)) else 0)
+    ≡ (if runs then (if rest == 0 || rest == 1 then (if rest == 0 then base else (if rest == 1 then min 64 (2 * n) else n)) else rest - 1) else 0)
+ticked_rest_when true rest base n = grind arith
+ticked_rest_when false rest base n = refl
 
 or_apart : (a b c : Bool) → (a || (b || c)) ≡ (a || b || c)
 or_apart true b c = refl
@@ -87,6 +88,7 @@ pub record Timed {State : Type 0} (service : Machine State) (news : News) (befor
   pub laws : MeetsLaws service news before after
   pub syn_acked : after.syn_acked ≡ m.sending.syn_acked
   pub una : after.una ≡ m.sending.una
+  pub base : after.timing.base ≡ m.sending.timing.base
   pub runs : is_timed (after_full u) ≡ timer.must_run service after
   pub still : must_run u.sending ≡ true → timer.must_run service after ≡ true
 
@@ -109,53 +111,56 @@ runs_on service news before after e m u t none =
     ∙ goes_on s.syn_acked k.syn_acked s.una k.una s.sent (target s) (target k) must t.arrived.una t.arrived.target parts.1 in
     t.still (runs_used k u.sending t.used.sends on)
 
--- it starts with one tick
-starts_with_one : {State : Type 0} (service : Machine State) (news : News) (before after : Point) (e m u : Tcb) → Timed service news before after e m u → after.timing.base ≡ 1
-starts_with_one service news before after e m u t = ap (λ x. x.base) (t.laws.timing ∙ turn_stays service news before after t.stands.timing)
+-- it starts with the interval of the estimate, which the user's calls leave
+base_is : {State : Type 0} (service : Machine State) (news : News) (before after : Point) (e m u : Tcb) → Timed service news before after e m u
+    → after.timing.base ≡ u.sending.timing.base
+base_is service news before after e m u t = t.base ∙ ap (λ (x : Timing). x.base) (sym t.used.sends.timing)
 
 -- by the kind of news
 comes_timer : {State : Type 0} (service : Machine State) (segment : Segment) (before after : Point) (e m u : Tcb) → Timed service (Comes segment) before after e m u
     → (after.interval ≡ (flushed u).sending.interval) × (after.rest ≡ (flushed u).sending.rest)
 unfolding timer.interval_after timer.rest_after
 comes_timer service segment before after e m u t =
-    let base : after.timing.base ≡ 1 = starts_with_one service (Comes segment) before after e m u t in
+    let base : after.timing.base ≡ u.sending.timing.base = base_is service (Comes segment) before after e m u t in
     let anew : Bool = starts e.sending m.sending in
     let r : Bool = is_timed (after_full u) in
     let same : m.sending ≡ (received e segment).sending = ap (λ (x : Tcb). x.sending) t.news_are in
-    let law = timer_law e u segment t.begun t.between.bounds t.usual (t.used.sends.interval ∙ ap (λ (q : Sending). q.interval) same)
+    let law = timer_law e u segment t.begun t.between.bounds t.usual (t.used.sends.timing ∙ ap (λ (q : Sending). q.timing) same) (t.used.sends.interval ∙ ap (λ (q : Sending). q.interval) same)
     (t.used.sends.rest ∙ ap (λ (q : Sending). q.rest) same) in
-    let P : Sending → Type 0 = λ q. IsTimedBy (flushed u).sending (if r then (if starts e.sending q then 1 else e.sending.interval) else 1)
-    (if r then (if starts e.sending q then 1 else e.sending.rest) else 0) in
+    let now : ℕ = u.sending.timing.base in
+    let P : Sending → Type 0 = λ q. IsTimedBy (flushed u).sending (if r then (if starts e.sending q then now else e.sending.interval) else now)
+    (if r then (if starts e.sending q then now else e.sending.rest) else 0) in
     let by : P m.sending = subst P (sym same) law in
     let on : anew ≡ false → r ≡ true = λ h. t.runs ∙ runs_on service (Comes segment) before after e m u t h in (
       t.laws.interval ∙ (λ i. if starts_is service (Comes segment) before after e m u t i then base i else t.stands.interval i)
-          ∙ sym (by.interval ∙ interval_when r anew e.sending.interval on),
+          ∙ sym (by.interval ∙ interval_when r anew now e.sending.interval on),
       t.laws.rest
           ∙ (λ i. if sym t.runs i then (if starts_is service (Comes segment) before after e m u t i || false
           then (if starts_is service (Comes segment) before after e m u t i then base i else t.stands.interval i) else t.stands.rest i) else 0)
-          ∙ sym (by.rest ∙ rest_when r anew e.sending.interval e.sending.rest),
+          ∙ sym (by.rest ∙ rest_when r anew now e.sending.interval e.sending.rest),
     )
 
 tick_timer : {State : Type 0} (service : Machine State) (before after : Point) (e m u : Tcb) → Timed service Ticks before after e m u
     → (after.interval ≡ (flushed u).sending.interval) × (after.rest ≡ (flushed u).sending.rest)
 unfolding timer.interval_after timer.rest_after syn_acked_after acknowledged_after
 tick_timer service before after e m u t =
-    let base : after.timing.base ≡ 1 = starts_with_one service Ticks before after e m u t in
+    let base : after.timing.base ≡ u.sending.timing.base = base_is service Ticks before after e m u t in
     let s : Sending = e.sending in
     let r : Bool = is_timed (after_full u) in
     let same : m.sending ≡ (after_tick e).sending = ap (λ (x : Tcb). x.sending) t.news_are in
-    let by = ticked_law e u t.between.interval (t.used.sends.interval ∙ ap (λ (q : Sending). q.interval) same)
+    let now : ℕ = u.sending.timing.base in
+    let by = ticked_law e u t.between.interval (t.used.sends.timing ∙ ap (λ (q : Sending). q.timing) same) (t.used.sends.interval ∙ ap (λ (q : Sending). q.interval) same)
     (t.used.sends.rest ∙ ap (λ (q : Sending). q.rest) same) in
     let anew : timer.is_set_anew before after ≡ (s.rest == 0) =
     (λ i. (t.stands.rest i == 0) || (nat_lt before.una (t.laws.una i) || (t.laws.syn_acked i && not before.syn_acked))) ∙ same_starts (s.rest == 0) before.una before.syn_acked in
     let on : (s.rest == 0) ≡ false → r ≡ true = λ h.
     t.runs ∙ runs_on service Ticks before after e m u t (sym (starts_is service Ticks before after e m u t) ∙ anew ∙ h) in (
       t.laws.interval ∙ (λ i. if anew i then base i else (if t.stands.rest i == 1 then min 64 (2 * t.stands.interval i) else t.stands.interval i))
-          ∙ sym (by.interval ∙ ticked_interval_when r s.rest s.interval on),
+          ∙ sym (by.interval ∙ ticked_interval_when r s.rest now s.interval on),
       t.laws.rest
           ∙ (λ i. if sym t.runs i then (if anew i || t.stands.rest i == 1
           then (if anew i then base i else (if t.stands.rest i == 1 then min 64 (2 * t.stands.interval i) else t.stands.interval i)) else t.stands.rest i - 1) else 0)
-          ∙ sym (by.rest ∙ ticked_rest_when r s.rest s.interval),
+          ∙ sym (by.rest ∙ ticked_rest_when r s.rest now s.interval),
     )
 
 -- nothing comes for TCP
@@ -164,21 +169,22 @@ quiet_timer : {State : Type 0} (service : Machine State) (news : News) (before a
     → (after.interval ≡ (flushed u).sending.interval) × (after.rest ≡ (flushed u).sending.rest)
 unfolding timer.interval_after timer.rest_after
 quiet_timer service news before after e m u t same still syn_acked una =
-    let base : after.timing.base ≡ 1 = starts_with_one service news before after e m u t in
+    let base : after.timing.base ≡ u.sending.timing.base = base_is service news before after e m u t in
     let s : Sending = e.sending in
     let r : Bool = is_timed (after_full u) in
-    let by = flushed_timer u s.interval s.rest (t.used.sends.interval ∙ ap (λ (x : Tcb). x.sending.interval) same) (t.used.sends.rest ∙ ap (λ (x : Tcb). x.sending.rest) same) in
+    let now : ℕ = u.sending.timing.base in
+    let by = flushed_timer u now s.interval s.rest refl (t.used.sends.interval ∙ ap (λ (x : Tcb). x.sending.interval) same) (t.used.sends.rest ∙ ap (λ (x : Tcb). x.sending.rest) same) in
     let anew : timer.is_set_anew before after ≡ (s.rest == 0) =
     (λ i. (t.stands.rest i == 0) || (nat_lt before.una ((t.laws.una ∙ una) i) || ((t.laws.syn_acked ∙ syn_acked) i && not before.syn_acked)))
     ∙ same_starts (s.rest == 0) before.una before.syn_acked in
     let on : (s.rest == 0) ≡ false → r ≡ true = λ h.
     t.runs ∙ runs_on service news before after e m u t (sym (starts_is service news before after e m u t) ∙ anew ∙ h) in (
       t.laws.interval ∙ (λ i. if anew i then base i else (if still i && before.rest == 1 then min 64 (2 * before.interval) else t.stands.interval i))
-          ∙ sym (by.interval ∙ interval_when r (s.rest == 0) s.interval on),
+          ∙ sym (by.interval ∙ interval_when r (s.rest == 0) now s.interval on),
       t.laws.rest
           ∙ (λ i. if sym t.runs i then (if anew i || (still i && before.rest == 1)
           then (if anew i then base i else (if still i && before.rest == 1 then min 64 (2 * before.interval) else t.stands.interval i)) else (if still i then before.rest - 1 else t.stands.rest i)) else 0)
-          ∙ sym (by.rest ∙ rest_when r (s.rest == 0) s.interval s.rest),
+          ∙ sym (by.rest ∙ rest_when r (s.rest == 0) now s.interval s.rest),
     )
 
 pub timer_at : {State : Type 0} (service : Machine State) (news : News) (before after : Point) (e m u : Tcb) → Timed service news before after e m u

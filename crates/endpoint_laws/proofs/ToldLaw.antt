@@ -4,6 +4,7 @@ use Rattle.std.specs.Prelude.{pos, ◌==◌, ◌&&◌, ◌||◌, nat_lt, if◌th
 use Rattle.std.proofs.lemmas.Bool.{false≢true, and_parts}
 use Rattle.seq_arith.specs.Arrival.{int_eq}
 use Rattle.seq_arith.specs.Congestion.{Congestion}
+use Rattle.seq_arith.specs.Timing.{Timing}
 use Rattle.seq_arith.specs.Packet.{Segment, has_syn, has_rst, has_ack}
 use Rattle.seq_arith.specs.Offset.{one_if}
 use Rattle.tcp_buffers.specs.Near.{is_ahead}
@@ -12,7 +13,7 @@ use Rattle.tcp_endpoint.specs.ReceiveHalf.{next, advertised_edge}
 use Rattle.tcp_endpoint.specs.SendHalf.{Sending, with_syn_acked, fin_acked, congestion_expired, target, send_edge, sendable, sends_fin, must_run, timed, expires, ticked, with_sent, with_fin_sent}
 use Rattle.tcp_endpoint.specs.Tcb.{Tcb}
 use Rattle.tcp_endpoint.specs.Arrival.{ack_at, with_ack_pending_if, entering, with_text_and_fin, with_fin_acked, with_first_ack, with_ack_used, with_ack, with_time_wait_restarted, received, with_reset_reply}
-use Rattle.tcp_endpoint.specs.Output.{or_bare, is_ack_pending, bare_segment, full_out, leaving, probes_text, probes_fin, with_probe, with_text_sent, with_fin_out, after_full, with_advertised, is_timed, with_turn_ended, flushed}
+use Rattle.tcp_endpoint.specs.Output.{or_bare, is_ack_pending, bare_segment, full_out, leaving, probes_text, probes_fin, with_probe, with_text_sent, with_fin_out, after_full, with_advertised, is_timed, with_turn_ended, flushed, with_timed}
 use Rattle.tcp_endpoint.specs.UserCalls.{after_tick, timer_ticked, waited, after_write}
 use Rattle.endpoint_laws.specs.Laws.{is_refused, needs_ack, last_advertised, asks, IsBounded, IsUsual, ProbesRightly, IsShut}
 use Rattle.endpoint_laws.proofs.TakenLaw.{same_if, if_when, begun_is, goes_on, Aside, at_ack, others_part, segment_taken}
@@ -25,7 +26,7 @@ use Rattle.ft_io.proofs.Choices.{of_if}
 -- a turn's end sends a segment without data where one is pending
 pub leaving_by : (u : Tcb) (ack_pending : Bool) → has_begun u.name ≡ true → u.ack_pending ≡ ack_pending
     → leaving u ≡ or_bare (asks ack_pending u) (bare_segment (after_full u)) (full_out u)
-unfolding leaving is_ack_pending after_full with_fin_out with_text_sent with_probe
+unfolding leaving is_ack_pending after_full with_timed with_fin_out with_text_sent with_probe
 leaving_by u ack_pending begun is =
     ap (λ b. or_bare (b && asks u.ack_pending u) (bare_segment (after_full u)) (full_out u)) begun
     ∙ ap (λ o. or_bare (asks o u) (bare_segment (after_full u)) (full_out u)) is
@@ -42,7 +43,7 @@ advertised_by true x y m n h = refl
 advertised_by false x y m n h = absurd (false≢true h)
 
 pub told_by_flush : (e : Tcb) → has_begun e.name ≡ true → last_advertised (flushed e) ≡ (next e.receiving, advertised_edge e.receiving)
-unfolding flushed with_turn_ended with_advertised after_full with_fin_out with_text_sent with_probe
+unfolding flushed with_turn_ended with_advertised after_full with_timed with_fin_out with_text_sent with_probe
 told_by_flush e begun = advertised_by (has_begun e.name) (next e.receiving) (advertised_edge e.receiving) e.last_ack_sent e.last_advertised_edge begun
 
 text_part : (e : Tcb) (p : Segment) → last_advertised (with_text_and_fin e p) ≡ last_advertised e
@@ -107,10 +108,10 @@ expiry rest una sent false h order = absurd (false≢true (off_right (rest == 1)
 abbrev Stuck : Sending → Type 0
 Stuck s = (s.una ≡ s.sent) × (s.edge ≤ s.sent) × (s.sent + 1 ≤ target s) × (s.syn_acked ≡ true)
 
-stuck_ticked : (b : Bool) (s : Sending) (c : Congestion) (i r n : ℕ) → Stuck s
-    → Stuck (if b then record s { congestion = c; interval = i; rest = r } else record s { rest = n })
-stuck_ticked true s c i r n h = h
-stuck_ticked false s c i r n h = h
+stuck_ticked : (b : Bool) (s : Sending) (c : Congestion) (t t' : Timing) (i r n : ℕ) → Stuck s
+    → Stuck (if b then record s { congestion = c; timing = t; interval = i; rest = r } else record s { timing = t'; rest = n })
+stuck_ticked true s c t t' i r n h = h
+stuck_ticked false s c t t' i r n h = h
 
 pub probed_by_tick : (e : Tcb) → e.probe ≡ false → IsBounded e → IsShut e.sending → ProbesRightly (after_tick e)
 unfolding after_tick timer_ticked waited
@@ -119,7 +120,7 @@ probed_by_tick e none b shut =
     let due : Bool = expires s && not (not s.syn_acked || nat_lt s.una s.sent) in
     let right : (e.probe || due) ≡ true → Stuck (ticked s) = λ h.
     let x = expiry s.rest s.una s.sent s.syn_acked (or_other e.probe due none h) b.order in
-    stuck_ticked (expires s) s (congestion_expired s) _ _ _ (x.2, shut.edge x.0 x.1 x.2, shut.waits x.0 x.1 x.2, x.1) in
+    stuck_ticked (expires s) s (congestion_expired s) _ _ _ _ _ (x.2, shut.edge x.0 x.1 x.2, shut.waits x.0 x.1 x.2, x.1) in
     record { all_acked = λ h. (right h).0; shut = λ h. (right h).1; waits = λ h. (right h).2; syn_acked = λ h. (right h).3 }
 
 more_waits : (f c : Bool) (una sent : ℕ) (held bytes : List ℕ) → sent + 1 ≤ (if f then sent else una + length held + one_if c)
@@ -244,25 +245,26 @@ shut_of a edge s must is stuck syn_acked una sent same_edge same_target =
       waits = λ r o acked. omega (arith, waits o acked, sent, same_target);
     }
 
-started : (b : Bool) (a : Sending) (edge : ℕ) → must_run a ≡ true → a.edge ≡ edge → (a.una ≡ a.sent → a.sent + 1 ≤ target a → edge ≤ a.sent)
-    → IsShut (if b then record a { interval = 1; rest = 1 } else a)
-started true a edge must is stuck = shut_of a edge (record a { interval = 1; rest = 1 }) must is stuck refl refl refl refl refl
-started false a edge must is stuck = shut_of a edge a must is stuck refl refl refl refl refl
+started : (b : Bool) (n : ℕ) (a : Sending) (edge : ℕ) → must_run a ≡ true → a.edge ≡ edge → (a.una ≡ a.sent → a.sent + 1 ≤ target a → edge ≤ a.sent)
+    → IsShut (if b then record a { interval = n; rest = n } else a)
+started true n a edge must is stuck = shut_of a edge (record a { interval = n; rest = n }) must is stuck refl refl refl refl refl
+started false n a edge must is stuck = shut_of a edge a must is stuck refl refl refl refl refl
 
 -- the timer runs only where it must
 shut_timed : (runs : Bool) (a : Sending) (edge : ℕ) → (runs ≡ true → must_run a ≡ true) → a.edge ≡ edge
     → (a.una ≡ a.sent → a.sent + 1 ≤ target a → edge ≤ a.sent) → IsShut (timed runs a)
-shut_timed true a edge runs is stuck = started (a.rest == 0) a edge (runs refl) is stuck
+shut_timed true a edge runs is stuck = started (a.rest == 0) a.timing.base a edge (runs refl) is stuck
 shut_timed false a edge runs is stuck = record { edge = λ r. absurd (omega arith); waits = λ r. absurd (omega arith) }
 
 pub shut_by_flush : (e : Tcb) → has_begun e.name ≡ true → IsBounded e → ProbesRightly e → IsShut (flushed e).sending
-unfolding flushed with_turn_ended with_advertised after_full with_fin_out with_text_sent with_probe
+unfolding flushed with_turn_ended with_advertised after_full with_timed with_fin_out with_text_sent with_probe
 shut_by_flush e begun b right =
     let s : Sending = e.sending in
-    let after : Tcb = with_fin_out (with_text_sent (with_probe e)) in
-    let a : Sending = after_steps (has_begun e.name) (probes_text e) (probes_fin e) s in
+    let after : Tcb = after_full e in
+    let a : Sending = after.sending in
     let runs : Bool = is_timed after in
-    let same : a ≡ after_steps true (probes_text e) (probes_fin e) s = by_probe e (probes_text e) (probes_fin e) refl refl begun in
+    let same : after_steps (has_begun e.name) (probes_text e) (probes_fin e) s ≡ after_steps true (probes_text e) (probes_fin e) s =
+    by_probe e (probes_text e) (probes_fin e) refl refl begun in
     let una : a.una ≡ s.una = ap (λ (q : Sending). q.una) same ∙ una_kept (probes_text e) (probes_fin e) s in
     let edge : a.edge ≡ s.edge = ap (λ (q : Sending). q.edge) same ∙ edge_kept (probes_text e) (probes_fin e) s in
     let goal : target a ≡ target s = ap target same ∙ after_probe e begun b (probes_text e) (probes_fin e) refl refl in

@@ -3,29 +3,31 @@ use Rattle.std.proofs.Common.{◌≡◌, ℕ, ◌≤◌, ◌+◌, ◌-◌, Bool,
 use Rattle.std.specs.Prelude.{pos, ◌+ℤ◌, ◌==◌, ◌&&◌, ◌||◌, nat_lt, if◌then◌else◌}
 use Rattle.std.proofs.lemmas.Bool.{false≢true}
 use Rattle.seq_arith.specs.Number.{offset_of}
+use Rattle.seq_arith.specs.Timing.{Timing, with_sent as with_unit_sent}
 use Rattle.server_trait.specs.Service.{Machine}
 use Rattle.seq_arith.specs.Offset.{one_if}
 use Rattle.ft_model.specs.Point.{Point}
 use Rattle.ft_model.specs.Point as point
 use Rattle.ft_model.specs.Timer as timer
 use Rattle.tcp_endpoint.specs.States.{is_syn_sent, has_begun}
-use Rattle.tcp_endpoint.specs.SendHalf.{Sending, target, must_run, timed, send_edge, sendable, sends_fin, with_sent, with_fin_sent}
+use Rattle.tcp_endpoint.specs.SendHalf.{Sending, target, must_run, timed, in_flight, send_edge, sendable, sends_fin, with_sent, with_fin_sent}
 use Rattle.tcp_endpoint.specs.Tcb.{Tcb}
-use Rattle.tcp_endpoint.specs.Output.{probes_text, probes_fin, with_probe, with_text_sent, with_fin_out, after_full, with_advertised, is_timed, with_turn_ended, flushed}
-use Rattle.endpoint_laws.specs.Laws.{IsBounded}
+use Rattle.tcp_endpoint.specs.Output.{probes, probes_text, probes_fin, with_probe, with_text_sent, with_fin_out, after_full, with_advertised, is_timed, with_turn_ended, flushed, with_timed}
+use Rattle.endpoint_laws.specs.Laws.{IsBounded, ProbesRightly, timing_at_end}
 use Rattle.endpoint_laws.specs.Refinement.{SendsAt, HasWrittenAll, HasFilled, IsUsedAt}
-use Rattle.endpoint_laws.proofs.TurnLaw.{after_steps, by_probe, timed_sent}
+use Rattle.endpoint_laws.proofs.TurnLaw.{after_steps, by_probe, timed_sent, timed_timing, steps_sent, steps_timing, fin_unsent, waits_fin, probing, nothing_held}
 use Rattle.endpoint_laws.proofs.ToldLaw.{after_probe}
 use Rattle.endpoint_laws.proofs.Calls.{FinIsLast}
 use Rattle.ft_io.proofs.Booleans.{left_true, right_true, false_by}
+use Rattle.ft_io.proofs.Choices.{if_false}
 use Rattle.endpoint_laws.proofs.EndingLaw.{none_behind}
 use Rattle.endpoint_laws.proofs.TimerAt.{sent_more}
 
--- a part of the sending half that neither the timer nor what is sent has a part in
+-- a part of the sending half that neither the timer with its estimate nor what is sent has a part in
 pub record IsSteady {X : Type 0} (g : Sending → X) : Type 0 where
   pub sends : (s : Sending) (n : ℕ) → g (with_sent s n) ≡ g s
   pub ends : (s : Sending) → g (with_fin_sent s) ≡ g s
-  pub times : (s : Sending) (interval rest : ℕ) → g (record s { interval = interval; rest = rest }) ≡ g s
+  pub times : (s : Sending) (timing : Timing) (interval rest : ℕ) → g (record s { timing = timing; interval = interval; rest = rest }) ≡ g s
 
 same_of_if : {X : Type 0} (g : Sending → X) (b : Bool) (x y : Sending) → g x ≡ g y → g (if b then x else y) ≡ g y
 same_of_if g true x y same = same
@@ -41,33 +43,36 @@ steps_keep g begun pt pf s k =
     ∙ k.sends probed _ ∙ same_of_if g pt (with_sent s 1) fin (k.sends s 1 ∙ sym fin_same) ∙ fin_same
 
 timed_keeps : {X : Type 0} (g : Sending → X) (runs : Bool) (s : Sending) → IsSteady g → g (timed runs s) ≡ g s
-timed_keeps g true s k = same_of_if g (s.rest == 0) (record s { interval = 1; rest = 1 }) s (k.times s 1 1)
-timed_keeps g false s k = k.times s 1 0
+timed_keeps g true s k =
+    same_of_if g (s.rest == 0) (record s { interval = s.timing.base; rest = s.timing.base }) s (k.times s s.timing s.timing.base s.timing.base)
+timed_keeps g false s k = k.times s s.timing s.timing.base 0
 
 pub full_keeps : {X : Type 0} (g : Sending → X) (u : Tcb) → IsSteady g → g (after_full u).sending ≡ g u.sending
-unfolding after_full with_fin_out with_text_sent with_probe
-full_keeps g u k = steps_keep g (has_begun u.name) (probes_text u) (probes_fin u) u.sending k
+unfolding after_full with_timed with_fin_out with_text_sent with_probe
+full_keeps g u k =
+    let sent : Sending = after_steps (has_begun u.name) (probes_text u) (probes_fin u) u.sending in
+    k.times sent (after_full u).sending.timing sent.interval sent.rest ∙ steps_keep g (has_begun u.name) (probes_text u) (probes_fin u) u.sending k
 
 pub flush_keeps : {X : Type 0} (g : Sending → X) (u : Tcb) → IsSteady g → g (flushed u).sending ≡ g u.sending
 unfolding flushed with_turn_ended with_advertised
 flush_keeps g u k = timed_keeps g (is_timed (after_full u)) (after_full u).sending k ∙ full_keeps g u k
 
 pub flushed_sends : (p : Point) (u : Tcb) → SendsAt p u → SendsAt p (flushed u)
-unfolding flushed with_turn_ended with_advertised after_full with_fin_out with_text_sent with_probe
+unfolding flushed with_turn_ended with_advertised after_full with_timed with_fin_out with_text_sent with_probe
 flushed_sends p u s =
     let syn_acked : (flushed u).sending.syn_acked ≡ u.sending.syn_acked =
-    flush_keeps (λ (q : Sending). q.syn_acked) u (record { sends = λ s n. refl; ends = λ s. refl; times = λ s i r. refl }) in
+    flush_keeps (λ (q : Sending). q.syn_acked) u (record { sends = λ s n. refl; ends = λ s. refl; times = λ s t i r. refl }) in
     record {
-      sisn = s.sisn ∙ sym (flush_keeps (λ (q : Sending). q.iss) u (record { sends = λ s n. refl; ends = λ s. refl; times = λ s i r. refl }));
-      mss = s.mss ∙ sym (flush_keeps (λ (q : Sending). q.mss) u (record { sends = λ s n. refl; ends = λ s. refl; times = λ s i r. refl }));
+      sisn = s.sisn ∙ sym (flush_keeps (λ (q : Sending). q.iss) u (record { sends = λ s n. refl; ends = λ s. refl; times = λ s t i r. refl }));
+      mss = s.mss ∙ sym (flush_keeps (λ (q : Sending). q.mss) u (record { sends = λ s n. refl; ends = λ s. refl; times = λ s t i r. refl }));
       syn_acked = s.syn_acked ∙ sym syn_acked;
-      una = s.una ∙ sym (flush_keeps (λ (q : Sending). q.una) u (record { sends = λ s n. refl; ends = λ s. refl; times = λ s i r. refl }));
-      edge = s.edge ∙ sym (flush_keeps (λ (q : Sending). q.edge) u (record { sends = λ s n. refl; ends = λ s. refl; times = λ s i r. refl }));
+      una = s.una ∙ sym (flush_keeps (λ (q : Sending). q.una) u (record { sends = λ s n. refl; ends = λ s. refl; times = λ s t i r. refl }));
+      edge = s.edge ∙ sym (flush_keeps (λ (q : Sending). q.edge) u (record { sends = λ s n. refl; ends = λ s. refl; times = λ s t i r. refl }));
       wl1 = λ h. s.wl1 (sym syn_acked ∙ h)
           ∙ ap (λ n. offset_of u.receiving.irs n +ℤ pos p.fetched)
-          (sym (flush_keeps (λ (q : Sending). q.wl1) u (record { sends = λ s n. refl; ends = λ s. refl; times = λ s i r. refl })));
-      wl2 = s.wl2 ∙ sym (flush_keeps (λ (q : Sending). q.wl2) u (record { sends = λ s n. refl; ends = λ s. refl; times = λ s i r. refl }));
-      congestion = s.congestion ∙ sym (flush_keeps (λ (q : Sending). q.congestion) u (record { sends = λ s n. refl; ends = λ s. refl; times = λ s i r. refl }));
+          (sym (flush_keeps (λ (q : Sending). q.wl1) u (record { sends = λ s n. refl; ends = λ s. refl; times = λ s t i r. refl })));
+      wl2 = s.wl2 ∙ sym (flush_keeps (λ (q : Sending). q.wl2) u (record { sends = λ s n. refl; ends = λ s. refl; times = λ s t i r. refl }));
+      congestion = s.congestion ∙ sym (flush_keeps (λ (q : Sending). q.congestion) u (record { sends = λ s n. refl; ends = λ s. refl; times = λ s t i r. refl }));
     }
 
 -- a FIN is sent last
@@ -119,7 +124,7 @@ last_steps begun pt pf s unsent ends last =
     (λ h. texted_last)
 
 last_timed : (runs : Bool) (s : Sending) → FinIsLast s → FinIsLast (timed runs s)
-last_timed true s last = last_if (s.rest == 0) (record s { interval = 1; rest = 1 }) s (λ h. last) (λ h. last)
+last_timed true s last = last_if (s.rest == 0) (record s { interval = s.timing.base; rest = s.timing.base }) s (λ h. last) (λ h. last)
 last_timed false s last = last
 
 -- a probe goes out where no FIN was sent, and the FIN as one where no byte waits to be sent
@@ -141,22 +146,22 @@ ends_of p b o f c una len sent order flight h =
     )
 
 pub last_flushed : (u : Tcb) → IsBounded u → FinIsLast u.sending → FinIsLast (flushed u).sending
-unfolding flushed with_turn_ended with_advertised after_full with_fin_out with_text_sent with_probe
+unfolding flushed with_turn_ended with_advertised after_full with_timed with_fin_out with_text_sent with_probe
 last_flushed u b last =
     let s : Sending = u.sending in
-    last_timed _ (after_steps (has_begun u.name) (probes_text u) (probes_fin u) u.sending)
+    last_timed _ (after_full u).sending
     (last_steps (has_begun u.name) (probes_text u) (probes_fin u) s
     (λ h. unsent_of u.probe (has_begun u.name) s.syn_acked s.fin_sent (nat_lt (s.sent - s.una) (length s.held)) h)
     (λ h. ends_of u.probe (has_begun u.name) s.syn_acked s.fin_sent s.closed s.una (length s.held) s.sent b.order b.flight h) last)
 
 -- the timer runs only where it must
-runs_if : (b : Bool) (s : Sending) → must_run s ≡ true → 1 ≤ (if b then record s { interval = 1; rest = 1 } else s).rest
-    → must_run (if b then record s { interval = 1; rest = 1 } else s) ≡ true
-runs_if true s must h = must
-runs_if false s must h = must
+runs_if : (b : Bool) (n : ℕ) (s : Sending) → must_run s ≡ true → 1 ≤ (if b then record s { interval = n; rest = n } else s).rest
+    → must_run (if b then record s { interval = n; rest = n } else s) ≡ true
+runs_if true n s must h = must
+runs_if false n s must h = must
 
 runs_timed : (runs : Bool) (s : Sending) → (runs ≡ true → must_run s ≡ true) → 1 ≤ (timed runs s).rest → must_run (timed runs s) ≡ true
-runs_timed true s must h = runs_if (s.rest == 0) s (must refl) h
+runs_timed true s must h = runs_if (s.rest == 0) s.timing.base s (must refl) h
 runs_timed false s must h = absurd (omega (arith, h))
 
 pub runs_flushed : (u : Tcb) → 1 ≤ (flushed u).sending.rest → must_run (flushed u).sending ≡ true
@@ -220,11 +225,11 @@ waits_at service p u sent b last used =
     used.written
 
 full_target : (u : Tcb) → has_begun u.name ≡ true → IsBounded u → target (after_full u).sending ≡ target u.sending
-unfolding after_full with_fin_out with_text_sent with_probe
+unfolding after_full with_timed with_fin_out with_text_sent with_probe
 full_target u begun b = ap target (by_probe u (probes_text u) (probes_fin u) refl refl begun) ∙ after_probe u begun b (probes_text u) (probes_fin u) refl refl
 
 pub full_name : (u : Tcb) → has_begun u.name ≡ true → has_begun (after_full u).name ≡ true
-unfolding after_full with_fin_out with_text_sent with_probe
+unfolding after_full with_timed with_fin_out with_text_sent with_probe
 full_name u begun = begun
 
 pub flushed_sent : (u : Tcb) → (flushed u).sending.sent ≡ (after_full u).sending.sent
@@ -237,9 +242,9 @@ unfolding timer.must_run
 runs_at service p u begun b last s used sent =
     let v : Tcb = after_full u in
     let syn_acked : v.sending.syn_acked ≡ p.syn_acked =
-    full_keeps (λ (q : Sending). q.syn_acked) u (record { sends = λ s n. refl; ends = λ s. refl; times = λ s i r. refl }) ∙ sym s.syn_acked in
+    full_keeps (λ (q : Sending). q.syn_acked) u (record { sends = λ s n. refl; ends = λ s. refl; times = λ s t i r. refl }) ∙ sym s.syn_acked in
     let una : v.sending.una ≡ u.sending.una =
-    full_keeps (λ (q : Sending). q.una) u (record { sends = λ s n. refl; ends = λ s. refl; times = λ s i r. refl }) in
+    full_keeps (λ (q : Sending). q.una) u (record { sends = λ s n. refl; ends = λ s. refl; times = λ s t i r. refl }) in
     ap (λ n. (n || is_syn_sent v.name) && must_run v.sending) (full_name u begun)
     ∙ (λ i. not (syn_acked i) || nat_lt (una i) (max (sym sent i) (full_target u begun b i)))
     ∙ ap (λ w. not p.syn_acked || w) (waits_at service p u p.sent b last used)
@@ -250,7 +255,7 @@ least_if true x y n p q = p
 least_if false x y n p q = q
 
 steps_grow : (u : Tcb) → u.sending.sent ≤ (after_full u).sending.sent
-unfolding after_full with_fin_out with_text_sent with_probe
+unfolding after_full with_timed with_fin_out with_text_sent with_probe
 steps_grow u =
     let s : Sending = u.sending in
     let pt : Bool = probes_text u in
@@ -269,3 +274,72 @@ running_at service before after u b last s used was sent must =
     (λ i. not (s.syn_acked i) || nat_lt (s.una i) (max after.sent (point.target service after)))
     ∙ ap (λ w. not u.sending.syn_acked || w) (sym (waits_at service after u after.sent b last used))
     ∙ sent_more u.sending.syn_acked u.sending.una u.sending.sent after.sent (target u.sending) more must
+
+-- a probe is one unit
+probed_by : (e : Tcb) (pr t : Bool) → e.probe ≡ pr → nat_lt (e.sending.sent - e.sending.una) (length e.sending.held) ≡ t → has_begun e.name ≡ true
+    → IsBounded e → ProbesRightly e
+    → (if probes_text e then with_sent e.sending 1 else (if probes_fin e then with_fin_sent e.sending else e.sending)).sent ≡ e.sending.sent + one_if pr
+probed_by e false t is waits begun b right =
+    let s : Sending = e.sending in
+    let still : probes e ≡ false = ap (λ v. v && has_begun e.name && s.syn_acked && not s.fin_sent) is in
+    let no_text : probes_text e ≡ false = ap (λ v. v && nat_lt (s.sent - s.una) (length s.held)) still in
+    let no_fin : probes_fin e ≡ false = ap (λ v. v && not (nat_lt (s.sent - s.una) (length s.held)) && s.closed) still in
+    (λ i. (if no_text i then with_sent s 1 else (if no_fin i then with_fin_sent s else s)).sent) ∙ omega arith
+probed_by e true true is waits begun b right =
+    let s : Sending = e.sending in
+    let unsent : s.fin_sent ≡ false = fin_unsent s.fin_sent s.closed s.una (length s.held) s.sent (right.all_acked is) (right.waits is) in
+    let on : probes e ≡ true = probing e begun (right.syn_acked is) unsent is in
+    let text : probes_text e ≡ true = ap (λ v. v && nat_lt (s.sent - s.una) (length s.held)) on ∙ waits in
+    ap (λ v. (if v then with_sent s 1 else (if probes_fin e then with_fin_sent s else s)).sent) text
+probed_by e true false is waits begun b right =
+    let s : Sending = e.sending in
+    let unsent : s.fin_sent ≡ false = fin_unsent s.fin_sent s.closed s.una (length s.held) s.sent (right.all_acked is) (right.waits is) in
+    let none : length s.held ≡ 0 = nothing_held s.una s.sent (length s.held) (right.all_acked is) waits in
+    let is_closed : s.closed ≡ true = waits_fin s.fin_sent s.closed s.una (length s.held) s.sent (right.all_acked is) (right.waits is) none in
+    let on : probes e ≡ true = probing e begun (right.syn_acked is) unsent is in
+    let no_text : probes_text e ≡ false = ap (λ v. v && nat_lt (s.sent - s.una) (length s.held)) on ∙ waits in
+    let fin : probes_fin e ≡ true =
+    ap (λ v. v && not (nat_lt (s.sent - s.una) (length s.held)) && s.closed) on ∙ ap (λ v. true && not v && s.closed) waits ∙ is_closed in
+    λ i. (if no_text i then with_sent s 1 else (if fin i then with_fin_sent s else s)).sent
+
+probed_una : (pt pf : Bool) (s : Sending) → (if pt then with_sent s 1 else (if pf then with_fin_sent s else s)).una ≡ s.una
+probed_una true pf s = refl
+probed_una false true s = refl
+probed_una false false s = refl
+
+-- what is timed is the first unit that is sent for the first time, other than in a probe
+new_unit : (p : Bool) (una sent all : ℕ) (t : Timing) → una ≤ sent → sent ≤ all → (p ≡ true → all ≡ sent)
+    → (if nat_lt (sent + one_if p - una) (all + one_if p - una) then with_unit_sent (sent + one_if p - una + 1) t else t)
+    ≡ (if nat_lt sent all then with_unit_sent (sent + 1 - una) t else t)
+new_unit true una sent all t order up none =
+    let same : all ≡ sent = none refl in
+    let still : nat_lt (sent + 1 - una) (all + 1 - una) ≡ false = grind (arith, same) in
+    let nothing : nat_lt sent all ≡ false = grind (arith, same) in
+    if_false _ _ _ still ∙ sym (if_false _ _ _ nothing)
+new_unit false una sent all t order up none =
+    let test : nat_lt (sent + 0 - una) (all + 0 - una) ≡ nat_lt sent all = grind (arith, order, up) in
+    let place : sent + 0 - una + 1 ≡ sent + 1 - una = omega (arith, order) in
+    λ i. if test i then with_unit_sent (place i) t else t
+
+no_room : (sent goal edge : ℕ) → edge ≤ sent → max sent (min goal edge) ≡ sent
+no_room sent goal edge h = omega (arith, h)
+
+pub timing_law : (e : Tcb) → has_begun e.name ≡ true → IsBounded e → ProbesRightly e → (flushed e).sending.timing ≡ timing_at_end e
+unfolding flushed with_turn_ended with_advertised after_full with_timed with_fin_out with_text_sent with_probe
+timing_law e begun b right =
+    let s : Sending = e.sending in
+    let pt : Bool = probes_text e in
+    let pf : Bool = probes_fin e in
+    let probed : Sending = if pt then with_sent s 1 else (if pf then with_fin_sent s else s) in
+    let sent : Sending = after_steps (has_begun e.name) pt pf s in
+    let all : ℕ = max s.sent (min (target s) (send_edge s)) in
+    let waits : Bool = nat_lt (s.sent - s.una) (length s.held) in
+    let place : in_flight probed ≡ s.sent + one_if e.probe - s.una = λ i. probed_by e e.probe waits refl refl begun b right i - probed_una pt pf s i in
+    let una : sent.una ≡ s.una =
+    steps_keep (λ (q : Sending). q.una) (has_begun e.name) pt pf s (record { sends = λ s n. refl; ends = λ s. refl; times = λ s t i r. refl }) in
+    let flight : in_flight sent ≡ all + one_if e.probe - s.una = λ i. steps_sent e e.probe waits refl refl begun b right i - una i in
+    let timing : sent.timing ≡ s.timing = steps_timing (has_begun e.name) pt pf s in
+    timed_timing (is_timed (after_full e)) (after_full e).sending
+    ∙ (λ i. if nat_lt (place i) (flight i) then with_unit_sent (place i + 1) (timing i) else timing i)
+    ∙ new_unit e.probe s.una s.sent all s.timing b.order (omega arith)
+    (λ p. no_room s.sent (target s) (send_edge s) (omega (arith, right.shut p)))

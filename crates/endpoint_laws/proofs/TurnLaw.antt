@@ -6,24 +6,35 @@ use Rattle.std.proofs.lemmas.Bool.{false≢true}
 use Rattle.seq_arith.specs.Arrival.{is_new_ack}
 use Rattle.seq_arith.specs.Congestion.{Congestion}
 use Rattle.seq_arith.specs.Packet.{Segment}
+use Rattle.seq_arith.specs.Timing.{Timing, with_acknowledged, with_sent as with_unit_sent}
 use Rattle.seq_arith.specs.Offset.{one_if}
 use Rattle.tcp_endpoint.specs.States.{has_begun}
-use Rattle.tcp_endpoint.specs.SendHalf.{Sending, with_syn_acked, acknowledged, congestion_expired, target, send_edge, sendable, sends_fin, ticked, timed, with_sent, with_fin_sent}
+use Rattle.tcp_endpoint.specs.SendHalf.{Sending, with_syn_acked, acknowledged, congestion_expired, timing_acknowledged, target, in_flight, send_edge, sendable, sends_fin, ticked, timed, with_sent, with_fin_sent}
 use Rattle.tcp_endpoint.specs.Tcb.{Tcb}
 use Rattle.tcp_endpoint.specs.Arrival.{ack_at, received}
-use Rattle.tcp_endpoint.specs.Output.{probes, probes_text, probes_fin, with_probe, with_text_sent, with_fin_out, after_full, with_advertised, is_timed, with_turn_ended, flushed}
+use Rattle.tcp_endpoint.specs.Output.{probes, probes_text, probes_fin, with_probe, with_text_sent, with_fin_out, after_full, with_advertised, is_timed, with_turn_ended, flushed, with_timed}
 use Rattle.tcp_endpoint.specs.UserCalls.{after_tick, timer_ticked, waited}
-use Rattle.endpoint_laws.specs.Laws.{counts, IsBounded, IsUsual, ProbesRightly, sent_by_law, starts, interval_by, rest_by, ticked_interval, ticked_rest, IsTimedBy}
+use Rattle.endpoint_laws.specs.Laws.{counts, shows_loss, IsBounded, IsUsual, ProbesRightly, sent_by_law, starts, interval_by, rest_by, ticked_interval, ticked_rest, IsTimedBy}
 use Rattle.endpoint_laws.proofs.SendingLaw.{later_by, sending_is}
+use Rattle.endpoint_laws.proofs.Timings.{unit_base, trip_base, measured}
+use Rattle.ft_io.proofs.Choices.{holds_either_way}
 
--- the timer does not touch what is sent
-started : (b : Bool) (s : Sending) → (if b then record s { interval = 1; rest = 1 } else s).sent ≡ s.sent
-started true s = refl
-started false s = refl
+-- the timer does not touch what is sent, nor the estimate
+started : (b : Bool) (n : ℕ) (s : Sending) → (if b then record s { interval = n; rest = n } else s).sent ≡ s.sent
+started true n s = refl
+started false n s = refl
 
 pub timed_sent : (runs : Bool) (s : Sending) → (timed runs s).sent ≡ s.sent
-timed_sent true s = started (s.rest == 0) s
+timed_sent true s = started (s.rest == 0) s.timing.base s
 timed_sent false s = refl
+
+started_timing : (b : Bool) (n : ℕ) (s : Sending) → (if b then record s { interval = n; rest = n } else s).timing ≡ s.timing
+started_timing true n s = refl
+started_timing false n s = refl
+
+pub timed_timing : (runs : Bool) (s : Sending) → (timed runs s).timing ≡ s.timing
+timed_timing true s = started_timing (s.rest == 0) s.timing.base s
+timed_timing false s = refl
 
 -- what a turn without a probe sends
 no_probe : (o c f : Bool) (una len edge sent : ℕ) → (o ≡ false → sent ≡ 0) → (o ≡ false → edge ≡ 0) → sent ≤ una + len + one_if f
@@ -38,7 +49,7 @@ no_probe true true false una len edge sent p q h = grind arith
 no_probe true false true una len edge sent p q h = grind arith
 no_probe true false false una len edge sent p q h = grind arith
 
--- the sending half after the steps of a flush, by the tests
+-- the sending half after the steps of a flush, by the tests, but for the estimate
 abbrev pub after_steps : (begun pt pf : Bool) → Sending → Sending
 after_steps begun pt pf s =
     let probed : Sending = if pt then with_sent s 1 else (if pf then with_fin_sent s else s)
@@ -128,7 +139,7 @@ one_more sent target edge false is h = absurd (false≢true is)
 pub nothing_held : (una sent len : ℕ) → una ≡ sent → nat_lt (sent - una) len ≡ false → len ≡ 0
 nothing_held una sent len is h = grind arith
 
-steps_sent : (e : Tcb) (pr t : Bool) → e.probe ≡ pr → nat_lt (e.sending.sent - e.sending.una) (length e.sending.held) ≡ t
+pub steps_sent : (e : Tcb) (pr t : Bool) → e.probe ≡ pr → nat_lt (e.sending.sent - e.sending.una) (length e.sending.held) ≡ t
     → has_begun e.name ≡ true → IsBounded e → ProbesRightly e
     → (after_steps (has_begun e.name) (probes_text e) (probes_fin e) e.sending).sent ≡ sent_by_law e
 steps_sent e false t is waits begun b right =
@@ -163,19 +174,21 @@ steps_sent e true false is waits begun b right =
     ∙ one_more s.sent (target s) (send_edge s) e.probe is (omega (arith, right.shut is))
 
 pub sent_law : (e : Tcb) → has_begun e.name ≡ true → IsBounded e → ProbesRightly e → (flushed e).sending.sent ≡ sent_by_law e
-unfolding flushed with_turn_ended with_advertised after_full with_fin_out with_text_sent with_probe
+unfolding flushed with_turn_ended with_advertised after_full with_timed with_fin_out with_text_sent with_probe
 sent_law e begun b right =
-    timed_sent (is_timed (with_fin_out (with_text_sent (with_probe e)))) (after_steps (has_begun e.name) (probes_text e) (probes_fin e) e.sending)
+    timed_sent (is_timed (after_full e)) (after_full e).sending
     ∙ steps_sent e e.probe (nat_lt (e.sending.sent - e.sending.una) (length e.sending.held)) refl refl begun b right
 
 -- the timer, by whether it runs
-started_is : (b : Bool) (s : Sending)
-    → IsTimedBy (if b then record s { interval = 1; rest = 1 } else s) (if b then 1 else s.interval) (if b then 1 else s.rest)
-started_is true s = record { interval = refl; rest = refl }
-started_is false s = record { interval = refl; rest = refl }
+started_is : (b : Bool) (n : ℕ) (s : Sending)
+    → IsTimedBy (if b then record s { interval = n; rest = n } else s) (if b then n else s.interval) (if b then n else s.rest)
+started_is true n s = record { interval = refl; rest = refl }
+started_is false n s = record { interval = refl; rest = refl }
 
-started_by : (runs : Bool) (s : Sending) → IsTimedBy (timed runs s) (if runs then (if s.rest == 0 then 1 else s.interval) else 1) (if runs then (if s.rest == 0 then 1 else s.rest) else 0)
-started_by true s = started_is (s.rest == 0) s
+started_by : (runs : Bool) (s : Sending)
+    → IsTimedBy (timed runs s) (if runs then (if s.rest == 0 then s.timing.base else s.interval) else s.timing.base)
+    (if runs then (if s.rest == 0 then s.timing.base else s.rest) else 0)
+started_by true s = started_is (s.rest == 0) s.timing.base s
 started_by false s = record { interval = refl; rest = refl }
 
 -- the steps of a flush leave the timer
@@ -205,112 +218,160 @@ steps_rest begun pt pf s =
     ∙ rest_of_if pt (with_sent s 1) (if pf then with_fin_sent s else s) (sym fin)
     ∙ fin
 
+timing_of_if : (b : Bool) (x y : Sending) → x.timing ≡ y.timing → (if b then x else y).timing ≡ y.timing
+timing_of_if true x y same = same
+timing_of_if false x y same = refl
+
+pub steps_timing : (begun pt pf : Bool) (s : Sending) → (after_steps begun pt pf s).timing ≡ s.timing
+steps_timing begun pt pf s =
+    let probed : Sending = if pt then with_sent s 1 else (if pf then with_fin_sent s else s) in
+    let texted : Sending = with_sent probed (if begun then sendable probed else 0) in
+    let fin : (if pf then with_fin_sent s else s).timing ≡ s.timing = timing_of_if pf (with_fin_sent s) s refl in
+    timing_of_if (begun && sends_fin texted) (with_fin_sent texted) texted refl
+    ∙ timing_of_if pt (with_sent s 1) (if pf then with_fin_sent s else s) (sym fin)
+    ∙ fin
+
+-- the interval of the estimate at the end of a turn is that before the flush
+pub full_base : (u : Tcb) → (after_full u).sending.timing.base ≡ u.sending.timing.base
+unfolding after_full with_timed with_fin_out with_text_sent with_probe
+full_base u =
+    let sent : Sending = after_steps (has_begun u.name) (probes_text u) (probes_fin u) u.sending in
+    holds_either_way (λ (t : Timing). t.base ≡ sent.timing.base) (nat_lt (in_flight (with_probe u).sending) (in_flight sent))
+    (with_unit_sent (in_flight (with_probe u).sending + 1) sent.timing) sent.timing (unit_base _ sent.timing) refl
+    ∙ ap (λ (t : Timing). t.base) (steps_timing (has_begun u.name) (probes_text u) (probes_fin u) u.sending)
+
 -- the timer after a flush, by what it was before
-pub flushed_timer : (u : Tcb) (interval rest : ℕ) → u.sending.interval ≡ interval → u.sending.rest ≡ rest
-    → IsTimedBy (flushed u).sending (if is_timed (after_full u) then (if rest == 0 then 1 else interval) else 1)
-    (if is_timed (after_full u) then (if rest == 0 then 1 else rest) else 0)
-unfolding flushed with_turn_ended with_advertised after_full with_fin_out with_text_sent with_probe
-flushed_timer u interval rest is_interval is_rest =
-    let after : Sending = after_steps (has_begun u.name) (probes_text u) (probes_fin u) u.sending in
-    let runs : Bool = is_timed (with_fin_out (with_text_sent (with_probe u))) in
+pub flushed_timer : (u : Tcb) (base interval rest : ℕ) → u.sending.timing.base ≡ base → u.sending.interval ≡ interval → u.sending.rest ≡ rest
+    → IsTimedBy (flushed u).sending (if is_timed (after_full u) then (if rest == 0 then base else interval) else base)
+    (if is_timed (after_full u) then (if rest == 0 then base else rest) else 0)
+unfolding flushed with_turn_ended with_advertised after_full with_timed with_fin_out with_text_sent with_probe
+flushed_timer u base interval rest is_base is_interval is_rest =
+    let after : Sending = (after_full u).sending in
+    let runs : Bool = is_timed (after_full u) in
+    let b : after.timing.base ≡ base = full_base u ∙ is_base in
     let i : after.interval ≡ interval = steps_interval (has_begun u.name) (probes_text u) (probes_fin u) u.sending ∙ is_interval in
     let r : after.rest ≡ rest = steps_rest (has_begun u.name) (probes_text u) (probes_fin u) u.sending ∙ is_rest in
-    let t : IsTimedBy (timed runs after) (if runs then (if after.rest == 0 then 1 else after.interval) else 1) (if runs then (if after.rest == 0 then 1 else after.rest) else 0) = started_by runs after
+    let t : IsTimedBy (timed runs after) (if runs then (if after.rest == 0 then after.timing.base else after.interval) else after.timing.base)
+    (if runs then (if after.rest == 0 then after.timing.base else after.rest) else 0) = started_by runs after
     in record {
-      interval = t.interval ∙ ap (λ n. if runs then (if n == 0 then 1 else after.interval) else 1) r ∙ ap (λ n. if runs then (if rest == 0 then 1 else n) else 1) i;
-      rest = t.rest ∙ ap (λ n. if runs then (if n == 0 then 1 else n) else 0) r;
+      interval = t.interval ∙ (λ k. if runs then (if r k == 0 then b k else i k) else b k);
+      rest = t.rest ∙ (λ k. if runs then (if r k == 0 then b k else r k) else 0);
     }
 
--- the timer of m is that of s, but where it starts anew
+-- the timer of m is that of s, but where it starts anew, with the interval of its estimate
 record Agrees (s m : Sending) : Type 0 where
-  interval : (if m.rest == 0 then 1 else m.interval) ≡ (if starts s m then 1 else s.interval)
-  rest : (if m.rest == 0 then 1 else m.rest) ≡ (if starts s m then 1 else s.rest)
+  interval : (if m.rest == 0 then m.timing.base else m.interval) ≡ (if starts s m then m.timing.base else s.interval)
+  rest : (if m.rest == 0 then m.timing.base else m.rest) ≡ (if starts s m then m.timing.base else s.rest)
 
-same_agrees : (o : Bool) (una rest interval : ℕ)
-    → ((if rest == 0 then 1 else interval) ≡ (if (rest == 0) || nat_lt una una || (o && not o) then 1 else interval))
-    × ((if rest == 0 then 1 else rest) ≡ (if (rest == 0) || nat_lt una una || (o && not o) then 1 else rest))
-same_agrees true una rest interval = (grind arith, grind arith)
-same_agrees false una rest interval = (grind arith, grind arith)
+same_agrees : (o : Bool) (una rest interval base : ℕ)
+    → ((if rest == 0 then base else interval) ≡ (if (rest == 0) || nat_lt una una || (o && not o) then base else interval))
+    × ((if rest == 0 then base else rest) ≡ (if (rest == 0) || nat_lt una una || (o && not o) then base else rest))
+same_agrees true una rest interval base = (grind arith, grind arith)
+same_agrees false una rest interval base = (grind arith, grind arith)
 
-later_agrees : (una sent rest interval : ℕ) (z : ℤ)
-    → ((if (if is_new_ack una sent z then (if int_le (pos sent) z then 0 else 1) else rest) == 0 then 1 else (if is_new_ack una sent z then 1 else interval))
-    ≡ (if (rest == 0) || nat_lt una (if is_new_ack una sent z then nat_abs z else una) || (true && not true) then 1 else interval))
-    × ((if (if is_new_ack una sent z then (if int_le (pos sent) z then 0 else 1) else rest) == 0 then 1 else (if is_new_ack una sent z then (if int_le (pos sent) z then 0 else 1) else rest))
-    ≡ (if (rest == 0) || nat_lt una (if is_new_ack una sent z then nat_abs z else una) || (true && not true) then 1 else rest))
-later_agrees una sent rest interval z = (grind (arith, ints), grind (arith, ints))
+later_agrees : (una sent rest interval base : ℕ) (z : ℤ)
+    → ((if (if is_new_ack una sent z then (if int_le (pos sent) z then 0 else base) else rest) == 0 then base else (if is_new_ack una sent z then base else interval))
+    ≡ (if (rest == 0) || nat_lt una (if is_new_ack una sent z then nat_abs z else una) || (true && not true) then base else interval))
+    × ((if (if is_new_ack una sent z then (if int_le (pos sent) z then 0 else base) else rest) == 0 then base else (if is_new_ack una sent z then (if int_le (pos sent) z then 0 else base) else rest))
+    ≡ (if (rest == 0) || nat_lt una (if is_new_ack una sent z then nat_abs z else una) || (true && not true) then base else rest))
+later_agrees una sent rest interval base z = (grind (arith, ints), grind (arith, ints))
 
-first_agrees : (a b : Bool) (n : ℕ) → 1 ≡ (if a || b || (true && not false) then 1 else n)
-first_agrees true true n = refl
-first_agrees true false n = refl
-first_agrees false true n = refl
-first_agrees false false n = refl
+first_agrees : (a b : Bool) (n base : ℕ) → base ≡ (if a || b || (true && not false) then base else n)
+first_agrees true true n base = refl
+first_agrees true false n base = refl
+first_agrees false true n base = refl
+first_agrees false false n base = refl
 
-agrees : (e : Tcb) (p : Segment) (c o : Bool) → e.sending.syn_acked ≡ o
+-- what an acknowledgement makes of the estimate's interval
+later_base : (e : Tcb) (p : Segment) → IsBounded e → (later_by e p).timing.base ≡ (timing_acknowledged e.sending (ack_at e p)).base
+unfolding acknowledged
+later_base e p b =
+    let s : Sending = e.sending in
+    let z : ℤ = ack_at e p in
+    let una : ℕ = if is_new_ack s.una s.sent z then nat_abs z else s.una in
+    trip_base (shows_loss e p) (with_acknowledged (una - s.una) s.timing)
+    ∙ ap (λ (t : Timing). t.base) (sym (measured (is_new_ack s.una s.sent z) s.una (nat_abs z) s.timing b.timing))
+
+agrees : (e : Tcb) (p : Segment) (c o : Bool) → IsBounded e → e.sending.syn_acked ≡ o
     → Agrees e.sending
     (if c then (if o then later_by e p else with_syn_acked e.sending p.head.seq p.head.window) else e.sending)
 unfolding acknowledged
-agrees e p true true is =
+agrees e p true true b is =
     let s : Sending = e.sending in
-    let a = later_agrees s.una s.sent s.rest s.interval (ack_at e p) in
-    let una : ℕ = if is_new_ack s.una s.sent (ack_at e p) then nat_abs (ack_at e p) else s.una in
+    let z : ℤ = ack_at e p in
+    let base : ℕ = (timing_acknowledged s z).base in
+    let same : base ≡ (later_by e p).timing.base = sym (later_base e p b) in
+    let new : Bool = is_new_ack s.una s.sent z in
+    let a = later_agrees s.una s.sent s.rest s.interval base z in
+    let una : ℕ = if new then nat_abs z else s.una in
+    let rest : ℕ = if new then (if int_le (pos s.sent) z then 0 else base) else s.rest in
+    let interval : ℕ = if new then base else s.interval in
     record {
-      interval = a.0 ∙ ap (λ v. if (s.rest == 0) || nat_lt s.una una || (v && not v) then 1 else s.interval) (sym is);
-      rest = a.1 ∙ ap (λ v. if (s.rest == 0) || nat_lt s.una una || (v && not v) then 1 else s.rest) (sym is);
+      interval = ap (λ n. if rest == 0 then n else interval) (sym same) ∙ a.0
+          ∙ (λ i. if (s.rest == 0) || nat_lt s.una una || (sym is i && not (sym is i)) then same i else s.interval);
+      rest = ap (λ n. if rest == 0 then n else rest) (sym same) ∙ a.1
+          ∙ (λ i. if (s.rest == 0) || nat_lt s.una una || (sym is i && not (sym is i)) then same i else s.rest);
     }
-agrees e p true false is =
+agrees e p true false b is =
     let s : Sending = e.sending in
+    let base : ℕ = s.timing.base in
     record {
-      interval = first_agrees (s.rest == 0) (nat_lt s.una 0) s.interval ∙ ap (λ v. if (s.rest == 0) || nat_lt s.una 0 || (true && not v) then 1 else s.interval) (sym is);
-      rest = first_agrees (s.rest == 0) (nat_lt s.una 0) s.rest ∙ ap (λ v. if (s.rest == 0) || nat_lt s.una 0 || (true && not v) then 1 else s.rest) (sym is);
+      interval = first_agrees (s.rest == 0) (nat_lt s.una 0) s.interval base ∙ ap (λ v. if (s.rest == 0) || nat_lt s.una 0 || (true && not v) then base else s.interval) (sym is);
+      rest = first_agrees (s.rest == 0) (nat_lt s.una 0) s.rest base ∙ ap (λ v. if (s.rest == 0) || nat_lt s.una 0 || (true && not v) then base else s.rest) (sym is);
     }
-agrees e p false o is =
+agrees e p false o b is =
     let s : Sending = e.sending in
-    let a = same_agrees s.syn_acked s.una s.rest s.interval in record { interval = a.0; rest = a.1 }
+    let a = same_agrees s.syn_acked s.una s.rest s.interval s.timing.base in record { interval = a.0; rest = a.1 }
 
-pub timer_law : (e u : Tcb) (p : Segment) → has_begun e.name ≡ true → IsBounded e → IsUsual e p
+pub timer_law : (e u : Tcb) (p : Segment) → has_begun e.name ≡ true → IsBounded e → IsUsual e p → u.sending.timing ≡ (received e p).sending.timing
     → u.sending.interval ≡ (received e p).sending.interval → u.sending.rest ≡ (received e p).sending.rest
-    → IsTimedBy (flushed u).sending (interval_by (is_timed (after_full u)) (starts e.sending (received e p).sending) e.sending)
-    (rest_by (is_timed (after_full u)) (starts e.sending (received e p).sending) e.sending)
-timer_law e u p begun b usual interval rest =
+    → IsTimedBy (flushed u).sending (interval_by (is_timed (after_full u)) (starts e.sending (received e p).sending) u.sending.timing.base e.sending)
+    (rest_by (is_timed (after_full u)) (starts e.sending (received e p).sending) u.sending.timing.base e.sending)
+timer_law e u p begun b usual timing interval rest =
     let m : Sending = (received e p).sending in
     let runs : Bool = is_timed (after_full u) in
-    let t = flushed_timer u m.interval m.rest interval rest in
+    let base : m.timing.base ≡ u.sending.timing.base = ap (λ (t : Timing). t.base) (sym timing) in
+    let t = flushed_timer u m.timing.base m.interval m.rest (sym base) interval rest in
     let P : Sending → Type 0 = λ q. Agrees e.sending q in
-    let a : Agrees e.sending m = subst P (sym (sending_is e p begun b usual)) (agrees e p (counts e p) e.sending.syn_acked refl)
+    let a : Agrees e.sending m = subst P (sym (sending_is e p begun b usual)) (agrees e p (counts e p) e.sending.syn_acked b refl)
     in record {
-      interval = t.interval ∙ ap (λ n. if runs then n else 1) a.interval;
-      rest = t.rest ∙ ap (λ n. if runs then n else 0) a.rest;
+      interval = t.interval ∙ (λ i. if runs then a.interval i else m.timing.base)
+          ∙ (λ i. if runs then (if starts e.sending m then base i else e.sending.interval) else base i);
+      rest = t.rest ∙ (λ i. if runs then a.rest i else 0) ∙ (λ i. if runs then (if starts e.sending m then base i else e.sending.rest) else 0);
     }
 
-ticked_is : (rest interval : ℕ) → 1 ≤ interval
-    → ((if (if rest == 1 then min 64 (2 * interval) else rest - 1) == 0 then 1 else (if rest == 1 then min 64 (2 * interval) else interval))
-    ≡ (if rest == 0 then 1 else (if rest == 1 then min 64 (2 * interval) else interval)))
-    × ((if (if rest == 1 then min 64 (2 * interval) else rest - 1) == 0 then 1 else (if rest == 1 then min 64 (2 * interval) else rest - 1))
-    ≡ (if rest == 0 then 1 else (if rest == 1 then min 64 (2 * interval) else rest - 1)))
-ticked_is rest interval some = (grind arith, grind arith)
+ticked_is : (rest interval base : ℕ) → 1 ≤ interval
+    → ((if (if rest == 1 then min 64 (2 * interval) else rest - 1) == 0 then base else (if rest == 1 then min 64 (2 * interval) else interval))
+    ≡ (if rest == 0 then base else (if rest == 1 then min 64 (2 * interval) else interval)))
+    × ((if (if rest == 1 then min 64 (2 * interval) else rest - 1) == 0 then base else (if rest == 1 then min 64 (2 * interval) else rest - 1))
+    ≡ (if rest == 0 then base else (if rest == 1 then min 64 (2 * interval) else rest - 1)))
+ticked_is rest interval base some = (grind arith, grind arith)
 
-ticked_by : (b : Bool) (s : Sending) (c : Congestion)
-    → ((if b then record s { congestion = c; interval = min 64 (2 * s.interval); rest = min 64 (2 * s.interval) } else record s { rest = s.rest - 1 }).interval
-    ≡ (if b then min 64 (2 * s.interval) else s.interval))
-    × ((if b then record s { congestion = c; interval = min 64 (2 * s.interval); rest = min 64 (2 * s.interval) } else record s { rest = s.rest - 1 }).rest
-    ≡ (if b then min 64 (2 * s.interval) else s.rest - 1))
-ticked_by true s c = (refl, refl)
-ticked_by false s c = (refl, refl)
+ticked_by : (b : Bool) (s : Sending) (c : Congestion) (t t' : Timing)
+    → ((if b then record s { congestion = c; timing = t; interval = min 64 (2 * s.interval); rest = min 64 (2 * s.interval) }
+    else record s { timing = t'; rest = s.rest - 1 }).interval ≡ (if b then min 64 (2 * s.interval) else s.interval))
+    × ((if b then record s { congestion = c; timing = t; interval = min 64 (2 * s.interval); rest = min 64 (2 * s.interval) }
+    else record s { timing = t'; rest = s.rest - 1 }).rest ≡ (if b then min 64 (2 * s.interval) else s.rest - 1))
+ticked_by true s c t t' = (refl, refl)
+ticked_by false s c t t' = (refl, refl)
 
 ticked_parts : (s : Sending) → ((ticked s).interval ≡ (if s.rest == 1 then min 64 (2 * s.interval) else s.interval))
     × ((ticked s).rest ≡ (if s.rest == 1 then min 64 (2 * s.interval) else s.rest - 1))
-ticked_parts s = ticked_by (s.rest == 1) s (congestion_expired s)
+ticked_parts s = ticked_by (s.rest == 1) s (congestion_expired s) _ _
 
-pub ticked_law : (e u : Tcb) → 1 ≤ e.sending.interval → u.sending.interval ≡ (after_tick e).sending.interval → u.sending.rest ≡ (after_tick e).sending.rest
-    → IsTimedBy (flushed u).sending (ticked_interval (is_timed (after_full u)) e.sending) (ticked_rest (is_timed (after_full u)) e.sending)
+pub ticked_law : (e u : Tcb) → 1 ≤ e.sending.interval → u.sending.timing ≡ (after_tick e).sending.timing
+    → u.sending.interval ≡ (after_tick e).sending.interval → u.sending.rest ≡ (after_tick e).sending.rest
+    → IsTimedBy (flushed u).sending (ticked_interval (is_timed (after_full u)) u.sending.timing.base e.sending)
+    (ticked_rest (is_timed (after_full u)) u.sending.timing.base e.sending)
 unfolding after_tick timer_ticked waited
-ticked_law e u some interval rest =
+ticked_law e u some timing interval rest =
     let s : Sending = e.sending in
     let runs : Bool = is_timed (after_full u) in
+    let base : ℕ = u.sending.timing.base in
     let parts = ticked_parts s in
-    let t = flushed_timer u _ _ (interval ∙ parts.0) (rest ∙ parts.1) in
-    let k = ticked_is s.rest s.interval some
+    let t = flushed_timer u base _ _ refl (interval ∙ parts.0) (rest ∙ parts.1) in
+    let k = ticked_is s.rest s.interval base some
     in record {
-      interval = t.interval ∙ ap (λ n. if runs then n else 1) k.0;
+      interval = t.interval ∙ ap (λ n. if runs then n else base) k.0;
       rest = t.rest ∙ ap (λ n. if runs then n else 0) k.1;
     }

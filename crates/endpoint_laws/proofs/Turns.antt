@@ -1,36 +1,35 @@
 -- A turn leads from the point at which an endpoint stands to the point that the laws lead to.
-use Rattle.std.proofs.Common.{◌≡◌, ℕ, ◌≤◌, ◌+◌, ◌*◌, ◌%◌, ◌^◌, Bool, true, false, not, List, [], ◌∷◌, ◌++◌, length, drop, max, min, refl, sym, ap, subst, arith, ◌∙◌}
+use Rattle.std.proofs.Common.{◌≡◌, ℕ, ◌≤◌, ◌+◌, ◌-◌, ◌*◌, ◌%◌, ◌^◌, Bool, true, false, not, List, [], ◌∷◌, ◌++◌, length, drop, max, min, refl, sym, ap, arith, ◌∙◌}
 use Rattle.std.specs.Prelude.{pos, ◌+ℤ◌, ◌==◌, ◌&&◌, ◌||◌, nat_lt, if◌then◌else◌}
 use Rattle.std.proofs.lemmas.Bool.{false≢true, and_parts}
 use Rattle.ft_io.specs.declared.Addr.{Addr}
-use Rattle.ft_io.proofs.Booleans.{left_true, right_true, or_false, or_true}
+use Rattle.ft_io.proofs.Booleans.{left_true, right_true, or_false, or_true, and_false}
+use Rattle.ft_io.proofs.Choices.{holds_either_way}
 use Rattle.seq_arith.specs.Coming.{early_from}
 use Rattle.seq_arith.specs.Number.{offset_of}
 use Rattle.seq_arith.specs.Packet.{Segment}
-use Rattle.seq_arith.specs.Timing.{initial_timing}
+use Rattle.seq_arith.specs.Timing.{Timing, with_sent}
 use Rattle.server_trait.specs.Service.{Machine}
 use Rattle.seq_arith.specs.Arrival.{una_after}
-use Rattle.seq_arith.specs.Congestion.{is_third}
+use Rattle.seq_arith.specs.Congestion.{Congestion, is_third}
 use Rattle.seq_arith.specs.Offset.{one_if, text_of, fin_of}
-use Rattle.ft_model.proofs.PlainTurns.{plain_interval}
-use Rattle.ft_model.proofs.Profiles.{turn_stays}
 use Rattle.ft_model.specs.News.{News}
 use Rattle.ft_model.specs.News.News.{Comes, Logged, Ticks, Begins}
 use Rattle.ft_model.specs.Point.{Point, taken_units, advertised_edge}
 use Rattle.ft_model.specs.Point as point
-use Rattle.ft_model.specs.Sending.{acknowledges, acknowledged_by, window_by, syn_acked_after, acknowledged_after, is_duplicate, is_third_duplicate, sent_at_once, sent_after}
+use Rattle.ft_model.specs.Sending.{acknowledges, acknowledged_by, window_by, syn_acked_after, acknowledged_after, is_duplicate, is_third_duplicate, is_partial_ack, resends, sent_at_once, sent_after, timing_after}
 use Rattle.ft_model.specs.Segments.{or_bare, bare_segment, resent, new_texts, new_fin}
 use Rattle.ft_model.specs.Timer as timer
 use Rattle.tcp_endpoint.specs.States.{has_begun}
 use Rattle.tcp_endpoint.specs.ReceiveHalf.{next}
 use Rattle.tcp_endpoint.specs.ReceiveHalf as half
-use Rattle.tcp_endpoint.specs.SendHalf.{is_unacknowledged}
+use Rattle.tcp_endpoint.specs.SendHalf.{is_unacknowledged, target, send_edge}
 use Rattle.tcp_endpoint.specs.Tcb.{Tcb}
-use Rattle.tcp_endpoint.specs.Output.{reset_reply_out, leaving, after_full, with_advertised, with_turn_ended, flushed}
+use Rattle.tcp_endpoint.specs.Output.{reset_reply_out, full_out, leaving, after_full, with_advertised, with_turn_ended, flushed}
 use Rattle.tcp_endpoint.specs.Output as left
 use Rattle.endpoint_laws.specs.Laws.{IsBounded, ProbesRightly, asks, last_advertised}
 use Rattle.endpoint_laws.specs.Turn.{Call, MayUse, IsUsualNews, IsBetweenTurns, arrived, used, before_flush}
-use Rattle.endpoint_laws.specs.Refinement.{ReceivesAt, SendsAt, StandsAt, MeetsLaws, IsUsedAt, news_needs_ack, is_ack_pending, refusals, segments_by_laws, LeadsTo}
+use Rattle.endpoint_laws.specs.Refinement.{ReceivesAt, SendsAt, StandsAt, MeetsLaws, IsUsedAt, news_needs_ack, is_ack_pending, refusals, full_by_laws, segments_by_laws, LeadsTo}
 use Rattle.endpoint_laws.proofs.Bounding.{bounded_by_flush}
 use Rattle.endpoint_laws.proofs.TurnLaw.{sent_law}
 use Rattle.endpoint_laws.proofs.ToldLaw.{leaving_by, told_by_flush, shut_by_flush}
@@ -38,8 +37,9 @@ use Rattle.endpoint_laws.proofs.StandingLaw.{next_is, advertised_is}
 use Rattle.endpoint_laws.proofs.Calls.{FinIsLast, IsUsed, used_is, bounded_used, last_used, probes_used}
 use Rattle.endpoint_laws.proofs.Arrivals.{moved, Arrived, arrives, ack_pending_is}
 use Rattle.endpoint_laws.proofs.Flushing.{Flushes, waits_for_ack}
-use Rattle.endpoint_laws.proofs.TurnEnd.{flushed_sends, last_flushed, runs_flushed, sent_at, flushed_sent, runs_at, running_at}
+use Rattle.endpoint_laws.proofs.TurnEnd.{flushed_sends, last_flushed, runs_flushed, sent_at, timing_law, flushed_sent, runs_at, running_at}
 use Rattle.endpoint_laws.proofs.TimerAt.{Timed, timer_at}
+use Rattle.endpoint_laws.proofs.Timings.{unit_base}
 use Rattle.endpoint_laws.proofs.SegmentsLaw.{full_is, bare_is}
 
 -- from the news to the end of the turn: the calls lead the endpoint on to the point after
@@ -105,16 +105,45 @@ third_waits service (Logged kept) before after laws h = absurd (false≢true h)
 third_waits service Ticks before after laws h = absurd (false≢true h)
 third_waits service Begins before after laws h = absurd (false≢true h)
 
+-- nor does one that acknowledges only a part of what was in flight at a loss
+part_waits : (acked recovers o : Bool) (una ack sent lost : ℕ) → lost ≤ sent - una
+    → (acked && nat_lt una ack && (recovers && nat_lt (ack - una) lost)) ≡ true → (o || nat_lt (if acked then una_after una ack else una) sent) ≡ true
+part_waits true true true una ack sent lost few h = refl
+part_waits true true false una ack sent lost few h = grind (arith, few, h)
+part_waits true false o una ack sent lost few h = absurd (false≢true (sym (and_false (true && nat_lt una ack)) ∙ h))
+part_waits false recovers o una ack sent lost few h = absurd (false≢true h)
+
+partial_waits : {State : Type 0} (service : Machine State) (news : News) (before after : Point) → MeetsLaws service news before after
+    → before.congestion.lost ≤ before.sent - before.una → is_partial_ack news before ≡ true → waits_for_ack before after ≡ true
+unfolding is_partial_ack acknowledged_after
+partial_waits service (Comes segment) before after laws few h =
+    ap (λ n. not after.syn_acked || nat_lt n before.sent) laws.una
+    ∙ part_waits (acknowledges before segment) before.congestion.recovers (not after.syn_acked) before.una (acknowledged_by before segment) before.sent
+    before.congestion.lost few h
+partial_waits service (Logged kept) before after laws few h = absurd (false≢true h)
+partial_waits service Ticks before after laws few h = absurd (false≢true h)
+partial_waits service Begins before after laws few h = absurd (false≢true h)
+
+either : (a b c : Bool) → (a ≡ true → c ≡ true) → (b ≡ true → c ≡ true) → (a || b) ≡ true → c ≡ true
+either true b c p q h = p refl
+either false b c p q h = q h
+
+resends_wait : {State : Type 0} (service : Machine State) (news : News) (before after : Point) → MeetsLaws service news before after
+    → before.congestion.lost ≤ before.sent - before.una → resends news before ≡ true → waits_for_ack before after ≡ true
+resends_wait service news before after laws few =
+    either (is_third_duplicate news before) (is_partial_ack news before) (waits_for_ack before after) (third_waits service news before after laws)
+    (partial_waits service news before after laws few)
+
 either_waits : (x t w : Bool) → (t ≡ true → w ≡ true) → ((x && w) || t) ≡ ((x || t) && w)
 either_waits true true w h = sym (or_true w) ∙ sym (h refl)
 either_waits true false w h = sym (or_false w)
 either_waits false true w h = sym (h refl)
 either_waits false false w h = refl
 
-flushes : {State : Type 0} (service : Machine State) (news : News) (before after : Point) (e m u : Tcb) → StandsAt before e → e.sending.congestion.recovers ≡ false → Arrived news before e m → IsUsed m u
+flushes : {State : Type 0} (service : Machine State) (news : News) (before after : Point) (e m u : Tcb) → StandsAt before e → before.congestion.lost ≤ before.sent - before.una → Arrived news before e m → IsUsed m u
     → IsBounded u → has_begun u.name ≡ true → MeetsLaws service news before after → IsUsedAt service after u → Flushes service news before after u
 unfolding reset_reply_out
-flushes service news before after e m u stands plain came a bounds begun laws user = record {
+flushes service news before after e m u stands few came a bounds begun laws user = record {
   begun = begun;
   bounds = bounds;
   probes = probes_used m u a came.probes;
@@ -125,11 +154,10 @@ flushes service news before after e m u stands plain came a bounds begun laws us
   sends = sends_of service news before after m u came.sends a laws;
   used = user;
   sent = stands.sent ∙ sym (a.sends.sent ∙ came.sent);
-  retransmission_due = a.retransmission_due ∙ came.retransmission_due ∙ ap (λ b. b || is_third_duplicate news before) (waits_is service news before after e stands laws (λ w. w))
-      ∙ either_waits (timer.expires news before) (is_third_duplicate news before) (waits_for_ack before after) (third_waits service news before after laws);
+  retransmission_due = a.retransmission_due ∙ came.retransmission_due ∙ ap (λ b. b || resends news before) (waits_is service news before after e stands laws (λ w. w))
+      ∙ either_waits (timer.expires news before) (resends news before) (waits_for_ack before after) (resends_wait service news before after laws few);
   probe = a.probe ∙ came.probe ∙ waits_is service news before after e stands laws not;
-  plain = ap (λ c. c.recovers) stands.sends.congestion ∙ plain;
-  third = third_waits service news before after laws;
+  resends = resends_wait service news before after laws few;
   reset_reply = ap left.reset_reply_segments a.reset_reply ∙ came.reset_reply ∙ ap (λ l. refusals l news before) (sym (a.local ∙ came.local));
 }
 
@@ -183,19 +211,48 @@ segments_are service news before after e m u f sent here ack_pending =
     (refusals l news before ++ (resent service l news before after ++ (new_texts service l before after ++ new_fin service l before after)))) here
     ∙ or_bare_when (asks u.ack_pending u) (is_ack_pending news before after) (bare_segment e.local after) (refusals e.local news before) _ ack_pending
 
--- the interval is at least one tick
-some_interval : (anew expired : Bool) (n : ℕ) → 1 ≤ n → 1 ≤ (if anew then 1 else (if expired then min 64 (2 * n) else n))
-some_interval true expired n some = omega arith
-some_interval false true n some = omega (arith, some)
-some_interval false false n some = some
+-- what is measured, as far as the news go, ..
+noted_is : {State : Type 0} (service : Machine State) (news : News) (before after : Point) (e m u : Tcb) → Arrived news before e m → IsUsed m u
+    → MeetsLaws service news before after → timer.timing_noted news (resends news before) before after.una ≡ u.sending.timing
+noted_is service news before after e m u came a laws =
+    ap (timer.timing_noted news (resends news before) before) laws.una ∙ sym (a.sends.timing ∙ came.timing)
 
-interval_is_some : (news : News) (before after : Point) → after.timing ≡ initial_timing false → 1 ≤ before.interval → 1 ≤ timer.interval_after news before after
-interval_is_some news before after plain some =
-    subst (λ n. 1 ≤ n) (sym (plain_interval news before after plain)) (some_interval (timer.is_set_anew before after) (timer.expires news before) before.interval some)
+-- .. and at the end of the turn
+timing_is : {State : Type 0} (service : Machine State) (news : News) (before after : Point) (e m u : Tcb) → Arrived news before e m → IsUsed m u
+    → MeetsLaws service news before after → Flushes service news before after u → after.timing ≡ (flushed u).sending.timing
+unfolding timing_after sent_at_once
+timing_is service news before after e m u came a laws f =
+    let noted = noted_is service news before after e m u came a laws in
+    let up_to : sent_at_once service before after ≡ max u.sending.sent (min (target u.sending) (send_edge u.sending)) =
+    (λ i. max (f.sent i) (min (point.target service after) (min (f.sends.edge i) (f.sends.una i + (f.sends.congestion i).cwnd))))
+    ∙ sent_at service after u f.bounds f.fin_last f.used in
+    laws.timing
+    ∙ (λ i. if nat_lt (f.sent i) (up_to i) then with_sent (f.sent i + 1 - f.sends.una i) (noted i) else noted i)
+    ∙ sym (timing_law u f.begun f.bounds f.probes)
+
+-- the interval of the estimate
+base_after : {State : Type 0} (service : Machine State) (news : News) (before after : Point)
+    → (timing_after service news before after).base ≡ (timer.timing_noted news (resends news before) before after.una).base
+unfolding timing_after
+base_after service news before after =
+    let noted : Timing = timer.timing_noted news (resends news before) before after.una in
+    holds_either_way (λ (x : Timing). x.base ≡ noted.base) (nat_lt before.sent (sent_at_once service before after))
+    (with_sent (before.sent + 1 - after.una) noted) noted (unit_base _ noted) refl
+
+-- the interval is at least one tick
+some_interval : (anew expired : Bool) (base n : ℕ) → 1 ≤ base → 1 ≤ n → 1 ≤ (if anew then base else (if expired then min 64 (2 * n) else n))
+some_interval true expired base n least some = least
+some_interval false true base n least some = omega (arith, some)
+some_interval false false base n least some = some
+
+interval_is_some : (news : News) (before after : Point) → 1 ≤ after.timing.base → 1 ≤ before.interval → 1 ≤ timer.interval_after news before after
+unfolding timer.interval_after
+interval_is_some news before after least some =
+    some_interval (timer.is_set_anew before after) (timer.expires news before) after.timing.base before.interval least some
 
 -- between two turns again
 pub between_again : (u : Tcb) → has_begun u.name ≡ true → IsBounded u → ProbesRightly u → FinIsLast u.sending → 1 ≤ (flushed u).sending.interval → IsBetweenTurns (flushed u)
-unfolding flushed with_turn_ended with_advertised after_full left.with_fin_out left.with_text_sent left.with_probe
+unfolding flushed with_turn_ended with_advertised after_full left.with_timed left.with_fin_out left.with_text_sent left.with_probe
 between_again u begun bounds probes last interval = record {
   bounds = bounded_by_flush u bounds;
   told = told_by_flush u begun;
@@ -210,18 +267,24 @@ between_again u begun bounds probes last interval = record {
 }
 
 pub flushed_receives : (p : Point) (u : Tcb) → ReceivesAt p u → ReceivesAt p (flushed u)
-unfolding flushed with_turn_ended with_advertised after_full left.with_fin_out left.with_text_sent left.with_probe
+unfolding flushed with_turn_ended with_advertised after_full left.with_timed left.with_fin_out left.with_text_sent left.with_probe
 flushed_receives p u r = record { cisn = r.cisn; limit = r.limit; read = r.read; long = r.long; unread = r.unread; fin = r.fin; early = r.early }
 
 pub flushed_remote : (u : Tcb) → (flushed u).remote ≡ u.remote
-unfolding flushed with_turn_ended with_advertised after_full left.with_fin_out left.with_text_sent left.with_probe
+unfolding flushed with_turn_ended with_advertised after_full left.with_timed left.with_fin_out left.with_text_sent left.with_probe
 flushed_remote u = refl
 
 turn_leads : {State : Type 0} (service : Machine State) (news : News) (before after : Point) (e m u : Tcb) → has_begun e.name ≡ true → IsBetweenTurns e → StandsAt before e
     → IsUsualNews news e → m ≡ arrived news e → Arrived news before e m → IsUsed m u → IsBounded u → has_begun u.name ≡ true → MeetsLaws service news before after
     → IsUsedAt service after u → IsBetweenTurns (flushed u) × StandsAt after (flushed u) × (leaving u ≡ segments_by_laws service e.local news before after)
+    × (full_out u ≡ full_by_laws service e.local news before after)
 turn_leads service news before after e m u begun between stands usual news_are came a bounds begun_after laws user =
-    let f : Flushes service news before after u = flushes service news before after e m u stands between.bounds.recovers came a bounds begun_after laws user in
+    let few : before.congestion.lost ≤ before.sent - before.una =
+    omega (arith, between.bounds.lost, stands.sent, stands.sends.una, ap (λ (c : Congestion). c.lost) stands.sends.congestion) in
+    let f : Flushes service news before after u = flushes service news before after e m u stands few came a bounds begun_after laws user in
+    let noted = noted_is service news before after e m u came a laws in
+    let base : after.timing.base ≡ u.sending.timing.base =
+    ap (λ (x : Timing). x.base) laws.timing ∙ base_after service news before after ∙ ap (λ (x : Timing). x.base) noted in
     let sent : after.sent ≡ (flushed u).sending.sent = sent_is service news before after e m u stands came a laws f in
     let sent_full : after.sent ≡ (after_full u).sending.sent = sent ∙ flushed_sent u in
     let t : Timed service news before after e m u = record {
@@ -235,12 +298,13 @@ turn_leads service news before after e m u begun between stands usual news_are c
       laws = laws;
       syn_acked = laws.syn_acked ∙ came.sends.syn_acked;
       una = laws.una ∙ came.sends.una;
+      base = base ∙ ap (λ (x : Timing). x.base) a.sends.timing;
       runs = runs_at service after u begun_after bounds f.fin_last f.sends user sent_full;
       still = running_at service before after u bounds f.fin_last f.sends user f.sent sent_full;
     } in
     let timed = timer_at service news before after e m u t in
     let some : 1 ≤ (flushed u).sending.interval =
-    omega (arith, interval_is_some news before after (laws.timing ∙ turn_stays service news before after stands.timing) (omega (arith, between.interval, stands.interval)), laws.interval, timed.0) in (
+    omega (arith, interval_is_some news before after (omega (arith, base, bounds.timing.base)) (omega (arith, between.interval, stands.interval)), laws.interval, timed.0) in (
       between_again u begun_after bounds f.probes f.fin_last some,
       record {
         ip = f.ip ∙ ap (λ (r : Addr). r.ip) (sym (flushed_remote u));
@@ -251,12 +315,13 @@ turn_leads service news before after e m u begun between stands usual news_are c
         fetched_output = laws.same.fetched_output ∙ stands.fetched_output;
         interval = timed.0;
         rest = timed.1;
-        timing = laws.timing ∙ turn_stays service news before after stands.timing;
+        timing = timing_is service news before after e m u came a laws f;
         delays = laws.same.delays ∙ stands.delays;
       },
       segments_are service news before after e m u f sent_full (a.local ∙ came.local)
           (λ none. asks_is service news before after e m u between stands came a laws f.receives
           (ap (λ (x : Tcb). x.ack_pending) news_are ∙ ack_pending_is news before e begun between stands usual none)),
+      full_is service news before after u f ∙ ap (λ l. full_by_laws service l news before after) (a.local ∙ came.local),
     )
 
 pub leads_law : {State : Type 0} (service : Machine State) (news : News) (calls : List Call) (before after : Point) (e : Tcb)
@@ -268,4 +333,4 @@ leads_law service news calls before after e begun between stands usual may begun
     let came : Arrived news before e m = arrives news before e begun between stands usual in
     let a : IsUsed m (used calls m) = used_is calls m may in
     let done = turn_leads service news before after e m (used calls m) begun between stands usual refl came a (bounded_used calls m may came.fin_last came.bounds) begun_after laws user in
-    record { between = done.0; stands = done.1; segments = done.2 }
+    record { between = done.0; stands = done.1; segments = done.2; full = done.3 }

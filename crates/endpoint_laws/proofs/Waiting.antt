@@ -5,6 +5,7 @@ use Rattle.std.specs.Bool.{MatchBool}
 use Rattle.std.proofs.lemmas.Bool.{false≢true}
 use Rattle.std.proofs.lemmas.Int.{ints}
 use Rattle.seq_arith.specs.Arrival.{int_eq}
+use Rattle.seq_arith.specs.Timing.{with_tick, with_backoff}
 use Rattle.seq_arith.specs.Offset.{fin_of, length_of, one_if}
 use Rattle.seq_arith.specs.Packet.{Segment, has_fin, has_syn, has_rst, has_ack}
 use Rattle.ft_model.specs.News.{News}
@@ -17,7 +18,7 @@ use Rattle.tcp_endpoint.specs.ReceiveHalf.{next, taken, with_segment}
 use Rattle.tcp_endpoint.specs.SendHalf.{Sending, with_syn_acked, acknowledged, fin_acked, congestion_expired, expires, ticked, timed}
 use Rattle.tcp_endpoint.specs.Tcb.{Tcb}
 use Rattle.tcp_endpoint.specs.Arrival.{first, ack_at, with_ack_pending_if, with_reset, entering, with_reset_reply, with_text_and_fin, with_fin_acked, with_first_ack, with_ack_used, with_ack, check_ack, check_syn, check_rst, repeats_fin, with_time_wait_restarted, check_sequence, in_others, received}
-use Rattle.tcp_endpoint.specs.Output.{probes_text, probes_fin, with_probe, with_text_sent, with_fin_out, after_full, with_advertised, is_timed, with_turn_ended, flushed}
+use Rattle.tcp_endpoint.specs.Output.{probes_text, probes_fin, with_probe, with_text_sent, with_fin_out, after_full, with_advertised, is_timed, with_turn_ended, flushed, with_timed}
 use Rattle.tcp_endpoint.specs.UserCalls.{after_tick, timer_ticked, waited}
 use Rattle.endpoint_laws.specs.Turn.{Call, Events, IsBetweenTurns, arrived, called, used, before_flush, turned}
 use Rattle.endpoint_laws.specs.Turn.Call.{Reads, Writes, Closes}
@@ -245,11 +246,11 @@ waits_used wait (Closes ∷ calls) m w =
     waits_used wait calls (called Closes m) (record { name = ap after_close w.name; wait_is = w.wait_is; syn_acked_is = w.syn_acked_is; fin = w.fin })
 
 timed_syn_acked : (runs : Bool) (s : Sending) → (timed runs s).syn_acked ≡ s.syn_acked
-timed_syn_acked true s = holds_if (λ (t : Sending). t.syn_acked ≡ s.syn_acked) (s.rest == 0) (record s { interval = 1; rest = 1 }) s (λ h. refl) (λ h. refl)
+timed_syn_acked true s = holds_if (λ (t : Sending). t.syn_acked ≡ s.syn_acked) (s.rest == 0) (record s { interval = s.timing.base; rest = s.timing.base }) s (λ h. refl) (λ h. refl)
 timed_syn_acked false s = refl
 
 waits_flushed : (wait : ℕ) (u : Tcb) → Waits wait u → Waits wait (flushed u)
-unfolding flushed with_turn_ended with_advertised after_full with_fin_out with_text_sent with_probe
+unfolding flushed with_turn_ended with_advertised after_full with_timed with_fin_out with_text_sent with_probe
 waits_flushed wait u w =
     let s : Sending = after_steps (has_begun u.name) (probes_text u) (probes_fin u) u.sending in
     let syn_acked_same : s.syn_acked ≡ u.sending.syn_acked =
@@ -257,7 +258,7 @@ waits_flushed wait u w =
     record {
       name = w.name;
       wait_is = w.wait_is;
-      syn_acked_is = timed_syn_acked (is_timed (with_fin_out (with_text_sent (with_probe u)))) s ∙ syn_acked_same ∙ w.syn_acked_is;
+      syn_acked_is = timed_syn_acked (is_timed (after_full u)) (after_full u).sending ∙ syn_acked_same ∙ w.syn_acked_is;
       fin = w.fin;
     }
 
@@ -307,7 +308,13 @@ last_tick ticks some = grind (arith, some)
 ticked_syn_acked : (s : Sending) → (ticked s).syn_acked ≡ s.syn_acked
 ticked_syn_acked s =
     holds_if (λ (t : Sending). t.syn_acked ≡ s.syn_acked) (expires s)
-    (record s { congestion = congestion_expired s; interval = min 64 (2 * s.interval); rest = min 64 (2 * s.interval) }) (record s { rest = s.rest - 1 })
+    (record s {
+      congestion = congestion_expired s;
+      timing = with_backoff (min 64 (2 * s.interval)) s.timing;
+      interval = min 64 (2 * s.interval);
+      rest = min 64 (2 * s.interval);
+    })
+    (record s { timing = with_tick s.timing; rest = s.rest - 1 })
     (λ h. refl) (λ h. refl)
 
 ticked_waits : (ticks : ℕ) (e : Tcb) → 1 ≤ 4 - ticks → Waits (4 - ticks) e → (ticks + 1 == 4) ≡ false → (1 ≤ 4 - (ticks + 1)) × Waits (4 - (ticks + 1)) (after_tick e)

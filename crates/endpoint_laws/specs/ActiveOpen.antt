@@ -4,15 +4,23 @@ use Rattle.ft_model.specs.News.{News}
 use Rattle.ft_model.specs.News.News.{Comes}
 use Rattle.tcp_endpoint.specs.declared.states.StateName.TheVariants.{SynSent}
 use Rattle.tcp_endpoint.specs.ReceiveHalf.{receiving_up_to}
-use Rattle.tcp_endpoint.specs.SendHalf.{sending_from}
+use Rattle.tcp_endpoint.specs.SendHalf.{sending_measuring}
 use Rattle.tcp_endpoint.specs.Tcb.{Tcb, kept_limit}
+use Rattle.endpoint_laws.specs.Laws.{KeepsTime}
 
--- between two turns of an endpoint in SYN-SENT nothing is due, and nothing is received or sent yet except the SYN, for which the timer runs. The user may have
+-- between two turns of an endpoint in SYN-SENT, measuring or not, nothing is due, and nothing is received or sent yet except the SYN, for which the timer runs. The user may have
 -- written, but not closed
 pub record IsConnecting (iss limit : ℕ) (e : Tcb) : Type 0 where
   pub name : e.name ≡ SynSent
   pub receiving : e.receiving ≡ receiving_up_to (kept_limit limit)
-  pub sending : e.sending ≡ record (sending_from iss) { held = e.sending.held; interval = e.sending.interval; rest = e.sending.rest }
+  pub sending : e.sending
+      ≡ record (sending_measuring e.sending.timing.measures iss) {
+        held = e.sending.held;
+        timing = e.sending.timing;
+        interval = e.sending.interval;
+        rest = e.sending.rest;
+      }
+  pub timing : KeepsTime e.sending.timing
   pub written : length e.sending.held ≤ 2 ^ 24
   pub interval : 1 ≤ e.sending.interval
   pub runs : 1 ≤ e.sending.rest

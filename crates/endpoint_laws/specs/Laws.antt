@@ -8,7 +8,8 @@ use Rattle.seq_arith.specs.Arrival.{int_eq, is_acceptable_or_at_edge, is_usable,
 use Rattle.seq_arith.specs.Packet.{Segment, has_syn, has_rst, has_ack}
 use Rattle.seq_arith.specs.Offset.{one_if, text_of, fin_of, length_of}
 use Rattle.seq_arith.specs.Coming.{StandsBehind}
-use Rattle.seq_arith.specs.Congestion.{Congestion, with_new_data, is_third, with_duplicate, with_expiry, IsOpen}
+use Rattle.seq_arith.specs.Congestion.{Congestion, is_partial, with_new_data, is_third, with_duplicate, with_expiry, IsOpen}
+use Rattle.seq_arith.specs.Timing.{Timing, with_acknowledged, with_tick, without_trip, with_backoff, with_sent}
 use Rattle.tcp_buffers.specs.Near.{IsNearFirst}
 use Rattle.tcp_endpoint.specs.ReceiveHalf.{Receiving, taken, next, receive_edge, advertised_edge, with_segment}
 use Rattle.tcp_endpoint.specs.SendHalf.{Sending, target}
@@ -63,6 +64,21 @@ is_duplicate e p =
 abbrev pub is_third_duplicate : Tcb → Segment → Bool
 is_third_duplicate e p = is_duplicate e p && is_third e.sending.congestion
 
+-- .. and an acknowledgement of only a part of what was in flight when a loss was noticed (RFC 6582, 3.2)
+abbrev pub is_partial_ack : Tcb → Segment → Bool
+is_partial_ack e p =
+    acknowledges e p && nat_lt e.sending.una (nat_abs (ack_at e p)) && is_partial (nat_abs (ack_at e p) - e.sending.una) e.sending.congestion
+
+-- Both show that the first unacknowledged segment is lost
+abbrev pub shows_loss : Tcb → Segment → Bool
+shows_loss e p = is_third_duplicate e p || is_partial_ack e p
+
+-- Timer: the estimate after a segment, where SND.UNA is then `una`. A round trip is measured when the timed unit is acknowledged, and what is retransmitted isn't
+-- timed
+abbrev pub timing_by : Tcb → Segment → (una : ℕ) → Timing
+timing_by e p una =
+    if shows_loss e p then without_trip (with_acknowledged (una - e.sending.una) e.sending.timing) else with_acknowledged (una - e.sending.una) e.sending.timing
+
 -- Sending: what a segment does to the congestion window, the slow start threshold and the count of duplicates
 abbrev pub congestion_by : Tcb → Segment → Congestion
 congestion_by e p =
@@ -70,11 +86,19 @@ congestion_by e p =
     then with_new_data e.sending.mss (nat_abs (ack_at e p) - e.sending.una) e.sending.congestion
     else (if is_duplicate e p then with_duplicate e.sending.mss (e.sending.sent - e.sending.una) e.sending.congestion else e.sending.congestion)
 
+-- the timer hasn't expired since its interval was last computed
+abbrev pub is_first_expiry : Sending → Bool
+is_first_expiry s = if s.timing.measures then not s.timing.backed_off else s.interval == 1
+
 -- Sending: what a tick does to them. Where the timer expires, what is in flight counts as lost if the right edge is past SND.UNA
 abbrev pub congestion_ticked : Sending → Congestion
 congestion_ticked s =
-    if s.rest == 1 && nat_lt s.una s.sent && nat_lt s.una s.edge then with_expiry s.mss (s.sent - s.una) (s.interval == 1) s.congestion
+    if s.rest == 1 && nat_lt s.una s.sent && nat_lt s.una s.edge then with_expiry s.mss (s.sent - s.una) (is_first_expiry s) s.congestion
     else s.congestion
+
+-- Timer: what a tick does to the estimate. An expiry backs the interval off
+abbrev pub timing_ticked : Sending → Timing
+timing_ticked s = if s.rest == 1 then with_backoff (min 64 (2 * s.interval)) s.timing else with_tick s.timing
 
 -- Sending, field by field. The right edge is absolute: it stays where only SND.UNA moves
 pub record IsSentBy (e : Tcb) (p : Segment) (after : Sending) : Type 0 where
@@ -86,6 +110,7 @@ pub record IsSentBy (e : Tcb) (p : Segment) (after : Sending) : Type 0 where
   pub wl1 : offset_of e.receiving.irs after.wl1 ≡ (if uses_window e p then first e p else offset_of e.receiving.irs e.sending.wl1)
   pub wl2 : after.wl2 ≡ (if uses_window e p then nat_abs (ack_at e p) else e.sending.wl2)
   pub congestion : after.congestion ≡ congestion_by e p
+  pub timing : after.timing ≡ timing_by e p after.una
   pub held : after.una + length after.held ≡ max after.una (e.sending.una + length e.sending.held)
   pub closed : after.closed ≡ e.sending.closed
 
@@ -95,6 +120,11 @@ pub record IsUsual (e : Tcb) (p : Segment) : Type 0 where
   pub seq : p.head.seq < 2 ^ 32
   pub window : p.head.window ≤ 65535
   pub text : length p.payload ≤ 65535
+
+-- no interval that is computed is empty, and a unit that is timed isn't acknowledged
+pub record KeepsTime (t : Timing) : Type 0 where
+  pub base : 1 ≤ t.base
+  pub ahead : t.timed ≡ true → 1 ≤ t.ahead
 
 -- The bounds of an endpoint's halves, where its limit is at most 2^24 bytes and its user has written at most 2^24. Our FIN counts as one more unit
 pub record Bounds (r : Receiving) (s : Sending) : Type 0 where
@@ -113,7 +143,9 @@ pub record Bounds (r : Receiving) (s : Sending) : Type 0 where
   pub edge : s.edge ≤ 2 ^ 24 + 2 ^ 16 + 1
   pub reach : s.edge ≤ s.una + 65535
   pub congestion : IsOpen s.mss s.congestion
-  pub recovers : s.congestion.recovers ≡ false
+  pub lost : s.congestion.lost ≤ s.sent - s.una
+  pub timing : KeepsTime s.timing
+  pub interval : 1 ≤ s.interval
 
 abbrev pub IsBounded : Tcb → Type 0
 IsBounded e = Bounds e.receiving e.sending
@@ -129,6 +161,13 @@ pub record ProbesRightly (e : Tcb) : Type 0 where
 abbrev pub sent_by_law : Tcb → ℕ
 sent_by_law e =
     max e.sending.sent (min (target e.sending) (min e.sending.edge (e.sending.una + e.sending.congestion.cwnd))) + one_if e.probe
+
+-- Timer: the estimate at the end of a turn. The first unit that is sent for the first time is timed, if none is. A probe isn't
+abbrev pub timing_at_end : Tcb → Timing
+timing_at_end e =
+    if nat_lt e.sending.sent (max e.sending.sent (min (target e.sending) (min e.sending.edge (e.sending.una + e.sending.congestion.cwnd))))
+    then with_sent (e.sending.sent + 1 - e.sending.una) e.sending.timing
+    else e.sending.timing
 
 -- the SYN isn't acknowledged yet, and the segment has an acknowledgement of anything but the SYN
 abbrev pub misses_syn : Tcb → Segment → Bool
@@ -157,19 +196,19 @@ needs_ack e p = if accepts e p then needs_ack_if_acceptable e p else not (has_rs
 abbrev pub starts : Sending → Sending → Bool
 starts before after = before.rest == 0 || nat_lt before.una after.una || (after.syn_acked && not before.syn_acked)
 
--- Timer: at the end of a turn with a segment
-abbrev pub interval_by : (runs starts : Bool) → Sending → ℕ
-interval_by runs starts s = if runs then (if starts then 1 else s.interval) else 1
+-- Timer: at the end of a turn with a segment. It starts with the interval of the estimate, `base`
+abbrev pub interval_by : (runs starts : Bool) → (base : ℕ) → Sending → ℕ
+interval_by runs starts base s = if runs then (if starts then base else s.interval) else base
 
-abbrev pub rest_by : (runs starts : Bool) → Sending → ℕ
-rest_by runs starts s = if runs then (if starts then 1 else s.rest) else 0
+abbrev pub rest_by : (runs starts : Bool) → (base : ℕ) → Sending → ℕ
+rest_by runs starts base s = if runs then (if starts then base else s.rest) else 0
 
 -- Timer: at the end of a turn with a tick. It doubles at each expiry, up to 64 ticks
-abbrev pub ticked_interval : Bool → Sending → ℕ
-ticked_interval runs s = if runs then (if s.rest == 0 then 1 else (if s.rest == 1 then min 64 (2 * s.interval) else s.interval)) else 1
+abbrev pub ticked_interval : (runs : Bool) → (base : ℕ) → Sending → ℕ
+ticked_interval runs base s = if runs then (if s.rest == 0 then base else (if s.rest == 1 then min 64 (2 * s.interval) else s.interval)) else base
 
-abbrev pub ticked_rest : Bool → Sending → ℕ
-ticked_rest runs s = if runs then (if s.rest == 0 then 1 else (if s.rest == 1 then min 64 (2 * s.interval) else s.rest - 1)) else 0
+abbrev pub ticked_rest : (runs : Bool) → (base : ℕ) → Sending → ℕ
+ticked_rest runs base s = if runs then (if s.rest == 0 then base else (if s.rest == 1 then min 64 (2 * s.interval) else s.rest - 1)) else 0
 
 -- the timer of a sending half
 pub record IsTimedBy (s : Sending) (ticks left : ℕ) : Type 0 where

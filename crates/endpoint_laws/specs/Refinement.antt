@@ -7,8 +7,7 @@ use Rattle.ft_io.specs.declared.Addr.{Addr}
 use Rattle.seq_arith.specs.Coming.{early_from}
 use Rattle.seq_arith.specs.Number.{offset_of}
 use Rattle.seq_arith.specs.Packet.{Segment, has_syn, has_rst}
-use Rattle.seq_arith.specs.Profile.{plain}
-use Rattle.seq_arith.specs.Timing.{initial_timing}
+use Rattle.seq_arith.specs.Timing.{first_base}
 use Rattle.seq_arith.specs.Message.{Numbers}
 use Rattle.server_trait.specs.Service.{Machine}
 use Rattle.ft_model.specs.Point.{Point, taken_units, advertised_edge, answered_run, released}
@@ -28,7 +27,7 @@ use Rattle.tcp_endpoint.specs.States.{has_begun}
 use Rattle.tcp_endpoint.specs.ReceiveHalf.{taken}
 use Rattle.tcp_endpoint.specs.SendHalf.{Sending, bytes_end}
 use Rattle.tcp_endpoint.specs.Tcb.{Tcb}
-use Rattle.tcp_endpoint.specs.Output.{leaving}
+use Rattle.tcp_endpoint.specs.Output.{full_out, leaving}
 use Rattle.endpoint_laws.specs.ConnectionEnd.{resets, is_over}
 use Rattle.endpoint_laws.specs.Turn.{Call, MayUse, IsUsualNews, IsBetweenTurns, arrived, before_flush, turned, sent_in}
 
@@ -62,7 +61,7 @@ pub record StandsAt (p : Point) (e : Tcb) : Type 0 where
   pub fetched_output : p.fetched_output ≡ 0  -- TCP knows of no earlier incarnation
   pub interval : p.interval ≡ e.sending.interval
   pub rest : p.rest ≡ e.sending.rest
-  pub timing : p.timing ≡ initial_timing false
+  pub timing : p.timing ≡ e.sending.timing
   pub delays : p.delays ≡ false
 
 -- all output of a service is written, and the user has closed exactly if the service has
@@ -118,17 +117,28 @@ abbrev pub refusals : Addr → News → Point → List Segment
 refusals server (Comes segment) before = if refuses before segment then rst_at_ack server segment ∷ [] else []
 refusals server _ before = []
 
--- what is sent in a turn: that RST; retransmissions and probes; text and FIN; else a pure ACK if an ACK is pending. The model's wrapped
--- connection sends the same, except that it drops TCP's RST, answers a repeated SYN with the logged SYN-ACK, and also has an ACK pending where more is known
--- to be logged, where it has become live, and where a segment arrives after it is over
+-- all that is sent in a turn, except what is sent only because an ACK is pending: that RST; retransmissions and probes; text and FIN
+abbrev pub full_by_laws : {State : Type 0} → Machine State → Addr → News → (before after : Point) → List Segment
+full_by_laws service server news before after =
+    refusals server news before ++ (resent service server news before after ++ (new_texts service server before after ++ new_fin service server before after))
+
+-- what is sent in a turn: all that, or else a pure ACK if an ACK is pending. The model's wrapped connection sends the same, except that it drops TCP's RST, answers
+-- a repeated SYN with the logged SYN-ACK, and also has an ACK pending where more is known to be logged, where it has become live, and where a segment arrives
+-- after it is over
 abbrev pub segments_by_laws : {State : Type 0} → Machine State → Addr → News → (before after : Point) → List Segment
 segments_by_laws service server news before after =
-    or_bare (is_ack_pending news before after) (bare_segment server after)
-    (refusals server news before ++ (resent service server news before after ++ (new_texts service server before after ++ new_fin service server before after)))
+    or_bare (is_ack_pending news before after) (bare_segment server after) (full_by_laws service server news before after)
 
--- the point of an endpoint that a SYN has opened, after these fetched bytes: the model's new connection of a plain server, with its timer running
-abbrev pub point_begun : (fetched : List ℕ) → Numbers → Point
-point_begun fetched numbers = record (point_opened plain numbers) { fetched = length fetched; taken = fetched; answered = length fetched; rest = 1 }
+-- the point of an endpoint that a SYN has opened, after these fetched bytes: the model's new connection of a server that measures round trips or doesn't, and
+-- that delays no ACK. Its timer runs
+abbrev pub point_begun : (measures : Bool) → (fetched : List ℕ) → Numbers → Point
+point_begun measures fetched numbers =
+    record (point_opened (record { measures = measures; delays = false }) numbers) {
+      fetched = length fetched;
+      taken = fetched;
+      answered = length fetched;
+      rest = first_base measures;
+    }
 
 -- the numbers of a connection whose peer has this initial sequence number, once its SYN has arrived
 abbrev pub numbers_with : (cisn sisn : ℕ) → Segment → Numbers
@@ -146,6 +156,8 @@ pub record LeadsTo {State : Type 0} (service : Machine State) (news : News) (bef
   pub between : IsBetweenTurns (turned news calls e)
   pub stands : StandsAt after (turned news calls e)
   pub segments : sent_in news calls e ≡ segments_by_laws service e.local news before after
+  -- .. and what would be sent if the ACK were delayed
+  pub full : full_out (before_flush news calls e) ≡ full_by_laws service e.local news before after
 
 -- the end of a connection by FINs: the peer's is taken and ours is acknowledged, the endpoint is CLOSED, nothing is sent, and the halves are at the point
 -- after the turn

@@ -10,7 +10,7 @@ use Rattle.ft_model.specs.Refusal.{rst_at_ack, as_listen, as_closed}
 use Rattle.tcp_endpoint.specs.declared.states.StateName.{StateName}
 use Rattle.tcp_endpoint.specs.declared.states.StateName.TheVariants.{Closed, SynSent, Established}
 use Rattle.tcp_endpoint.specs.SendHalf.{Sending}
-use Rattle.endpoint_laws.specs.Laws.{ticked_interval, ticked_rest}
+use Rattle.endpoint_laws.specs.Laws.{timing_ticked, ticked_interval, ticked_rest}
 
 -- 3.10.7.1: CLOSED answers each segment except a RST with a RST
 abbrev pub sent_in_closed : Addr → News → List Segment
@@ -70,9 +70,9 @@ expires_at _ s = false
 
 -- the timer continues at a tick, and nothing else changes it
 abbrev pub interval_waiting : News → Sending → ℕ
-interval_waiting Ticks s = ticked_interval true s
+interval_waiting Ticks s = ticked_interval true (timing_ticked s).base s
 interval_waiting _ s = s.interval
 
 abbrev pub rest_waiting : News → Sending → ℕ
-rest_waiting Ticks s = ticked_rest true s
+rest_waiting Ticks s = ticked_rest true (timing_ticked s).base s
 rest_waiting _ s = s.rest

@@ -1,13 +1,14 @@
 //! The laws that an endpoint satisfies, each the contract of a function with an empty body, for the crates above to cite. They don't use the functions that the
 //! code's contracts name, but the terms of `ft_model`'s laws.
 
-ghost use Rattle.std.specs.Prelude.{◌≡◌, ℕ, ◌+◌, ◌%◌, ◌<◌, ◌≤◌, ◌^◌, true, false, List, length};
+ghost use Rattle.std.specs.Prelude.{◌≡◌, ℕ, ◌+◌, ◌%◌, ◌<◌, ◌≤◌, ◌^◌, Bool, true, false, List, length};
 ghost use Rattle.seq_arith.specs.Packet.{Segment};
+ghost use Rattle.seq_arith.specs.Timing.{first_base};
 ghost use Rattle.tcp_endpoint.specs.States.{has_begun};
-ghost use Rattle.tcp_endpoint.specs.Tcb.{Tcb, listening, connecting};
+ghost use Rattle.tcp_endpoint.specs.Tcb.{Tcb, listening, listening_measuring, connecting, connecting_measuring};
 ghost use Rattle.tcp_endpoint.specs.Arrival.{received};
 ghost use Rattle.endpoint_laws.specs.Laws.{IsBounded, IsUsual, taken_by, IsSentBy, ProbesRightly, sent_by_law, is_refused, needs_ack, starts, interval_by, rest_by};
-ghost use Rattle.endpoint_laws.specs.Laws.{is_third_duplicate, congestion_ticked, ticked_interval, ticked_rest, IsTimedBy, last_advertised, asks, IsShut};
+ghost use Rattle.endpoint_laws.specs.Laws.{shows_loss, congestion_ticked, timing_ticked, timing_at_end, ticked_interval, ticked_rest, IsTimedBy, last_advertised, asks, IsShut};
 ghost use Rattle.tcp_endpoint.specs.SendHalf.{IsShort};
 ghost use Rattle.tcp_endpoint.specs.ReceiveHalf.{next, advertised_edge};
 ghost use Rattle.tcp_endpoint.specs.Output.{or_bare, bare_segment, full_out, leaving, after_full, is_timed, flushed};
@@ -47,11 +48,12 @@ pub fn segments_are_acknowledged_by_law()
     ensures { (e : Tcb) (p : Segment) → has_begun e.name ≡ true → IsBounded e → IsUsual e p → IsSentBy e p (received e p).sending }
 {}
 
-/// A segment makes the first unacknowledged segment due for retransmission exactly if it is the third duplicate acknowledgement in a row.
+/// A segment makes the first unacknowledged segment due for retransmission exactly if it is the third duplicate acknowledgement in a row, or acknowledges only a
+/// part of what was in flight when a loss was noticed.
 #[tactic(auto, using(crate::proofs::SendingLaw::retransmission_law))]
-pub fn third_duplicates_send_again()
+pub fn losses_send_again()
     ensures { (e : Tcb) (p : Segment) → has_begun e.name ≡ true → IsBounded e → IsUsual e p
-        → (received e p).retransmission_due ≡ (e.retransmission_due || is_third_duplicate e p) }
+        → (received e p).retransmission_due ≡ (e.retransmission_due || shows_loss e p) }
 {}
 
 /// The law Sending, at a tick: where the timer expires, what is in flight counts as lost if the peer's right edge is past SND.UNA.
@@ -60,16 +62,31 @@ pub fn ticks_lose_by_law()
     ensures { (e : Tcb) → IsBounded e → (after_tick e).sending.congestion ≡ congestion_ticked e.sending }
 {}
 
+/// A tick counts for the estimate of the round-trip time, and an expiry backs the interval off, ..
+#[tactic(auto, using(crate::proofs::SendingLaw::ticked_timing))]
+pub fn ticks_are_measured_by_law()
+    ensures { (e : Tcb) → (after_tick e).sending.timing ≡ timing_ticked e.sending }
+{}
+
+/// .. and at the end of a turn the first unit that is sent for the first time is timed.
+#[tactic(auto, using(crate::proofs::TurnEnd::timing_law))]
+pub fn turns_time_what_they_send()
+    ensures { (e : Tcb) → has_begun e.name ≡ true → IsBounded e → ProbesRightly e → (flushed e).sending.timing ≡ timing_at_end e }
+{}
+
 /// A passive open with a limit of at most 2^24 bytes is within the bounds (`IsBounded`) ..
-#[tactic(auto, using(crate::proofs::Bounding::bounded_at_listen))]
+#[tactic(auto, using(crate::proofs::Bounding::bounded_at_listen, crate::proofs::Bounding::bounded_at_listen_measuring))]
 pub fn passive_opens_are_bounded()
-    ensures { (local : Addr) (iss limit : ℕ) → limit ≤ 2 ^ 24 → IsBounded (listening local iss limit) }
+    ensures plain { (local : Addr) (iss limit : ℕ) → limit ≤ 2 ^ 24 → IsBounded (listening local iss limit) }
+    ensures measuring { (measures : Bool) (local : Addr) (iss limit : ℕ) → limit ≤ 2 ^ 24 → IsBounded (listening_measuring measures local iss limit) }
 {}
 
 /// .. and so is an active one.
-#[tactic(auto, using(crate::proofs::Bounding::bounded_at_connect))]
+#[tactic(auto, using(crate::proofs::Bounding::bounded_at_connect, crate::proofs::Bounding::bounded_at_connect_measuring))]
 pub fn active_opens_are_bounded()
-    ensures { (local remote : Addr) (iss limit : ℕ) → limit ≤ 2 ^ 24 → IsBounded (connecting local remote iss limit) }
+    ensures plain { (local remote : Addr) (iss limit : ℕ) → limit ≤ 2 ^ 24 → IsBounded (connecting local remote iss limit) }
+    ensures measuring { (measures : Bool) (local remote : Addr) (iss limit : ℕ) → limit ≤ 2 ^ 24
+        → IsBounded (connecting_measuring measures local remote iss limit) }
 {}
 
 /// An endpoint stays within the bounds when a segment arrives in LISTEN, ..
@@ -143,21 +160,26 @@ pub fn segments_are_owed_answers_by_law()
 /// The law of the timer, at the end of a turn with a segment, whatever the user does in between.
 pub fn segments_time_by_law()
     ensures { (e u : Tcb) (p : Segment) → has_begun e.name ≡ true → IsBounded e → IsUsual e p
-        → u.sending.interval ≡ (received e p).sending.interval → u.sending.rest ≡ (received e p).sending.rest
-        → IsTimedBy (flushed u).sending (interval_by (is_timed (after_full u)) (starts e.sending (received e p).sending) e.sending)
-        (rest_by (is_timed (after_full u)) (starts e.sending (received e p).sending) e.sending) }
+        → u.sending.timing ≡ (received e p).sending.timing → u.sending.interval ≡ (received e p).sending.interval
+        → u.sending.rest ≡ (received e p).sending.rest
+        → IsTimedBy (flushed u).sending
+        (interval_by (is_timed (after_full u)) (starts e.sending (received e p).sending) u.sending.timing.base e.sending)
+        (rest_by (is_timed (after_full u)) (starts e.sending (received e p).sending) u.sending.timing.base e.sending) }
 {}
 
 /// The law of the timer, at the end of a turn with a tick.
 pub fn ticks_time_by_law()
-    ensures { (e u : Tcb) → 1 ≤ e.sending.interval → u.sending.interval ≡ (after_tick e).sending.interval → u.sending.rest ≡ (after_tick e).sending.rest
-        → IsTimedBy (flushed u).sending (ticked_interval (is_timed (after_full u)) e.sending) (ticked_rest (is_timed (after_full u)) e.sending) }
+    ensures { (e u : Tcb) → 1 ≤ e.sending.interval → u.sending.timing ≡ (after_tick e).sending.timing
+        → u.sending.interval ≡ (after_tick e).sending.interval → u.sending.rest ≡ (after_tick e).sending.rest
+        → IsTimedBy (flushed u).sending (ticked_interval (is_timed (after_full u)) u.sending.timing.base e.sending)
+        (ticked_rest (is_timed (after_full u)) u.sending.timing.base e.sending) }
 {}
 
 /// A passive open listens: nothing is received or sent yet, and nothing is due.
-#[tactic(auto, using(crate::proofs::Listening::listens_at_listen))]
+#[tactic(auto, using(crate::proofs::Listening::listens_at_listen, crate::proofs::Listening::listens_at_listen_measuring))]
 pub fn passive_opens_listen()
-    ensures { (local : Addr) (iss limit : ℕ) → IsListening iss limit (listening local iss limit) }
+    ensures plain { (local : Addr) (iss limit : ℕ) → IsListening iss limit (listening local iss limit) }
+    ensures measuring { (measures : Bool) (local : Addr) (iss limit : ℕ) → IsListening iss limit (listening_measuring measures local iss limit) }
 {}
 
 /// A listening endpoint still listens, at the same address, after each turn in which no SYN arrives that opens a connection and the user doesn't close:
@@ -174,7 +196,7 @@ pub fn syns_lead_to_points()
     ensures { (e : Tcb) (iss limit cisn : ℕ) (fetched : List ℕ) (syn : Segment) (calls : List Call)
         → IsListening iss limit e → limit + length fetched ≡ 2 ^ 24 → is_syn syn ≡ true → syn.head.seq ≡ (cisn + length fetched) % 2 ^ 32
         → MayUse calls (received e syn)
-        → BeginsAt (point_begun fetched (numbers_with cisn iss syn)) e syn calls }
+        → BeginsAt (point_begun e.sending.timing.measures fetched (numbers_with cisn iss syn)) e syn calls }
 {}
 
 /// From then on each turn after which the endpoint isn't CLOSED leads from its point to the next: the point that the laws Taken and Sending of `ft_model`,
@@ -203,8 +225,8 @@ pub fn endpoints_run_by_the_laws()
     ensures { (e : Tcb) (iss limit cisn : ℕ) (fetched : List ℕ) (syn : Segment) (calls : List Call) (steps : List Step)
         → IsListening iss limit e → limit + length fetched ≡ 2 ^ 24 → is_syn syn ≡ true → syn.head.seq ≡ (cisn + length fetched) % 2 ^ 32
         → MayUse calls (received e syn)
-        → BeginsAt (point_begun fetched (numbers_with cisn iss syn)) e syn calls
-        × RunsByLaws (point_begun fetched (numbers_with cisn iss syn)) (turned (Comes syn) calls e) steps }
+        → BeginsAt (point_begun e.sending.timing.measures fetched (numbers_with cisn iss syn)) e syn calls
+        × RunsByLaws (point_begun e.sending.timing.measures fetched (numbers_with cisn iss syn)) (turned (Comes syn) calls e) steps }
 {}
 
 /// In the turn that ends a connection without a RST, the endpoint becomes CLOSED and sends nothing. Its two halves are then at the point after that turn.
@@ -323,18 +345,18 @@ pub fn what_is_taken_is_told()
 
 /// The same over a complete run of every endpoint, passive or active: for every limit, whatever arrives and however much is written.
 pub fn endpoints_acknowledge_all_that_they_took()
-    ensures { (local remote : Addr) (iss limit : ℕ) (turns : List Events)
-        → AcknowledgesAll (listening local iss limit) turns × AcknowledgesAll (connecting local remote iss limit) turns }
+    ensures { (measures : Bool) (local remote : Addr) (iss limit : ℕ) (turns : List Events)
+        → AcknowledgesAll (listening_measuring measures local iss limit) turns × AcknowledgesAll (connecting_measuring measures local remote iss limit) turns }
 {}
 
-/// An active open connects: whatever its user writes before the first flush, only the SYN is sent. Its timer runs from then on, with one tick left, and nothing
-/// else is due.
+/// An active open connects: whatever its user writes before the first flush, only the SYN is sent. Its timer runs from then on, with one tick left, or ten if it
+/// measures round trips, and nothing else is due.
 pub fn active_opens_connect()
-    ensures { (local remote : Addr) (iss limit : ℕ) (calls : List Call) → MayUse calls (connecting local remote iss limit)
-        → (used calls (connecting local remote iss limit)).name ≡ SynSent
-        → IsConnecting iss limit (flushed (used calls (connecting local remote iss limit)))
-        × (leaving (used calls (connecting local remote iss limit)) ≡ syn_of local remote iss limit ∷ [])
-        × IsTimedBy (flushed (used calls (connecting local remote iss limit))).sending 1 1 }
+    ensures { (measures : Bool) (local remote : Addr) (iss limit : ℕ) (calls : List Call) → MayUse calls (connecting_measuring measures local remote iss limit)
+        → (used calls (connecting_measuring measures local remote iss limit)).name ≡ SynSent
+        → IsConnecting iss limit (flushed (used calls (connecting_measuring measures local remote iss limit)))
+        × (leaving (used calls (connecting_measuring measures local remote iss limit)) ≡ syn_of local remote iss limit ∷ [])
+        × IsTimedBy (flushed (used calls (connecting_measuring measures local remote iss limit))).sending (first_base measures) (first_base measures) }
 {}
 
 /// A connecting endpoint still connects, between the same addresses, after each turn after which it is in SYN-SENT: nothing is received, and no unit of its

@@ -5,6 +5,7 @@ use Rattle.std.proofs.lemmas.List.{length-replicate}
 use Rattle.ft_io.specs.declared.Addr.{Addr}
 use Rattle.ft_io.specs.declared.Key.{Key}
 use Rattle.server_trait.specs.Service.{Machine, machine}
+use Rattle.seq_arith.specs.Profile.{plain}
 use Rattle.ft_model.specs.Log.{Entry}
 use Rattle.ft_model.specs.News.News.{Comes}
 use Rattle.tcp_endpoint.specs.SendHalf.{IsShort}
@@ -69,5 +70,5 @@ connected_short key local cisn fetched mss i h segments fits =
       sisn = omega arith;
       i_fits = fits;
     } in
-    let s = splices idle local e i g in
+    let s = splices idle plain local e i g in
     subst (λ n. IsShort (connected key local cisn n mss i).sending) size (bounded_is_short (connected key local cisn (length e.bytes) mss i) s.tcp.stands.between.bounds)

@@ -62,7 +62,7 @@ fn forge(endpoint: &mut Endpoint, head: Head, out: &mut Outbox)
 }
 
 /// An endpoint that is connected at the end of the entry's bytes: the forged SYN has the client's initial sequence number plus their count.
-#[tactic(auto, using(crate::proofs::Forging::listen_short, crate::proofs::Forging::syn_short), unfolding(connection_laws::specs::Splice::connected))]
+#[tactic(auto, using(crate::proofs::Forging::listen_short, crate::proofs::Forging::syn_short), unfolding(connection_laws::specs::Splice::connected_measuring, tcp_endpoint::specs::Tcb::listening_measuring, tcp_endpoint::specs::Tcb::listening))]
 fn connected(
     alloc: Global,
     head: &EntryHead,

@@ -22,7 +22,7 @@ use Rattle.north_wrap.specs.Refinement.{NorthStands}
 use Rattle.connection_laws.specs.FirstSyn.{MayOpen}
 use Rattle.wrapped_conn.specs.ConnState.{ConnState}
 use Rattle.wrapped_conn.specs.Arrival.{arrived}
-use Rattle.wrapped_conn.specs.NewConnection.{first_conn}
+use Rattle.wrapped_conn.specs.NewConnection.{first_conn, first_conn_in}
 use Rattle.wrapped_conn.specs.Refinement as conn
 use Rattle.wrapped_conn.specs.Refinement.{StandsLive, StandsReset, Leads}
 use Rattle.wrapped_conn.specs.LoggerMessages.{with_done}
@@ -155,11 +155,11 @@ pub first_acts : {S : Type 0} (service : Machine S) (server : Addr) (boot : ℕ)
     → IsTyped server boot numbers.key segments messages → MayOpen numbers → IsSound now
     → Starts service.after (first_conn boot numbers.key server numbers.cisn numbers.sisn numbers.mss service.fresh) now segments messages
     → Acts service server boot Becomes_live (point_opened plain numbers) now segments messages
-unfolding IsSound first_conn
+unfolding IsSound first_conn_in
 first_acts service server boot numbers now segments messages typed may s r =
     let same = starts_same service (first_conn boot numbers.key server numbers.cisn numbers.sisn numbers.mss service.fresh) now segments messages r in
     acts service server boot Becomes_live (point_opened plain numbers) now segments messages typed tt may.most (omega arith) s same.local same.boot
-    (new_starts service boot server numbers now segments messages may s r)
+    (new_starts service plain boot server numbers now segments messages may s r)
 
 -- a connection that a restart has put together
 pub begins : {S : Type 0} (service : Machine S) (server : Addr) (boot : ℕ) (p : Point) (c : ConnState S) → conn.StandsBefore service c p → c.local ≡ server → c.boot ≡ boot → p.mss ≤ 1460

@@ -22,7 +22,7 @@ pub number_kept : {S : Type 0} (service : Machine S) (c now : ConnState S) (segm
     → now.endpoint.sending.iss ≡ c.endpoint.sending.iss
 number_kept service c now segments messages k =
     ap (λ x. x.endpoint.sending.iss) k.state
-    ∙ flush_keeps (λ (q : Sending). q.iss) (tcp_used c (new_reads c now)) (record { sends = λ s n. refl; ends = λ s. refl; times = λ s i r. refl })
+    ∙ flush_keeps (λ (q : Sending). q.iss) (tcp_used c (new_reads c now)) (record { sends = λ s n. refl; ends = λ s. refl; times = λ s t i r. refl })
     ∙ used_keeps (λ (t : Tcb). t.sending.iss) call_numbers (calls_of c.north c.endpoint (lengths_of (new_reads c now))) c.endpoint
 
 pub delta_kept : {S : Type 0} (service : Machine S) (c now : ConnState S) (segments messages : List (List ℕ)) → Starts service.after c now segments messages → now.south.delta ≡ c.south.delta

@@ -28,7 +28,7 @@ use Rattle.north_wrap.specs.declared.read_record.ReadRecord.{ReadRecord}
 use Rattle.north_wrap.specs.Refinement.{messages_of}
 use Rattle.south_wrap.specs.Translation.{copied, is_some_copied}
 use Rattle.wrapped_conn.specs.Arrival.{arrived, before_segment}
-use Rattle.wrapped_conn.specs.NewConnection.{first_conn}
+use Rattle.wrapped_conn.specs.NewConnection.{first_conn, first_conn_in}
 use Rattle.wrapped_conn.specs.ConnState.{ConnState}
 use Rattle.wrapped_conn.specs.Numbers.{una_units, resets}
 use Rattle.wrapped_conn.specs.LoggerMessages as told
@@ -259,14 +259,14 @@ came_ok bytes P ok h = go (packets.reading bytes) ok h
 pub first_own : {S : Type 0} (after : S → List ℕ → Served S) (boot : ℕ) (server : Addr) (numbers : Numbers) (fresh : S) (now : ConnState S) (segments messages : List (List ℕ)) (old new : List Wire)
     → FitsKey numbers.key → Starts after (first_conn boot numbers.key server numbers.cisn numbers.sisn numbers.mss fresh) now segments messages
     → new ≡ old ++ wires_of numbers.key segments messages → IsOnlyFor numbers.key old new
-unfolding first_conn
+unfolding first_conn_in
 first_own after boot server numbers fresh now segments messages old new fits r put =
     let c = first_conn boot numbers.key server numbers.cisn numbers.sisn numbers.mss fresh in
     leaves_for numbers.key c segments messages old new fits refl (starts_own after c now segments messages r) put
 
 pub first_belongs : {S : Type 0} (service : Machine S) (who : Identity) (server : Addr) (numbers : Numbers) (now : ConnState S) (segments messages : List (List ℕ))
     → Starts service.after (first_conn who.boot numbers.key server numbers.cisn numbers.sisn numbers.mss service.fresh) now segments messages → IsSound now → Belongs who numbers.key now
-unfolding first_conn
+unfolding first_conn_in
 first_belongs service who server numbers now segments messages r s =
     let same = starts_same service (first_conn who.boot numbers.key server numbers.cisn numbers.sisn numbers.mss service.fresh) now segments messages r in
     record { sound = s; client = same.key; incarnation = same.boot }

@@ -21,6 +21,7 @@ use crate::identity::Identity;
 use crate::marked_serving::{mark_key, serve_packet_marked};
 use crate::serving::{Serving, is_for, serve_packet};
 use crate::slot::Slot;
+use crate::slots::give_known;
 use crate::turn::Turn;
 use conn_marks::Marks;
 use ft_io::{Addr, Key, NoMemory};
@@ -28,6 +29,24 @@ use indexmap::IndexMap;
 use segment_codec::{Head, PacketRef};
 use seq_arith::{ACK, Seq};
 use server_trait::{Saved, Service};
+
+/// A segment leaves the connections of all other clients as they are, whatever it acknowledges: the clause `alone` of `give_known`.
+fn a_far_acknowledgement_moves_another_edge<S: Service>(
+    who: Identity,
+    segment: &PacketRef<'_>,
+    other: Key,
+    slots: &mut IndexMap<Key, Slot<S>>,
+    packet: &mut [u8],
+    turn: &mut Turn,
+) -> Result<(), NoMemory>
+    requires sound { AllSound who slots.old.entries }
+    requires read { reading packet.old ≡ Ok (segment_of segment.now) }
+    requires mine { is_for who.local (segment_of segment.now) ≡ true }
+    requires other { key_eq (source_of (segment_of segment.now)) other ≡ false }
+    ensures { OnOk result (lookup (key_eq other) slots.new.entries ≡ lookup (key_eq other) slots.old.entries) }
+{
+    give_known(who, segment, slots, packet, turn)
+}
 
 /// A packet for another port of the server's address isn't for the server: the contract of `is_for`.
 fn a_stray_packet_counts() -> bool

@@ -6,6 +6,7 @@ use Rattle.std.proofs.lemmas.Int.{ints}
 use Rattle.seq_arith.specs.Arrival.{int_eq, is_acceptable, is_at_right_edge, is_allowed_at_zero, is_usable}
 use Rattle.seq_arith.specs.Coming.{comes}
 use Rattle.seq_arith.specs.Congestion.{Congestion}
+use Rattle.seq_arith.specs.Timing.{Timing}
 use Rattle.seq_arith.specs.Offset.{length_of, first_of, ack_of, text_of, fin_of, one_if}
 use Rattle.seq_arith.specs.Packet.{Segment, has_fin, has_syn, has_rst, has_ack}
 use Rattle.tcp_buffers.specs.Near.{is_ahead}
@@ -13,7 +14,7 @@ use Rattle.tcp_endpoint.specs.declared.states.StateName.{StateName}
 use Rattle.tcp_endpoint.specs.declared.states.StateName.TheVariants.{Closed}
 use Rattle.tcp_endpoint.specs.States.{after_fin, after_fin_acked}
 use Rattle.tcp_endpoint.specs.ReceiveHalf.{Receiving, next, taken, window, receive_edge, with_segment}
-use Rattle.tcp_endpoint.specs.SendHalf.{Sending, acknowledged, is_duplicate, is_third_duplicate, duplicated, answered_by, fin_acked}
+use Rattle.tcp_endpoint.specs.SendHalf.{Sending, acknowledged, is_duplicate, shows_loss, duplicated, untimed_if, answered_by, fin_acked}
 use Rattle.tcp_endpoint.specs.Tcb.{Tcb}
 use Rattle.tcp_endpoint.specs.Arrival.{first, ack_at, with_ack_pending_if, with_reset, entering, with_text_and_fin, with_fin_acked, with_first_ack, is_bare, with_ack_used, with_ack, check_ack, check_syn, check_rst, with_time_wait_restarted, accepts, is_allowed, check_sequence, in_others}
 use Rattle.ft_model.specs.Client as machine
@@ -77,21 +78,23 @@ kept e c written name ack_pending wait b = record {
   phase = b.phase;
 }
 
--- a duplicate acknowledgement changes congestion control alone
+-- a duplicate acknowledgement, and one that shows a loss, change congestion control and the estimate alone
 answered_is : (s : Sending) (bare : Bool) (seq room : ℕ) (ack : ℤ)
-    → record (acknowledged s seq ack room) { congestion = (answered_by s bare seq ack room).congestion } ≡ answered_by s bare seq ack room
+    → record (acknowledged s seq ack room) { congestion = (answered_by s bare seq ack room).congestion; timing = (answered_by s bare seq ack room).timing }
+    ≡ answered_by s bare seq ack room
 unfolding answered_by
 answered_is s bare seq room ack =
-    holds_if (λ (t : Sending). record (acknowledged s seq ack room) { congestion = t.congestion } ≡ t) (is_duplicate s bare ack room)
+    let again : Bool = shows_loss s bare ack room in
+    holds_if (λ (t : Sending). record (acknowledged s seq ack room) { congestion = t.congestion; timing = (untimed_if again t).timing } ≡ untimed_if again t) (is_duplicate s bare ack room)
     (duplicated (acknowledged s seq ack room)) (acknowledged s seq ack room) (λ _. refl) (λ _. refl)
 
 -- an acknowledgement that isn't beyond, whether it is a duplicate or not, and whatever goes out again for it
-acknowledged_kept : (e : Tcb) (c : Client) (written : ℕ) (name : StateName) (ack_pending retransmission_due : Bool) (wait seq room : ℕ) (ack : ℤ) (after : Congestion)
+acknowledged_kept : (e : Tcb) (c : Client) (written : ℕ) (name : StateName) (ack_pending retransmission_due : Bool) (wait seq room : ℕ) (ack : ℤ) (after : Congestion) (time : Timing)
     → Before e c written → int_lt (pos e.sending.sent) ack ≡ false
-    → AfterChecks e c written (record e { name = name; ack_pending = ack_pending; retransmission_due = retransmission_due; wait = wait; sending = record (acknowledged e.sending seq ack room) { congestion = after } })
+    → AfterChecks e c written (record e { name = name; ack_pending = ack_pending; retransmission_due = retransmission_due; wait = wait; sending = record (acknowledged e.sending seq ack room) { congestion = after; timing = time } })
     (machine.with_ack c ack)
 unfolding acknowledged
-acknowledged_kept e c written name ack_pending retransmission_due wait seq room ack after b sent = record {
+acknowledged_kept e c written name ack_pending retransmission_due wait seq room ack after time b sent = record {
   local = refl;
   remote = refl;
   iss = refl;
@@ -115,7 +118,7 @@ acknowledged_kept e c written name ack_pending retransmission_due wait seq room 
     within = b.hears.within;
     queued = b.hears.queued;
   };
-  sends = ack_sends e.sending seq ack room written c after sent b.sends;
+  sends = ack_sends e.sending seq ack room written c after time sent b.sends;
   same = refl;
   phase = b.phase;
 }
@@ -126,7 +129,8 @@ ack_kept : (e : Tcb) (c : Client) (written : ℕ) (name : StateName) (ack_pendin
 ack_kept e c written name ack_pending retransmission_due bare wait seq room ack b sent =
     subst (λ (s : Sending). AfterChecks e c written (record e { name = name; ack_pending = ack_pending; retransmission_due = retransmission_due; wait = wait; sending = s }) (machine.with_ack c ack))
     (answered_is e.sending bare seq room ack)
-    (acknowledged_kept e c written name ack_pending retransmission_due wait seq room ack (answered_by e.sending bare seq ack room).congestion b sent)
+    (acknowledged_kept e c written name ack_pending retransmission_due wait seq room ack (answered_by e.sending bare seq ack room).congestion
+    (answered_by e.sending bare seq ack room).timing b sent)
 
 -- text and FIN
 sends_heard : (s : Sending) (written : ℕ) (d d' : Client) → d' ≡ record d { phase = d'.phase; accepted = d'.accepted; early = d'.early } → Sends s written d → Sends s written d'
@@ -199,7 +203,7 @@ unfolding with_ack with_ack_used with_fin_acked
 acked_kept e c written e1 ack_pending wait p is syn rst near b =
     let near_at : (pos 0 -ℤ pos (2 ^ 30)) ≤ℤ ack_at e p = subst (λ n. (pos 0 -ℤ pos (2 ^ 30)) ≤ℤ ack_of n p) (sym b.iss) near in
     let e2 : Tcb = record e { ack_pending = ack_pending; wait = wait } in
-    let retransmission_due : Bool = e.retransmission_due || is_third_duplicate e.sending (is_bare p) (ack_at e p) p.head.window in
+    let retransmission_due : Bool = e.retransmission_due || shows_loss e.sending (is_bare p) (ack_at e p) p.head.window in
     let m : Tcb = record e2 { sending = answered_by e.sending (is_bare p) p.head.seq (ack_at e p) p.head.window; retransmission_due = retransmission_due } in
     let few : e.sending.sent ≤ 2 ^ 24 + 1 = few_sent e.sending written c e.sending.fin_sent refl b.sends in
     let ahead : is_ahead e.sending.sent (ack_at e p) ≡ int_lt (pos e.sending.sent) (ack_at e p) = ahead_is e.sending.sent (ack_at e p) few (omega (arith, ints, near_at)) in

@@ -7,6 +7,7 @@ use Rattle.std.proofs.lemmas.List.{drop-append-le}
 use Rattle.seq_arith.specs.Arrival.{is_new_ack}
 use Rattle.seq_arith.specs.Coming.{Came, StandsBehind, comes}
 use Rattle.seq_arith.specs.Congestion.{Congestion}
+use Rattle.seq_arith.specs.Timing.{Timing}
 use Rattle.seq_arith.proofs.Coming.{comes_within, fin_stays, stays_behind}
 use Rattle.tcp_endpoint.specs.ReceiveHalf.{Receiving, taken, receive_edge, came, with_came, with_segment}
 use Rattle.tcp_endpoint.specs.SendHalf.{Sending, acknowledged, moves_edge}
@@ -98,10 +99,10 @@ acked_alike una sent ack h = grind (arith, ints, h)
 new_above : (una sent : ℕ) (ack : ℤ) → is_new_ack una sent ack ≡ true → una + (nat_abs ack - una) ≡ nat_abs ack
 new_above una sent ack h = grind (arith, ints, h)
 
-pub ack_sends : (s : Sending) (seq : ℕ) (ack : ℤ) (room written : ℕ) (d : Client) (after : Congestion) → int_lt (pos s.sent) ack ≡ false → Sends s written d
-    → Sends (record (acknowledged s seq ack room) { congestion = after }) written (machine.with_ack d ack)
+pub ack_sends : (s : Sending) (seq : ℕ) (ack : ℤ) (room written : ℕ) (d : Client) (after : Congestion) (time : Timing) → int_lt (pos s.sent) ack ≡ false → Sends s written d
+    → Sends (record (acknowledged s seq ack room) { congestion = after; timing = time }) written (machine.with_ack d ack)
 unfolding acknowledged
-ack_sends s seq ack room written d after sent h =
+ack_sends s seq ack room written d after time sent h =
     let new : Bool = is_new_ack s.una s.sent ack in
     let both : Bool = int_le (pos s.una) ack && int_le ack (pos s.sent) in
     record {

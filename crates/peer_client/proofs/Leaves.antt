@@ -6,9 +6,10 @@ use Rattle.seq_arith.specs.Packet.{Segment}
 use Rattle.seq_arith.specs.Offset.{one_if}
 use Rattle.tcp_endpoint.specs.States.{is_closed, has_begun}
 use Rattle.tcp_endpoint.specs.ReceiveHalf.{next, taken, receive_edge, advertised_edge}
-use Rattle.tcp_endpoint.specs.SendHalf.{Sending, in_flight, is_unacknowledged, send_edge, sends_fin, resent_length, with_sent, with_fin_sent}
+use Rattle.seq_arith.specs.Timing.{Timing}
+use Rattle.tcp_endpoint.specs.SendHalf.{Sending, in_flight, is_unacknowledged, send_edge, sends_fin, resent_length, with_sent, with_fin_sent, with_unit_timed}
 use Rattle.tcp_endpoint.specs.Tcb.{Tcb}
-use Rattle.tcp_endpoint.specs.Output.{segment_at, text_at, fin_at, texts, reset_reply_segments, reset_reply_out, retransmission_out, retransmitted_segment, opening_segment, probes, probes_text, probes_fin, probe_out, with_probe, new_length, text_out, with_text_sent, new_fin, fin_out, with_fin_out, full_out, after_full, is_ack_pending, bare_segment, or_bare, leaving}
+use Rattle.tcp_endpoint.specs.Output.{segment_at, text_at, fin_at, texts, reset_reply_segments, reset_reply_out, retransmission_out, retransmitted_segment, opening_segment, probes, probes_text, probes_fin, probe_out, with_probe, new_length, text_out, with_text_sent, new_fin, fin_out, with_fin_out, full_out, with_timed, after_full, is_ack_pending, bare_segment, or_bare, leaving}
 use Rattle.segment_codec.specs.declared.Head.{Head}
 use Rattle.ft_model.specs.Client.{Client, IsMove}
 use Rattle.peer_client.specs.Refinement.{AreMoves, Told}
@@ -33,6 +34,10 @@ not_lt_of n m h = grind (arith, h)
 -- the endpoint with so much sent, and a FIN or not
 abbrev pub at : Tcb → ℕ → Bool → Tcb
 at u s f = record u { sending = record u.sending { sent = s; fin_sent = f } }
+
+-- .. and with this estimate, at the end
+abbrev pub at_end : Tcb → ℕ → Bool → Timing → Tcb
+at_end u s f t = record u { sending = record u.sending { sent = s; fin_sent = f; timing = t } }
 
 -- how much may be sent of a script of which so many bytes are written
 pub record IsWithin (u : Tcb) (c : Client) (written s : ℕ) (f : Bool) : Type 0 where
@@ -162,6 +167,22 @@ speaks_at u c written edge s f h = record {
   within = h.within;
 }
 
+speaks_end : (u : Tcb) (c : Client) (written edge s : ℕ) (f : Bool) (t : Timing) → Speaks u c written edge → Speaks (at_end u s f t) c written edge
+speaks_end u c written edge s f t h = record {
+  ip = h.ip;
+  port = h.port;
+  server = h.server;
+  isn = h.isn;
+  sisn = h.sisn;
+  units = h.units;
+  stands = h.stands;
+  edge_is = h.edge_is;
+  small = h.small;
+  una = h.una;
+  held = h.held;
+  within = h.within;
+}
+
 -- text for the first time
 sendable_fits : (o f : Bool) (una len edge s written : ℕ) → (f ≡ false → s ≤ written) → una ≤ s → len ≡ written - una
     → (s + (if o && not f then min (una + len) edge - s else 0) ≤ max s written) × (f ≡ true → (if o && not f then min (una + len) edge - s else 0) ≡ 0)
@@ -267,11 +288,11 @@ edge_told u c begun (inr t) none =
     (sym t.next_is ∙ equal_of_test u.last_ack_sent (next u.receiving) k.1.0)
     (sym t.edge_is ∙ equal_of_test u.last_advertised_edge (advertised_edge u.receiving) k.1.1)
 
-edge_told_at : (u : Tcb) (c : Client) (s : ℕ) (f : Bool) → has_begun u.name ≡ true → (u.ack_pending ≡ true) ⊎ Told u c → is_ack_pending (at u s f) ≡ false
-    → c.edge ≡ receive_edge u.receiving
-edge_told_at u c s f begun (inl ack_pending) none = edge_told (at u s f) c begun (inl ack_pending) none
-edge_told_at u c s f begun (inr t) none =
-    edge_told (at u s f) c begun
+edge_told_at : (u : Tcb) (c : Client) (s : ℕ) (f : Bool) (time : Timing) → has_begun u.name ≡ true → (u.ack_pending ≡ true) ⊎ Told u c
+    → is_ack_pending (at_end u s f time) ≡ false → c.edge ≡ receive_edge u.receiving
+edge_told_at u c s f time begun (inl ack_pending) none = edge_told (at_end u s f time) c begun (inl ack_pending) none
+edge_told_at u c s f time begun (inr t) none =
+    edge_told (at_end u s f time) c begun
     (inr (record { bytes = t.bytes; fin = t.fin; next_is = t.next_is; edge_is = t.edge_is; bytes_taken = t.bytes_taken; fin_taken = t.fin_taken })) none
 
 -- a segment without data, where no other leaves
@@ -286,7 +307,8 @@ finish c edge s x after ack_pending bare (a ∷ xs) goes move tells = goes
 pub record Left (u : Tcb) (c : Client) (written edge : ℕ) : Type 0 where
   pub sent : ℕ
   pub fin : Bool
-  pub is : after_full u ≡ at u sent fin
+  pub timing : Timing
+  pub is : after_full u ≡ at_end u sent fin timing
   pub within : IsWithin u c written sent fin
   pub more : u.sending.sent ≤ sent
   pub moves : AreMoves c (leaving u) (grown c sent edge)
@@ -298,7 +320,7 @@ reset_reply_goes u c edge s x none = subst (λ (a : Option Head). Goes c edge s 
 pub leaves : (u : Tcb) (c : Client) (written edge : ℕ) → has_begun u.name ≡ true → Flushes u c written edge
     → IsWithin u c written u.sending.sent u.sending.fin_sent → c.sent ≡ u.sending.sent → c.edge ≤ edge → receive_edge u.receiving ≡ edge
     → (u.ack_pending ≡ true) ⊎ Told u c → Left u c written edge
-unfolding leaving full_out after_full bare_segment
+unfolding leaving full_out after_full with_timed bare_segment
 leaves u c written edge begun h w sent low is_edge told =
     let s : ℕ = u.sending.sent in
     let x : ℕ = c.edge in
@@ -323,16 +345,20 @@ leaves u c written edge begun h w sent low is_edge told =
     subst F (sym t.is) (fin_steps u c written edge t.sent xe t.fin h t.within (edge_low (a ++ b ++ d ++ e) edge x low)) in
     let g : List Segment = fin_out (with_text_sent (with_probe u)) in
     let to_fin : Goes c edge s x (a ++ b ++ d ++ e ++ g) f.sent = goes_on c edge s x t.sent f.sent (a ++ b ++ d ++ e) g to_text f.goes in
+    let place : ℕ = in_flight (with_probe u).sending in
+    let time : Timing = (with_unit_timed place (at u f.sent f.fin).sending).timing in
+    let ended : Tcb = at_end u f.sent f.fin time in
     let last : Tcb = with_fin_out (with_text_sent (with_probe u)) in
     let B : Tcb → Type 0 = λ v. AreMoves (grown c s x) (or_bare (is_ack_pending v) (segment_at v (in_flight v.sending) 16 []) (a ++ b ++ d ++ e ++ g)) (grown c f.sent edge) in
-    let whole : B last = subst B (sym f.is)
-    (finish c edge s x f.sent (is_ack_pending (at u f.sent f.fin)) (segment_at (at u f.sent f.fin) (f.sent - u.sending.una) 16 []) (a ++ b ++ d ++ e ++ g) to_fin
-    (bare_move (at u f.sent f.fin) c written edge (speaks_at u c written edge f.sent f.fin h.speaks) (f.sent - u.sending.una) f.sent x (omega (arith, f.within.order)) low)
-    (λ none. edge_told_at u c f.sent f.fin begun told none ∙ is_edge)) in
+    let whole : B (with_timed place last) = subst (λ (v : Tcb). B (with_timed place v)) (sym f.is)
+    (finish c edge s x f.sent (is_ack_pending ended) (segment_at ended (f.sent - u.sending.una) 16 []) (a ++ b ++ d ++ e ++ g) to_fin
+    (bare_move ended c written edge (speaks_end u c written edge f.sent f.fin time h.speaks) (f.sent - u.sending.una) f.sent x (omega (arith, f.within.order)) low)
+    (λ none. edge_told_at u c f.sent f.fin time begun told none ∙ is_edge)) in
     record {
       sent = f.sent;
       fin = f.fin;
-      is = f.is;
+      timing = time;
+      is = ap (with_timed place) f.is;
       within = f.within;
       more = omega (arith, p.more, t.more, f.more);
       moves = subst (λ (n : ℕ). AreMoves (grown c n x) (leaving u) (grown c f.sent edge)) (sym sent) whole;

@@ -4,6 +4,7 @@ use Rattle.std.specs.Prelude.{pos, ◌-ℤ◌, ◌≤ℤ◌, ◌&&◌, ◌||◌,
 use Rattle.std.proofs.lemmas.Bool.{false≢true}
 use Rattle.seq_arith.specs.Arrival.{int_eq}
 use Rattle.seq_arith.specs.Congestion.{Congestion}
+use Rattle.seq_arith.specs.Timing.{Timing, with_tick, with_backoff}
 use Rattle.seq_arith.specs.Offset.{ack_of, one_if}
 use Rattle.seq_arith.specs.Packet.{Segment, has_rst, has_ack}
 use Rattle.tcp_endpoint.specs.States.{has_begun, is_closed, is_time_wait}
@@ -142,9 +143,9 @@ segment_comes l c p h none near =
         (subst (λ (t : Tcb). FollowsAt t) (others_is l.tcb p h.begun) (received_follows l.tcb p h.begun is (follows_of l c h.stands))))
 
 -- a tick passes
-retimed : (s : Sending) (written : ℕ) (after : Congestion) (interval rest : ℕ) (c : Client) → Sends s written c
-    → Sends (record s { congestion = after; interval = interval; rest = rest }) written c
-retimed s written after interval rest c h = record {
+retimed : (s : Sending) (written : ℕ) (after : Congestion) (time : Timing) (interval rest : ℕ) (c : Client) → Sends s written c
+    → Sends (record s { congestion = after; timing = time; interval = interval; rest = rest }) written c
+retimed s written after time interval rest c h = record {
   sent = h.sent;
   acknowledged = h.acknowledged;
   held = h.held;
@@ -160,20 +161,23 @@ retimed s written after interval rest c h = record {
 }
 
 -- what holds of a sender whatever its timer and its congestion control are holds after a tick
-by_tick : (P : Sending → Type 0) (s : Sending) → ((after : Congestion) (interval rest : ℕ) → P (record s { congestion = after; interval = interval; rest = rest }))
+by_tick : (P : Sending → Type 0) (s : Sending)
+    → ((after : Congestion) (time : Timing) (interval rest : ℕ) → P (record s { congestion = after; timing = time; interval = interval; rest = rest }))
     → P (half.ticked s)
 by_tick P s all =
     let twice : ℕ = min 64 (2 * s.interval) in
-    holds_if P (expires s) (record s { congestion = congestion_expired s; interval = twice; rest = twice }) (record s { rest = s.rest - 1 })
-    (λ k. all (congestion_expired s) twice twice) (λ k. all s.congestion s.interval (s.rest - 1))
+    holds_if P (expires s) (record s { congestion = congestion_expired s; timing = with_backoff twice s.timing; interval = twice; rest = twice })
+    (record s { timing = with_tick s.timing; rest = s.rest - 1 })
+    (λ k. all (congestion_expired s) (with_backoff twice s.timing) twice twice) (λ k. all s.congestion (with_tick s.timing) s.interval (s.rest - 1))
 
 pub ticked_sends : (s : Sending) (written : ℕ) (c : Client) → Sends s written c → Sends (half.ticked s) written c
-ticked_sends s written c h = by_tick (λ (t : Sending). Sends t written c) s (λ after interval rest. retimed s written after interval rest c h)
+ticked_sends s written c h = by_tick (λ (t : Sending). Sends t written c) s (λ after time interval rest. retimed s written after time interval rest c h)
 
 pub ticked_same : {X : Type 0} (g : Sending → X)
-    (steady : (after : Congestion) (interval rest : ℕ) (s : Sending) → g (record s { congestion = after; interval = interval; rest = rest }) ≡ g s) (s : Sending)
+    (steady : (after : Congestion) (time : Timing) (interval rest : ℕ) (s : Sending) → g (record s { congestion = after; timing = time; interval = interval; rest = rest }) ≡ g s)
+    (s : Sending)
     → g (half.ticked s) ≡ g s
-ticked_same g steady s = by_tick (λ (t : Sending). g t ≡ g s) s (λ after interval rest. steady after interval rest s)
+ticked_same g steady s = by_tick (λ (t : Sending). g t ≡ g s) s (λ after time interval rest. steady after time interval rest s)
 
 pub tick_passes : (l : LiveState) (c : Client) → IsStanding l c → IsConnected (ticked l) c
 unfolding after_tick timer_ticked waited
@@ -189,14 +193,14 @@ tick_passes l c h =
           port = same.port;
           server = same.server;
           script = same.script;
-          isn = same.isn ∙ sym (ticked_same (λ (s : Sending). s.iss) (λ k a b s. refl) l.tcb.sending);
+          isn = same.isn ∙ sym (ticked_same (λ (s : Sending). s.iss) (λ k t a b s. refl) l.tcb.sending);
           local = same.local;
           remote = same.remote;
         };
         hears = h.stands.agrees.hears;
         sends = ticked_sends l.tcb.sending l.written c h.stands.agrees.sends;
       };
-      syn_acked = ticked_same (λ (s : Sending). s.syn_acked) (λ k a b s. refl) l.tcb.sending ∙ h.stands.syn_acked;
+      syn_acked = ticked_same (λ (s : Sending). s.syn_acked) (λ k t a b s. refl) l.tcb.sending ∙ h.stands.syn_acked;
       phase = h.stands.phase;
       named = named_at t follows;
       over = over_at t follows;

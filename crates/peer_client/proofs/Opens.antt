@@ -10,10 +10,11 @@ use Rattle.segment_codec.specs.declared.Head.{Head}
 use Rattle.tcp_endpoint.specs.declared.states.StateName.TheVariants.{SynSent}
 use Rattle.tcp_endpoint.specs.States.{has_begun}
 use Rattle.tcp_endpoint.specs.ReceiveHalf.{Receiving, window, receive_edge, read_out}
-use Rattle.tcp_endpoint.specs.SendHalf.{Sending}
+use Rattle.seq_arith.specs.Timing.{Timing}
+use Rattle.tcp_endpoint.specs.SendHalf.{Sending, in_flight, with_unit_timed}
 use Rattle.tcp_endpoint.specs.Tcb.{Tcb, connecting, listening}
 use Rattle.tcp_endpoint.specs.UserCalls.{closing, write_room}
-use Rattle.tcp_endpoint.specs.Output.{head_at, opening_segment, retransmission_out, retransmitted_segment, reset_reply_out, reset_reply_segments, probe_out, with_probe, text_out, texts, with_text_sent, fin_out, with_fin_out, full_out, after_full, is_ack_pending, leaving, is_timed, with_advertised, with_turn_ended, flushed}
+use Rattle.tcp_endpoint.specs.Output.{head_at, opening_segment, retransmission_out, retransmitted_segment, reset_reply_out, reset_reply_segments, probe_out, with_probe, text_out, texts, with_text_sent, fin_out, with_fin_out, full_out, with_timed, after_full, is_ack_pending, leaving, is_timed, with_advertised, with_turn_ended, flushed}
 use Rattle.ft_model.specs.Client.{Client, IsMove, new_client, is_new, is_opening, is_ended, is_live}
 use Rattle.ft_model.specs.Client.ClientKind.{Live}
 use Rattle.ft_model.specs.Client.Move.{Syn, Refuse}
@@ -148,7 +149,7 @@ syn_if retransmission_due u = if retransmission_due then opening_segment u ∷ [
 
 syn_sent_leaves : (u : Tcb) (retransmission_due : Bool) (reset_reply : Option Head)
     → leaving (syn_sent u retransmission_due reset_reply) ≡ reset_reply_segments reset_reply ++ syn_if retransmission_due (syn_sent u retransmission_due reset_reply)
-unfolding leaving full_out reset_reply_out retransmission_out retransmitted_segment probe_out with_probe text_out texts with_text_sent fin_out is_ack_pending after_full with_fin_out
+unfolding leaving full_out reset_reply_out retransmission_out retransmitted_segment probe_out with_probe text_out texts with_text_sent fin_out is_ack_pending after_full with_timed with_fin_out
 syn_sent_leaves u true None = refl
 syn_sent_leaves u false None = refl
 syn_sent_leaves u true (Some head) = refl
@@ -256,18 +257,21 @@ waits_leave m c h =
     (syn_moves m c m.tcb.retransmission_due refl h))
 
 -- and how it stands then
+abbrev syn_timing : Tcb → Timing
+syn_timing u = (with_unit_timed (in_flight u.sending) (record u.sending { syn_acked = false; sent = u.sending.sent + 0 })).timing
+
 syn_sent_flushed : (u : Tcb) (retransmission_due : Bool) (reset_reply : Option Head)
-    → flushed (syn_sent u retransmission_due reset_reply) ≡ with_turn_ended (record (syn_sent u retransmission_due reset_reply) { sending = record u.sending { syn_acked = false; sent = u.sending.sent + 0 } })
-unfolding flushed after_full with_fin_out with_text_sent with_probe
+    → flushed (syn_sent u retransmission_due reset_reply) ≡ with_turn_ended (record (syn_sent u retransmission_due reset_reply) { sending = record u.sending { syn_acked = false; sent = u.sending.sent + 0; timing = syn_timing u } })
+unfolding flushed after_full with_timed with_fin_out with_text_sent with_probe
 syn_sent_flushed u retransmission_due reset_reply = refl
 
 turn_ended_waits : (m : LiveState) (c : Client) → Waits m c
-    → IsWaiting (record m { tcb = with_turn_ended (record (syn_sent m.tcb m.tcb.retransmission_due m.tcb.reset_reply) { sending = record m.tcb.sending { syn_acked = false; sent = m.tcb.sending.sent + 0 } }) })
+    → IsWaiting (record m { tcb = with_turn_ended (record (syn_sent m.tcb m.tcb.retransmission_due m.tcb.reset_reply) { sending = record m.tcb.sending { syn_acked = false; sent = m.tcb.sending.sent + 0; timing = syn_timing m.tcb } }) })
     (opened_at c (receive_edge m.tcb.receiving))
 unfolding with_turn_ended with_advertised
 turn_ended_waits m c h =
     let d : Client = opened_at c (receive_edge m.tcb.receiving) in
-    let q : Sending = record m.tcb.sending { syn_acked = false; sent = m.tcb.sending.sent + 0 } in
+    let q : Sending = record m.tcb.sending { syn_acked = false; sent = m.tcb.sending.sent + 0; timing = syn_timing m.tcb } in
     let t : Tcb = record (syn_sent m.tcb m.tcb.retransmission_due m.tcb.reset_reply) { sending = q } in
     let runs : Bool = is_timed t in
     let s = h.agrees.sends in
@@ -345,7 +349,7 @@ waits_end l c h =
     let w : Waits m c = supplied_waits l c h in
     let d : Client = opened_at c (receive_edge m.tcb.receiving) in
     let stays : before_flush l ≡ m = still_open l c w in
-    let after : flushed m.tcb ≡ with_turn_ended (record (syn_sent m.tcb m.tcb.retransmission_due m.tcb.reset_reply) { sending = record m.tcb.sending { syn_acked = false; sent = m.tcb.sending.sent + 0 } }) =
+    let after : flushed m.tcb ≡ with_turn_ended (record (syn_sent m.tcb m.tcb.retransmission_due m.tcb.reset_reply) { sending = record m.tcb.sending { syn_acked = false; sent = m.tcb.sending.sent + 0; timing = syn_timing m.tcb } }) =
     ap flushed (syn_sent_is m c w) ∙ syn_sent_flushed m.tcb m.tcb.retransmission_due m.tcb.reset_reply in
     record {
       later = d;

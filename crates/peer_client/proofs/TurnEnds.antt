@@ -8,6 +8,7 @@ use Rattle.seq_arith.specs.Offset.{one_if}
 use Rattle.seq_arith.proofs.Coming.{behind_up}
 use Rattle.tcp_endpoint.specs.States.{has_begun}
 use Rattle.tcp_endpoint.specs.ReceiveHalf.{Receiving, next, taken, receive_edge, advertised_edge, read_out}
+use Rattle.seq_arith.specs.Timing.{Timing}
 use Rattle.tcp_endpoint.specs.SendHalf.{Sending, timed}
 use Rattle.tcp_endpoint.specs.Tcb.{Tcb}
 use Rattle.tcp_endpoint.specs.Output.{reset_reply_segments, is_timed, with_advertised, with_turn_ended, flushed}
@@ -20,7 +21,7 @@ use Rattle.endpoint_laws.proofs.AnswersAlone.{closed_sends}
 use Rattle.peer_client.specs.Live.{LiveState, given_up, next_part, supplied, closes, shut, before_flush, sent_by, turned}
 use Rattle.peer_client.specs.Refinement.{AreMoves, IsSame, Hears, Sends, Told, IsConnected, IsStanding}
 use Rattle.peer_client.proofs.Spoken.{grown, Speaks}
-use Rattle.peer_client.proofs.Leaves.{at, IsWithin, Flushes, Left, leaves}
+use Rattle.peer_client.proofs.Leaves.{at_end, IsWithin, Flushes, Left, leaves}
 use Rattle.peer_client.proofs.Named.{follows_of, over_at}
 use Rattle.ft_io.proofs.Booleans.{right_true}
 use Rattle.ft_io.proofs.Choices.{holds_if}
@@ -217,8 +218,9 @@ ready l c h = ready_shut l c (supplied (given_up l)) (sym h.agrees.same.script) 
 -- the timer changes nothing else
 pub timed_same : {X : Type 0} (g : Sending → X) (steady : (interval rest : ℕ) (s : Sending) → g (record s { interval = interval; rest = rest }) ≡ g s)
     (runs : Bool) (s : Sending) → g (timed runs s) ≡ g s
-timed_same g steady true s = holds_if (λ (t : Sending). g t ≡ g s) (s.rest == 0) (record s { interval = 1; rest = 1 }) s (λ k. steady 1 1 s) (λ k. refl)
-timed_same g steady false s = steady 1 0 s
+timed_same g steady true s = holds_if (λ (t : Sending). g t ≡ g s) (s.rest == 0) (record s { interval = s.timing.base; rest = s.timing.base }) s
+    (λ k. steady s.timing.base s.timing.base s) (λ k. refl)
+timed_same g steady false s = steady s.timing.base 0 s
 
 retimed_sends : (interval rest : ℕ) (s : Sending) (written : ℕ) (c : Client) → Sends s written c → Sends (record s { interval = interval; rest = rest }) written c
 retimed_sends interval rest s written c h = record {
@@ -238,13 +240,14 @@ retimed_sends interval rest s written c h = record {
 
 pub timed_sends : (runs : Bool) (s : Sending) (written : ℕ) (c : Client) → Sends s written c → Sends (timed runs s) written c
 timed_sends true s written c h =
-    holds_if (λ (t : Sending). Sends t written c) (s.rest == 0) (record s { interval = 1; rest = 1 }) s (λ k. retimed_sends 1 1 s written c h) (λ k. h)
-timed_sends false s written c h = retimed_sends 1 0 s written c h
+    holds_if (λ (t : Sending). Sends t written c) (s.rest == 0) (record s { interval = s.timing.base; rest = s.timing.base }) s
+    (λ k. retimed_sends s.timing.base s.timing.base s written c h) (λ k. h)
+timed_sends false s written c h = retimed_sends s.timing.base 0 s written c h
 
 -- what has been sent more
-sent_more : (u : Tcb) (c : Client) (written sent : ℕ) (fin : Bool) (edge : ℕ) → IsWithin u c written sent fin → u.sending.sent ≤ sent → Sends u.sending written c
-    → Sends (at u sent fin).sending written (grown c sent edge)
-sent_more u c written sent fin edge w more h = record {
+sent_more : (u : Tcb) (c : Client) (written sent : ℕ) (fin : Bool) (time : Timing) (edge : ℕ) → IsWithin u c written sent fin → u.sending.sent ≤ sent → Sends u.sending written c
+    → Sends (at_end u sent fin time).sending written (grown c sent edge)
+sent_more u c written sent fin time edge w more h = record {
   sent = refl;
   acknowledged = h.acknowledged;
   held = h.held;
@@ -299,10 +302,10 @@ pub record Turned (l : LiveState) (c : Client) : Type 0 where
 pub follows_before : (l : LiveState) (c : Client) → IsConnected l c → FollowsAt (before_flush l).tcb
 follows_before l c h = subst FollowsAt (calls_are l) (used_follows (calls_of l) l.tcb (follows_of l c h))
 
-begun_told : (u : Tcb) (sent : ℕ) (fin : Bool) (c : Client) → has_begun u.name ≡ true
-    → Told (with_turn_ended (at u sent fin)) (grown c sent (receive_edge u.receiving))
+begun_told : (u : Tcb) (sent : ℕ) (fin : Bool) (time : Timing) (c : Client) → has_begun u.name ≡ true
+    → Told (with_turn_ended (at_end u sent fin time)) (grown c sent (receive_edge u.receiving))
 unfolding with_turn_ended with_advertised
-begun_told u sent fin c begun = record {
+begun_told u sent fin time c begun = record {
   bytes = taken u.receiving;
   fin = u.receiving.fin;
   next_is = ap (λ b. if b then next u.receiving else u.last_ack_sent) begun;
@@ -311,18 +314,18 @@ begun_told u sent fin c begun = record {
   fin_taken = λ k. k;
 }
 
-turn_ended_stands : (l : LiveState) (c : Client) (sent : ℕ) (fin : Bool) → IsConnected l c → has_begun (before_flush l).tcb.name ≡ true
+turn_ended_stands : (l : LiveState) (c : Client) (sent : ℕ) (fin : Bool) (time : Timing) → IsConnected l c → has_begun (before_flush l).tcb.name ≡ true
     → IsWithin (before_flush l).tcb c (before_flush l).written sent fin → (before_flush l).tcb.sending.sent ≤ sent
-    → FollowsAt (with_turn_ended (at (before_flush l).tcb sent fin))
-    → IsStanding (record (before_flush l) { tcb = with_turn_ended (at (before_flush l).tcb sent fin) }) (grown c sent (receive_edge (before_flush l).tcb.receiving))
+    → FollowsAt (with_turn_ended (at_end (before_flush l).tcb sent fin time))
+    → IsStanding (record (before_flush l) { tcb = with_turn_ended (at_end (before_flush l).tcb sent fin time) }) (grown c sent (receive_edge (before_flush l).tcb.receiving))
 unfolding with_turn_ended with_advertised
-turn_ended_stands l c sent fin h begun w more follows =
+turn_ended_stands l c sent fin time h begun w more follows =
     let u : Tcb = (before_flush l).tcb in
     let edge : ℕ = receive_edge u.receiving in
     let r = ready l c h in
-    let q : Sending = (at u sent fin).sending in
-    let runs : Bool = is_timed (at u sent fin) in
-    let t : Tcb = with_turn_ended (at u sent fin) in
+    let q : Sending = (at_end u sent fin time).sending in
+    let runs : Bool = is_timed (at_end u sent fin time) in
+    let t : Tcb = with_turn_ended (at_end u sent fin time) in
     record {
       stands = record {
         agrees = record {
@@ -337,7 +340,7 @@ turn_ended_stands l c sent fin h begun w more follows =
             remote = r.remote;
           };
           hears = same_hears u.receiving c sent edge r.hears;
-          sends = timed_sends runs q (before_flush l).written (grown c sent edge) (sent_more u c (before_flush l).written sent fin edge w more r.sends);
+          sends = timed_sends runs q (before_flush l).written (grown c sent edge) (sent_more u c (before_flush l).written sent fin time edge w more r.sends);
         };
         syn_acked = timed_same (λ (s : Sending). s.syn_acked) (λ a b s. refl) runs q ∙ r.syn_acked;
         phase = h.phase;
@@ -346,12 +349,12 @@ turn_ended_stands l c sent fin h begun w more follows =
         unreset = r.unreset;
         reset_reply = refl;
         edge = omega arith;
-        told = inr (begun_told u sent fin c begun);
+        told = inr (begun_told u sent fin time c begun);
         outcome = h.outcome;
       };
       begun = begun;
       edge = refl;
-      told = begun_told u sent fin c begun;
+      told = begun_told u sent fin time c begun;
     }
 
 pub turn_ends : (l : LiveState) (c : Client) → IsConnected l c → has_begun (before_flush l).tcb.name ≡ true → Turned l c
@@ -376,7 +379,7 @@ turn_ends l c h begun =
       later = grown c left.sent edge;
       moves = left.moves;
       standing = subst P (sym left.is)
-          (turn_ended_stands l c left.sent left.fin h begun left.within left.more
+          (turn_ended_stands l c left.sent left.fin left.timing h begun left.within left.more
           (subst (λ (v : Tcb). FollowsAt (with_turn_ended v)) left.is (flush_follows u (follows_before l c h))));
     }
 

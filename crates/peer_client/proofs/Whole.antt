@@ -11,7 +11,7 @@ use Rattle.tcp_endpoint.specs.ReceiveHalf.{Receiving, read_out}
 use Rattle.tcp_endpoint.specs.SendHalf.{IsShort}
 use Rattle.tcp_endpoint.specs.Tcb.{Tcb}
 use Rattle.tcp_endpoint.specs.UserCalls.{closing}
-use Rattle.tcp_endpoint.specs.Output.{reset_reply_segments, with_probe, with_text_sent, with_fin_out, after_full, with_advertised, with_turn_ended, flushed}
+use Rattle.tcp_endpoint.specs.Output.{reset_reply_segments, with_probe, with_text_sent, with_fin_out, with_timed, after_full, with_advertised, with_turn_ended, flushed}
 use Rattle.ft_model.specs.Client as machine
 use Rattle.ft_model.specs.Client.{Client, is_ended}
 use Rattle.endpoint_laws.proofs.AnswersAlone.{closed_sends}
@@ -83,7 +83,7 @@ read_heard r c n few h = record {
 }
 
 turned_heard : (l : LiveState) (c : Client) → HasHeard l.tcb.receiving c → HasHeard (turned l).tcb.receiving c
-unfolding flushed with_turn_ended with_advertised after_full with_fin_out with_text_sent with_probe
+unfolding flushed with_turn_ended with_advertised after_full with_timed with_fin_out with_text_sent with_probe
 turned_heard l c h =
     let m : LiveState = supplied (given_up l) in
     holds_if (λ (t : Tcb). HasHeard t.receiving c) (closes m) (closing m.tcb) m.tcb

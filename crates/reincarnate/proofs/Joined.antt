@@ -108,11 +108,11 @@ splice_stands service local boot e r i f re sound =
       key = ap (λ h. h.key) re.head;
       short = g.short;
       segments = subst IsSegmentSize (ap (λ h. h.mss) re.head) f.segments;
-      local = spliced_local r.head.key local r.head.cisn r.head.length r.head.mss i (has_end r.head);
+      local = spliced_local false r.head.key local r.head.cisn r.head.length r.head.mss i (has_end r.head);
       south = south_is service e r i re sound;
       parts = subst (λ t. PartsStand service (resumed_at service e) i (delta_from service e i) (resumed_at service e) (point_of service plain e) n t)
           (λ j. spliced ((sym re.head) j).key local ((sym re.head) j).cisn ((sym re.head) j).length ((sym re.head) j).mss i (sym (has_end_is service e r re sound) j))
-          (splices_parts service local e i n g (replayed service e r re sound));
+          (splices_parts service plain local e i n g (replayed service e r re sound));
     }
 
 -- a FIN is one of the logged units
@@ -144,6 +144,7 @@ hands_on service e i s is =
         four = omega arith;
         reset = refl;
         unanswered = refl;
+        delays = refl;
       };
       u = u;
       i = i;

@@ -99,7 +99,7 @@ fresh_at : (key : Key) (local : Addr) (cisn fetched mss i : ℕ) (fin : Bool) (e
 fresh_at key local cisn fetched mss i fin e is g replayed =
     let t : Tcb = spliced e.key local e.cisn (length e.bytes) e.mss i e.fin in
     let u : ℕ = resumed_at idle e in
-    let s : StandsAtEntry idle e i t = splices idle local e i g in
+    let s : StandsAtEntry idle plain e i t = splices idle plain local e i g in
     let at = s.tcp.stands.stands in
     let between = s.tcp.stands.between in
     let reads : max (length e.bytes) (sum e.lengths) ≡ length e.bytes = ap (λ x. max (length e.bytes) (sum x.lengths)) is ∙ max_zero (length e.bytes) in
@@ -108,7 +108,7 @@ fresh_at key local cisn fetched mss i fin e is g replayed =
     let una : t.sending.una ≡ 0 = omega (arith, at.sends.una) in
     let last = end_is t.sending (false_by t.sending.fin_sent t.sending.closed (λ f. (between.fin_last f).0) s.open_still) in
     let tell : PartsTell idle (delta_from idle e i) (point_of idle plain e) (idle_north e.bytes) t =
-    parts_tell idle u i (delta_from idle e i) u (point_of idle plain e) (idle_north e.bytes) t (splices_parts idle local e i (idle_north e.bytes) g replayed) in
+    parts_tell idle u i (delta_from idle e i) u (point_of idle plain e) (idle_north e.bytes) t (splices_parts idle plain local e i (idle_north e.bytes) g replayed) in
     record {
       sound = record {
         bounds = between.bounds;

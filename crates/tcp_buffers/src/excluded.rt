@@ -1,10 +1,10 @@
 //! Wrong results that the contracts of this crate exclude. Each function calls another one of the crate, and promises of its result what a wrong body would
 //! make false. It is proved from the other's contract alone, so it is no longer proved once that contract lets the wrong body pass.
 
-ghost use Rattle.std.specs.Prelude.{◌≡◌, false};
+ghost use Rattle.std.specs.Prelude.{◌≡◌, [], false};
 ghost use Rattle.tcp_buffers.specs.SendNumbers.{edge_of};
 
-use crate::{SendState, Timing};
+use crate::{RecvQueue, SendState, Timing};
 use seq_arith::Seq;
 
 /// Nothing in flight counts as lost while the window is closed, with the right edge at SND.UNA: the contract of `SendState::is_lost`.
@@ -34,6 +34,14 @@ fn edge_slides_with_una(state: &SendState) -> SendState
     };
     state.on_ack(Seq(0), Seq(10), 100);
     state
+}
+
+/// Only text in order is read, whatever is held after a gap: the clause `count` of `RecvQueue::read`.
+fn reads_what_came_early(queue: &mut RecvQueue, buf: &mut [u8]) -> usize
+    requires { queue.old.unread ≡ [] }
+    ensures { result ≡ 0 }
+{
+    queue.read(buf)
 }
 
 /// The second duplicate in a row isn't yet the third, at which fast recovery begins: the clause `third` of `SendState::on_duplicate`.
@@ -91,4 +99,29 @@ fn measures_where_it_must_not() -> u8
     let mut timing = Timing::new(false);
     timing.on_expiry(2);
     timing.base()
+}
+
+/// An interval that has doubled stays until a round trip is measured, whatever is acknowledged: the contract of `Timing::on_ack`.
+#[tactic(auto, unfolding(seq_arith::specs::Timing::with_backoff, seq_arith::specs::Timing::with_acknowledged, seq_arith::specs::Timing::with_sample))]
+fn any_acknowledgement_ends_a_backoff() -> u8
+    ensures { result ≡ 20 }
+{
+    let mut timing = Timing::new(true);
+    timing.on_expiry(20);
+    timing.on_ack(1);
+    timing.base()
+}
+
+/// While what was in flight at an earlier loss is recovered, no duplicate counts as the third: the clause `third` of `SendState::on_duplicate`.
+#[tactic(auto, unfolding(seq_arith::specs::Congestion::is_third))]
+fn third_duplicate_counts_in_a_recovery(state: &SendState) -> bool
+    ensures { result ≡ false }
+{
+    let mut state = SendState {
+        dups: 2,
+        recovers: true,
+        lost: 5,
+        ..*state
+    };
+    state.on_duplicate()
 }

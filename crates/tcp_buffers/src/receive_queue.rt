@@ -122,7 +122,8 @@ impl RecvQueue {
 
     /// Returns where the last held byte ends, counted from the end of the bytes in order; 0 where no byte is held.
     pub fn held_to(&self) -> usize
-        ensures { (k : ℕ) → holds_some (drop k self.now.early) ≡ nat_lt k result }
+        ensures held { (k : ℕ) → holds_some (drop k self.now.early) ≡ nat_lt k result }
+        ensures places { result ≡ length self.now.early }
     {
         self.bytes.len() - self.in_order
     }

@@ -5,7 +5,8 @@ use Rattle.std.proofs.lemmas.Int.{ints}
 use Rattle.std.proofs.lemmas.List.{drop_min}
 use Rattle.seq_arith.specs.Number.{distance, number_at, offset_of, precedes, precedes_or_is}
 use Rattle.seq_arith.specs.Arrival.{int_eq, is_new_ack}
-use Rattle.seq_arith.specs.Congestion.{with_new_data}
+use Rattle.seq_arith.specs.Congestion.{with_new_data, is_partial, is_third}
+use Rattle.seq_arith.specs.Timing.{Timing, with_acknowledged}
 use Rattle.seq_arith.proofs.Gaps.{offset_leads}
 use Rattle.tcp_buffers.specs.declared.send_state.AckKind.{AckKind}
 use Rattle.tcp_buffers.specs.declared.send_state.AckKind.TheVariants.{New, Old, Beyond}
@@ -13,7 +14,8 @@ use Rattle.tcp_buffers.specs.declared.send_state.SendState.{SendState}
 use Rattle.tcp_buffers.specs.SendNumbers.{acks_new, acks_beyond, kind_of, una_by, interval_by, left_by, is_window_used, edge_of, congestion_of, congestion_by, segment_of, IsUsed}
 use Rattle.tcp_buffers.specs.Near.{is_ahead}
 use Rattle.tcp_buffers.proofs.NumbersTell.{ahead_is, WasSent, sent_by, from_is, up_to_is, new_is}
-use Rattle.tcp_endpoint.specs.SendHalf.{Sending, own, sending_of, moves_edge, acknowledged, units_of, was_sent, repeats, is_duplicate, duplicated, answered_by, NumbersFit, IsShort}
+use Rattle.tcp_endpoint.specs.SendHalf.{Sending, own, sending_of, moves_edge, acknowledged, units_of, was_sent, repeats, acks_part, is_duplicate, is_third_duplicate, is_partial_ack, shows_loss, duplicated, untimed_if, answered_by, NumbersFit, IsShort}
+use Rattle.tcp_endpoint.specs.SendHalf.{timing_by, interval_computed, rest_computed, restarted}
 use Rattle.ft_io.proofs.Booleans.{left_true, and_when, second_of_three, first_of_three, second_of_four}
 
 pub first_is : (iss ack : ℕ) → ack < 2 ^ 32 → nat_eq ack ((iss + 1) % 2 ^ 32) ≡ int_eq (offset_of iss ack) (pos 0)
@@ -83,11 +85,11 @@ unfolding is_duplicate
 duplicate_by s true z window repeated is = is
 duplicate_by s false z window repeated is = refl
 
-pub duplicate_is : (iss : ℕ) (n : SendState) (seq ack window : ℕ) (syn_acked : Bool) (held : List ℕ) (closed fin_sent bare : Bool)
-    → NumbersFit n seq ack → window < 2 ^ 16 → IsShort (sending_of iss syn_acked n held closed fin_sent)
-    → (bare && repeats n ack window) ≡ is_duplicate (sending_of iss syn_acked n held closed fin_sent) bare (offset_of iss ack) window
-duplicate_is iss n seq ack window syn_acked held closed fin_sent bare fits small short =
-    duplicate_by (sending_of iss syn_acked n held closed fin_sent) bare (offset_of iss ack) window (repeats n ack window)
+pub duplicate_is : (iss : ℕ) (n : SendState) (seq ack window : ℕ) (syn_acked : Bool) (timing : Timing) (held : List ℕ) (closed fin_sent bare : Bool)
+    → NumbersFit n seq ack → window < 2 ^ 16 → IsShort (sending_of iss syn_acked n timing held closed fin_sent)
+    → (bare && repeats n ack window) ≡ is_duplicate (sending_of iss syn_acked n timing held closed fin_sent) bare (offset_of iss ack) window
+duplicate_is iss n seq ack window syn_acked timing held closed fin_sent bare fits small short =
+    duplicate_by (sending_of iss syn_acked n timing held closed fin_sent) bare (offset_of iss ack) window (repeats n ack window)
     (repeated_is iss n seq ack window fits small (omega (arith, short.sent)))
 
 -- a conjunction whose later parts are only looked at where the first holds
@@ -95,10 +97,10 @@ guarded : (a b b' c c' d e : Bool) → (a ≡ true → b ≡ b') → (a ≡ true
 guarded true b b' c c' d e same_b same_c = λ i. true && same_b refl i && (d || (e && same_c refl i))
 guarded false b b' c c' d e same_b same_c = refl
 
-window_test : (iss : ℕ) (n : SendState) (seq ack : ℕ) (syn_acked : Bool) (held : List ℕ) (closed fin_sent : Bool) → NumbersFit n seq ack
-    → IsShort (sending_of iss syn_acked n held closed fin_sent) → WasSent (own iss n.una.0 + distance n.nxt.0 n.una.0) (offset_of iss ack)
-    → is_window_used n seq ack ≡ moves_edge (sending_of iss syn_acked n held closed fin_sent) seq (offset_of iss ack)
-window_test iss n seq ack syn_acked held closed fin_sent fits short was =
+window_test : (iss : ℕ) (n : SendState) (seq ack : ℕ) (syn_acked : Bool) (timing : Timing) (held : List ℕ) (closed fin_sent : Bool) → NumbersFit n seq ack
+    → IsShort (sending_of iss syn_acked n timing held closed fin_sent) → WasSent (own iss n.una.0 + distance n.nxt.0 n.una.0) (offset_of iss ack)
+    → is_window_used n seq ack ≡ moves_edge (sending_of iss syn_acked n timing held closed fin_sent) seq (offset_of iss ack)
+window_test iss n seq ack syn_acked timing held closed fin_sent fits short was =
     let u : ℕ = own iss n.una.0 in
     let s : ℕ = u + distance n.nxt.0 n.una.0 in
     let w : ℕ = own iss n.wl2.0 in
@@ -132,19 +134,28 @@ held_field : (held : List ℕ) (b : Bool) (d k : ℕ) → (b ≡ true → d ≡ 
 held_field held true d k on = drop_min d held ∙ ap (λ n. drop n held) (on refl)
 held_field held false d k on = drop_min 0 held
 
-interval_field : (b : Bool) (d interval : ℕ) → interval_by (kind_by b d) interval ≡ (if b then 1 else interval)
-interval_field true d interval = refl
-interval_field false d interval = refl
+timing_field : (b : Bool) (d k : ℕ) (t : Timing) → (b ≡ true → d ≡ k) → timing_by (kind_by b d) t ≡ (if b then with_acknowledged k t else t)
+timing_field true d k t on = ap (λ n. with_acknowledged n t) (on refl)
+timing_field false d k t on = refl
+
+interval_field : (b : Bool) (d k interval interval' : ℕ) (t : Timing) → (b ≡ true → d ≡ k) → interval' ≡ interval_by (kind_by b d) interval
+    → interval_computed (kind_by b d) t interval' ≡ (if b then (if b then with_acknowledged k t else t).base else interval)
+interval_field true d k interval interval' t on is = ap (λ n. (with_acknowledged n t).base) (on refl)
+interval_field false d k interval interval' t on is = is
 
 congestion_field : (n : SendState) (b : Bool) (d k : ℕ) → segment_of n ≡ n.mss → (b ≡ true → d ≡ k)
     → congestion_by (kind_by b d) n ≡ (if b then with_new_data n.mss k (congestion_of n) else congestion_of n)
 congestion_field n true d k segment on = λ i. with_new_data (segment i) (on refl i) (congestion_of n)
 congestion_field n false d k segment on = refl
 
-left_field : (b c : Bool) (d nxt ack left : ℕ) → (b ≡ true → nat_eq ack nxt ≡ c)
-    → left_by (kind_by b d) nxt ack left ≡ (if b then (if c then 0 else 1) else left)
-left_field true c d nxt ack left on = ap (λ v. if v then 0 else 1) (on refl)
-left_field false c d nxt ack left on = refl
+left_field : (b c : Bool) (d k nxt ack left left' : ℕ) (t : Timing) → (b ≡ true → d ≡ k) → (b ≡ true → nat_eq ack nxt ≡ c)
+    → left' ≡ left_by (kind_by b d) nxt ack left
+    → rest_computed (kind_by b d) t left' ≡ (if b then (if c then 0 else (if b then with_acknowledged k t else t).base) else left)
+left_field true true d k nxt ack left left' t on all is =
+    ap (λ m. if m == 0 then 0 else (with_acknowledged d t).base) (is ∙ ap (λ v. if v then 0 else 1) (all refl))
+left_field true false d k nxt ack left left' t on all is =
+    ap (λ m. if m == 0 then 0 else (with_acknowledged d t).base) (is ∙ ap (λ v. if v then 0 else 1) (all refl)) ∙ ap (λ n. (with_acknowledged n t).base) (on refl)
+left_field false c d k nxt ack left left' t on all is = is
 
 edge_field : (iss edge ack window : ℕ) (m m' : Bool) (a : ℕ) → m ≡ m' → (m' ≡ true → own iss ((ack + window) % 2 ^ 32) ≡ a)
     → own iss (if m then (ack + window) % 2 ^ 32 else edge) ≡ (if m' then a else own iss edge)
@@ -192,8 +203,8 @@ kind_is una nxt ack b is_sent is = rw (is_sent, is) refl
 -- a sender whose fields are these
 same_sender : (s s' : Sending) → s.iss ≡ s'.iss → s.syn_acked ≡ s'.syn_acked → s.una ≡ s'.una → s.sent ≡ s'.sent → s.edge ≡ s'.edge
     → s.wl1 ≡ s'.wl1 → s.wl2 ≡ s'.wl2 → s.held ≡ s'.held → s.closed ≡ s'.closed → s.fin_sent ≡ s'.fin_sent → s.mss ≡ s'.mss
-    → s.congestion ≡ s'.congestion → s.interval ≡ s'.interval → s.rest ≡ s'.rest → s ≡ s'
-same_sender s s' iss syn_acked una sent edge wl1 wl2 held closed fin_sent mss congestion interval rest = λ i. record {
+    → s.congestion ≡ s'.congestion → s.timing ≡ s'.timing → s.interval ≡ s'.interval → s.rest ≡ s'.rest → s ≡ s'
+same_sender s s' iss syn_acked una sent edge wl1 wl2 held closed fin_sent mss congestion timing interval rest = λ i. record {
   iss = iss i;
   syn_acked = syn_acked i;
   una = una i;
@@ -206,28 +217,30 @@ same_sender s s' iss syn_acked una sent edge wl1 wl2 held closed fin_sent mss co
   fin_sent = fin_sent i;
   mss = mss i;
   congestion = congestion i;
+  timing = timing i;
   interval = interval i;
   rest = rest i;
 }
 
--- what an acknowledgement that isn't beyond SND.NXT makes of the numbers is what it makes of the offsets
-pub acknowledged_is : (iss : ℕ) (n n' : SendState) (seq ack window : ℕ) (syn_acked : Bool) (held : List ℕ) (closed fin_sent : Bool)
-    → NumbersFit n seq ack → window < 2 ^ 16 → IsShort (sending_of iss syn_acked n held closed fin_sent)
+-- what an acknowledgement that isn't beyond SND.NXT makes of the numbers, once the timer's interval is computed, is what it makes of the offsets
+pub acknowledged_is : (iss : ℕ) (n n' : SendState) (seq ack window : ℕ) (syn_acked : Bool) (timing : Timing) (held : List ℕ) (closed fin_sent : Bool)
+    → NumbersFit n seq ack → window < 2 ^ 16 → IsShort (sending_of iss syn_acked n timing held closed fin_sent)
     → segment_of n ≡ n.mss → IsUsed n n' seq ack window → acks_beyond n.nxt.0 ack ≡ false
-    → sending_of iss syn_acked n' (drop (min (units_of (kind_of n.una.0 n.nxt.0 ack)) (length held)) held) closed fin_sent
-    ≡ acknowledged (sending_of iss syn_acked n held closed fin_sent) seq (offset_of iss ack) window
+    → sending_of iss syn_acked (restarted (kind_of n.una.0 n.nxt.0 ack) timing n') (timing_by (kind_of n.una.0 n.nxt.0 ack) timing)
+    (drop (min (units_of (kind_of n.una.0 n.nxt.0 ack)) (length held)) held) closed fin_sent
+    ≡ acknowledged (sending_of iss syn_acked n timing held closed fin_sent) seq (offset_of iss ack) window
 unfolding acknowledged
-acknowledged_is iss n n' seq ack window syn_acked held closed fin_sent fits small short large used is_sent =
+acknowledged_is iss n n' seq ack window syn_acked timing held closed fin_sent fits small short large used is_sent =
     let u : ℕ = own iss n.una.0 in
     let s : ℕ = u + distance n.nxt.0 n.una.0 in
     let z : ℤ = offset_of iss ack in
     let b : Bool = is_new_ack u s z in
     let was : is_ahead s z ≡ false = sym (ahead_test iss n.una.0 n.nxt.0 ack fits.una fits.nxt fits.ack short.sent) ∙ is_sent in
-    let before : Sending = sending_of iss syn_acked n held closed fin_sent in
+    let before : Sending = sending_of iss syn_acked n timing held closed fin_sent in
     let d : ℕ = distance ack n.una.0 in
     let is_new : acks_new n.una.0 n.nxt.0 ack ≡ b = new_test iss n.una.0 n.nxt.0 ack fits.una fits.nxt fits.ack short.sent was in
     let kind : kind_of n.una.0 n.nxt.0 ack ≡ kind_by b d = kind_is n.una.0 n.nxt.0 ack b is_sent is_new in
-    let moves : is_window_used n seq ack ≡ moves_edge before seq z = window_test iss n seq ack syn_acked held closed fin_sent fits short (sent_by s z was) in
+    let moves : is_window_used n seq ack ≡ moves_edge before seq z = window_test iss n seq ack syn_acked timing held closed fin_sent fits short (sent_by s z was) in
     let a : ℕ = nat_abs z in
     let on : b ≡ true → own iss ack ≡ a = λ h. own_is iss ack fits.ack (new_bounds u s z h).0 in
     let up : b ≡ true → u ≤ own iss ack = λ h. omega (arith, on h, (new_bounds u s z h).1) in
@@ -236,6 +249,7 @@ acknowledged_is iss n n' seq ack window syn_acked held closed fin_sent fits smal
     λ h. own_is iss ack fits.ack (above_zero u z (first_of_three (int_le (pos u) z) (int_le z (pos s)) _ h)) in
     let una_is : n'.una.0 ≡ una_by (kind_by b d) n.una.0 ack = used.una ∙ ap (λ k. una_by k n.una.0 ack) kind in
     let nxt_is : n'.nxt.0 ≡ n.nxt.0 = ap (λ q. q.0) used.nxt in
+    let units : b ≡ true → d ≡ a - u = λ h. new_distance iss n.una.0 ack fits.una fits.ack (up h) ∙ ap (λ v. v - u) (on h) in
     same_sender _ _ refl refl
     (una_field iss n.una.0 ack n'.una.0 b d a una_is on)
     (ap (λ q. own iss n'.una.0 + distance q n'.una.0) nxt_is
@@ -246,14 +260,33 @@ acknowledged_is iss n n' seq ack window syn_acked held closed fin_sent fits smal
     (used.wl1 ∙ choice_field n.wl1.0 seq seq _ _ moves (λ h. refl))
     (ap (own iss) used.wl2 ∙ wl2_field iss n.wl2.0 ack a _ _ moves moved)
     (ap (λ k. drop (min (units_of k) (length held)) held) kind
-    ∙ held_field held b d (a - u) (λ h. new_distance iss n.una.0 ack fits.una fits.ack (up h) ∙ ap (λ v. v - u) (on h)))
+    ∙ held_field held b d (a - u) units)
     refl refl used.mss
-    (used.congestion ∙ ap (λ k. congestion_by k n) kind
-    ∙ congestion_field n b d (a - u) large (λ h. new_distance iss n.una.0 ack fits.una fits.ack (up h) ∙ ap (λ v. v - u) (on h)))
-    (used.interval ∙ ap (λ k. interval_by k n.interval) kind ∙ interval_field b d n.interval)
-    (used.left ∙ ap (λ k. left_by k n.nxt.0 ack n.left) kind
-    ∙ left_field b (int_le (pos s) z) d n.nxt.0 ack n.left
-    (λ h. all_acked iss n.una.0 n.nxt.0 ack fits.una fits.nxt fits.ack short.sent (new_bounds u s z h).2 (new_bounds u s z h).0))
+    (used.congestion ∙ ap (λ k. congestion_by k n) kind ∙ congestion_field n b d (a - u) large units)
+    (ap (λ k. timing_by k timing) kind ∙ timing_field b d (a - u) timing units)
+    (ap (λ k. interval_computed k timing n'.interval) kind
+    ∙ interval_field b d (a - u) n.interval n'.interval timing units (used.interval ∙ ap (λ k. interval_by k n.interval) kind))
+    (ap (λ k. rest_computed k timing n'.left) kind
+    ∙ left_field b (int_le (pos s) z) d (a - u) n.nxt.0 ack n.left n'.left timing units
+    (λ h. all_acked iss n.una.0 n.nxt.0 ack fits.una fits.nxt fits.ack short.sent (new_bounds u s z h).2 (new_bounds u s z h).0)
+    (used.left ∙ ap (λ k. left_by k n.nxt.0 ack n.left) kind))
+
+-- a partial acknowledgement, on numbers and on offsets
+pub part_is : (iss : ℕ) (n : SendState) (seq ack : ℕ) (syn_acked : Bool) (timing : Timing) (held : List ℕ) (closed fin_sent : Bool)
+    → NumbersFit n seq ack → IsShort (sending_of iss syn_acked n timing held closed fin_sent)
+    → is_ahead (sending_of iss syn_acked n timing held closed fin_sent).sent (offset_of iss ack) ≡ false
+    → acks_part n ack ≡ is_partial_ack (sending_of iss syn_acked n timing held closed fin_sent) (offset_of iss ack)
+part_is iss n seq ack syn_acked timing held closed fin_sent fits short was =
+    let u : ℕ = own iss n.una.0 in
+    let s : ℕ = u + distance n.nxt.0 n.una.0 in
+    let z : ℤ = offset_of iss ack in
+    let b : Bool = is_new_ack u s z in
+    let is_new : acks_new n.una.0 n.nxt.0 ack ≡ b = new_test iss n.una.0 n.nxt.0 ack fits.una fits.nxt fits.ack short.sent was in
+    let on : b ≡ true → own iss ack ≡ nat_abs z = λ h. own_is iss ack fits.ack (new_bounds u s z h).0 in
+    let up : b ≡ true → u ≤ own iss ack = λ h. omega (arith, on h, (new_bounds u s z h).1) in
+    ap (λ v. v && is_partial (distance ack n.una.0) (congestion_of n)) is_new
+    ∙ and_when b _ _ (λ h. ap (λ d. is_partial d (congestion_of n))
+    (new_distance iss n.una.0 ack fits.una fits.ack (up h) ∙ ap (λ v. v - u) (on h)))
 
 kind_sent : (beyond new : Bool) (d : ℕ) → was_sent (if beyond then Beyond else (if new then New d else Old)) ≡ not beyond
 kind_sent true new d = refl
@@ -265,31 +298,33 @@ choose b true x y z is on off = on is
 choose b false x y z is on off = off is
 
 -- what Sender::on_ack answers, ..
-pub sent_is : (iss : ℕ) (n : SendState) (seq ack : ℕ) (syn_acked : Bool) (held : List ℕ) (closed fin_sent : Bool) (kind : AckKind)
-    → NumbersFit n seq ack → IsShort (sending_of iss syn_acked n held closed fin_sent)
+pub sent_is : (iss : ℕ) (n : SendState) (seq ack : ℕ) (syn_acked : Bool) (timing : Timing) (held : List ℕ) (closed fin_sent : Bool) (kind : AckKind)
+    → NumbersFit n seq ack → IsShort (sending_of iss syn_acked n timing held closed fin_sent)
     → kind ≡ kind_of n.una.0 n.nxt.0 ack
-    → was_sent kind ≡ not (is_ahead (sending_of iss syn_acked n held closed fin_sent).sent (offset_of iss ack))
-sent_is iss n seq ack syn_acked held closed fin_sent kind fits short is =
+    → was_sent kind ≡ not (is_ahead (sending_of iss syn_acked n timing held closed fin_sent).sent (offset_of iss ack))
+sent_is iss n seq ack syn_acked timing held closed fin_sent kind fits short is =
     ap was_sent is ∙ kind_sent (acks_beyond n.nxt.0 ack) (acks_new n.una.0 n.nxt.0 ack) (distance ack n.una.0)
     ∙ ap not (ahead_test iss n.una.0 n.nxt.0 ack fits.una fits.nxt fits.ack short.sent)
 
 -- .. and what it makes of the sender
-pub used_is : (iss : ℕ) (n n' : SendState) (seq ack window : ℕ) (syn_acked : Bool) (held held' : List ℕ) (closed fin_sent : Bool) (kind : AckKind)
-    → NumbersFit n seq ack → window < 2 ^ 16 → IsShort (sending_of iss syn_acked n held closed fin_sent) → segment_of n ≡ n.mss
+pub used_is : (iss : ℕ) (n n' m : SendState) (seq ack window : ℕ) (syn_acked : Bool) (timing t : Timing) (held held' : List ℕ) (closed fin_sent : Bool) (kind : AckKind)
+    → NumbersFit n seq ack → window < 2 ^ 16 → IsShort (sending_of iss syn_acked n timing held closed fin_sent) → segment_of n ≡ n.mss
     → kind ≡ kind_of n.una.0 n.nxt.0 ack → IsUsed n n' seq ack window → (kind ≡ Beyond → n' ≡ n)
-    → held' ≡ drop (min (units_of kind) (length held)) held
-    → sending_of iss syn_acked n' held' closed fin_sent
-    ≡ (if is_ahead (sending_of iss syn_acked n held closed fin_sent).sent (offset_of iss ack)
-    then sending_of iss syn_acked n held closed fin_sent
-    else acknowledged (sending_of iss syn_acked n held closed fin_sent) seq (offset_of iss ack) window)
-used_is iss n n' seq ack window syn_acked held held' closed fin_sent kind fits small short large is used unused held_is =
-    let as_held : List ℕ → Sending = λ q. sending_of iss syn_acked n' q closed fin_sent in
+    → held' ≡ drop (min (units_of kind) (length held)) held → m ≡ restarted kind timing n' → t ≡ timing_by kind timing
+    → sending_of iss syn_acked m t held' closed fin_sent
+    ≡ (if is_ahead (sending_of iss syn_acked n timing held closed fin_sent).sent (offset_of iss ack)
+    then sending_of iss syn_acked n timing held closed fin_sent
+    else acknowledged (sending_of iss syn_acked n timing held closed fin_sent) seq (offset_of iss ack) window)
+used_is iss n n' m seq ack window syn_acked timing t held held' closed fin_sent kind fits small short large is used unused held_is m_is t_is =
+    let after : AckKind → Sending = λ k.
+    sending_of iss syn_acked (restarted k timing n') (timing_by k timing) (drop (min (units_of k) (length held)) held) closed fin_sent in
+    let all : sending_of iss syn_acked m t held' closed fin_sent ≡ after kind = λ i. sending_of iss syn_acked (m_is i) (t_is i) (held_is i) closed fin_sent in
     choose (acks_beyond n.nxt.0 ack) _ _ _ _ (ahead_test iss n.una.0 n.nxt.0 ack fits.una fits.nxt fits.ack short.sent)
     (λ h. let beyond : kind ≡ Beyond = is ∙ rw h refl in
-    ap as_held (held_is ∙ ap (λ k. drop (min (units_of k) (length held)) held) beyond ∙ drop_min 0 held)
-    ∙ ap (λ m. sending_of iss syn_acked m held closed fin_sent) (unused beyond))
-    (λ h. ap as_held (held_is ∙ ap (λ k. drop (min (units_of k) (length held)) held) is)
-    ∙ acknowledged_is iss n n' seq ack window syn_acked held closed fin_sent fits small short large used h)
+    all ∙ ap after beyond ∙ ap (λ q. sending_of iss syn_acked n' timing q closed fin_sent) (drop_min 0 held)
+    ∙ ap (λ q. sending_of iss syn_acked q timing held closed fin_sent) (unused beyond))
+    (λ h. all ∙ ap after is
+    ∙ acknowledged_is iss n n' seq ack window syn_acked timing held closed fin_sent fits small short large used h)
 
 -- a duplicate acknowledges nothing new
 not_new : (u s : ℕ) (z : ℤ) → int_eq z (pos u) ≡ true → is_new_ack u s z ≡ false
@@ -301,13 +336,23 @@ pub duplicate_keeps : (s : Sending) (bare : Bool) (seq : ℕ) (z : ℤ) (window 
 unfolding is_duplicate acknowledged
 duplicate_keeps s bare seq z window h = rw (not_new s.una s.sent z (second_of_four bare _ _ _ h)) refl
 
--- what an acknowledgement makes of the sender, where it is no duplicate, and where it is one
-pub answered_once : (s : Sending) (bare : Bool) (seq : ℕ) (z : ℤ) (window : ℕ) → is_duplicate s bare z window ≡ false
-    → acknowledged s seq z window ≡ answered_by s bare seq z window
-unfolding answered_by
-answered_once s bare seq z window h = rw h refl
+-- so what was the third duplicate before the acknowledgement is used is it afterwards
+pub third_is : (s : Sending) (bare : Bool) (seq : ℕ) (z : ℤ) (window : ℕ) (duplicate : Bool) (after : Sending) → duplicate ≡ is_duplicate s bare z window
+    → after ≡ acknowledged s seq z window → (duplicate && is_third after.congestion) ≡ is_third_duplicate s bare z window
+third_is s bare seq z window duplicate after is after_is =
+    (λ i. is i && is_third (after_is i).congestion)
+    ∙ and_when (is_duplicate s bare z window) _ _ (λ h. ap is_third (duplicate_keeps s bare seq z window h))
 
-pub answered_again : (s : Sending) (bare : Bool) (seq : ℕ) (z : ℤ) (window : ℕ) → is_duplicate s bare z window ≡ true
-    → duplicated (acknowledged s seq z window) ≡ answered_by s bare seq z window
+-- what shows a loss is the third duplicate, or a partial acknowledgement
+pub loss_is : (s : Sending) (bare : Bool) (z : ℤ) (window : ℕ) (third partial : Bool) → third ≡ is_third_duplicate s bare z window
+    → partial ≡ is_partial_ack s z → (third || partial) ≡ shows_loss s bare z window
+unfolding shows_loss
+loss_is s bare z window third partial is_third is_part = λ i. is_third i || is_part i
+
+-- what an acknowledgement makes of the sender
+pub answered_is : (s : Sending) (bare : Bool) (seq : ℕ) (z : ℤ) (window : ℕ) (duplicate loss : Bool) → duplicate ≡ is_duplicate s bare z window
+    → loss ≡ shows_loss s bare z window
+    → untimed_if loss (if duplicate then duplicated (acknowledged s seq z window) else acknowledged s seq z window) ≡ answered_by s bare seq z window
 unfolding answered_by
-answered_again s bare seq z window h = rw h refl
+answered_is s bare seq z window duplicate loss is_dup is_loss =
+    λ i. untimed_if (is_loss i) (if is_dup i then duplicated (acknowledged s seq z window) else acknowledged s seq z window)

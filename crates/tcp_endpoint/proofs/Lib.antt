@@ -5,3 +5,4 @@ pub mod Steps
 pub mod Reassembly
 pub mod Acks
 pub mod Spelled
+pub mod Delayed

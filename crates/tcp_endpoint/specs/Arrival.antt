@@ -12,7 +12,7 @@ use Rattle.tcp_endpoint.specs.declared.states.StateName.{StateName}
 use Rattle.tcp_endpoint.specs.declared.states.StateName.TheVariants.{Closed, Listen, SynSent, SynReceived, Established}
 use Rattle.tcp_endpoint.specs.States.{after_syn_acked, after_fin_acked, after_fin, is_time_wait}
 use Rattle.tcp_endpoint.specs.ReceiveHalf.{taken, next, window, with_segment}
-use Rattle.tcp_endpoint.specs.SendHalf.{with_segment_size, with_syn_acked, is_third_duplicate, answered_by, fin_acked}
+use Rattle.tcp_endpoint.specs.SendHalf.{with_segment_size, with_syn_acked, shows_loss, answered_by, fin_acked}
 use Rattle.tcp_endpoint.specs.Tcb.{Tcb}
 
 -- SEG.SEQ and SEG.ACK as offsets
@@ -114,11 +114,12 @@ with_first_ack e p =
 abbrev pub is_bare : Segment → Bool
 is_bare p = length p.payload == 0 && not (has_fin p)
 
--- uses the acknowledgement. At the third duplicate in a row the first unacknowledged segment becomes due for retransmission (RFC 5681, 3.2)
+-- uses the acknowledgement. At the third duplicate in a row, and at a partial acknowledgement, the first unacknowledged segment becomes due for retransmission
+-- (RFC 5681, 3.2; RFC 6582, 3.2)
 unfoldable pub with_ack_used : Tcb → Segment → Tcb
 with_ack_used e p = record e {
   sending = answered_by e.sending (is_bare p) p.head.seq (ack_at e p) p.head.window;
-  retransmission_due = e.retransmission_due || is_third_duplicate e.sending (is_bare p) (ack_at e p) p.head.window;
+  retransmission_due = e.retransmission_due || shows_loss e.sending (is_bare p) (ack_at e p) p.head.window;
 }
 
 -- fifth check, in the other states: an acknowledgement ahead of SND.NXT requires an ACK, and nothing of its segment is used

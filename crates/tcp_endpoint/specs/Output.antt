@@ -7,7 +7,7 @@ use Rattle.segment_codec.specs.Value.{said}
 use Rattle.segment_codec.specs.declared.Head as codec
 use Rattle.tcp_endpoint.specs.States.{is_closed, is_syn_sent, has_begun}
 use Rattle.tcp_endpoint.specs.ReceiveHalf.{next, window, advertised_edge}
-use Rattle.tcp_endpoint.specs.SendHalf.{in_flight, is_unacknowledged, must_run, timed, sendable, sends_fin, resent_length, with_sent, with_fin_sent}
+use Rattle.tcp_endpoint.specs.SendHalf.{in_flight, is_unacknowledged, must_run, timed, sendable, sends_fin, resent_length, with_sent, with_fin_sent, with_unit_timed}
 use Rattle.tcp_endpoint.specs.Tcb.{Tcb}
 
 -- the header of every segment except a RST sent in reply: it acknowledges all that is taken, and advertises the window
@@ -111,8 +111,12 @@ with_fin_out e = record e { sending = if new_fin e then with_fin_sent e.sending 
 unfoldable pub full_out : Tcb → List Segment
 full_out e = reset_reply_out e ++ retransmission_out e ++ probe_out e ++ text_out (with_probe e) ++ fin_out (with_text_sent (with_probe e))
 
+-- the unit at this place is timed, if it was sent. In a turn it is the first that is sent for the first time, other than in a probe
+unfoldable pub with_timed : (place : ℕ) → Tcb → Tcb
+with_timed place e = record e { sending = with_unit_timed place e.sending }
+
 unfoldable pub after_full : Tcb → Tcb
-after_full e = with_fin_out (with_text_sent (with_probe e))
+after_full e = with_timed (in_flight (with_probe e).sending) (with_fin_out (with_text_sent (with_probe e)))
 
 -- an ACK is due: a check requires it, or RCV.NXT or the right edge has changed since it was last sent
 unfoldable pub is_ack_pending : Tcb → Bool
@@ -130,6 +134,14 @@ or_bare ack_pending bare (first ∷ others) = first ∷ others
 -- the segments that are sent, in order: a pure ACK only where no other is sent
 unfoldable pub leaving : Tcb → List Segment
 leaving e = or_bare (is_ack_pending (after_full e)) (bare_segment (after_full e)) (full_out e)
+
+-- the ACK that is due in a connection that has begun counts as sent, so that it isn't sent alone: it is delayed (RFC 9293, 3.8.6.3)
+unfoldable pub with_ack_delayed : Tcb → Tcb
+with_ack_delayed e = record e {
+  last_ack_sent = if has_begun e.name then next e.receiving else e.last_ack_sent;
+  last_advertised_edge = if has_begun e.name then advertised_edge e.receiving else e.last_advertised_edge;
+  ack_pending = false;
+}
 
 -- notes what every segment of a connection that has begun advertises, and that nothing is due any more
 unfoldable pub with_advertised : Tcb → Tcb

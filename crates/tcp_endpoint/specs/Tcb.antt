@@ -5,7 +5,7 @@ use Rattle.segment_codec.specs.declared.Head.{Head}
 use Rattle.tcp_endpoint.specs.declared.states.StateName.{StateName}
 use Rattle.tcp_endpoint.specs.declared.states.StateName.TheVariants.{Listen, SynSent}
 use Rattle.tcp_endpoint.specs.ReceiveHalf.{Receiving, receiving_up_to}
-use Rattle.tcp_endpoint.specs.SendHalf.{Sending, sending_from}
+use Rattle.tcp_endpoint.specs.SendHalf.{Sending, sending_from, sending_measuring}
 
 pub record Tcb : Type 0 where
   pub local : Addr  -- our address
@@ -47,3 +47,11 @@ listening local iss limit = record {
 -- an active open: the SYN is due
 unfoldable pub connecting : Addr → Addr → ℕ → ℕ → Tcb
 connecting local remote iss limit = record (listening local iss limit) { remote = remote; name = SynSent; retransmission_due = true }
+
+-- the same of an endpoint that may measure round trips
+unfoldable pub listening_measuring : (measures : Bool) → Addr → ℕ → ℕ → Tcb
+listening_measuring measures local iss limit = record (listening local iss limit) { sending = sending_measuring measures iss }
+
+unfoldable pub connecting_measuring : (measures : Bool) → Addr → Addr → ℕ → ℕ → Tcb
+connecting_measuring measures local remote iss limit =
+    record (listening_measuring measures local iss limit) { remote = remote; name = SynSent; retransmission_due = true }

@@ -380,7 +380,7 @@ impl Endpoint {
         {
             AckUse::Ahead => false,
             AckUse::Used => true,
-            AckUse::Third => {
+            AckUse::ShowsLoss => {
                 self.retransmission_due = true;
                 true
             }

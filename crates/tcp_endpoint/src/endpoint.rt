@@ -1,7 +1,7 @@
 //! One connection's endpoint: its two halves, its state, and what is due at the end of the turn.
 
 ghost use Rattle.std.specs.Prelude.{◌≡◌, IfOk};
-ghost use Rattle.tcp_endpoint.specs.Tcb.{listening, connecting};
+ghost use Rattle.tcp_endpoint.specs.Tcb.{listening, listening_measuring, connecting, connecting_measuring};
 ghost use Rattle.tcp_endpoint.specs.UserCalls.{sent_number, acked_number};
 
 use crate::receiver::Receiver;
@@ -71,9 +71,24 @@ impl Model for Endpoint {
 impl Endpoint {
     /// Opens passively at a local address, with the initial sequence number `isn`. The endpoint never takes more than `limit` bytes of the peer's stream, nor
     /// more than 2^30. Fails where an allocation fails.
-    #[tactic(auto, unfolding(crate::specs::Tcb::listening))]
+    #[tactic(auto, unfolding(crate::specs::Tcb::listening, crate::specs::Tcb::listening_measuring))]
     pub fn listen(alloc: Global, local: Addr, isn: Seq, limit: u32) -> Result<Endpoint, NoMemory>
         ensures { IfOk result (λ e. e ≡ listening local isn.0 limit) }
+    {
+        Endpoint::listen_measuring(alloc, local, isn, limit, false)
+    }
+
+    /// Opens passively as `listen` does. If the endpoint measures round trips (`measures`), its retransmission timer follows them (RFC 6298), and it recovers
+    /// the losses of one flight one after another (RFC 6582). Otherwise its timer starts with one tick.
+    #[tactic(auto, unfolding(crate::specs::Tcb::listening, crate::specs::Tcb::listening_measuring))]
+    pub fn listen_measuring(
+        alloc: Global,
+        local: Addr,
+        isn: Seq,
+        limit: u32,
+        measures: bool,
+    ) -> Result<Endpoint, NoMemory>
+        ensures { IfOk result (λ e. e ≡ listening_measuring measures local isn.0 limit) }
     {
         let queue = RecvQueue::new(alloc)?;
         let held = SendQueue::new(alloc)?;
@@ -83,7 +98,7 @@ impl Endpoint {
             name: StateName::Listen,
             reset: false,
             receiver: Receiver::new(queue, limit),
-            sender: Sender::new(isn, held),
+            sender: Sender::new(isn, held, measures),
             wait: 0,
             last_ack_sent: 0,
             last_advertised_edge: 0,
@@ -95,7 +110,7 @@ impl Endpoint {
     }
 
     /// Opens actively to a remote address, with `isn` and `limit` as in `listen`. The next flush sends the SYN. Fails where an allocation fails.
-    #[tactic(auto, unfolding(crate::specs::Tcb::connecting, crate::specs::Tcb::listening))]
+    #[tactic(auto, unfolding(crate::specs::Tcb::connecting, crate::specs::Tcb::listening, crate::specs::Tcb::connecting_measuring, crate::specs::Tcb::listening_measuring))]
     pub fn connect(
         alloc: Global,
         local: Addr,
@@ -105,7 +120,22 @@ impl Endpoint {
     ) -> Result<Endpoint, NoMemory>
         ensures { IfOk result (λ e. e ≡ connecting local remote isn.0 limit) }
     {
-        let mut endpoint = Endpoint::listen(alloc, local, isn, limit)?;
+        Endpoint::connect_measuring(alloc, local, remote, isn, limit, false)
+    }
+
+    /// Opens actively as `connect` does, with `measures` as in `listen_measuring`.
+    #[tactic(auto, unfolding(crate::specs::Tcb::connecting_measuring))]
+    pub fn connect_measuring(
+        alloc: Global,
+        local: Addr,
+        remote: Addr,
+        isn: Seq,
+        limit: u32,
+        measures: bool,
+    ) -> Result<Endpoint, NoMemory>
+        ensures { IfOk result (λ e. e ≡ connecting_measuring measures local remote isn.0 limit) }
+    {
+        let mut endpoint = Endpoint::listen_measuring(alloc, local, isn, limit, measures)?;
         endpoint.remote = remote;
         endpoint.name = StateName::SynSent;
         endpoint.retransmission_due = true;

@@ -9,11 +9,12 @@ ghost use Rattle.segment_codec.specs.Value.{segment_of};
 ghost use Rattle.tcp_buffers.specs.Near.{is_ahead, IsNearFirst};
 ghost use Rattle.tcp_endpoint.specs.Arrival.{first, ack_at, is_bare};
 ghost use Rattle.tcp_endpoint.specs.ReceiveHalf.{next, window};
-ghost use Rattle.tcp_endpoint.specs.SendHalf.{IsShort, is_third_duplicate};
+ghost use Rattle.tcp_endpoint.specs.SendHalf.{IsShort, is_third_duplicate, is_partial_ack};
+ghost use Rattle.tcp_endpoint.specs.declared.sender.AckUse.TheVariants.{ShowsLoss};
 
 use crate::endpoint::Endpoint;
 use crate::receiver::Receiver;
-use crate::sender::Sender;
+use crate::sender::{AckUse, Sender};
 use segment_codec::PacketRef;
 use seq_arith::Seq;
 
@@ -47,7 +48,7 @@ fn takes_outside_window<'a>(receiver: &Receiver, seq: Seq, text: &'a [u8]) -> &'
 }
 
 /// At the third duplicate acknowledgement in a row the first unacknowledged segment is due for retransmission: the clause `state` of `Endpoint::note_ack`.
-#[tactic(auto, unfolding(crate::specs::Arrival::with_ack_used))]
+#[tactic(auto, unfolding(crate::specs::Arrival::with_ack_used, crate::specs::SendHalf::shows_loss))]
 fn third_duplicate_sends_nothing_again(endpoint: &mut Endpoint, p: PacketRef<'_>) -> bool
     requires offsets { IsShort endpoint.old.sending }
     requires sent { is_ahead endpoint.old.sending.sent (ack_at endpoint.old (segment_of p)) ≡ false }
@@ -55,4 +56,44 @@ fn third_duplicate_sends_nothing_again(endpoint: &mut Endpoint, p: PacketRef<'_>
     ensures { endpoint.new.retransmission_due ≡ true }
 {
     endpoint.note_ack(p)
+}
+
+/// A partial acknowledgement shows a loss, after a timeout too: the clause `used` of `Sender::on_ack`.
+#[tactic(auto, unfolding(crate::specs::SendHalf::shows_loss))]
+fn partial_acknowledgement_shows_no_loss(
+    sender: &mut Sender,
+    seq: Seq,
+    ack: Seq,
+    window: u16,
+) -> AckUse
+    requires offsets { IsShort sender.old }
+    requires sent { is_ahead sender.old.sent (offset_of sender.old.iss ack.0) ≡ false }
+    requires part { is_partial_ack sender.old (offset_of sender.old.iss ack.0) ≡ true }
+    ensures { result ≡ ShowsLoss }
+{
+    sender.on_ack(seq, ack, window, true)
+}
+
+/// A unit is timed only once it is sent: the contract of `Sender::time_unit`.
+fn times_a_unit_that_is_not_sent(sender: &mut Sender)
+    ensures { sender.new.timing ≡ sender.old.timing }
+{
+    let place = sender.in_flight();
+    sender.time_unit(place);
+}
+
+/// The timer starts with the interval of the estimate: the contract of `Sender::set_timer`.
+fn timer_starts_with_one_tick(sender: &mut Sender)
+    requires { sender.old.rest ≡ 0 }
+    ensures { sender.new.rest ≡ sender.old.timing.base }
+{
+    sender.set_timer(true);
+}
+
+/// A delayed ACK keeps no retransmission back: the clause `state` of `Endpoint::delay_ack`.
+#[tactic(auto, unfolding(crate::specs::Output::with_ack_delayed))]
+fn delays_a_retransmission(endpoint: &mut Endpoint)
+    ensures { endpoint.new.retransmission_due ≡ endpoint.old.retransmission_due }
+{
+    endpoint.delay_ack();
 }

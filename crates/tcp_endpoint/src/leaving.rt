@@ -9,7 +9,7 @@ ghost use Rattle.segment_codec.specs.Spelling.{segment_with};
 ghost use Rattle.tcp_endpoint.specs.Packets.{byte_count, IsReadable, AreReadable};
 ghost use Rattle.tcp_endpoint.specs.SendHalf.{in_flight};
 ghost use Rattle.tcp_endpoint.specs.Output.{head_at, opening_segment, text_at, fin_at, texts, reset_reply_out, retransmission_out, probe_out, with_probe, text_out};
-ghost use Rattle.tcp_endpoint.specs.Output.{with_text_sent, new_length, fin_out, with_fin_out, is_ack_pending, bare_segment, leaving, with_advertised, is_timed};
+ghost use Rattle.tcp_endpoint.specs.Output.{with_text_sent, new_length, fin_out, with_fin_out, with_timed, is_ack_pending, bare_segment, leaving, full_out, with_ack_delayed, with_advertised, is_timed};
 ghost use Rattle.tcp_endpoint.specs.Output.{with_turn_ended, flushed, packets, or_bare};
 
 use crate::endpoint::Endpoint;
@@ -31,8 +31,10 @@ impl Endpoint {
         self.send_reset_reply(out);
         self.retransmit(out);
         self.send_probe(out);
+        let place = self.in_flight();
         self.send_text(out);
         self.send_fin(out);
+        self.time_first(place);
         self.send_pending_ack(out);
         self.end_turn();
     }
@@ -237,6 +239,21 @@ impl Endpoint {
         }
     }
 
+    /// The units sent and not acknowledged.
+    fn in_flight(&self) -> u32
+        ensures { result ≡ in_flight self.now.sending }
+    {
+        self.sender.in_flight()
+    }
+
+    /// Times the unit that is `place` units after SND.UNA, if it was sent by now and none is timed.
+    #[tactic(auto, unfolding(crate::specs::Output::with_timed))]
+    fn time_first(&mut self, place: u32)
+        ensures { self.new ≡ with_timed place self.old }
+    {
+        self.sender.time_unit(place);
+    }
+
     /// Whether an ACK is due in a connection that has begun: this turn's input requires one, or RCV.NXT or the right edge differs from the one last sent.
     #[tactic(auto, unfolding(crate::specs::Output::is_ack_pending))]
     fn is_ack_pending(&self) -> bool
@@ -270,6 +287,29 @@ impl Endpoint {
             let seq = self.sender.number_behind(self.sender.in_flight());
             out.push_segment(&self.head(seq, ACK), &[], &[]);
         }
+    }
+
+    /// Delays the ACK that is due in this turn: the flush doesn't send it alone (RFC 9293, 3.8.6.3). Segments that are sent for another reason acknowledge as
+    /// ever, and the turn ends as ever. A user who knows that more will be acknowledged soon calls it before the flush.
+    #[tactic(auto, using(crate::proofs::Delayed::delayed_leaves, crate::proofs::Delayed::delayed_ends))]
+    pub fn delay_ack(&mut self)
+        ensures state { self.new ≡ with_ack_delayed self.old }
+        ensures sent { leaving self.new ≡ full_out self.old }
+        ensures ended { flushed self.new ≡ flushed self.old }
+    {
+        self.count_as_sent();
+    }
+
+    /// Notes that the ACK that is due counts as sent.
+    #[tactic(auto, unfolding(crate::specs::Output::with_ack_delayed))]
+    fn count_as_sent(&mut self)
+        ensures { self.new ≡ with_ack_delayed self.old }
+    {
+        if self.name.has_begun() {
+            self.last_ack_sent = self.receiver.next();
+            self.last_advertised_edge = self.receiver.advertised_edge();
+        }
+        self.ack_pending = false;
     }
 
     /// Notes what was advertised, and that nothing is due any more.

@@ -1,7 +1,7 @@
 //! The receiving half of a connection. It compares the peer's numbers, modulo 2^32; only SEG.SEQ and SND.WL1 are compared elsewhere, by `SendState`. Contracts
 //! speak of offsets in the peer's stream, whatever its initial sequence number.
 
-ghost use Rattle.std.specs.Prelude.{◌≡◌, ℕ, ◌+◌, ◌-◌, ◌^◌, ◌<◌, ◌≤◌, ◌==◌, ◌&&◌, ◌||◌, pos, negsuc, ◌+ℤ◌, int_lt, Bool, false, true, List, [], ◌++◌, length, min, take, drop, if◌then◌else◌};
+ghost use Rattle.std.specs.Prelude.{◌≡◌, ℕ, ◌+◌, ◌-◌, ◌^◌, ◌<◌, ◌≤◌, ◌==◌, ◌&&◌, ◌||◌, not, is_none, pos, negsuc, ◌+ℤ◌, int_lt, Bool, false, true, List, [], ◌++◌, length, min, take, drop, if◌then◌else◌};
 ghost use Rattle.std.specs.Bool.{OnTrue};
 ghost use Rattle.seq_arith.specs.Number.{number_at, offset_of};
 ghost use Rattle.seq_arith.specs.Arrival.{int_eq, lies_in, is_acceptable, is_at_right_edge, is_acceptable_or_at_edge, is_allowed_at_zero, below};
@@ -352,6 +352,13 @@ impl Receiver {
     {
         self.ranges(seq);
         seq.add(len).minus(self.irs.add(1))
+    }
+
+    /// Whether text or a FIN is held until the gap before it is filled.
+    pub(crate) fn holds_early(&self) -> bool
+        ensures { result ≡ not (length self.now.early.text == 0 && is_none self.now.early.fin) }
+    {
+        !(self.queue.held_to() == 0 && self.held_fin.is_none())
     }
 
     /// Whether a FIN at this place is held, or taken at once: the place is below the right edge and not below the bytes taken, no text at it or past it is

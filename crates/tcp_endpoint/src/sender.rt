@@ -1,20 +1,22 @@
 //! The sending half of a connection. It compares numbers of our stream, modulo 2^32, with the help of `SendState`. Contracts speak of offsets in our stream,
 //! whatever its initial sequence number.
 
-ghost use Rattle.std.specs.Prelude.{◌≡◌, ℕ, ◌+◌, ◌-◌, ◌%◌, ◌^◌, ◌<◌, ◌≤◌, ◌==◌, ◌&&◌, pos, int_le, Bool, false, true, not, List, [], ◌++◌, length, min, take};
+ghost use Rattle.std.specs.Prelude.{◌≡◌, ℕ, ◌+◌, ◌-◌, ◌%◌, ◌^◌, ◌<◌, ◌≤◌, ◌==◌, ◌&&◌, ◌||◌, pos, int_le, Bool, false, true, not, List, [], ◌++◌, length, min, take};
 ghost use Rattle.std.specs.Prelude.{drop, if◌then◌else◌};
 ghost use Rattle.seq_arith.specs.Number.{number_at, offset_of};
 ghost use Rattle.seq_arith.specs.Arrival.{int_eq};
 ghost use Rattle.seq_arith.specs.Congestion.{initial_window, is_third};
 ghost use Rattle.seq_arith.specs.Packet.{segment_size};
 ghost use Rattle.tcp_buffers.specs.Near.{is_ahead};
-ghost use Rattle.tcp_endpoint.specs.SendHalf.{sending_from, with_segment_size, with_syn_acked, fin_acked, in_flight, is_unacknowledged, expires, ticked, must_run, timed};
-ghost use Rattle.tcp_endpoint.specs.SendHalf.{send_edge, sendable, sends_fin, resent_length, with_sent, with_fin_sent, units_of, was_sent, repeats, acknowledged, is_duplicate, duplicated, answered_by, use_of, NumbersFit, IsShort};
-ghost use Rattle.tcp_endpoint.specs.declared.sender.AckUse.TheVariants.{Used, Third};
+ghost use Rattle.tcp_endpoint.specs.SendHalf.{sending_measuring, with_segment_size, with_syn_acked, fin_acked, in_flight, is_unacknowledged, expires, is_first_expiry, ticked, must_run, timed};
+ghost use Rattle.tcp_endpoint.specs.SendHalf.{send_edge, sendable, sends_fin, resent_length, with_sent, with_fin_sent, with_unit_timed};
+ghost use Rattle.tcp_endpoint.specs.SendHalf.{units_of, was_sent, repeats, acks_part, timing_by, restarted, acknowledged, is_duplicate, is_partial_ack, duplicated};
+ghost use Rattle.tcp_endpoint.specs.SendHalf.{untimed_if, answered_by, use_of, NumbersFit, IsShort};
+ghost use Rattle.tcp_endpoint.specs.declared.sender.AckUse.TheVariants.{Used, ShowsLoss};
 
 use seq_arith::{Seq, segment_size};
 use std::marker::Model;
-use tcp_buffers::{AckKind, SendQueue, SendState};
+use tcp_buffers::{AckKind, SendQueue, SendState, Timing};
 
 /// How an acknowledgement counts for the sender.
 #[derive(Clone, Copy, PartialEq, Eq)]
@@ -23,8 +25,8 @@ pub(crate) enum AckUse {
     Ahead,
     /// It is used.
     Used,
-    /// It is used, and is the third duplicate in a row.
-    Third,
+    /// It is used, and shows that the first unacknowledged segment is lost: it is the third duplicate in a row, or a partial acknowledgement.
+    ShowsLoss,
 }
 
 /// What is known of our stream.
@@ -36,6 +38,8 @@ pub(crate) struct Sender {
     syn_acked: bool,
     /// SND.UNA, SND.NXT, SND.WND, SND.WL1, SND.WL2, the timer, the segment size and the congestion window.
     numbers: SendState,
+    /// The estimate of the round-trip time.
+    timing: Timing,
     /// The bytes written and not acknowledged, from SND.UNA on.
     held: SendQueue,
     /// Whether the user has closed: a FIN follows the bytes written.
@@ -49,18 +53,19 @@ impl Model for Sender {
 
     ghost Value = { Sending };
 
-    ghost view = { λ s. sending_of s.iss.0 s.syn_acked s.numbers s.held s.closed s.fin_sent };
+    ghost view = { λ s. sending_of s.iss.0 s.syn_acked s.numbers s.timing s.held s.closed s.fin_sent };
 
     ghost invariant = { λ s. SenderInvariant s.numbers s.held s.fin_sent };
 }
 
 impl Sender {
-    /// Creates a sender that has sent nothing, with an empty send queue.
-    pub(crate) fn new(iss: Seq, held: SendQueue) -> Sender
+    /// Creates a sender that has sent nothing, with an empty send queue. If it measures round trips, it also recovers the losses of one flight one after another.
+    pub(crate) fn new(iss: Seq, held: SendQueue, measures: bool) -> Sender
         requires { held ≡ [] }
-        ensures { result ≡ sending_from iss.0 }
+        ensures { result ≡ sending_measuring measures iss.0 }
     {
         let first = iss.add(1);
+        let timing = Timing::new(measures);
         Sender {
             iss,
             syn_acked: false,
@@ -70,15 +75,16 @@ impl Sender {
                 wnd: 0,
                 wl1: Seq(0),
                 wl2: first,
-                interval: 1,
+                interval: timing.base(),
                 left: 0,
                 mss: 536,
                 cwnd: initial_window(536),
                 ssthresh: 65_535,
                 dups: 0,
-                recovers: false,
+                recovers: measures,
                 lost: 0,
             },
+            timing,
             held,
             closed: false,
             fin_sent: false,
@@ -169,14 +175,14 @@ impl Sender {
             wnd: u32::from(window),
             wl1: seq,
             wl2: first,
-            interval: 1,
+            interval: self.timing.base(),
             left: 0,
             ..self.numbers
         };
     }
 
-    /// Uses an acknowledgement and a window (RFC 9293, 3.10.7.4, fifth check; RFC 5681, 3). Nothing changes where the acknowledgement is ahead
-    /// of SND.NXT. `is_bare` says that the segment has neither text nor FIN.
+    /// Uses an acknowledgement and a window (RFC 9293, 3.10.7.4, fifth check; RFC 5681, 3; RFC 6582, 3.2). Nothing changes where the acknowledgement is ahead
+    /// of SND.NXT. `is_bare` says that the segment has neither text nor FIN. What is retransmitted isn't timed.
     pub(crate) fn on_ack(&mut self, seq: Seq, ack: Seq, window: u16, is_bare: bool) -> AckUse
         ensures used { IsShort self.old → result ≡ use_of self.old is_bare (offset_of self.old.iss ack.0) window }
         ensures state { IsShort self.old
@@ -184,14 +190,12 @@ impl Sender {
             else answered_by self.old is_bare seq.0 (offset_of self.old.iss ack.0) window) }
     {
         let is_duplicate = self.is_duplicate(ack, window, is_bare);
+        let is_partial = self.is_partial(ack);
         if !self.acknowledge(seq, ack, window) {
             return AckUse::Ahead;
         }
-        if is_duplicate {
-            self.count_duplicate()
-        } else {
-            AckUse::Used
-        }
+        let is_third = self.count_duplicate(is_duplicate);
+        self.note_loss(is_third, is_partial)
     }
 
     /// Whether this is a duplicate acknowledgement (RFC 5681, 2): its segment has neither text nor FIN (`is_bare`), and it acknowledges SND.UNA again while
@@ -201,6 +205,15 @@ impl Sender {
     {
         fit(&self.numbers, self.iss, ack);
         is_bare && repeats(&self.numbers, ack, window)
+    }
+
+    /// Whether this acknowledges only a part of what was in flight when a loss was noticed.
+    fn is_partial(&self, ack: Seq) -> bool
+        ensures { IsShort self.now → is_ahead self.now.sent (offset_of self.now.iss ack.0) ≡ false
+            → result ≡ is_partial_ack self.now (offset_of self.now.iss ack.0) }
+    {
+        fit(&self.numbers, self.iss, ack);
+        acks_part(&self.numbers, ack)
     }
 
     /// Uses an acknowledgement and a window, whether it is a duplicate or not. Returns false, and changes nothing, where the acknowledgement is ahead of
@@ -215,19 +228,28 @@ impl Sender {
         let kind = self.numbers.on_ack(seq, ack, window);
         let units = units_of(kind).min(self.held.len());
         self.held.drop_front(units);
+        restart(&mut self.numbers, &mut self.timing, kind);
         was_sent(kind)
     }
 
-    /// Counts a duplicate acknowledgement, and returns `Third` at the third in a row.
-    fn count_duplicate(&mut self) -> AckUse
-        ensures third { result ≡ (if is_third self.old.congestion then Third else Used) }
-        ensures state { self.new ≡ duplicated self.old }
+    /// Counts an acknowledgement that is a duplicate, and returns whether it is the third in a row.
+    fn count_duplicate(&mut self, is_duplicate: bool) -> bool
+        ensures third { result ≡ (is_duplicate && is_third self.old.congestion) }
+        ensures state { self.new ≡ (if is_duplicate then duplicated self.old else self.old) }
     {
-        if self.numbers.on_duplicate() {
-            AckUse::Third
-        } else {
-            AckUse::Used
+        is_duplicate && self.numbers.on_duplicate()
+    }
+
+    /// Notes whether an acknowledgement that is used shows a loss, and returns how it counts. What is retransmitted isn't timed.
+    fn note_loss(&mut self, is_third: bool, is_partial: bool) -> AckUse
+        ensures used { result ≡ (if is_third || is_partial then ShowsLoss else Used) }
+        ensures state { self.new ≡ untimed_if (is_third || is_partial) self.old }
+    {
+        if !is_third && !is_partial {
+            return AckUse::Used;
         }
+        self.timing.on_retransmission();
+        AckUse::ShowsLoss
     }
 
     /// Whether our FIN is acknowledged.
@@ -353,6 +375,15 @@ impl Sender {
         self.fin_sent = true;
     }
 
+    /// Times the unit that is `place` units after SND.UNA, if it was sent by now and none is timed.
+    pub(crate) fn time_unit(&mut self, place: u32)
+        ensures { self.new ≡ with_unit_timed place self.old }
+    {
+        if self.in_flight() > place {
+            self.timing.on_send(place + 1);
+        }
+    }
+
     /// Whether something sent is unacknowledged.
     pub(crate) fn is_unacknowledged(&self) -> bool
         ensures { result ≡ is_unacknowledged self.now }
@@ -372,19 +403,38 @@ impl Sender {
         ensures expires { result ≡ expires self.old }
         ensures state { self.new ≡ ticked self.old }
     {
-        self.numbers.on_tick()
+        let is_first = self.is_first_expiry();
+        let expires = self.numbers.on_tick_after(is_first);
+        if expires {
+            self.timing.on_expiry(self.numbers.interval);
+        } else {
+            self.timing.on_tick();
+        }
+        expires
     }
 
-    /// Starts the timer with an interval of one tick if it must run (`runs`) and doesn't yet, and stops it if it needn't run.
+    /// Whether the timer hasn't expired since its interval was last computed.
+    fn is_first_expiry(&self) -> bool
+        ensures { result ≡ is_first_expiry self.now }
+    {
+        if self.timing.measures() {
+            !self.timing.is_backed_off()
+        } else {
+            self.numbers.interval == 1
+        }
+    }
+
+    /// Starts the timer with the interval of the estimate if it must run (`runs`) and doesn't yet, and stops it if it needn't run.
     pub(crate) fn set_timer(&mut self, runs: bool)
         ensures { self.new ≡ timed runs self.old }
     {
+        let base = self.timing.base();
         if !runs {
-            self.numbers.interval = 1;
+            self.numbers.interval = base;
             self.numbers.left = 0;
         } else if self.numbers.left == 0 {
-            self.numbers.interval = 1;
-            self.numbers.left = 1;
+            self.numbers.interval = base;
+            self.numbers.left = base;
         }
     }
 
@@ -421,6 +471,32 @@ fn repeats(numbers: &SendState, ack: Seq, window: u16) -> bool
     ensures { result ≡ repeats numbers.now ack.0 window }
 {
     ack == numbers.una && numbers.una != numbers.nxt && numbers.wnd == u32::from(window)
+}
+
+/// Whether an acknowledgement is only of a part of what was in flight when a loss was noticed.
+fn acks_part(numbers: &SendState, ack: Seq) -> bool
+    ensures { result ≡ acks_part numbers.now ack.0 }
+{
+    numbers.una.lt(ack)
+        && ack.le(numbers.nxt)
+        && numbers.recovers
+        && ack.minus(numbers.una) < numbers.lost
+}
+
+/// Computes the interval of the timer anew, after an acknowledgement of this kind. A timer that runs restarts with it.
+fn restart(numbers: &mut SendState, timing: &mut Timing, kind: AckKind)
+    ensures numbers { numbers.new ≡ restarted kind timing.old numbers.old }
+    ensures timing { timing.new ≡ timing_by kind timing.old }
+    ensures interval { 1 ≤ numbers.old.interval → 1 ≤ numbers.new.interval }
+{
+    let AckKind::New { units } = kind else {
+        return;
+    };
+    timing.on_ack(units);
+    numbers.interval = timing.base();
+    if numbers.left > 0 {
+        numbers.left = timing.base();
+    }
 }
 
 /// The initial congestion window.

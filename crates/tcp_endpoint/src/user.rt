@@ -1,6 +1,6 @@
 //! A tick, and the calls of the connection's user.
 
-ghost use Rattle.std.specs.Prelude.{◌≡◌, ◌-◌, ℕ, List, length, min, take, drop, ◌++◌};
+ghost use Rattle.std.specs.Prelude.{◌≡◌, ◌-◌, ◌==◌, ◌&&◌, not, is_none, ℕ, List, length, min, take, drop, ◌++◌};
 ghost use Rattle.tcp_endpoint.specs.UserCalls.{timer_ticked, waited, after_tick};
 
 use crate::endpoint::Endpoint;
@@ -50,6 +50,13 @@ impl Endpoint {
         ensures bytes { out.new ≡ take result (drop from self.now.receiving.unread) ++ drop result out.old }
     {
         self.receiver.peek(from, out)
+    }
+
+    /// Whether text or the peer's FIN is held until the gap before it is filled.
+    pub fn holds_early(&self) -> bool
+        ensures { result ≡ not (length self.now.receiving.early.text == 0 && is_none self.now.receiving.early.fin) }
+    {
+        self.receiver.holds_early()
     }
 }
 

@@ -10,14 +10,14 @@ use Rattle.tcp_endpoint.specs.declared.states.StateName.{StateName}
 use Rattle.tcp_endpoint.specs.declared.states.StateName.TheVariants.{Closed, Listen, SynSent, SynReceived, Established, FinWait1, FinWait2, CloseWait, Closing, LastAck, TimeWait}
 use Rattle.tcp_endpoint.specs.States.{after_syn_acked, after_fin, after_fin_acked}
 use Rattle.tcp_endpoint.specs.ReceiveHalf.{Receiving, next, window, with_segment}
-use Rattle.tcp_endpoint.specs.SendHalf.{Sending, with_syn_acked, acknowledged, is_duplicate, is_third_duplicate, duplicated, answered_by, fin_acked}
+use Rattle.tcp_endpoint.specs.SendHalf.{Sending, with_syn_acked, acknowledged, is_duplicate, shows_loss, duplicated, untimed_if, answered_by, fin_acked}
 use Rattle.tcp_endpoint.specs.Tcb.{Tcb}
 use Rattle.tcp_endpoint.specs.Arrival.{first, ack_at, received, received_in, in_closed, in_others, with_time_wait_restarted, accepts, is_allowed, check_sequence, check_rst, check_syn, check_ack, is_bare, with_ack_used, with_ack, with_first_ack, with_fin_acked, with_text_and_fin, entering, with_ack_pending_if, with_reset, with_reset_reply, with_reset_reply_without_ack}
 use Rattle.tcp_endpoint.proofs.Places.{near_of_usable}
 use Rattle.endpoint_laws.proofs.SendingLaw.{next_near, window_short, length_short}
 use Rattle.endpoint_laws.proofs.TakenLaw.{window_is}
 use Rattle.wrapped_conn.specs.Sound.{has_peer, IsSoundTcp}
-use Rattle.wrapped_conn.proofs.Kept.{GoesOnFrom, TakesOn, stays, goes_if, goes_when, fin_has_peer, acked_has_peer, syn_acked_has_peer, takes_segment, later_bounds, duplicated_bounds, held_stays, kept_fields, first_bounds}
+use Rattle.wrapped_conn.proofs.Kept.{GoesOnFrom, TakesOn, stays, goes_if, goes_when, fin_has_peer, acked_has_peer, syn_acked_has_peer, takes_segment, later_bounds, duplicated_bounds, untimed_bounds, held_stays, kept_fields, first_bounds}
 use Rattle.endpoint_laws.proofs.Bounding.{other_bounds}
 
 -- the fields of a segment fit their bytes
@@ -98,10 +98,10 @@ later_used e p s fits near is_syn_acked =
     }
 
 -- a duplicate is counted, and may make something due again
-counts_again : (e : Tcb) (used : Sending) (duplicate retransmission_due : Bool) → GoesOnFrom e (record e { sending = used })
-    → GoesOnFrom e (record e { sending = if duplicate then duplicated used else used; retransmission_due = retransmission_due })
-counts_again e used true retransmission_due g = record {
-  sound = record { bounds = duplicated_bounds e.receiving used g.sound.bounds; buffered = g.sound.buffered; begun = g.sound.begun; fin_last = g.sound.fin_last };
+counts_again : (e : Tcb) (used : Sending) (duplicate again retransmission_due : Bool) → GoesOnFrom e (record e { sending = used })
+    → GoesOnFrom e (record e { sending = untimed_if again (if duplicate then duplicated used else used); retransmission_due = retransmission_due })
+counts_again e used true again retransmission_due g = record {
+  sound = record { bounds = untimed_bounds again e.receiving (duplicated used) (duplicated_bounds e.receiving used g.sound.bounds); buffered = g.sound.buffered; begun = g.sound.begun; fin_last = g.sound.fin_last };
   read = refl;
   limit = refl;
   more = g.more;
@@ -110,8 +110,8 @@ counts_again e used true retransmission_due g = record {
   sent = g.sent;
   held = g.held;
 }
-counts_again e used false retransmission_due g = record {
-  sound = record { bounds = g.sound.bounds; buffered = g.sound.buffered; begun = g.sound.begun; fin_last = g.sound.fin_last };
+counts_again e used false again retransmission_due g = record {
+  sound = record { bounds = untimed_bounds again e.receiving used g.sound.bounds; buffered = g.sound.buffered; begun = g.sound.begun; fin_last = g.sound.fin_last };
   read = refl;
   limit = refl;
   more = g.more;
@@ -125,7 +125,8 @@ ack_goes : (e : Tcb) (p : Segment) → IsSoundTcp e → HasFieldsInRange p → I
 unfolding with_ack_used answered_by
 ack_goes e p s fits near is_syn_acked =
     counts_again e (acknowledged e.sending p.head.seq (ack_at e p) p.head.window) (is_duplicate e.sending (is_bare p) (ack_at e p) p.head.window)
-    (e.retransmission_due || is_third_duplicate e.sending (is_bare p) (ack_at e p) p.head.window) (later_used e p s fits near is_syn_acked)
+    (shows_loss e.sending (is_bare p) (ack_at e p) p.head.window) (e.retransmission_due || shows_loss e.sending (is_bare p) (ack_at e p) p.head.window)
+    (later_used e p s fits near is_syn_acked)
 
 later_goes : (e : Tcb) (p : Segment) → IsSoundTcp e → HasFieldsInRange p → IsNearFirst (first e p) → e.sending.syn_acked ≡ true → GoesOnFrom e (with_ack e p)
 unfolding with_ack

@@ -21,6 +21,7 @@ use Rattle.ft_model.specs.Network.{Packet}
 use Rattle.ft_model.specs.Network.Packet.{To_client, To_logger}
 use Rattle.ft_model.specs.News.{News}
 use Rattle.ft_model.specs.News.News.{Comes, Logged, Ticks, Begins}
+use Rattle.ft_model.specs.PendingAck.{is_delayed as is_delayed_by_law}
 use Rattle.ft_model.specs.Timer.{is_tick}
 use Rattle.ft_model.specs.Point.{Point, taken_units, acknowledgement, is_over}
 use Rattle.ft_model.specs.Reads.{reads_told, read_messages}
@@ -35,15 +36,16 @@ use Rattle.north_wrap.proofs.OneRead.{numbered_drop}
 use Rattle.north_wrap.proofs.ReadSequence.{told_reads}
 use Rattle.south_wrap.specs.SouthState.{SouthState, acknowledged, window}
 use Rattle.south_wrap.specs.SouthPoint.{south_at}
-use Rattle.tcp_endpoint.specs.Output.{leaving, flushed, packets, or_bare}
+use Rattle.tcp_endpoint.specs.Output.{full_out, leaving, flushed, packets, or_bare}
 use Rattle.tcp_endpoint.specs.Tcb.{Tcb}
+use Rattle.connection_laws.specs.Traffic.{tcp_out as tcp_out_by_law}
 use Rattle.connection_laws.specs.Parts.{PartsTurn, adds, repeats, leaves_with}
 use Rattle.connection_laws.specs.PointNumbers.{PartsTell}
 use Rattle.connection_laws.proofs.PointNumbers.{parts_tell}
 use Rattle.wrapped_conn.specs.declared.stage.Before.{Before}
 use Rattle.wrapped_conn.specs.ConnState.{ConnState}
 use Rattle.wrapped_conn.specs.Numbers.{sent_units, outer_sent}
-use Rattle.wrapped_conn.specs.Output.{passed, syn_ack, bare, is_ack_pending, leaves, turn_ended, with_endpoint_flushed}
+use Rattle.wrapped_conn.specs.Output.{passed, syn_ack, bare, is_ack_pending, is_delayed, tcp_out, leaves, turn_ended, with_endpoint_flushed}
 use Rattle.wrapped_conn.specs.LoggerMessages.{spelled, is_done}
 use Rattle.wrapped_conn.specs.Turn.{served, tcp_used}
 use Rattle.wrapped_conn.specs.Calls.{calls_of}
@@ -69,6 +71,7 @@ pub record HasNews {S : Type 0} (news : News) (p : Point) (c : ConnState S) : Ty
   pub reset : c.reset ≡ false
   pub unanswered : is_done c.stage ≡ false
   pub local : c.endpoint.local ≡ c.local
+  pub delays : c.delays ≡ p.delays
 
 pub units_of : (sisn other sent number : ℕ) → number ≡ number_at sisn sent → other ≡ sisn → sent ≤ 2 ^ 24 + 1 → distance number ((other + 1) % 2 ^ 32) ≡ sent
 units_of sisn other sent number a b c = omega (arith, a, b, c)
@@ -138,12 +141,12 @@ same_or ack_pending b (x ∷ xs) = refl
 -- all that leaves
 pub leaves_is : {S : Type 0} (service : Machine S) (server : Addr) (delta : ℕ) (news : News) (p q : Point) (t : Tcb) (c : ConnState S) (before : Before) (again : Bool)
     → c.local ≡ server → c.key ≡ q.key → c.south ≡ south_at delta q → outer_sent c ≡ number_at q.sisn q.sent
-    → is_ack_pending before c ≡ adds service news p q t → again ≡ repeats news p
-    → leaves before again c (leaving t) ≡ leaves_with service server delta news p q t
-leaves_is service server delta news p q t c before again local key south sent ack_pending repeated =
-    same_or (is_ack_pending before c) (bare c) (passed c.south (leaving t) ++ (if again then syn_ack c ∷ [] else []))
+    → is_ack_pending before c ≡ adds service news p q t → again ≡ repeats news p → (out : List Segment) → out ≡ tcp_out_by_law news p q t
+    → leaves before again c out ≡ leaves_with service server delta news p q t
+leaves_is service server delta news p q t c before again local key south sent ack_pending repeated out out_is =
+    same_or (is_ack_pending before c) (bare c) (passed c.south out ++ (if again then syn_ack c ∷ [] else []))
     ∙ (λ j. segments.or_bare (ack_pending j) (bare_is server delta q c local key south sent j)
-    (passed (south j) (leaving t) ++ (if repeated j then syn_ack_is server delta q c local key south j ∷ [] else [])))
+    (passed (south j) (out_is j) ++ (if repeated j then syn_ack_is server delta q c local key south j ∷ [] else [])))
 
 -- messages of a boot
 maps : (boot : ℕ) (bodies : List Body) → map (told_by boot) bodies ≡ map To_logger (map (λ body. record { boot = boot; body = body }) bodies)
@@ -214,13 +217,14 @@ pub carries_on : {S : Type 0} (service : Machine S) (u i : ℕ) (news : News) (p
     → (k : PartsTurn service c.local c.boot u i c.south.delta news p (lengths_of reads) n (tcp_used c reads))
     → (older : List ReadRecord) → n.reads ≡ older ++ reads
     → (PartsTell service c.south.delta k.after n (flushed (tcp_used c reads)) → is_ack_pending before (turn_ended (served n reads c)) ≡ adds service news p k.after (tcp_used c reads))
+    → (PartsTell service c.south.delta k.after n (flushed (tcp_used c reads)) → is_delayed before (served n reads c) ≡ is_delayed_by_law news p k.after)
     → again ≡ repeats news p
     → copied ≡ model.copies news p k.after
-    → out ≡ packets (leaves before again (turn_ended (served n reads c)) (leaving (tcp_used c reads)))
+    → out ≡ packets (leaves before again (turn_ended (served n reads c)) (tcp_out before (served n reads c)))
     → messages ≡ spelled c.boot (copied ++ messages_of c.key reads)
     → Leads service c.local c.boot news p (turn_ended (served n reads c)) out messages
 unfolding end_ticks_after
-carries_on service u i news p c n reads before again copied out messages h off unreset few k older told ack_pending repeated copy goes_out says =
+carries_on service u i news p c n reads before again copied out messages h off unreset few k older told ack_pending waits repeated copy goes_out says =
     let q : Point = k.after in
     let l = k.goes in
     let t : Tcb = tcp_used c reads in
@@ -229,8 +233,9 @@ carries_on service u i news p c n reads before again copied out messages h off u
     let north = k.rest.stand.north in
     let south : new.south ≡ south_at c.south.delta q = south_ends service c.local c.boot news p q _ n reads c h l tell north.read few in
     let key : c.key ≡ q.key = h.key ∙ sym l.same.key in
-    let leave : leaves before again new (leaving t) ≡ segments_of service c.local news p q =
-    leaves_is service c.local c.south.delta news p q t new before again refl key south tell.sent_outside (ack_pending tell) repeated ∙ k.segments in
+    let out_is : tcp_out before (served n reads c) ≡ tcp_out_by_law news p q t = λ j. if waits tell j then full_out t else leaving t in
+    let leave : leaves before again new (tcp_out before (served n reads c)) ≡ segments_of service c.local news p q =
+    leaves_is service c.local c.south.delta news p q t new before again refl key south tell.sent_outside (ack_pending tell) repeated _ out_is ∙ k.segments in
     let numbered : IsNumbered (length p.lengths) reads = numbered_new q.reads_answered older reads n.reads p.lengths q.lengths north.numbered told north.unanswered k.lengths in
     let read : messages_of c.key reads ≡ reads_told news p q = new_reads_told news p q c.key reads off key k.lengths numbered in
     let none : dones_by_law news p q ≡ [] = no_dones news p q off l.reset in
@@ -250,6 +255,7 @@ carries_on service u i news p c n reads before again copied out messages h off u
           four = h.four;
           reset = h.reset ∙ sym l.reset;
           unanswered = h.unanswered;
+          delays = h.delays ∙ sym l.same.delays;
         };
         parts = subst (λ b. MatchBool b (StandsReset service q new) (StandsLive service q new)) (sym l.reset)
             (record { u = u; i = i; given = k.given; parts = k.rest; local = flushed_local t ∙ used_local (calls_of c.north c.endpoint (lengths_of reads)) c.endpoint ∙ h.local });

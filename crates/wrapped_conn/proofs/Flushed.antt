@@ -6,9 +6,9 @@ use Rattle.tcp_endpoint.specs.States.{is_listen, has_begun}
 use Rattle.tcp_endpoint.specs.declared.states.StateName.{StateName}
 use Rattle.tcp_endpoint.specs.declared.states.StateName.TheVariants.{Closed}
 use Rattle.tcp_endpoint.specs.ReceiveHalf.{Receiving}
-use Rattle.tcp_endpoint.specs.SendHalf.{Sending, timed, ticked, expires, with_sent, with_fin_sent}
+use Rattle.tcp_endpoint.specs.SendHalf.{Sending, in_flight, timed, ticked, expires, with_sent, with_fin_sent}
 use Rattle.tcp_endpoint.specs.Tcb.{Tcb}
-use Rattle.tcp_endpoint.specs.Output.{flushed, with_turn_ended, with_advertised, is_timed, after_full, with_probe, with_text_sent, with_fin_out, probes_text, probes_fin, new_fin, new_length}
+use Rattle.tcp_endpoint.specs.Output.{flushed, with_turn_ended, with_advertised, is_timed, after_full, with_timed, with_probe, with_text_sent, with_fin_out, probes_text, probes_fin, new_fin, new_length}
 use Rattle.tcp_endpoint.specs.UserCalls.{after_tick, timer_ticked, waited}
 use Rattle.endpoint_laws.proofs.Bounding.{bounded_by_flush, bounded_by_tick}
 use Rattle.wrapped_conn.specs.ConnState.{ConnState}
@@ -77,20 +77,26 @@ timed_leaves runs s =
     (λ h. leaves_when (s.rest == 0) s _ _ (λ k. record { iss = refl; una = refl; held = refl; closed = refl; sent = omega arith; fin_last = λ f. f }) (λ k. as_before s))
     (λ h. record { iss = refl; una = refl; held = refl; closed = refl; sent = omega arith; fin_last = λ f. f })
 
+unit_leaves : (place : ℕ) (e : Tcb) → Leaves e.sending (with_timed place e).sending
+unfolding with_timed
+unit_leaves place e = record { iss = refl; una = refl; held = refl; closed = refl; sent = omega arith; fin_last = λ h. h }
+
 flush_leaves : (e : Tcb) → Leaves e.sending (flushed e).sending
 unfolding flushed with_turn_ended with_advertised after_full
 flush_leaves e =
     let p : Tcb = with_probe e in
     let t : Tcb = with_text_sent p in
     let f : Tcb = with_fin_out t in
-    on_and e.sending p.sending (timed (is_timed f) f.sending) (probe_leaves e)
-    (on_and p.sending t.sending _ (text_of_probe e) (on_and t.sending f.sending _ (fin_leaves t) (timed_leaves (is_timed f) f.sending)))
+    let u : Tcb = with_timed (in_flight p.sending) f in
+    on_and e.sending p.sending (timed (is_timed u) u.sending) (probe_leaves e)
+    (on_and p.sending t.sending _ (text_of_probe e)
+    (on_and t.sending f.sending _ (fin_leaves t) (on_and f.sending u.sending _ (unit_leaves (in_flight p.sending) f) (timed_leaves (is_timed u) u.sending))))
   where
     text_of_probe : (e : Tcb) → Leaves (with_probe e).sending (with_text_sent (with_probe e)).sending
     text_of_probe e = text_leaves (with_probe e)
 
-flush_name : (e : Tcb) → ((flushed e).name ≡ e.name) × ((flushed e).receiving ≡ e.receiving)
-unfolding flushed with_turn_ended with_advertised after_full with_probe with_text_sent with_fin_out
+pub flush_name : (e : Tcb) → ((flushed e).name ≡ e.name) × ((flushed e).receiving ≡ e.receiving)
+unfolding flushed with_turn_ended with_advertised after_full with_timed with_probe with_text_sent with_fin_out
 flush_name e = (refl, refl)
 
 pub flush_goes : (e : Tcb) → IsSoundTcp e → GoesOnFrom e (flushed e)

@@ -6,7 +6,6 @@ use Rattle.seq_arith.specs.Message.{Kept}
 use Rattle.seq_arith.specs.Message.Body.{DoneMsg}
 use Rattle.seq_arith.specs.Offset.{one_if}
 use Rattle.server_trait.specs.Service.{Machine}
-use Rattle.ft_model.proofs.PlainTurns.{due_is_pending}
 use Rattle.ft_model.specs.Answered.{answered_after}
 use Rattle.ft_model.specs.ResetAndEnd.{reset_after, dones as dones_by_law}
 use Rattle.ft_model.specs.News.{News}
@@ -18,7 +17,7 @@ use Rattle.ft_model.specs.Taken.{taken_after, fin_after}
 use Rattle.north_wrap.specs.declared.read_record.ReadRecord.{ReadRecord}
 use Rattle.north_wrap.specs.NorthState.{lengths_of, answered_on, Turns as NorthTurns}
 use Rattle.south_wrap.specs.SouthState.{SouthState}
-use Rattle.tcp_endpoint.specs.Output.{leaving, flushed, packets}
+use Rattle.tcp_endpoint.specs.Output.{flushed, packets}
 use Rattle.tcp_endpoint.specs.States.{is_closed}
 use Rattle.tcp_endpoint.specs.Tcb.{Tcb}
 use Rattle.endpoint_laws.proofs.EndingLaw.{flushed_name}
@@ -26,12 +25,12 @@ use Rattle.connection_laws.specs.Traffic.{needs_ack_besides}
 use Rattle.connection_laws.specs.Parts.{PartsTurn, adds, north_after_news as heard_north}
 use Rattle.connection_laws.specs.PointNumbers.{PartsTell}
 use Rattle.connection_laws.proofs.PointNumbers.{parts_tell}
-use Rattle.connection_laws.proofs.Together.{turns_together, profile_of}
+use Rattle.connection_laws.proofs.Together.{turns_together}
 use Rattle.wrapped_conn.specs.ConnState.{ConnState}
 use Rattle.connection_laws.specs.OutputFeed.{tcp_reader, tcp_writer}
 use Rattle.wrapped_conn.specs.Numbers.{una_units}
 use Rattle.wrapped_conn.specs.Arrival.{before_other}
-use Rattle.wrapped_conn.specs.Output.{is_ack_pending, leaves, turn_ended}
+use Rattle.wrapped_conn.specs.Output.{is_ack_pending, tcp_out, leaves, turn_ended}
 use Rattle.wrapped_conn.specs.LoggerMessages.{spelled}
 use Rattle.wrapped_conn.specs.Turn.{CompletesTurn, Rests, Hears, Starts, with_logged, is_news, served, tcp_used, new_reads}
 use Rattle.wrapped_conn.specs.Sound.{IsSound}
@@ -39,6 +38,8 @@ use Rattle.wrapped_conn.specs.Refinement.{Keeps, TcpTells, StandsLive, StandsRes
 use Rattle.wrapped_conn.proofs.Ended.{HasNews, carries_on}
 use Rattle.wrapped_conn.proofs.NumbersAt.{NumbersAt, numbers_at, una_is}
 use Rattle.wrapped_conn.proofs.Copies.{none_of_logged, none_of_begins}
+use Rattle.wrapped_conn.proofs.Owing.{due_where_closed}
+use Rattle.wrapped_conn.proofs.Waits.{none_delayed}
 use Rattle.wrapped_conn.proofs.Receiving.{off_differs, parts_live, parts_reset}
 use Rattle.wrapped_conn.proofs.ResetTurn.{reset_point, resets_on}
 use Rattle.ft_io.proofs.Choices.{by_cases}
@@ -54,16 +55,16 @@ raises answered units = grind arith
 abbrev told : {S : Type 0} → Kept → ConnState S → ConnState S
 told kept c = with_logged kept.length kept.fin kept.reads c
 
-ack_pending_is : {S : Type 0} (service : Machine S) (p q : Point) (t : Tcb) (c new : ConnState S) (kept : Kept) → p.delays ≡ false → NumbersAt service p c → NumbersAt service q new
+ack_pending_is : {S : Type 0} (service : Machine S) (p q : Point) (t : Tcb) (c new : ConnState S) (kept : Kept) → NumbersAt service p c → NumbersAt service q new
     → new.endpoint.name ≡ t.name → c.south.answered ≡ p.answered → q.answered ≡ max p.answered (kept.length + one_if kept.fin) → (is_closed t.name ≡ true → (p.syn_acked ≡ true) × (taken_units q ≡ taken_units p))
     → is_ack_pending (before_other (is_news kept.length kept.fin c) (told kept c)) new ≡ adds service (Logged kept) p q t
 unfolding is_ack_due answered_on
-ack_pending_is service p q t c new kept off n m name answered after closed =
+ack_pending_is service p q t c new kept n m name answered after closed =
     let more : is_news kept.length kept.fin c ≡ nat_lt p.answered q.answered =
     (λ j. nat_lt (answered j) (kept.length + one_if kept.fin)) ∙ raises p.answered (kept.length + one_if kept.fin) ∙ (λ j. nat_lt p.answered (sym after j)) in
     (λ j. more j || (is_closed (name j) && (false || not (n.edge j == m.edge j))))
     ∙ ack_pending_more (nat_lt p.answered q.answered) (is_closed t.name) (not (taken_units p == taken_units q)) (not (advertised_edge p == advertised_edge q)) (λ h. off_differs (taken_units p) (taken_units q) (sym (closed h).1))
-    ∙ ap (λ b. needs_ack_besides service (Logged kept) p q || (is_closed t.name && b)) (sym (due_is_pending service (Logged kept) p q off))
+    ∙ ap (λ b. needs_ack_besides service (Logged kept) p q || b) (due_where_closed service (Logged kept) p q (is_closed t.name) (λ h. (closed h).1))
 
 has_heard : {S : Type 0} (service : Machine S) (p : Point) (c : ConnState S) (kept : Kept) → Keeps p c → c.endpoint.local ≡ c.local → p.reset ≡ false → HasNews (Logged kept) p (told kept c)
 unfolding answered_after taken_after fin_after acknowledged_after
@@ -75,6 +76,7 @@ has_heard service p c kept keeps local unreset = record {
   four = keeps.four;
   reset = keeps.reset ∙ unreset;
   unanswered = keeps.unanswered;
+  delays = keeps.delays;
   local = local;
 }
 
@@ -98,13 +100,15 @@ live_turn service p c new kept out messages sound sound_new keeps live unreset k
     subst (λ a. PartsTurn service a c.boot live.u live.i c.south.delta news p (lengths_of reads) new.north t) live.local turn in
     let q : Point = here.after in
     let ack_pending : PartsTell service c.south.delta q new.north (flushed t) → is_ack_pending (before_other (is_news kept.length kept.fin c) there) (turn_ended (served new.north reads there)) ≡ adds service news p q t = λ after.
-    ack_pending_is service p q t c (turn_ended (served new.north reads there)) kept (profile_of service live.u live.i c.south.delta live.given p c.north c.endpoint stand).delays (numbers_at service c.south.delta p c tell keeps.fetched stand.north.read)
+    ack_pending_is service p q t c (turn_ended (served new.north reads there)) kept (numbers_at service c.south.delta p c tell keeps.fetched stand.north.read)
     (numbers_at service c.south.delta q (turn_ended (served new.north reads there)) after (keeps.fetched ∙ sym here.goes.same.fetched) here.rest.stand.north.read) (flushed_name t)
     (ap (λ (s : SouthState). s.answered) keeps.south) here.goes.answered here.closed in
-    let goes_out = subst (λ (n : ConnState _). out ≡ packets (leaves (before_other (is_news kept.length kept.fin c) there) false n (leaving t))) k.state k.goes_out in
+    let goes_out = subst (λ (n : ConnState _). out ≡ packets (leaves (before_other (is_news kept.length kept.fin c) there) false n
+    (tcp_out (before_other (is_news kept.length kept.fin c) there) (served new.north reads there)))) k.state k.goes_out in
     let leads : Leads service c.local c.boot news p (turn_ended (served new.north reads there)) out messages =
     carries_on service live.u live.i news p there new.north reads (before_other (is_news kept.length kept.fin c) there) false [] out messages (has_heard service p c kept keeps live.local unreset) refl unreset
-    sound_new.parts.made here there.north.reads k.north.told ack_pending refl (sym (none_of_logged kept p q)) goes_out k.told in
+    sound_new.parts.made here there.north.reads k.north.told ack_pending
+    (λ tell. none_delayed news p q (before_other (is_news kept.length kept.fin c) there) (served new.north reads there) refl refl) refl (sym (none_of_logged kept p q)) goes_out k.told in
     subst (λ n. Leads service c.local c.boot news p n out messages) (sym k.state) leads
 
 rests_turn : {S : Type 0} (service : Machine S) (p : Point) (c new : ConnState S) (kept : Kept) (out messages : List (List ℕ)) → Keeps p c → StandsReset service p c → p.reset ≡ true
@@ -121,6 +125,7 @@ rests_turn service p c new kept out messages keeps stands is_reset k =
       four = keeps.four;
       reset = keeps.reset ∙ is_reset;
       unanswered = keeps.unanswered;
+      delays = keeps.delays;
     }))
     (subst (TcpTells (reset_point (Logged kept) p)) (sym k.state) (record { taken = stands.told.taken; una = stands.told.una; sent = stands.told.sent }))
     k.goes_out
@@ -148,6 +153,7 @@ has_begun p c keeps local unreset = record {
   four = keeps.four;
   reset = keeps.reset ∙ unreset;
   unanswered = keeps.unanswered;
+  delays = keeps.delays;
   local = local;
 }
 
@@ -159,9 +165,10 @@ unfolding reset_after
 begins_with service u i p c new out messages keeps local unreset made here k =
     let reads : List ReadRecord = new_reads c new in
     let t : Tcb = tcp_used c reads in
-    let goes_out = subst (λ (n : ConnState _). out ≡ packets (leaves (before_other true c) false n (leaving t))) k.state k.goes_out in
+    let goes_out = subst (λ (n : ConnState _). out ≡ packets (leaves (before_other true c) false n (tcp_out (before_other true c) (served new.north reads c)))) k.state k.goes_out in
     let leads : Leads service c.local c.boot Begins p (turn_ended (served new.north reads c)) out messages =
-    carries_on service u i Begins p c new.north reads (before_other true c) false [] out messages (has_begun p c keeps local unreset) refl unreset made here c.north.reads k.north.told (λ tell. refl) refl (sym (none_of_begins p here.after))
+    carries_on service u i Begins p c new.north reads (before_other true c) false [] out messages (has_begun p c keeps local unreset) refl unreset made here c.north.reads k.north.told (λ tell. refl)
+    (λ tell. none_delayed Begins p here.after (before_other true c) (served new.north reads c) refl refl) refl (sym (none_of_begins p here.after))
     goes_out k.told in
     subst (λ n. Leads service c.local c.boot Begins p n out messages) (sym k.state) leads
 

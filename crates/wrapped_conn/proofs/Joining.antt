@@ -3,7 +3,7 @@ use Rattle.std.proofs.Common.{◌≡◌, ℕ, ◌<◌, ◌≤◌, ◌+◌, ◌-�
 use Rattle.std.specs.Prelude.{nat_lt, pos, negsuc, if◌then◌else◌}
 use Rattle.ft_io.specs.declared.Addr.{Addr}
 use Rattle.ft_io.specs.declared.Key.{Key}
-use Rattle.seq_arith.specs.Profile.{plain}
+use Rattle.seq_arith.specs.Profile.{Profile}
 use Rattle.seq_arith.specs.Message.{Numbers}
 use Rattle.seq_arith.specs.Number.{number_at, distance, offset_of}
 use Rattle.seq_arith.specs.Offset.{one_if}
@@ -22,17 +22,17 @@ use Rattle.north_wrap.proofs.Offline.{begins_here}
 use Rattle.south_wrap.specs.SouthState.{first_south}
 use Rattle.south_wrap.specs.SouthPoint.{south_at}
 use Rattle.tcp_endpoint.specs.Arrival.{received, in_listen, begun}
-use Rattle.tcp_endpoint.specs.Tcb.{Tcb, listening}
+use Rattle.tcp_endpoint.specs.Tcb.{Tcb, listening, listening_measuring}
 use Rattle.tcp_endpoint.specs.UserCalls.{acked_number}
 use Rattle.connection_laws.specs.FirstSyn.{MayOpen, opened_syn, listens_with}
-use Rattle.connection_laws.specs.Splice.{GoesOnFrom, delta_from, spliced, connected}
+use Rattle.connection_laws.specs.Splice.{GoesOnFrom, delta_from, spliced_measuring, connected_measuring}
 use Rattle.connection_laws.specs.Parts.{PartsStand, PartsTurn}
 use Rattle.connection_laws.specs.PointNumbers.{PartsTell}
 use Rattle.connection_laws.proofs.Spliced.{splices_parts}
 use Rattle.connection_laws.proofs.NewParts.{starts_together}
 use Rattle.connection_laws.proofs.PointNumbers.{parts_tell}
 use Rattle.wrapped_conn.specs.ConnState.{ConnState}
-use Rattle.wrapped_conn.specs.NewConnection.{joined_conn, syn, first_conn}
+use Rattle.wrapped_conn.specs.NewConnection.{joined_conn_in, syn, first_conn_in}
 use Rattle.connection_laws.specs.OutputFeed.{tcp_reader, tcp_writer}
 use Rattle.wrapped_conn.specs.Numbers.{has_fin, una_units}
 use Rattle.wrapped_conn.specs.Turn.{Starts, new_reads, tcp_used}
@@ -44,9 +44,9 @@ use Rattle.wrapped_conn.proofs.Hearing.{begins_with}
 use Rattle.wrapped_conn.proofs.Begun.{nothing_fetched}
 
 -- a fresh service stands at the opened point
-fresh_replayed : {S : Type 0} (service : Machine S) (numbers : Numbers) → HasReplayed service (point_opened plain numbers) 0 (fresh_north service.fresh)
+fresh_replayed : {S : Type 0} (service : Machine S) (profile : Profile) (numbers : Numbers) → HasReplayed service (point_opened profile numbers) 0 (fresh_north service.fresh)
 unfolding reference
-fresh_replayed service numbers = record {
+fresh_replayed service profile numbers = record {
   run = record { service = refl; closed = refl; made = refl; pending = refl; within = omega arith };
   rest = refl;
   last = (refl, refl);
@@ -81,9 +81,9 @@ syn_is local numbers h = λ j. record {
 }
 
 -- nothing is acknowledged yet
-unacked : (key : Key) (local : Addr) (cisn sisn mss : ℕ) → acked_number (received (listening local sisn (2 ^ 24)) (syn key local cisn mss)) ≡ sisn
-unfolding received in_listen begun listening
-unacked key local cisn sisn mss = refl
+unacked : (measures : Bool) (key : Key) (local : Addr) (cisn sisn mss : ℕ) → acked_number (received (listening_measuring measures local sisn (2 ^ 24)) (syn key local cisn mss)) ≡ sisn
+unfolding received in_listen begun listening_measuring listening
+unacked measures key local cisn sisn mss = refl
 
 none_before : (sisn : ℕ) → sisn < 2 ^ 32 → from_start (offset_of sisn ((sisn + 0) % 2 ^ 32)) ≡ 0
 unfolding offset_of
@@ -92,53 +92,56 @@ none_before sisn fits =
     λ j. from_start (if nat_lt (d j) (2 ^ 31) then pos (d j) else negsuc (2 ^ 32 - 1 - d j))
 
 -- the connection with the SYN, out of its parts
-abbrev new_conn : {S : Type 0} → (boot : ℕ) → Addr → Numbers → S → ConnState S
-new_conn boot local numbers service =
-    joined_conn boot numbers.key local (first_south numbers.cisn numbers.sisn) (received (listening local numbers.sisn (2 ^ 24)) (syn numbers.key local numbers.cisn numbers.mss)) (fresh_north service)
+abbrev new_conn : {S : Type 0} → Profile → (boot : ℕ) → Addr → Numbers → S → ConnState S
+new_conn profile boot local numbers service =
+    joined_conn_in profile boot numbers.key local (first_south numbers.cisn numbers.sisn) (received (listening_measuring profile.measures local numbers.sisn (2 ^ 24)) (syn numbers.key local numbers.cisn numbers.mss)) (fresh_north service)
 
-new_una : {S : Type 0} (boot : ℕ) (local : Addr) (numbers : Numbers) (service : S) → numbers.sisn < 2 ^ 32 → una_units (new_conn boot local numbers service) ≡ 0
-new_una boot local numbers service fits =
-    (λ j. min (from_start (offset_of numbers.sisn ((unacked numbers.key local numbers.cisn numbers.sisn numbers.mss j + 0) % 2 ^ 32))) (2 ^ 24 + 1))
+new_una : {S : Type 0} (profile : Profile) (boot : ℕ) (local : Addr) (numbers : Numbers) (service : S) → numbers.sisn < 2 ^ 32
+    → una_units (new_conn profile boot local numbers service) ≡ 0
+new_una profile boot local numbers service fits =
+    (λ j. min (from_start (offset_of numbers.sisn ((unacked profile.measures numbers.key local numbers.cisn numbers.sisn numbers.mss j + 0) % 2 ^ 32))) (2 ^ 24 + 1))
     ∙ (λ j. min (none_before numbers.sisn fits j) (2 ^ 24 + 1))
 
-new_keeps : {S : Type 0} (boot : ℕ) (local : Addr) (numbers : Numbers) (service : S) → Keeps (point_opened plain numbers) (new_conn boot local numbers service)
-new_keeps boot local numbers service = record {
+new_keeps : {S : Type 0} (profile : Profile) (boot : ℕ) (local : Addr) (numbers : Numbers) (service : S)
+    → Keeps (point_opened profile numbers) (new_conn profile boot local numbers service)
+new_keeps profile boot local numbers service = record {
   key = refl;
   south = refl;
-  fetched = nothing_fetched numbers.cisn (one_if (has_fin (new_conn boot local numbers service).endpoint.name));
+  fetched = nothing_fetched numbers.cisn (one_if (has_fin (new_conn profile boot local numbers service).endpoint.name));
   end_ticks = refl;
   four = omega arith;
   reset = refl;
   unanswered = refl;
+  delays = refl;
 }
 
-pub listening_local : (local : Addr) (iss limit : ℕ) → (listening local iss limit).local ≡ local
-unfolding listening
-listening_local local iss limit = refl
+pub listening_local : (measures : Bool) (local : Addr) (iss limit : ℕ) → (listening_measuring measures local iss limit).local ≡ local
+unfolding listening_measuring listening
+listening_local measures local iss limit = refl
 
-pub new_starts : {S : Type 0} (service : Machine S) (boot : ℕ) (local : Addr) (numbers : Numbers) (new : ConnState S) (out messages : List (List ℕ)) → MayOpen numbers → IsSound new
-    → Starts service.after (first_conn boot numbers.key local numbers.cisn numbers.sisn numbers.mss service.fresh) new out messages
-    → Leads service local boot Begins (point_opened plain numbers) new out messages
-unfolding first_conn
-new_starts service boot local numbers new out messages may sound k =
-    let c : ConnState _ = new_conn boot local numbers service.fresh in
-    let p : Point = point_opened plain numbers in
+pub new_starts : {S : Type 0} (service : Machine S) (profile : Profile) (boot : ℕ) (local : Addr) (numbers : Numbers) (new : ConnState S) (out messages : List (List ℕ)) → MayOpen numbers → IsSound new
+    → Starts service.after (first_conn_in profile boot numbers.key local numbers.cisn numbers.sisn numbers.mss service.fresh) new out messages
+    → Leads service local boot Begins (point_opened profile numbers) new out messages
+unfolding first_conn_in
+new_starts service profile boot local numbers new out messages may sound k =
+    let c : ConnState _ = new_conn profile boot local numbers service.fresh in
+    let p : Point = point_opened profile numbers in
     let reads : List ReadRecord = new_reads c new in
     let t : Tcb = tcp_used c reads in
-    let una : una_units c ≡ 0 = new_una boot local numbers service.fresh may.sisn in
-    let turns : NorthTurns service.after tcp_reader tcp_writer 0 c.north (received (listens_with local numbers) (opened_syn local numbers)) reads new.north t =
-    subst (λ (s : Segment). NorthTurns service.after tcp_reader tcp_writer 0 c.north (received (listens_with local numbers) s) reads new.north t) (syn_is local numbers may.cisn)
+    let una : una_units c ≡ 0 = new_una profile boot local numbers service.fresh may.sisn in
+    let turns : NorthTurns service.after tcp_reader tcp_writer 0 c.north (received (listens_with profile.measures local numbers) (opened_syn local numbers)) reads new.north t =
+    subst (λ (s : Segment). NorthTurns service.after tcp_reader tcp_writer 0 c.north (received (listens_with profile.measures local numbers) s) reads new.north t) (syn_is local numbers may.cisn)
     (subst (λ n. NorthTurns service.after tcp_reader tcp_writer n c.north c.endpoint reads new.north t) una k.north) in
     let turn : PartsTurn service local boot 0 numbers.sisn 0 Begins p (lengths_of reads) new.north t =
-    starts_together service boot local numbers c.north new.north reads t may (begins_here service p 0 c.north (fresh_replayed service numbers)) refl turns sound.parts.made in
-    begins_with service 0 numbers.sisn p c new out messages (new_keeps boot local numbers service.fresh)
-    (received_local (listening local numbers.sisn (2 ^ 24)) (syn numbers.key local numbers.cisn numbers.mss) ∙ listening_local local numbers.sisn (2 ^ 24)) refl sound.parts.made turn k
+    starts_together service profile boot local numbers c.north new.north reads t may (begins_here service p 0 c.north (fresh_replayed service profile numbers)) refl turns sound.parts.made in
+    begins_with service 0 numbers.sisn p c new out messages (new_keeps profile boot local numbers service.fresh)
+    (received_local (listening_measuring profile.measures local numbers.sisn (2 ^ 24)) (syn numbers.key local numbers.cisn numbers.mss) ∙ listening_local profile.measures local numbers.sisn (2 ^ 24)) refl sound.parts.made turn k
 
 -- at the entry
-pub spliced_local : (key : Key) (local : Addr) (cisn fetched mss i : ℕ) (fin : Bool) → (spliced key local cisn fetched mss i fin).local ≡ local
-unfolding connected
-spliced_local key local cisn fetched mss i fin =
-    let begun_is = flushed_local _ ∙ received_local _ _ ∙ (flushed_local _ ∙ received_local (listening local i (2 ^ 24 - fetched)) _ ∙ listening_local local i (2 ^ 24 - fetched)) in
+pub spliced_local : (measures : Bool) (key : Key) (local : Addr) (cisn fetched mss i : ℕ) (fin : Bool) → (spliced_measuring measures key local cisn fetched mss i fin).local ≡ local
+unfolding connected_measuring
+spliced_local measures key local cisn fetched mss i fin =
+    let begun_is = flushed_local _ ∙ received_local _ _ ∙ (flushed_local _ ∙ received_local (listening_measuring measures local i (2 ^ 24 - fetched)) _ ∙ listening_local measures local i (2 ^ 24 - fetched)) in
     either fin _ _ local (flushed_local _ ∙ received_local _ _ ∙ begun_is) begun_is
 
 less_fin : (cisn length fin name_fin : ℕ) → distance (number_at cisn (length + fin)) ((cisn + 1) % 2 ^ 32) ≡ length + fin → name_fin ≡ fin
@@ -152,14 +155,15 @@ pub few_units : (length : ℕ) (fin : Bool) → length ≤ 2 ^ 24 → length + o
 few_units length true h = omega (arith, h)
 few_units length false h = omega (arith, h)
 
-pub joins_at_entry : {S : Type 0} (service : Machine S) (boot : ℕ) (local : Addr) (e : Entry) (i : ℕ) (n : NorthState S) → GoesOnFrom service e i
-    → HasReplayed service (point_of service plain e) (resumed_at service e) n
-    → StandsBefore service (joined_conn boot e.key local (south_at (delta_from service e i) (point_of service plain e)) (spliced e.key local e.cisn (length e.bytes) e.mss i e.fin) n) (point_of service plain e)
-joins_at_entry service boot local e i n goes replayed =
-    let p : Point = point_of service plain e in
-    let t : Tcb = spliced e.key local e.cisn (length e.bytes) e.mss i e.fin in
+pub joins_at_entry : {S : Type 0} (service : Machine S) (profile : Profile) (boot : ℕ) (local : Addr) (e : Entry) (i : ℕ) (n : NorthState S) → GoesOnFrom service e i
+    → HasReplayed service (point_of service profile e) (resumed_at service e) n
+    → StandsBefore service (joined_conn_in profile boot e.key local (south_at (delta_from service e i) (point_of service profile e))
+    (spliced_measuring profile.measures e.key local e.cisn (length e.bytes) e.mss i e.fin) n) (point_of service profile e)
+joins_at_entry service profile boot local e i n goes replayed =
+    let p : Point = point_of service profile e in
+    let t : Tcb = spliced_measuring profile.measures e.key local e.cisn (length e.bytes) e.mss i e.fin in
     let u : ℕ = resumed_at service e in
-    let parts : PartsStand service u i (delta_from service e i) u p n t = splices_parts service local e i n goes replayed in
+    let parts : PartsStand service u i (delta_from service e i) u p n t = splices_parts service profile local e i n goes replayed in
     let tell : PartsTell service (delta_from service e i) p n t = parts_tell service u i (delta_from service e i) u p n t parts in
     let fin : has_fin t.name ≡ e.fin = has_fin_is t.name ∙ sym tell.fin in
     record {
@@ -171,11 +175,12 @@ joins_at_entry service boot local e i n goes replayed =
         four = omega arith;
         reset = refl;
         unanswered = refl;
+        delays = refl;
       };
       u = u;
       i = i;
       given = u;
       parts = parts;
-      local = spliced_local e.key local e.cisn (length e.bytes) e.mss i e.fin;
+      local = spliced_local profile.measures e.key local e.cisn (length e.bytes) e.mss i e.fin;
       syn_acked = refl;
     }

@@ -1,8 +1,8 @@
 -- What news and the end of a turn leave of TCP, whatever comes.
 use Rattle.std.proofs.Common.{◌≡◌, ℕ, ◌<◌, ◌≤◌, ◌+◌, ◌-◌, ◌^◌, Bool, true, false, List, ◌++◌, length, length-append, drop, max, refl, sym, subst, arith, ◌∙◌}
 use Rattle.std.specs.Prelude.{ℤ, nat_abs, if◌then◌else◌}
+use Rattle.std.proofs.lemmas.Int.{ints}
 use Rattle.std.proofs.lemmas.Bool.{false≢true}
-use Rattle.seq_arith.proofs.Unmeasured.{duplicate_recovers}
 use Rattle.seq_arith.specs.Number.{offset_of}
 use Rattle.seq_arith.specs.Arrival.{is_new_ack}
 use Rattle.seq_arith.specs.Coming.{Came, StandsBehind}
@@ -14,12 +14,15 @@ use Rattle.tcp_endpoint.specs.declared.states.StateName.{StateName}
 use Rattle.tcp_endpoint.specs.declared.states.StateName.TheVariants.{Closed, Listen, SynSent, SynReceived, Established, FinWait1, FinWait2, CloseWait, Closing, LastAck, TimeWait}
 use Rattle.tcp_endpoint.specs.States.{is_listen, after_syn_acked, after_fin, after_fin_acked}
 use Rattle.tcp_endpoint.specs.ReceiveHalf.{Receiving, taken, receive_edge, came, with_came, with_segment}
-use Rattle.tcp_endpoint.specs.SendHalf.{Sending, with_syn_acked, acknowledged, moves_edge, in_flight, duplicated}
+use Rattle.tcp_endpoint.specs.SendHalf.{Sending, with_syn_acked, acknowledged, moves_edge, timing_acknowledged, in_flight, duplicated, untimed_if}
 use Rattle.tcp_endpoint.specs.Tcb.{Tcb}
-use Rattle.endpoint_laws.specs.Laws.{Bounds}
+use Rattle.ft_io.proofs.Choices.{holds_either_way}
+use Rattle.seq_arith.specs.Timing.{with_acknowledged}
+use Rattle.endpoint_laws.specs.Laws.{KeepsTime, Bounds}
+use Rattle.endpoint_laws.proofs.Timings.{choice_within, acknowledged_keeps, trip_keeps, by_ack_lost, duplicate_lost}
 use Rattle.endpoint_laws.proofs.SendingLaw.{held_field}
 use Rattle.wrapped_conn.specs.Sound.{has_peer, IsSoundTcp}
-use Rattle.endpoint_laws.proofs.Bounding.{new_within, moved_within, near_of_choice, choice_within, not_less}
+use Rattle.endpoint_laws.proofs.Bounding.{new_within, moved_within, near_of_choice, not_less}
 
 -- a TCP that has gone on from another one, and no call of its user
 pub record GoesOnFrom (e t : Tcb) : Type 0 where
@@ -126,10 +129,8 @@ used_open : (new : Bool) (mss units : ℕ) (c : Congestion) → IsOpen mss c →
 used_open true mss units c o = new_data_open mss units c o
 used_open false mss units c o = o
 
-used_recovers : (new : Bool) (mss units : ℕ) (c : Congestion) → c.recovers ≡ false → (if new then with_new_data mss units c else c).recovers ≡ false
-unfolding with_new_data
-used_recovers true mss units c o = o
-used_recovers false mss units c o = o
+new_up : (una sent : ℕ) (z : ℤ) → is_new_ack una sent z ≡ true → una ≤ nat_abs z
+new_up una sent z h = grind (arith, ints, h)
 
 pub later_bounds : (r : Receiving) (s : Sending) (seq window : ℕ) (z : ℤ) → Bounds r s → IsNearFirst (offset_of r.irs seq) → seq < 2 ^ 32 → window ≤ 65535 → s.syn_acked ≡ true
     → Bounds r (acknowledged s seq z window)
@@ -140,6 +141,8 @@ later_bounds r s seq window z b near fits small is_syn_acked =
     let kept : una + length (if is_new_ack s.una s.sent z then drop (nat_abs z - s.una) s.held else s.held) ≡ max una (s.una + length s.held) =
     held_field s.una s.sent z s.held b.order in
     let moved : moves_edge s seq z ≡ true → (nat_abs z ≤ una) × (nat_abs z ≤ s.sent) = λ h. moved_within s.una s.sent z _ h in
+    let time : KeepsTime (timing_acknowledged s z) =
+    holds_either_way KeepsTime (is_new_ack s.una s.sent z) (with_acknowledged (nat_abs z - s.una) s.timing) s.timing (acknowledged_keeps (nat_abs z - s.una) s.timing b.timing) b.timing in
     record {
       limit = b.limit;
       taken = b.taken;
@@ -156,7 +159,9 @@ later_bounds r s seq window z b near fits small is_syn_acked =
       edge = choice_within (nat_abs z + window) s.edge (2 ^ 24 + 2 ^ 16 + 1) (moves_edge s seq z) (λ h. grind (arith, moved h, b.sent)) b.edge;
       reach = choice_within (nat_abs z + window) s.edge (una + 65535) (moves_edge s seq z) (λ h. omega (arith, (moved h).0, small)) (omega (arith, b.reach, not_less s.una s.sent z));
       congestion = used_open (is_new_ack s.una s.sent z) s.mss (nat_abs z - s.una) s.congestion b.congestion;
-      recovers = used_recovers (is_new_ack s.una s.sent z) s.mss (nat_abs z - s.una) s.congestion b.recovers;
+      lost = by_ack_lost (is_new_ack s.una s.sent z) false s.mss s.una (nat_abs z) s.sent s.congestion b.lost (new_up s.una s.sent z);
+      timing = time;
+      interval = holds_either_way (λ (n : ℕ). 1 ≤ n) (is_new_ack s.una s.sent z) (timing_acknowledged s z).base s.interval time.base b.interval;
     }
 
 -- and so does a duplicate
@@ -177,7 +182,32 @@ duplicated_bounds r s b = record {
   edge = b.edge;
   reach = b.reach;
   congestion = duplicate_open s.mss (in_flight s) s.congestion b.congestion;
-  recovers = duplicate_recovers s.mss (in_flight s) s.congestion ∙ b.recovers;
+  lost = duplicate_lost s.mss (in_flight s) s.congestion b.lost;
+  timing = b.timing;
+  interval = b.interval;
+}
+
+-- what is retransmitted isn't timed
+pub untimed_bounds : (again : Bool) (r : Receiving) (s : Sending) → Bounds r s → Bounds r (untimed_if again s)
+untimed_bounds again r s b = record {
+  limit = b.limit;
+  taken = b.taken;
+  early = b.early;
+  order = b.order;
+  syn_unacked = b.syn_unacked;
+  shut = b.shut;
+  flight = b.flight;
+  written = b.written;
+  sent = b.sent;
+  wl1 = b.wl1;
+  wl1_fits = b.wl1_fits;
+  wl2 = b.wl2;
+  edge = b.edge;
+  reach = b.reach;
+  congestion = b.congestion;
+  lost = b.lost;
+  timing = trip_keeps again s.timing b.timing;
+  interval = b.interval;
 }
 
 -- what is held, where no FIN is sent
@@ -213,5 +243,7 @@ first_bounds r s seq window b near fits small syn_unacked =
       edge = omega (arith, small);
       reach = omega (arith, small);
       congestion = b.congestion;
-      recovers = b.recovers;
+      lost = omega (arith, b.lost, b.syn_unacked syn_unacked);
+      timing = b.timing;
+      interval = b.timing.base;
     }

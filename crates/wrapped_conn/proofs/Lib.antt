@@ -18,6 +18,8 @@ pub mod Locals
 pub mod Ended
 pub mod NumbersAt
 pub mod Owing
+pub mod Waits
+pub mod Delays
 pub mod Copies
 pub mod Datas
 pub mod ResetTurn

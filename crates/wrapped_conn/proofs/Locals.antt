@@ -10,7 +10,7 @@ use Rattle.tcp_endpoint.specs.declared.states.StateName.TheVariants.{Closed, Lis
 use Rattle.tcp_endpoint.specs.Arrival.{received, received_in, in_closed, in_listen, in_syn_sent, in_others, with_reset_reply, with_reset_reply_without_ack, begun, answered, with_text_and_fin, with_fin_acked, with_first_ack, with_ack_used, with_ack, check_ack, check_syn, check_rst, check_sequence, with_time_wait_restarted, first, ack_at}
 use Rattle.tcp_endpoint.specs.ReceiveHalf.{next, with_segment}
 use Rattle.tcp_endpoint.specs.SendHalf.{fin_acked}
-use Rattle.tcp_endpoint.specs.Output.{flushed, with_turn_ended, with_advertised, after_full, with_fin_out, with_text_sent, with_probe}
+use Rattle.tcp_endpoint.specs.Output.{flushed, with_turn_ended, with_advertised, after_full, with_timed, with_fin_out, with_text_sent, with_probe}
 use Rattle.tcp_endpoint.specs.Tcb.{Tcb}
 use Rattle.endpoint_laws.specs.Turn.{Call, called, used}
 use Rattle.endpoint_laws.proofs.NoConnection.{call_locals}
@@ -88,5 +88,5 @@ used_local [] e = refl
 used_local (call ∷ calls) e = used_local calls (called call e) ∙ call_locals call e
 
 pub flushed_local : (e : Tcb) → (flushed e).local ≡ e.local
-unfolding flushed with_turn_ended with_advertised after_full with_fin_out with_text_sent with_probe
+unfolding flushed with_turn_ended with_advertised after_full with_timed with_fin_out with_text_sent with_probe
 flushed_local e = refl

@@ -243,7 +243,9 @@ close_bounds e b = record {
   edge = b.edge;
   reach = b.reach;
   congestion = b.congestion;
-  recovers = b.recovers;
+  lost = b.lost;
+  timing = b.timing;
+  interval = b.interval;
 }
 
 shut_on : {S : Type 0} (fetched : ℕ) (n : NorthState S) (e : Tcb) → AreSound fetched n e → ServedOn fetched n e (shut_north n) (shut_socket tcp_writer n e)

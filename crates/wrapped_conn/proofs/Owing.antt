@@ -6,11 +6,13 @@ use Rattle.seq_arith.specs.Arrival.{int_eq, is_acceptable_or_at_edge}
 use Rattle.seq_arith.specs.Offset.{first_of, ack_of, length_of}
 use Rattle.seq_arith.specs.Packet.{Segment, has_rst, has_syn, has_ack}
 use Rattle.server_trait.specs.Service.{Machine}
-use Rattle.ft_model.specs.PendingAck.{is_refused, needs_ack as needs_ack_by_law}
+use Rattle.ft_model.specs.PendingAck.{is_refused, is_delayed, is_ack_due, is_ack_pending, needs_ack as needs_ack_by_law}
+use Rattle.ft_model.specs.News.{News}
 use Rattle.ft_model.specs.Point.{Point, taken_units, advertised_edge}
 use Rattle.ft_model.specs.Taken.{accepts as accepts_by_law, acknowledges_unsent as unsent_by_law}
 use Rattle.south_wrap.specs.SouthPoint.{south_at}
 use Rattle.south_wrap.specs.SouthState.{acknowledges_unsent}
+use Rattle.connection_laws.proofs.Delaying.{waits_none}
 use Rattle.wrapped_conn.specs.ConnState.{ConnState}
 use Rattle.wrapped_conn.specs.Numbers.{needs_ack}
 use Rattle.wrapped_conn.proofs.NumbersAt.{NumbersAt}
@@ -26,6 +28,13 @@ ack_pending_same false o other e true false taken none t s = (λ j. s refl j || 
     without other true e h = absurd (false≢true (sym h))
     without true false e h = refl
     without false false e h = refl
+
+-- where TCP is CLOSED nothing is taken, so no ACK waits
+pub due_where_closed : {S : Type 0} (service : Machine S) (news : News) (p q : Point) (closed : Bool) → (closed ≡ true → taken_units q ≡ taken_units p)
+    → (closed && is_ack_due service news p q) ≡ (closed && is_ack_pending service news p q)
+unfolding is_ack_pending
+due_where_closed service news p q true same = sym (λ j. not (waits_none (is_delayed news p q) news p q (same refl) refl j) && is_ack_due service news p q)
+due_where_closed service news p q false same = refl
 
 acceptable : (rst syn text refused place : Bool) → refused ≡ false → (if rst then place else (syn || text)) ≡ (if rst then place else (if syn then true else (if refused then false else text)))
 acceptable rst syn text true place h = absurd (false≢true (sym h))

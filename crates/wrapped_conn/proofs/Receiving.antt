@@ -7,13 +7,12 @@ use Rattle.seq_arith.specs.Offset.{first_of}
 use Rattle.seq_arith.specs.Packet.{Segment, has_rst}
 use Rattle.seq_arith.specs.Message.Body.{DoneMsg}
 use Rattle.server_trait.specs.Service.{Machine}
-use Rattle.ft_model.proofs.PlainTurns.{due_is_pending}
 use Rattle.ft_model.specs.Answered.{answered_after}
 use Rattle.ft_model.specs.Copy.{copies as copies_by_law}
 use Rattle.ft_model.specs.ResetAndEnd.{reset_after, dones as dones_by_law}
 use Rattle.ft_model.specs.News.{News}
 use Rattle.ft_model.specs.News.News.{Comes, Begins}
-use Rattle.ft_model.specs.PendingAck.{is_ack_due, needs_ack as needs_ack_by_law}
+use Rattle.ft_model.specs.PendingAck.{is_ack_due, is_delayed as is_delayed_by_law, needs_ack as needs_ack_by_law}
 use Rattle.ft_model.specs.Point.{Point, taken_units, advertised_edge, is_over}
 use Rattle.ft_model.specs.Sending.{acknowledged_after}
 use Rattle.north_wrap.specs.declared.read_record.ReadRecord.{ReadRecord}
@@ -22,7 +21,7 @@ use Rattle.south_wrap.specs.SouthState.{SouthState}
 use Rattle.south_wrap.specs.Translation.{repeats_syn, inward}
 use Rattle.south_wrap.specs.SouthPoint.{south_at}
 use Rattle.tcp_endpoint.specs.Arrival.{received}
-use Rattle.tcp_endpoint.specs.Output.{leaving, flushed, packets}
+use Rattle.tcp_endpoint.specs.Output.{flushed, packets}
 use Rattle.tcp_endpoint.specs.States.{is_closed}
 use Rattle.tcp_endpoint.specs.Tcb.{Tcb}
 use Rattle.endpoint_laws.specs.Turn as endpoint
@@ -31,13 +30,13 @@ use Rattle.connection_laws.specs.Turn.{NewsFit}
 use Rattle.connection_laws.specs.Parts.{PartsTurn, adds}
 use Rattle.connection_laws.specs.PointNumbers.{PartsTell, NewsTell}
 use Rattle.connection_laws.proofs.PointNumbers.{parts_tell, news_tell}
-use Rattle.connection_laws.proofs.Together.{turns_together, profile_of}
+use Rattle.connection_laws.proofs.Together.{turns_together}
 use Rattle.endpoint_laws.proofs.EndingLaw.{flushed_name}
 use Rattle.wrapped_conn.specs.ConnState.{ConnState}
 use Rattle.connection_laws.specs.OutputFeed.{tcp_reader, tcp_writer}
-use Rattle.wrapped_conn.specs.Numbers.{una_units, resets, needs_ack}
+use Rattle.wrapped_conn.specs.Numbers.{una_units, logged_units, resets, needs_ack}
 use Rattle.wrapped_conn.specs.Arrival.{arrived, reached, noted, before_segment}
-use Rattle.wrapped_conn.specs.Output.{is_ack_pending, leaves, turn_ended}
+use Rattle.wrapped_conn.specs.Output.{is_ack_pending, is_delayed, tcp_out, leaves, turn_ended}
 use Rattle.wrapped_conn.specs.LoggerMessages.{copies, spelled}
 use Rattle.wrapped_conn.specs.Turn.{CompletesTurn, Rests, TellsDone, Receives, served, tcp_used, new_reads}
 use Rattle.wrapped_conn.specs.Sound.{IsSound}
@@ -45,7 +44,8 @@ use Rattle.wrapped_conn.specs.Refinement.{Keeps, TcpTells, StandsLive, StandsRes
 use Rattle.wrapped_conn.proofs.Locals.{received_local}
 use Rattle.wrapped_conn.proofs.Ended.{HasNews, carries_on}
 use Rattle.wrapped_conn.proofs.NumbersAt.{NumbersAt, numbers_at, has_fin_is, una_is, news_una_is, tcp_tells, logged_is}
-use Rattle.wrapped_conn.proofs.Owing.{ack_pending_same, needs_ack_is}
+use Rattle.wrapped_conn.proofs.Owing.{ack_pending_same, due_where_closed, needs_ack_is}
+use Rattle.wrapped_conn.proofs.Waits.{delayed_is}
 use Rattle.wrapped_conn.proofs.Copies.{copies_is}
 use Rattle.wrapped_conn.proofs.ResetTurn.{reset_point, resets_on, dones_are, still_unanswered}
 use Rattle.ft_io.proofs.Choices.{by_cases}
@@ -96,6 +96,7 @@ has_come service p c segment keeps live unreset tell made =
       four = keeps.four;
       reset = keeps.reset ∙ unreset;
       unanswered = keeps.unanswered;
+      delays = keeps.delays;
       local = arrived_local (repeats_syn (south_at c.south.delta p) segment) (inward (south_at c.south.delta p) segment) c.endpoint ∙ live.local;
     }
 
@@ -106,15 +107,15 @@ pub off_differs : (a b : ℕ) → a ≡ b → not (a == b) ≡ false
 off_differs a b h = grind (arith, h)
 
 -- what the connection adds is what the law adds
-ack_pending_is : {S : Type 0} (service : Machine S) (p q : Point) (t : Tcb) (c new : ConnState S) (segment : Segment) → p.delays ≡ false → NumbersAt service p c → NumbersAt service q new
+ack_pending_is : {S : Type 0} (service : Machine S) (p q : Point) (t : Tcb) (c new : ConnState S) (segment : Segment) → NumbersAt service p c → NumbersAt service q new
     → c.south ≡ south_at c.south.delta p → new.endpoint.name ≡ t.name → q.answered ≡ p.answered → (is_closed t.name ≡ true → (p.syn_acked ≡ true) × (taken_units q ≡ taken_units p))
     → is_ack_pending (before_segment c segment) new ≡ adds service (Comes segment) p q t
 unfolding is_ack_due
-ack_pending_is service p q t c new segment off n m south name answered closed =
+ack_pending_is service p q t c new segment n m south name answered closed =
     (λ j. (n.over j && not (has_rst segment)) || (is_closed (name j) && (needs_ack c segment || not (n.edge j == m.edge j))))
     ∙ ack_pending_same (is_over service p && not (has_rst segment)) (needs_ack c segment) (needs_ack_by_law p segment) (not (advertised_edge p == advertised_edge q)) (is_closed t.name) (nat_lt p.answered q.answered)
     (not (taken_units p == taken_units q)) (same_answered p.answered q.answered answered) (λ h. off_differs (taken_units p) (taken_units q) (sym (closed h).1)) (λ h. needs_ack_is service p c segment n south (closed h).0)
-    ∙ ap (λ b. needs_ack_besides service (Comes segment) p q || (is_closed t.name && b)) (sym (due_is_pending service (Comes segment) p q off))
+    ∙ ap (λ b. needs_ack_besides service (Comes segment) p q || b) (due_where_closed service (Comes segment) p q (is_closed t.name) (λ h. (closed h).1))
 
 -- a segment that doesn't reset it
 live_turn : {S : Type 0} (service : Machine S) (p : Point) (c new : ConnState S) (segment : Segment) (out messages : List (List ℕ)) → IsSound c → IsSound new → Keeps p c → StandsLive service p c
@@ -163,12 +164,18 @@ live_turn service p c new segment out messages sound sound_new keeps live unrese
       behind = omega arith;
     }) in
     let ack_pending : PartsTell service c.south.delta q new.north (flushed t) → is_ack_pending (before_segment c segment) (turn_ended (served new.north reads there)) ≡ adds service news p q t = λ tell.
-    ack_pending_is service p q t c (turn_ended (served new.north reads there)) segment (profile_of service live.u live.i c.south.delta live.given p c.north c.endpoint stand).delays numbers
+    ack_pending_is service p q t c (turn_ended (served new.north reads there)) segment numbers
     (numbers_at service c.south.delta q (turn_ended (served new.north reads there)) tell (keeps.fetched ∙ sym here.goes.same.fetched) here.rest.stand.north.read) keeps.south (flushed_name t) answered here.closed in
-    let goes_out = subst (λ (n : ConnState _). out ≡ packets (leaves (before_segment c segment) (repeats_syn c.south segment) n (leaving t))) k.state k.goes_out in
+    let logged : logged_units c ≡ p.answered = logged_is c sound.answered ∙ ap (λ (s : SouthState). s.answered) keeps.south in
+    let waits : PartsTell service c.south.delta q new.north (flushed t) → is_delayed (before_segment c segment) (served new.north reads there) ≡ is_delayed_by_law news p q = λ tell.
+    delayed_is service live.u live.i c.south.delta p q c (served new.north reads there) segment keeps.delays numbers
+    (numbers_at service c.south.delta q (turn_ended (served new.north reads there)) tell (keeps.fetched ∙ sym here.goes.same.fetched) here.rest.stand.north.read) logged (logged ∙ sym answered)
+    here.rest.stand.tcp in
+    let goes_out = subst (λ (n : ConnState _). out ≡ packets (leaves (before_segment c segment) (repeats_syn c.south segment) n
+    (tcp_out (before_segment c segment) (served new.north reads there)))) k.state k.goes_out in
     let leads : Leads service c.local c.boot news p (turn_ended (served new.north reads there)) out messages =
     carries_on service live.u live.i news p there new.north reads (before_segment c segment) (repeats_syn c.south segment) (copies (before_segment c segment) segment there) out messages h refl off sound_new.parts.made here
-    there.north.reads k.north.told ack_pending (λ j. repeats_syn (keeps.south j) segment) copy goes_out k.told in
+    there.north.reads k.north.told ack_pending waits (λ j. repeats_syn (keeps.south j) segment) copy goes_out k.told in
     subst (λ n. Leads service c.local c.boot news p n out messages) (sym k.state) leads
 
 -- one that resets it
@@ -188,6 +195,7 @@ reset_turn service p c new segment out messages sound keeps live unreset resets 
       four = keeps.four;
       reset = refl;
       unanswered = still_unanswered c.stage keeps.unanswered;
+      delays = keeps.delays;
     }))
     (subst (TcpTells (reset_point (Comes segment) p)) (sym k.state) (record { taken = told.taken; una = told.una; sent = told.sent }))
     k.goes_out
@@ -209,6 +217,7 @@ rests_turn service p c new segment out messages keeps stands is_reset k =
       four = keeps.four;
       reset = keeps.reset ∙ is_reset;
       unanswered = keeps.unanswered;
+      delays = keeps.delays;
     }))
     (subst (TcpTells (reset_point (Comes segment) p)) (sym k.state) (record { taken = stands.told.taken; una = stands.told.una; sent = stands.told.sent }))
     k.goes_out

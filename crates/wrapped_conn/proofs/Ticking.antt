@@ -12,6 +12,7 @@ use Rattle.ft_model.specs.ResetAndEnd.{reset_after, end_ticks_after, dones as do
 use Rattle.ft_model.specs.News.News.{Ticks}
 use Rattle.ft_model.specs.Point.{Point, taken_units, acknowledgement, is_over as is_over_by_law}
 use Rattle.ft_model.specs.Reads.{reads_told, read_messages}
+use Rattle.ft_model.specs.PendingAck.{is_delayed}
 use Rattle.ft_model.specs.Segments as segments
 use Rattle.ft_model.specs.Segments.{segments_of, bare_segment}
 use Rattle.ft_model.specs.Sending.{acknowledged_after}
@@ -20,10 +21,12 @@ use Rattle.north_wrap.specs.Refinement.{NorthStands, messages_of}
 use Rattle.north_wrap.proofs.ReadSequence.{told_reads}
 use Rattle.south_wrap.specs.SouthState.{SouthState}
 use Rattle.south_wrap.specs.SouthPoint.{south_at}
-use Rattle.tcp_endpoint.specs.Output.{leaving, flushed, packets}
+use Rattle.tcp_endpoint.specs.Output.{full_out, leaving, flushed, packets}
 use Rattle.tcp_endpoint.specs.Tcb.{Tcb}
 use Rattle.tcp_endpoint.specs.UserCalls.{after_tick, waited, timer_ticked}
+use Rattle.connection_laws.specs.Traffic.{tcp_out}
 use Rattle.connection_laws.specs.Parts.{PartsTurn, adds, leaves_with}
+use Rattle.connection_laws.proofs.Delaying.{waits_segment}
 use Rattle.connection_laws.specs.PointNumbers.{PartsTell}
 use Rattle.connection_laws.proofs.PointNumbers.{parts_tell}
 use Rattle.connection_laws.proofs.Together.{ticks_together, ticks_add_nothing}
@@ -81,8 +84,10 @@ only_these b bare (x ∷ xs) off = append-nil (x ∷ xs)
 leaves_is : {S : Type 0} (service : Machine S) (p q : Point) (c : ConnState S) → (ticked c).south ≡ south_at c.south.delta q → adds service Ticks p q (after_tick c.endpoint) ≡ false
     → passed (ticked c).south (leaving (after_tick c.endpoint)) ≡ leaves_with service c.local c.south.delta Ticks p q (after_tick c.endpoint)
 leaves_is service p q c south none =
-    (λ j. passed (south j) (leaving (after_tick c.endpoint)))
-    ∙ sym (only_these (adds service Ticks p q (after_tick c.endpoint)) (bare_segment c.local q) (passed (south_at c.south.delta q) (leaving (after_tick c.endpoint))) none)
+    let t : Tcb = after_tick c.endpoint in
+    let at_once : leaving t ≡ tcp_out Ticks p q t = λ j. if sym (waits_segment (is_delayed Ticks p q) Ticks p q refl refl) j then full_out t else leaving t in
+    (λ j. passed (south j) (at_once j))
+    ∙ sym (only_these (adds service Ticks p q t) (bare_segment c.local q) (passed (south_at c.south.delta q) (tcp_out Ticks p q t)) none)
 
 -- end ticks are counted as the law counts them
 all_logged : (taken answered : ℕ) → nat_le taken answered ≡ (min taken answered == taken)
@@ -130,6 +135,7 @@ keeps_ended true q x k = record {
   four = k.four;
   reset = k.reset;
   unanswered = still_unanswered x.stage k.unanswered;
+  delays = k.delays;
 }
 
 live_ended : {S : Type 0} (service : Machine S) (b : Bool) (q : Point) (x : ConnState S) → StandsLive service q x → StandsLive service q (if b then with_done x else x)
@@ -170,6 +176,7 @@ live_turn service p c new out messages sound keeps live unreset tick =
       four = still_four (is_end_tick x) x.end_ticks keeps.four;
       reset = keeps.reset ∙ unreset ∙ sym l.reset;
       unanswered = keeps.unanswered;
+      delays = keeps.delays ∙ sym l.same.delays;
     } in
     let live_on : StandsLive service q y = record { u = live.u; i = live.i; given = k.given; parts = k.rest; local = flushed_local t ∙ tick_local c.endpoint ∙ live.local } in
     let leads : Leads service c.local c.boot Ticks p (if y.end_ticks == 4 then with_done y else y) out messages = record {
@@ -199,6 +206,7 @@ reset_turn service p c new out messages keeps stands is_reset k =
       four = keeps.four;
       reset = keeps.reset ∙ is_reset;
       unanswered = still_unanswered c.stage keeps.unanswered;
+      delays = keeps.delays;
     }))
     (subst (TcpTells (reset_point Ticks p)) (sym k.state) (record { taken = stands.told.taken; una = stands.told.una; sent = stands.told.sent }))
     k.goes_out

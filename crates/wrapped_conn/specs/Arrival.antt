@@ -5,7 +5,7 @@ use Rattle.south_wrap.specs.Translation.{repeats_syn, inward}
 use Rattle.tcp_endpoint.specs.Arrival.{received}
 use Rattle.wrapped_conn.specs.declared.stage.Before.{Before}
 use Rattle.wrapped_conn.specs.ConnState.{ConnState}
-use Rattle.wrapped_conn.specs.Numbers.{has_fin, is_over, bytes_taken, una_units, advertised, needs_ack}
+use Rattle.wrapped_conn.specs.Numbers.{has_fin, is_over, bytes_taken, una_units, advertised, acknowledgeable, needs_ack}
 
 -- what is known before a segment's turn: a connection that was over answers every segment except a RST
 abbrev pub before_segment : {S : Type 0} → ConnState S → Segment → Before
@@ -16,11 +16,22 @@ before_segment c segment = record {
   edge = advertised c;
   asks = is_over c.endpoint.name && not (has_rst segment);
   needs_ack = needs_ack c segment;
+  segment = Bool.true;
+  acknowledgeable = acknowledgeable c;
 }
 
 -- what is known before a turn without a segment. `asks` says whether an ACK is pending for a reason that TCP doesn't know
 abbrev pub before_other : {S : Type 0} → Bool → ConnState S → Before
-before_other asks c = record { taken = bytes_taken c; fin = has_fin c.endpoint.name; una = una_units c; edge = advertised c; asks = asks; needs_ack = Bool.false }
+before_other asks c = record {
+  taken = bytes_taken c;
+  fin = has_fin c.endpoint.name;
+  una = una_units c;
+  edge = advertised c;
+  asks = asks;
+  needs_ack = Bool.false;
+  segment = Bool.false;
+  acknowledgeable = acknowledgeable c;
+}
 
 -- the south wrapper learns what TCP has taken, and what the client has acknowledged
 abbrev pub noted : {S : Type 0} → ConnState S → ConnState S

@@ -18,3 +18,4 @@ pub record ConnState (S : Type 0) : Type 0 where
   pub end_ticks : ℕ  -- the end ticks counted so far, up to four
   pub reset : Bool  -- whether the client has reset it
   pub stage : ConnStage  -- how far it has come
+  pub delays : Bool  -- whether the ACK of what isn't logged yet waits for the log

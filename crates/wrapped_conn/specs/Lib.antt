@@ -1,3 +1,4 @@
+pub mod Profiles
 pub mod ConnState
 pub mod Numbers
 pub mod NewConnection

@@ -5,17 +5,18 @@ use Rattle.ft_io.specs.declared.Key.{Key}
 use Rattle.seq_arith.specs.Number.{number_at, distance}
 use Rattle.seq_arith.specs.Offset.{one_if}
 use Rattle.seq_arith.specs.Packet.{Segment}
+use Rattle.seq_arith.specs.Profile.{Profile, plain}
 use Rattle.south_wrap.specs.SouthState.{SouthState, first_south}
 use Rattle.north_wrap.specs.NorthState.{NorthState, fresh_north}
 use Rattle.tcp_endpoint.specs.Arrival.{received}
-use Rattle.tcp_endpoint.specs.Tcb.{Tcb, listening}
+use Rattle.tcp_endpoint.specs.Tcb.{Tcb, listening_measuring}
 use Rattle.wrapped_conn.specs.declared.stage.ConnStage.TheVariants.{Live}
 use Rattle.wrapped_conn.specs.ConnState.{ConnState}
 use Rattle.wrapped_conn.specs.Numbers.{has_fin}
 
 -- a connection joined from three parts at one point. The units known to be logged there were fetched: bytes, and one more for a FIN
-abbrev pub joined_conn : {S : Type 0} → (boot : ℕ) → Key → Addr → SouthState → Tcb → NorthState S → ConnState S
-joined_conn boot key local south endpoint north = record {
+abbrev pub joined_conn_in : {S : Type 0} → Profile → (boot : ℕ) → Key → Addr → SouthState → Tcb → NorthState S → ConnState S
+joined_conn_in profile boot key local south endpoint north = record {
   boot = boot;
   key = key;
   local = local;
@@ -26,7 +27,11 @@ joined_conn boot key local south endpoint north = record {
   end_ticks = 0;
   reset = false;
   stage = Live;
+  delays = profile.delays;
 }
+
+abbrev pub joined_conn : {S : Type 0} → (boot : ℕ) → Key → Addr → SouthState → Tcb → NorthState S → ConnState S
+joined_conn = joined_conn_in plain
 
 -- the client's SYN
 abbrev pub syn : Key → Addr → (cisn mss : ℕ) → Segment
@@ -36,6 +41,10 @@ syn key local cisn mss = record {
 }
 
 -- a new connection: a fresh TCP has received its SYN
-unfoldable pub first_conn : {S : Type 0} → (boot : ℕ) → Key → Addr → (cisn sisn mss : ℕ) → S → ConnState S
-first_conn boot key local cisn sisn mss service =
-    joined_conn boot key local (first_south cisn sisn) (received (listening local sisn (2 ^ 24)) (syn key local cisn mss)) (fresh_north service)
+unfoldable pub first_conn_in : {S : Type 0} → Profile → (boot : ℕ) → Key → Addr → (cisn sisn mss : ℕ) → S → ConnState S
+first_conn_in profile boot key local cisn sisn mss service =
+    joined_conn_in profile boot key local (first_south cisn sisn)
+    (received (listening_measuring profile.measures local sisn (2 ^ 24)) (syn key local cisn mss)) (fresh_north service)
+
+abbrev pub first_conn : {S : Type 0} → (boot : ℕ) → Key → Addr → (cisn sisn mss : ℕ) → S → ConnState S
+first_conn = first_conn_in plain

@@ -56,6 +56,10 @@ sent_units c = distance (outer_sent c) ((c.south.sisn + 1) % 2 ^ 32)
 abbrev pub logged_units : {S : Type 0} → ConnState S → ℕ
 logged_units c = distance (number_at c.south.cisn c.south.answered) ((c.south.cisn + 1) % 2 ^ 32)
 
+-- what may be acknowledged: the units that are both taken and known to be logged
+abbrev pub acknowledgeable : {S : Type 0} → ConnState S → ℕ
+acknowledgeable c = min (units_taken c) (logged_units c)
+
 -- RFC 5961, 3.2: a RST at exactly the next number resets the connection
 abbrev pub resets : {S : Type 0} → ConnState S → Segment → Bool
 resets c segment = has_rst segment && int_eq (first_of c.south.cisn segment) (pos (units_taken c))

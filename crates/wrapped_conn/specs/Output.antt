@@ -1,15 +1,16 @@
 -- The segments that a turn sends: TCP's, each through the south wrapper, and those that the connection adds.
-use Rattle.std.specs.Prelude.{ℕ, Bool, ◌==◌, ◌&&◌, ◌||◌, not, Option, Some, None, List, [], ◌∷◌, ◌++◌, map, if◌then◌else◌}
+use Rattle.std.specs.Prelude.{ℕ, Bool, ◌+◌, ◌-◌, ◌==◌, nat_lt, is_none, min, length, ◌&&◌, ◌||◌, not, Option, Some, None, List, [], ◌∷◌, ◌++◌, map, if◌then◌else◌}
 use Rattle.std.specs.List.{list_any}
 use Rattle.seq_arith.specs.Number.{number_at}
+use Rattle.seq_arith.specs.Offset.{one_if}
 use Rattle.seq_arith.specs.Packet.{Segment, has_rst}
 use Rattle.south_wrap.specs.SouthState.{SouthState, acknowledged, window}
 use Rattle.south_wrap.specs.Translation.{outward}
 use Rattle.tcp_endpoint.specs.States.{is_closed}
-use Rattle.tcp_endpoint.specs.Output.{flushed, or_bare}
+use Rattle.tcp_endpoint.specs.Output.{full_out, leaving, flushed, or_bare}
 use Rattle.wrapped_conn.specs.declared.stage.Before.{Before}
 use Rattle.wrapped_conn.specs.ConnState.{ConnState}
-use Rattle.wrapped_conn.specs.Numbers.{advertised, outer_sent, sent_units}
+use Rattle.wrapped_conn.specs.Numbers.{units_taken, advertised, acknowledgeable, outer_sent, sent_units}
 
 -- what TCP sends is passed to the client. A RST, which is sent alone, isn't
 abbrev pub passed : SouthState → List Segment → List Segment
@@ -21,6 +22,18 @@ with_endpoint_flushed c = record c { endpoint = flushed c.endpoint }
 
 abbrev pub turn_ended : {S : Type 0} → ConnState S → ConnState S
 turn_ended c = record (with_endpoint_flushed c) { south = record c.south { sent = sent_units (with_endpoint_flushed c) } }
+
+-- Where the profile says so, TCP's ACK of the text and the FIN that a segment brought waits for the log, whose answer makes it due: nothing is held after a gap,
+-- and an ACK now would only repeat the acknowledgement and the window that were last sent, as a duplicate does (RFC 9293, 3.8.6.3; RFC 5681, 4.2)
+abbrev pub is_delayed : {S : Type 0} → Before → ConnState S → Bool
+is_delayed before c =
+    c.delays && before.segment && nat_lt (before.taken + one_if before.fin) (units_taken c) && length c.endpoint.receiving.early.text == 0
+    && is_none c.endpoint.receiving.early.fin && before.acknowledgeable == acknowledgeable c
+    && min 65535 (before.edge - before.acknowledgeable) == min 65535 (advertised c - acknowledgeable c)
+
+-- what TCP sends at the end of its turn: all but its ACK, where that waits
+abbrev pub tcp_out : {S : Type 0} → Before → ConnState S → List Segment
+tcp_out before c = if is_delayed before c then full_out c.endpoint else leaving c.endpoint
 
 -- a segment that the connection adds acknowledges what may be acknowledged, and its window begins there
 abbrev pub own_segment : {S : Type 0} → ConnState S → (seq flags : ℕ) → (mss : Option ℕ) → Segment

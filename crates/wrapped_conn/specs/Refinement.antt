@@ -28,6 +28,7 @@ pub record Keeps {S : Type 0} (p : Point) (c : ConnState S) : Type 0 where
   pub four : c.end_ticks ≤ 4
   pub reset : c.reset ≡ p.reset
   pub unanswered : is_done c.stage ≡ false
+  pub delays : c.delays ≡ p.delays
 
 -- TCP, north wrapper and send buffer between two turns
 pub record StandsLive {S : Type 0} (service : Machine S) (p : Point) (c : ConnState S) : Type 0 where

@@ -23,7 +23,7 @@ use Rattle.wrapped_conn.specs.Numbers.{una_units, units_taken, logged_units, is_
 use Rattle.connection_laws.specs.OutputFeed.{tcp_reader, tcp_writer}
 use Rattle.wrapped_conn.specs.Calls.{calls_of}
 use Rattle.wrapped_conn.specs.Arrival.{arrived, before_segment, before_other}
-use Rattle.wrapped_conn.specs.Output.{turn_ended, leaves, passed}
+use Rattle.wrapped_conn.specs.Output.{turn_ended, tcp_out, leaves, passed}
 use Rattle.wrapped_conn.specs.LoggerMessages.{spelled, copies, dones, with_done}
 
 -- TCP after the calls of the north wrapper's turn with these reads
@@ -42,7 +42,7 @@ new_reads old new = drop (length old.north.reads) new.north.reads
 pub record CompletesTurn {S : Type 0} (after : S → List ℕ → Served S) (before : Before) (repeats : Bool) (copied : List Body) (old new : ConnState S) (segments messages : List (List ℕ)) : Type 0 where
   pub north : Turns after tcp_reader tcp_writer (una_units old) old.north old.endpoint (new_reads old new) new.north (tcp_used old (new_reads old new))
   pub state : new ≡ turn_ended (served new.north (new_reads old new) old)
-  pub goes_out : segments ≡ packets (leaves before repeats new (leaving (tcp_used old (new_reads old new))))
+  pub goes_out : segments ≡ packets (leaves before repeats new (tcp_out before (served new.north (new_reads old new) old)))
   pub told : messages ≡ spelled old.boot (copied ++ messages_of old.key (new_reads old new))
 
 -- a connection that stays as it was and sends nothing

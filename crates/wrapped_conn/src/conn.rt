@@ -4,11 +4,13 @@ ghost use Rattle.std.specs.Prelude.{◌≡◌, ◌<◌, ◌≤◌, ◌-◌, fals
 ghost use Rattle.segment_codec.specs.Value.{said};
 ghost use Rattle.server_trait.specs.Service.{machine};
 ghost use Rattle.ft_model.specs.Point.{Point, whole_run};
-ghost use Rattle.wrapped_conn.specs.NewConnection.{first_conn, joined_conn, syn};
+ghost use Rattle.wrapped_conn.specs.NewConnection.{first_conn, first_conn_in, joined_conn, joined_conn_in, syn};
 ghost use Rattle.wrapped_conn.specs.Numbers.{has_fin as has_fin_lem, is_over as is_over_lem};
+ghost use Rattle.wrapped_conn.specs.Profiles.{profile_of};
 ghost use Rattle.wrapped_conn.specs.Sound.{IsSound};
 ghost use Rattle.wrapped_conn.specs.Refinement.{Stands};
 
+use crate::profile::Profile;
 use crate::stage::ConnStage;
 use ft_io::{Addr, Key, NoMemory};
 use limits::STREAM;
@@ -57,6 +59,8 @@ pub struct Conn<S: Service> {
     pub(crate) reset: bool,
     /// How far it has come.
     pub(crate) stage: ConnStage,
+    /// Whether the ACK of what isn't logged yet waits for the log.
+    pub(crate) delays: bool,
 }
 
 impl<S: Service> Model for Conn<S> {
@@ -75,6 +79,7 @@ impl<S: Service> Model for Conn<S> {
       end_ticks = c.end_ticks;
       reset = c.reset;
       stage = c.stage;
+      delays = c.delays;
     } };
 }
 
@@ -121,20 +126,44 @@ impl<S: Service> Conn<S> {
         ensures state { IfOk result (λ c. c ≡ first_conn boot opened.key local opened.cisn.0 opened.sisn.0 opened.mss (S.started kind)) }
         ensures sound { IfOk result (λ c. IsSound c) }
     {
+        Conn::open_in(Profile::Plain, alloc, boot, local, opened, kind)
+    }
+
+    /// The same of a server with this profile.
+    pub fn open_in(
+        profile: Profile,
+        alloc: Global,
+        boot: u64,
+        local: Addr,
+        opened: Opened,
+        kind: u8,
+    ) -> Result<Conn<S>, NoMemory>
+        requires boot { 1 ≤ boot }
+        requires least { 64 ≤ opened.mss }
+        requires most { opened.mss ≤ 1460 }
+        ensures state { IfOk result (λ c. c ≡ first_conn_in (profile_of profile) boot opened.key local opened.cisn.0 opened.sisn.0 opened.mss (S.started kind)) }
+        ensures sound { IfOk result (λ c. IsSound c) }
+    {
         let Opened {
             key,
             cisn,
             sisn,
             mss,
         } = opened;
-        let mut endpoint = Endpoint::listen(alloc, local, sisn, STREAM)?;
+        let mut endpoint = Endpoint::listen_measuring(
+            alloc,
+            local,
+            sisn,
+            STREAM,
+            profile.measures(),
+        )?;
         endpoint.on_packet(PacketRef {
             head: syn_of(key, local, cisn, mss),
             payload: &[],
         });
         let south = South::new(cisn, sisn);
         let north = North::new(alloc, kind);
-        Ok(Conn::joined(boot, key, local, south, endpoint, north))
+        Ok(Conn::joined_in(profile, boot, key, local, south, endpoint, north))
     }
 
     /// A connection whose three parts are at one point, as at the end of a restart.
@@ -147,6 +176,21 @@ impl<S: Service> Conn<S> {
         north: North<S>,
     ) -> Conn<S>
         ensures { result ≡ joined_conn boot key local south endpoint north }
+    {
+        Conn::joined_in(Profile::Plain, boot, key, local, south, endpoint, north)
+    }
+
+    /// The same of a server with this profile. TCP measures round trips exactly if the profile does.
+    pub fn joined_in(
+        profile: Profile,
+        boot: u64,
+        key: Key,
+        local: Addr,
+        south: South,
+        endpoint: Endpoint,
+        north: North<S>,
+    ) -> Conn<S>
+        ensures { result ≡ joined_conn_in (profile_of profile) boot key local south endpoint north }
     {
         let answered = south.stable().minus(south.cisn().add(1));
         let fetched = answered.saturating_sub(u32::from(has_fin(endpoint.state().name)));
@@ -161,6 +205,7 @@ impl<S: Service> Conn<S> {
             end_ticks: 0,
             reset: false,
             stage: ConnStage::Live,
+            delays: profile.delays(),
         }
     }
 

@@ -5,7 +5,7 @@ ghost use Rattle.ft_io.specs.declared.Addr.{Addr};
 ghost use Rattle.seq_arith.specs.Message.{Numbers};
 ghost use Rattle.seq_arith.specs.Packet.{Segment};
 ghost use Rattle.server_trait.specs.Service.{machine};
-ghost use Rattle.seq_arith.specs.Profile.{plain};
+ghost use Rattle.seq_arith.specs.Profile.{Profile};
 ghost use Rattle.ft_model.specs.Log.{Entry};
 ghost use Rattle.ft_model.specs.News.News.{Comes, Logged, Ticks, Begins};
 ghost use Rattle.ft_model.specs.Opening.{point_opened};
@@ -18,10 +18,10 @@ ghost use Rattle.north_wrap.specs.NorthState.{NorthState};
 ghost use Rattle.north_wrap.specs.Refinement.{HasReplayed};
 ghost use Rattle.south_wrap.specs.SouthPoint.{south_at};
 ghost use Rattle.connection_laws.specs.FirstSyn.{MayOpen};
-ghost use Rattle.connection_laws.specs.Splice.{GoesOnFrom, delta_from, spliced};
+ghost use Rattle.connection_laws.specs.Splice.{GoesOnFrom, delta_from, spliced_measuring};
 ghost use Rattle.connection_laws.specs.Turn.{NewsFit};
 ghost use Rattle.wrapped_conn.specs.ConnState.{ConnState};
-ghost use Rattle.wrapped_conn.specs.NewConnection.{first_conn, joined_conn};
+ghost use Rattle.wrapped_conn.specs.NewConnection.{first_conn_in, joined_conn_in};
 ghost use Rattle.wrapped_conn.specs.Sound.{IsSound};
 ghost use Rattle.wrapped_conn.specs.Refinement.{Stands, StandsBefore, Leads, Tells};
 ghost use Rattle.wrapped_conn.specs.Turn.{Starts, Receives, IsTold, Ticks as TicksOn};
@@ -30,20 +30,20 @@ use server_trait::Service;
 
 /// A connection that a restart joins from three parts, which continue from an entry of the log, is at the point of that entry.
 pub fn joined_connections_stand_at_the_entry<S: Service>()
-    ensures { (fresh : S) (boot : ℕ) (local : Addr) (e : Entry) (i : ℕ) (n : NorthState S) → GoesOnFrom (machine fresh S.after) e i
-        → HasReplayed (machine fresh S.after) (point_of (machine fresh S.after) plain e) (resumed_at (machine fresh S.after) e) n
+    ensures { (fresh : S) (profile : Profile) (boot : ℕ) (local : Addr) (e : Entry) (i : ℕ) (n : NorthState S) → GoesOnFrom (machine fresh S.after) e i
+        → HasReplayed (machine fresh S.after) (point_of (machine fresh S.after) profile e) (resumed_at (machine fresh S.after) e) n
         → StandsBefore (machine fresh S.after)
-        (joined_conn boot e.key local (south_at (delta_from (machine fresh S.after) e i) (point_of (machine fresh S.after) plain e))
-        (spliced e.key local e.cisn (length e.bytes) e.mss i e.fin) n) (point_of (machine fresh S.after) plain e) }
+        (joined_conn_in profile boot e.key local (south_at (delta_from (machine fresh S.after) e i) (point_of (machine fresh S.after) profile e))
+        (spliced_measuring profile.measures e.key local e.cisn (length e.bytes) e.mss i e.fin) n) (point_of (machine fresh S.after) profile e) }
 {}
 
 /// The turn in which a connection becomes live is lawful: that of a new one from the point that its client's SYN opens, and that of one at the end of a restart
 /// from the point of its parts.
 pub fn connections_start_as_the_law_says<S: Service>()
-    ensures new { (fresh : S) (boot : ℕ) (local : Addr) (numbers : Numbers) (new : ConnState S) (segments messages : List (List ℕ)) → MayOpen numbers
+    ensures new { (fresh : S) (profile : Profile) (boot : ℕ) (local : Addr) (numbers : Numbers) (new : ConnState S) (segments messages : List (List ℕ)) → MayOpen numbers
         → IsSound new
-        → Starts S.after (first_conn boot numbers.key local numbers.cisn numbers.sisn numbers.mss fresh) new segments messages
-        → Leads (machine fresh S.after) local boot Begins (point_opened plain numbers) new segments messages }
+        → Starts S.after (first_conn_in profile boot numbers.key local numbers.cisn numbers.sisn numbers.mss fresh) new segments messages
+        → Leads (machine fresh S.after) local boot Begins (point_opened profile numbers) new segments messages }
     ensures joined { (fresh : S) (p : Point) (old new : ConnState S) (segments messages : List (List ℕ)) → IsSound old → IsSound new
         → StandsBefore (machine fresh S.after) old p
         → Starts S.after old new segments messages → Leads (machine fresh S.after) old.local old.boot Begins p new segments messages }

@@ -1,18 +1,18 @@
 //! The segments that a turn sends: TCP's, each through the south wrapper, and those that the connection adds.
 
-ghost use Rattle.std.specs.Prelude.{◌≡◌, ◌≤◌, ◌<◌, ◌+◌, ◌==◌, ◌∷◌, ◌++◌, [], Some, None, List, Option, ℕ, length, IsOk, slice_get, if◌then◌else◌};
+ghost use Rattle.std.specs.Prelude.{◌≡◌, ◌≤◌, ◌<◌, ◌+◌, ◌-◌, ◌==◌, min, ◌∷◌, ◌++◌, [], Some, None, List, Option, ℕ, length, IsOk, slice_get, if◌then◌else◌};
 ghost use Rattle.std.specs.List.{AllByRecursion};
 ghost use Rattle.seq_arith.specs.Packet.{Segment};
 ghost use Rattle.seq_arith.specs.PacketGrammar.{reading, spelling, mss_option};
 ghost use Rattle.segment_codec.specs.Value.{said};
 ghost use Rattle.tcp_endpoint.specs.Output.{leaving, packets, or_bare};
 ghost use Rattle.tcp_endpoint.specs.Packets.{AreReadable, byte_count};
-ghost use Rattle.wrapped_conn.specs.Output.{passed, turn_ended, own_segment, syn_ack, bare, is_ack_pending};
+ghost use Rattle.wrapped_conn.specs.Output.{passed, turn_ended, is_delayed, tcp_out, own_segment, syn_ack, bare, is_ack_pending};
 ghost use Rattle.wrapped_conn.specs.Sound.{IsSound};
 
 use crate::conn::Conn;
 use crate::stage::Before;
-use limits::SEGMENT;
+use limits::{BUFFER, SEGMENT};
 use segment_codec::{Head, write_header};
 use seq_arith::{ACK, SYN, Seq};
 use server_trait::Service;
@@ -40,6 +40,33 @@ impl<S: Service> Conn<S> {
         let sent = self.sent();
         self.south.sent(sent);
         pass_outward(&mut self.south, out);
+    }
+
+    /// Has TCP delay its ACK, where that waits for the log.
+    #[tactic(auto, using(crate::proofs::Delays::delayed_sends, crate::proofs::Delays::undelayed_sends, crate::proofs::Delays::delayed_ends, crate::proofs::Delays::delayed_sound))]
+    pub(crate) fn delay_ack(&mut self, before: Before)
+        requires sound { IsSound self.old }
+        ensures sent { leaving self.new.endpoint ≡ tcp_out before self.old }
+        ensures ended { turn_ended self.new ≡ turn_ended self.old }
+        ensures sound { IsSound self.new }
+    {
+        if self.is_delayed(before) {
+            self.endpoint.delay_ack();
+        }
+    }
+
+    /// Whether the ACK of what the turn's segment brought waits for the log, whose answer makes it due.
+    fn is_delayed(&self, before: Before) -> bool
+        requires { IsSound self.now }
+        ensures { result ≡ is_delayed before self.now }
+    {
+        let acknowledgeable = self.acknowledgeable();
+        self.delays
+            && before.segment
+            && u64::from(before.taken) + u64::from(before.fin) < u64::from(self.taken_units())
+            && !self.endpoint.holds_early()
+            && before.acknowledgeable == acknowledgeable
+            && window(before.edge, before.acknowledgeable) == window(self.edge(), acknowledgeable)
     }
 
     /// The header of a segment that the connection adds to TCP's.
@@ -98,6 +125,13 @@ impl<S: Service> Conn<S> {
     {
         before.asks || (self.is_closed() && (before.needs_ack || before.edge != self.edge()))
     }
+}
+
+/// The window from an offset up to a right edge.
+fn window(edge: u32, from: u32) -> u32
+    ensures { result ≡ min 65535 (edge - from) }
+{
+    edge.saturating_sub(from).min(BUFFER)
 }
 
 /// Passes TCP's segments to the client, changed by the south wrapper. If there is a RST, which TCP sends alone, it passes nothing.

@@ -4,6 +4,7 @@
 
 pub use conn::{Conn, Opened};
 pub use inside::Inside;
+pub use profile::Profile;
 pub use quiet::Quiet;
 pub use stage::ConnStage;
 pub use turn_out::TurnOut;
@@ -15,6 +16,7 @@ mod inside;
 pub mod laws;
 mod leaving;
 mod numbers;
+mod profile;
 mod quiet;
 mod stage;
 mod telling;

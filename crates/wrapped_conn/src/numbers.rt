@@ -8,7 +8,7 @@ ghost use Rattle.segment_codec.specs.Value.{segment_of, said};
 ghost use Rattle.ft_model.specs.Copy.{from_start};
 ghost use Rattle.tcp_endpoint.specs.States.{is_closed};
 ghost use Rattle.wrapped_conn.specs.Numbers.{has_fin as has_fin_lem, is_over as is_over_lem, fetched_or_read, bytes_taken, units_taken, advertised, una_units, outer_sent};
-ghost use Rattle.wrapped_conn.specs.Numbers.{sent_units, logged_units, resets, is_unsent_ack, needs_ack_if_acceptable, needs_ack};
+ghost use Rattle.wrapped_conn.specs.Numbers.{sent_units, logged_units, acknowledgeable, resets, is_unsent_ack, needs_ack_if_acceptable, needs_ack};
 ghost use Rattle.wrapped_conn.specs.LoggerMessages.{end_of};
 ghost use Rattle.wrapped_conn.specs.Sound.{IsSound};
 
@@ -119,6 +119,14 @@ impl<S: Service> Conn<S> {
         ensures { result ≡ logged_units self.now }
     {
         self.south.stable().minus(self.south.cisn().add(1))
+    }
+
+    /// The client's units that may be acknowledged: those that are both taken and known to be logged.
+    pub(crate) fn acknowledgeable(&self) -> u32
+        requires { IsSound self.now }
+        ensures { result ≡ acknowledgeable self.now }
+    {
+        self.taken_units().min(self.logged())
     }
 
     /// Where a segment begins in the client's stream.

@@ -26,4 +26,8 @@ pub(crate) struct Before {
     pub asks: bool,
     /// Whether the segment makes an ACK pending by TCP's rules.
     pub needs_ack: bool,
+    /// Whether a segment has arrived.
+    pub segment: bool,
+    /// The client's units that could be acknowledged.
+    pub acknowledgeable: u32,
 }

@@ -3,9 +3,9 @@
 ghost use Rattle.std.specs.Prelude.{◌≡◌, ◌≤◌, ◌<◌, ◌+◌, ◌*◌, ◌^◌, ◌∷◌, ◌++◌, [], true, false, Bool, List, ℕ, length, nat_lt, OnOk, IsOk, IfOk, if◌then◌else◌};
 ghost use Rattle.seq_arith.specs.PacketGrammar.{reading};
 ghost use Rattle.seq_arith.specs.Message.{Body as Told};
-ghost use Rattle.segment_codec.specs.Value.{segment_of};
 ghost use Rattle.segment_codec.specs.Change.{changed};
 ghost use Rattle.logger_wire.specs.Value.{IsSendable};
+ghost use Rattle.segment_codec.specs.Value.{segment_of};
 ghost use Rattle.south_wrap.specs.Translation.{answer_in, repeats_syn, passed_in};
 ghost use Rattle.north_wrap.specs.NorthState.{Turns};
 ghost use Rattle.tcp_endpoint.specs.Output.{leaving, packets};
@@ -107,6 +107,8 @@ impl<S: Service> Conn<S> {
             edge: self.edge(),
             asks: self.is_over() && !has(segment.head.flags, RST),
             needs_ack: self.needs_ack(&segment),
+            segment: true,
+            acknowledgeable: self.acknowledgeable(),
         }
     }
 
@@ -122,6 +124,8 @@ impl<S: Service> Conn<S> {
             edge: self.edge(),
             asks,
             needs_ack: false,
+            segment: false,
+            acknowledgeable: self.acknowledgeable(),
         }
     }
 
@@ -211,6 +215,7 @@ impl<S: Service> Conn<S> {
     {
         let mut news = ReadRecords::new();
         self.serve(alloc, &mut news)?;
+        self.delay_ack(before);
         self.flush(&mut out.segments);
         self.send_syn_ack(repeats, &mut out.segments);
         self.send_bare(self.is_ack_pending(before), &mut out.segments);

@@ -5,6 +5,6 @@ use Rattle.endpoint_laws.proofs.NoConnection.{syn_is, opening_times_law}
 use Rattle.endpoint_laws.proofs.laws.active_opens_connect.Goals as goal
 
 pub returns : goal.returns
-returns c = λ local remote iss limit calls may still.
-    let connects = connect_law local remote iss limit calls may still in
-    (connects.0, connects.1 ∙ ap (λ (s : Segment). s ∷ []) (syn_is local remote iss limit), opening_times_law local remote iss limit calls may still)
+returns c = λ measures local remote iss limit calls may still.
+    let connects = connect_law measures local remote iss limit calls may still in
+    (connects.0, connects.1 ∙ ap (λ (s : Segment). s ∷ []) (syn_is local remote iss limit), opening_times_law measures local remote iss limit calls may still)

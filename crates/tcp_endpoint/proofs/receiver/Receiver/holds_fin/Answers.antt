@@ -11,8 +11,8 @@ returns-then-place-receive_edge c = grind (arith, ints)
 
 pub returns-then-is_none : goal.returns-then-is_none
 unfolding holds_fin
-returns-then-is_none c = grind (arith, ints, c.held_to.ensures (c.args.place - taken c.args.self.now))
+returns-then-is_none c = grind (arith, ints, c.held_to.ensures.held (c.args.place - taken c.args.self.now))
 
 pub returns-else-is_none : goal.returns-else-is_none
 unfolding holds_fin
-returns-else-is_none c = grind (arith, ints, c.held_to.ensures (c.args.place - taken c.args.self.now))
+returns-else-is_none c = grind (arith, ints, c.held_to.ensures.held (c.args.place - taken c.args.self.now))
