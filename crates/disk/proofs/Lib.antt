@@ -1,2 +1,4 @@
 mod Deaths
 pub mod Telling
+pub mod Writing
+pub mod Ends

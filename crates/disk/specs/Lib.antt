@@ -1,7 +1,9 @@
 pub mod Counts
 pub mod Death
+pub mod FileContent
 pub mod HostDesk
 pub mod Remains
 pub mod MemDesk
 pub mod MemDisk
+pub mod MemFile
 pub mod CallRecord

@@ -1,5 +1,5 @@
 -- A desk in memory: a network and a file.
-use Rattle.std.specs.Prelude.{◌≡◌, ◌⊎◌, ◌<◌, ℕ, Bool, true, List, [], Some, if◌then◌else◌}
+use Rattle.std.specs.Prelude.{◌≡◌, ◌⊎◌, ◌<◌, ℕ, Bool, true, false, List, [], Some, if◌then◌else◌}
 use Rattle.std.specs.declared.option.Option.{Option}
 use Rattle.std.specs.Str.{bytes_eq}
 use Rattle.ft_io.specs.declared.link_call.LinkCall.{LinkCall}
@@ -7,6 +7,7 @@ use Rattle.ft_system.specs.MemLink.{LinkState}
 use Rattle.ft_system.specs.NumberedCalls.{Calls, no_call}
 use Rattle.disk.specs.declared.calls.DeskCall.{DeskCall}
 use Rattle.disk.specs.declared.calls.DeskCall.TheVariants.{OnLink}
+use Rattle.disk.specs.CallRecord.{told_if}
 use Rattle.disk.specs.MemDisk as disks
 use Rattle.disk.specs.MemDisk.{DiskState}
 
@@ -28,15 +29,23 @@ pub record DeskState : Type 0 where
   pub link_faults : ℕ
   -- how many of them were binds
   pub bind_faults : ℕ
+  -- of each receive so far, the oldest first, whether it waits
+  pub waits : List Bool
+  -- an allocation for that list has failed
+  pub forgets_waits : Bool
 
 -- a desk before its first call
 abbrev pub fresh_desk : LinkState → DiskState → (name open_fails : List ℕ) → Bool → DeskState
 fresh_desk link disk name open_fails is_in_use =
-    record { link = link; disk = disk; name = name; opens = no_call open_fails; is_in_use = is_in_use; refusals = 0; link_faults = 0; bind_faults = 0 }
+    record { link = link; disk = disk; name = name; opens = no_call open_fails; is_in_use = is_in_use; refusals = 0; link_faults = 0; bind_faults = 0; waits = []; forgets_waits = false }
 
 -- the record of the calls on both; there is none once an allocation for it has failed
 abbrev pub told_of : DeskState → Option (List DeskCall)
 told_of desk = disks.told_of desk.disk
+
+-- which of its receives waited; there is no record once an allocation for it has failed
+abbrev pub waits_of : DeskState → Option (List Bool)
+waits_of desk = told_if desk.forgets_waits desk.waits
 
 -- the content of the file of this name: of the desk's own file what isn't read yet, and of any other nothing, since it is new
 abbrev pub file_of : DeskState → List ℕ → Option (List ℕ)

@@ -1,6 +1,6 @@
 //! A network of datagrams and one file, whose calls are recorded in one order. So a contract can say that an answer was sent after the sync that it depends on.
 
-ghost use Rattle.std.specs.Prelude.{◌≡◌, ◌≤◌, ℕ, List, [], length, IfOk, OnOk, OnErr, IsErrOf};
+ghost use Rattle.std.specs.Prelude.{◌≡◌, ◌≤◌, ℕ, List, [], ◌∷◌, true, false, length, IfOk, OnOk, OnErr, IsErrOf};
 ghost use Rattle.std.specs.declared.option.Option.{Option};
 ghost use Rattle.ft_io.specs.Faults.{Rose};
 ghost use Rattle.ft_io.specs.Told.{Tells};
@@ -36,7 +36,8 @@ pub trait Desk: Disk {
         ensures never_falls { Self.fault_count self.old ≤ Self.fault_count self.new }
         ensures refusals_never_fall { (Self.beside self.old).refusals ≤ (Self.beside self.new).refusals }
         ensures no_link_fault { (Self.beside self.new).link_faults ≡ (Self.beside self.old).link_faults }
-        ensures no_bind_fault { (Self.beside self.new).bind_faults ≡ (Self.beside self.old).bind_faults };
+        ensures no_bind_fault { (Self.beside self.new).bind_faults ≡ (Self.beside self.old).bind_faults }
+        ensures waits { (Self.beside self.new).waits ≡ (Self.beside self.old).waits };
 
     /// Sends and receives at the address `at` from now on. After `Failed` all is as before, except for the counts.
     fn bind(&mut self, at: Addr) -> Result<(), Failed>
@@ -49,7 +50,8 @@ pub trait Desk: Disk {
         ensures bind_never_falls { (Self.beside self.old).bind_faults ≤ (Self.beside self.new).bind_faults }
         ensures no_disk_fault { Self.fault_count self.new ≡ Self.fault_count self.old }
         ensures no_refusal { (Self.beside self.new).refusals ≡ (Self.beside self.old).refusals }
-        ensures left { Self.left self.new ≡ Self.left self.old };
+        ensures left { Self.left self.new ≡ Self.left self.old }
+        ensures waits { (Self.beside self.new).waits ≡ (Self.beside self.old).waits };
 
     /// Sends one datagram. Whether it arrives is unspecified.
     fn send(&mut self, to: Addr, bytes: &[u8]) -> Result<(), Failed>
@@ -60,7 +62,8 @@ pub trait Desk: Disk {
         ensures no_bind_fault { (Self.beside self.new).bind_faults ≡ (Self.beside self.old).bind_faults }
         ensures no_disk_fault { Self.fault_count self.new ≡ Self.fault_count self.old }
         ensures no_refusal { (Self.beside self.new).refusals ≡ (Self.beside self.old).refusals }
-        ensures left { Self.left self.new ≡ Self.left self.old };
+        ensures left { Self.left self.new ≡ Self.left self.old }
+        ensures waits { (Self.beside self.new).waits ≡ (Self.beside self.old).waits };
 
     /// Waits a while for a datagram and moves it to the beginning of `buf`, or only its first bytes where it is longer. What follows them in `buf`, and all of
     /// `buf` where none was given, is unspecified.
@@ -74,7 +77,9 @@ pub trait Desk: Disk {
         ensures no_bind_fault { (Self.beside self.new).bind_faults ≡ (Self.beside self.old).bind_faults }
         ensures no_disk_fault { Self.fault_count self.new ≡ Self.fault_count self.old }
         ensures no_refusal { (Self.beside self.new).refusals ≡ (Self.beside self.old).refusals }
-        ensures left { Self.left self.new ≡ Self.left self.old };
+        ensures left { Self.left self.new ≡ Self.left self.old }
+        // It is recorded as a receive that waits.
+        ensures waits { Tells (Self.beside self.old).waits (Self.beside self.new).waits (true ∷ []) };
 
     /// Receives like `recv`, but doesn't wait: returns `Heard::Nothing` unless a datagram has arrived already.
     fn recv_waiting(&mut self, buf: &mut [u8]) -> Result<Heard, Failed>
@@ -87,5 +92,7 @@ pub trait Desk: Disk {
         ensures no_bind_fault { (Self.beside self.new).bind_faults ≡ (Self.beside self.old).bind_faults }
         ensures no_disk_fault { Self.fault_count self.new ≡ Self.fault_count self.old }
         ensures no_refusal { (Self.beside self.new).refusals ≡ (Self.beside self.old).refusals }
-        ensures left { Self.left self.new ≡ Self.left self.old };
+        ensures left { Self.left self.new ≡ Self.left self.old }
+        // .. and this as one that doesn't.
+        ensures waits { Tells (Self.beside self.old).waits (Self.beside self.new).waits (false ∷ []) };
 }

@@ -1,130 +1,128 @@
-//! Std's file as a disk. Its content isn't specified: what is written, and whether it is on the disk after a sync that returns `Ok`, depends on the system.
-//! Contracts know how many calls failed.
+//! A disk in an open file. Each call is done completely, or is a fault. What the file itself does with bytes is specified for a file in memory, and for std's
+//! file depends on the system.
 
-ghost use Rattle.std.specs.Prelude.{◌≡◌, ◌≤◌, None, IfOk, OnOk, OnErr, length};
+ghost use Rattle.std.specs.Prelude.{◌≡◌, ◌≤◌, ◌<◌, ◌+◌, ◌^◌, None, false, IfOk, OnOk, OnErr, length};
 ghost use Rattle.ft_io.specs.Faults.{Rose};
 ghost use Rattle.disk.specs.Counts.{nothing};
+ghost use Rattle.disk.specs.FileContent.{written_in, HasPlace, EndsAt, Becomes};
+ghost use Rattle.disk.specs.declared.calls.DiskCall.TheVariants.{Appended, Put, Cut};
 
-use crate::{Disk, ShelfEnd};
+use crate::{Disk, OpenFile, ShelfEnd, StdFile};
 use ft_io::Failed;
-use std::fs::{File, Files, OpenOptions};
-use std::io::Read;
-use std::marker::Model;
-use std::os::fd::AsRawFd;
-use std::os::unix::fs::{FileExt, MetadataExt, OpenOptionsExt};
-use std::path::Path;
-use std::{fs, io};
+use std::fs::{File, Files};
 
-/// A file of the system, locked for this process only, until it is dropped or the process dies.
+/// A file, which is its disk's alone.
 #[derive(Drop)]
-pub struct FileDisk {
-    file: File,
+pub struct FileDisk<F: OpenFile> {
+    file: F,
     /// How many bytes it has.
-    len: u64,
+    count: u64,
     faults: u64,
 }
 
-impl Model for FileDisk {
-    ghost use Rattle.std.specs.Prelude.{ℕ};
-
-    ghost Value = { ℕ };
-
-    ghost view = { λ d. d.faults };
+impl FileDisk<StdFile> {
+    /// Opens the file of the system at `path`, or creates it, for this process only. A symbolic link, a directory and a device are refused, and so is a file
+    /// with a second name (hard link).
+    pub fn open<R: Files<File = File>>(files: &R, path: &str) -> Result<FileDisk<StdFile>, ShelfEnd>
+        ensures { IfOk result (λ disk. disk.faults ≡ 0) }
+    {
+        let file = StdFile::open(files, path)?;
+        FileDisk::over(file).map_err(|_| ShelfEnd::Failed)
+    }
 }
 
-impl FileDisk {
-    /// Opens the file at `path`, or creates it, for this process only. It is synced before its first read: a process that died may have written more than it
-    /// had synced, and what is read and answered from then on must survive a loss of power. A symbolic link, a directory and a device are refused, and so is a
-    /// file with a second name (hard link).
-    pub fn open<R: Files<File = File>>(files: &R, path: &str) -> Result<FileDisk, ShelfEnd>
-        ensures { IfOk result (λ disk. disk ≡ 0) }
+impl<F: OpenFile + Drop> FileDisk<F> {
+    /// Makes a disk of a file that nobody else changes, and that isn't read yet. The file is synced before its first read: a process that died may have written
+    /// more than it had synced, and what is read and answered from then on must survive a loss of power.
+    pub fn over(file: F) -> Result<FileDisk<F>, Failed>
+        ensures same { IfOk result (λ disk. F.content disk.file ≡ F.content file) }
+        ensures synced { IfOk result (λ disk. F.synced disk.file ≡ F.content disk.file) }
+        ensures counted { IfOk result (λ disk. EndsAt (F.content disk.file) disk.count) }
+        ensures no_fault { IfOk result (λ disk. disk.faults ≡ 0) }
     {
-        let file = open_named(files, path)?;
-        file.try_lock()?;
-        let len = settle(files, &file, path)?;
+        let mut file = file;
+        file.sync_all()?;
+        file.drop_cached()?;
+        let count = file.count()?;
         Ok(FileDisk {
             file,
-            len,
+            count,
             faults: 0,
         })
     }
 
-    fn counted(&mut self, done: io::Result<()>) -> Result<(), Failed>
-        ensures cause { OnErr result (Rose self.old self.new) }
-        ensures no_fault { OnOk result (self.new ≡ self.old) }
-        ensures never_falls { self.old ≤ self.new }
+    /// The file.
+    pub fn file(&self) -> &F
+        ensures { result.now ≡ self.now.file }
     {
-        match done {
-            Ok(()) => Ok(()),
-            Err(_) => {
-                self.faults = self.faults.saturating_add(1);
-                Err(Failed)
-            }
+        &self.file
+    }
+
+    /// Appends all bytes.
+    fn append_whole(&mut self, bytes: &[u8]) -> Result<(), Failed>
+        ensures appended { OnOk result (Becomes (F.content self.old.file) self.old.count (F.content self.new.file) self.new.count (Appended bytes.now false)) }
+        ensures faults { self.new.faults ≡ self.old.faults }
+    {
+        let len = bytes.len() as u64;
+        if len > u64::MAX - self.count {
+            return Err(Failed);
         }
+        write_whole(&mut self.file, bytes, self.count)?;
+        self.count += len;
+        Ok(())
+    }
+
+    /// Replaces a byte, or appends it.
+    fn put_byte(&mut self, at: u64, byte: u8) -> Result<(), Failed>
+        ensures put { OnOk result (Becomes (F.content self.old.file) self.old.count (F.content self.new.file) self.new.count (Put at byte false)) }
+        ensures faults { self.new.faults ≡ self.old.faults }
+    {
+        // After the end the system would leave a hole.
+        let at = at.min(self.count);
+        if at == u64::MAX {
+            return Err(Failed);
+        }
+        write_whole(&mut self.file, &[byte], at)?;
+        self.count = self.count.max(at + 1);
+        Ok(())
     }
 }
 
-/// Opens the regular file of this name, or creates it. Refuses a symbolic link, and a file with a second name.
-fn open_named<R: Files<File = File>>(files: &R, path: &str) -> io::Result<File> {
-    let mut file = open_or_make(files, path)?;
-    // If a standard stream is closed, its descriptor is free: what is written to that stream must not end up in the file.
-    if file.as_raw_fd() <= 2 {
-        file = file.try_clone()?;
+/// Writes all bytes at the place `at`, with as many calls as that takes.
+fn write_whole<F: OpenFile>(file: &mut F, bytes: &[u8], at: u64) -> Result<(), Failed>
+    requires { at + length bytes.now < 2 ^ 64 }
+    ensures whole { OnOk result (HasPlace (F.content file.old) at → F.content file.new ≡ written_in at bytes.now (F.content file.old)) }
+{
+    let mut done = 0;
+    while done < bytes.len() {
+        let more = file.write_at(&bytes[done..], at + done as u64)?;
+        if more == 0 {
+            return Err(Failed);
+        }
+        done += more;
     }
-    let found = file.metadata()?;
-    let named = fs::symlink_metadata(files, path)?;
-    let is_named = found.dev() == named.dev() && found.ino() == named.ino();
-    if !is_named || !found.is_file() || found.nlink() != 1 {
-        return Err(io::ErrorKind::Unsupported.into());
-    }
-    Ok(file)
+    Ok(())
 }
 
-/// Opens the file of this name, or creates it. Refuses a symbolic link, a directory and a device. The file isn't opened in append mode: Linux would then write
-/// each byte at the end, whatever its place.
-fn open_or_make<R: Files<File = File>>(files: &R, path: &str) -> io::Result<File> {
-    let made = OpenOptions::new()
-        .read(true)
-        .write(true)
-        .create_new(true)
-        .mode(0o600)
-        .open(files, path);
-    match made {
-        Err(error) if error.kind() == io::ErrorKind::AlreadyExists => (),
-        done => return done,
+/// Counts a call, if it failed.
+pub(crate) fn counted<T: Drop>(faults: &mut u64, done: Result<T, Failed>) -> Result<T, Failed>
+    ensures same { result ≡ done }
+    ensures cause { OnErr result (Rose faults.old faults.new) }
+    ensures no_fault { OnOk result (faults.new ≡ faults.old) }
+    ensures never_falls { faults.old ≤ faults.new }
+{
+    if done.is_err() {
+        *faults = faults.saturating_add(1);
     }
-    if !fs::symlink_metadata(files, path)?.is_file() {
-        return Err(io::ErrorKind::Unsupported.into());
-    }
-    OpenOptions::new().read(true).write(true).open(files, path)
+    done
 }
 
-/// Syncs the file and its directory, so that a new name stays, and returns the file's length in bytes. Drops the kernel's cached pages of the file, since a
-/// failed sync of an earlier process may have left them different from the disk.
-fn settle<R: Files<File = File>>(files: &R, file: &File, path: &str) -> io::Result<u64> {
-    file.sync_all()?;
-    let advised = libc::posix_fadvise(file.as_raw_fd(), 0, 0, libc::POSIX_FADV_DONTNEED);
-    if advised != 0 {
-        return Err(io::Error::from_raw_os_error(advised));
-    }
-    let folder = OpenOptions::new().read(true).open(files, folder_of(path))?;
-    folder.sync_all()?;
-    Ok(file.metadata()?.len())
-}
-
-fn folder_of(path: &str) -> &str {
-    match Path::new(path).parent() {
-        Some(folder) if !folder.as_os_str().is_empty() => folder.as_os_str(),
-        _ => ".",
-    }
-}
-
-impl Disk for FileDisk {
+impl<F: OpenFile + Drop> Disk for FileDisk<F> {
     ghost told = { λ _. None };
 
     ghost left = { λ _. None };
 
-    ghost fault_count = { λ faults. faults };
+    ghost fault_count = { λ disk. disk.faults };
 
     ghost beside = { λ _. nothing };
 
@@ -132,39 +130,67 @@ impl Disk for FileDisk {
         self.faults
     }
 
-    fn read(&mut self, buf: &mut [u8]) -> Result<usize, Failed> {
-        match self.file.read(buf) {
-            Ok(n) => Ok(n),
-            Err(_) => {
-                self.faults = self.faults.saturating_add(1);
-                Err(Failed)
-            }
-        }
+    fn read(&mut self, buf: &mut [u8]) -> Result<usize, Failed>
+        requires { 0 < length buf.old }
+        ensures same { (F.content self.new.file ≡ F.content self.old.file) × (self.new.count ≡ self.old.count) }
+
+        // What every disk promises.
+        ensures within { IfOk result (λ n. n ≤ length buf.new) }
+        ensures cause { OnErr result (Rose self.old.faults self.new.faults) }
+        ensures never_falls { self.old.faults ≤ self.new.faults }
+    {
+        let read = self.file.read(buf);
+        counted(&mut self.faults, read)
     }
 
-    fn append(&mut self, bytes: &[u8]) -> Result<(), Failed> {
-        let done = self.file.write_all_at(bytes, self.len);
-        self.len = self.len.saturating_add(bytes.len() as u64);
-        self.counted(done)
+    fn append(&mut self, bytes: &[u8]) -> Result<(), Failed>
+        // All bytes are at the end of the file, or it is a fault.
+        ensures appended { OnOk result (Becomes (F.content self.old.file) self.old.count (F.content self.new.file) self.new.count (Appended bytes.now false)) }
+
+        // What every disk promises.
+        ensures cause { OnErr result (Rose self.old.faults self.new.faults) }
+        ensures never_falls { self.old.faults ≤ self.new.faults }
+    {
+        let done = self.append_whole(bytes);
+        counted(&mut self.faults, done)
     }
 
-    fn put(&mut self, at: u64, byte: u8) -> Result<(), Failed> {
-        // After the end the system would leave a hole.
-        let at = at.min(self.len);
-        let done = self.file.write_all_at(&[byte], at);
-        self.len = self.len.max(at.saturating_add(1));
-        self.counted(done)
+    fn put(&mut self, at: u64, byte: u8) -> Result<(), Failed>
+        ensures put { OnOk result (Becomes (F.content self.old.file) self.old.count (F.content self.new.file) self.new.count (Put at byte false)) }
+
+        // What every disk promises.
+        ensures cause { OnErr result (Rose self.old.faults self.new.faults) }
+        ensures never_falls { self.old.faults ≤ self.new.faults }
+    {
+        let done = self.put_byte(at, byte);
+        counted(&mut self.faults, done)
     }
 
-    fn cut(&mut self, at: u64) -> Result<(), Failed> {
+    fn cut(&mut self, at: u64) -> Result<(), Failed>
+        // The file has no byte from this place on, or it is a fault.
+        ensures cut { OnOk result (Becomes (F.content self.old.file) self.old.count (F.content self.new.file) self.new.count (Cut at false)) }
+
+        // What every disk promises.
+        ensures cause { OnErr result (Rose self.old.faults self.new.faults) }
+        ensures never_falls { self.old.faults ≤ self.new.faults }
+    {
         // A length after the end would make the file longer.
-        self.len = at.min(self.len);
-        let done = self.file.set_len(self.len);
-        self.counted(done)
+        let count = at.min(self.count);
+        let done = self.file.set_len(count);
+        self.count = count;
+        counted(&mut self.faults, done)
     }
 
-    fn sync(&mut self) -> Result<(), Failed> {
-        let done = self.file.sync_data();
-        self.counted(done)
+    fn sync(&mut self) -> Result<(), Failed>
+        // All that the file has is on the disk, or it is a fault.
+        ensures synced { OnOk result (F.synced self.new.file ≡ F.content self.new.file) }
+        ensures same { (F.content self.new.file ≡ F.content self.old.file) × (self.new.count ≡ self.old.count) }
+
+        // What every disk promises.
+        ensures cause { OnErr result (Rose self.old.faults self.new.faults) }
+        ensures never_falls { self.old.faults ≤ self.new.faults }
+    {
+        let done = self.file.sync();
+        counted(&mut self.faults, done)
     }
 }

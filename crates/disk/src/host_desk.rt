@@ -1,11 +1,11 @@
 //! Std's UDP socket and std's file as a desk. Their content isn't specified: contracts know only how many calls failed.
 
-ghost use Rattle.std.specs.Prelude.{◌≡◌, ◌≤◌, IfSome, IfOk, OnOk, OnErr, None, length};
-ghost use Rattle.ft_io.specs.Faults.{Rose};
+ghost use Rattle.std.specs.Prelude.{◌≡◌, ◌≤◌, IfSome, IfOk, None, length};
 ghost use Rattle.ft_io.specs.Link.{HasAtMost};
 ghost use Rattle.disk.specs.HostDesk.{fresh_desk};
 
-use crate::{Desk, Disk, FileDisk, ShelfEnd};
+use crate::file_disk::counted;
+use crate::{Desk, Disk, FileDisk, ShelfEnd, StdFile};
 use ft_io::{Addr, Failed, Heard};
 use std::fs::{File, Files};
 use std::io;
@@ -21,7 +21,7 @@ const PATIENCE: u64 = 20;
 #[derive(Drop)]
 pub struct HostDesk<'a, R: Net + Files<File = File>> {
     system: &'a R,
-    file: Option<FileDisk>,
+    file: Option<FileDisk<StdFile>>,
     socket: Option<Bound>,
     faults: u64,
     refusals: u64,
@@ -61,7 +61,7 @@ impl<'a, R: Net + Files<File = File>> Disk for HostDesk<'a, R> {
 
     ghost fault_count = { λ counts. counts.faults };
 
-    ghost beside = { λ counts. record { refusals = counts.refusals; link_faults = counts.link_faults; bind_faults = counts.bind_faults } };
+    ghost beside = { λ counts. record { refusals = counts.refusals; link_faults = counts.link_faults; bind_faults = counts.bind_faults; waits = None } };
 
     fn faults(&self) -> u64 {
         self.faults
@@ -168,19 +168,6 @@ impl<'a, R: Net + Files<File = File>> Desk for HostDesk<'a, R> {
         let heard = hear_by(&mut self.socket, false, buf);
         counted(&mut self.link_faults, heard)
     }
-}
-
-/// Counts a call, if it failed.
-fn counted<T: Drop>(faults: &mut u64, done: Result<T, Failed>) -> Result<T, Failed>
-    ensures same { result ≡ done }
-    ensures cause { OnErr result (Rose faults.old faults.new) }
-    ensures no_fault { OnOk result (faults.new ≡ faults.old) }
-    ensures never_falls { faults.old ≤ faults.new }
-{
-    if done.is_err() {
-        *faults = faults.saturating_add(1);
-    }
-    done
 }
 
 /// A socket that is bound.

@@ -11,7 +11,10 @@ pub use file_disk::FileDisk;
 pub use host_desk::HostDesk;
 pub use mem_desk::MemDesk;
 pub use mem_disk::MemDisk;
+pub use mem_file::MemFile;
+pub use open_file::OpenFile;
 pub use shelf_end::ShelfEnd;
+pub use std_file::StdFile;
 
 mod calls;
 mod death;
@@ -22,4 +25,7 @@ mod file_disk;
 mod host_desk;
 mod mem_desk;
 mod mem_disk;
+mod mem_file;
+mod open_file;
 mod shelf_end;
+mod std_file;

@@ -1,7 +1,7 @@
 //! A network and a file in memory, for tests: the datagrams that arrive, the file's bytes and the calls that fail are given, and the calls on both are recorded
 //! in one list.
 
-ghost use Rattle.std.specs.Prelude.{◌≡◌, ◌≤◌, ◌<◌, ◌⊎◌, length, take, false, true, None, Some, [], string_bytes, IfSome, IfOk, OnOk, OnErr, IsErrOf};
+ghost use Rattle.std.specs.Prelude.{◌≡◌, ◌≤◌, ◌<◌, ◌⊎◌, length, take, false, true, None, Some, [], ◌∷◌, string_bytes, IfSome, IfOk, OnOk, OnErr, IsErrOf};
 ghost use Rattle.std.specs.Bool.{OnTrue, OnFalse};
 ghost use Rattle.ft_io.specs.declared.link_call.LinkCall.TheVariants.{Handed};
 ghost use Rattle.ft_system.specs.Arrival.{arriving};
@@ -13,7 +13,7 @@ ghost use Rattle.ft_io.specs.Told.{Tells};
 ghost use Rattle.disk.specs.Death.{left_of};
 ghost use Rattle.disk.specs.Remains.{LeftBy};
 ghost use Rattle.disk.specs.CallRecord.{on_link, disk_calls};
-ghost use Rattle.disk.specs.MemDesk.{fresh_desk, told_of, file_of, noted, starved, IsStarved};
+ghost use Rattle.disk.specs.MemDesk.{fresh_desk, told_of, waits_of, file_of, noted, starved, IsStarved};
 
 use crate::{Death, Desk, DeskCall, Disk, MemDisk, ShelfEnd};
 use ft_io::{Addr, Failed, Heard, Link, LinkCall, NoMemory, Octets};
@@ -33,6 +33,8 @@ pub struct MemDesk {
     refusals: u64,
     link_faults: u64,
     bind_faults: u64,
+    waits: Vec<bool>,
+    forgets_waits: bool,
 }
 
 impl Model for MemDesk {
@@ -50,6 +52,8 @@ impl Model for MemDesk {
       refusals = d.refusals;
       link_faults = d.link_faults;
       bind_faults = d.bind_faults;
+      waits = d.waits.items;
+      forgets_waits = d.forgets_waits;
     } };
 }
 
@@ -76,6 +80,8 @@ impl MemDesk {
             refusals: 0,
             link_faults: 0,
             bind_faults: 0,
+            waits: Vec::new(alloc),
+            forgets_waits: false,
         }
     }
 
@@ -85,6 +91,18 @@ impl MemDesk {
         ensures none { result ≡ None → told_of self.now ≡ None }
     {
         self.disk.told()
+    }
+
+    /// Of each receive so far, the oldest first, whether it waits; or `None` once an allocation for that has failed.
+    pub fn waits(&self) -> Option<&[bool]>
+        ensures some { IfSome result (λ waits. waits_of self.now ≡ Some waits.now) }
+        ensures none { result ≡ None → waits_of self.now ≡ None }
+    {
+        if self.forgets_waits {
+            None
+        } else {
+            Some(self.waits.as_slice())
+        }
     }
 
     /// What a death during the calls so far leaves of the file.
@@ -137,9 +155,50 @@ impl MemDesk {
         ensures cause { Rose self.old.link_faults self.new.link_faults }
         ensures binds { self.new.bind_faults ≡ self.old.bind_faults }
         ensures refusals { self.new.refusals ≡ self.old.refusals }
+        ensures waits { waits_of self.new ≡ waits_of self.old }
     {
         self.link_faults = self.link_faults.saturating_add(1);
         Failed
+    }
+
+    /// Records whether a receive waits.
+    fn note_wait(&mut self, waits: bool)
+        ensures told { Tells (waits_of self.old) (waits_of self.new) (waits ∷ []) }
+        ensures disk { self.new.disk ≡ self.old.disk }
+        ensures link { self.new.link ≡ self.old.link }
+        ensures faults { self.new.link_faults ≡ self.old.link_faults }
+        ensures binds { self.new.bind_faults ≡ self.old.bind_faults }
+        ensures refusals { self.new.refusals ≡ self.old.refusals }
+    {
+        if self.waits.push(waits).is_err() {
+            self.forgets_waits = true;
+        }
+    }
+
+    /// Receives, and records the outcome.
+    fn hear(&mut self, buf: &mut [u8]) -> Result<Heard, Failed>
+        requires { 2048 ≤ length buf.old }
+        ensures heard { IfOk result (λ heard. heard_as heard buf.new ≡ arriving (length buf.new) self.old.link.arrivals) }
+        ensures fails { OnErr result (IsNextListed self.old.link.recvs ⊎ IsStarved self.new) }
+        ensures within { IfOk result (λ heard. HasAtMost heard (length buf.new)) }
+        ensures told { Tells (told_of self.old) (told_of self.new) (on_link (recv_told result buf.new)) }
+        ensures cause { OnErr result (Rose self.old.link_faults self.new.link_faults) }
+        ensures no_fault { OnOk result (self.new.link_faults ≡ self.old.link_faults) }
+        ensures never_falls { self.old.link_faults ≤ self.new.link_faults }
+        ensures binds { self.new.bind_faults ≡ self.old.bind_faults }
+        ensures no_disk_fault { self.new.disk.faults ≡ self.old.disk.faults }
+        ensures refusals { self.new.refusals ≡ self.old.refusals }
+        ensures left { self.new.disk.left ≡ self.old.disk.left }
+        ensures waits { waits_of self.new ≡ waits_of self.old }
+    {
+        let Ok(heard) = self.link.recv(buf) else {
+            self.note(LinkCall::Missed);
+            return Err(self.fail_on_link());
+        };
+        if self.note_heard(heard, buf) {
+            return Ok(heard);
+        }
+        Err(self.fail_on_link())
     }
 }
 
@@ -150,7 +209,7 @@ impl Disk for MemDesk {
 
     ghost fault_count = { λ d. d.disk.faults };
 
-    ghost beside = { λ d. record { refusals = d.refusals; link_faults = d.link_faults; bind_faults = d.bind_faults } };
+    ghost beside = { λ d. record { refusals = d.refusals; link_faults = d.link_faults; bind_faults = d.bind_faults; waits = waits_of d } };
 
     fn faults(&self) -> u64 {
         self.disk.faults()
@@ -207,6 +266,7 @@ impl Desk for MemDesk {
         ensures refusals_never_fall { self.old.refusals ≤ self.new.refusals }
         ensures no_link_fault { self.new.link_faults ≡ self.old.link_faults }
         ensures no_bind_fault { self.new.bind_faults ≡ self.old.bind_faults }
+        ensures waits { waits_of self.new ≡ waits_of self.old }
     {
         if self.is_in_use {
             self.refusals = self.refusals.saturating_add(1);
@@ -237,6 +297,7 @@ impl Desk for MemDesk {
         ensures no_disk_fault { self.new.disk.faults ≡ self.old.disk.faults }
         ensures no_refusal { self.new.refusals ≡ self.old.refusals }
         ensures left { Some self.new.disk.left ≡ Some self.old.disk.left }
+        ensures waits { waits_of self.new ≡ waits_of self.old }
     {
         let is_bound = self.link.bind(at).is_ok() && self.note(LinkCall::Bound(at));
         if is_bound {
@@ -259,6 +320,7 @@ impl Desk for MemDesk {
         ensures no_disk_fault { self.new.disk.faults ≡ self.old.disk.faults }
         ensures no_refusal { self.new.refusals ≡ self.old.refusals }
         ensures left { Some self.new.disk.left ≡ Some self.old.disk.left }
+        ensures waits { waits_of self.new ≡ waits_of self.old }
     {
         let is_sent = self.link.send(to, bytes).is_ok();
         if self.note_handed(to, bytes, !is_sent) && is_sent {
@@ -284,15 +346,10 @@ impl Desk for MemDesk {
         ensures no_disk_fault { self.new.disk.faults ≡ self.old.disk.faults }
         ensures no_refusal { self.new.refusals ≡ self.old.refusals }
         ensures left { Some self.new.disk.left ≡ Some self.old.disk.left }
+        ensures waits { Tells (waits_of self.old) (waits_of self.new) (true ∷ []) }
     {
-        let Ok(heard) = self.link.recv(buf) else {
-            self.note(LinkCall::Missed);
-            return Err(self.fail_on_link());
-        };
-        if self.note_heard(heard, buf) {
-            return Ok(heard);
-        }
-        Err(self.fail_on_link())
+        self.note_wait(true);
+        self.hear(buf)
     }
 
     /// Its calls and those of `recv` are numbered together.
@@ -313,7 +370,9 @@ impl Desk for MemDesk {
         ensures no_disk_fault { self.new.disk.faults ≡ self.old.disk.faults }
         ensures no_refusal { self.new.refusals ≡ self.old.refusals }
         ensures left { Some self.new.disk.left ≡ Some self.old.disk.left }
+        ensures waits { Tells (waits_of self.old) (waits_of self.new) (false ∷ []) }
     {
-        self.recv(buf)
+        self.note_wait(false);
+        self.hear(buf)
     }
 }

@@ -1,7 +1,9 @@
 //! A file of the system as a disk, and with a UDP socket as a desk.
 
-use disk::{Desk, Disk, FileDisk, HostDesk, ShelfEnd};
-use ft_io::{Addr, Failed, Heard};
+use crate::numbers;
+use disk::{Desk, Disk, FileDisk, HostDesk, MemFile, ShelfEnd};
+use ft_io::{Addr, Failed, Heard, NoMemory};
+use std::alloc::Global;
 use std::fs;
 use std::fs::{File, Files};
 use std::net::Net;
@@ -71,6 +73,57 @@ pub fn open_names<R: Files<File = File>>(system: &R, said: &mut Said) {
     for name in ["plain", "second"] {
         say_opening(system, name, said);
     }
+}
+
+/// Changes a new file as a disk, by calls on a desk. Says how the changes ended.
+fn change_by_desk<K: Desk>(desk: &mut K, said: &mut Said) {
+    match desk.open("desk") {
+        Ok(()) => said.done(change(desk)),
+        Err(_) => said.word(b"no file"),
+    }
+}
+
+/// Opens this file by a desk, and says what two reads of it give.
+fn read_by_desk<K: Desk>(desk: &mut K, said: &mut Said) {
+    match desk.open("./desk") {
+        Ok(()) => say_reads(desk, said),
+        Err(_) => said.word(b"no file"),
+    }
+}
+
+/// Appends, puts, cuts and syncs through a desk of the system; then another desk opens the file and reads it.
+pub fn keep_by_desk<R: Net + Files<File = File>>(system: &R, said: &mut Said) {
+    change_by_desk(&mut HostDesk::new(system), said);
+    read_by_desk(&mut HostDesk::new(system), said);
+}
+
+/// Makes the eight calls of `change` on a disk over a file in memory of three bytes, each whatever the one before gave. Of its writes, changes of its length and
+/// syncs those fail whose numbers come before a semicolon, and those writes take only half the bytes whose numbers come after it. Says how each call ended, the
+/// count of faults, what the file has, and what it had at its last sync.
+pub fn change_short_file(alloc: Global, lists: &str, said: &mut Said) -> Result<(), NoMemory> {
+    let (fails, halves) = lists.split_once(';').unwrap_or((lists, ""));
+    let (fails, halves) = (numbers(alloc, fails)?, numbers(alloc, halves)?);
+    let file = MemFile::new(alloc, b"abc".to_vec(alloc)?, fails, halves);
+    match FileDisk::over(file) {
+        Ok(mut disk) => say_changes(&mut disk, said),
+        Err(_) => said.word(b"no disk"),
+    }
+    Ok(())
+}
+
+/// Makes the calls of `change_short_file`.
+fn say_changes(disk: &mut FileDisk<MemFile>, said: &mut Said) {
+    said.done(disk.append(b"XYZ").is_ok());
+    said.done(disk.sync().is_ok());
+    said.done(disk.put(1, b'!').is_ok());
+    said.done(disk.put(99, b'?').is_ok());
+    said.done(disk.cut(5).is_ok());
+    said.done(disk.cut(99).is_ok());
+    said.done(disk.append(b"UVWXYZ").is_ok());
+    said.done(disk.sync().is_ok());
+    said.value(disk.faults());
+    said.word(disk.file().content());
+    said.word(disk.file().synced());
 }
 
 /// Binds the desk to a port of this machine, one of 16 of which some may be taken.

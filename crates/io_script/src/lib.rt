@@ -61,6 +61,7 @@ fn play<R: Net + Clock + Files<File = File> + Processes>(
         "bind" => links::bind_three(alloc, rest, said),
         "process" => processes::run_three(system, alloc, said),
         "queues" => queues::echo_thrice(alloc, said),
+        "short" => files::change_short_file(alloc, rest, said),
         "clock" => ticks::by_the_list(system, alloc, rest, said),
         _ => {
             play_system(system, line, said);
@@ -75,6 +76,7 @@ fn play_system<R: Net + Clock + Files<File = File>>(system: &R, line: &str, said
         "reader" => streams::read_four(said),
         "writer" => streams::write_four(said),
         "datagrams" => sockets::send_to_itself(system, said),
+        "apart" => sockets::send_apart(system, said),
         "silence" => ticks::in_silence(system, &mut UdpLink::new(system), said),
         "traffic" => {
             let mut stranger = UdpLink::new(system);
@@ -84,6 +86,7 @@ fn play_system<R: Net + Clock + Files<File = File>>(system: &R, line: &str, said
         "file" => files::keep_file(system, said),
         "names" => files::open_names(system, said),
         "desks" => files::use_desks(system, said),
+        "kept" => files::keep_by_desk(system, said),
         _ => said.word(b"no such line"),
     }
 }

@@ -64,3 +64,58 @@ pub fn send_to_itself<R: Net + Clock>(system: &R, said: &mut Said) {
         None => said.word(b"no port is free"),
     }
 }
+
+/// The first of the ports that are tried for two links with one port, and how many are.
+const SHARED: u16 = 7478;
+
+const TRIED: u16 = 16;
+
+/// Binds both links to one port, the first at 127.0.0.1 and the second at 127.0.0.2. The second one's address, or `None` where no port is free.
+fn bind_apart<L: Link>(near: &mut L, far: &mut L) -> Option<Addr> {
+    for more in 0..TRIED {
+        let port = SHARED.wrapping_add(more);
+        let there = Addr {
+            ip: 0x7F00_0002,
+            port,
+        };
+        let here = Addr {
+            ip: 0x7F00_0001,
+            port,
+        };
+        if near.bind(here).is_ok() && far.bind(there).is_ok() {
+            return Some(there);
+        }
+    }
+    None
+}
+
+/// Says from which address a receive got a datagram.
+fn say_sender<L: Link>(link: &mut L, said: &mut Said) {
+    let mut buf = [b'.'; 2048];
+    match await_datagram(link, &mut buf) {
+        Ok(Heard::Got { len, from }) => {
+            said.word(&buf[..len.min(2048)]);
+            said.value(from.ip);
+        }
+        Ok(Heard::Nothing) => said.word(b"silent"),
+        Err(Failed) => said.word(b"failed"),
+    }
+}
+
+/// A link at 127.0.0.1 and one at 127.0.0.2, with the same port: the first sends to the second, and the second to the first. Says what each received, and from
+/// which address.
+pub fn send_apart<R: Net + Clock>(system: &R, said: &mut Said) {
+    let mut near = UdpLink::new(system);
+    let mut far = UdpLink::new(system);
+    let Some(there) = bind_apart(&mut near, &mut far) else {
+        return said.word(b"no port is free");
+    };
+    let here = Addr {
+        ip: 0x7F00_0001,
+        port: there.port,
+    };
+    said.done(near.send(there, b"to the second").is_ok());
+    say_sender(&mut far, said);
+    said.done(far.send(here, b"to the first").is_ok());
+    say_sender(&mut near, said);
+}
