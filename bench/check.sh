@@ -5,7 +5,7 @@
 # smaller, and the memory of both. The number of the last packet of each larger report is changed, too, which must be found at its line.
 set -eu
 . "$(dirname "$0")/common.sh"
-build ftreplay run <crates/ftreplay/stdin
+build ftreplay run <examples/first_path.schedule
 program=$PWD/crates/ftreplay/out/ftreplay
 
 playing() { "$program" run <"$work/$1.schedule"; }

@@ -727,8 +727,12 @@ PROCESS_SERVER = f"server --local {HERE} --logger {THERE} --service echo --boot 
 TWO_TICKS = "turns 2 datagrams 0 sent 0 lost 0 failed 0"
 
 
-def start(words, status, *says, shell="", answers=(), hold=""):
-    """A process. Its shell's command has "$0" for the program and "$@" for its words."""
+def start(words, status, *says, shell="", answers=(), hold="", asked=()):
+    """A process. Its shell's command has "$0" for the program and "$@" for its words. Its peer asks it these things first, each with the answer that must come;
+    None: it is said once, and no answer is awaited."""
+    for told, answer in asked:
+        script.append(f"{'throw' if answer is None else 'tell'} {HERE} {told}".rstrip())
+        printed.extend([] if answer is None else [f"answer {answer}"])
     if shell:
         script.append("shell " + shell)
     if hold:
@@ -798,6 +802,46 @@ start(KEEPER + " no/such/folder", 11, "ftnode: journal fault")
 start(KEEPER + " damaged", 12, "ftnode: journal: byte 0", shell='printf "no journal" >damaged; exec "$0" "$@"')
 start(KEEPER + " held", 13, "ftnode: journal in use", hold="held")
 start(KEEPER + " held", 0, TWO_TICKS)
+
+# A file of a system is written. 150 turns are at most three seconds of silence, and the counts of turns depend on the machine, so they aren't looked at
+line("# a logger's real journal: it is written, opened again and asked", "# a logger's real journal: it is written, opened again and asked")
+UNSEEN = 'exec "$0" "$@" >/dev/null'
+LASTING = without(PROCESS_LOGGER, "turns") + " --turns 150 --journal written"
+noise = [("", None), ("6162", None), (hello(1)[:-2], None)]
+start(LASTING, 0, shell="rm -f written; " + UNSEEN, asked=[
+    (hello(1), summary(1, 0)),
+    *noise,
+    (message(OPEN, 1, OPENING), message(OPENED, 1, OPENING)),
+    (message(DATA, 1, KEY + long(0) + long(0) + b"\0hello"), message(STABLE, 1, kept(5, 0))),
+    *noise,
+    (message(READ, 1, KEY + long(0) + b"\0\x05"), message(READS, 1, kept(5, 1))),
+])
+# the journal's descriptor isn't that of the closed output, and so nothing that was meant for the output is in the journal
+start(KEEPER + " written", 5, shell='exec "$0" "$@" >&-')
+start(LASTING, 0, shell=UNSEEN, asked=[
+    (hello(2), summary(2, 1)),
+    (message(LIST, 2, b"\0\0"), message(ENTRY, 2, b"\0\0" + OPENING + long(5) + b"\0\0" + long(1) + long(0))),
+    (message(CUTS, 2, KEY + long(0)), message(LENS, 2, KEY + long(0) + b"\0\x05")),
+    (message(BYTES, 2, KEY + long(0)), message(PART, 2, KEY + long(0) + b"hello")),
+])
+line("# nobody else may read the journal", "# nobody else may read the journal")
+start(KEEPER + " written", 0, "0", "600", shell='"$0" "$@" >/dev/null; echo $?; stat -c %a written')
+line("# what is written to which output, at status 0 and at another one", "# what is written to which output, at status 0 and at another one")
+start(PROCESS_LOGGER, 0, TWO_TICKS, shell='exec "$0" "$@" 2>/dev/null')
+start(PROCESS_LOGGER, 0, shell='exec "$0" "$@" >/dev/null')
+start("logger", 2, shell='exec "$0" "$@" 2>/dev/null')
+start("logger", 2, usage, shell='exec "$0" "$@" >/dev/null')
+line("# what a child writes to either output is discarded", "# what a child writes to either output is discarded")
+NOISY = r'''printf '#!/bin/sh\necho said; echo seen >&2; exit 3\n' >noisy; chmod +x noisy; exec "$0" "$@"'''
+start("pair --program ./noisy --base 7463 --first 1 --second 1 --turns 1", 0, *[f"{name} status 3" for name in ("server", "client", "server", "logger")], shell=NOISY)
+line("# a million turns in which nothing comes", "# a million turns in which nothing comes")
+LONG = 1_000_000
+run(without(SERVER, "turns") + f" --turns {LONG}", [], way="brief")
+for words in (LOGGER, *NAMES.values()):
+    run(words.replace("--turns 3", f"--turns {LONG}"), [], way="brief")
+line(f"brief {LOGGER.replace('--turns 3', f'--turns {LONG}')} --journal long", "status 0", f"turns {LONG} datagrams 0 sent 0 lost 0 failed 0", "receives 0 sends 0")
+ended, _, receives, sends = lived([], LONG, b"")
+life([], LONG, ended, [spent], receives, sends)
 
 folder = pathlib.Path(sys.argv[1]) if sys.argv[1:] else FOLDER
 write_part("link", "\n".join(script) + "\n", "\n".join(printed) + "\n", folder)

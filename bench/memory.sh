@@ -4,7 +4,7 @@
 # program's words, before `replay` is called, with status 1 and std's own error. The malloc that fails is in a library that is loaded before libc.
 set -eu
 . "$(dirname "$0")/common.sh"
-build ftreplay run <crates/ftreplay/stdin
+build ftreplay run <examples/first_path.schedule
 cd crates/ftreplay
 program=$PWD/out/ftreplay
 folder=$work

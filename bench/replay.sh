@@ -12,7 +12,7 @@ set -eu
 before=${1:-}
 [ -z "$before" ] || [ "$before" = marks ] || before=$(realpath "$before")
 . "$(dirname "$0")/common.sh"
-build ftreplay run <crates/ftreplay/stdin
+build ftreplay run <examples/first_path.schedule
 program=$PWD/crates/ftreplay/out/ftreplay
 
 schedules=$work out=/dev/null
@@ -83,7 +83,7 @@ if [ "$before" = marks ]; then
     exit
 fi
 if [ -n "$before" ]; then
-    before=$(older ftreplay "$before" run <crates/ftreplay/stdin)
+    before=$(older ftreplay "$before" run <examples/first_path.schedule)
     beside crash100000 "eight clients, with crashes"
     beside 9999 "one client, without a crash"
     exit

@@ -3,7 +3,7 @@
 # and system), and the time of a run with one event, which is included in the others.
 set -eu
 . "$(dirname "$0")/common.sh"
-build ftreplay run <crates/ftreplay/stdin
+build ftreplay run <examples/first_path.schedule
 program=$PWD/crates/ftreplay/out/ftreplay
 
 # fifty runs of $1 events for $2 clients

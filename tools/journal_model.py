@@ -235,12 +235,13 @@ class Bench:
         return f"out {self.kept.take(data, message).hex()}"
 
     def on_long(self, rest):
-        for piece in range(int(rest)):
+        count, first = map(int, (rest + " 0").split()[:2])
+        for piece in range(count):
             if len(self.kept.round) + 1491 > ROUND:
                 return f"full behind {piece}"
-            data = long_data(self.kept.log.boot, piece)
+            data = long_data(self.kept.log.boot, first + piece)
             self.kept.take(data, read_message(data))
-        return f"took {rest}"
+        return f"took {count}"
 
     def on_commit(self, rest):
         if self.kept is None:
@@ -432,12 +433,22 @@ def rounds():
     order("entry 0\ndeath 9999 0 0\nopen\nentry 0\nin 00\ndeath 0 0 0\nin 00\ncommit\nstate")
 
 
+def large():
+    order("# A journal of over two million bytes is opened.\nfile \nopen")
+    given(hello(5), opening(5))
+    order("commit")
+    for turn in range(6):
+        order(f"long 256 {256 * turn}\ncommit")
+    order("death 9999 0 0\nopen\nentry 0")
+
+
 def cases():
     changes()
     damage()
     deaths()
     rounds()
     drawn()
+    large()
 
 
 if __name__ == "__main__":

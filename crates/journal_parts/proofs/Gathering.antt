@@ -3,6 +3,7 @@ use Rattle.std.proofs.Common.{◌≡◌, ◌∙◌, ℕ, Bool, true, false, suc,
 use Rattle.std.specs.List.{AllByRecursion}
 use Rattle.ft_io.specs.Told.{Tells}
 use Rattle.ft_io.proofs.Tellings.{none_told}
+use Rattle.ft_model.specs.Log.{Log}
 use Rattle.disk.specs.CallRecord.{on_link}
 use Rattle.disk.specs.declared.calls.DeskCall.{DeskCall}
 use Rattle.kept_log.specs.JournaledLog.{KeptState, is_full}
@@ -13,6 +14,7 @@ use Rattle.link_parts.proofs.Calls.{with_both, with_none, few_calls}
 use Rattle.journal_parts.specs.declared.answers.Answer.{Answer}
 use Rattle.journal_parts.specs.Rounds.{IsDatagram, IsRound, receives, changes_in, change_by, log_behind}
 use Rattle.journal_parts.specs.RoundParts.{with_received, with_all_received, reply_to, replies_to, HasTaken, IsGathering, HasGathered, IsCutGathering}
+use Rattle.journal_parts.specs.Waits.{wants_then}
 use Rattle.journal_parts.proofs.AnswerCalls.{tells_more}
 
 pub receives_count : (received : List Received) → length (receives received) ≡ length received
@@ -105,9 +107,11 @@ gathered i before after old new c counts answers some few s = record {
 
 -- a round ends because memory runs out
 pub gathering_cut : (i most : ℕ) (before mid : KeptState) (old between new : Option (List DeskCall)) (c k : Counts) (answers : List Answer) → i < most → most ≤ 256
-    → IsGathering i before mid old between c k answers → ((r : Received) × Tells between new (on_link (received_as r ∷ []))) → IsCutGathering most old new
-gathering_cut i most before mid old between new c k answers lt le s (r, t) = record {
+    → IsGathering i before mid old between c k answers → ((r : Received) × (wants_then mid.log r ≡ true) × Tells between new (on_link (received_as r ∷ [])))
+    → IsCutGathering most before.log old new
+gathering_cut i most before mid old between new c k answers lt le s (r, w, t) = record {
   received = r ∷ s.received;
+  wants = ap (λ (log : Log). wants_then log r) (sym (ap (λ (k : KeptState). k.log) s.after_is)) ∙ w;
   within = omega (arith, s.count_is);
   is_round = (omega (arith, s.count_is), s.are_datagrams);
   tells = tells_more old between new (receives s.received) (received_as r ∷ []) s.tells t;

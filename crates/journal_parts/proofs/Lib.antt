@@ -3,3 +3,4 @@ pub mod EndReport
 pub mod Gathering
 pub mod Living
 pub mod Rounding
+pub mod Waiting

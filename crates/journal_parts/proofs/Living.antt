@@ -63,6 +63,7 @@ untold count start at old new counts s = record {
   rounds = s.rounds;
   received = [];
   cut = [];
+  reason = inl (refl, inr s.count_is);
   are_rounds = s.are_rounds;
   unanswered = record { done = []; is_round = inl refl; front = tt; calls_are = refl };
   within = omega (arith, s.count_is);
@@ -113,6 +114,7 @@ module _ (role : JournalRole) (file : Option (List ℕ)) (start : Place) (old op
     rounds = s.rounds;
     received = s.received;
     cut = s.cut;
+    reason = s.reason;
     starts = starts;
     are_rounds = s.are_rounds;
     unanswered = s.unanswered;

@@ -1,5 +1,5 @@
 -- A round: its receives, the commit, and the answers. Rounds follow one another.
-use Rattle.std.proofs.Common.{◌≡◌, ◌∙◌, inr, ℕ, Bool, false, ◌+◌, ◌*◌, ◌≤◌, refl, sym, ap, ap₂, subst, Option, None, Some, List, [], ◌∷◌, ◌++◌, length, append_assoc, append-nil, length-append, arith}
+use Rattle.std.proofs.Common.{◌≡◌, ◌∙◌, inl, inr, ℕ, Bool, false, ◌+◌, ◌*◌, ◌≤◌, refl, sym, ap, ap₂, subst, Option, None, Some, List, [], ◌∷◌, ◌++◌, length, append_assoc, append-nil, length-append, arith}
 use Rattle.std.proofs.lemmas.List.{length-map}
 use Rattle.ft_io.specs.declared.Addr.{Addr}
 use Rattle.ft_io.specs.declared.link_call.LinkCall.{LinkCall}
@@ -26,6 +26,7 @@ use Rattle.journal_parts.specs.declared.answers.Answer.{Answer}
 use Rattle.journal_parts.specs.LoggerLife.{IsUnanswered}
 use Rattle.journal_parts.specs.Rounds.{Place, Round, IsRound, received_in, receives, changes_in, log_behind, answers_in, after_receives, round_calls, place_after, calls_of, turns_in}
 use Rattle.journal_parts.specs.RoundParts.{place_of, with_all_received, reply_to, replies_to, AreHanded, HasAnswered, HasGathered, IsCutGathering, HasTurned, IsCutRound, HasServed, IsCutServing}
+use Rattle.journal_parts.specs.Waits.{HasReason}
 use Rattle.journal_parts.proofs.Gathering.{receives_count}
 use Rattle.link_parts.specs.Ranges.{most_turns}
 
@@ -135,9 +136,10 @@ turned count before mid after old t1 t2 new c k counts replies idle g kept none 
     }
 
 -- a round that ends because memory runs out
-pub cut_by_memory : (most : ℕ) (at : Place) (old new : Option (List DeskCall)) → IsCutGathering most old new → IsCutRound most at old new
+pub cut_by_memory : (most : ℕ) (at : Place) (old new : Option (List DeskCall)) → IsCutGathering most at.log old new → IsCutRound most at old new
 cut_by_memory most at old new g = record {
   received = g.received;
+  reason = inl g.wants;
   cut = on_link (receives g.received) ++ [];
   within = g.within;
   unanswered = record { done = []; is_round = inr g.is_round; front = tt; calls_are = refl };
@@ -147,11 +149,12 @@ cut_by_memory most at old new g = record {
 -- .. or its commit
 pub cut_by_commit : (count most : ℕ) (before mid : KeptState) (old t1 new : Option (List DeskCall)) (c k : Counts) (replies : List Answer) → count ≤ most → before.round ≡ []
     → HasGathered count before mid old t1 c k replies
-    → ((done : List DiskCall) × IsFrontOf (committing mid.end mid.round) done × Tells t1 new (on_disk done)) → IsCutRound most (place_of before) old new
-cut_by_commit count most before mid old t1 new c k replies few idle g (done, front, told) =
+    → ((done : List DiskCall) × IsFrontOf (committing mid.end mid.round) done × Tells t1 new (on_disk done)) → (mid.round ≡ [] → ⊥) → IsCutRound most (place_of before) old new
+cut_by_commit count most before mid old t1 new c k replies few idle g (done, front, told) some =
     let w = waits before mid g.received idle g.after_is in
     record {
       received = g.received;
+      reason = inr (λ none. some (w.round ∙ none));
       cut = on_link (receives g.received) ++ on_disk done;
       within = omega (arith, g.count_is);
       unanswered = record {
@@ -217,11 +220,25 @@ pub serving_cut : (i most turns : ℕ) (start at : Place) (old mid new : Option 
 serving_cut i most turns start at old mid new c few s cut = record {
   rounds = s.rounds;
   received = cut.received;
+  reason = inr (subst (λ p. HasReason p.log cut.received) s.at_is cut.reason);
   cut = cut.cut;
   are_rounds = s.are_rounds;
   unanswered = subst (λ p. IsUnanswered p cut.received cut.cut) s.at_is cut.unanswered;
   within = omega (arith, s.count_is, cut.within);
   tells = tells_on old mid new (calls_of start s.rounds) cut.cut s.tells cut.tells;
+}
+
+-- none was begun
+pub unbegun : (turns : ℕ) (start : Place) (told : Option (List DeskCall)) → IsCutServing turns start told told
+unbegun turns start told = record {
+  rounds = [];
+  received = [];
+  cut = [];
+  reason = inl (refl, inl refl);
+  are_rounds = tt;
+  unanswered = record { done = []; is_round = inl refl; front = tt; calls_are = refl };
+  within = omega arith;
+  tells = none_told told;
 }
 
 answers_few : (log : Log) (round : Round) → length (answers_in log round) ≤ length round

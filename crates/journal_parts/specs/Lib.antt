@@ -4,3 +4,4 @@ pub mod Outcome
 pub mod Rounds
 pub mod RoundParts
 pub mod Words
+pub mod Waits

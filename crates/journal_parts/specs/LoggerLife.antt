@@ -15,6 +15,7 @@ use Rattle.link_parts.specs.Counts.{counts_of, count_line}
 use Rattle.link_parts.specs.Receipt.{Received}
 use Rattle.link_parts.specs.declared.status.NodeEnd.TheVariants.{LinkFault, NoMemory, WriteFault}
 use Rattle.journal_parts.specs.Rounds.{Place, Round, IsRound, received_in, receives, changes_in, place_after, calls_of, turns_in}
+use Rattle.journal_parts.specs.Waits.{HasReason}
 use Rattle.journal_parts.specs.declared.role.JournalRole.{JournalRole}
 use Rattle.journal_parts.specs.declared.status.ProcessEnd.{ProcessEnd}
 use Rattle.journal_parts.specs.declared.status.ProcessEnd.TheVariants.{Node, JournalFault, BadJournal, InUse}
@@ -45,6 +46,12 @@ pub record IsUnanswered (at : Place) (received : List Received) (calls : List De
   pub front : IsFrontOf (committing at.end (changes_in at.log received)) done
   pub calls_are : calls ≡ on_link (receives received) ++ on_disk done
 
+-- where a run stops: before its first round, where there was no memory for its answers; after all, where there was none for the line of its counts; or in a
+-- round, for a reason
+abbrev pub IsStopped : (turns : ℕ) → Place → List Round → List Received → Type 0
+IsStopped turns start rounds received =
+    ((received ≡ []) × ((rounds ≡ []) ⊎ (turns_in rounds ≡ turns))) ⊎ HasReason (place_after start rounds).log received
+
 -- a run that ended in a round, or after all of them
 pub record IsCutKeeper (role : JournalRole) (file : Option (List ℕ)) (old new : Option (List DeskCall)) : Type 0 where
   pub opening : List DiskCall
@@ -52,6 +59,7 @@ pub record IsCutKeeper (role : JournalRole) (file : Option (List ℕ)) (old new 
   pub rounds : List Round
   pub received : List Received
   pub cut : List DeskCall
+  pub reason : IsStopped role.logger.turns start rounds received
   pub starts : Starts file opening start
   pub are_rounds : AllByRecursion (λ round. IsRound (received_in round)) rounds
   pub unanswered : IsUnanswered (place_after start rounds) received cut

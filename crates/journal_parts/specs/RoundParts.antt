@@ -19,8 +19,9 @@ use Rattle.link_parts.specs.declared.status.NodeEnd.TheVariants.{NoMemory, Write
 use Rattle.journal_parts.specs.declared.answers.Answer.{Answer}
 use Rattle.journal_parts.specs.declared.status.ProcessEnd.{ProcessEnd}
 use Rattle.journal_parts.specs.declared.status.ProcessEnd.TheVariants.{Node, JournalFault}
-use Rattle.journal_parts.specs.LoggerLife.{IsUnanswered}
+use Rattle.journal_parts.specs.LoggerLife.{IsStopped, IsUnanswered}
 use Rattle.journal_parts.specs.Rounds.{Place, Round, IsDatagram, IsRound, received_in, log_behind, receives, change_in, change_by, changes_in, after_receives, round_calls, place_after, calls_of, turns_in}
+use Rattle.journal_parts.specs.Waits.{LastWants, HasReason}
 
 abbrev pub place_of : KeptState → Place
 place_of kept = record { end = kept.end; log = kept.log }
@@ -92,9 +93,10 @@ pub record HasGathered (count : ℕ) (before after : KeptState) (old new : Optio
   pub after_is : after ≡ with_all_received before received
   pub answers_are : answers ≡ replies_to before.log received
 
--- receives of a round that ended because an allocation failed
-pub record IsCutGathering (most : ℕ) (old new : Option (List DeskCall)) : Type 0 where
+-- receives of a round that ended because an allocation failed: the last one gave a message for which the log needed memory
+pub record IsCutGathering (most : ℕ) (log : Log) (old new : Option (List DeskCall)) : Type 0 where
   pub received : List Received
+  pub wants : LastWants log received
   pub within : length received ≤ most
   pub is_round : IsRound received
   pub tells : Tells old new (on_link (receives received))
@@ -113,6 +115,7 @@ pub record HasTurned (count : ℕ) (before after : KeptState) (old new : Option 
 pub record IsCutRound (most : ℕ) (at : Place) (old new : Option (List DeskCall)) : Type 0 where
   pub received : List Received
   pub cut : List DeskCall
+  pub reason : HasReason at.log received
   pub within : length received ≤ most
   pub unanswered : IsUnanswered at received cut
   pub tells : Tells old new cut
@@ -131,6 +134,7 @@ pub record IsCutServing (most : ℕ) (start : Place) (old new : Option (List Des
   pub rounds : List Round
   pub received : List Received
   pub cut : List DeskCall
+  pub reason : IsStopped most start rounds received
   pub are_rounds : AllByRecursion (λ round. IsRound (received_in round)) rounds
   pub unanswered : IsUnanswered (place_after start rounds) received cut
   pub within : turns_in rounds + length received ≤ most

@@ -24,6 +24,7 @@ fn reply<K: Desk>(desk: &mut K, answer: &Answer, counts: &mut Counts)
     ensures handed { HandsOver answer.now (K.told desk.old) (K.told desk.new) counts.old counts.new }
     ensures no_disk_fault { K.fault_count desk.new ≡ K.fault_count desk.old }
     ensures no_bind_fault { (K.beside desk.new).bind_faults ≡ (K.beside desk.old).bind_faults }
+    ensures no_receive { (K.beside desk.new).waits ≡ (K.beside desk.old).waits }
 {
     let bytes = answer.out.bytes();
     if bytes.is_empty() {
@@ -39,6 +40,7 @@ pub(crate) fn reply_to_all<K: Desk>(desk: &mut K, answers: &[Answer], counts: &m
     ensures answered { HasAnswered answers.now (K.told desk.old) (K.told desk.new) counts.old counts.new }
     ensures no_disk_fault { K.fault_count desk.new ≡ K.fault_count desk.old }
     ensures no_bind_fault { (K.beside desk.new).bind_faults ≡ (K.beside desk.old).bind_faults }
+    ensures no_receive { (K.beside desk.new).waits ≡ (K.beside desk.old).waits }
 {
     for answer in answers {
         reply(desk, answer, counts);

@@ -1,8 +1,9 @@
 //! Wrong results that the contracts of this crate exclude. Each function calls another one of the crate, and promises of its result what a wrong body would make
 //! false. It is proved from the other's contract alone, so it is no longer proved once that contract lets the wrong body pass.
 
-ghost use Rattle.std.specs.Prelude.{List, ◌≡◌, ◌≤◌, [], ◌++◌, OnOk};
+ghost use Rattle.std.specs.Prelude.{List, ◌≡◌, ◌≤◌, [], ◌++◌, OnOk, ◌∷◌, true, None, OnErr, vec_capacity};
 ghost use Rattle.disk.specs.CallRecord.{on_disk, on_link};
+ghost use Rattle.disk.specs.declared.calls.DiskCall.{DiskCall};
 ghost use Rattle.ft_io.specs.Told.{Tells};
 ghost use Rattle.ft_io.specs.declared.link_call.LinkCall.{LinkCall};
 ghost use Rattle.kept_log.specs.JournaledLog.{committing};
@@ -18,6 +19,40 @@ use kept_log::KeptLog;
 use link_parts::Counts;
 use std::alloc::Global;
 
+/// Where the commit fails, nothing of the round is answered: the clause `stopped` of `take_round`.
+fn a_full_disk_answers<K: Desk>(
+    alloc: Global,
+    desk: &mut K,
+    kept: &mut KeptLog,
+    counts: &mut Counts,
+    answers: &mut Vec<Answer>,
+    most: u64,
+) -> Result<u64, ProcessEnd>
+    requires most { (1 ≤ most) × (most ≤ 256) }
+    requires idle { kept.old.round ≡ [] }
+    requires counts { HasRoom 512 counts.old }
+    requires room { 256 ≤ vec_capacity answers.old }
+    ensures { OnErr result ((received : List Received) × (done : List DiskCall) × Tells (K.told desk.old) (K.told desk.new) (on_link (receives received) ++ on_disk done)) }
+{
+    take_round(alloc, desk, kept, counts, answers, most)
+}
+
+/// The first receive of a round waits for a datagram, and no other does: the clause `waited` of `take_round`.
+fn never_waits<K: Desk>(
+    alloc: Global,
+    desk: &mut K,
+    kept: &mut KeptLog,
+    counts: &mut Counts,
+    answers: &mut Vec<Answer>,
+) -> Result<u64, ProcessEnd>
+    requires idle { kept.old.round ≡ [] }
+    requires counts { HasRoom 512 counts.old }
+    requires room { 256 ≤ vec_capacity answers.old }
+    ensures { OnOk result (Tells (K.beside desk.old).waits (K.beside desk.new).waits (true ∷ [])) }
+{
+    take_round(alloc, desk, kept, counts, answers, 1)
+}
+
 /// All that a round's receives have changed is committed before any answer is handed to send: the clause `turned` of `take_round`.
 fn answers_before_the_commit<K: Desk>(
     alloc: Global,
@@ -30,6 +65,7 @@ fn answers_before_the_commit<K: Desk>(
     requires most { (1 ≤ most) × (most ≤ 256) }
     requires idle { kept.old.round ≡ [] }
     requires counts { HasRoom 512 counts.old }
+    requires room { 256 ≤ vec_capacity answers.old }
     ensures { OnOk result ((received : List Received) × (answered : List LinkCall) × Tells (K.told desk.old) (K.told desk.new)
         (on_link (receives received) ++ (on_disk (committing kept.old.end (changes_in kept.old.log received)) ++ on_link answered))) }
 {

@@ -1,6 +1,6 @@
 //! Rounds: receives, the commit of what they changed, and then their answers.
 
-ghost use Rattle.std.specs.Prelude.{◌≡◌, ◌≤◌, ◌<◌, [], ◌∷◌, take, length, false, IfOk, IfErr, OnOk, OnErr, IsErrOf, MatchOption};
+ghost use Rattle.std.specs.Prelude.{◌≡◌, ◌≤◌, ◌<◌, ◌+◌, [], ◌∷◌, take, length, true, false, vec_len, vec_capacity, IfOk, IfErr, OnOk, OnErr, IsErrOf, MatchOption};
 ghost use Rattle.ft_io.specs.Faults.{Rose};
 ghost use Rattle.ft_io.specs.Told.{Tells};
 ghost use Rattle.disk.specs.CallRecord.{on_link};
@@ -9,8 +9,9 @@ ghost use Rattle.link_parts.specs.Receipt.{Received, datagram, received_as, IsQu
 ghost use Rattle.seq_arith.specs.MessageGrammar.{reading};
 ghost use Rattle.logger_store.specs.StoreState.{answer_bytes};
 ghost use Rattle.kept_log.specs.JournaledLog.{is_full};
-ghost use Rattle.link_parts.specs.LoggerTurns.{answer_for};
+ghost use Rattle.link_parts.specs.LoggerTurns.{answer_for, wants_in};
 ghost use Rattle.journal_parts.specs.RoundParts.{place_of, with_bytes, HasTaken, HasGathered, IsCutGathering, HasTurned, IsCutRound, HasServed, IsCutServing, IsServeEnd};
+ghost use Rattle.journal_parts.specs.Waits.{waits_in, wants_then};
 ghost use Rattle.link_parts.specs.Ranges.{most_turns};
 
 use crate::answers::{Answer, reply_to_all};
@@ -41,6 +42,7 @@ fn receive<K: Desk>(
     ensures received { (r : Received) × Tells (K.told desk.old) (K.told desk.new) (on_link (received_as r ∷ []))
         × (counts.new ≡ with_calls counts.old (received_as r ∷ []))
         × MatchOption result (IsQuiet r) (λ g. (g.0 ≤ length buffer.new) × (r ≡ datagram g.1 (take g.0 buffer.new))) }
+    ensures waited { Tells (K.beside desk.old).waits (K.beside desk.new).waits (waits ∷ []) }
     ensures no_disk_fault { K.fault_count desk.new ≡ K.fault_count desk.old }
     ensures no_bind_fault { (K.beside desk.new).bind_faults ≡ (K.beside desk.old).bind_faults }
 {
@@ -61,6 +63,7 @@ fn answer(alloc: Global, kept: &mut KeptLog, bytes: &[u8]) -> Result<MsgOut, NoM
     requires { is_full kept.old ≡ false }
     ensures next { OnOk result (kept.new ≡ with_bytes kept.old bytes.now) }
     ensures answer { IfOk result (λ out. out ≡ answer_bytes (answer_for kept.old.log (reading bytes.now))) }
+    ensures memory { OnErr result (wants_in kept.old.log (reading bytes.now) ≡ true) }
 {
     let mut out = MsgOut::new();
     if let Ok(m) = read_msg(bytes) {
@@ -80,8 +83,12 @@ fn take_next<K: Desk>(
 ) -> Result<bool, NoMemory>
     requires counts { HasRoom 1 counts.old }
     requires room { is_full kept.old ≡ false }
+    requires space { vec_len answers.old < vec_capacity answers.old }
     ensures taken { IfOk result (λ more. HasTaken more kept.old kept.new (K.told desk.old) (K.told desk.new) counts.old counts.new answers.old.items answers.new.items) }
-    ensures cut_off { OnErr result ((r : Received) × Tells (K.told desk.old) (K.told desk.new) (on_link (received_as r ∷ []))) }
+    ensures cut_off { OnErr result ((r : Received) × (wants_then kept.old.log r ≡ true) × Tells (K.told desk.old) (K.told desk.new) (on_link (received_as r ∷ []))) }
+    ensures waited { Tells (K.beside desk.old).waits (K.beside desk.new).waits (waits ∷ []) }
+    ensures few { vec_len answers.new ≤ vec_len answers.old + 1 }
+    ensures capacity { vec_capacity answers.new ≡ vec_capacity answers.old }
     ensures no_disk_fault { K.fault_count desk.new ≡ K.fault_count desk.old }
     ensures no_bind_fault { (K.beside desk.new).bind_faults ≡ (K.beside desk.old).bind_faults }
 {
@@ -90,7 +97,7 @@ fn take_next<K: Desk>(
         return Ok(false);
     };
     let out = answer(alloc, kept, &buffer[..len])?;
-    answers.push(Answer { to, out })?;
+    answers.push_reserved(Answer { to, out });
     Ok(true)
 }
 
@@ -108,9 +115,12 @@ fn gather<K: Desk>(
     requires within { most ≤ 256 }
     requires idle { kept.old.round ≡ [] }
     requires counts { HasRoom 256 counts.old }
+    requires room { 256 ≤ vec_capacity answers.old }
     ensures count { IfOk result (λ count. (1 ≤ count) × (count ≤ most)) }
     ensures gathered { IfOk result (λ count. HasGathered count kept.old kept.new (K.told desk.old) (K.told desk.new) counts.old counts.new answers.new.items) }
-    ensures cut_off { OnErr result (IsCutGathering most (K.told desk.old) (K.told desk.new)) }
+    ensures cut_off { OnErr result (IsCutGathering most kept.old.log (K.told desk.old) (K.told desk.new)) }
+    ensures waited { IfOk result (λ count. Tells (K.beside desk.old).waits (K.beside desk.new).waits (waits_in count)) }
+    ensures capacity { vec_capacity answers.new ≡ vec_capacity answers.old }
     ensures no_disk_fault { K.fault_count desk.new ≡ K.fault_count desk.old }
     ensures no_bind_fault { (K.beside desk.new).bind_faults ≡ (K.beside desk.old).bind_faults }
 {
@@ -139,9 +149,12 @@ pub(crate) fn take_round<K: Desk>(
     requires within { most ≤ 256 }
     requires idle { kept.old.round ≡ [] }
     requires counts { HasRoom 512 counts.old }
+    requires room { 256 ≤ vec_capacity answers.old }
     ensures count { IfOk result (λ count. (1 ≤ count) × (count ≤ most)) }
     ensures turned { IfOk result (λ count. HasTurned count kept.old kept.new (K.told desk.old) (K.told desk.new) counts.old counts.new) }
     ensures stopped { OnErr result (IsCutRound most (place_of kept.old) (K.told desk.old) (K.told desk.new)) }
+    ensures waited { IfOk result (λ count. Tells (K.beside desk.old).waits (K.beside desk.new).waits (waits_in count)) }
+    ensures capacity { vec_capacity answers.new ≡ vec_capacity answers.old }
     ensures ends { IfErr result IsServeEnd }
     ensures cause { IsErrOf result ProcessEnd.JournalFault → Rose (K.fault_count desk.old) (K.fault_count desk.new) }
     ensures never_falls { K.fault_count desk.old ≤ K.fault_count desk.new }
@@ -151,6 +164,14 @@ pub(crate) fn take_round<K: Desk>(
     kept.commit(alloc, desk)?;
     reply_to_all(desk, answers, counts);
     Ok(count)
+}
+
+/// Room for the answers of a round: so a receive needs memory only for what the log keeps of it.
+fn room_for_answers(alloc: Global) -> Result<Vec<Answer>, NoMemory>
+    ensures { IfOk result (λ answers. 256 ≤ vec_capacity answers) }
+{
+    let answers = Vec::with_capacity(alloc, MOST as usize)?;
+    Ok(answers)
 }
 
 /// Takes this many turns, in rounds, and returns the counts of their calls.
@@ -170,7 +191,7 @@ pub(crate) fn serve<K: Desk>(
     ensures no_bind_fault { (K.beside desk.new).bind_faults ≡ (K.beside desk.old).bind_faults }
 {
     let mut counts = Counts::new();
-    let mut answers = Vec::new(alloc);
+    let mut answers = room_for_answers(alloc)?;
     let mut left = turns;
     while left > 0 {
         left -= take_round(alloc, desk, kept, &mut counts, &mut answers, left.min(MOST))?;

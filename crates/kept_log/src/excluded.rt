@@ -1,19 +1,25 @@
 //! Wrong results that the contracts of this crate exclude. Each function calls another one of the crate, and promises of its result what a wrong body would make
 //! false. It is proved from the other's contract alone, so it is no longer proved once that contract lets the wrong body pass.
 
-ghost use Rattle.std.specs.Prelude.{◌≡◌, ◌+◌, ◌<◌, ◌^◌, [], ◌∷◌, List, Some, false, length, take, drop, IfOk, OnOk};
+ghost use Rattle.std.specs.Prelude.{◌≡◌, ◌+◌, ◌<◌, ◌^◌, [], ◌∷◌, ◌++◌, List, Some, Ok, true, false, length, take, drop, IfOk, OnOk};
 ghost use Rattle.disk.specs.declared.calls.DeskCall.{DeskCall};
 ghost use Rattle.disk.specs.declared.calls.DeskCall.TheVariants.{OnDisk};
 ghost use Rattle.disk.specs.declared.calls.DiskCall.TheVariants.{Appended, Synced};
 ghost use Rattle.kept_log.specs.Format.{sized};
+ghost use Rattle.kept_log.specs.JournaledLog.{is_full};
 ghost use Rattle.kept_log.specs.Startup.{HasNoBlock};
+ghost use Rattle.logger_store.specs.Changes.{changes};
+ghost use Rattle.logger_wire.specs.Value.{message_of, IsSendable};
+ghost use Rattle.seq_arith.specs.MessageGrammar.{reading};
 
 use crate::journal::{Journal, KeepEnd, block_of};
+use crate::kept::KeptLog;
 use crate::reading::{Taken, take_block};
 use crate::window::Window;
 use disk::Disk;
 use ft_io::NoMemory;
-use logger_store::LogStore;
+use logger_store::{LogStore, MsgOut};
+use logger_wire::Msg;
 use std::alloc::{AllocError, Global};
 
 /// A block whose body isn't messages isn't taken: the contract of `take_block`.
@@ -67,4 +73,21 @@ fn opened_and_appended_in_one_sync<D: Disk>(
         → take 2 calls ≡ OnDisk (Appended (sized body.now) false) ∷ OnDisk (Synced false) ∷ []) }
 {
     journal.keep(alloc, disk, body)
+}
+
+/// Each message that changes the log joins the round, however short it is: the clause `round` of `KeptLog::take`.
+fn a_short_message_is_not_kept(
+    kept: &mut KeptLog,
+    alloc: Global,
+    bytes: &[u8],
+    m: &Msg<'_>,
+    out: &mut MsgOut,
+) -> Result<(), NoMemory>
+    requires sendable { IsSendable m.now }
+    requires read { reading bytes.now ≡ Ok (message_of m.now) }
+    requires room { is_full kept.old ≡ false }
+    requires changes { changes kept.old.log (message_of m.now) ≡ true }
+    ensures { OnOk result (kept.new.round ≡ kept.old.round ++ bytes.now) }
+{
+    kept.take(alloc, bytes, m, out)
 }

@@ -131,6 +131,8 @@ impl KeptLog {
             → HasLog (with_round bodies self.old.round) self.new.end self.new.log) }
         ensures stopped { OnErr result ((done : List DiskCall) × IsFrontOf (committing self.old.end self.old.round) done
             × Tells (D.told disk.old) (D.told disk.new) (on_disk done)) }
+        // An empty round is always committed.
+        ensures some { OnErr result (self.old.round ≡ [] → ⊥) }
         ensures cause { IsErrOf result KeepEnd.Failed → Rose (D.fault_count disk.old) (D.fault_count disk.new) }
         ensures never_falls { D.fault_count disk.old ≤ D.fault_count disk.new }
         ensures beside { D.beside disk.new ≡ D.beside disk.old }

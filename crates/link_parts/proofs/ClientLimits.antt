@@ -15,10 +15,10 @@ use Rattle.tcp_endpoint.specs.declared.states.StateName.{StateName}
 use Rattle.tcp_endpoint.specs.declared.states.StateName.TheVariants.{Closed, Listen, SynSent, SynReceived, Established, FinWait1, FinWait2, CloseWait, Closing, LastAck, TimeWait}
 use Rattle.tcp_endpoint.specs.States.{has_begun}
 use Rattle.tcp_endpoint.specs.ReceiveHalf.{Receiving, taken, next, receive_edge, came, with_came, with_segment}
-use Rattle.tcp_endpoint.specs.SendHalf.{Sending, IsShort, with_syn_acked, acknowledged, is_duplicate, duplicated, answered_by, moves_edge, send_edge, sendable, expires, timed, with_sent, with_fin_sent}
+use Rattle.tcp_endpoint.specs.SendHalf.{Sending, IsShort, in_flight, with_syn_acked, acknowledged, is_duplicate, shows_loss, duplicated, untimed_if, answered_by, moves_edge, send_edge, sendable, expires, timed, with_sent, with_fin_sent}
 use Rattle.tcp_endpoint.specs.Tcb.{Tcb, listening, connecting}
 use Rattle.tcp_endpoint.specs.Arrival.{ack_at, first, with_ack_pending_if, with_reset, received, received_in, in_closed, in_listen, begun, with_reset_reply, with_reset_reply_without_ack, answered, in_syn_sent, in_others, check_sequence, with_time_wait_restarted, check_rst, check_syn, check_ack, is_bare, with_ack_used, with_ack, with_first_ack, with_fin_acked, with_text_and_fin}
-use Rattle.tcp_endpoint.specs.Output.{probes_text, probes_fin, with_probe, with_text_sent, new_fin, with_fin_out, after_full, with_advertised, is_timed, with_turn_ended, flushed}
+use Rattle.tcp_endpoint.specs.Output.{probes_text, probes_fin, with_probe, with_text_sent, new_fin, with_fin_out, with_timed, after_full, with_advertised, is_timed, with_turn_ended, flushed}
 use Rattle.tcp_endpoint.specs.UserCalls.{after_tick, timer_ticked, waited, after_read, after_write, closing, write_room}
 use Rattle.endpoint_laws.proofs.Bounding.{text_facts, new_within}
 use Rattle.endpoint_laws.proofs.SendingLaw.{held_field}
@@ -55,13 +55,13 @@ module _ (isn written read : ℕ) where
         behind = h.behind;
       }
 
-  -- a duplicate changes congestion control alone
+  -- a duplicate changes congestion control and the estimate alone
   answered_within : (s : Sending) (r : Receiving) (bare : Bool) (seq : ℕ) (z : ℤ) (edge : ℕ) → HasLimits isn written read s r
       → HasLimits isn written read (answered_by s bare seq z edge) r
   unfolding answered_by
   answered_within s r bare seq z edge h =
       let good : HasLimits isn written read (acknowledged s seq z edge) r = acknowledged_within s r seq z edge h in
-      let limits : Sending → Type 0 = λ x. HasLimits isn written read x r in
+      let limits : Sending → Type 0 = λ x. HasLimits isn written read (untimed_if (shows_loss s bare z edge) x) r in
       holds_either_way limits (is_duplicate s bare z edge) (duplicated (acknowledged s seq z edge)) (acknowledged s seq z edge) good good
 
   opened_within : (s : Sending) (r : Receiving) (seq edge : ℕ) → HasLimits isn written read s r → HasLimits isn written read (with_syn_acked s seq edge) r
@@ -310,9 +310,9 @@ module _ (isn written read : ℕ) where
       let limits : Sending → Type 0 = λ x. HasLimits isn written read x r in holds_either_way limits runs _ _ (holds_either_way limits (s.rest == 0) _ _ h h) h
 
   flush_limited : (e : Tcb) → IsWithin isn written read e → IsWithin isn written read (flushed e)
-  unfolding flushed with_turn_ended with_advertised after_full
+  unfolding flushed with_turn_ended with_advertised after_full with_timed
   flush_limited e h =
-      let after : Tcb = with_fin_out (with_text_sent (with_probe e)) in
+      let after : Tcb = with_timed (in_flight (with_probe e).sending) (with_fin_out (with_text_sent (with_probe e))) in
       let good : IsWithin isn written read after = fin_out_limited _ (text_sent_limited _ (probe_limited e h)) in
       timed_limited after.sending after.receiving (is_timed after) good
 

@@ -1,5 +1,5 @@
 -- A logger's turns follow one another: so do their calls, and their counts add up.
-use Rattle.std.proofs.Common.{◌≡◌, ◌∙◌, inl, inr, ℕ, Bool, true, false, suc, ◌+◌, ◌<◌, ◌≤◌, add-one, refl, sym, ap, ap₂, subst, Option, None, Some, List, [], ◌∷◌, ◌++◌, length, append-nil, arith}
+use Rattle.std.proofs.Common.{◌≡◌, ◌∙◌, inl, inr, ℕ, Bool, true, false, suc, ◌+◌, ◌<◌, ◌≤◌, add-one, refl, sym, ap, ap₂, subst, Option, None, Some, List, [], ◌∷◌, ◌++◌, length, append-nil, arith, Ok}
 use Rattle.ft_io.specs.declared.Addr.{Addr}
 use Rattle.ft_io.specs.declared.link_call.LinkCall.{LinkCall}
 use Rattle.ft_io.specs.declared.link_call.LinkCall.TheVariants.{Bound, Came}
@@ -7,7 +7,7 @@ use Rattle.ft_io.specs.Told.{Tells}
 use Rattle.seq_arith.specs.Message.{Message}
 use Rattle.seq_arith.specs.MessageGrammar.{reading, spelling, spelled, header}
 use Rattle.ft_model.specs.Log.{Log, empty_log}
-use Rattle.logger_store.specs.StoreState.{answer_bytes}
+use Rattle.logger_store.specs.StoreState.{answer_bytes, wants_memory}
 use Rattle.link_parts.specs.declared.counts.Counts.{Counts}
 use Rattle.link_parts.specs.declared.role.LoggerRole.{LoggerRole}
 use Rattle.link_parts.specs.declared.status.NodeEnd.{NodeEnd}
@@ -15,10 +15,10 @@ use Rattle.link_parts.specs.declared.status.NodeEnd.TheVariants as ends
 use Rattle.ft_io.specs.Sink.{AppendsFront}
 use Rattle.ft_io.proofs.Tellings.{tells_on, none_told}
 use Rattle.link_parts.specs.Counts.{count_line, counts_of, plus, with_calls, HasRoom}
-use Rattle.link_parts.specs.LoggerTurns.{LoggerTurn, answer_for, log_with, log_then, handing, turn_calls, log_at, calls_of}
+use Rattle.link_parts.specs.LoggerTurns.{LoggerTurn, answer_for, wants_in, log_with, log_then, handing, turn_calls, log_at, calls_of}
 use Rattle.link_parts.specs.Receipt.{Received, datagram, silence, failure, received_as, IsQuiet}
 use Rattle.link_parts.specs.LineOutput.{TellStops}
-use Rattle.link_parts.specs.LoggerParts.{IsLogger, IsCutLogger, LoggerStops, handing_bytes, Replies, HasTurned, HasServed, HasCounted, IsCutOff, IsCutServing}
+use Rattle.link_parts.specs.LoggerParts.{IsLogger, IsCutLogger, LoggerStops, handing_bytes, Replies, HasTurned, HasServed, HasCounted, IsStarved, IsCutServing}
 use Rattle.link_parts.proofs.Calls.{counts_on, with_both, IsFew}
 use Rattle.link_parts.specs.Ranges.{most_turns}
 
@@ -98,6 +98,18 @@ unfolding spelling spelled header
 handing_is to lost None = refl
 handing_is to lost (Some m) = refl
 
+-- what can't be answered has a cause
+pub wants : (log : Log) (bytes : List ℕ) (message : Message) → reading bytes ≡ Ok message → (wants_memory log message ≡ false → false ≡ true) → wants_in log (reading bytes) ≡ true
+wants log bytes message is not = ap (wants_in log) is ∙ must (wants_memory log message) not
+  where
+    must : (b : Bool) → (b ≡ false → false ≡ true) → b ≡ true
+    must true f = refl
+    must false f = f refl
+
+pub starved : (log : Log) (old new : Option (List LinkCall)) (r : Received) (from : Addr) (bytes : List ℕ) → Tells old new (received_as r ∷ []) → r ≡ datagram from bytes
+    → wants_in log (reading bytes) ≡ true → (calls : List LinkCall) × IsStarved log calls × Tells old new calls
+starved log old new r from bytes t is want = (Came from bytes ∷ [], (from, bytes, refl, want), subst (λ x. Tells old new (received_as x ∷ [])) is t)
+
 -- a turn in which one came
 pub replied : (log after : Log) (old mid new : Option (List LinkCall)) (c between counts : Counts) (r : Received) (from : Addr) (bytes answer : List ℕ)
     → Tells old mid (received_as r ∷ []) → between ≡ with_calls c (received_as r ∷ []) → r ≡ datagram from bytes → after ≡ log_with log (reading bytes)
@@ -131,10 +143,10 @@ served_on i old mid new log after c counts s t =
 pub served_all : (i most : ℕ) (old new : Option (List LinkCall)) (log : Log) (counts : Counts) → i ≡ most → HasServed i old new log counts → HasCounted most old new counts
 served_all i most old new log counts e s = record { turns = s.turns; count_is = s.count_is ∙ e; tells = s.tells; counts_are = s.counts_are }
 
-pub cut_serving : (i most : ℕ) (old mid new : Option (List LinkCall)) (log : Log) (counts : Counts) (cut : List LinkCall) → i < most → HasServed i old mid log counts → IsCutOff cut
+pub cut_serving : (i most : ℕ) (old mid new : Option (List LinkCall)) (log : Log) (counts : Counts) (cut : List LinkCall) → i < most → HasServed i old mid log counts → IsStarved log cut
     → Tells mid new cut → IsCutServing most old new
 cut_serving i most old mid new log counts cut lt s off t =
-    record { turns = s.turns; cut = cut; within = omega (arith, s.count_is); cut_off = inr off; tells = tells_on old mid new (calls_of s.turns) cut s.tells t }
+    record { turns = s.turns; cut = cut; within = omega (arith, s.count_is); cut_off = inr (subst (λ l. IsStarved l cut) s.log_is off); tells = tells_on old mid new (calls_of s.turns) cut s.tells t }
 
 -- a whole life
 pub logger_done : (role : LoggerRole) (before mid new : Option (List LinkCall)) (counts : Counts) (Writes : List ℕ → Type 0) → Tells before mid (Bound role.local ∷ [])
@@ -161,7 +173,7 @@ untold role before mid new counts b s = logger_cut role before mid new b (record
   turns = s.turns;
   cut = [];
   within = omega (arith, s.count_is);
-  cut_off = inl refl;
+  cut_off = inl (refl, s.count_is);
   tells = subst (Tells mid new) (sym (append-nil (calls_of s.turns))) s.tells;
 })
 

@@ -1,17 +1,18 @@
 -- What a logger's parts do in a turn.
-use Rattle.std.specs.Prelude.{◌≡◌, ◌⊎◌, ℕ, Bool, Option, List, [], ◌∷◌, ◌++◌, ◌≤◌, length}
+use Rattle.std.specs.Prelude.{◌≡◌, ◌⊎◌, ℕ, Bool, true, Option, List, [], ◌∷◌, ◌++◌, ◌≤◌, length}
 use Rattle.ft_io.specs.declared.Addr.{Addr}
 use Rattle.ft_io.specs.declared.link_call.LinkCall.{LinkCall}
 use Rattle.ft_io.specs.declared.link_call.LinkCall.TheVariants.{Bound, Came, Handed}
 use Rattle.ft_io.specs.Told.{Tells}
 use Rattle.ft_model.specs.Log.{Log}
+use Rattle.seq_arith.specs.MessageGrammar.{reading}
 use Rattle.link_parts.specs.declared.counts.Counts.{Counts}
 use Rattle.link_parts.specs.Counts.{with_calls, counts_of, count_line}
 use Rattle.link_parts.specs.declared.role.LoggerRole.{LoggerRole}
 use Rattle.link_parts.specs.declared.status.NodeEnd.{NodeEnd}
 use Rattle.link_parts.specs.declared.status.NodeEnd.TheVariants.{LinkFault, NoMemory, WriteFault}
 use Rattle.ft_io.specs.Sink.{AppendsFront}
-use Rattle.link_parts.specs.LoggerTurns.{LoggerTurn, log_then, turn_calls, log_at, calls_of}
+use Rattle.link_parts.specs.LoggerTurns.{LoggerTurn, wants_in, log_then, turn_calls, log_at, calls_of}
 
 -- bytes are handed to send, unless there are none
 abbrev pub handing_bytes : Addr → Bool → List ℕ → List LinkCall
@@ -26,6 +27,10 @@ pub record Replies (to : Addr) (bytes : List ℕ) (old new : Option (List LinkCa
 -- a turn that was cut off because an allocation failed: its datagram came, and no answer was sent
 abbrev pub IsCutOff : List LinkCall → Type 0
 IsCutOff calls = (from : Addr) × (bytes : List ℕ) × (calls ≡ Came from bytes ∷ [])
+
+-- .. of a logger: what came is a message for which the log may need memory. So neither silence nor bytes that are no message end a logger
+abbrev pub IsStarved : Log → List LinkCall → Type 0
+IsStarved log calls = (from : Addr) × (bytes : List ℕ) × (calls ≡ Came from bytes ∷ []) × (wants_in log (reading bytes) ≡ true)
 
 -- a whole turn
 pub record HasTurned (before after : Log) (old new : Option (List LinkCall)) (counted counts : Counts) : Type 0 where
@@ -49,12 +54,12 @@ pub record HasCounted (count : ℕ) (old new : Option (List LinkCall)) (counts :
   pub tells : Tells old new (calls_of turns)
   pub counts_are : counts ≡ counts_of (calls_of turns)
 
--- at most so many turns were done, and then one was cut off, or none
+-- at most so many turns were done, and then one was cut off; or all were done, and there was no memory for the line of their counts
 pub record IsCutServing (most : ℕ) (old new : Option (List LinkCall)) : Type 0 where
   pub turns : List LoggerTurn
   pub cut : List LinkCall
   pub within : length turns ≤ most
-  pub cut_off : (cut ≡ []) ⊎ IsCutOff cut
+  pub cut_off : ((cut ≡ []) × (length turns ≡ most)) ⊎ IsStarved (log_at turns) cut
   pub tells : Tells old new (calls_of turns ++ cut)
 
 -- A logger's whole life: it bound to its address, and then did its turns. What is written are the counts of their calls.
@@ -69,7 +74,7 @@ pub record IsCutLogger (role : LoggerRole) (old new : Option (List LinkCall)) : 
   pub turns : List LoggerTurn
   pub cut : List LinkCall
   pub within : length turns ≤ role.turns
-  pub cut_off : (cut ≡ []) ⊎ IsCutOff cut
+  pub cut_off : ((cut ≡ []) × (length turns ≡ role.turns)) ⊎ IsStarved (log_at turns) cut
   pub tells : Tells old new (Bound role.local ∷ (calls_of turns ++ cut))
 
 -- how a logger stops early: nothing was written where the bind failed, and a prefix of the line where a write did

@@ -1,6 +1,6 @@
 -- The turns of a logger over its link. In each turn it receives once, and hands the log's answer, if there is one, to send, addressed to the message's
 -- sender, before it receives again.
-use Rattle.std.specs.Prelude.{Bool, Option, None, Some, Result, Ok, Err, List, [], ◌∷◌, ◌++◌}
+use Rattle.std.specs.Prelude.{Bool, false, Option, None, Some, Result, Ok, Err, List, [], ◌∷◌, ◌++◌}
 use Rattle.ft_io.specs.declared.Addr.{Addr}
 use Rattle.ft_io.specs.declared.link_call.LinkCall.{LinkCall}
 use Rattle.ft_io.specs.declared.link_call.LinkCall.TheVariants.{Handed}
@@ -8,6 +8,7 @@ use Rattle.seq_arith.specs.Message.{Message}
 use Rattle.seq_arith.specs.MessageGrammar.{reading, spelling}
 use Rattle.seq_arith.specs.declared.kinds.BadMsg.{BadMsg}
 use Rattle.ft_model.specs.Log.{Log, empty_log, log_after, answer_to}
+use Rattle.logger_store.specs.StoreState.{wants_memory}
 use Rattle.link_parts.specs.Receipt.{Received, datagram, silence, failure, received_as}
 
 -- what was received, and whether the send of the answer fails: then the answer is lost
@@ -23,6 +24,11 @@ log_with log (Err bad) = log
 abbrev pub answer_for : Log → Result Message BadMsg → Option Message
 answer_for log (Ok message) = answer_to log message
 answer_for log (Err bad) = None
+
+-- whether the log may need memory for them: only for a message that adds to it
+abbrev pub wants_in : Log → Result Message BadMsg → Bool
+wants_in log (Ok message) = wants_memory log message
+wants_in log (Err bad) = false
 
 abbrev pub log_then : Log → Received → Log
 log_then log (datagram from bytes) = log_with log (reading bytes)

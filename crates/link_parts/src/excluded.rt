@@ -1,7 +1,9 @@
 //! Wrong results that the contracts of this crate exclude. Each function calls another one of the crate, and promises of its result what a wrong body would make
 //! false. It is proved from the other's contract alone, so it is no longer proved once that contract lets the wrong body pass.
 
-ghost use Rattle.std.specs.Prelude.{◌≡◌, ◌<◌, ◌≤◌, ◌-◌, ◌^◌, [], Some, slice_get, List, IfOk, IsErrOf};
+ghost use Rattle.std.specs.Prelude.{◌≡◌, ◌<◌, ◌≤◌, ◌-◌, ◌^◌, [], Some, Err, slice_get, List, IfOk, IsOk, IsErrOf};
+ghost use Rattle.seq_arith.specs.MessageGrammar.{reading};
+ghost use Rattle.seq_arith.specs.declared.kinds.BadMsg.{BadMsg};
 ghost use Rattle.ft_io.specs.Told.{Tells};
 ghost use Rattle.link_parts.specs.Options.{Use, HasValues, value_of};
 ghost use Rattle.link_parts.specs.Roles.{turns_in, times_in};
@@ -10,12 +12,13 @@ ghost use Rattle.link_parts.specs.declared.pair.ChildName.TheVariants as childre
 ghost use Rattle.link_parts.specs.declared.pair.PairStep.TheVariants as steps;
 ghost use Rattle.link_parts.specs.Ranges.{most_turns};
 
-use crate::logger::run_logger;
+use crate::logger::{answer, run_logger};
 use crate::pair::{PairStep, steps};
 use crate::role::{LoggerRole, PairRole, all_turns_at};
 use crate::status::NodeEnd;
 use clap::ArgMatches;
 use ft_io::{Link, NoMemory, Sink};
+use logger_store::{LogStore, MsgOut};
 use std::alloc::Global;
 
 /// A logger ends with a link fault only where its bind has failed, and then it has made no call: the clauses `bind_cause` and `stops` of `run_logger`.
@@ -31,6 +34,18 @@ fn always_faults_at_the_bind<L: Link, O: Sink>(
     ensures untold { IsErrOf result NodeEnd.LinkFault → Tells (L.told link.old) (L.told link.new) [] }
 {
     run_logger(alloc, role, link, out)
+}
+
+/// Bytes that are no message end no logger for want of memory: the clause `memory` of `answer`.
+fn no_message_wants_memory(
+    alloc: Global,
+    store: &mut LogStore,
+    bytes: &[u8],
+) -> Result<MsgOut, NoMemory>
+    requires { (bad : BadMsg) × (reading bytes.now ≡ Err bad) }
+    ensures { IsOk result }
+{
+    answer(alloc, store, bytes)
 }
 
 /// The fourth step of a pair is the wait for the first server, and the second one starts only after it: the contract of `steps`.

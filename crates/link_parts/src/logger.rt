@@ -1,6 +1,6 @@
 //! The logger: a log that answers over a link. Each turn is one receive and the answer to what came, which is handed to send before the next receive.
 
-ghost use Rattle.std.specs.Prelude.{List, ◌≡◌, ◌≤◌, [], ◌∷◌, OnOk, OnErr, IfOk, IfErr, IsErrOf};
+ghost use Rattle.std.specs.Prelude.{List, ◌≡◌, ◌≤◌, [], ◌∷◌, true, OnOk, OnErr, IfOk, IfErr, IsErrOf};
 ghost use Rattle.std.specs.Io.KnownBytes.{Appends};
 ghost use Rattle.ft_io.specs.Faults.{Rose};
 ghost use Rattle.seq_arith.specs.MessageGrammar.{reading};
@@ -11,8 +11,8 @@ ghost use Rattle.std.specs.declared.option.Option.{Option};
 ghost use Rattle.logger_store.specs.StoreState.{answer_bytes, IsAnswer};
 ghost use Rattle.link_parts.specs.Counts.{HasRoom};
 ghost use Rattle.link_parts.specs.Ends.{UnlessFault};
-ghost use Rattle.link_parts.specs.LoggerTurns.{log_with, answer_for};
-ghost use Rattle.link_parts.specs.LoggerParts.{HasTurned, IsCutOff, Replies, HasCounted, IsCutServing, IsLogger, LoggerStops};
+ghost use Rattle.link_parts.specs.LoggerTurns.{log_with, answer_for, wants_in};
+ghost use Rattle.link_parts.specs.LoggerParts.{HasTurned, IsStarved, Replies, HasCounted, IsCutServing, IsLogger, LoggerStops};
 ghost use Rattle.link_parts.specs.Ranges.{most_turns};
 
 use crate::counts::{Counts, tell_counts};
@@ -25,9 +25,10 @@ use logger_wire::read_msg;
 use std::alloc::Global;
 
 /// Applies to the log the message that the bytes spell, and returns the answer. Returns no bytes if there is no answer or the bytes are no message.
-fn answer(alloc: Global, store: &mut LogStore, bytes: &[u8]) -> Result<MsgOut, NoMemory>
+pub(crate) fn answer(alloc: Global, store: &mut LogStore, bytes: &[u8]) -> Result<MsgOut, NoMemory>
     ensures next { OnOk result (store.new ≡ log_with store.old (reading bytes.now)) }
     ensures answer { IfOk result (λ out. out ≡ answer_bytes (answer_for store.old (reading bytes.now))) }
+    ensures memory { OnErr result (wants_in store.old (reading bytes.now) ≡ true) }
 {
     let mut out = MsgOut::new();
     if let Ok(m) = read_msg(bytes) {
@@ -59,7 +60,7 @@ fn take_turn<L: Link>(
 ) -> Result<(), NoMemory>
     requires { HasRoom 2 counts.old }
     ensures turned { OnOk result (HasTurned store.old store.new (L.told link.old) (L.told link.new) counts.old counts.new) }
-    ensures cut_off { OnErr result ((calls : List LinkCall) × IsCutOff calls × Tells (L.told link.old) (L.told link.new) calls) }
+    ensures cut_off { OnErr result ((calls : List LinkCall) × IsStarved store.old calls × Tells (L.told link.old) (L.told link.new) calls) }
     ensures no_bind_fault { L.bind_fault_count link.new ≡ L.bind_fault_count link.old }
 {
     let mut buffer = [0; DATAGRAM_ROOM];

@@ -12,7 +12,8 @@
 //! - `own WORDS` is the same as `run`, with the service Counter, and `node WORDS` is the same for `node`;
 //! - `start WORDS` starts `ftnode` as a process, and prints its exit status and what it wrote to both outputs. Its shell's command is that of a line `shell
 //!   TEXT` before it, where `$0` is the program and `$@` are its words. `answer HEX` is what a peer at 127.0.0.1:7461 answers to the datagrams that reach it,
-//!   one after another, and `hold FILE` keeps this journal open meanwhile.
+//!   one after another, and `hold FILE` keeps this journal open meanwhile. Before that the peer says what lines `tell ADDRESS HEX` have, each until an answer
+//!   comes, which is printed, and once what lines `throw ADDRESS HEX` have.
 //!
 //! The program that calls `run` is `$0`. With the words of `ftnode` it must be `ftnode`, by `run_ftnode`.
 #![tactic(auto)]
@@ -22,7 +23,7 @@ use ft_io::{NoMemory, Octets};
 use ft_system::Arrival;
 use node_link::NodeRole;
 use node_process::{Role, Services, TwinRole, read_role};
-use process::Meeting;
+use process::{Meeting, Question};
 use runs::{Setting, Way};
 use schedule_text::read_addr;
 use std::alloc::Global;
@@ -102,6 +103,8 @@ impl Script {
             "shell" => self.meeting.shell = String::from_str(alloc, rest)?,
             "hold" => self.meeting.held = String::from_str(alloc, rest)?,
             "answer" => return self.answer(alloc, rest),
+            "tell" => return self.question(alloc, rest, true),
+            "throw" => return self.question(alloc, rest, false),
             _ => self.said.line("no such line"),
         }
         Ok(())
@@ -138,6 +141,20 @@ impl Script {
         match bytes_of_hex(alloc, text)? {
             Some(bytes) => self.meeting.answers.push(bytes)?,
             None => self.said.line("no answer"),
+        }
+        Ok(())
+    }
+
+    /// Adds a question of the next process's peer.
+    fn question(&mut self, alloc: Global, rest: &str, wants_answer: bool) -> Result<(), NoMemory> {
+        let (to, text) = rest.split_once(' ').unwrap_or((rest, ""));
+        match (read_addr(to.as_bytes()), bytes_of_hex(alloc, text)?) {
+            (Some(to), Some(bytes)) => self.meeting.questions.push(Question {
+                to,
+                bytes,
+                wants_answer,
+            })?,
+            _ => self.said.line("no question"),
         }
         Ok(())
     }

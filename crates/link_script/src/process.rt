@@ -22,6 +22,18 @@ const PEER: Addr = Addr {
 /// How often the peer receives at most. In silence a receive takes at most 20 ms.
 const PATIENCE: u32 = 1_000;
 
+/// After how many receives the peer says a question again.
+const REPEAT: u32 = 10;
+
+/// What the peer says first.
+#[derive(Drop)]
+pub struct Question {
+    pub to: Addr,
+    pub bytes: Vec<u8>,
+    /// It is said again until an answer comes that differs from the last one. Otherwise it is said once, and nothing is awaited.
+    pub wants_answer: bool,
+}
+
 /// What a process meets.
 #[derive(Drop)]
 pub struct Meeting {
@@ -29,6 +41,8 @@ pub struct Meeting {
     pub shell: String,
     /// What the peer answers to the datagrams that it receives, one after another.
     pub answers: Vec<Vec<u8>>,
+    /// What the peer says before that, one after another.
+    pub questions: Vec<Question>,
     /// A journal that is open meanwhile. None where the name is empty.
     pub held: String,
 }
@@ -38,6 +52,7 @@ impl Meeting {
         Meeting {
             shell: String::new(alloc),
             answers: Vec::new(alloc),
+            questions: Vec::new(alloc),
             held: String::new(alloc),
         }
     }
@@ -51,7 +66,7 @@ impl Meeting {
     }
 }
 
-/// Starts it with these words, and says its exit status and what it wrote to both outputs.
+/// Starts it with these words, and says what it answered, its exit status, and what it wrote to both outputs.
 pub fn start<R: AllocGlobal + Env + Net + Clock + Files<File = File> + Processes>(
     system: &R,
     words: &[String],
@@ -59,7 +74,7 @@ pub fn start<R: AllocGlobal + Env + Net + Clock + Files<File = File> + Processes
     said: &mut Said,
 ) {
     let _held = FileDisk::open(system, meeting.held.as_str());
-    match run(system, words, meeting) {
+    match run(system, words, meeting, said) {
         Ok(output) => {
             let status = output.status.code().unwrap_or(-1);
             write!(said, "status {status}\n");
@@ -75,9 +90,10 @@ fn run<R: AllocGlobal + Env + Net + Clock + Processes>(
     system: &R,
     words: &[String],
     meeting: &Meeting,
+    said: &mut Said,
 ) -> io::Result<Output> {
     let mut peer = UdpLink::new(system);
-    run_beside(system, words, meeting, &mut peer)
+    run_beside(system, words, meeting, &mut peer, said)
 }
 
 fn run_beside<R: AllocGlobal + Env + Processes, L: Link>(
@@ -85,11 +101,13 @@ fn run_beside<R: AllocGlobal + Env + Processes, L: Link>(
     words: &[String],
     meeting: &Meeting,
     peer: &mut L,
+    said: &mut Said,
 ) -> io::Result<Output> {
     if peer.bind(PEER).is_err() {
         return Err(io::ErrorKind::AddrInUse.into());
     }
     let child = spawn(system, words, meeting)?;
+    ask_all(peer, &meeting.questions, said);
     answer_all(peer, &meeting.answers);
     child.wait_with_output(system.alloc())
 }
@@ -123,6 +141,44 @@ fn spawn_by<R: AllocGlobal + Env + Processes>(
         .stdout(Stdio::piped())
         .stderr(Stdio::piped())
         .spawn(system)
+}
+
+/// Says each question, and says what is answered.
+fn ask_all<L: Link>(peer: &mut L, questions: &[Question], said: &mut Said) {
+    let mut last = [0u8; 2048];
+    for question in questions {
+        if !question.wants_answer {
+            // One that isn't sent shows in the answers that follow.
+            let _ = peer.send(question.to, question.bytes.as_slice());
+            continue;
+        }
+        match ask(peer, question, &mut last) {
+            Some(len) => {
+                said.add(b"answer ");
+                said.hex(&last[..len.min(2048)]);
+                said.end_line();
+            }
+            None => said.line("no answer"),
+        }
+    }
+}
+
+/// Says a question until an answer comes that differs from the last one, and puts it in that one's place. Its length.
+fn ask<L: Link>(peer: &mut L, question: &Question, last: &mut [u8; 2048]) -> Option<usize> {
+    for turn in 0..PATIENCE {
+        if turn % REPEAT == 0 {
+            // One that isn't sent is sent again.
+            let _ = peer.send(question.to, question.bytes.as_slice());
+        }
+        let mut came = [0u8; 2048];
+        if let Ok(Heard::Got { len, .. }) = peer.recv(&mut came)
+            && came != *last
+        {
+            *last = came;
+            return Some(len);
+        }
+    }
+    None
 }
 
 /// Gives each answer, to what comes next that isn't a repeat. A repeat gets the answer that was given before.

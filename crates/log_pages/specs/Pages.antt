@@ -21,6 +21,11 @@ pub record IsLast (page : List ℕ) : Type 0 where
 abbrev pub kept : List (List ℕ) → Option (List ℕ) → List ℕ
 kept pages last = flat_map (λ page. page) pages ++ unwrap_or last []
 
+-- the bytes of an entry, and how many of the pages before them aren't stored any more: zeros stand for their bytes
+pub record Paged : Type 0 where
+  pub bytes : List ℕ
+  pub dropped : ℕ
+
 -- how many more bytes fit into the page of the last of `len` bytes
 abbrev pub room_after : ℕ → ℕ
 room_after len = (4096 - len % 4096) % 4096

@@ -1,7 +1,7 @@
 //! Wrong results that the contracts of this crate exclude. Each function calls another one of the crate, and promises of its result what a wrong body would make
 //! false. It is proved from the other's contract alone, so it is no longer proved once that contract lets the wrong body pass.
 
-ghost use Rattle.std.specs.Prelude.{◌≡◌, ◌≤◌, ◌+◌, length, OnOk};
+ghost use Rattle.std.specs.Prelude.{◌≡◌, ◌≤◌, ◌+◌, ◌*◌, length, OnOk};
 
 use crate::pages::Pages;
 use ft_io::NoMemory;
@@ -14,7 +14,15 @@ fn drops_the_tail_at_a_border(
     bytes: &[u8],
 ) -> Result<(), NoMemory>
     requires { length bytes.now ≤ 4096 }
-    ensures { OnOk result (length pages.new ≡ length pages.old + length bytes.now) }
+    ensures { OnOk result (length pages.new.bytes ≡ length pages.old.bytes + length bytes.now) }
 {
     pages.add(alloc, bytes)
+}
+
+/// Pages that are discarded aren't stored any more: the clause `dropped` of `Pages::give_up`.
+fn keeps_its_pages_zeroed(pages: &mut Pages, count: usize)
+    requires { 4096 * count ≤ length pages.old.bytes }
+    ensures { count ≤ pages.new.dropped }
+{
+    pages.give_up(count);
 }

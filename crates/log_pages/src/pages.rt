@@ -1,6 +1,6 @@
 //! A client's bytes in pages of 4,096.
 
-ghost use Rattle.std.specs.Prelude.{[], ◌≡◌, ◌≤◌, ◌<◌, ◌+◌, ◌-◌, ◌*◌, ◌/◌, ◌%◌, ◌^◌, ◌++◌, All, option_map, unwrap_or, IfSome, IfNone, IfOk, IsOk, OnOk, OnErr, length};
+ghost use Rattle.std.specs.Prelude.{[], ◌≡◌, ◌≤◌, ◌<◌, ◌+◌, ◌-◌, ◌*◌, ◌/◌, ◌%◌, ◌^◌, ◌++◌, All, option_map, unwrap_or, IfSome, IfNone, IfOk, IsOk, OnOk, OnErr, length, max};
 ghost use Rattle.std.specs.Prelude.{take, drop, slice_index};
 ghost use Rattle.log_pages.specs.Pages.{IsFull, IsLast, kept, page_of, room_after, zeroed};
 
@@ -30,12 +30,15 @@ pub struct Pages {
 }
 
 impl Model for Pages {
-    ghost use Rattle.std.specs.Prelude.{ℕ, ◌++◌, ◌*◌, List, All, IfSome, replicate};
-    ghost use Rattle.log_pages.specs.Pages.{IsFull, IsLast, kept};
+    ghost use Rattle.std.specs.Prelude.{◌++◌, ◌*◌, All, IfSome, replicate};
+    ghost use Rattle.log_pages.specs.Pages.{IsFull, IsLast, Paged, kept};
 
-    ghost Value = { List ℕ };
+    ghost Value = { Paged };
 
-    ghost view = { λ p. replicate (4096 * p.given_up) 0 ++ kept p.full.items p.last };
+    ghost view = { λ p. record {
+      bytes = replicate (4096 * p.given_up) 0 ++ kept p.full.items p.last;
+      dropped = p.given_up;
+    } };
 
     ghost invariant = { λ p. All IsFull p.full.items × IfSome p.last IsLast };
 }
@@ -114,7 +117,8 @@ fn drop_pages(full: &mut VecDeque<Page>, last: &mut Option<Page>, count: usize)
 impl Pages {
     /// No bytes. Nothing is allocated yet.
     pub fn new(alloc: Global) -> Pages
-        ensures { result ≡ [] }
+        ensures bytes { result.bytes ≡ [] }
+        ensures dropped { result.dropped ≡ 0 }
     {
         Pages {
             given_up: 0,
@@ -126,8 +130,8 @@ impl Pages {
     /// How many bytes there are.
     #[tactic(auto, using(crate::proofs::GivenUp::all_length))]
     pub fn len(&self) -> usize
-        requires { length self.now ≤ 2 ^ 24 }
-        ensures { result ≡ length self.now }
+        requires { length self.now.bytes ≤ 2 ^ 24 }
+        ensures { result ≡ length self.now.bytes }
     {
         let full = (self.given_up + self.full.len()) * PAGE;
         match &self.last {
@@ -140,9 +144,10 @@ impl Pages {
     #[tactic(auto, using(crate::proofs::GivenUp::room_kept, crate::proofs::Filling::all_more, crate::proofs::Filling::filled, std::proofs::Common::append_assoc))]
     pub fn add(&mut self, alloc: Global, bytes: &[u8]) -> Result<(), NoMemory>
         requires { length bytes.now ≤ 4096 }
-        ensures ok { OnOk result (self.new ≡ self.old ++ bytes.now) }
+        ensures ok { OnOk result (self.new.bytes ≡ self.old.bytes ++ bytes.now) }
+        ensures dropped { self.new.dropped ≡ self.old.dropped }
         ensures err { OnErr result (self.new ≡ self.old) }
-        ensures in_page { length bytes.now ≤ room_after (length self.old) → IsOk result }
+        ensures in_page { length bytes.now ≤ room_after (length self.old.bytes) → IsOk result }
     {
         let room = room_in(&self.last);
         if bytes.len() <= room {
@@ -161,7 +166,7 @@ impl Pages {
     /// The bytes of page `i`, counted from 0; none after the last page.
     #[tactic(auto, using(crate::proofs::GivenUp::zero_page, crate::proofs::GivenUp::last_kept, crate::proofs::GivenUp::none_kept))]
     fn page(&self, i: usize) -> &[u8]
-        ensures value { result.now ≡ page_of self.now i }
+        ensures value { result.now ≡ page_of self.now.bytes i }
         ensures within { length result.now ≤ 4096 }
     {
         if i < self.given_up {
@@ -177,11 +182,12 @@ impl Pages {
         &[]
     }
 
-    /// Discards the first `pages` pages, counting those discarded before. Nothing is allocated.
+    /// Discards the first `pages` pages, counting those discarded before: they aren't stored any more. Nothing is allocated.
     #[tactic(auto, using(crate::proofs::GivenUp::zeroed_is))]
     pub fn give_up(&mut self, pages: usize)
-        requires { 4096 * pages ≤ length self.old }
-        ensures { self.new ≡ zeroed (4096 * pages) self.old }
+        requires { 4096 * pages ≤ length self.old.bytes }
+        ensures bytes { self.new.bytes ≡ zeroed (4096 * pages) self.old.bytes }
+        ensures dropped { self.new.dropped ≡ max self.old.dropped pages }
     {
         let more = pages.saturating_sub(self.given_up);
         drop_pages(&mut self.full, &mut self.last, more);
@@ -191,8 +197,8 @@ impl Pages {
     /// The byte at this place, counted from 0.
     #[tactic(auto, using(crate::proofs::Paging::byte_there, crate::proofs::Paging::byte_in_page))]
     pub fn at(&self, at: usize) -> u8
-        requires { at < length self.now }
-        ensures { result ≡ slice_index self.now at }
+        requires { at < length self.now.bytes }
+        ensures { result ≡ slice_index self.now.bytes at }
     {
         self.page(at / PAGE)[at % PAGE]
     }
@@ -200,8 +206,8 @@ impl Pages {
     /// The bytes from the place `from` to the end of its page.
     #[tactic(auto, using(crate::proofs::Paging::byte_there, std::proofs::lemmas::List::take_rest))]
     fn rest(&self, from: usize) -> &[u8]
-        requires { from < length self.now }
-        ensures value { result.now ≡ drop (from % 4096) (page_of self.now (from / 4096)) }
+        requires { from < length self.now.bytes }
+        ensures value { result.now ≡ drop (from % 4096) (page_of self.now.bytes (from / 4096)) }
         ensures within { length result.now ≤ 4096 }
     {
         let page = self.page(from / PAGE);
@@ -212,8 +218,8 @@ impl Pages {
     #[tactic(auto, using(crate::proofs::Paging::part_copied))]
     pub fn copy(&self, from: usize, part: &mut ArrayVec<u8, PART>)
         requires empty { part.old.items ≡ [] }
-        requires there { from < length self.now }
-        ensures { part.new.items ≡ take 1024 (drop from self.now) }
+        requires there { from < length self.now.bytes }
+        ensures { part.new.items ≡ take 1024 (drop from self.now.bytes) }
     {
         let rest = self.rest(from);
         let count = rest.len().min(PART);

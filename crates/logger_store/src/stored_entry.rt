@@ -51,7 +51,7 @@ impl Model for StoredEntry {
       cisn = e.numbers.cisn;
       sisn = e.numbers.sisn;
       mss = e.numbers.mss;
-      bytes = e.bytes;
+      bytes = e.bytes.bytes;
       fin = e.fin;
       lengths = e.lengths;
       acknowledged = e.acknowledged;
@@ -59,7 +59,7 @@ impl Model for StoredEntry {
     } };
 
     ghost invariant = { λ e. (e.reads ≡ length e.lengths) × (e.read ≡ sum e.lengths) × (e.closed ≡ list_any (λ k. k == 0) e.lengths)
-        × IsInRange e.numbers.mss (length e.bytes) e.acknowledged × AreRead (length e.bytes) e.lengths };
+        × IsInRange e.numbers.mss (length e.bytes.bytes) e.acknowledged × AreRead (length e.bytes.bytes) e.lengths };
 }
 
 impl StoredEntry {

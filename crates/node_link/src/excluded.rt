@@ -1,10 +1,11 @@
 //! Wrong results that the contracts of this crate exclude. Each function calls another one of the crate, and promises of its result what a wrong body would make
 //! false. It is proved from the other's contract alone, so it is no longer proved once that contract lets the wrong body pass.
 
-ghost use Rattle.std.specs.Prelude.{◌≡◌, ◌^◌, [], ◌∷◌, List, map, IsErrOf, OnOk};
+ghost use Rattle.std.specs.Prelude.{◌≡◌, ◌^◌, Bool, Some, [], ◌∷◌, List, map, IsErrOf, OnOk};
+ghost use Rattle.ft_io.specs.declared.Addr.{Addr};
 ghost use Rattle.ft_io.specs.Told.{Tells};
 ghost use Rattle.ft_io.specs.declared.link_call.LinkCall.{LinkCall};
-ghost use Rattle.ft_io.specs.declared.link_call.LinkCall.TheVariants.{Bound};
+ghost use Rattle.ft_io.specs.declared.link_call.LinkCall.TheVariants.{Bound, Handed};
 ghost use Rattle.ft_model.specs.Lawful.{hello};
 ghost use Rattle.ft_model.specs.Node.{Stage};
 ghost use Rattle.ft_model.specs.Node.Input.{Tick_comes};
@@ -14,12 +15,12 @@ ghost use Rattle.server_node.specs.declared.stage.Stage.TheVariants as stages;
 ghost use Rattle.link_parts.specs.Counts.{HasRoom};
 ghost use Rattle.link_parts.specs.Ranges.{ServerInRange};
 ghost use Rattle.node_link.specs.ServerParts.{standing_of};
-ghost use Rattle.node_link.specs.ServerTurns.{ServerTurn, input_from, turn_calls, wires_in};
+ghost use Rattle.node_link.specs.ServerTurns.{ServerTurn, address_of, input_from, second_for, turn_calls, wires_in};
 
-use crate::server::{run_server, take_turn};
+use crate::server::{run_server, send_one, take_turn};
 use ft_io::{Link, Sink};
 use link_parts::{Counts, Loggers, NodeEnd, ServerRole};
-use server_node::{Node, TurnEnd};
+use server_node::{Node, OutPacket, TurnEnd};
 use server_trait::Saved;
 use std::alloc::Global;
 
@@ -51,4 +52,18 @@ fn sends_nothing_of_a_turn<S: Saved, L: Link>(
         × (input_from loggers turn.received ≡ Tick_comes → wires_in turn.sent ≡ map wire_of (hello (node_of (standing_of node.old).who Stage.Asking)))) }
 {
     take_turn(alloc, loggers, node, link, counts)
+}
+
+/// A message is handed to send to the first logger and to the second: the clause `sent` of `send_one`.
+fn sends_to_one_logger_alone<L: Link>(
+    link: &mut L,
+    loggers: Loggers,
+    packet: &OutPacket,
+    counts: &mut Counts,
+)
+    requires { HasRoom 2 counts.old }
+    ensures { (second : Addr) → second_for loggers packet.now.to ≡ Some second → (is_lost : Bool) × (is_second_lost : Bool) × Tells (L.told link.old) (L.told link.new)
+        (Handed (address_of loggers.first packet.now.to) packet.now.bytes is_lost ∷ Handed second packet.now.bytes is_second_lost ∷ []) }
+{
+    send_one(link, loggers, packet, counts);
 }

@@ -59,7 +59,12 @@ fn hand<L: Link>(link: &mut L, to: Addr, bytes: &[u8], counts: &mut Counts)
 }
 
 /// Hands a packet to send: a message to the first logger, and then to the second, if there is one.
-fn send_one<L: Link>(link: &mut L, loggers: Loggers, packet: &OutPacket, counts: &mut Counts)
+pub(crate) fn send_one<L: Link>(
+    link: &mut L,
+    loggers: Loggers,
+    packet: &OutPacket,
+    counts: &mut Counts,
+)
     requires { HasRoom 2 counts.old }
     ensures sent { HasSent loggers (packet.now ∷ []) (L.told link.old) (L.told link.new) counts.old counts.new }
     ensures no_bind_fault { L.bind_fault_count link.new ≡ L.bind_fault_count link.old }

@@ -3,13 +3,17 @@
 
 ghost use Rattle.std.specs.Prelude.{◌≡◌, ◌≤◌, ◌<◌, [], false, true, length};
 ghost use Rattle.ft_model.specs.Node as law;
+ghost use Rattle.plain_world.specs.Values.{places_in};
 
 use crate::client::PlainClient;
 use crate::incarnation::Incarnation;
 use crate::input::Input;
 use crate::moves::Move;
-use crate::opening::is_asked;
+use crate::opening::{is_asked, may_open};
+use crate::place::PlainPlace;
 use logger_wire::Numbers;
+use segment_codec::PacketRef;
+use server_trait::Service;
 
 /// No text is accepted at or above the right edge: the contract of `PlainClient::next_text`.
 #[tactic(auto, unfolding(crate::specs::Accepting::next_text))]
@@ -33,4 +37,16 @@ fn isnt_asked_again_at_a_tick(who: Incarnation, numbers: &Numbers) -> bool
     ensures { (stage : law.Stage) → result ≡ true }
 {
     is_asked(who, &Input::Tick, numbers)
+}
+
+/// While 64 openings are pending a SYN opens nothing: the contract of `may_open`.
+fn opens_a_65th<S: Service>(
+    who: Incarnation,
+    segment: &PacketRef<'_>,
+    places: &[PlainPlace<S>],
+) -> bool
+    requires { law.pending_count (places_in places.now) ≡ 64 }
+    ensures { (stage : law.Stage) → result ≡ false }
+{
+    may_open(who, segment, places)
 }

@@ -146,7 +146,11 @@ fn is_strange<S: Service>(
 }
 
 /// Returns whether a segment makes an opening: a SYN of an unknown client, while fewer than 64 are pending.
-fn may_open<S: Service>(who: Incarnation, segment: &PacketRef<'_>, places: &[PlainPlace<S>]) -> bool
+pub(crate) fn may_open<S: Service>(
+    who: Incarnation,
+    segment: &PacketRef<'_>,
+    places: &[PlainPlace<S>],
+) -> bool
     ensures { (stage : law.Stage) → result ≡ (strange_lem (node_of who stage) (segment_of segment.now) (places_in places.now)
         && syn_lem (segment_of segment.now) && nat_lt (law.pending_count (places_in places.now)) 64) }
 {

@@ -1,7 +1,7 @@
 //! Wrong results that the contracts of this crate exclude. Each function calls another one of the crate, and promises of its result what a wrong body would make
 //! false. It is proved from the other's contract alone, so it is no longer proved once that contract lets the wrong body pass.
 
-ghost use Rattle.std.specs.Prelude.{◌≡◌, ℕ, Err, codes, IfOk};
+ghost use Rattle.std.specs.Prelude.{◌≡◌, ◌<◌, ℕ, Err, codes, length, IfOk, OnOk};
 ghost use Rattle.ft_io.specs.Faults.{Rose};
 ghost use Rattle.ft_model.specs.declared.schedule.LineWhy.{LineWhy};
 ghost use Rattle.net_schedule.specs.WorldView.{kept};
@@ -9,8 +9,9 @@ ghost use Rattle.replay_run.specs.TraceEnd.{IsStanding};
 ghost use Rattle.replay_check.specs.declared.status.RunEnd.TheVariants.{BadLine, WriteFault};
 
 use crate::lines::write_played;
+use crate::report::{Report, flush_piece};
 use crate::run::run;
-use ft_io::{NoMemory, Sink, Source};
+use ft_io::{Failed, NoMemory, Sink, Source};
 use ft_model::Event;
 use net_schedule::{StepOut, World};
 use replay_check::RunEnd;
@@ -26,6 +27,13 @@ fn always_faults<I: Source, O: Sink>(
     ensures { result ≡ Err WriteFault → Rose (O.fault_count out.old) (O.fault_count out.new) }
 {
     run(alloc, input, out)
+}
+
+/// After each event less than 65,536 bytes of the report are held back: the clause `held_back` of `flush_piece`.
+fn holds_the_report_back_to_its_end<O: Sink>(report: &mut Report, out: &mut O) -> Result<(), Failed>
+    ensures { OnOk result (length report.new.held.items < 65536) }
+{
+    flush_piece(report, out)
 }
 
 /// The lines of a crash that is the first event begin with its own: the contract of `write_played`.

@@ -3,15 +3,19 @@
 
 ghost use Rattle.std.specs.Prelude.{◌≡◌, ◌∷◌, [], ◌++◌, false, length, Err, OnOk, codes};
 ghost use Rattle.ft_model.specs.Report.{event_line};
+ghost use Rattle.ft_model.specs.Texts.{spaced};
 ghost use Rattle.ft_model.specs.Words.{words_of};
+ghost use Rattle.mark_laws.specs.MarkedReport.{words_of_mark};
 
 use crate::event_line::end_of;
 use crate::event_text::put_event_line;
 use crate::line::takes_client;
 use crate::line_out::LineOut;
 use crate::line_text::put_letters;
-use ft_io::NoMemory;
+use crate::mark_text::put_mark;
+use ft_io::{Key, NoMemory};
 use ft_model::{Event, LineWhy, Schedule};
+use logger_wire::Mark;
 
 /// A line with a word too many is refused: the contract of `end_of`.
 fn reading_ignores_further_words(words: &[u8]) -> Result<(), LineWhy>
@@ -42,4 +46,21 @@ fn writing_numbers_events_one_too_high(line: &mut LineOut) -> Result<(), NoMemor
     ensures { OnOk result (line.new.words ≡ line.old.words ++ event_line 7 Event.Tick) }
 {
     put_event_line(7, &Event::Tick, line)
+}
+
+/// The words of a mark have its reads, and then its length: the clause `ok` of `put_mark`.
+fn writing_the_reads_of_a_mark_as_its_length(
+    key: Key,
+    state: &[u8],
+    line: &mut LineOut,
+) -> Result<(), NoMemory>
+    ensures { OnOk result (line.new.words ≡ line.old.words ++ spaced (words_of_mark key (record { reads = 2; length = 3; made = 4; state = state.now }))) }
+{
+    let mark = Mark {
+        reads: 2,
+        length: 3,
+        made: 4,
+        state,
+    };
+    put_mark(key, &mark, line)
 }

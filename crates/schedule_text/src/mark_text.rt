@@ -52,7 +52,7 @@ fn put_fields(body: &MarkBody<'_>, line: &mut LineOut) -> Result<(), NoMemory>
 
 /// Appends a mark of a connection: its numbers, and the form of its state.
 #[tactic(auto, using(crate::proofs::LineLemmas::line_rules))]
-fn put_mark(key: Key, mark: &Mark<'_>, line: &mut LineOut) -> Result<(), NoMemory>
+pub(crate) fn put_mark(key: Key, mark: &Mark<'_>, line: &mut LineOut) -> Result<(), NoMemory>
     ensures ok { OnOk result (line.new.words ≡ line.old.words ++ spaced (words_of_mark key (mark_said mark.now))) }
     ensures before { line.new.before ≡ line.old.before }
 {

@@ -238,15 +238,21 @@ impl Bench {
         Ok(())
     }
 
-    /// Gives the log long messages until its round is full, and at most as many as a line says.
+    /// Gives the log long messages until its round is full, and at most as many as a line says. A second number is that of the first message; without it that
+    /// is 0.
     fn take_long(&mut self, alloc: Global, text: &str, said: &mut Said) -> Result<(), NoMemory> {
-        let (Some(log), Ok(count)) = (&mut self.log, text.parse::<u32>()) else {
+        let (text, first) = text.split_once(' ').unwrap_or((text, "0"));
+        let (Some(log), Ok(count), Ok(first)) = (
+            &mut self.log,
+            text.parse::<u32>(),
+            first.parse::<u32>(),
+        ) else {
             said.add(b"no log");
             return Ok(());
         };
         let mut out = MsgOut::new();
         for piece in 0..count {
-            let datagram = long_data(log.log().boot(), piece);
+            let datagram = long_data(log.log().boot(), first.wrapping_add(piece));
             if let Given::Full = give(alloc, log, &datagram, &mut out)? {
                 write!(said, "full behind {piece}");
                 return Ok(());

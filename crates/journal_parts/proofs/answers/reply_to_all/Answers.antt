@@ -17,4 +17,5 @@ loop-answer-preserved g c = record {
       c.loop-answer.invariant.answered c.reply.ensures.handed;
   no_disk_fault = c.reply.ensures.no_disk_fault ∙ c.loop-answer.invariant.no_disk_fault;
   no_bind_fault = c.reply.ensures.no_bind_fault ∙ c.loop-answer.invariant.no_bind_fault;
+  no_receive = c.reply.ensures.no_receive ∙ c.loop-answer.invariant.no_receive;
 }

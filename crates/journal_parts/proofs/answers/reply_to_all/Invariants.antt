@@ -8,4 +8,5 @@ invariant-loop-answer g l = record {
   answered : HasAnswered (take l.answer-index l.answers) (g.K.Disk.told l.initial.desk) (g.K.Disk.told l.desk) l.initial.counts l.counts;
   no_disk_fault : g.K.Disk.fault_count l.desk ≡ g.K.Disk.fault_count l.initial.desk;
   no_bind_fault : (g.K.Disk.beside l.desk).bind_faults ≡ (g.K.Disk.beside l.initial.desk).bind_faults;
+  no_receive : (g.K.Disk.beside l.desk).waits ≡ (g.K.Disk.beside l.initial.desk).waits;
 }

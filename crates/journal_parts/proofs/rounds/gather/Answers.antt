@@ -1,6 +1,7 @@
-use Rattle.std.proofs.Common.{◌∙◌}
+use Rattle.std.proofs.Common.{◌∙◌, arith}
 use Rattle.ft_io.proofs.Outcomes.{at_err}
 use Rattle.journal_parts.proofs.Gathering.{room_to_receive, gathering_cut, gathered_with, gathering_on}
+use Rattle.journal_parts.proofs.Waiting.{waited_on}
 use Rattle.journal_parts.proofs.rounds.gather.Goals as goal
 
 pub take_next-requires-clause-counts : goal.take_next-requires-clause-counts
@@ -28,4 +29,17 @@ loop-count-preserved g c = record {
       c.if-not-branch.false c.loop-count.invariant.gathering c.in_ok-take_next.ensures.taken;
   no_disk_fault = c.take_next.ensures.no_disk_fault ∙ c.loop-count.invariant.no_disk_fault;
   no_bind_fault = c.take_next.ensures.no_bind_fault ∙ c.loop-count.invariant.no_bind_fault;
+  waited = waited_on c.loop-count.count (g.K.Disk.beside c.args.desk.now).waits (g.K.Disk.beside c.loop-count.desk).waits (g.K.Disk.beside c.take_next.new.desk).waits
+      c.loop-count.invariant.waited c.take_next.ensures.waited;
+  few = omega (arith, c.take_next.ensures.few, c.loop-count.invariant.few);
+  capacity = c.take_next.ensures.capacity ∙ c.loop-count.invariant.capacity;
 }
+
+pub returns-then-not-branch-clause-waited : goal.returns-then-not-branch-clause-waited
+returns-then-not-branch-clause-waited g c =
+    waited_on c.loop-count.count (g.K.Disk.beside c.args.desk.now).waits (g.K.Disk.beside c.loop-count.desk).waits (g.K.Disk.beside c.take_next.new.desk).waits
+    c.loop-count.invariant.waited c.take_next.ensures.waited
+
+pub take_next-requires-clause-space : goal.take_next-requires-clause-space
+take_next-requires-clause-space g c =
+    omega (arith, c.loop-count.invariant.few, c.loop-count.invariant.capacity, c.loop-count-test.true, c.requires.within, c.requires.room)

@@ -1,4 +1,4 @@
-use Rattle.std.proofs.Common.{◌+◌, ◌∙◌, arith}
+use Rattle.std.proofs.Common.{◌+◌, ◌∙◌, ◌≤◌, subst, sym, arith}
 use Rattle.journal_parts.specs.RoundParts.{place_of}
 use Rattle.journal_parts.proofs.Rounding.{room_for_round, served_on}
 use Rattle.journal_parts.proofs.rounds.serve.Goals as goal
@@ -20,6 +20,7 @@ loop-left-preserved g c =
       served = served_on s.done c.in_ok-left.field-0 (place_of c.args.kept.now) c.loop-left.kept c.take_round.new.kept (g.K.Disk.told c.args.desk.now) (g.K.Disk.told c.loop-left.desk)
           (g.K.Disk.told c.take_round.new.desk) c.loop-left.counts c.take_round.new.counts s.served c.in_ok-left.ensures.turned;
       idle = c.in_ok-left.ensures.turned.idle;
+      room = subst (λ n. 256 ≤ n) (sym c.take_round.ensures.capacity) s.room;
       never_falls = omega (arith, s.never_falls, c.take_round.ensures.never_falls);
       no_bind_fault = c.take_round.ensures.no_bind_fault ∙ s.no_bind_fault;
     }

@@ -1,4 +1,4 @@
-use Rattle.std.proofs.Common.{◌≡◌, ◌≤◌, ◌+◌, [], ℕ}
+use Rattle.std.proofs.Common.{◌≡◌, ◌≤◌, ◌+◌, [], ℕ, vec_capacity}
 use Rattle.journal_parts.specs.RoundParts.{place_of, HasServed}
 use Rattle.journal_parts.proofs.rounds.serve.Given as goal
 
@@ -9,6 +9,7 @@ invariant-loop-left g l = record {
   count_is : done + l.left ≡ l.turns;
   served : HasServed done (place_of l.fn.kept) (place_of l.kept) (g.K.Disk.told l.fn.desk) (g.K.Disk.told l.desk) l.counts;
   idle : l.kept.round ≡ [];
+  room : 256 ≤ vec_capacity l.answers;
   never_falls : g.K.Disk.fault_count l.fn.desk ≤ g.K.Disk.fault_count l.desk;
   no_bind_fault : (g.K.Disk.beside l.desk).bind_faults ≡ (g.K.Disk.beside l.fn.desk).bind_faults;
 }

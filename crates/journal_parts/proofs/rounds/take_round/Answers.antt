@@ -9,7 +9,7 @@ pub returns-in_err-commit-clause-stopped : goal.returns-in_err-commit-clause-sto
 returns-in_err-commit-clause-stopped g c =
     at_err c.from_residual-in_err-commit.result
     (cut_by_commit c.in_ok-count.count c.args.most c.args.kept.now c.gather.new.kept (g.K.Disk.told c.args.desk.now) (g.K.Disk.told c.gather.new.desk) (g.K.Disk.told c.commit.new.disk)
-    c.args.counts.now c.gather.new.counts c.gather.new.answers.items c.in_ok-count.ensures.count.1 c.requires.idle c.in_ok-count.ensures.gathered c.in_err-commit.ensures.stopped)
+    c.args.counts.now c.gather.new.counts c.gather.new.answers.items c.in_ok-count.ensures.count.1 c.requires.idle c.in_ok-count.ensures.gathered c.in_err-commit.ensures.stopped c.in_err-commit.ensures.some)
 
 pub reply_to_all-requires : goal.reply_to_all-requires
 reply_to_all-requires g c =

@@ -7,4 +7,4 @@ use Rattle.log_pages.proofs.pages.Pages.page.Goals as goal
 pub returns-then-place-len-clause-value : goal.returns-then-place-len-clause-value
 returns-then-place-len-clause-value c =
     full_kept c.self.inside.given_up c.args.i (c.args.i - c.self.inside.given_up) c.self.inside.full.items (unwrap_or c.self.inside.last []) c.as_slice.result.now c.index.result.now c.self.invariant.0 (search rules) refl (search rules) (c.as_slice.ensures.value ∙ c.index.ensures)
-    ∙ ap (λ xs. page_of xs c.args.i) c.self.view_is
+    ∙ ap (λ s. page_of s.bytes c.args.i) c.self.view_is
