@@ -22,7 +22,7 @@ begin() { # START [journal]
     [ $# -lt 2 ] || journal=(--journal "$room/journal")
     add_machines
     "$1"
-    start_logger "${journal[@]}"
+    start_logger "${journal[@]}" ${journal:+--begin yes}
     start_server 1
 }
 

@@ -1,8 +1,7 @@
 /* What bench/journal.sh has beside `ftnode logger --journal`:
- *     journal serve PORT [FILE]       a logger of one connection, which keeps its log in FILE by the same calls: the messages of a round that changed the log after
- *                                     the closed gate, fdatasync, the gate's byte, fdatasync, and then the answers
+ *     journal serve PORT [FILE]       a logger of one connection, which keeps its log in FILE: the messages of a round that changed the log, with their length, in one
+ *                                     write, fdatasync, and then the answers
  *     journal ask PORT AHEAD COUNT    sends Data of 1,460 bytes, AHEAD of them under way, until COUNT are in the log, and prints how many microseconds that took
- *     journal make FILE BYTES         writes a journal of so many bytes or a few more: a Data of 1,460 bytes and its Read by turns, 256 messages in a block
  *     journal read FILE               reads a file from the disk, and prints its bytes and how many microseconds that took
  */
 #define _GNU_SOURCE
@@ -19,7 +18,7 @@
 
 #include "log.h"
 
-enum { ROUND = 256, TEXT = 1460, ROOM = 2048, OPENED_GATE = 209, CLOSED_GATE = 46, MAGIC = 8 };
+enum { ROUND = 256, TEXT = 1460, ROOM = 2048 };
 
 static int fail(const char *what)
 {
@@ -59,36 +58,28 @@ static void sync_data(int file)
         fail("fdatasync");
 }
 
-/* the block of a round, with the closed gate after it, and where it goes */
-static uint8_t block[4 + ROUND * MOST + 1];
+/* the block of a round, and where it goes */
+static uint8_t block[4 + ROUND * MOST];
 static size_t filled;
-static off_t end = MAGIC;
+static off_t end;
 
-static void keep(int file, int syncs)
+static void keep(int file)
 {
-    static const uint8_t opened = OPENED_GATE;
     if (filled == 0)
         return;
     put_number(block, (uint32_t)filled);
-    block[4 + filled] = CLOSED_GATE;
-    write_at(file, block, 4 + filled + 1, end + 1);
-    if (syncs)
-        sync_data(file);
-    write_at(file, &opened, 1, end);
-    if (syncs)
-        sync_data(file);
-    end += 5 + (off_t)filled;
+    write_at(file, block, 4 + filled, end);
+    sync_data(file);
+    end += 4 + (off_t)filled;
     filled = 0;
 }
 
-/* a new journal */
+/* a new file */
 static int open_new(const char *name)
 {
     int file = open(name, O_RDWR | O_CREAT | O_TRUNC, 0600);
     if (file < 0)
         fail(name);
-    write_at(file, (const uint8_t *)"ftlog 1\n.", MAGIC + 1, 0);
-    sync_data(file);
     return file;
 }
 
@@ -126,7 +117,7 @@ static void serve(unsigned short port, const char *name)
             }
             count++;
         }
-        keep(file, 1);
+        keep(file);
         for (i = 0; i < count; i++)
             if (answers[i].length > 0 && sendto(here, answers[i].bytes, answers[i].length, 0, (struct sockaddr *)&answers[i].to, sizeof answers[i].to) < 0)
                 fail("send");
@@ -150,14 +141,6 @@ static size_t open_of(uint8_t *p)
     put_number(p + 26, 5000);
     put(p + 30, 1460);
     return seal(p, OPEN, 1, 32);
-}
-
-static size_t read_of(uint8_t *p, uint32_t index)
-{
-    put_key(p);
-    put_number(p + 22, index);
-    put(p + 26, TEXT);
-    return seal(p, READ, 1, 28);
 }
 
 /* asks until it is answered */
@@ -198,34 +181,6 @@ static void ask(unsigned short port, uint32_t ahead, uint32_t count)
     printf("%ld\n", microseconds() - begun);
 }
 
-/* gives a message to the connection of another port */
-static size_t of_port(uint8_t *p, uint16_t port, size_t n)
-{
-    put(p + 20, port);
-    return seal(p, p[3], 1, n);
-}
-
-static void make(const char *name, off_t bytes)
-{
-    int file = open_new(name);
-    uint32_t piece = 0;
-    uint16_t port = 40000;
-    filled = seal(block + 4, HELLO, 1, 16);
-    while (end < bytes) {
-        uint8_t *p = block + 4;
-        if (piece == 0)
-            filled += of_port(p + filled, port, open_of(p + filled));
-        filled += of_port(p + filled, port, data_of(p + filled, piece * TEXT));
-        filled += of_port(p + filled, port, read_of(p + filled, piece));
-        if (++piece == STREAM / TEXT)
-            piece = 0, port++;
-        if (filled > (ROUND - 3) * MOST)
-            keep(file, 0);
-    }
-    sync_data(file);
-    close(file);
-}
-
 static void read_whole(const char *name)
 {
     static uint8_t chunk[65536];
@@ -246,8 +201,6 @@ int main(int argc, char **argv)
         serve((unsigned short)atoi(argv[2]), argc > 3 ? argv[3] : NULL);
     else if (argc == 5 && strcmp(argv[1], "ask") == 0)
         ask((unsigned short)atoi(argv[2]), (uint32_t)atoi(argv[3]), (uint32_t)atoi(argv[4]));
-    else if (argc == 4 && strcmp(argv[1], "make") == 0)
-        make(argv[2], (off_t)atoll(argv[3]));
     else if (argc == 3 && strcmp(argv[1], "read") == 0)
         read_whole(argv[2]);
     else

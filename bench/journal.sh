@@ -1,7 +1,8 @@
 #!/usr/bin/env bash
-# A logger that keeps its log in a file, compared with one that doesn't, and with a C program that makes the same calls on its file (bench/journal.c), in one run:
-#  1. messages a second, for Data of 1,460 bytes with 1, 64 and 256 of them in flight, by the minimum time of many runs, which alternate. Goal: 0.7 of the C
-#     program's;
+# A logger that keeps its log in a file, compared with one that doesn't, and with a C program that also makes one write and one sync a round (bench/journal.c), and with
+# SQLite's write-ahead log (bench/journal_sqlite.py), in one run:
+#  1. messages a second, for Data of 1,460 bytes with 1, 64 and 256 of them in flight, by the minimum time of many runs, which alternate. Goal: 0.9 of the C
+#     program's, at 1 and 64; and at 1 under way 0.9 of SQLite's, with `synchronous` full;
 #  2. the size of the file, compared with what a client sent in full segments, through a server with the service Meter, which answers little, and with Echo. Goal:
 #     at most 1.05 times;
 #  3. the opening of a file of 64 MiB that is read from the disk, the minimum of ROUNDS. Goal: 100 MB a second;
@@ -38,13 +39,14 @@ goal() { # WORD..: whether a goal is met is the status of awk with these words
     if awk "$@"; then echo " goal met"; else echo " goal MISSED" && missed=1; fi
 }
 
-# starts one of the three on a new file
+# starts one of the four on a new file
 start_one() { # KIND
-    rm -f "$folder/file"
+    rm -f "$folder"/file*
     case $1 in
         without) start "$program" logger --local 127.0.0.1:$port --turns 1000000 ;;
-        with) start "$program" logger --local 127.0.0.1:$port --turns 1000000 --journal "$folder/file" ;;
+        with) start "$program" logger --local 127.0.0.1:$port --turns 1000000 --journal "$folder/file" --begin yes ;;
         c) start "$work/journal" serve $port "$folder/file" ;;
+        sqlite) start bench/journal_sqlite.py $port "$folder/file" ;;
     esac
 }
 
@@ -61,19 +63,21 @@ taken() { # KIND AHEAD COUNT
 measure_messages() {
     local ahead turns count kind us
     for ahead in 1 64 256; do
-        declare -A least=([without]=999999999 [with]=999999999 [c]=999999999)
+        declare -A least=([without]=999999999 [with]=999999999 [c]=999999999 [sqlite]=999999999)
         turns=$((rounds * (ahead == 1 ? 8 : ahead == 64 ? 2 : 1)))
         for ((turn = 0; turn < turns; turn++)); do
-            for kind in without with c; do
+            for kind in without with c sqlite; do
+                [ $kind = sqlite ] && [ $ahead != 1 ] && continue
                 count=$((20 * ahead))
                 [ $kind = without ] && count=11000
                 us=$(($(taken $kind $ahead $count) * 1000 / count)) # nanoseconds a message
                 ((us < least[$kind])) && least[$kind]=$us
             done
         done
-        goal -v ahead=$ahead -v without="${least[without]}" -v with="${least[with]}" -v c="${least[c]}" 'BEGIN {
+        goal -v ahead=$ahead -v without="${least[without]}" -v with="${least[with]}" -v c="${least[c]}" -v sqlite="${least[sqlite]}" 'BEGIN {
             printf "%d under way: without a journal %d messages a second, with one %d, C %d; %.2f of C,", ahead, 1e9 / without, 1e9 / with, 1e9 / c, c / with
-            exit c / with < 0.7
+            if (ahead == 1) printf " SQLite %d; %.2f of SQLite,", 1e9 / sqlite, sqlite / with
+            exit (ahead < 256 && c / with < 0.9) || (ahead == 1 && sqlite / with < 0.9)
         }'
     done
 }
@@ -92,18 +96,18 @@ measure_file() { # SERVICE
 }
 
 # microseconds from the start to the end of a logger with one turn
-opened_in() { # FILE
+opened_in() { # FILE WORD..
     local begun
     begun=$(date +%s%N)
-    "$program" logger --local 127.0.0.1:$port --turns 1 --journal "$1" >"$work/said"
+    "$program" logger --local 127.0.0.1:$port --turns 1 --journal "$@" >"$work/said"
     echo $((($(date +%s%N) - begun) / 1000))
 }
 
 measure_opening() {
     local large=999999999 small=999999999 disk=999999999 us bytes
-    "$work/journal" make "$folder/large" 67108864
+    tools/journal_model.py make "$folder/large" 67108864
     rm -f "$folder/small"
-    opened_in "$folder/small" >/dev/null
+    opened_in "$folder/small" --begin yes >/dev/null
     for ((round = 0; round < rounds; round++)); do
         us=$(opened_in "$folder/large") && ((us < large)) && large=$us
         us=$(opened_in "$folder/small") && ((us < small)) && small=$us

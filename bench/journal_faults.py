@@ -5,6 +5,7 @@ In each case the status and the text are checked, that a damaged file isn't chan
 which files are damaged, and where. bench/journal_faults.sh runs it as root in its own mount namespace, in which FOLDER is empty.
 """
 import os
+import random
 import shutil
 import socket
 import subprocess
@@ -13,12 +14,20 @@ import time
 from pathlib import Path
 
 sys.path.insert(0, str(Path(__file__).resolve().parent.parent / "tools"))
-from journal_model import CLOSED, KEY, MAGIC, OPEN, ROUND, Wrong, data, file_of, hello, opening, read, reading, said
+from journal_model import HEAD, HEADER, KEY, MAGIC, OLDER, ROUND, Refused, Wrong, blocks, data, file_of, header, hello, opening, read, reading, said
 from twin_model import read_message
 
 HERE, PIECE = ("127.0.0.1", 7360), 1400
 DONE = "turns 1 datagrams 0 sent 0 lost 0 failed 0\n"
 FAULT, IN_USE, USAGE = "ftnode: journal fault\n", "ftnode: journal in use\n", "ftnode: usage\n"
+REFUSED = {
+    "missing": "ftnode: journal: no such file\n",
+    "present": "ftnode: journal: the file is there\n",
+    "empty": "ftnode: journal: the file is empty\n",
+    "unfinished": "ftnode: journal: the file ends in its header\n",
+    "older": "ftnode: journal: version 1\n",
+}
+BEGIN = ["--begin", "yes"]
 NOBODY = ["setpriv", "--reuid=65534", "--regid=65534", "--clear-groups", "--"]
 program, room = sys.argv[1], Path(sys.argv[2])
 counts = {"cases": 0, "failed": 0}
@@ -35,17 +44,17 @@ def words(journal, turns, at=HERE):
     return ["logger", "--local", f"{at[0]}:{at[1]}", "--turns", str(turns), *journal]
 
 
-def ended(path, before=()):
+def ended(path, before=(), more=()):
     """The status and the text of a logger with one turn."""
-    run = subprocess.run([*before, program, *words(["--journal", str(path)], 1)], capture_output=True, text=True, timeout=60)
+    run = subprocess.run([*before, program, *words(["--journal", str(path), *more], 1)], capture_output=True, text=True, timeout=60)
     return run.returncode, run.stdout + run.stderr
 
 
 class Logger:
     """A logger that runs, and a socket that asks it."""
 
-    def __init__(self, path):
-        self.process = subprocess.Popen([program, *words(["--journal", str(path)], 1_000_000)], stdout=subprocess.PIPE, stderr=subprocess.STDOUT, text=True)
+    def __init__(self, path, more=()):
+        self.process = subprocess.Popen([program, *words(["--journal", str(path), *more], 1_000_000)], stdout=subprocess.PIPE, stderr=subprocess.STDOUT, text=True)
         self.link = socket.socket(socket.AF_INET, socket.SOCK_DGRAM)
         self.link.connect(HERE)
         self.link.settimeout(0.5)
@@ -73,10 +82,12 @@ class Logger:
 def wanted_of(content):
     """What a logger with one turn ends with, and the file after it, by the model."""
     try:
-        found = reading(content)
+        said, tip, tail = reading(content)
     except Wrong as wrong:
         return (12, f"ftnode: journal: byte {wrong.args[0]}\n"), content
-    return (0, DONE), file_of() if found is None else content[: found[1] + 1]
+    except Refused as refused:
+        return (12, REFUSED[refused.args[0]]), content
+    return (0, DONE + (f"ftnode: journal: cut {len(tail)} bytes\n" if tail else "")), content[: tip[0]]
 
 
 def content_case(what, content):
@@ -87,30 +98,57 @@ def content_case(what, content):
 
 
 def contents():
-    """Files of each kind: fronts of the magic, foreign bytes, and a journal that is cut at each byte, and has each of its bits changed."""
+    """Files of each kind: parts of a header, foreign bytes, and a journal that is cut at each byte, and has each of its bits changed, and pairs of them."""
     whole = file_of(hello(5) + opening(5), data(5, 0, b"abc") + read(5, 0, 2), tail=b"\x03\xd1.")
-    for size in range(9):
-        content_case(f"{size} bytes of the magic", MAGIC[:size])
-    for what, content in [("text", b"root:x:0:0\n" * 9), ("zeros", bytes(4096)), ("the magic of another version", b"ftlog 2\n."), ("one byte", b"x")]:
+    for what, content in [("text", b"root:x:0:0\n" * 9), ("zeros", bytes(4096)), ("a later version", b"ftlog 3\n."), ("version 1", OLDER + b"."), ("one byte", b"x")]:
         content_case(what, content)
-    content_case("a tail of the longest block", whole[:-3] + bytes(ROUND + 5))
-    content_case("a longer tail", whole[:-3] + bytes(ROUND + 6))
-    content_case("a block of other bytes", MAGIC + bytes([OPEN, 0, 0, 0, 4]) + b"root" + bytes([CLOSED]))
-    for size in range(9, len(whole) + 1):
+    content_case("a tail of the longest block", whole[:-3] + bytes(HEAD + ROUND))
+    content_case("a longer tail", whole[:-3] + bytes(HEAD + ROUND + 1))
+    content_case("a block of other bytes", header() + blocks(b"root"))
+    for size in range(len(whole) + 1):
         content_case(f"cut at {size}", whole[:size])
     for at in range(len(whole)):
         for bit in range(8):
             content_case(f"bit {bit} of byte {at} changed", whole[:at] + bytes([whole[at] ^ 1 << bit]) + whole[at + 1 :])
+    draw = random.Random(83)
+    for _ in range(300):
+        changed = bytearray(whole)
+        first, second = draw.sample(range(8 * len(whole)), 2)
+        for place in (first, second):
+            changed[place // 8] ^= 1 << place % 8
+        content_case(f"bits {first} and {second} changed", bytes(changed))
+
+
+def moved():
+    """Blocks that were dropped, repeated, exchanged, or taken from another journal, and words that were exchanged."""
+    bodies = [hello(5), opening(5), data(5, 0, b"abc"), read(5, 0, 2)]
+    cut = lambda salt: [blocks(*bodies[: n + 1], salt=salt)[len(blocks(*bodies[:n], salt=salt)) :] for n in range(4)]
+    parts, other = cut(header()[16:]), cut(header(bytes(8))[16:])
+    for n in range(4):
+        content_case(f"block {n + 1} dropped", header() + b"".join(parts[:n] + parts[n + 1 :]))
+        content_case(f"block {n + 1} repeated", header() + b"".join(parts[: n + 1] + parts[n:]))
+        content_case(f"block {n + 1} of another journal", header() + b"".join(parts[:n] + [other[n]] + parts[n + 1 :]))
+        for m in range(n):
+            some = parts[:]
+            some[n], some[m] = some[m], some[n]
+            content_case(f"blocks {m + 1} and {n + 1} exchanged", header() + b"".join(some))
+    whole = header() + b"".join(parts)
+    for at in range(0, len(whole) - 8, 4):
+        content_case(f"words at {at} exchanged", whole[:at] + whole[at + 4 : at + 8] + whole[at : at + 4] + whole[at + 8 :])
 
 
 def no_files():
-    """What stands at the name and is no file of this name alone, or may not be written."""
+    """What is at the name and is no file of this name alone, or may not be written; and nothing."""
     journal = file_of(hello(5))
     (room / "folder").mkdir()
     (room / "target").write_bytes(journal)
     (room / "link").symlink_to("target")
-    for name in (room / "folder", room / "link", "/dev/null", room / "none" / "journal"):
+    for name in (room / "folder", room / "link", "/dev/null"):
         expect(f"`{name}`", ended(name), (11, FAULT))
+        expect(f"`{name}` to be made", ended(name, more=BEGIN), (12, REFUSED["present"]))
+    for name in (room / "none", room / "none" / "journal"):
+        expect(f"`{name}`", (ended(name), name.exists()), ((12, REFUSED["missing"]), False))
+    expect("no folder to make it in", ended(room / "none" / "journal", more=BEGIN), (11, FAULT))
     os.link(room / "target", room / "second")
     expect("a second name", ended(room / "second"), (11, FAULT))
     (room / "second").unlink()
@@ -118,8 +156,44 @@ def no_files():
     for mode in (0o600, 0o444):
         (room / "target").chmod(mode)
         expect(f"no right to write, {mode:o}", (ended(room / "target", NOBODY), (room / "target").read_bytes()), ((11, FAULT), journal))
-    expect("no right to make it", (ended(room / "new", NOBODY), (room / "new").exists()), ((11, FAULT), False))
+    expect("no right to make it", (ended(room / "new", NOBODY, BEGIN), (room / "new").exists()), ((11, FAULT), False))
     expect("the rights again", ended(room / "target"), (0, DONE))
+
+
+def begins():
+    """A file is made where none is, and never taken where one is."""
+    path = room / "begun"
+    expect("made", ended(path, more=BEGIN), (0, DONE))
+    expect("what was made", (path.read_bytes()[:8], len(path.read_bytes()), reading(path.read_bytes())[0]), (MAGIC, HEADER, []))
+    expect("opened", ended(path), (0, DONE))
+    for what, content in (("a journal", path.read_bytes()), ("an empty file", b""), ("a part of a header", MAGIC), ("other bytes", bytes(99))):
+        path.write_bytes(content)
+        expect(f"{what} to be made", (ended(path, more=BEGIN), path.read_bytes()), ((12, REFUSED["present"]), content))
+    times = set()
+    for n in range(4):
+        other = room / f"begun{n}"
+        expect("another", ended(other, more=BEGIN), (0, DONE))
+        times.add(other.read_bytes())
+        other.unlink()
+    expect("no two are alike", len(times), 4)
+
+
+def names():
+    """A name that is taken away, or given to another file, while the logger runs: it ends before it answers anything more."""
+    path = room / "named"
+    for what in ("gone", "moved", "another"):
+        path.unlink(missing_ok=True)
+        logger = Logger(path, BEGIN)
+        expect("before", logger.asked(hello(3)).name, "Summary")
+        if what == "gone":
+            path.unlink()
+        elif what == "moved":
+            path.rename(room / "elsewhere")
+        else:
+            (room / "new").write_bytes(path.read_bytes())
+            (room / "new").rename(path)
+        expect(f"nothing is answered once it is {what}", logger.asked(hello(4)), None)
+        expect(f"the end once it is {what}", logger.end(), (11, FAULT))
 
 
 def wrong_words():
@@ -127,7 +201,8 @@ def wrong_words():
     server = ["server", "--local", "127.0.0.1:7361", "--logger", "127.0.0.1:7360", "--service", "echo", "--boot", "1", "--isn", "1", "--turns", "1"]
     option = ["--journal", path]
     names = [["--journal", "-x"], ["--journal=-x"], ["--journal", ""], ["--journal="], ["--journal"]]
-    for line in (words(option * 2, 1), *(words(name, 1) for name in names), server + option, words([*option, "--boot", "1"], 1)):
+    begins = [[*option, "--begin", word] for word in ("no", "", "Yes", "yes ", "1")] + [[*option, "--begin"], [*option, *BEGIN, *BEGIN], BEGIN]
+    for line in (words(option * 2, 1), *(words(name, 1) for name in names + begins), server + option, server + option + BEGIN, words([*option, "--boot", "1"], 1)):
         run = subprocess.run([program, *line], capture_output=True, text=True, timeout=60)
         expect(" ".join(line), (run.returncode, run.stdout + run.stderr, Path(path).exists()), (2, USAGE, False))
 
@@ -135,13 +210,14 @@ def wrong_words():
 def two_loggers():
     """The second one is refused, and the first one runs on. A port that is taken is a fault of the link, after the opening."""
     path = room / "shared"
-    first = Logger(path)
+    first = Logger(path, BEGIN)
     expect("the first", first.asked(hello(3)).name, "Summary")
     before = path.read_bytes()
     for name in (path, room / "." / "folder" / ".." / "shared"):
         expect("the second", (ended(name), path.read_bytes()), ((13, IN_USE), before))
     expect("the first again", first.asked(hello(4)).name, "Summary")
-    expect("a taken port", ended(room / "other"), (4, "ftnode: link fault\n"))
+    expect("the second, to make it", (ended(path, more=BEGIN), path.read_bytes()), ((12, REFUSED["present"]), path.read_bytes()))
+    expect("a taken port", ended(room / "other", more=BEGIN), (4, "ftnode: link fault\n"))
     expect("the first at its end", first.end()[0], None)
     expect("the file once the first is dead", ended(path), (0, DONE))
 
@@ -176,7 +252,7 @@ def full_disk():
     disk.mkdir()
     subprocess.run(["mount", "-t", "tmpfs", "-o", "size=64k", "tmpfs", disk], check=True)
     path = disk / "journal"
-    logger = Logger(path)
+    logger = Logger(path, BEGIN)
     logger.asked(hello(5))
     logger.asked(opening(5))
     told = fill(logger, 0)
@@ -200,18 +276,21 @@ def full_disk():
 
 
 def full_at_first():
-    """A disk that is full before the first start: nothing was ever told, and with room the file is made."""
+    """A disk that is full before the first start: nothing was ever told, and with room a file is made once what is left of the first is removed."""
     disk = room / "first"
     disk.mkdir()
     subprocess.run(["mount", "-t", "tmpfs", "-o", "size=8k", "tmpfs", disk], check=True)
     (disk / "ballast").write_bytes(bytes(8192))
-    expect("full at the first start", ended(disk / "journal"), (11, FAULT))
+    path = disk / "journal"
+    expect("full at the first start", ended(path, more=BEGIN), (11, FAULT))
     (disk / "ballast").unlink()
-    expect("with room", (ended(disk / "journal"), (disk / "journal").read_bytes()), ((0, DONE), file_of()))
+    expect("with room", (ended(path), path.read_bytes()), wanted_of(path.read_bytes()))
+    path.unlink()
+    expect("made with room", (ended(path, more=BEGIN), len(path.read_bytes())), ((0, DONE), HEADER))
     subprocess.run(["umount", disk], check=True)
 
 
-for part in (wrong_words, no_files, two_loggers, full_disk, full_at_first, contents):
+for part in (wrong_words, no_files, begins, names, two_loggers, full_disk, full_at_first, moved, contents):
     begun, cases = time.monotonic(), counts["cases"]
     part()
     print(f"{part.__name__}: {counts['cases'] - cases} checks, {time.monotonic() - begun:.1f} s")

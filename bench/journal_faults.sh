@@ -1,6 +1,7 @@
 #!/usr/bin/env bash
-# What `ftnode logger --journal FILE` does with bad files and bad disks, in 1,231 checks: files that are cut at each byte or have one of their bits changed,
-# other bytes, each prefix of a new file; a folder, a link, a device, a second name; no permission to read, to write or to make the file (as nobody, by
+# What `ftnode logger --journal FILE` does with bad files and bad disks: files that are cut at each byte or have one of their bits changed, or two; blocks that were
+# dropped, repeated, exchanged or taken from another journal; other bytes, each prefix of a new file; a file that is missing, or is there and is to be made; a name
+# that is taken away or given to another file while the logger runs; a folder, a link, a device, a second name; no permission to read, to write or to make the file (as nobody, by
 # setpriv); a second logger; a disk that gets full, and one that is full before the first start (a tmpfs in this script's own mount namespace); wrong words.
 # In each case the status and the text are checked, that a damaged file isn't changed, and that after a restart the log has all that was answered. It takes 20
 # seconds.

@@ -99,7 +99,7 @@ def main():
     program = sys.argv[2] if sys.argv[2:] else str(TOP / "crates/ftnode/out/ftnode")
     lasting = ["--turns", "1000000", "--times", "4000000000000"]
     with tempfile.TemporaryDirectory() as folder:
-        logger = [program, "logger", "--local", f"{HOST}:{LOGGER}", *lasting, "--journal", f"{folder}/journal"]
+        logger = [program, "logger", "--local", f"{HOST}:{LOGGER}", *lasting, "--journal", f"{folder}/journal", "--begin", "yes"]
         server = [program, "server", "--local", f"{HOST}:{SERVER}", "--logger", f"{HOST}:{LOGGER}", "--service", "echo", "--boot", "1", "--isn", "5000", *lasting]
         processes = [subprocess.Popen(words) for words in (logger, server)]
         try:

@@ -125,6 +125,8 @@ refused += [words + " --times" + text for words in (LOGGER, SERVER) for text in 
 refused += [words + " --times 2 --times 2" for words in (LOGGER, SERVER, PARTED, KEPT)] + [words + " --times 2" for words in (CLIENT, PAIR, ALONE)]
 refused += [without(LOGGER, "turns") + " --times 3"]
 allowed += [(words + more, name) for words, name in ((LOGGER, "logger"), (SERVER, "server"), (PARTED, "head"), (KEPT, "journal")) for more in (" --times 1", " --times=4000000000000")]
+refused += [KEPT + " --begin" + text for text in ("", " no", " ''", "=", " Yes", " 1", " yes --begin yes")] + [words + " --begin yes" for words in (LOGGER, SERVER, CLIENT, PAIR, PARTED, ALONE)]
+allowed += [(KEPT + more, "journal") for more in (" --begin yes", " --begin=yes")]
 allowed += [(KEPT, "journal"), ("logger --times=004000000000000 --turns=1000000 --local=127.0.0.1:7040", "logger")]
 allowed += [(PARTED, "head"), ("logger --other=127.0.0.1:7041 --part=tail --turns=3 --local=127.0.0.1:7040", "tail")]
 allowed += [(ALONE, "alone"), ("alone --to=127.0.0.1:7041 --local=127.0.0.1:7050", "alone"), (DOUBLE, "server"), (SERVER + " --second=127.0.0.1:7008", "server")]
@@ -756,7 +758,7 @@ line("# ftnode as a process: a logger and a client that end well, and a pair of 
 start(PROCESS_LOGGER, 0, TWO_TICKS)
 # a read timeout of seconds would take longer than this
 start(PROCESS_LOGGER, 0, TWO_TICKS, shell='exec timeout 15 "$0" "$@"')
-start(PROCESS_LOGGER + " --journal kept", 0, TWO_TICKS, shell='exec timeout 15 "$0" "$@"')
+start(PROCESS_LOGGER + " --journal kept --begin yes", 0, TWO_TICKS, shell='exec timeout 15 "$0" "$@"')
 start(PROCESS_LOGGER + " --journal kept", 0, TWO_TICKS)
 for more in ("", " --journal kept"):
     start(without(PROCESS_LOGGER, "turns") + " --turns 1 --times 2" + more, 0, TWO_TICKS)
@@ -798,8 +800,14 @@ start(f"{PROCESS_CLIENT} 2 --script -", 8, spent)
 start(f"{PROCESS_CLIENT} 2", 9, "ftnode: read fault", shell='exec "$0" "$@" </')
 start("pair --program /no/such/program --base 7463 --first 1 --second 1 --turns 1", 10, "ftnode: child fault")
 line("# a journal in no folder, one that is none, and one that is open", "# a journal in no folder, one that is none, and one that is open")
-start(KEEPER + " no/such/folder", 11, "ftnode: journal fault")
+start(KEEPER + " no/such/folder --begin yes", 11, "ftnode: journal fault")
+start(KEEPER + " no/such/folder", 12, "ftnode: journal: no such file")
+start(KEEPER + " kept --begin yes", 12, "ftnode: journal: the file is there")
+start(KEEPER + " empty", 12, "ftnode: journal: the file is empty", shell=': >empty; exec "$0" "$@"')
+start(KEEPER + " begun", 12, "ftnode: journal: the file ends in its header", shell='printf "ftlog 2\\n" >begun; exec "$0" "$@"')
+start(KEEPER + " older", 12, "ftnode: journal: version 1", shell='printf "ftlog 1\\n." >older; exec "$0" "$@"')
 start(KEEPER + " damaged", 12, "ftnode: journal: byte 0", shell='printf "no journal" >damaged; exec "$0" "$@"')
+start(KEEPER + " held --begin yes", 0, TWO_TICKS)
 start(KEEPER + " held", 13, "ftnode: journal in use", hold="held")
 start(KEEPER + " held", 0, TWO_TICKS)
 
@@ -808,7 +816,7 @@ line("# a logger's real journal: it is written, opened again and asked", "# a lo
 UNSEEN = 'exec "$0" "$@" >/dev/null'
 LASTING = without(PROCESS_LOGGER, "turns") + " --turns 150 --journal written"
 noise = [("", None), ("6162", None), (hello(1)[:-2], None)]
-start(LASTING, 0, shell="rm -f written; " + UNSEEN, asked=[
+start(LASTING + " --begin yes", 0, shell="rm -f written; " + UNSEEN, asked=[
     (hello(1), summary(1, 0)),
     *noise,
     (message(OPEN, 1, OPENING), message(OPENED, 1, OPENING)),
@@ -839,7 +847,7 @@ LONG = 1_000_000
 run(without(SERVER, "turns") + f" --turns {LONG}", [], way="brief")
 for words in (LOGGER, *NAMES.values()):
     run(words.replace("--turns 3", f"--turns {LONG}"), [], way="brief")
-line(f"brief {LOGGER.replace('--turns 3', f'--turns {LONG}')} --journal long", "status 0", f"turns {LONG} datagrams 0 sent 0 lost 0 failed 0", "receives 0 sends 0")
+line(f"brief {LOGGER.replace('--turns 3', f'--turns {LONG}')} --journal long --begin yes", "status 0", f"turns {LONG} datagrams 0 sent 0 lost 0 failed 0", "receives 0 sends 0")
 ended, _, receives, sends = lived([], LONG, b"")
 life([], LONG, ended, [spent], receives, sends)
 

@@ -87,6 +87,7 @@ start_server() { # BOOT
 start_logger() { # LIFE
     local journal=()
     ((${#victims[@]} == 1)) || journal=(--journal "$work/journal")
+    [ ${#journal[@]} = 0 ] || [ -e "$work/journal" ] || journal+=(--begin yes)
     start "logger.$1" "$program" logger --local "$logger" --turns 1000000 "${journal[@]}"
     logger_process=$last
 }

@@ -38,7 +38,7 @@ one_run() (
     add_machines
     start_gateway
     rights=$(sed -n 's/^Cap\(Prm\|Eff\):\t//p' "/proc/$gateway_process/status" | sort -u)
-    start_logger --journal "$room/journal"
+    start_logger --journal "$room/journal" --begin yes
     start_server 1
     SECONDS=0
     start_clients "$bytes" $((bytes / 400)) {1..16}

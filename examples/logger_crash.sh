@@ -20,6 +20,10 @@ start_logger() { # NUMBER
     ip netns exec "$outside" "$program" logger --local "$logger" --turns 1000000 --journal "$room/journal" >"$room/logger.$1" 2>&1 &
     process=$!
 }
+# Makes the journal, in a run of one turn.
+make_journal() {
+    ip netns exec "$outside" "$program" logger --local "$logger" --turns 1 --journal "$room/journal" --begin yes >"$room/made" 2>&1 || { cat "$room/made"; exit 1; }
+}
 start_numbered_server() { # BOOT
     start_server "$1"
     process=$server_process
@@ -102,6 +106,7 @@ one_run() ( # SEED
     failed=0
     trap 'for pid in "${server_killer:-}" "${logger_killer:-}"; do end_by TERM "$pid"; done; clean_up' EXIT
     add_spaces "$own_client"
+    make_journal
     start_bridge
     SECONDS=0
     transfer "$1"

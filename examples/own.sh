@@ -8,7 +8,7 @@ set -u
 cd "$(dirname "$0")/.." || exit 2
 name=own program=${1:-crates/own_node/out/own_node} loss=${2:-0} own=(counter) service=()
 . examples/bridged.sh
-start_all --journal "$room/journal"
+start_all --journal "$room/journal" --begin yes
 awk 'BEGIN { for (i = 1; i <= 4000; i++) { line = sprintf("%*d", i % 97 + 1, i); print line } }' >"$room/sent"
 awk '{ count += length($0) + 1; print count }' "$room/sent" >"$room/wanted"
 kill_loggers() {

@@ -3,11 +3,13 @@
 
 journal_model.py lines      reads lines of `log_script` on a journal's file from standard input, and writes what it must print
 journal_model.py cases      writes the lines on a journal's file that are stored beside the program
+journal_model.py make FILE BYTES    writes a journal of so many bytes or a few more: a Data of 1,460 bytes and its Read by turns, some 250 messages in a block
 
 A file is read as a whole, from its beginning; whether a message changes the log is found by comparing the whole log before and after. The log is that of model.py,
 the messages are those of twin_model.py.
 """
 import copy
+import hashlib
 import random
 import sys
 from struct import pack
@@ -15,14 +17,44 @@ from struct import pack
 from loggers import Log, Message
 from twin_model import ANSWERS, read_message, spell_message, spelled
 
-MAGIC = b"ftlog 1\n"
-OPEN, CLOSED = 209, 46
+MAGIC, OLDER = b"ftlog 2\n", b"ftlog 1\n"
+HEADER, HEAD = 32, 44  # bytes of the file's header, and of what comes before a block's body
 ROUND = 256 * 1491  # bytes of a block's messages, at most
-CHUNK = 65536  # bytes that one read may give
+MADE = pack(">Q", 1_790_000_000_123_456_789)  # when the files of the tests were made
 
 
 class Wrong(Exception):
-    """The place of the first byte of the first block that isn't one."""
+    """The place of the first byte that is neither in a whole block nor in what a death leaves."""
+
+
+class Refused(Exception):
+    """Why a file is refused that isn't damaged: `empty`, `unfinished` or `older`."""
+
+
+def digest(data):
+    return hashlib.sha256(data).digest()[:16]
+
+
+def header(made=MADE):
+    return MAGIC + made + digest(MAGIC + made)
+
+
+def block(salt, number, previous, body):
+    """A block, and its digest."""
+    counted = pack(">I", len(body)) + body
+    own = digest(previous + pack(">Q", number) + counted)
+    return salt + pack(">Q", number) + own + counted, own
+
+
+def is_followed(salt, number, rest):
+    """Whether a block begins in these bytes that isn't the next one: a later one, or the next one further on."""
+    at = rest.find(salt)
+    while at >= 0:
+        found = rest[at + 16 : at + 24]
+        if len(found) == 8 and (int.from_bytes(found, "big"), at) > (number, 0):
+            return True
+        at = rest.find(salt, at + 1)
+    return False
 
 
 def number(data):
@@ -49,39 +81,59 @@ def apart(body):
     return said
 
 
+def walk(data):
+    """The bodies of the blocks of a file, and where its next block begins: the place, its number and the digest before it."""
+    salt = data[16:HEADER]
+    bodies, at, number, previous = [], HEADER, 1, salt
+    while len(data) >= at + HEAD:
+        size = int.from_bytes(data[at + 40 : at + HEAD], "big")
+        body = data[at + HEAD : at + HEAD + size]
+        if size > ROUND or len(body) < size:
+            break
+        wanted, own = block(salt, number, previous, body)
+        if data[at : at + HEAD + size] != wanted:
+            break
+        bodies, at, number, previous = bodies + [body], at + len(wanted), number + 1, own
+    return bodies, at, number, previous
+
+
 def reading(data):
-    """The messages of a whole file, the place of its closed gate and what stands behind that; None where the file was being made."""
-    if len(data) <= 8 and MAGIC.startswith(data):
-        return None
-    if data[:8] != MAGIC:
+    """The messages of a whole file, where its next block begins, and what comes after the blocks."""
+    if not data:
+        raise Refused("empty")
+    if data.startswith(OLDER):
+        raise Refused("older")
+    if len(data) < HEADER and (MAGIC.startswith(data) or data.startswith(MAGIC)):
+        raise Refused("unfinished")
+    if data[:HEADER] != header(data[8:16]):
         raise Wrong(0)
-    said, at = [], 8
-    while data[at : at + 1] != bytes([CLOSED]):
-        size = int.from_bytes(data[at + 1 : at + 5], "big")
-        body = data[at + 5 : at + 5 + size]
-        whole = data[at : at + 1] == bytes([OPEN]) and len(data) >= at + 5 and size <= ROUND and len(body) == size
-        if not whole or apart(body) is None:
-            raise Wrong(at)
+    said, place = [], HEADER
+    bodies, at, number, previous = walk(data)
+    for body in bodies:
+        if apart(body) is None:
+            raise Wrong(place)
         said += apart(body)
-        at += 5 + size
-    if len(data) - at - 1 > ROUND + 5:
+        place += HEAD + len(body)
+    tail = data[at:]
+    if len(tail) > HEAD + ROUND or is_followed(data[16:HEADER], number, tail):
         raise Wrong(at)
-    return said, at, data[at + 1 :]
+    return said, (at, number, previous), tail
 
 
-def sees_end(data):
-    """Whether a reading by chunks needs the read that gives nothing: unless the first chunk shows what is wrong."""
-    try:
-        reading(data[:CHUNK] if len(data) > CHUNK else data)
-        return True
-    except Wrong as wrong:
-        rest = data[wrong.args[0] :]
-        if wrong.args[0] == 0 and data[:8] != MAGIC:
-            return len(data) <= 8
-        if rest[:1] == bytes([CLOSED]):
-            return False
-        size = int.from_bytes(rest[1:5], "big")
-        return rest[:1] in (b"", bytes([OPEN])) and (len(rest) < 5 or (size <= ROUND and len(rest) < 5 + size))
+def reads(data):
+    """How many reads a reading makes, if the first gives the whole file."""
+    if not data:
+        return 1
+    if len(data) < HEADER:
+        return 2
+    if data.startswith(OLDER) or data[:HEADER] != header(data[8:16]):
+        return 1
+    bodies, at, _, _ = walk(data)
+    if any(apart(body) is None for body in bodies):
+        return 1
+    rest = data[at:]
+    size = int.from_bytes(rest[40:HEAD], "big")
+    return 3 if len(rest) < HEAD or (size <= ROUND and len(rest) < HEAD + size) else 2
 
 
 class Failed(Exception):
@@ -124,28 +176,32 @@ def calls_text(calls):
 
 
 class Kept:
-    """The log, the place of the closed gate, and what waits."""
+    """The log, where the next block begins, and what waits."""
 
     def __init__(self):
-        self.log, self.end, self.round = Log(), 8, b""
+        self.log, self.salt, self.tip, self.round = Log(), b"", (HEADER, 1, b""), b""
 
     def hear(self, message):
         return None if message.name in ANSWERS else self.log.answer(message)
 
+    def begin(self, disk, made):
+        disk.call("append", header(made))
+        disk.call("sync")
+        self.salt = header(made)[16:]
+        self.tip = HEADER, 1, self.salt
+
     def open(self, disk):
-        if disk.read == 1 or (disk.read == 2 and disk.first and sees_end(disk.first)):
+        """How many bytes were cut off."""
+        if 0 < disk.read <= reads(disk.first):
             raise Failed
-        found = reading(disk.first)
-        if found is None:
-            disk.call("append", (MAGIC + bytes([CLOSED]))[len(disk.first) :])
-            disk.call("sync")
-            return
-        said, self.end, tail = found
+        said, self.tip, tail = reading(disk.first)
+        self.salt = disk.first[16:HEADER]
         for message in said:
             self.hear(message)
         if tail:
-            disk.call("cut", self.end + 1)
+            disk.call("cut", self.tip[0])
             disk.call("sync")
+        return len(tail)
 
     def take(self, data, message):
         before = copy.deepcopy(self.state())
@@ -159,15 +215,14 @@ class Kept:
 
     def commit(self, disk):
         if self.round:
-            disk.call("append", pack(">I", len(self.round)) + self.round + bytes([CLOSED]))
+            at, number, previous = self.tip
+            new, own = block(self.salt, number, previous, self.round)
+            disk.call("append", new)
             disk.call("sync")
-            disk.call("put", self.end, OPEN)
-            disk.call("sync")
-            self.end += 5 + len(self.round)
-            self.round = b""
+            self.tip, self.round = (at + len(new), number + 1, own), b""
 
     def text(self):
-        return f"boot {self.log.boot} count {len(self.log.entries)} end {self.end}"
+        return f"boot {self.log.boot} count {len(self.log.entries)} end {self.tip[0]}"
 
 
 def long_data(boot, piece):
@@ -182,10 +237,12 @@ class Bench:
     def opened(self, data):
         disk, kept = Disk(data, *self.fails), Kept()
         try:
-            kept.open(disk)
-            text = kept.text()
+            cut = kept.open(disk)
+            text = f"{kept.text()} cut {cut}"
         except Wrong as wrong:
             kept, text = None, f"wrong {wrong.args[0]}"
+        except Refused as refused:
+            kept, text = None, refused.args[0]
         except Failed:
             kept, text = None, "failed"
         return disk, kept, text + calls_text(disk.calls)
@@ -206,6 +263,16 @@ class Bench:
     def on_fail(self, rest):
         self.fails = tuple(map(int, rest.split()))
         return f"fail {rest}"
+
+    def on_begin(self, rest):
+        self.disk, self.kept = Disk(b"", *self.fails), Kept()
+        try:
+            self.kept.begin(self.disk, pack(">Q", int(rest)))
+            text = self.kept.text()
+        except Failed:
+            self.kept, text = None, "failed"
+        self.shown = len(self.disk.calls)
+        return f"begin {text}{calls_text(self.disk.calls)}"
 
     def on_open(self, rest):
         self.disk, self.kept, text = self.opened(self.file)
@@ -258,6 +325,8 @@ class Bench:
         return "no log" if self.kept is None else self.kept.text()
 
     def on_entry(self, rest):
+        if self.kept is None:
+            return "no log"
         entries = list(self.kept.log.entries.values())
         if int(rest) >= len(entries):
             return f"entry {rest} none"
@@ -305,12 +374,18 @@ def done(boot, key=KEY):
     return said(15, boot, key)
 
 
-def blocks(*bodies):
-    return b"".join(bytes([OPEN]) + pack(">I", len(body)) + body for body in bodies)
+def blocks(*bodies, salt=None, number=1, previous=None):
+    """Blocks after one another, from this number on."""
+    salt = header()[16:] if salt is None else salt
+    data, previous = b"", salt if previous is None else previous
+    for body in bodies:
+        new, previous = block(salt, number, previous, body)
+        data, number = data + new, number + 1
+    return data
 
 
-def file_of(*bodies, tail=b""):
-    return MAGIC + blocks(*bodies) + bytes([CLOSED]) + tail
+def file_of(*bodies, tail=b"", made=MADE):
+    return header(made) + blocks(*bodies, salt=header(made)[16:]) + tail
 
 
 def order(text):
@@ -326,7 +401,7 @@ def given(*messages):
 
 def changes():
     """Each kind of message, those that change the log and those that don't, with a commit behind each."""
-    order("# What changes the log is kept, and nothing else: a commit behind each message.\nfile \nopen")
+    order("# What changes the log is kept, and nothing else: a commit behind each message.\nbegin 7")
     steps = [opening(5), hello(5), hello(5), hello(4), opening(4), opening(6), opening(5), opening(5), data(5, 0, b"abc"), data(5, 0, b"abc"), data(5, 0, b"ab"), data(5, 1, b"bcd")]
     steps += [data(5, 9, b"z"), data(5, 4, b""), data(5, 0, b"", acked=3), data(5, 0, b"", acked=3), data(5, 0, b"", acked=2), data(5, 9, b"z", acked=4), data(5, 0, b"abcde", acked=5)]
     steps += [read(5, 0, 2), read(5, 0, 2), read(5, 2, 1), read(5, 1, 9), read(5, 1, 0), read(5, 1, 3), read(5, 2, 0), data(5, 2, b"c", fin=1), data(5, 9, b"", fin=1), data(5, 5, b"", fin=1)]
@@ -346,7 +421,7 @@ def changes():
 def drawn():
     """Messages that are drawn: numbers are small, so that many repeat, meet or miss."""
     draw = random.Random(50)
-    order("# Messages that are drawn, in rounds of 1 to 12, and an opening behind every 20 rounds.\nfile \nopen")
+    order("# Messages that are drawn, in rounds of 1 to 12, and an opening behind every 20 rounds.\nbegin 1790000000123456789")
     given(hello(1))
     boot = 1
     for turn in range(200):
@@ -374,48 +449,67 @@ SMALL = [hello(5) + opening(5), data(5, 0, b"abc") + read(5, 0, 2)]
 
 
 def damage():
-    order("# No file, each front of the magic, and a file that is cut at each byte or has one bit changed.")
+    order("# No file, each front of a header, and a file that is cut at each byte or has one bit changed.")
     whole = file_of(*SMALL, tail=b"\x03\xd1.")
     order(f"file \ncuts\nfile {whole.hex()}\nopen\nentry 0\nentry 1\ncuts\nflips")
     order("# Bytes that are no journal, or have a block that is none.")
     draw = random.Random(51)
-    files = [bytes(draw.randrange(256) for _ in range(draw.randint(1, 40))) for _ in range(20)]
-    files += [MAGIC + bytes(draw.randrange(256) for _ in range(draw.randint(1, 40))) for _ in range(20)]
-    files += [MAGIC + bytes([OPEN, 0, 0, 0, 16]) + bytes(draw.randrange(256) for _ in range(16)) + b"." for _ in range(5)]
-    files += [b"\0" * n for n in (1, 8, 9, 40)] + [MAGIC[:-1] + b"\r", MAGIC + b"\0", MAGIC + MAGIC, MAGIC + b"/", b"ftlog 2\n."]
+    files = [bytes(draw.randrange(256) for _ in range(draw.randint(1, 60))) for _ in range(20)]
+    files += [header() + bytes(draw.randrange(256) for _ in range(draw.randint(1, 60))) for _ in range(10)]
+    files += [MAGIC + bytes(draw.randrange(256) for _ in range(draw.randint(1, 60))) for _ in range(10)]
+    files += [b"\0" * n for n in (1, 8, 9, 31, 32, 90)] + [MAGIC[:-1] + b"\r", MAGIC + b"\0", MAGIC + MAGIC, b"ftlog 3\n."]
+    files += [OLDER, OLDER + b".", OLDER + bytes(100), OLDER[:-1], header(bytes(8)), header(b"\xff" * 8)]
     good = hello(5)
     files += [file_of(b""), file_of(good, b"", good), file_of(said(2, 5, b"\0\1")), file_of(good + good[:-1]), file_of(good + b"\0"), file_of(good[:6]), file_of(good[:5])]
-    files += [file_of(good, good[:-1] + b"\6"), file_of(good)[:-1], file_of(good)[:-1] + bytes([OPEN]), file_of(good)[:-1] + bytes([OPEN, 0, 0, 0, 16]) + good]
-    files += [file_of(hello(4), hello(9), hello(6)), file_of(tail=bytes([OPEN]) + pack(">I", 16) + good + b".")]
+    files += [file_of(good, good[:-1] + b"\6"), file_of(hello(4), hello(9), hello(6)), file_of(good, tail=MAGIC), file_of(good, tail=header())]
     for content in files:
         order(f"file {content.hex()}\nopen\nstate")
-    order("# Behind the closed gate stands at most the longest block, and a body is no longer than that.")
+    order("# Blocks that were dropped, repeated, exchanged or taken from another journal; words that were exchanged; and whole blocks of the right salt further on.")
+    bodies = [hello(5), opening(5), data(5, 0, b"abc"), read(5, 0, 2)]
+    parts = [header()] + [blocks(*bodies)[len(blocks(*bodies[:n])) : len(blocks(*bodies[: n + 1]))] for n in range(4)]
+    other = [header(bytes(8))] + [blocks(*bodies, salt=header(bytes(8))[16:])[len(blocks(*bodies[:n])) : len(blocks(*bodies[: n + 1]))] for n in range(4)]
+    for n in range(5):
+        for kind in ([*parts[:n], *parts[n + 1 :]], [*parts[: n + 1], *parts[n:]], [*parts[:n], other[n], *parts[n + 1 :]], [*other[:n], parts[n], *other[n + 1 :]]):
+            order(f"file {b''.join(kind).hex()}\nopen")
+        for m in range(n):
+            moved = parts[:]
+            moved[n], moved[m] = moved[m], moved[n]
+            order(f"file {b''.join(moved).hex()}\nopen")
+    whole = b"".join(parts)
+    for at in range(0, len(whole) - 8, 4):
+        exchanged = whole[:at] + whole[at + 4 : at + 8] + whole[at : at + 4] + whole[at + 8 :]
+        order(f"file {exchanged.hex()}\nopen")
+    torn = bytes(30)
+    for number in (0, 4, 5, 6, 2**64 - 1):
+        for place in (b"", b"\0", torn):
+            order(f"file {(whole + place + header()[16:] + pack('>Q', number) + torn).hex()}\nopen")
+        order(f"file {(whole + torn + header()[16:] + pack('>Q', number)[:7]).hex()}\nopen")
+    order("# What a death leaves is at most the longest block, and a body is no longer than that.")
     for base in (file_of(), file_of(*SMALL)):
-        for count in (1, 381700, 381701, 381702, 400000):
-            order(f"file {base.hex()}\nmore {count} 7\nopen")
+        for count in (1, 43, 44, 381739, 381740, 381741, 400000):
+            order(f"file {base.hex()}\nmore {count} 0\nopen")
     for size in (381696, 381697, 2**32 - 1):
-        order(f"file {(MAGIC + bytes([OPEN]) + pack('>I', size)).hex()}\nopen\nmore 381697 0\nopen")
+        order(f"file {(file_of() + header()[16:] + pack('>Q', 1) + bytes(16) + pack('>I', size)).hex()}\nopen\nmore 381696 0\nopen\nmore 1 0\nopen")
 
 
 def deaths():
     order("# A death at each call of an opening and of a commit, with none, some or all of what was appended there.")
-    for start in (b"", MAGIC[:5], file_of(SMALL[0]), file_of(SMALL[0], tail=b"\0\0\0")):
-        calls = 2 if len(start) <= 8 or start[-1] == 0 else 0
-        for count in range(calls + 5):
-            for kept in (0, 1, 5, 9999):
-                for put in (0, 1):
-                    order(f"file {start.hex()}\nopen")
-                    given(hello(5), opening(5), data(5, 0, b"abc"))
-                    order(f"commit\ndeath {count} {kept} {put}\nopen\nentry 0")
+    for start in (None, file_of(SMALL[0]), file_of(SMALL[0], tail=b"\0\0\0")):
+        calls = 0 if start and start[-1] != 0 else 2
+        for count in range(calls + 3):
+            for kept in (0, 1, 31, 32, 43, 44, 45, 100, 9999):
+                order("begin 5" if start is None else f"file {start.hex()}\nopen")
+                given(hello(5), opening(5), data(5, 0, b"abc"))
+                order(f"commit\ndeath {count} {kept} 0\nopen\nentry 0")
     order("# Each call fails in turn: what a death then leaves is opened.")
-    for start in (b"", MAGIC, file_of(SMALL[0]), file_of(SMALL[0], tail=b".")):
-        for call in range(1, 8):
-            order(f"file {start.hex()}\nfail 0 {call}\nopen")
+    for start in (None, file_of(SMALL[0]), file_of(SMALL[0], tail=b".")):
+        for call in range(1, 6):
+            order(f"fail 0 {call}\nbegin 5" if start is None else f"file {start.hex()}\nfail 0 {call}\nopen")
             given(hello(6), opening(6, OTHER))
             order("commit\nstate\nfail 0 0\ndeath 9999 3 0\nopen\ndeath 9999 9999 1\nopen")
     order("# Each read fails in turn.")
-    for start in (b"", MAGIC, file_of(SMALL[0]), file_of(SMALL[0], tail=b"."), b"none at all", MAGIC + b"x", MAGIC + bytes([OPEN, 0]), file_of(good_after())):
-        for call in (1, 2, 3):
+    for start in (b"", MAGIC, OLDER, OLDER + bytes(40), file_of(), file_of(SMALL[0]), file_of(SMALL[0], tail=b"."), b"none at all", header() + bytes(60), file_of(good_after())):
+        for call in (1, 2, 3, 4):
             order(f"file {start.hex()}\nfail {call} 0\nopen\nfail 0 0")
 
 
@@ -424,9 +518,9 @@ def good_after():
 
 
 def rounds():
-    order("# A round takes 256 of the longest messages, and no more; it is one block.\nfile \nopen")
+    order("# A round takes 256 of the longest messages, and no more; it is one block.\nbegin 1790000000123456789")
     given(hello(5), opening(5))
-    order("commit\nlong 300\nin " + data(5, 0, b"", acked=1).hex() + "\ncommit\nstate\nentry 0\nlong 300\ncommit\ndeath 9999 0 0\nopen\nentry 0\nmore 381701 1\nopen\nentry 0")
+    order("commit\nlong 300\nin " + data(5, 0, b"", acked=1).hex() + "\ncommit\nstate\nentry 0\nlong 300\ncommit\ndeath 9999 0 0\nopen\nentry 0\nmore 381740 1\nopen\nentry 0")
     order("# A round that isn't committed is gone.")
     order(f"file {file_of(SMALL[0]).hex()}\nopen")
     given(data(5, 0, b"abc"))
@@ -434,7 +528,7 @@ def rounds():
 
 
 def large():
-    order("# A journal of over two million bytes is opened.\nfile \nopen")
+    order("# A journal of over two million bytes is opened.\nbegin 7")
     given(hello(5), opening(5))
     order("commit")
     for turn in range(6):
@@ -451,5 +545,26 @@ def cases():
     large()
 
 
+def make():
+    """Writes a journal of 2^24 bytes of text for each of as many connections as it takes."""
+    size, texts, number, port, piece = HEADER, 1 << 24, 1, 40000, 0
+    salt = previous = header()[16:]
+    with open(sys.argv[2], "wb") as file:
+        file.write(header())
+        body = hello(1)
+        while size < int(sys.argv[3]):
+            while len(body) <= ROUND - 3 * 1491:
+                key = pack(">IH", 0xC0000201, port)
+                if piece == 0:
+                    body += opening(1, key)
+                body += data(1, 1460 * piece, b"a" * 1460, key=key) + read(1, piece, 1460, key)
+                piece += 1
+                if piece == texts // 1460:
+                    piece, port = 0, port + 1
+            new, previous = block(salt, number, previous, body)
+            file.write(new)
+            size, number, body = size + len(new), number + 1, b""
+
+
 if __name__ == "__main__":
-    {"lines": lines, "cases": cases}[sys.argv[1]]()
+    {"lines": lines, "cases": cases, "make": make}[sys.argv[1]]()

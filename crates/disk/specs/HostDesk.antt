@@ -5,7 +5,7 @@ use Rattle.std.specs.Prelude.{ℕ}
 pub record DeskCounts : Type 0 where
   -- how many opens and calls on the file failed
   pub faults : ℕ
-  -- how many opens were refused, since another process has the file
+  -- how many opens were refused: another process has the file, or it isn't there, or it is and was to be made
   pub refusals : ℕ
   -- how many calls on the network failed
   pub link_faults : ℕ

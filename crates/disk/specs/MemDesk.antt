@@ -23,7 +23,7 @@ pub record DeskState : Type 0 where
   pub opens : Calls
   -- another process has the file
   pub is_in_use : Bool
-  -- how many opens were refused for that
+  -- how many opens were refused, for that or for the file's name
   pub refusals : ℕ
   -- how many calls on the network failed
   pub link_faults : ℕ

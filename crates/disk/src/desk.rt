@@ -1,6 +1,6 @@
 //! A network of datagrams and one file, whose calls are recorded in one order. So a contract can say that an answer was sent after the sync that it depends on.
 
-ghost use Rattle.std.specs.Prelude.{◌≡◌, ◌≤◌, ℕ, List, [], ◌∷◌, true, false, length, IfOk, OnOk, OnErr, IsErrOf};
+ghost use Rattle.std.specs.Prelude.{◌≡◌, ◌≤◌, ℕ, List, [], ◌∷◌, Some, true, false, length, IfOk, OnOk, OnErr, IsErrOf};
 ghost use Rattle.std.specs.declared.option.Option.{Option};
 ghost use Rattle.ft_io.specs.Faults.{Rose};
 ghost use Rattle.ft_io.specs.Told.{Tells};
@@ -10,12 +10,13 @@ ghost use Rattle.disk.specs.CallRecord.{on_link};
 use crate::{Disk, ShelfEnd};
 use ft_io::{Addr, Failed, Heard};
 
-/// A socket for datagrams and a file. `open` comes before the calls on the file, and `bind` before those on the socket.
+/// A socket for datagrams and a file. `open` or `begin` comes before the calls on the file, and `bind` before those on the socket.
 pub trait Desk: Disk {
     /// The content of the file of this name, empty if there is no such file, or `None` where the content isn't specified.
     ghost file_of: { Self → List ℕ → Option (List ℕ) };
 
-    /// How many times a file was refused because another process has it. The count never falls, and stops at `u64::MAX`.
+    /// How many times a file was refused because another process has it, because it isn't there, or because it is and was to be made. The count never falls,
+    /// and stops at `u64::MAX`.
     fn refusals(&self) -> u64
         ensures { result ≡ (Self.beside self.now).refusals };
 
@@ -27,12 +28,31 @@ pub trait Desk: Disk {
     fn bind_faults(&self) -> u64
         ensures { result ≡ (Self.beside self.now).bind_faults };
 
-    /// Opens the file of this name, or creates it, for this process only. What it has is on the disk then, so that a death loses nothing of what is read.
+    /// The nanoseconds since 1970 by the system's clock; 0 where it has none.
+    fn time(&self) -> u64;
+
+    /// Opens the file of this name, for this process only. What it has is on the disk then, so that a death loses nothing of what is read.
     fn open(&mut self, name: &str) -> Result<(), ShelfEnd>
         ensures file { OnOk result (Self.left self.new ≡ file_of self.old name.now) }
         ensures told { Tells (Self.told self.old) (Self.told self.new) [] }
         ensures cause { IsErrOf result ShelfEnd.Failed → Rose (Self.fault_count self.old) (Self.fault_count self.new) }
         ensures in_use { IsErrOf result ShelfEnd.InUse → Rose (Self.beside self.old).refusals (Self.beside self.new).refusals }
+        ensures missing { IsErrOf result ShelfEnd.Missing → Rose (Self.beside self.old).refusals (Self.beside self.new).refusals }
+        ensures never_new { IsErrOf result ShelfEnd.Present → ⊥ }
+        ensures never_falls { Self.fault_count self.old ≤ Self.fault_count self.new }
+        ensures refusals_never_fall { (Self.beside self.old).refusals ≤ (Self.beside self.new).refusals }
+        ensures no_link_fault { (Self.beside self.new).link_faults ≡ (Self.beside self.old).link_faults }
+        ensures no_bind_fault { (Self.beside self.new).bind_faults ≡ (Self.beside self.old).bind_faults }
+        ensures waits { (Self.beside self.new).waits ≡ (Self.beside self.old).waits };
+
+    /// Makes a file of this name where none is, for this process only. It is empty.
+    fn begin(&mut self, name: &str) -> Result<(), ShelfEnd>
+        ensures empty { OnOk result ((bytes : List ℕ) → Self.left self.new ≡ Some bytes → bytes ≡ []) }
+        ensures told { Tells (Self.told self.old) (Self.told self.new) [] }
+        ensures cause { IsErrOf result ShelfEnd.Failed → Rose (Self.fault_count self.old) (Self.fault_count self.new) }
+        ensures in_use { IsErrOf result ShelfEnd.InUse → Rose (Self.beside self.old).refusals (Self.beside self.new).refusals }
+        ensures present { IsErrOf result ShelfEnd.Present → Rose (Self.beside self.old).refusals (Self.beside self.new).refusals }
+        ensures never_old { IsErrOf result ShelfEnd.Missing → ⊥ }
         ensures never_falls { Self.fault_count self.old ≤ Self.fault_count self.new }
         ensures refusals_never_fall { (Self.beside self.old).refusals ≤ (Self.beside self.new).refusals }
         ensures no_link_fault { (Self.beside self.new).link_faults ≡ (Self.beside self.old).link_faults }

@@ -21,13 +21,29 @@ pub struct FileDisk<F: OpenFile> {
 }
 
 impl FileDisk<StdFile> {
-    /// Opens the file of the system at `path`, or creates it, for this process only. A symbolic link, a directory and a device are refused, and so is a file
-    /// with a second name (hard link).
+    /// Opens the file of the system at `path`, for this process only. A symbolic link, a directory and a device are refused, and so is a file with a second name
+    /// (hard link).
     pub fn open<R: Files<File = File>>(files: &R, path: &str) -> Result<FileDisk<StdFile>, ShelfEnd>
         ensures { IfOk result (λ disk. disk.faults ≡ 0) }
     {
         let file = StdFile::open(files, path)?;
         FileDisk::over(file).map_err(|_| ShelfEnd::Failed)
+    }
+
+    /// Makes a file of the system at `path`, where none is, for this process only.
+    pub fn begin<R: Files<File = File>>(
+        files: &R,
+        path: &str,
+    ) -> Result<FileDisk<StdFile>, ShelfEnd>
+        ensures { IfOk result (λ disk. disk.faults ≡ 0) }
+    {
+        let file = StdFile::begin(files, path)?;
+        FileDisk::over(file).map_err(|_| ShelfEnd::Failed)
+    }
+
+    /// Whether `path` is the file's name, and nothing else is.
+    pub(crate) fn is_at<R: Files<File = File>>(&self, files: &R, path: &str) -> bool {
+        self.file.is_at(files, path)
     }
 }
 

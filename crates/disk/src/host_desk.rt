@@ -7,21 +7,30 @@ ghost use Rattle.disk.specs.HostDesk.{fresh_desk};
 use crate::file_disk::counted;
 use crate::{Desk, Disk, FileDisk, ShelfEnd, StdFile};
 use ft_io::{Addr, Failed, Heard};
+use std::alloc::Global;
 use std::fs::{File, Files};
 use std::io;
 use std::marker::Model;
 use std::net::{IpAddr, Ipv4Addr, Net, SocketAddr, UdpSocket};
-use std::time::Duration;
+use std::time::{Clock, Duration, SystemTime, UNIX_EPOCH};
 
 /// The longest wait of a receive, in milliseconds.
 const PATIENCE: u64 = 20;
 
-/// A UDP socket and a file. A call on the file before the first successful open is a fault, and so is one on the network before the first successful bind. A
-/// datagram from an address that isn't IPv4 is a fault too.
+/// A file, and its name.
 #[derive(Drop)]
-pub struct HostDesk<'a, R: Net + Files<File = File>> {
+struct Held {
+    disk: FileDisk<StdFile>,
+    name: String,
+}
+
+/// A UDP socket and a file. A sync is a fault if the file's name is gone then, or another file's. A call on the file before the first successful open is a fault,
+/// and so is one on the network before the first successful bind. A datagram from an address that isn't IPv4 is a fault too.
+#[derive(Drop)]
+pub struct HostDesk<'a, R: Net + Clock + Files<File = File>> {
+    alloc: Global,
     system: &'a R,
-    file: Option<FileDisk<StdFile>>,
+    file: Option<Held>,
     socket: Option<Bound>,
     faults: u64,
     refusals: u64,
@@ -29,7 +38,7 @@ pub struct HostDesk<'a, R: Net + Files<File = File>> {
     bind_faults: u64,
 }
 
-impl<'a, R: Net + Files<File = File>> Model for HostDesk<'a, R> {
+impl<'a, R: Net + Clock + Files<File = File>> Model for HostDesk<'a, R> {
     ghost use Rattle.disk.specs.HostDesk.{DeskCounts};
 
     ghost Value = { DeskCounts };
@@ -37,12 +46,13 @@ impl<'a, R: Net + Files<File = File>> Model for HostDesk<'a, R> {
     ghost view = { λ d. record { faults = d.faults; refusals = d.refusals; link_faults = d.link_faults; bind_faults = d.bind_faults } };
 }
 
-impl<'a, R: Net + Files<File = File>> HostDesk<'a, R> {
+impl<'a, R: Net + Clock + Files<File = File>> HostDesk<'a, R> {
     /// A desk with no file open and no address bound, and with no fault yet.
-    pub fn new(system: &'a R) -> HostDesk<'a, R>
+    pub fn new(alloc: Global, system: &'a R) -> HostDesk<'a, R>
         ensures { result ≡ fresh_desk }
     {
         HostDesk {
+            alloc,
             system,
             file: None,
             socket: None,
@@ -54,7 +64,52 @@ impl<'a, R: Net + Files<File = File>> HostDesk<'a, R> {
     }
 }
 
-impl<'a, R: Net + Files<File = File>> Disk for HostDesk<'a, R> {
+/// Opens the file of this name.
+fn open_held<R: Files<File = File>>(
+    alloc: Global,
+    files: &R,
+    name: &str,
+) -> Result<Held, ShelfEnd> {
+    let disk = FileDisk::open(files, name)?;
+    named(alloc, disk, name)
+}
+
+/// Makes a file of this name.
+fn begin_held<R: Files<File = File>>(
+    alloc: Global,
+    files: &R,
+    name: &str,
+) -> Result<Held, ShelfEnd> {
+    let disk = FileDisk::begin(files, name)?;
+    named(alloc, disk, name)
+}
+
+/// A file with its name, if there is memory for that.
+fn named(alloc: Global, disk: FileDisk<StdFile>, name: &str) -> Result<Held, ShelfEnd> {
+    match String::from_str(alloc, name) {
+        Ok(name) => Ok(Held { disk, name }),
+        Err(_) => Err(ShelfEnd::Failed),
+    }
+}
+
+/// Syncs a file. Then its name still has to be its name.
+fn sync_named<R: Files<File = File>>(files: &R, held: &mut Held) -> Result<(), Failed> {
+    held.disk.sync()?;
+    if held.disk.is_at(files, held.name.as_str()) {
+        Ok(())
+    } else {
+        Err(Failed)
+    }
+}
+
+/// The time since 1970, in nanoseconds.
+fn nanoseconds<R: Clock>(clock: &R) -> Option<u64> {
+    let now = SystemTime::now(clock).ok()?;
+    let since = now.duration_since(UNIX_EPOCH).ok()?;
+    u64::try_from(since.as_nanos()).ok()
+}
+
+impl<'a, R: Net + Clock + Files<File = File>> Disk for HostDesk<'a, R> {
     ghost told = { λ _. None };
 
     ghost left = { λ _. None };
@@ -69,7 +124,7 @@ impl<'a, R: Net + Files<File = File>> Disk for HostDesk<'a, R> {
 
     fn read(&mut self, buf: &mut [u8]) -> Result<usize, Failed> {
         let done = match &mut self.file {
-            Some(file) => file.read(buf),
+            Some(file) => file.disk.read(buf),
             None => Err(Failed),
         };
         counted(&mut self.faults, done)
@@ -77,7 +132,7 @@ impl<'a, R: Net + Files<File = File>> Disk for HostDesk<'a, R> {
 
     fn append(&mut self, bytes: &[u8]) -> Result<(), Failed> {
         let done = match &mut self.file {
-            Some(file) => file.append(bytes),
+            Some(file) => file.disk.append(bytes),
             None => Err(Failed),
         };
         counted(&mut self.faults, done)
@@ -85,7 +140,7 @@ impl<'a, R: Net + Files<File = File>> Disk for HostDesk<'a, R> {
 
     fn put(&mut self, at: u64, byte: u8) -> Result<(), Failed> {
         let done = match &mut self.file {
-            Some(file) => file.put(at, byte),
+            Some(file) => file.disk.put(at, byte),
             None => Err(Failed),
         };
         counted(&mut self.faults, done)
@@ -93,7 +148,7 @@ impl<'a, R: Net + Files<File = File>> Disk for HostDesk<'a, R> {
 
     fn cut(&mut self, at: u64) -> Result<(), Failed> {
         let done = match &mut self.file {
-            Some(file) => file.cut(at),
+            Some(file) => file.disk.cut(at),
             None => Err(Failed),
         };
         counted(&mut self.faults, done)
@@ -101,14 +156,14 @@ impl<'a, R: Net + Files<File = File>> Disk for HostDesk<'a, R> {
 
     fn sync(&mut self) -> Result<(), Failed> {
         let done = match &mut self.file {
-            Some(file) => file.sync(),
+            Some(file) => sync_named(self.system, file),
             None => Err(Failed),
         };
         counted(&mut self.faults, done)
     }
 }
 
-impl<'a, R: Net + Files<File = File>> Desk for HostDesk<'a, R> {
+impl<'a, R: Net + Clock + Files<File = File>> Desk for HostDesk<'a, R> {
     ghost file_of = { λ _ _. None };
 
     fn refusals(&self) -> u64 {
@@ -123,17 +178,46 @@ impl<'a, R: Net + Files<File = File>> Desk for HostDesk<'a, R> {
         self.bind_faults
     }
 
+    fn time(&self) -> u64 {
+        nanoseconds(self.system).unwrap_or(0)
+    }
+
     fn open(&mut self, name: &str) -> Result<(), ShelfEnd> {
-        match FileDisk::open(self.system, name) {
-            Ok(file) => {
-                self.file = Some(file);
+        match open_held(self.alloc, self.system, name) {
+            Ok(held) => {
+                self.file = Some(held);
                 Ok(())
             }
             Err(ShelfEnd::InUse) => {
                 self.refusals = self.refusals.saturating_add(1);
                 Err(ShelfEnd::InUse)
             }
-            Err(ShelfEnd::Failed) => {
+            Err(ShelfEnd::Missing) => {
+                self.refusals = self.refusals.saturating_add(1);
+                Err(ShelfEnd::Missing)
+            }
+            Err(_) => {
+                self.faults = self.faults.saturating_add(1);
+                Err(ShelfEnd::Failed)
+            }
+        }
+    }
+
+    fn begin(&mut self, name: &str) -> Result<(), ShelfEnd> {
+        match begin_held(self.alloc, self.system, name) {
+            Ok(held) => {
+                self.file = Some(held);
+                Ok(())
+            }
+            Err(ShelfEnd::InUse) => {
+                self.refusals = self.refusals.saturating_add(1);
+                Err(ShelfEnd::InUse)
+            }
+            Err(ShelfEnd::Present) => {
+                self.refusals = self.refusals.saturating_add(1);
+                Err(ShelfEnd::Present)
+            }
+            Err(_) => {
                 self.faults = self.faults.saturating_add(1);
                 Err(ShelfEnd::Failed)
             }

@@ -26,6 +26,7 @@ mod host_desk;
 mod mem_desk;
 mod mem_disk;
 mod mem_file;
+mod named;
 mod open_file;
 mod shelf_end;
 mod std_file;

@@ -1,7 +1,7 @@
 //! A network and a file in memory, for tests: the datagrams that arrive, the file's bytes and the calls that fail are given, and the calls on both are recorded
 //! in one list.
 
-ghost use Rattle.std.specs.Prelude.{◌≡◌, ◌≤◌, ◌<◌, ◌⊎◌, length, take, false, true, None, Some, [], ◌∷◌, string_bytes, IfSome, IfOk, OnOk, OnErr, IsErrOf};
+ghost use Rattle.std.specs.Prelude.{◌≡◌, ◌≤◌, ◌<◌, ◌⊎◌, ℕ, List, length, take, false, true, None, Some, [], ◌∷◌, string_bytes, IfSome, IfOk, OnOk, OnErr, IsErrOf};
 ghost use Rattle.std.specs.Bool.{OnTrue, OnFalse};
 ghost use Rattle.ft_io.specs.declared.link_call.LinkCall.TheVariants.{Handed};
 ghost use Rattle.ft_system.specs.Arrival.{arriving};
@@ -10,6 +10,7 @@ ghost use Rattle.ft_io.specs.Link.{bind_told, send_told, recv_told, heard_as, Ha
 ghost use Rattle.ft_system.specs.MemLink.{BindFails};
 ghost use Rattle.ft_system.specs.NumberedCalls.{IsNextListed};
 ghost use Rattle.ft_io.specs.Told.{Tells};
+ghost use Rattle.std.specs.Str.{bytes_eq};
 ghost use Rattle.disk.specs.Death.{left_of};
 ghost use Rattle.disk.specs.Remains.{LeftBy};
 ghost use Rattle.disk.specs.CallRecord.{on_link, disk_calls};
@@ -149,6 +150,19 @@ impl MemDesk {
         self.note(LinkCall::Came(from, Octets::new(copy)))
     }
 
+    /// Counts a refusal.
+    fn refuse(&mut self, end: ShelfEnd) -> ShelfEnd
+        ensures same { result ≡ end }
+        ensures disk { self.new.disk ≡ self.old.disk }
+        ensures cause { Rose self.old.refusals self.new.refusals }
+        ensures no_link_fault { self.new.link_faults ≡ self.old.link_faults }
+        ensures no_bind_fault { self.new.bind_faults ≡ self.old.bind_faults }
+        ensures waits { waits_of self.new ≡ waits_of self.old }
+    {
+        self.refusals = self.refusals.saturating_add(1);
+        end
+    }
+
     fn fail_on_link(&mut self) -> Failed
         ensures disk { self.new.disk ≡ self.old.disk }
         ensures link { self.new.link ≡ self.old.link }
@@ -251,17 +265,25 @@ impl Desk for MemDesk {
         self.bind_faults
     }
 
+    /// It has no clock.
+    fn time(&self) -> u64 {
+        0
+    }
+
     fn open(&mut self, name: &str) -> Result<(), ShelfEnd>
-        // It fails exactly where its call is listed as failing, and is refused exactly where another process has the file.
-        ensures opened { OnOk result ((self.old.is_in_use ≡ false) × (IsNextListed self.old.opens → ⊥)) }
+        // It fails exactly where its call is listed as failing, and is refused exactly where another process has the file, or the file has another name.
+        ensures opened { OnOk result ((self.old.is_in_use ≡ false) × (IsNextListed self.old.opens → ⊥) × (bytes_eq self.old.name name.now ≡ true)) }
         ensures failed { IsErrOf result ShelfEnd.Failed → IsNextListed self.old.opens }
         ensures refused { IsErrOf result ShelfEnd.InUse → self.old.is_in_use ≡ true }
+        ensures unnamed { IsErrOf result ShelfEnd.Missing → bytes_eq self.old.name name.now ≡ false }
 
         // What every desk promises.
         ensures file { OnOk result (Some self.new.disk.left ≡ file_of self.old name.now) }
         ensures told { Tells (told_of self.old) (told_of self.new) [] }
         ensures cause { IsErrOf result ShelfEnd.Failed → Rose self.old.disk.faults self.new.disk.faults }
         ensures in_use { IsErrOf result ShelfEnd.InUse → Rose self.old.refusals self.new.refusals }
+        ensures missing { IsErrOf result ShelfEnd.Missing → Rose self.old.refusals self.new.refusals }
+        ensures never_new { IsErrOf result ShelfEnd.Present → ⊥ }
         ensures never_falls { self.old.disk.faults ≤ self.new.disk.faults }
         ensures refusals_never_fall { self.old.refusals ≤ self.new.refusals }
         ensures no_link_fault { self.new.link_faults ≡ self.old.link_faults }
@@ -269,16 +291,51 @@ impl Desk for MemDesk {
         ensures waits { waits_of self.new ≡ waits_of self.old }
     {
         if self.is_in_use {
-            self.refusals = self.refusals.saturating_add(1);
-            return Err(ShelfEnd::InUse);
+            return Err(self.refuse(ShelfEnd::InUse));
         }
         if self.opens.next_fails() {
             self.disk.fail();
             return Err(ShelfEnd::Failed);
         }
         if self.name.as_str() != name {
-            self.disk.make_anew();
+            return Err(self.refuse(ShelfEnd::Missing));
         }
+        Ok(())
+    }
+
+    /// The new file is the desk's from then on, under the old name.
+    fn begin(&mut self, name: &str) -> Result<(), ShelfEnd>
+        // It fails exactly where its call is listed as failing, and is refused exactly where another process has the file, or the file has this name.
+        ensures begun { OnOk result ((self.old.is_in_use ≡ false) × (IsNextListed self.old.opens → ⊥) × (bytes_eq self.old.name name.now ≡ false)) }
+        ensures failed { IsErrOf result ShelfEnd.Failed → IsNextListed self.old.opens }
+        ensures refused { IsErrOf result ShelfEnd.InUse → self.old.is_in_use ≡ true }
+        ensures named { IsErrOf result ShelfEnd.Present → bytes_eq self.old.name name.now ≡ true }
+
+        // What every desk promises.
+        ensures empty { OnOk result ((bytes : List ℕ) → Some self.new.disk.left ≡ Some bytes → bytes ≡ []) }
+        ensures told { Tells (told_of self.old) (told_of self.new) [] }
+        ensures cause { IsErrOf result ShelfEnd.Failed → Rose self.old.disk.faults self.new.disk.faults }
+        ensures in_use { IsErrOf result ShelfEnd.InUse → Rose self.old.refusals self.new.refusals }
+        ensures present { IsErrOf result ShelfEnd.Present → Rose self.old.refusals self.new.refusals }
+        ensures never_old { IsErrOf result ShelfEnd.Missing → ⊥ }
+        ensures never_falls { self.old.disk.faults ≤ self.new.disk.faults }
+        ensures refusals_never_fall { self.old.refusals ≤ self.new.refusals }
+        ensures no_link_fault { self.new.link_faults ≡ self.old.link_faults }
+        ensures no_bind_fault { self.new.bind_faults ≡ self.old.bind_faults }
+        ensures waits { waits_of self.new ≡ waits_of self.old }
+    {
+        let is_others = self.is_in_use;
+        if is_others {
+            return Err(self.refuse(ShelfEnd::InUse));
+        }
+        if self.opens.next_fails() {
+            self.disk.fail();
+            return Err(ShelfEnd::Failed);
+        }
+        if self.name.as_str() == name {
+            return Err(self.refuse(ShelfEnd::Present));
+        }
+        self.disk.make_anew();
         Ok(())
     }
 

@@ -10,6 +10,10 @@ pub enum ShelfEnd {
     Failed,
     /// Another process has it open.
     InUse,
+    /// There is no file of this name, and none was to be made.
+    Missing,
+    /// There is one, and a new one was to be made.
+    Present,
 }
 
 impl From<io::Error> for ShelfEnd {

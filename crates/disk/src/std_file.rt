@@ -2,14 +2,15 @@
 
 ghost use Rattle.std.specs.Prelude.{None};
 
+use crate::named::{is_named, make_new, open_there};
 use crate::{OpenFile, ShelfEnd};
 use ft_io::Failed;
 use std::fs::{File, Files, OpenOptions};
+use std::io;
 use std::io::Read;
 use std::os::fd::AsRawFd;
-use std::os::unix::fs::{FileExt, MetadataExt, OpenOptionsExt};
+use std::os::unix::fs::FileExt;
 use std::path::Path;
-use std::{fs, io};
 
 /// A file of the system, locked for this process only, until it is dropped or the process dies.
 #[derive(Drop)]
@@ -18,50 +19,31 @@ pub struct StdFile {
 }
 
 impl StdFile {
-    /// Opens the file at `path`, or creates it, for this process only, and syncs its directory, so that a new name stays. A symbolic link, a directory and a
-    /// device are refused, and so is a file with a second name (hard link).
+    /// Opens the file at `path`, for this process only, and syncs its directory, so that a new name stays. A symbolic link, a directory and a device are refused,
+    /// and so is a file with a second name (hard link).
     pub fn open<R: Files<File = File>>(files: &R, path: &str) -> Result<StdFile, ShelfEnd> {
-        let file = open_named(files, path)?;
-        file.try_lock()?;
-        let folder = OpenOptions::new().read(true).open(files, folder_of(path))?;
-        folder.sync_all()?;
+        let file = open_there(files, path)?;
+        keep_name(files, path)?;
         Ok(StdFile { file })
     }
+
+    /// Makes a file at `path`, where none is, for this process only, and syncs its directory.
+    pub fn begin<R: Files<File = File>>(files: &R, path: &str) -> Result<StdFile, ShelfEnd> {
+        let file = make_new(files, path)?;
+        keep_name(files, path)?;
+        Ok(StdFile { file })
+    }
+
+    /// Whether `path` is the file's name, and nothing else is.
+    pub(crate) fn is_at<R: Files<File = File>>(&self, files: &R, path: &str) -> bool {
+        matches!(is_named(files, &self.file, path), Ok(true))
+    }
 }
 
-/// Opens the regular file of this name, or creates it. Refuses a symbolic link, and a file with a second name.
-fn open_named<R: Files<File = File>>(files: &R, path: &str) -> io::Result<File> {
-    let mut file = open_or_make(files, path)?;
-    // If a standard stream is closed, its descriptor is free: what is written to that stream must not end up in the file.
-    if file.as_raw_fd() <= 2 {
-        file = file.try_clone()?;
-    }
-    let found = file.metadata()?;
-    let named = fs::symlink_metadata(files, path)?;
-    let is_named = found.dev() == named.dev() && found.ino() == named.ino();
-    if !is_named || !found.is_file() || found.nlink() != 1 {
-        return Err(io::ErrorKind::Unsupported.into());
-    }
-    Ok(file)
-}
-
-/// Opens the file of this name, or creates it. Refuses a symbolic link, a directory and a device. The file isn't opened in append mode: Linux would then write
-/// each byte at the end, whatever its place.
-fn open_or_make<R: Files<File = File>>(files: &R, path: &str) -> io::Result<File> {
-    let made = OpenOptions::new()
-        .read(true)
-        .write(true)
-        .create_new(true)
-        .mode(0o600)
-        .open(files, path);
-    match made {
-        Err(error) if error.kind() == io::ErrorKind::AlreadyExists => (),
-        done => return done,
-    }
-    if !fs::symlink_metadata(files, path)?.is_file() {
-        return Err(io::ErrorKind::Unsupported.into());
-    }
-    OpenOptions::new().read(true).write(true).open(files, path)
+/// Syncs the directory of a file, so that a new name stays.
+fn keep_name<R: Files<File = File>>(files: &R, path: &str) -> io::Result<()> {
+    let folder = OpenOptions::new().read(true).open(files, folder_of(path))?;
+    folder.sync_all()
 }
 
 fn folder_of(path: &str) -> &str {

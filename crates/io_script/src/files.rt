@@ -1,13 +1,14 @@
 //! A file of the system as a disk, and with a UDP socket as a desk.
 
 use crate::numbers;
-use disk::{Desk, Disk, FileDisk, HostDesk, MemFile, ShelfEnd};
+use disk::{Desk, Disk, FileDisk, HostDesk, MemFile, ShelfEnd, StdFile};
 use ft_io::{Addr, Failed, Heard, NoMemory};
 use std::alloc::Global;
 use std::fs;
 use std::fs::{File, Files};
 use std::net::Net;
 use std::os::unix::fs::symlink;
+use std::time::Clock;
 use test_data::Said;
 
 /// Appends three bytes, replaces one, cuts one off, and appends two, up to a call that fails. Whether none did.
@@ -22,18 +23,30 @@ fn change<D: Disk>(disk: &mut D) -> bool {
         && disk.append(b"V").is_ok()
 }
 
-/// Says whether the file of this name is opened.
-fn say_opening<R: Files<File = File>>(system: &R, name: &str, said: &mut Said) {
-    said.word(match FileDisk::open(system, name) {
+/// Says how an opening or a making ended.
+fn say_end(end: Result<FileDisk<StdFile>, ShelfEnd>, said: &mut Said) {
+    said.word(match end {
         Ok(_) => b"opened",
         Err(ShelfEnd::InUse) => b"in use",
         Err(ShelfEnd::Failed) => b"failed",
+        Err(ShelfEnd::Missing) => b"missing",
+        Err(ShelfEnd::Present) => b"there",
     });
+}
+
+/// Says whether the file of this name is opened.
+fn say_opening<R: Files<File = File>>(system: &R, name: &str, said: &mut Said) {
+    say_end(FileDisk::open(system, name), said);
+}
+
+/// Says whether a file of this name is made.
+fn say_making<R: Files<File = File>>(system: &R, name: &str, said: &mut Said) {
+    say_end(FileDisk::begin(system, name), said);
 }
 
 /// Changes a new file: says how the changes ended, and whether the file was opened a second time meanwhile.
 fn change_kept<R: Files<File = File>>(system: &R, said: &mut Said) {
-    match FileDisk::open(system, "kept") {
+    match FileDisk::begin(system, "kept") {
         Ok(mut disk) => {
             said.done(change(&mut disk));
             say_opening(system, "kept", said);
@@ -61,13 +74,18 @@ pub fn keep_file<R: Files<File = File>>(system: &R, said: &mut Said) {
     }
 }
 
-/// A file, a symbolic link to it, a folder, a file in a folder that isn't there; and the file once it has a second name, by each of the two: says which are opened.
+/// A file that isn't there, is made, and is there; a symbolic link to it, a folder, a file in a folder that isn't there; and the file once it has a second name, by
+/// each of the two: says which are opened, and which are made.
 pub fn open_names<R: Files<File = File>>(system: &R, said: &mut Said) {
+    say_opening(system, "plain", said);
+    say_making(system, "plain", said);
+    say_making(system, "plain", said);
     say_opening(system, "plain", said);
     said.done(symlink(system, "plain", "link").is_ok());
     said.done(fs::create_dir(system, "folder").is_ok());
     for name in ["link", "folder", "none/plain"] {
         say_opening(system, name, said);
+        say_making(system, name, said);
     }
     said.done(fs::hard_link(system, "plain", "second").is_ok());
     for name in ["plain", "second"] {
@@ -77,7 +95,7 @@ pub fn open_names<R: Files<File = File>>(system: &R, said: &mut Said) {
 
 /// Changes a new file as a disk, by calls on a desk. Says how the changes ended.
 fn change_by_desk<K: Desk>(desk: &mut K, said: &mut Said) {
-    match desk.open("desk") {
+    match desk.begin("desk") {
         Ok(()) => said.done(change(desk)),
         Err(_) => said.word(b"no file"),
     }
@@ -92,9 +110,12 @@ fn read_by_desk<K: Desk>(desk: &mut K, said: &mut Said) {
 }
 
 /// Appends, puts, cuts and syncs through a desk of the system; then another desk opens the file and reads it.
-pub fn keep_by_desk<R: Net + Files<File = File>>(system: &R, said: &mut Said) {
-    change_by_desk(&mut HostDesk::new(system), said);
-    read_by_desk(&mut HostDesk::new(system), said);
+pub fn keep_by_desk<R: AllocGlobal + Net + Clock + Files<File = File>>(
+    system: &R,
+    said: &mut Said,
+) {
+    change_by_desk(&mut HostDesk::new(system.alloc(), system), said);
+    read_by_desk(&mut HostDesk::new(system.alloc(), system), said);
 }
 
 /// Makes the eight calls of `change` on a disk over a file in memory of three bytes, each whatever the one before gave. Of its writes, changes of its length and
@@ -180,9 +201,9 @@ fn say_exchange<K: Desk>(desk: &mut K, other: &mut K, said: &mut Said) {
 
 /// A sync, a send and the opening of a folder at a desk without a file and an address, with the counts of faults; then two datagrams from one desk to another:
 /// says what receives give before and after.
-pub fn use_desks<R: Net + Files<File = File>>(system: &R, said: &mut Said) {
-    let mut desk = HostDesk::new(system);
-    let mut other = HostDesk::new(system);
+pub fn use_desks<R: AllocGlobal + Net + Clock + Files<File = File>>(system: &R, said: &mut Said) {
+    let mut desk = HostDesk::new(system.alloc(), system);
+    let mut other = HostDesk::new(system.alloc(), system);
     say_unused(&mut desk, said);
     say_exchange(&mut desk, &mut other, said);
 }

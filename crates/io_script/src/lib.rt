@@ -22,7 +22,7 @@ mod ticks;
 mod watch;
 
 /// Plays the lines of a script, and says what came of each. The status, which is 0.
-pub fn run<R: Net + Clock + Files<File = File> + Processes>(
+pub fn run<R: AllocGlobal + Net + Clock + Files<File = File> + Processes>(
     system: &R,
     alloc: Global,
     text: &str,
@@ -36,7 +36,7 @@ pub fn run<R: Net + Clock + Files<File = File> + Processes>(
 }
 
 /// Plays a line, and says what came of it.
-fn play<R: Net + Clock + Files<File = File> + Processes>(
+fn play<R: AllocGlobal + Net + Clock + Files<File = File> + Processes>(
     system: &R,
     alloc: Global,
     line: &str,
@@ -71,7 +71,11 @@ fn play<R: Net + Clock + Files<File = File> + Processes>(
 }
 
 /// Plays a line of the system, which wants no memory.
-fn play_system<R: Net + Clock + Files<File = File>>(system: &R, line: &str, said: &mut Said) {
+fn play_system<R: AllocGlobal + Net + Clock + Files<File = File>>(
+    system: &R,
+    line: &str,
+    said: &mut Said,
+) {
     match line {
         "reader" => streams::read_four(said),
         "writer" => streams::write_four(said),

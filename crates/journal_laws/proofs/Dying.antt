@@ -1,5 +1,5 @@
 -- What a death at a moment leaves: in the course of a round, after others, and of a whole life.
-use Rattle.std.proofs.Common.{◌≡◌, ◌∙◌, ◌⊎◌, inl, inr, ℕ, ◌≤◌, refl, sym, ap, ap₂, subst, Option, None, Some, List, [], ◌∷◌, ◌++◌, length, map, append_assoc, append-nil, arith, Bool}
+use Rattle.std.proofs.Common.{◌≡◌, ◌∙◌, ◌⊎◌, inl, inr, ℕ, ◌≤◌, refl, sym, ap, ap₂, subst, Option, None, Some, List, [], ◌∷◌, ◌++◌, length, map, append_assoc, append-nil, arith, Bool, true}
 use Rattle.std.proofs.lemmas.List.{map-append}
 use Rattle.std.specs.List.{AllByRecursion}
 use Rattle.ft_io.specs.declared.Addr.{Addr}
@@ -15,29 +15,33 @@ use Rattle.disk.specs.declared.calls.DiskCall.{DiskCall}
 use Rattle.disk.specs.declared.calls.DeskCall.{DeskCall}
 use Rattle.disk.specs.declared.calls.DeskCall.TheVariants.{OnLink}
 use Rattle.disk.proofs.Telling.{disk_calls_of_disk}
-use Rattle.kept_log.specs.Format.{front, HasBlocks, seen_by}
-use Rattle.kept_log.proofs.Deaths.{before_or_after, mended, left_append}
-use Rattle.kept_log.specs.JournaledLog.{committing, end_after, with_round, HasLog}
-use Rattle.kept_log.specs.Startup.{Finds, IsWhole, cutting}
+use Rattle.kept_log.specs.Format.{HasBlocks, BringsNone, seen_by}
+use Rattle.kept_log.specs.declared.tip.Tip.{Tip}
+use Rattle.kept_log.proofs.Deaths.{rest_has, is_has, left_append, seen_append}
+use Rattle.kept_log.proofs.Lives.{last_keeps, opening_keeps}
+use Rattle.kept_log.specs.JournaledLog.{committing, tip_after, with_round, HasLog}
+use Rattle.kept_log.specs.Startup.{IsWhole}
 use Rattle.link_parts.specs.LoggerTurns.{handing, answer_for, answering}
 use Rattle.link_parts.specs.Receipt.{Received, datagram, silence, failure, received_as}
 use Rattle.journal_parts.specs.Rounds.{Place, Round, IsRound, received_in, log_behind, receives, changes_in, answers_in, round_calls, place_after, calls_of}
 use Rattle.journal_laws.specs.Moments.{IsFront, messages_in, handed_in, answers_to, ComesBack, Outlives}
 use Rattle.journal_laws.proofs.Fronts.{Within, within, link_front, one_front, disk_front}
 use Rattle.journal_laws.proofs.OneLog.{finds_one}
-use Rattle.journal_laws.proofs.Resting.{Rests, committed, has_round, rests_on, opened_rests}
+use Rattle.journal_parts.specs.LoggerLife.{Starts}
+use Rattle.journal_laws.proofs.Resting.{Rests, committed, few_round, has_round, rests_on, opened_rests}
 use Rattle.journal_laws.proofs.Saying.{messages-append, handed-append, disk_calls-append, messages_of_disk, handed_of_disk, disk_calls_of_link, log-append, answers-append, said_by, said_last, said_more, log_said, handed_all}
 
-outlives : (before log : Log) (calls : List DeskCall) (left : List ℕ) (bodies : List (List ℕ)) (end : ℕ) → HasBlocks bodies left → HasLog bodies end log → ComesBack before log calls
+outlives : (before log : Log) (calls : List DeskCall) (left made : List ℕ) (bodies : List (List ℕ)) (tip : Tip) → HasBlocks made bodies left → HasLog made bodies tip log → ComesBack before log calls
     → Outlives before calls left
-outlives before log calls left bodies end stands has back = record {
+outlives before log calls left made bodies tip stands has back = record {
+  made = made;
   bodies = bodies;
-  end = end;
+  tip = tip;
   log = log;
   stands = stands;
   has_log = has;
   comes_back = back;
-  only = λ others opening at next finds k. finds_one left bodies others opening end at log next stands has finds k;
+  only = λ time others opening at next whole k. finds_one left made time bodies others opening tip at log next stands has whole k;
 }
 
 -- nothing of these calls is answered, and the log is as before
@@ -158,17 +162,14 @@ module _ (file : List ℕ) (Held : List ℕ → Type 0) (at : Place) (round : Ro
   after = log_behind at.log (received_in round)
 
   -- the file is as it was before the round
-  as_before : (done : List DeskCall) → handed_in done ≡ [] → HasBlocks r.bodies left → Outlives at.log done left
-  as_before done none stands = outlives at.log at.log done left r.bodies at.end stands r.has_log (unchanged at.log done none)
-
-  held : Held left → HasBlocks r.bodies left
-  held h = ([], r.rest.1 left h ∙ r.rest.0)
+  as_before : (done : List DeskCall) → handed_in done ≡ [] → HasBlocks r.made r.bodies left → Outlives at.log done left
+  as_before done none stands = outlives at.log at.log done left r.made r.bodies at.tip stands r.has_log (unchanged at.log done none)
 
   -- the file has the round
   with_it : (done : List DeskCall) (a k : List Message) → messages_in done ≡ said_by (received_in round) → said_by (received_in round) ≡ a ++ k → handed_in done ≡ map spelling (answers_to at.log a)
-      → HasBlocks (with_round r.bodies body) left → Outlives at.log done left
+      → HasBlocks r.made (with_round r.bodies body) left → Outlives at.log done left
   with_it done a k said all handed stands =
-      outlives at.log after done left (with_round r.bodies body) (end_after at.end body) stands (has_round r.bodies at.end at.log (received_in round) is_round r.has_log) (record {
+      outlives at.log after done left r.made (with_round r.bodies body) (tip_after at.tip body) stands (has_round r.made r.bodies at.tip at.log (received_in round) is_round r.has_log) (record {
         answered = a;
         kept = k;
         lost = [];
@@ -178,59 +179,57 @@ module _ (file : List ℕ) (Held : List ℕ → Type 0) (at : Place) (round : Ro
       })
 
   -- the commit has come so far
-  committing_so_far : (body : List ℕ) (some : List DiskCall) → IsFrontOf (committing at.end body) some → LeftBy file Held some left
-      → HasBlocks r.bodies left ⊎ HasBlocks (with_round r.bodies body) left
-  committing_so_far [] [] f l = inl (held l)
-  committing_so_far [] (call ∷ some) f l = absurd f
-  committing_so_far (byte ∷ more) some f l =
-      before_or_after file Held r.bodies (byte ∷ more) r.rest some left (subst (λ n. IsFrontOf (committing n (byte ∷ more)) some) r.has_log.end_is f) l
+  committing_so_far : (some : List DiskCall) → IsFrontOf (committing at.tip body) some → LeftBy file Held some left → BringsNone (seen_by file some) left
+      → HasBlocks r.made r.bodies left ⊎ HasBlocks r.made (with_round r.bodies body) left
+  committing_so_far some f l brings =
+      last_keeps file Held r.made r.bodies body some left r.rest (few_round at.log (received_in round) is_round) (subst (λ t. IsFrontOf (committing t body) some) r.has_log.tip_is f) l brings
 
-  in_commit : (done : List DeskCall) (some : List DiskCall) → done ≡ came ++ on_disk some → IsFrontOf (committing at.end body) some → LeftBy file Held (disk_calls done) left
-      → Outlives at.log done left
-  in_commit done some is f l =
+  in_commit : (done : List DeskCall) (some : List DiskCall) → done ≡ came ++ on_disk some → IsFrontOf (committing at.tip body) some → LeftBy file Held (disk_calls done) left
+      → BringsNone (seen_by file (disk_calls done)) left → Outlives at.log done left
+  in_commit done some is f l brings =
       let calls : disk_calls done ≡ some = ap disk_calls is ∙ (disk_calls-append came (on_disk some) ∙ ap₂ (λ a b. a ++ b) (disk_calls_of_link (receives (received_in round))) (disk_calls_of_disk some)) in
       let said : messages_in done ≡ said_by (received_in round) =
       ap messages_in is ∙ (messages-append came (on_disk some) ∙ (ap (λ b. said_by (received_in round) ++ b) (messages_of_disk some) ∙ append-nil (said_by (received_in round)))) in
       let none : handed_in done ≡ [] =
       ap handed_in is ∙ (handed-append came (on_disk some) ∙ ap₂ (λ a b. a ++ b) (none_handed (received_in round)) (handed_of_disk some)) in
-      elim (committing_so_far body some f (subst (λ c. LeftBy file Held c left) calls l)) as (λ _. Outlives at.log done left) [
+      elim (committing_so_far some f (subst (λ c. LeftBy file Held c left) calls l) (subst (λ c. BringsNone (seen_by file c) left) calls brings)) as (λ _. Outlives at.log done left) [
         | inl stands ↦ as_before done none stands
         | inr stands ↦ with_it done [] (said_by (received_in round)) said refl none stands
       ]
 
-  in_answers : (done rest : List DeskCall) → done ≡ came ++ (on_disk (committing at.end body) ++ rest) → IsFront (on_link (answers_in at.log round)) rest → LeftBy file Held (disk_calls done) left
+  in_answers : (done rest : List DeskCall) → done ≡ came ++ (on_disk (committing at.tip body) ++ rest) → IsFront (on_link (answers_in at.log round)) rest → LeftBy file Held (disk_calls done) left
       → Outlives at.log done left
   in_answers done rest is f l =
       let first = link_front (answers_in at.log round) rest f in
       let no_calls : disk_calls rest ≡ [] = ap disk_calls first.done_is ∙ disk_calls_of_link first.first in
-      let calls : disk_calls done ≡ committing at.end body =
-      ap disk_calls is ∙ (disk_calls-append came (on_disk (committing at.end body) ++ rest) ∙ ap₂ (λ a b. a ++ b) (disk_calls_of_link (receives (received_in round)))
-      (disk_calls-append (on_disk (committing at.end body)) rest ∙ (ap₂ (λ a b. a ++ b) (disk_calls_of_disk (committing at.end body)) no_calls ∙ append-nil (committing at.end body)))) in
+      let calls : disk_calls done ≡ committing at.tip body =
+      ap disk_calls is ∙ (disk_calls-append came (on_disk (committing at.tip body) ++ rest) ∙ ap₂ (λ a b. a ++ b) (disk_calls_of_link (receives (received_in round)))
+      (disk_calls-append (on_disk (committing at.tip body)) rest ∙ (ap₂ (λ a b. a ++ b) (disk_calls_of_disk (committing at.tip body)) no_calls ∙ append-nil (committing at.tip body)))) in
       let a = answered at.log round rest f in
       let none_said : messages_in rest ≡ [] = no_messages at.log round rest f in
       let said : messages_in done ≡ said_by (received_in round) =
-      ap messages_in is ∙ (messages-append came (on_disk (committing at.end body) ++ rest) ∙ (ap (λ b. said_by (received_in round) ++ b)
-      (messages-append (on_disk (committing at.end body)) rest ∙ ap₂ (λ x y. x ++ y) (messages_of_disk (committing at.end body)) none_said) ∙ append-nil (said_by (received_in round)))) in
+      ap messages_in is ∙ (messages-append came (on_disk (committing at.tip body) ++ rest) ∙ (ap (λ b. said_by (received_in round) ++ b)
+      (messages-append (on_disk (committing at.tip body)) rest ∙ ap₂ (λ x y. x ++ y) (messages_of_disk (committing at.tip body)) none_said) ∙ append-nil (said_by (received_in round)))) in
       let handed : handed_in done ≡ map spelling (answers_to at.log a.answered) =
-      ap handed_in is ∙ (handed-append came (on_disk (committing at.end body) ++ rest) ∙ (ap₂ (λ x y. x ++ y) (none_handed (received_in round))
-      (handed-append (on_disk (committing at.end body)) rest ∙ ap (λ x. x ++ handed_in rest) (handed_of_disk (committing at.end body))) ∙ a.handed)) in
-      let rests = committed file Held r.bodies at.end body r.has_log.end_is r.rest in
+      ap handed_in is ∙ (handed-append came (on_disk (committing at.tip body) ++ rest) ∙ (ap₂ (λ x y. x ++ y) (none_handed (received_in round))
+      (handed-append (on_disk (committing at.tip body)) rest ∙ ap (λ x. x ++ handed_in rest) (handed_of_disk (committing at.tip body))) ∙ a.handed)) in
+      let rests = committed file Held r.made r.bodies at.tip body r.has_log.tip_is r.rest in
       let kept = subst (λ c. LeftBy file Held c left) calls l in
-      with_it done a.answered a.kept said a.all_are handed ([], rests.1 left kept ∙ rests.0)
+      with_it done a.answered a.kept said a.all_are handed (is_has r.made (with_round r.bodies body) left r.rest.time (rests.only left kept ∙ rests.is))
 
-  pub in_round : (done : List DeskCall) → IsFront (round_calls at round) done → LeftBy file Held (disk_calls done) left → Outlives at.log done left
-  in_round done f l =
-      elim (within came (on_disk (committing at.end body) ++ on_link (answers_in at.log round)) done f) as (λ _. Outlives at.log done left) [
+  pub in_round : (done : List DeskCall) → IsFront (round_calls at round) done → LeftBy file Held (disk_calls done) left → BringsNone (seen_by file (disk_calls done)) left → Outlives at.log done left
+  in_round done f l brings =
+      elim (within came (on_disk (committing at.tip body) ++ on_link (answers_in at.log round)) done f) as (λ _. Outlives at.log done left) [
         | inl g ↦
             let first = link_front (receives (received_in round)) done g in
             let none : handed_in done ≡ [] = ap handed_in first.done_is ∙ first_handed (received_in round) first.first first.others first.all_are in
             let calls : disk_calls done ≡ [] = ap disk_calls first.done_is ∙ disk_calls_of_link first.first in
-            as_before done none (held (subst (λ c. LeftBy file Held c left) calls l))
+            as_before done none (rest_has file Held r.made r.bodies r.rest left (subst (λ c. LeftBy file Held c left) calls l))
         | inr behind ↦
-            elim (within (on_disk (committing at.end body)) (on_link (answers_in at.log round)) behind.0 behind.2) as (λ _. Outlives at.log done left) [
+            elim (within (on_disk (committing at.tip body)) (on_link (answers_in at.log round)) behind.0 behind.2) as (λ _. Outlives at.log done left) [
               | inl g ↦
-                  let some = disk_front (committing at.end body) behind.0 g in
-                  in_commit done some.0 (behind.1 ∙ ap (λ l. came ++ l) some.1) some.2 l
+                  let some = disk_front (committing at.tip body) behind.0 g in
+                  in_commit done some.0 (behind.1 ∙ ap (λ l. came ++ l) some.1) some.2 l brings
               | inr last ↦ in_answers done last.0 (behind.1 ∙ ap (λ l. came ++ l) last.1) last.2 l
             ]
       ]
@@ -242,7 +241,7 @@ record Tells (before after : Log) (calls : List DeskCall) : Type 0 where
 
 round_said : (at : Place) (round : Round) → messages_in (round_calls at round) ≡ said_by (received_in round)
 round_said at round =
-    let calls = committing at.end (changes_in at.log (received_in round)) in
+    let calls = committing at.tip (changes_in at.log (received_in round)) in
     messages-append (on_link (receives (received_in round))) (on_disk calls ++ on_link (answers_in at.log round))
     ∙ (ap (λ b. said_by (received_in round) ++ b) (messages-append (on_disk calls) (on_link (answers_in at.log round))
     ∙ ap₂ (λ x y. x ++ y) (messages_of_disk calls) (no_messages at.log round (on_link (answers_in at.log round)) (whole_front (answers_in at.log round)))) ∙ append-nil (said_by (received_in round)))
@@ -253,7 +252,7 @@ round_said at round =
 
 round_handed : (at : Place) (round : Round) → handed_in (round_calls at round) ≡ map spelling (answers_to at.log (said_by (received_in round)))
 round_handed at round =
-    let calls = committing at.end (changes_in at.log (received_in round)) in
+    let calls = committing at.tip (changes_in at.log (received_in round)) in
     handed-append (on_link (receives (received_in round))) (on_disk calls ++ on_link (answers_in at.log round))
     ∙ (ap₂ (λ x y. x ++ y) (none_handed (received_in round)) (handed-append (on_disk calls) (on_link (answers_in at.log round))
     ∙ ap (λ x. x ++ handed_in (on_link (answers_in at.log round))) (handed_of_disk calls)) ∙ handed_all at.log round)
@@ -293,60 +292,61 @@ comes_behind start at next calls rest t back =
 behind : (start at : Log) (calls rest done : List DeskCall) (left : List ℕ) → done ≡ calls ++ rest → Tells start at calls → Outlives at rest left → Outlives start done left
 behind start at calls rest done left is t o =
     subst (λ d. Outlives start d left) (sym is)
-    (outlives start o.log (calls ++ rest) left o.bodies o.end o.stands o.has_log (comes_behind start at o.log calls rest t o.comes_back))
+    (outlives start o.log (calls ++ rest) left o.made o.bodies o.tip o.stands o.has_log (comes_behind start at o.log calls rest t o.comes_back))
+
+-- a file at rest has the log of its place
+at_rest : (file : List ℕ) (Held : List ℕ → Type 0) (start : Place) (calls : List DeskCall) (left : List ℕ) → Rests file Held start → handed_in calls ≡ [] → Held left
+    → Outlives start.log calls left
+at_rest file Held start calls left r none held =
+    outlives start.log start.log calls left r.made r.bodies start.tip (rest_has file Held r.made r.bodies r.rest left held) r.has_log (unchanged start.log calls none)
 
 in_rounds : (file : List ℕ) (Held : List ℕ → Type 0) (start : Place) (rounds : List Round) (done : List DeskCall) (left : List ℕ) → Rests file Held start
-    → AllByRecursion (λ round. IsRound (received_in round)) rounds → IsFront (calls_of start rounds) done → LeftBy file Held (disk_calls done) left → Outlives start.log done left
-in_rounds file Held start [] [] left r all f l = outlives start.log start.log [] left r.bodies start.end ([], r.rest.1 left l ∙ r.rest.0) r.has_log (unchanged start.log [] refl)
-in_rounds file Held start [] (call ∷ done) left r all f l = absurd f
-in_rounds file Held start (last ∷ earlier) done left r all f l =
+    → AllByRecursion (λ round. IsRound (received_in round)) rounds → IsFront (calls_of start rounds) done → LeftBy file Held (disk_calls done) left
+    → BringsNone (seen_by file (disk_calls done)) left → Outlives start.log done left
+in_rounds file Held start [] [] left r all f l brings = at_rest file Held start [] left r refl l
+in_rounds file Held start [] (call ∷ done) left r all f l brings = absurd f
+in_rounds file Held start (last ∷ earlier) done left r all f l brings =
     let at = place_after start earlier in
     let calls = calls_of start earlier in
     elim (within calls (round_calls at last) done f) as (λ _. Outlives start.log done left) [
-      | inl g ↦ in_rounds file Held start earlier done left r all.1 g l
+      | inl g ↦ in_rounds file Held start earlier done left r all.1 g l brings
       | inr some ↦
           let parts : disk_calls done ≡ disk_calls calls ++ disk_calls some.0 = ap disk_calls some.1 ∙ disk_calls-append calls some.0 in
           let now = left_append file Held (disk_calls calls) (disk_calls some.0) left (subst (λ c. LeftBy file Held c left) parts l) in
+          let none_now = subst (λ s. BringsNone s left) (ap (seen_by file) parts ∙ seen_append file (disk_calls calls) (disk_calls some.0)) brings in
           behind start.log at.log calls some.0 done left some.1 (rounds_tell start earlier)
-          (in_round (seen_by file (disk_calls calls)) (LeftBy file Held (disk_calls calls)) at last left (rests_on file Held start earlier all.1 r) all.0 some.0 some.2 now)
+          (in_round (seen_by file (disk_calls calls)) (LeftBy file Held (disk_calls calls)) at last left (rests_on file Held start earlier all.1 r) all.0 some.0 some.2 now none_now)
     ]
 
 -- after the bind
 in_life : (file : List ℕ) (Held : List ℕ → Type 0) (start : Place) (local : Addr) (rounds : List Round) (done : List DeskCall) (left : List ℕ) → Rests file Held start
     → AllByRecursion (λ round. IsRound (received_in round)) rounds → IsFront (OnLink (Bound local) ∷ calls_of start rounds) done → LeftBy file Held (disk_calls done) left
-    → Outlives start.log done left
-in_life file Held start local rounds done left r all f l =
+    → BringsNone (seen_by file (disk_calls done)) left → Outlives start.log done left
+in_life file Held start local rounds done left r all f l brings =
     elim (within (OnLink (Bound local) ∷ []) (calls_of start rounds) done f) as (λ _. Outlives start.log done left) [
       | inl g ↦ of_bind (one_front (Bound local ∷ []) done (omega arith) g) l
       | inr some ↦
           behind start.log start.log (OnLink (Bound local) ∷ []) some.0 done left some.1 (record { log_is = refl; handed = refl })
-          (in_rounds file Held start rounds some.0 left r all some.2 (subst (λ c. LeftBy file Held (disk_calls c) left) some.1 l))
+          (in_rounds file Held start rounds some.0 left r all some.2 (subst (λ c. LeftBy file Held (disk_calls c) left) some.1 l)
+          (subst (λ c. BringsNone (seen_by file (disk_calls c)) left) some.1 brings))
     ]
   where
-    nothing : (calls : List DeskCall) → handed_in calls ≡ [] → Held left → Outlives start.log calls left
-    nothing calls none h = outlives start.log start.log calls left r.bodies start.end ([], r.rest.1 left h ∙ r.rest.0) r.has_log (unchanged start.log calls none)
-
     of_bind : (done ≡ []) ⊎ (done ≡ OnLink (Bound local) ∷ []) → LeftBy file Held (disk_calls done) left → Outlives start.log done left
-    of_bind (inl none) l = nothing done (ap handed_in none) (subst (λ c. LeftBy file Held (disk_calls c) left) none l)
-    of_bind (inr one) l = nothing done (ap handed_in one) (subst (λ c. LeftBy file Held (disk_calls c) left) one l)
+    of_bind (inl none) l = at_rest file Held start done left r (ap handed_in none) (subst (λ c. LeftBy file Held (disk_calls c) left) none l)
+    of_bind (inr one) l = at_rest file Held start done left r (ap handed_in one) (subst (λ c. LeftBy file Held (disk_calls c) left) one l)
 
-pub after_opening : (file : List ℕ) (bodies : List (List ℕ)) (opening : List DiskCall) (start : Place) (local : Addr) (rounds : List Round) (done : List DeskCall) (left : List ℕ)
-    → Finds file bodies opening → HasLog bodies start.end start.log → AllByRecursion (λ round. IsRound (received_in round)) rounds
-    → IsFront (OnLink (Bound local) ∷ calls_of start rounds) done → LeftBy file (λ c. c ≡ file) (disk_calls (on_disk opening ++ done)) left → Outlives start.log done left
-after_opening file bodies opening start local rounds done left finds has all f l =
+pub after_opening : (begins : Bool) (file : List ℕ) (opening : List DiskCall) (torn : ℕ) (start : Place) (local : Addr) (rounds : List Round) (done : List DeskCall) (left : List ℕ)
+    → Starts begins (Some file) opening torn start → (begins ≡ true → file ≡ []) → AllByRecursion (λ round. IsRound (received_in round)) rounds
+    → IsFront (OnLink (Bound local) ∷ calls_of start rounds) done → LeftBy file (λ c. c ≡ file) (disk_calls (on_disk opening ++ done)) left
+    → BringsNone (seen_by file (disk_calls (on_disk opening ++ done))) left → Outlives start.log done left
+after_opening begins file opening torn start local rounds done left starts empty all f l brings =
     let parts : disk_calls (on_disk opening ++ done) ≡ opening ++ disk_calls done = disk_calls-append (on_disk opening) done ∙ ap (λ x. x ++ disk_calls done) (disk_calls_of_disk opening) in
-    in_life (seen_by file opening) (LeftBy file (λ c. c ≡ file) opening) start local rounds done left (opened_rests file bodies opening start finds has) all f
+    in_life (seen_by file opening) (LeftBy file (λ c. c ≡ file) opening) start local rounds done left (opened_rests begins file opening torn start starts empty) all f
     (left_append file (λ c. c ≡ file) opening (disk_calls done) left (subst (λ c. LeftBy file (λ c. c ≡ file) c left) parts l))
+    (subst (λ s. BringsNone s left) (ap (seen_by file) parts ∙ seen_append file opening (disk_calls done)) brings)
 
 -- in the course of an opening
-in_cutting : (file tail : List ℕ) (bodies : List (List ℕ)) (done : List DiskCall) (left : List ℕ) → file ≡ front bodies ++ 46 ∷ tail → IsFrontOf (cutting (length (front bodies)) tail) done
-    → LeftBy file (λ c. c ≡ file) done left → HasBlocks bodies left
-in_cutting file [] bodies [] left is f l = ([], l ∙ is)
-in_cutting file [] bodies (call ∷ done) left is f l = absurd f
-in_cutting file (byte ∷ tail) bodies done left is f l = mended file (λ c. c ≡ file) bodies (byte ∷ tail, is) (λ c same. same) done left f l
-
-pub in_opening : (file : List ℕ) (bodies : List (List ℕ)) (opening done : List DiskCall) (end : ℕ) (log : Log) (left : List ℕ) → IsWhole file bodies opening → HasLog bodies end log
-    → IsFrontOf opening done → LeftBy file (λ c. c ≡ file) done left → Outlives log (on_disk done) left
-in_opening file bodies opening done end log left whole has f l =
-    outlives log log (on_disk done) left bodies end (in_cutting file whole.tail bodies done left whole.is (subst (λ c. IsFrontOf c done) whole.calls_are f) l) has
-    (unchanged log (on_disk done) (handed_of_disk done))
+pub in_opening : (file made : List ℕ) (bodies : List (List ℕ)) (opening done : List DiskCall) (tip : Tip) (log : Log) (left : List ℕ) → IsWhole file made bodies opening
+    → HasLog made bodies tip log → IsFrontOf opening done → LeftBy file (λ c. c ≡ file) done left → BringsNone (seen_by file done) left → Outlives log (on_disk done) left
+in_opening file made bodies opening done tip log left whole has f l brings =
+    outlives log log (on_disk done) left made bodies tip (opening_keeps file left made bodies opening done whole f l brings) has (unchanged log (on_disk done) (handed_of_disk done))

@@ -1,5 +1,5 @@
 -- After each round the file is at rest, and has the log.
-use Rattle.std.proofs.Common.{◌≡◌, ◌∙◌, inl, inr, ℕ, ◌*◌, ◌≤◌, refl, sym, ap, ap₂, subst, List, [], ◌∷◌, ◌++◌, length, Result, Ok, Err, append-nil, length-append, arith}
+use Rattle.std.proofs.Common.{◌≡◌, ◌∙◌, ℕ, Bool, true, false, Some, ◌*◌, ◌≤◌, refl, sym, ap, ap₂, subst, List, [], ◌∷◌, ◌++◌, length, Result, Ok, Err, append-nil, length-append, arith}
 use Rattle.std.specs.List.{AllByRecursion}
 use Rattle.ft_io.proofs.Choices.{by_cases, if_false, if_true}
 use Rattle.seq_arith.specs.Message.{Message}
@@ -9,40 +9,38 @@ use Rattle.ft_model.specs.Log.{Log, empty_log, log_after}
 use Rattle.ft_model.specs.Keys.{AreDistinct}
 use Rattle.ft_model.proofs.Asked.{entry_keys}
 use Rattle.logger_store.specs.Changes.{changes}
-use Rattle.disk.specs.Remains.{LeftBy, seen_after}
+use Rattle.disk.specs.Remains.{LeftBy}
 use Rattle.disk.specs.CallRecord.{on_link, on_disk, disk_calls}
 use Rattle.disk.specs.declared.calls.DiskCall.{DiskCall}
 use Rattle.disk.proofs.Telling.{disk_calls_of_disk}
-use Rattle.kept_log.specs.Format.{front, at_rest, IsAtRest, keeping, seen_by}
-use Rattle.kept_log.proofs.Deaths.{stays, left_append}
-use Rattle.kept_log.specs.JournaledLog.{kept_of, committing, end_after, with_round, HasLog, Waits}
-use Rattle.kept_log.specs.Startup.{Finds}
+use Rattle.kept_log.specs.Format.{tip_of, IsAtRest, keeping, making, seen_by}
+use Rattle.kept_log.specs.declared.tip.Tip.{Tip}
+use Rattle.kept_log.proofs.Deaths.{stays, left_append, seen_append}
+use Rattle.kept_log.specs.JournaledLog.{kept_of, committing, tip_after, with_round, HasLog, Waits}
 use Rattle.kept_log.proofs.Logs.{waits_more, kept_none, kept_round}
 use Rattle.kept_log.proofs.Messages.{whole}
-use Rattle.kept_log.proofs.Lives.{cut_rests, made}
+use Rattle.kept_log.proofs.Lives.{opened_rests as whole_rests, made_rests}
 use Rattle.link_parts.specs.LoggerTurns.{log_with, log_then}
 use Rattle.link_parts.specs.Receipt.{Received, datagram, silence, failure}
+use Rattle.journal_parts.specs.LoggerLife.{Starts}
 use Rattle.journal_parts.specs.Rounds.{Place, Round, IsRound, received_in, log_behind, receives, change_in, change_by, changes_in, answers_in, round_calls, place_after, calls_of}
 use Rattle.journal_laws.proofs.Saying.{disk_calls-append, disk_calls_of_link, log_said, said_by}
 use Rattle.journal_laws.proofs.Staying as change
 
-seen_on : (file : List ℕ) (calls more : List DiskCall) → seen_by file (calls ++ more) ≡ seen_by (seen_by file calls) more
-seen_on file [] more = refl
-seen_on file (call ∷ calls) more = seen_on (seen_after file call) calls more
-
 -- a file at rest, with the log of a place
 pub record Rests (file : List ℕ) (Held : List ℕ → Type 0) (at : Place) : Type 0 where
+  pub made : List ℕ
   pub bodies : List (List ℕ)
-  pub rest : IsAtRest file Held bodies
-  pub has_log : HasLog bodies at.end at.log
+  pub rest : IsAtRest file Held made bodies
+  pub has_log : HasLog made bodies at.tip at.log
 
 -- a block more, or none
-pub committed : (file : List ℕ) (Held : List ℕ → Type 0) (bodies : List (List ℕ)) (end : ℕ) (body : List ℕ) → end ≡ length (front bodies) → IsAtRest file Held bodies
-    → IsAtRest (seen_by file (committing end body)) (LeftBy file Held (committing end body)) (with_round bodies body)
-committed file Held bodies end [] is rest = rest
-committed file Held bodies end (byte ∷ body) is rest =
-    subst (λ n. IsAtRest (seen_by file (keeping n (byte ∷ body))) (LeftBy file Held (keeping n (byte ∷ body))) (bodies ++ (byte ∷ body) ∷ [])) (sym is)
-    (stays file Held bodies (byte ∷ body) rest)
+pub committed : (file : List ℕ) (Held : List ℕ → Type 0) (made : List ℕ) (bodies : List (List ℕ)) (tip : Tip) (body : List ℕ) → tip ≡ tip_of made bodies → IsAtRest file Held made bodies
+    → IsAtRest (seen_by file (committing tip body)) (LeftBy file Held (committing tip body)) made (with_round bodies body)
+committed file Held made bodies tip [] is rest = rest
+committed file Held made bodies tip (byte ∷ body) is rest =
+    subst (λ t. IsAtRest (seen_by file (keeping t (byte ∷ body))) (LeftBy file Held (keeping t (byte ∷ body))) made (bodies ++ (byte ∷ body) ∷ [])) (sym is)
+    (stays file Held made bodies (byte ∷ body) rest)
 
 none_more : (before log after : Log) (round more : List ℕ) → after ≡ log → more ≡ [] → Waits before round log → Waits before (round ++ more) after
 none_more before log after round more same none w =
@@ -91,34 +89,38 @@ few_in log (last ∷ earlier) =
     let sum = length-append (changes_in log earlier) (change_by (log_behind log earlier) last) in
     omega (arith, few, one, sum)
 
-few_round : (log : Log) (received : List Received) → IsRound received → length (changes_in log received) ≤ 381696
+pub few_round : (log : Log) (received : List Received) → IsRound received → length (changes_in log received) ≤ 381696
 few_round log [] round = absurd round
 few_round log (last ∷ earlier) (few, all) = omega (arith, few, few_in log (last ∷ earlier))
 
-has_more : (bodies : List (List ℕ)) (end : ℕ) (before log : Log) (round : List ℕ) → length round ≤ 381696 → HasLog bodies end before → Waits before round log
-    → HasLog (with_round bodies round) (end_after end round) log
-has_more bodies end before log [] few has w = kept_none bodies [] end before log refl has w
-has_more bodies end before log (byte ∷ round) few has w = kept_round bodies (byte ∷ round) end before log (λ e. cc) few has w
+has_more : (made : List ℕ) (bodies : List (List ℕ)) (tip : Tip) (before log : Log) (round : List ℕ) → length round ≤ 381696 → HasLog made bodies tip before → Waits before round log
+    → HasLog made (with_round bodies round) (tip_after tip round) log
+has_more made bodies tip before log [] few has w = kept_none made bodies [] tip before log refl has w
+has_more made bodies tip before log (byte ∷ round) few has w = kept_round made bodies (byte ∷ round) tip before log (λ e. cc) few has w
 
-pub has_round : (bodies : List (List ℕ)) (end : ℕ) (log : Log) (received : List Received) → IsRound received → HasLog bodies end log
-    → HasLog (with_round bodies (changes_in log received)) (end_after end (changes_in log received)) (log_behind log received)
-has_round bodies end log received round has =
+pub has_round : (made : List ℕ) (bodies : List (List ℕ)) (tip : Tip) (log : Log) (received : List Received) → IsRound received → HasLog made bodies tip log
+    → HasLog made (with_round bodies (changes_in log received)) (tip_after tip (changes_in log received)) (log_behind log received)
+has_round made bodies tip log received round has =
     let distinct : AreDistinct (entry_keys log) = subst (λ l. AreDistinct (entry_keys l)) (sym has.log_is) (change.distinct_all empty_log has.messages tt) in
-    has_more bodies end log (log_behind log received) (changes_in log received) (few_round log received round) has (waits log received distinct)
+    has_more made bodies tip log (log_behind log received) (changes_in log received) (few_round log received round) has (waits log received distinct)
 
-pub disk_calls_of_round : (at : Place) (round : Round) → disk_calls (round_calls at round) ≡ committing at.end (changes_in at.log (received_in round))
+pub disk_calls_of_round : (at : Place) (round : Round) → disk_calls (round_calls at round) ≡ committing at.tip (changes_in at.log (received_in round))
 disk_calls_of_round at round =
-    let calls = committing at.end (changes_in at.log (received_in round)) in
+    let calls = committing at.tip (changes_in at.log (received_in round)) in
     disk_calls-append (on_link (receives (received_in round))) (on_disk calls ++ on_link (answers_in at.log round))
     ∙ (ap₂ (λ a b. a ++ b) (disk_calls_of_link (receives (received_in round)))
     (disk_calls-append (on_disk calls) (on_link (answers_in at.log round)) ∙ ap₂ (λ a b. a ++ b) (disk_calls_of_disk calls) (disk_calls_of_link (answers_in at.log round)))
     ∙ append-nil calls)
 
 -- calls after which a file is at rest, from one that is at rest
-rests_more : (file : List ℕ) (Held : List ℕ → Type 0) (calls more : List DiskCall) (bodies : List (List ℕ)) → IsAtRest (seen_by (seen_by file calls) more) (LeftBy (seen_by file calls) (LeftBy file Held calls) more) bodies
-    → IsAtRest (seen_by file (calls ++ more)) (LeftBy file Held (calls ++ more)) bodies
-rests_more file Held calls more bodies rest =
-    (seen_on file calls more ∙ rest.0, λ c l. rest.1 c (left_append file Held calls more c l) ∙ sym (seen_on file calls more))
+rests_more : (file : List ℕ) (Held : List ℕ → Type 0) (calls more : List DiskCall) (made : List ℕ) (bodies : List (List ℕ))
+    → IsAtRest (seen_by (seen_by file calls) more) (LeftBy (seen_by file calls) (LeftBy file Held calls) more) made bodies
+    → IsAtRest (seen_by file (calls ++ more)) (LeftBy file Held (calls ++ more)) made bodies
+rests_more file Held calls more made bodies rest = record {
+  time = rest.time;
+  is = seen_append file calls more ∙ rest.is;
+  only = λ c l. rest.only c (left_append file Held calls more c l) ∙ sym (seen_append file calls more);
+}
 
 pub rests_on : (file : List ℕ) (Held : List ℕ → Type 0) (start : Place) (rounds : List Round) → AllByRecursion (λ round. IsRound (received_in round)) rounds → Rests file Held start
     → Rests (seen_by file (disk_calls (calls_of start rounds))) (LeftBy file Held (disk_calls (calls_of start rounds))) (place_after start rounds)
@@ -127,23 +129,29 @@ rests_on file Held start (last ∷ earlier) all r =
     let at = place_after start earlier in
     let before = rests_on file Held start earlier all.1 r in
     let body = changes_in at.log (received_in last) in
-    let calls : disk_calls (calls_of start earlier ++ round_calls at last) ≡ disk_calls (calls_of start earlier) ++ committing at.end body =
+    let calls : disk_calls (calls_of start earlier ++ round_calls at last) ≡ disk_calls (calls_of start earlier) ++ committing at.tip body =
     disk_calls-append (calls_of start earlier) (round_calls at last) ∙ ap (λ l. disk_calls (calls_of start earlier) ++ l) (disk_calls_of_round at last) in
-    let rest = rests_more file Held (disk_calls (calls_of start earlier)) (committing at.end body) (with_round before.bodies body)
-    (committed (seen_by file (disk_calls (calls_of start earlier))) (LeftBy file Held (disk_calls (calls_of start earlier))) before.bodies at.end body before.has_log.end_is before.rest) in
+    let rest = rests_more file Held (disk_calls (calls_of start earlier)) (committing at.tip body) before.made (with_round before.bodies body)
+    (committed (seen_by file (disk_calls (calls_of start earlier))) (LeftBy file Held (disk_calls (calls_of start earlier))) before.made before.bodies at.tip body before.has_log.tip_is before.rest) in
     record {
+      made = before.made;
       bodies = with_round before.bodies body;
-      rest = subst (λ l. IsAtRest (seen_by file l) (LeftBy file Held l) (with_round before.bodies body)) (sym calls) rest;
-      has_log = has_round before.bodies at.end at.log (received_in last) all.0 before.has_log;
+      rest = subst (λ l. IsAtRest (seen_by file l) (LeftBy file Held l) before.made (with_round before.bodies body)) (sym calls) rest;
+      has_log = has_round before.made before.bodies at.tip at.log (received_in last) all.0 before.has_log;
     }
 
-opened : (file : List ℕ) (bodies : List (List ℕ)) (opening : List DiskCall) → Finds file bodies opening → IsAtRest (seen_by file opening) (LeftBy file (λ c. c ≡ file) opening) bodies
-opened file bodies opening (inl begun) =
-    subst (λ l. IsAtRest (seen_by file l) (LeftBy file (λ c. c ≡ file) l) bodies) (sym begun.calls_are)
-    (made file begun.rest begun.is ∙ ap at_rest (sym begun.none), λ c same. same)
-opened file bodies opening (inr found) =
-    subst (λ l. IsAtRest (seen_by file l) (LeftBy file (λ c. c ≡ file) l) bodies) (sym found.calls_are) (cut_rests file found.tail bodies found.is)
-
-pub opened_rests : (file : List ℕ) (bodies : List (List ℕ)) (opening : List DiskCall) (start : Place) → Finds file bodies opening → HasLog bodies start.end start.log
+pub opened_rests : (begins : Bool) (file : List ℕ) (opening : List DiskCall) (torn : ℕ) (start : Place) → Starts begins (Some file) opening torn start → (begins ≡ true → file ≡ [])
     → Rests (seen_by file opening) (LeftBy file (λ c. c ≡ file) opening) start
-opened_rests file bodies opening start finds has = record { bodies = bodies; rest = opened file bodies opening finds; has_log = has }
+opened_rests false file opening torn start opens empty = record {
+  made = opens.made;
+  bodies = opens.bodies;
+  rest = whole_rests file opens.made opens.bodies opening (opens.finds file refl).0;
+  has_log = opens.has_log;
+}
+opened_rests true file opening torn start makes empty = record {
+  made = makes.made;
+  bodies = [];
+  rest = subst (λ l. IsAtRest (seen_by file l) (LeftBy file (λ c. c ≡ file) l) makes.made []) (sym makes.opening_is)
+      (subst (λ f. IsAtRest (seen_by f (making makes.made)) (LeftBy f (λ c. c ≡ f) (making makes.made)) makes.made []) (sym (empty refl)) (made_rests makes.made makes.has_log.time));
+  has_log = makes.has_log;
+}

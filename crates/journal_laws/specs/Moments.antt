@@ -16,7 +16,8 @@ use Rattle.disk.specs.declared.calls.DeskCall.{DeskCall}
 use Rattle.disk.specs.declared.calls.DeskCall.TheVariants.{OnLink, OnDisk}
 use Rattle.kept_log.specs.Format.{HasBlocks}
 use Rattle.kept_log.specs.JournaledLog.{HasLog}
-use Rattle.kept_log.specs.Startup.{Finds}
+use Rattle.kept_log.specs.Startup.{IsWhole}
+use Rattle.kept_log.specs.declared.tip.Tip.{Tip}
 
 -- a prefix of calls. The last one, if it is on the file, may have failed or not be finished
 abbrev pub failed_call : DeskCall → DeskCall
@@ -76,13 +77,14 @@ pub record ComesBack (before after : Log) (calls : List DeskCall) : Type 0 where
 
 -- what is left of its file is read as such a log, and as no other
 pub record Outlives (before : Log) (calls : List DeskCall) (left : List ℕ) : Type 0 where
+  pub made : List ℕ
   pub bodies : List (List ℕ)
-  pub end : ℕ
+  pub tip : Tip
   pub log : Log
-  pub stands : HasBlocks bodies left
-  pub has_log : HasLog bodies end log
+  pub stands : HasBlocks made bodies left
+  pub has_log : HasLog made bodies tip log
   pub comes_back : ComesBack before log calls
-  pub only : (others : List (List ℕ)) (opening : List DiskCall) (at : ℕ) (next : Log) → Finds left others opening → HasLog others at next → next ≡ log
+  pub only : (time : List ℕ) (others : List (List ℕ)) (opening : List DiskCall) (at : Tip) (next : Log) → IsWhole left time others opening → HasLog time others at next → next ≡ log
 
 -- these messages are packets of a world, under these numbers
 abbrev pub AreUnderWay : List Packet → List ℕ → List Message → Type 0

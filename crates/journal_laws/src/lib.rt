@@ -3,7 +3,7 @@
 //! theorem.
 #![tactic(auto)]
 
-ghost use Rattle.std.specs.Prelude.{◌≡◌, ℕ, Some, List, [], ◌∷◌, ◌++◌, map};
+ghost use Rattle.std.specs.Prelude.{◌≡◌, ℕ, Bool, true, Some, List, [], ◌∷◌, ◌++◌, map};
 ghost use Rattle.std.specs.List.{AllByRecursion};
 ghost use Rattle.std.specs.Option.{option_to_list, option_map};
 ghost use Rattle.ft_io.specs.declared.Addr.{Addr};
@@ -24,7 +24,9 @@ ghost use Rattle.disk.specs.declared.calls.DiskCall.{DiskCall};
 ghost use Rattle.disk.specs.declared.calls.DeskCall.{DeskCall};
 ghost use Rattle.disk.specs.declared.calls.DeskCall.TheVariants.{OnLink};
 ghost use Rattle.kept_log.specs.JournaledLog.{HasLog};
-ghost use Rattle.kept_log.specs.Startup.{Finds, IsWhole};
+ghost use Rattle.kept_log.specs.Format.{BringsNone, seen_by};
+ghost use Rattle.kept_log.specs.Startup.{IsWhole};
+ghost use Rattle.kept_log.specs.declared.tip.Tip.{Tip};
 ghost use Rattle.link_parts.specs.Receipt.{Received};
 ghost use Rattle.journal_parts.specs.Rounds.{Place, Round, IsRound, received_in, place_after, calls_of};
 ghost use Rattle.journal_parts.specs.LoggerLife.{Starts, IsUnanswered};
@@ -32,13 +34,13 @@ ghost use Rattle.journal_laws.specs.Moments.{IsFront, ComesBack, Outlives, AreUn
 
 use server_trait::Service;
 
-/// Once a logger's file is open, a death at any moment leaves a file that has all that was ever answered: the received messages up to the last answer, and
-/// maybe more, in their order.
+/// Once a logger's file is open, or was made in an empty one, a death at any moment leaves a file that has all that was ever answered: the received messages up
+/// to the last answer, and maybe more, in their order. The premise on the death is that no whole block is in the file that wasn't written.
 pub fn what_was_answered_is_there()
-    ensures { (file : List ℕ) (opening : List DiskCall) (start : Place) (local : Addr) (rounds : List Round) (done : List DeskCall) (left : List ℕ)
-        → Starts (Some file) opening start → AllByRecursion (λ round. IsRound (received_in round)) rounds
+    ensures { (begins : Bool) (file : List ℕ) (opening : List DiskCall) (torn : ℕ) (start : Place) (local : Addr) (rounds : List Round) (done : List DeskCall) (left : List ℕ)
+        → Starts begins (Some file) opening torn start → (begins ≡ true → file ≡ []) → AllByRecursion (λ round. IsRound (received_in round)) rounds
         → IsFront (OnLink (Bound local) ∷ calls_of start rounds) done → LeftBy file (λ c. c ≡ file) (disk_calls (on_disk opening ++ done)) left
-        → Outlives start.log done left }
+        → BringsNone (seen_by file (disk_calls (on_disk opening ++ done))) left → Outlives start.log done left }
 {}
 
 /// A logger that stopped in a round, or after its last one, has made the calls of some moment of a run. So the law before this one holds however it stops.
@@ -51,8 +53,8 @@ pub fn an_unanswered_round_is_a_moment()
 
 /// A death while a journal is opened leaves the log that the journal had.
 pub fn an_opening_takes_nothing()
-    ensures { (file : List ℕ) (bodies : List (List ℕ)) (opening done : List DiskCall) (end : ℕ) (log : Log) (left : List ℕ) → IsWhole file bodies opening → HasLog bodies end log
-        → IsFrontOf opening done → LeftBy file (λ c. c ≡ file) done left → Outlives log (on_disk done) left }
+    ensures { (file made : List ℕ) (bodies : List (List ℕ)) (opening done : List DiskCall) (tip : Tip) (log : Log) (left : List ℕ) → IsWhole file made bodies opening
+        → HasLog made bodies tip log → IsFrontOf opening done → LeftBy file (λ c. c ≡ file) done left → BringsNone (seen_by file done) left → Outlives log (on_disk done) left }
 {}
 
 /// In every world, receiving a message that was sent to the logger, and sending the log's answer to it, is the delivery of a packet.

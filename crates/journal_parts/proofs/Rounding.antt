@@ -14,7 +14,7 @@ use Rattle.seq_arith.specs.Message.{Message}
 use Rattle.seq_arith.specs.MessageGrammar.{reading}
 use Rattle.ft_model.specs.Log.{Log}
 use Rattle.logger_store.specs.StoreState.{answer_bytes}
-use Rattle.kept_log.specs.JournaledLog.{KeptState, committing, end_after}
+use Rattle.kept_log.specs.JournaledLog.{KeptState, committing, tip_after}
 use Rattle.link_parts.specs.declared.counts.Counts.{Counts}
 use Rattle.link_parts.specs.Counts.{counts_of, with_calls, no_calls, HasRoom}
 use Rattle.link_parts.specs.LoggerParts.{handing_bytes}
@@ -97,40 +97,40 @@ answers log (last ∷ earlier) calls h =
 
 -- what a round's receives leave to be committed
 record Waits (before mid : KeptState) (received : List Received) : Type 0 where
-  end : mid.end ≡ before.end
+  tip : mid.tip ≡ before.tip
   log : mid.log ≡ log_behind before.log received
   round : mid.round ≡ changes_in before.log received
 
 waits : (before mid : KeptState) (received : List Received) → before.round ≡ [] → mid ≡ with_all_received before received → Waits before mid received
 waits before mid received idle is = record {
-  end = ap (λ (k : KeptState). k.end) is;
+  tip = ap (λ (k : KeptState). k.tip) is;
   log = ap (λ (k : KeptState). k.log) is;
   round = ap (λ (k : KeptState). k.round) is ∙ ap (λ l. l ++ changes_in before.log received) idle;
 }
 
 pub turned : (count : ℕ) (before mid after : KeptState) (old t1 t2 new : Option (List DeskCall)) (c k counts : Counts) (replies : List Answer) → before.round ≡ []
-    → HasGathered count before mid old t1 c k replies → Tells t1 t2 (on_disk (committing mid.end mid.round)) → after.round ≡ [] → after.log ≡ mid.log
-    → after.end ≡ end_after mid.end mid.round → HasAnswered replies t2 new k counts → HasTurned count before after old new c counts
+    → HasGathered count before mid old t1 c k replies → Tells t1 t2 (on_disk (committing mid.tip mid.round)) → after.round ≡ [] → after.log ≡ mid.log
+    → after.tip ≡ tip_after mid.tip mid.round → HasAnswered replies t2 new k counts → HasTurned count before after old new c counts
 turned count before mid after old t1 t2 new c k counts replies idle g kept none log end a =
     let w = waits before mid g.received idle g.after_is in
     let f = answers before.log g.received a.calls (subst (λ l. AreHanded l a.calls) g.answers_are a.handed) in
     let place = place_of before in
-    let commit : committing mid.end mid.round ≡ committing before.end (changes_in before.log (received_in f.round)) =
-    ap₂ (λ x y. committing x y) w.end (w.round ∙ ap (changes_in before.log) (sym f.same)) in
+    let commit : committing mid.tip mid.round ≡ committing before.tip (changes_in before.log (received_in f.round)) =
+    ap₂ (λ x y. committing x y) w.tip (w.round ∙ ap (changes_in before.log) (sym f.same)) in
     let came : receives g.received ≡ receives (received_in f.round) = ap receives (sym f.same) in
-    let links = round_links (receives (received_in f.round)) (answers_in before.log f.round) (committing before.end (changes_in before.log (received_in f.round))) in
+    let links = round_links (receives (received_in f.round)) (answers_in before.log f.round) (committing before.tip (changes_in before.log (received_in f.round))) in
     record {
       round = f.round;
       count_is = sym (length-map f.round (λ (t : LoggerTurn). t.received)) ∙ (ap length f.same ∙ g.count_is);
       is_round = subst IsRound (sym f.same) g.is_round;
-      tells = tells_on old t1 new (on_link (receives (received_in f.round))) (on_disk (committing before.end (changes_in before.log (received_in f.round))) ++ on_link (answers_in before.log f.round))
+      tells = tells_on old t1 new (on_link (receives (received_in f.round))) (on_disk (committing before.tip (changes_in before.log (received_in f.round))) ++ on_link (answers_in before.log f.round))
           (subst (λ l. Tells old t1 (on_link l)) came g.tells)
-          (tells_on t1 t2 new (on_disk (committing before.end (changes_in before.log (received_in f.round)))) (on_link (answers_in before.log f.round))
+          (tells_on t1 t2 new (on_disk (committing before.tip (changes_in before.log (received_in f.round)))) (on_link (answers_in before.log f.round))
           (subst (λ l. Tells t1 t2 (on_disk l)) commit kept) (subst (λ l. Tells t2 new (on_link l)) f.calls_are a.tells));
       counts_are = a.counts_are ∙ (ap₂ (λ x y. with_calls x y) (g.counts_are ∙ ap (with_calls c) came) f.calls_are
           ∙ (with_both c (receives (received_in f.round)) (answers_in before.log f.round) ∙ ap (with_calls c) (sym links)));
-      place = ap₂ (λ x y. record { end = x; log = y })
-          (end ∙ (ap₂ (λ x y. end_after x y) w.end (w.round ∙ ap (changes_in before.log) (sym f.same))))
+      place = ap₂ (λ x y. record { tip = x; log = y })
+          (end ∙ (ap₂ (λ x y. tip_after x y) w.tip (w.round ∙ ap (changes_in before.log) (sym f.same))))
           (log ∙ (w.log ∙ ap (log_behind before.log) (sym f.same)));
       idle = none;
     }
@@ -149,7 +149,7 @@ cut_by_memory most at old new g = record {
 -- .. or its commit
 pub cut_by_commit : (count most : ℕ) (before mid : KeptState) (old t1 new : Option (List DeskCall)) (c k : Counts) (replies : List Answer) → count ≤ most → before.round ≡ []
     → HasGathered count before mid old t1 c k replies
-    → ((done : List DiskCall) × IsFrontOf (committing mid.end mid.round) done × Tells t1 new (on_disk done)) → (mid.round ≡ [] → ⊥) → IsCutRound most (place_of before) old new
+    → ((done : List DiskCall) × IsFrontOf (committing mid.tip mid.round) done × Tells t1 new (on_disk done)) → (mid.round ≡ [] → ⊥) → IsCutRound most (place_of before) old new
 cut_by_commit count most before mid old t1 new c k replies few idle g (done, front, told) some =
     let w = waits before mid g.received idle g.after_is in
     record {
@@ -160,7 +160,7 @@ cut_by_commit count most before mid old t1 new c k replies few idle g (done, fro
       unanswered = record {
         done = done;
         is_round = inr g.is_round;
-        front = subst (λ l. IsFrontOf l done) (ap₂ (λ x y. committing x y) w.end w.round) front;
+        front = subst (λ l. IsFrontOf l done) (ap₂ (λ x y. committing x y) w.tip w.round) front;
         calls_are = refl;
       };
       tells = tells_on old t1 new (on_link (receives g.received)) (on_disk done) g.tells told;
@@ -266,7 +266,7 @@ links_few start (last ∷ earlier) =
     let all : length (link_calls (calls_of start earlier ++ round_calls at last)) ≡ length (link_calls (calls_of start earlier)) + length (link_calls (round_calls at last)) =
     ap length (link_calls-append (calls_of start earlier) (round_calls at last)) ∙ length-append (link_calls (calls_of start earlier)) (link_calls (round_calls at last)) in
     let this : length (link_calls (round_calls at last)) ≡ length (receives (received_in last)) + length (answers_in at.log last) =
-    ap length (round_links (receives (received_in last)) (answers_in at.log last) (committing at.end (changes_in at.log (received_in last))))
+    ap length (round_links (receives (received_in last)) (answers_in at.log last) (committing at.tip (changes_in at.log (received_in last))))
     ∙ length-append (receives (received_in last)) (answers_in at.log last) in
     let came : length (receives (received_in last)) ≡ length last = receives_count (received_in last) ∙ length-map last (λ (t : LoggerTurn). t.received) in
     let told = answers_few at.log last in

@@ -15,16 +15,21 @@ use Rattle.link_parts.specs.Counts.{counts_of, with_calls, count_line}
 use Rattle.link_parts.specs.LoggerParts.{handing_bytes}
 use Rattle.link_parts.specs.LoggerTurns.{log_then, log_with, answer_for}
 use Rattle.link_parts.specs.Receipt.{Received, datagram, silence, failure, received_as}
-use Rattle.link_parts.specs.declared.status.NodeEnd.TheVariants.{NoMemory, WriteFault}
+use Rattle.link_parts.specs.declared.status.NodeEnd.TheVariants.{LinkFault, NoMemory, WriteFault}
 use Rattle.journal_parts.specs.declared.answers.Answer.{Answer}
 use Rattle.journal_parts.specs.declared.status.ProcessEnd.{ProcessEnd}
 use Rattle.journal_parts.specs.declared.status.ProcessEnd.TheVariants.{Node, JournalFault}
+use Rattle.journal_parts.specs.Ends.{cut_text}
 use Rattle.journal_parts.specs.LoggerLife.{IsStopped, IsUnanswered}
+use Rattle.journal_parts.specs.declared.role.JournalRole.{JournalRole}
+use Rattle.ft_io.specs.declared.link_call.LinkCall.TheVariants.{Bound}
+use Rattle.disk.specs.declared.calls.DeskCall.TheVariants.{OnLink}
+use Rattle.std.specs.Io.KnownBytes.{Appends}
 use Rattle.journal_parts.specs.Rounds.{Place, Round, IsDatagram, IsRound, received_in, log_behind, receives, change_in, change_by, changes_in, after_receives, round_calls, place_after, calls_of, turns_in}
 use Rattle.journal_parts.specs.Waits.{LastWants, HasReason}
 
 abbrev pub place_of : KeptState → Place
-place_of kept = record { end = kept.end; log = kept.log }
+place_of kept = record { tip = kept.tip; log = kept.log }
 
 -- after a receive: its message is applied to the log, and waits for the commit if it has changed the log
 abbrev pub with_received : KeptState → Received → KeptState
@@ -158,3 +163,34 @@ ServingStops most start old new out_old out_new _ = ⊥
 -- how rounds may stop
 abbrev pub IsServeEnd : ProcessEnd → Type 0
 IsServeEnd end = (end ≡ Node NoMemory) ⊎ (end ≡ JournalFault)
+
+-- the line of the opening, the bind, and rounds whose counts are written
+pub record HasServedNoted (role : JournalRole) (start : Place) (torn : ℕ) (old new : Option (List DeskCall)) (Writes Notes : List ℕ → Type 0) : Type 0 where
+  pub rounds : List Round
+  pub are_rounds : AllByRecursion (λ round. IsRound (received_in round)) rounds
+  pub count_is : turns_in rounds ≡ role.logger.turns
+  pub tells : Tells old new (OnLink (Bound role.logger.local) ∷ calls_of start rounds)
+  pub written : Writes (count_line (counts_of (link_calls (calls_of start rounds))))
+  pub noted : Notes (cut_text torn)
+
+-- .. and one that isn't answered
+pub record IsCutServingNoted (role : JournalRole) (start : Place) (torn : ℕ) (old new : Option (List DeskCall)) (Notes : List ℕ → Type 0) : Type 0 where
+  pub rounds : List Round
+  pub received : List Received
+  pub cut : List DeskCall
+  pub reason : IsStopped role.logger.turns start rounds received
+  pub are_rounds : AllByRecursion (λ round. IsRound (received_in round)) rounds
+  pub unanswered : IsUnanswered (place_after start rounds) received cut
+  pub within : turns_in rounds + length received ≤ role.logger.turns
+  pub tells : Tells old new (OnLink (Bound role.logger.local) ∷ (calls_of start rounds ++ cut))
+  pub noted : Notes (cut_text torn)
+
+-- how these stop
+abbrev pub ServingNotedStops : JournalRole → Place → (torn : ℕ) → (old new : Option (List DeskCall)) → (out_old out_new err_old err_new : Option (List ℕ)) → ProcessEnd → Type 0
+ServingNotedStops role start torn old new out_old out_new err_old err_new (Node LinkFault) = Tells old new [] × Appends err_old err_new (cut_text torn) × (out_new ≡ out_old)
+ServingNotedStops role start torn old new out_old out_new err_old err_new (Node WriteFault) =
+    HasServedNoted role start torn old new (AppendsFront out_old out_new) (Appends err_old err_new)
+    ⊎ (Tells old new [] × AppendsFront err_old err_new (cut_text torn) × (out_new ≡ out_old))
+ServingNotedStops role start torn old new out_old out_new err_old err_new (Node NoMemory) = IsCutServingNoted role start torn old new (Appends err_old err_new) × (out_new ≡ out_old)
+ServingNotedStops role start torn old new out_old out_new err_old err_new JournalFault = IsCutServingNoted role start torn old new (Appends err_old err_new) × (out_new ≡ out_old)
+ServingNotedStops role start torn old new out_old out_new err_old err_new _ = ⊥

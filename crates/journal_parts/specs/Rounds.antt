@@ -9,7 +9,8 @@ use Rattle.seq_arith.specs.declared.kinds.BadMsg.{BadMsg}
 use Rattle.ft_model.specs.Log.{Log}
 use Rattle.disk.specs.declared.calls.DeskCall.{DeskCall}
 use Rattle.disk.specs.CallRecord.{on_link, on_disk}
-use Rattle.kept_log.specs.JournaledLog.{kept_of, committing, end_after}
+use Rattle.kept_log.specs.JournaledLog.{kept_of, committing, tip_after}
+use Rattle.kept_log.specs.declared.tip.Tip.{Tip}
 use Rattle.link_parts.specs.LoggerTurns.{LoggerTurn, log_then, answering}
 use Rattle.link_parts.specs.Receipt.{Received, datagram, silence, failure, received_as}
 
@@ -59,18 +60,18 @@ abbrev pub answers_in : Log → Round → List LinkCall
 answers_in log [] = []
 answers_in log (last ∷ earlier) = answers_in log earlier ++ answering (log_behind log (received_in earlier)) last.is_lost last.received
 
--- a log, and the place of the closed gate of the file that has it
+-- a log, and where the next block begins in the file that has it
 pub record Place : Type 0 where
-  pub end : ℕ
+  pub tip : Tip
   pub log : Log
 
 abbrev pub after_receives : Place → List Received → Place
-after_receives at received = record { end = end_after at.end (changes_in at.log received); log = log_behind at.log received }
+after_receives at received = record { tip = tip_after at.tip (changes_in at.log received); log = log_behind at.log received }
 
 -- the calls of a round: its receives, then those that commit exactly the messages that changed the log (none if there are none), then its answers
 abbrev pub round_calls : Place → Round → List DeskCall
 round_calls at round =
-    on_link (receives (received_in round)) ++ (on_disk (committing at.end (changes_in at.log (received_in round))) ++ on_link (answers_in at.log round))
+    on_link (receives (received_in round)) ++ (on_disk (committing at.tip (changes_in at.log (received_in round))) ++ on_link (answers_in at.log round))
 
 -- log and place after rounds, the newest first
 abbrev pub place_after : Place → List Round → Place

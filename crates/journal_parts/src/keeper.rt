@@ -1,34 +1,85 @@
 //! A logger that keeps its log in a journal.
 
-ghost use Rattle.std.specs.Prelude.{◌≡◌, ◌≤◌, [], Err, IfOk, IfErr, OnOk, IsErrOf};
+ghost use Rattle.std.specs.Prelude.{◌≡◌, ◌≤◌, ◌⊎◌, ℕ, List, Option, [], true, false, Err, IfOk, IfErr, OnOk, IsErrOf};
 ghost use Rattle.std.specs.Io.KnownBytes.{Appends};
 ghost use Rattle.ft_io.specs.Faults.{Rose};
 ghost use Rattle.journal_parts.specs.Ends.{UnlessFault};
 ghost use Rattle.journal_parts.specs.LoggerLife.{IsKeeper, KeeperStops, IsOpen, OpeningStops};
-ghost use Rattle.journal_parts.specs.RoundParts.{place_of, HasLived, ServingStops};
+ghost use Rattle.journal_parts.specs.RoundParts.{place_of, HasLived, ServingStops, HasServedNoted, ServingNotedStops};
 ghost use Rattle.link_parts.specs.Ranges.{most_turns};
 
 use crate::role::JournalRole;
 use crate::rounds::serve;
-use crate::status::ProcessEnd;
+use crate::status::{Lack, ProcessEnd, note_cut};
 use disk::Desk;
 use ft_io::{Failed, Sink};
 use kept_log::KeptLog;
 use link_parts::{NodeEnd, tell_counts};
 use std::alloc::Global;
 
-/// Opens the journal of this name.
-fn open_log<K: Desk>(alloc: Global, desk: &mut K, name: &str) -> Result<KeptLog, ProcessEnd>
-    ensures opened { IfOk result (λ kept. IsOpen (K.file_of desk.old name.now) (place_of kept) (K.told desk.old) (K.told desk.new)) }
-    ensures idle { IfOk result (λ kept. kept.round ≡ []) }
-    ensures stops { IfErr result (OpeningStops (K.file_of desk.old name.now) (K.told desk.old) (K.told desk.new)) }
+/// Opens the journal of a role, or makes it. Returns how many bytes were cut off, too.
+fn open_log<K: Desk>(
+    alloc: Global,
+    desk: &mut K,
+    role: &JournalRole,
+) -> Result<(KeptLog, usize), ProcessEnd>
+    ensures opened { IfOk result (λ r. IsOpen role.now.begins (K.file_of desk.old role.now.journal) r.1 (place_of r.0) (K.told desk.old) (K.told desk.new)) }
+    ensures idle { IfOk result (λ r. r.0.round ≡ []) }
+    ensures stops { IfErr result (OpeningStops role.now.begins (K.file_of desk.old role.now.journal) (K.told desk.old) (K.told desk.new)) }
     ensures cause { IsErrOf result ProcessEnd.JournalFault → Rose (K.fault_count desk.old) (K.fault_count desk.new) }
     ensures in_use { IsErrOf result ProcessEnd.InUse → Rose (K.beside desk.old).refusals (K.beside desk.new).refusals }
+    ensures missing { result ≡ Err (ProcessEnd.NoJournal Lack.Missing) → Rose (K.beside desk.old).refusals (K.beside desk.new).refusals }
+    ensures present { result ≡ Err (ProcessEnd.NoJournal Lack.Present) → Rose (K.beside desk.old).refusals (K.beside desk.new).refusals }
+    ensures never_falls { K.fault_count desk.old ≤ K.fault_count desk.new }
+    ensures no_bind_fault { (K.beside desk.new).bind_faults ≡ (K.beside desk.old).bind_faults }
+{
+    if role.begins {
+        make_log(alloc, desk, role.journal.as_str())
+    } else {
+        find_log(alloc, desk, role.journal.as_str())
+    }
+}
+
+/// Opens the journal of this name.
+#[tactic(auto, using(crate::proofs::Living::opening_stops, crate::proofs::Living::found_opens))]
+fn find_log<K: Desk>(
+    alloc: Global,
+    desk: &mut K,
+    name: &str,
+) -> Result<(KeptLog, usize), ProcessEnd>
+    ensures opened { IfOk result (λ r. IsOpen false (K.file_of desk.old name.now) r.1 (place_of r.0) (K.told desk.old) (K.told desk.new)) }
+    ensures idle { IfOk result (λ r. r.0.round ≡ []) }
+    ensures stops { IfErr result (OpeningStops false (K.file_of desk.old name.now) (K.told desk.old) (K.told desk.new)) }
+    ensures cause { IsErrOf result ProcessEnd.JournalFault → Rose (K.fault_count desk.old) (K.fault_count desk.new) }
+    ensures in_use { IsErrOf result ProcessEnd.InUse → Rose (K.beside desk.old).refusals (K.beside desk.new).refusals }
+    ensures missing { result ≡ Err (ProcessEnd.NoJournal Lack.Missing) → Rose (K.beside desk.old).refusals (K.beside desk.new).refusals }
     ensures never_falls { K.fault_count desk.old ≤ K.fault_count desk.new }
     ensures no_bind_fault { (K.beside desk.new).bind_faults ≡ (K.beside desk.old).bind_faults }
 {
     desk.open(name)?;
     Ok(KeptLog::open(alloc, desk)?)
+}
+
+/// Makes a journal of this name, at the time of the desk's clock.
+#[tactic(auto, using(crate::proofs::Living::making_stops, crate::proofs::Living::made_opens, seq_arith::proofs::MessageSpelling::number_length))]
+fn make_log<K: Desk>(
+    alloc: Global,
+    desk: &mut K,
+    name: &str,
+) -> Result<(KeptLog, usize), ProcessEnd>
+    ensures opened { IfOk result (λ r. (file : Option (List ℕ)) → IsOpen true file r.1 (place_of r.0) (K.told desk.old) (K.told desk.new)) }
+    ensures idle { IfOk result (λ r. r.0.round ≡ []) }
+    ensures stops { IfErr result (λ end. (file : Option (List ℕ)) → OpeningStops true file (K.told desk.old) (K.told desk.new) end) }
+    ensures cause { IsErrOf result ProcessEnd.JournalFault → Rose (K.fault_count desk.old) (K.fault_count desk.new) }
+    ensures in_use { IsErrOf result ProcessEnd.InUse → Rose (K.beside desk.old).refusals (K.beside desk.new).refusals }
+    ensures present { result ≡ Err (ProcessEnd.NoJournal Lack.Present) → Rose (K.beside desk.old).refusals (K.beside desk.new).refusals }
+    ensures never_falls { K.fault_count desk.old ≤ K.fault_count desk.new }
+    ensures no_bind_fault { (K.beside desk.new).bind_faults ≡ (K.beside desk.old).bind_faults }
+{
+    desk.begin(name)?;
+    let made = desk.time();
+    let kept = KeptLog::begin(alloc, desk, made)?;
+    Ok((kept, 0))
 }
 
 /// Runs a logger after its bind: takes its rounds, and writes the line of the counts.
@@ -52,26 +103,62 @@ fn serve_and_tell<K: Desk, O: Sink>(
     Ok(tell_counts(alloc, &counts, out)?)
 }
 
-/// Runs a logger with a journal: opens its file, binds, takes its turns, and writes the counts of their calls.
-pub fn run_keeper<K: Desk, O: Sink>(
+#[tactic(auto, using(crate::proofs::Living::served_noted, crate::proofs::Living::serving_stops))]
+/// Writes how many bytes the opening has cut off. Binds, takes the turns, and writes the counts of their calls.
+fn bind_and_serve<K: Desk, O: Sink, E: Sink>(
+    alloc: Global,
+    role: &JournalRole,
+    desk: &mut K,
+    kept: &mut KeptLog,
+    torn: usize,
+    out: &mut O,
+    err: &mut E,
+) -> Result<(), ProcessEnd>
+    requires within { role.now.logger.turns ≤ most_turns }
+    requires idle { kept.old.round ≡ [] }
+    ensures done { OnOk result (HasServedNoted role.now (place_of kept.old) torn (K.told desk.old) (K.told desk.new) (Appends (O.taken out.old) (O.taken out.new)) (Appends (E.taken err.old) (E.taken err.new))) }
+    ensures stops { IfErr result (ServingNotedStops role.now (place_of kept.old) torn (K.told desk.old) (K.told desk.new) (O.taken out.old) (O.taken out.new) (E.taken err.old) (E.taken err.new)) }
+    ensures cause { IsErrOf result ProcessEnd.JournalFault → Rose (K.fault_count desk.old) (K.fault_count desk.new) }
+    ensures bind_cause { result ≡ Err (ProcessEnd.Node NodeEnd.LinkFault) → Rose (K.beside desk.old).bind_faults (K.beside desk.new).bind_faults }
+    ensures write_cause { result ≡ Err (ProcessEnd.Node NodeEnd.WriteFault) → Rose (O.fault_count out.old) (O.fault_count out.new) ⊎ Rose (E.fault_count err.old) (E.fault_count err.new) }
+    ensures no_write_fault { UnlessFault result (O.fault_count out.new ≡ O.fault_count out.old) }
+    ensures no_error { UnlessFault result (E.fault_count err.new ≡ E.fault_count err.old) }
+    ensures no_bind_fault { UnlessFault result ((K.beside desk.new).bind_faults ≡ (K.beside desk.old).bind_faults) }
+{
+    if note_cut(err, torn).is_err() {
+        return Err(ProcessEnd::Node(NodeEnd::WriteFault));
+    }
+    match desk.bind(role.logger.local) {
+        Err(Failed) => Err(ProcessEnd::Node(NodeEnd::LinkFault)),
+        Ok(()) => serve_and_tell(alloc, role.logger.turns, desk, kept, out),
+    }
+}
+
+#[tactic(auto, using(crate::proofs::Living::kept, crate::proofs::Living::life_stops, crate::proofs::Living::stops_first))]
+/// Runs a logger with a journal: opens its file or makes it, binds, takes its turns, and writes the counts of their calls.
+pub fn run_keeper<K: Desk, O: Sink, E: Sink>(
     alloc: Global,
     role: &JournalRole,
     desk: &mut K,
     out: &mut O,
+    err: &mut E,
 ) -> Result<(), ProcessEnd>
     requires { role.now.logger.turns ≤ most_turns }
-    ensures done { OnOk result (IsKeeper role.now (K.file_of desk.old role.now.journal) (K.told desk.old) (K.told desk.new) (Appends (O.taken out.old) (O.taken out.new))) }
-    ensures stops { IfErr result (KeeperStops role.now (K.file_of desk.old role.now.journal) (K.told desk.old) (K.told desk.new) (O.taken out.old) (O.taken out.new)) }
+    ensures done { OnOk result (IsKeeper role.now (K.file_of desk.old role.now.journal) (K.told desk.old) (K.told desk.new)
+        (Appends (O.taken out.old) (O.taken out.new)) (Appends (E.taken err.old) (E.taken err.new))) }
+    ensures stops { IfErr result (KeeperStops role.now (K.file_of desk.old role.now.journal) (K.told desk.old) (K.told desk.new)
+        (O.taken out.old) (O.taken out.new) (E.taken err.old) (E.taken err.new)) }
     ensures cause { IsErrOf result ProcessEnd.JournalFault → Rose (K.fault_count desk.old) (K.fault_count desk.new) }
     ensures in_use { IsErrOf result ProcessEnd.InUse → Rose (K.beside desk.old).refusals (K.beside desk.new).refusals }
+    ensures missing { result ≡ Err (ProcessEnd.NoJournal Lack.Missing) → Rose (K.beside desk.old).refusals (K.beside desk.new).refusals }
+    ensures present { result ≡ Err (ProcessEnd.NoJournal Lack.Present) → Rose (K.beside desk.old).refusals (K.beside desk.new).refusals }
     ensures bind_cause { result ≡ Err (ProcessEnd.Node NodeEnd.LinkFault) → Rose (K.beside desk.old).bind_faults (K.beside desk.new).bind_faults }
-    ensures write_cause { result ≡ Err (ProcessEnd.Node NodeEnd.WriteFault) → Rose (O.fault_count out.old) (O.fault_count out.new) }
+    ensures write_cause { result ≡ Err (ProcessEnd.Node NodeEnd.WriteFault) → Rose (O.fault_count out.old) (O.fault_count out.new) ⊎ Rose (E.fault_count err.old) (E.fault_count err.new) }
     ensures no_write_fault { UnlessFault result (O.fault_count out.new ≡ O.fault_count out.old) }
+    ensures no_error { UnlessFault result (E.fault_count err.new ≡ E.fault_count err.old) }
     ensures no_bind_fault { UnlessFault result ((K.beside desk.new).bind_faults ≡ (K.beside desk.old).bind_faults) }
 {
-    let mut kept = open_log(alloc, desk, role.journal.as_str())?;
-    match desk.bind(role.logger.local) {
-        Err(Failed) => Err(ProcessEnd::Node(NodeEnd::LinkFault)),
-        Ok(()) => serve_and_tell(alloc, role.logger.turns, desk, &mut kept, out),
-    }
+    let (kept, torn) = open_log(alloc, desk, role)?;
+    let mut kept = kept;
+    bind_and_serve(alloc, role, desk, &mut kept, torn, out, err)
 }

@@ -3,7 +3,7 @@
 
 pub use keeper::run_keeper;
 pub use role::{FileName, JournalRole, read_journal_role};
-pub use status::{ProcessEnd, tell};
+pub use status::{Lack, ProcessEnd, tell};
 
 mod answers;
 mod excluded;

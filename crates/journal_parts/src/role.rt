@@ -2,7 +2,9 @@
 
 ghost use Rattle.std.specs.Prelude.{◌≡◌, ◌≤◌, List, map, string_bytes, IfOk, IfSome};
 ghost use Rattle.link_parts.specs.Options.{Use, HasValues};
-ghost use Rattle.journal_parts.specs.Words.{file_of, journal_in, journal_of};
+ghost use Rattle.link_parts.specs.Options.{value_of};
+ghost use Rattle.link_parts.specs.declared.options.OptionName.TheVariants as option;
+ghost use Rattle.journal_parts.specs.Words.{file_of, begins_by, journal_in, journal_of};
 ghost use Rattle.link_parts.specs.Ranges.{most_turns};
 
 use clap::ArgMatches;
@@ -11,11 +13,12 @@ use link_parts::{LoggerRole, OptionName, is_name, logger_role, read_options};
 use std::alloc::Global;
 use std::marker::Model;
 
-const JOURNAL_OPTIONS: [OptionName; 4] = [
+const JOURNAL_OPTIONS: [OptionName; 5] = [
     OptionName::Local,
     OptionName::Turns,
     OptionName::Times,
     OptionName::Journal,
+    OptionName::Begin,
 ];
 
 /// The name of a file. It isn't empty and doesn't begin with `-`.
@@ -59,6 +62,19 @@ pub struct JournalRole {
     pub logger: LoggerRole,
     /// Its file.
     pub journal: FileName,
+    /// Whether it makes that file.
+    pub begins: bool,
+}
+
+/// Whether a logger makes its file, or `None` where its option has another value than `yes`.
+fn begins_at(matches: &ArgMatches<'_>) -> Option<bool>
+    ensures { (uses : List Use) → HasValues uses matches.now → result ≡ begins_by (value_of uses option.Begin) }
+{
+    match matches.get_str(OptionName::Begin.word()) {
+        None => Some(false),
+        Some(word) if word == "yes" => Some(true),
+        Some(_) => None,
+    }
 }
 
 fn journal_role(alloc: Global, matches: &ArgMatches<'_>) -> Result<Option<JournalRole>, NoMemory>
@@ -71,8 +87,15 @@ fn journal_role(alloc: Global, matches: &ArgMatches<'_>) -> Result<Option<Journa
     let Some(word) = matches.get_str(OptionName::Journal.word()) else {
         return Ok(None);
     };
+    let Some(begins) = begins_at(matches) else {
+        return Ok(None);
+    };
     match FileName::read(alloc, word)? {
-        Some(journal) => Ok(Some(JournalRole { logger, journal })),
+        Some(journal) => Ok(Some(JournalRole {
+            logger,
+            journal,
+            begins,
+        })),
         None => Ok(None),
     }
 }

@@ -1,19 +1,22 @@
 -- A file that is read: what was read, and what is left.
-use Rattle.std.proofs.Common.{◌≡◌, ◌∙◌, ℕ, Option, Some, None, List, [], ◌++◌, sym, ap, subst, append-nil, arith, ◌≤◌}
-use Rattle.std.specs.Io.KnownBytes.{IsAtEnd}
+use Rattle.std.proofs.Common.{◌≡◌, ◌∙◌, ℕ, Option, Some, None, List, [], ◌++◌, refl, sym, subst, arith, ◌≤◌}
+use Rattle.std.specs.Io.KnownBytes.{Consumes, IsAtEnd}
 use Rattle.ft_io.proofs.Choices.{same_some}
 use Rattle.ft_io.specs.Faults.{Rose}
 use Rattle.ft_io.specs.Told.{Tells}
 use Rattle.ft_io.proofs.Tellings.{tells_on}
-use Rattle.kept_log.specs.Startup.{HasNoBlock}
 
--- at a file's end nothing more follows
-pub at_end : (bytes left : List ℕ) (known : Option (List ℕ)) → HasNoBlock bytes → IsAtEnd known → known ≡ Some left → HasNoBlock (bytes ++ left)
-at_end bytes left None none end is = absurd (none_is_some (sym is))
+pub none_left : (known : Option (List ℕ)) (left : List ℕ) → IsAtEnd known → known ≡ Some left → left ≡ []
+none_left None left end is = absurd (subst (λ k. option_is k) (sym is) tt)
   where
-    none_is_some : Some left ≡ None → ⊥
-    none_is_some e = cc
-at_end bytes left (Some xs) none end is = subst HasNoBlock (sym (ap (λ (ys : List ℕ). bytes ++ ys) (sym (same_some is) ∙ end) ∙ append-nil bytes)) none
+    option_is : Option (List ℕ) → Type 0
+    option_is None = ⊥
+    option_is (Some l) = Unit {0}
+none_left (Some xs) left end is = sym (same_some is) ∙ end
+
+pub consumed : (known new : Option (List ℕ)) (more rest : List ℕ) → Consumes known new more → known ≡ Some rest → (left : List ℕ) × (new ≡ Some left) × (rest ≡ more ++ left)
+consumed known None more rest took is = absurd (subst (λ k. Consumes k None more) is took)
+consumed known (Some left) more rest took is = (left, refl, subst (λ k. Consumes k (Some left) more) is took)
 
 -- .. nor after that
 pub quiet_on : {A : Type 0} (old mid new : Option (List A)) → Tells old mid [] → Tells mid new [] → Tells old new []

@@ -1,12 +1,14 @@
-mod Blocks
+pub mod Blocks
 mod Files
+mod Headers
 pub mod Lives
 pub mod Logs
-mod Magics
 pub mod Messages
 pub mod Once
 mod Onward
 mod Settled
+mod Starts
+mod Steps
 mod Whole
 pub mod Deaths
 pub mod OneReading

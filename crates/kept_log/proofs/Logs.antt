@@ -1,25 +1,18 @@
 -- The log of blocks, and of one block more.
-use Rattle.std.proofs.Common.{◌≡◌, ◌∙◌, ℕ, ◌+◌, ◌≤◌, List, [], ◌∷◌, ◌++◌, length, refl, sym, ap, subst, Ok, arith, append_assoc, append-nil, length-append}
-use Rattle.std.specs.Int.{bytes_high_first}
+use Rattle.std.proofs.Common.{◌≡◌, ◌∙◌, ℕ, List, [], ◌∷◌, ◌++◌, length, refl, sym, ap, subst, Ok, arith, append_assoc, append-nil, length-append}
 use Rattle.std.specs.List.{AllByRecursion}
 use Rattle.seq_arith.specs.Message.{Message}
 use Rattle.seq_arith.specs.MessageGrammar.{reading}
 use Rattle.ft_model.specs.Log.{Log, log_after, empty_log}
 use Rattle.trace_laws.specs.NeededMessages.{log_after_all}
-use Rattle.kept_log.specs.Format.{counted, front}
-use Rattle.kept_log.proofs.Deaths.{front_push}
-use Rattle.kept_log.specs.MessageList.{Says, AllSay, IsRound}
+use Rattle.kept_log.specs.Format.{first_tip, next_tip, IsRound}
+use Rattle.kept_log.specs.declared.tip.Tip.{Tip}
+use Rattle.kept_log.proofs.Blocks.{tip_push}
+use Rattle.kept_log.specs.MessageList.{Says, AllSay}
 use Rattle.kept_log.specs.JournaledLog.{HasLog, Waits, with_round}
 use Rattle.kept_log.proofs.Messages.{whole}
 
-end_push : (bodies : List (List ℕ)) (body : List ℕ) → length (front (bodies ++ body ∷ [])) ≡ length (front bodies) + 5 + length body
-end_push bodies body =
-    let whole : length (front (bodies ++ body ∷ [])) ≡ length (front bodies) + length (209 ∷ counted body) =
-    ap length (front_push bodies body) ∙ length-append (front bodies) (209 ∷ counted body) in
-    let one : length (counted body) ≡ 4 + length body = length-append (bytes_high_first 4 (length body)) body in
-    omega (arith, whole, one)
-
-small_push : (bodies : List (List ℕ)) (body : List ℕ) → AllByRecursion IsRound bodies → length body ≤ 381696 → AllByRecursion IsRound (bodies ++ body ∷ [])
+small_push : (bodies : List (List ℕ)) (body : List ℕ) → AllByRecursion IsRound bodies → IsRound body → AllByRecursion IsRound (bodies ++ body ∷ [])
 small_push [] body small is = (is, tt)
 small_push (b ∷ bodies) body small is = (small.0, small_push bodies body small.1 is)
 
@@ -32,15 +25,16 @@ after_both : (log : Log) (messages news : List Message) → log_after_all (log_a
 after_both log [] news = refl
 after_both log (message ∷ messages) news = after_both (log_after log message) messages news
 
-pub no_blocks : HasLog [] 8 empty_log
-no_blocks = record { messages = []; kept = record { small = tt; say = refl }; end_is = refl; log_is = refl }
+pub no_blocks : (made : List ℕ) → length made ≡ 8 → HasLog made [] (first_tip made) empty_log
+no_blocks made time = record { time = time; messages = []; kept = record { small = tt; say = refl }; tip_is = refl; log_is = refl }
 
-pub block_more : (bodies : List (List ℕ)) (end : ℕ) (before log : Log) (body : List ℕ) → HasLog bodies end before → length body ≤ 381696 → Waits before body log
-    → HasLog (bodies ++ body ∷ []) (end + 5 + length body) log
-block_more bodies end before log body has few waits = record {
+pub block_more : (made : List ℕ) (bodies : List (List ℕ)) (tip : Tip) (before log : Log) (body : List ℕ) → HasLog made bodies tip before → IsRound body → Waits before body log
+    → HasLog made (bodies ++ body ∷ []) (next_tip tip body) log
+block_more made bodies tip before log body has few waits = record {
+  time = has.time;
   messages = has.messages ++ waits.messages;
   kept = record { small = small_push bodies body has.kept.small few; say = say_push bodies has.messages body waits.messages has.kept.say waits.says };
-  end_is = ap (λ n. n + 5 + length body) has.end_is ∙ sym (end_push bodies body);
+  tip_is = ap (λ t. next_tip t body) has.tip_is ∙ sym (tip_push made bodies body);
   log_is = waits.log_is ∙ (ap (λ l. log_after_all l waits.messages) has.log_is ∙ after_both empty_log has.messages waits.messages);
 }
 
@@ -68,12 +62,12 @@ none_waits before log round none waits = go waits.messages waits.says waits.log_
         let w = whole first message reads in
         absurd (omega (arith, w.long, ap length (sym is ∙ none), length-append first rest))
 
-pub kept_none : (bodies : List (List ℕ)) (round : List ℕ) (end : ℕ) (before log : Log) → round ≡ [] → HasLog bodies end before → Waits before round log
-    → HasLog (with_round bodies round) end log
-kept_none bodies round end before log none has waits =
-    subst (λ r. HasLog (with_round bodies r) end log) (sym none) (subst (HasLog bodies end) (sym (none_waits before log round none waits)) has)
+pub kept_none : (made : List ℕ) (bodies : List (List ℕ)) (round : List ℕ) (tip : Tip) (before log : Log) → round ≡ [] → HasLog made bodies tip before → Waits before round log
+    → HasLog made (with_round bodies round) tip log
+kept_none made bodies round tip before log none has waits =
+    subst (λ r. HasLog made (with_round bodies r) tip log) (sym none) (subst (HasLog made bodies tip) (sym (none_waits before log round none waits)) has)
 
-pub kept_round : (bodies : List (List ℕ)) (round : List ℕ) (end : ℕ) (before log : Log) → (round ≡ [] → ⊥) → length round ≤ 381696 → HasLog bodies end before → Waits before round log
-    → HasLog (with_round bodies round) (end + 5 + length round) log
-kept_round bodies [] end before log some few has waits = absurd (some refl)
-kept_round bodies (byte ∷ round) end before log some few has waits = block_more bodies end before log (byte ∷ round) has few waits
+pub kept_round : (made : List ℕ) (bodies : List (List ℕ)) (round : List ℕ) (tip : Tip) (before log : Log) → (round ≡ [] → ⊥) → IsRound round → HasLog made bodies tip before → Waits before round log
+    → HasLog made (with_round bodies round) (next_tip tip round) log
+kept_round made bodies [] tip before log some few has waits = absurd (some refl)
+kept_round made bodies (byte ∷ round) tip before log some few has waits = block_more made bodies tip before log (byte ∷ round) has few waits

@@ -1,49 +1,40 @@
 -- A file has one reading: each block says its length.
-use Rattle.std.proofs.Common.{◌≡◌, ℕ, ◌<◌, ◌^◌, List, [], ◌∷◌, ◌++◌, length, take, drop, refl, sym, ◌∙◌, ap, ap₂, arith, append_assoc}
-use Rattle.std.proofs.lemmas.List.{take_at, drop_at}
+use Rattle.std.proofs.Common.{◌≡◌, ◌∙◌, ℕ, List, [], ◌∷◌, ◌++◌, length, refl, sym, ap, ap₂, subst, append_assoc}
 use Rattle.std.specs.List.{AllByRecursion}
-use Rattle.std.specs.Int.{bytes_high_first}
-use Rattle.seq_arith.specs.MessageGrammar.{number_in, number_bytes}
-use Rattle.seq_arith.proofs.MessageSpelling.{number_length, number_back}
-use Rattle.kept_log.specs.Format.{magic, counted, blocks, HasBlocks, IsSmall}
+use Rattle.kept_log.specs.Format.{magic, salt_of, header, block, first_tip, next_tip, tip_behind, chain, HasBlocks, IsRound, BeginsNone}
+use Rattle.kept_log.specs.declared.tip.Tip.{Tip}
+use Rattle.kept_log.proofs.Blocks.{same_front, salt_long, header_long, block_once}
 
-same_front : (xs ys us vs : List ℕ) → length xs ≡ length ys → xs ++ us ≡ ys ++ vs → (xs ≡ ys) × (us ≡ vs)
-same_front xs ys us vs long is = (
-  sym (take_at xs us (length xs) refl) ∙ ap (λ (l : List ℕ). take (length xs) l) is ∙ take_at ys vs (length xs) (sym long),
-  sym (drop_at xs us (length xs) refl) ∙ ap (λ (l : List ℕ). drop (length xs) l) is ∙ drop_at ys vs (length xs) (sym long),
-)
+pub header_once : (made time xs ys : List ℕ) → length made ≡ 8 → length time ≡ 8 → header made ++ xs ≡ header time ++ ys → (made ≡ time) × (xs ≡ ys)
+header_once made time xs ys eight also is =
+    let parts = same_front (header made) (header time) xs ys (header_long made eight ∙ sym (header_long time also)) is in
+    let behind = same_front magic magic (made ++ salt_of made) (time ++ salt_of time) refl parts.0 in
+    ((same_front made time (salt_of made) (salt_of time) (eight ∙ sym also) behind.1).0, parts.1)
 
-four_length : (n : ℕ) → length (bytes_high_first 4 n) ≡ 4
-unfolding number_bytes
-four_length n = number_length 4 n
+chain_once : (tip : Tip) (bodies others : List (List ℕ)) (s t : List ℕ) → length tip.salt ≡ 16 → AllByRecursion IsRound bodies → AllByRecursion IsRound others
+    → BeginsNone (tip_behind tip bodies) s → BeginsNone (tip_behind tip others) t → chain tip bodies ++ s ≡ chain tip others ++ t → bodies ≡ others
+chain_once tip [] [] s t salt small also none none_1 is = refl
+chain_once tip [] (o ∷ others) s t salt small also none none_1 is =
+    absurd (none o (chain (next_tip tip o) others ++ t) also.0 (is ∙ append_assoc (block tip o) (chain (next_tip tip o) others) t))
+chain_once tip (b ∷ bodies) [] s t salt small also none none_1 is =
+    absurd (none_1 b (chain (next_tip tip b) bodies ++ s) small.0 (sym is ∙ append_assoc (block tip b) (chain (next_tip tip b) bodies) s))
+chain_once tip (b ∷ bodies) (o ∷ others) s t salt small also none none_1 is =
+    let spread : block tip b ++ (chain (next_tip tip b) bodies ++ s) ≡ block tip o ++ (chain (next_tip tip o) others ++ t) =
+    sym (append_assoc (block tip b) (chain (next_tip tip b) bodies) s) ∙ (is ∙ append_assoc (block tip o) (chain (next_tip tip o) others) t) in
+    let once = block_once tip b o (chain (next_tip tip b) bodies ++ s) (chain (next_tip tip o) others ++ t) salt small.0 also.0 spread in
+    let behind : chain (next_tip tip b) bodies ++ s ≡ chain (next_tip tip b) others ++ t = once.1 ∙ ap (λ (x : List ℕ). chain (next_tip tip x) others ++ t) (sym once.0) in
+    ap₂ (λ (x : List ℕ) (xs : List (List ℕ)). x ∷ xs) once.0
+    (chain_once (next_tip tip b) bodies others s t salt small.1 also.1 none (subst (λ (x : List ℕ). BeginsNone (tip_behind (next_tip tip x) others) t) (sym once.0) none_1) behind)
 
-four_back : (n : ℕ) → n < 2 ^ 32 → number_in 4 (bytes_high_first 4 n ++ []) ≡ n
-unfolding number_bytes
-four_back n small = number_back 4 n [] (omega (arith, small))
-
-same_length : (m n : ℕ) → m < 2 ^ 32 → n < 2 ^ 32 → bytes_high_first 4 m ≡ bytes_high_first 4 n → m ≡ n
-same_length m n small_m small_n is = sym (four_back m small_m) ∙ ap (λ (l : List ℕ). number_in 4 (l ++ [])) is ∙ four_back n small_n
-
-abbrev head_of : List ℕ → ℕ
-head_of [] = 0
-head_of (x ∷ xs) = x
-
-one_reading : (bodies others : List (List ℕ)) (s t : List ℕ) → AllByRecursion IsSmall bodies → AllByRecursion IsSmall others → blocks bodies ++ 46 ∷ s ≡ blocks others ++ 46 ∷ t → bodies ≡ others
-one_reading [] [] s t small also is = refl
-one_reading [] (o ∷ others) s t small also is = absurd (omega (arith, ap head_of is))
-one_reading (b ∷ bodies) [] s t small also is = absurd (omega (arith, ap head_of is))
-one_reading (b ∷ bodies) (o ∷ others) s t small also is =
-    let tails : counted b ++ (blocks bodies ++ 46 ∷ s) ≡ counted o ++ (blocks others ++ 46 ∷ t) =
-    sym (append_assoc (counted b) (blocks bodies) (46 ∷ s)) ∙ ap (λ (l : List ℕ). drop 1 l) is ∙ append_assoc (counted o) (blocks others) (46 ∷ t) in
-    let spread : bytes_high_first 4 (length b) ++ (b ++ (blocks bodies ++ 46 ∷ s)) ≡ bytes_high_first 4 (length o) ++ (o ++ (blocks others ++ 46 ∷ t)) =
-    sym (append_assoc (bytes_high_first 4 (length b)) b (blocks bodies ++ 46 ∷ s)) ∙ tails ∙ append_assoc (bytes_high_first 4 (length o)) o (blocks others ++ 46 ∷ t) in
-    let lengths = same_front (bytes_high_first 4 (length b)) (bytes_high_first 4 (length o)) (b ++ (blocks bodies ++ 46 ∷ s)) (o ++ (blocks others ++ 46 ∷ t))
-    (four_length (length b) ∙ sym (four_length (length o))) spread in
-    let bodies_are = same_front b o (blocks bodies ++ 46 ∷ s) (blocks others ++ 46 ∷ t) (same_length (length b) (length o) small.0 also.0 lengths.0) lengths.1 in
-    ap₂ (λ (x : List ℕ) (xs : List (List ℕ)). x ∷ xs) bodies_are.0 (one_reading bodies others s t small.1 also.1 bodies_are.1)
-
-pub reads_once : (file : List ℕ) (bodies others : List (List ℕ)) → AllByRecursion IsSmall bodies → AllByRecursion IsSmall others → HasBlocks bodies file → HasBlocks others file → bodies ≡ others
-reads_once file bodies others small also a b =
-    let is : magic ++ (blocks bodies ++ 46 ∷ a.0) ≡ magic ++ (blocks others ++ 46 ∷ b.0) =
-    sym (append_assoc magic (blocks bodies) (46 ∷ a.0)) ∙ sym a.1 ∙ b.1 ∙ append_assoc magic (blocks others) (46 ∷ b.0) in
-    one_reading bodies others a.0 b.0 small also (same_front magic magic (blocks bodies ++ 46 ∷ a.0) (blocks others ++ 46 ∷ b.0) refl is).1
+pub reads_once : (file made time : List ℕ) (bodies others : List (List ℕ)) → AllByRecursion IsRound bodies → AllByRecursion IsRound others
+    → HasBlocks made bodies file → HasBlocks time others file → (made ≡ time) × (bodies ≡ others)
+reads_once file made time bodies others small also a b =
+    let spread : header made ++ (chain (first_tip made) bodies ++ a.tail) ≡ header time ++ (chain (first_tip time) others ++ b.tail) =
+    sym (append_assoc (header made) (chain (first_tip made) bodies) a.tail) ∙ (sym a.is ∙ (b.is ∙ append_assoc (header time) (chain (first_tip time) others) b.tail)) in
+    let once = header_once made time (chain (first_tip made) bodies ++ a.tail) (chain (first_tip time) others ++ b.tail) a.time b.time spread in
+    let behind : chain (first_tip made) bodies ++ a.tail ≡ chain (first_tip made) others ++ b.tail =
+    once.1 ∙ ap (λ (x : List ℕ). chain (first_tip x) others ++ b.tail) (sym once.0) in (
+      once.0,
+      chain_once (first_tip made) bodies others a.tail b.tail (salt_long made) small also a.none
+          (subst (λ (x : List ℕ). BeginsNone (tip_behind (first_tip x) others) b.tail) (sym once.0) b.none) behind,
+    )

@@ -1,5 +1,5 @@
 -- A file that was read is put at rest.
-use Rattle.std.proofs.Common.{◌≡◌, ◌∙◌, inl, inr, ℕ, ◌+◌, true, false, Option, Some, List, [], ◌∷◌, length, replicate, refl, sym, ap, subst, arith, Result, Ok, Err, OnErr, IfErr, IsErrAnd}
+use Rattle.std.proofs.Common.{◌≡◌, ◌∙◌, inl, inr, ℕ, append_assoc, true, false, Option, Some, List, [], ◌∷◌, length, replicate, refl, sym, ap, subst, arith, Result, Ok, Err, OnErr, IfErr, IsErrAnd}
 use Rattle.std.specs.Result.{is_err}
 use Rattle.std.proofs.lemmas.List.{length-replicate}
 use Rattle.ft_io.specs.Told.{Tells}
@@ -11,7 +11,9 @@ use Rattle.disk.specs.declared.calls.DeskCall.{DeskCall}
 use Rattle.disk.specs.declared.calls.DeskCall.TheVariants.{OnDisk}
 use Rattle.disk.specs.Remains.{IsFrontOf, failed}
 use Rattle.disk.specs.CallRecord.{on_disk}
-use Rattle.kept_log.specs.Startup.{making, cutting, IsOpened, IsCutShort, Finds}
+use Rattle.kept_log.specs.Format.{header, first_tip, chain}
+use Rattle.kept_log.specs.declared.tip.Tip.{Tip}
+use Rattle.kept_log.specs.Startup.{cutting, IsTorn, IsOpened, IsCutShort, IsWhole}
 use Rattle.kept_log.specs.ReadSteps.{FindsAs}
 use Rattle.kept_log.specs.declared.reading.Found.TheVariants as finds
 
@@ -31,7 +33,7 @@ sync_failed first old mid new (Err e) before told =
     (first ∷ Synced true ∷ [], inl (refl, inr (refl, refl)), tells_on old mid new (OnDisk first ∷ []) (OnDisk (Synced true) ∷ []) before told)
 
 -- a tail that isn't empty is cut
-pub some_cut : (P : List DiskCall → Type 0) (end tail : ℕ) → (tail ≡ 0 → ⊥) → P (Cut (end + 1) false ∷ Synced false ∷ []) → (torn : List ℕ) → length torn ≡ tail → P (cutting end torn)
+pub some_cut : (P : List DiskCall → Type 0) (end tail : ℕ) → (tail ≡ 0 → ⊥) → P (Cut end false ∷ Synced false ∷ []) → (torn : List ℕ) → length torn ≡ tail → P (cutting end torn)
 some_cut P end tail some p [] long = absurd (some (sym long))
 some_cut P end tail some p (byte ∷ torn) long = p
 
@@ -42,62 +44,45 @@ cut_alike end (x ∷ xs) [] long = absurd (omega (arith, long))
 cut_alike end (x ∷ xs) (y ∷ ys) long = refl
 
 module _ (left : Option (List ℕ)) (old mid new : Option (List DeskCall)) (log : Log) (quiet : Tells old mid []) where
-  begun : (len : ℕ) → FindsAs left log (finds.New len) → (file : List ℕ) → left ≡ Some file → Finds file [] (making len)
-  begun len (has, few, behind) file known =
-      let found = behind file known in
-      inl (record { rest = found.1.0; is = found.1.1; none = refl; calls_are = ap making found.0 })
+  whole : (tip : Tip) (tail : ℕ) (found : FindsAs left log (finds.Whole tip tail)) (file : List ℕ) → left ≡ Some file
+      → (w : IsWhole file found.0 found.1 (cutting tip.end (replicate tail 0))) × (tail ≡ length w.tail)
+  whole tip tail (made, bodies, has, low, few, behind) file known =
+      let torn = behind file known in (
+        record {
+          time = has.time;
+          tail = torn.0;
+          is = torn.1 ∙ sym (append_assoc (header made) (chain (first_tip made) bodies) torn.0);
+          torn = subst (λ t. IsTorn t torn.0) has.tip_is torn.3;
+          calls_are = cut_alike tip.end (replicate tail 0) torn.0 (length-replicate tail 0 ∙ sym torn.2) ∙ ap (λ t. cutting t.end torn.0) has.tip_is;
+        },
+        sym torn.2,
+      )
 
-  pub begun_opened : (len : ℕ) → FindsAs left log (finds.New len) → Tells mid new (on_disk (making len)) → IsOpened left old new 8 log
-  begun_opened len found told = record {
-    bodies = [];
-    calls = making len;
-    has_log = found.0;
-    tells = tells_on old mid new [] (on_disk (making len)) quiet told;
-    finds = begun len found;
+  pub whole_opened : (tip : Tip) (tail : ℕ) → FindsAs left log (finds.Whole tip tail) → ((torn : List ℕ) → length torn ≡ tail → Tells mid new (on_disk (cutting tip.end torn)))
+      → IsOpened left old new tip tail log
+  whole_opened tip tail found told = record {
+    made = found.0;
+    bodies = found.1;
+    calls = cutting tip.end (replicate tail 0);
+    has_log = found.2;
+    tells = tells_on old mid new [] (on_disk (cutting tip.end (replicate tail 0))) quiet (told (replicate tail 0) (length-replicate tail 0));
+    finds = whole tip tail found;
   }
 
-  pub begun_stopped : (len : ℕ) → FindsAs left log (finds.New len) → IsFrontTold (making len) mid new → IsCutShort left old new
-  begun_stopped len found (done, is, told) = record {
-    bodies = [];
-    messages = found.0.messages;
-    calls = making len;
-    done = done;
-    kept = found.0.kept;
-    is_front = is;
-    tells = tells_on old mid new [] (on_disk done) quiet told;
-    finds = begun len found;
-  }
-
-  whole : (end tail : ℕ) (found : FindsAs left log (finds.Whole end tail)) (file : List ℕ) → left ≡ Some file → Finds file found.0 (cutting end (replicate tail 0))
-  whole end tail (bodies, has, low, few, behind) file known =
-      let torn = behind file known in
-      inr (record {
-        tail = torn.0;
-        is = torn.1;
-        torn = omega (arith, torn.2, few);
-        calls_are = cut_alike end (replicate tail 0) torn.0 (length-replicate tail 0 ∙ sym torn.2) ∙ ap (λ n. cutting n torn.0) has.end_is;
-      })
-
-  pub whole_opened : (end tail : ℕ) → FindsAs left log (finds.Whole end tail) → ((torn : List ℕ) → length torn ≡ tail → Tells mid new (on_disk (cutting end torn)))
-      → IsOpened left old new end log
-  whole_opened end tail found told = record {
-    bodies = found.0;
-    calls = cutting end (replicate tail 0);
-    has_log = found.1;
-    tells = tells_on old mid new [] (on_disk (cutting end (replicate tail 0))) quiet (told (replicate tail 0) (length-replicate tail 0));
-    finds = whole end tail found;
-  }
-
-  pub whole_stopped : (end tail : ℕ) → FindsAs left log (finds.Whole end tail) → ((torn : List ℕ) → length torn ≡ tail → IsFrontTold (cutting end torn) mid new) → IsCutShort left old new
-  whole_stopped end tail found front = record {
-    bodies = found.0;
-    messages = found.1.messages;
-    calls = cutting end (replicate tail 0);
+  pub whole_stopped : (tip : Tip) (tail : ℕ) → FindsAs left log (finds.Whole tip tail) → ((torn : List ℕ) → length torn ≡ tail → IsFrontTold (cutting tip.end torn) mid new)
+      → IsCutShort left old new
+  whole_stopped tip tail found front = record {
+    made = found.0;
+    bodies = found.1;
+    messages = found.2.messages;
+    calls = cutting tip.end (replicate tail 0);
     done = (front (replicate tail 0) (length-replicate tail 0)).0;
-    kept = found.1.kept;
+    kept = found.2.kept;
     is_front = (front (replicate tail 0) (length-replicate tail 0)).1;
     tells = tells_on old mid new [] (on_disk (front (replicate tail 0) (length-replicate tail 0)).0) quiet (front (replicate tail 0) (length-replicate tail 0)).2;
-    finds = whole end tail found;
+    cut = tail;
+    time = found.2.time;
+    finds = whole tip tail found;
   }
 
 -- an error that is known

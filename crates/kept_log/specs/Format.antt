@@ -1,59 +1,105 @@
--- A journal's file: a magic, then blocks, each of them an open gate (209), the length of its body in four bytes, high byte first, and the body; then a closed
--- gate (46, the complement of 209), and after that whatever a death has left there.
-use Rattle.std.specs.Prelude.{◌≡◌, ℕ, ◌+◌, ◌<◌, ◌^◌, false, List, [], ◌∷◌, ◌++◌, length, codes}
-use Rattle.std.specs.Int.{bytes_high_first}
+-- A journal's file, version 2: a header, then blocks, of which each has a digest of all that comes before it, and after them whatever a death has left there.
+-- The header has the time at which the file was made, and a digest of it, which is the journal's salt. The salt is in each block, so a block is recognised
+-- wherever it is, and no block of another journal passes for one of this.
+use Rattle.std.specs.Prelude.{◌≡◌, ℕ, ◌+◌, ◌≤◌, false, List, [], ◌∷◌, ◌++◌, length, take, codes}
+use Rattle.sha2.specs.Sha256.{sha256}
+use Rattle.seq_arith.specs.MessageGrammar.{number_bytes}
 use Rattle.disk.specs.declared.calls.DiskCall.{DiskCall}
-use Rattle.disk.specs.declared.calls.DiskCall.TheVariants.{Appended, Put, Cut, Synced}
+use Rattle.disk.specs.declared.calls.DiskCall.TheVariants.{Appended, Cut, Synced}
 use Rattle.disk.specs.Remains.{seen_after}
+use Rattle.kept_log.specs.declared.tip.Tip.{Tip}
 
 abbrev pub magic : List ℕ
-magic = codes "ftlog 1\n"
+magic = codes "ftlog 2\n"
 
--- a body and its length
-abbrev pub counted : List ℕ → List ℕ
-counted body = bytes_high_first 4 (length body) ++ body
+-- the first 16 bytes of SHA-256 (FIPS 180-4)
+unfoldable pub digest : List ℕ → List ℕ
+digest bytes = take 16 (sha256 bytes)
+
+-- `made`: eight bytes, the nanoseconds since 1970 at which the file was made
+unfoldable pub salt_of : (made : List ℕ) → List ℕ
+salt_of made = digest (magic ++ made)
+
+abbrev pub header : (made : List ℕ) → List ℕ
+header made = magic ++ (made ++ salt_of made)
+
+-- where a block begins (`end`, in bytes), its number, and the digest of the block before it; the first block has the salt there
+abbrev pub first_tip : (made : List ℕ) → Tip
+first_tip made = record { salt = salt_of made; number = 1; previous = salt_of made; end = 32 }
+
+-- a block's digest: of the digest before it, its number, its length and its body
+unfoldable pub seal : Tip → (body : List ℕ) → List ℕ
+seal tip body = digest (((tip.previous ++ number_bytes 8 tip.number) ++ number_bytes 4 (length body)) ++ body)
+
+-- what comes before its body
+unfoldable pub head : Tip → (body : List ℕ) → List ℕ
+head tip body = tip.salt ++ (number_bytes 8 tip.number ++ (seal tip body ++ number_bytes 4 (length body)))
+
+abbrev pub block : Tip → (body : List ℕ) → List ℕ
+block tip body = head tip body ++ body
+
+-- where the next block begins
+abbrev pub next_tip : Tip → (body : List ℕ) → Tip
+next_tip tip body = record tip { number = tip.number + 1; previous = seal tip body; end = tip.end + 44 + length body }
+
+abbrev pub tip_behind : Tip → (bodies : List (List ℕ)) → Tip
+tip_behind tip [] = tip
+tip_behind tip (body ∷ bodies) = tip_behind (next_tip tip body) bodies
 
 -- the blocks of these bodies, the oldest first
-abbrev pub blocks : List (List ℕ) → List ℕ
-blocks [] = []
-blocks (body ∷ bodies) = 209 ∷ counted body ++ blocks bodies
+abbrev pub chain : Tip → (bodies : List (List ℕ)) → List ℕ
+chain tip [] = []
+chain tip (body ∷ bodies) = block tip body ++ chain (next_tip tip body) bodies
 
--- all bytes before the closed gate
-abbrev pub front : List (List ℕ) → List ℕ
-front bodies = magic ++ blocks bodies
+-- all bytes of a journal, and where its next block begins
+abbrev pub front : (made : List ℕ) (bodies : List (List ℕ)) → List ℕ
+front made bodies = header made ++ chain (first_tip made) bodies
 
--- a file is read as the bodies of the blocks before its closed gate
-abbrev pub HasBlocks : List (List ℕ) → List ℕ → Type 0
-HasBlocks bodies file = (tail : List ℕ) × (file ≡ front bodies ++ 46 ∷ tail)
+abbrev pub tip_of : (made : List ℕ) (bodies : List (List ℕ)) → Tip
+tip_of made bodies = tip_behind (first_tip made) bodies
 
--- .. with nothing after that gate
-abbrev pub at_rest : List (List ℕ) → List ℕ
-at_rest bodies = front bodies ++ 46 ∷ []
+-- a block has the messages of one round, at most as long as 256 of the longest
+abbrev pub IsRound : (body : List ℕ) → Type 0
+IsRound body = length body ≤ 381696
 
--- nothing comes after the closed gate, and a death changes nothing
-abbrev pub IsAtRest : List ℕ → (List ℕ → Type 0) → List (List ℕ) → Type 0
-IsAtRest file Held bodies = (file ≡ at_rest bodies) × ((c : List ℕ) → Held c → c ≡ file)
+-- these bytes don't begin with this block, whatever its body is
+abbrev pub BeginsNone : Tip → (bytes : List ℕ) → Type 0
+BeginsNone tip bytes = (body rest : List ℕ) → IsRound body → bytes ≡ block tip body ++ rest → ⊥
 
--- a length has four bytes
-abbrev pub IsSmall : List ℕ → Type 0
-IsSmall body = length body < 2 ^ 32
+-- a file is read as these blocks: no further one follows
+pub record HasBlocks (made : List ℕ) (bodies : List (List ℕ)) (file : List ℕ) : Type 0 where
+  pub time : length made ≡ 8
+  pub tail : List ℕ
+  pub is : file ≡ front made bodies ++ tail
+  pub none : BeginsNone (tip_of made bodies) tail
 
--- what is appended after the closed gate: the body with its length, and the next closed gate
-abbrev pub sized : List ℕ → List ℕ
-sized body = bytes_high_first 4 (length body) ++ (body ++ 46 ∷ [])
+-- nothing comes after the blocks, and a death changes nothing
+pub record IsAtRest (file : List ℕ) (Held : List ℕ → Type 0) (made : List ℕ) (bodies : List (List ℕ)) : Type 0 where
+  pub time : length made ≡ 8
+  pub is : file ≡ front made bodies
+  pub only : (c : List ℕ) → Held c → c ≡ file
 
--- the calls that append a body, after a closed gate at this place
-abbrev pub keeping : ℕ → List ℕ → List DiskCall
-keeping end body = Appended (sized body) false ∷ Synced false ∷ Put end 209 false ∷ Synced false ∷ []
+-- The one premise on what a death leaves, where a read before it gave `seen`: all whole blocks that the file begins with were written. So what is behind
+-- the last synced byte doesn't begin with a whole block, unless that is the one which was being written. Of a digest nothing else is assumed
+abbrev pub BringsNone : (seen left : List ℕ) → Type 0
+BringsNone seen left = (made : List ℕ) (bodies : List (List ℕ)) (rest : List ℕ) → left ≡ front made bodies ++ rest → (more : List ℕ) × (seen ≡ front made bodies ++ more)
 
--- the calls that cut off what comes after the closed gate at this place
-abbrev pub mending : ℕ → List DiskCall
-mending end = Cut (end + 1) false ∷ Synced false ∷ []
+-- the calls that append a block
+abbrev pub keeping : Tip → (body : List ℕ) → List DiskCall
+keeping tip body = Appended (block tip body) false ∷ Synced false ∷ []
 
--- the calls that append bodies, one after the other
-abbrev pub all_kept : List (List ℕ) → List (List ℕ) → List DiskCall
-all_kept bodies [] = []
-all_kept bodies (body ∷ kept) = keeping (length (front bodies)) body ++ all_kept (bodies ++ body ∷ []) kept
+-- the calls that cut off what comes after the blocks
+abbrev pub mending : (end : ℕ) → List DiskCall
+mending end = Cut end false ∷ Synced false ∷ []
+
+-- the calls that make a journal in an empty file
+abbrev pub making : (made : List ℕ) → List DiskCall
+making made = Appended (header made) false ∷ Synced false ∷ []
+
+-- the calls that append blocks, one after the other
+abbrev pub all_kept : Tip → (bodies : List (List ℕ)) → List DiskCall
+all_kept tip [] = []
+all_kept tip (body ∷ bodies) = keeping tip body ++ all_kept (next_tip tip body) bodies
 
 -- what a read would give after calls
 abbrev pub seen_by : List ℕ → List DiskCall → List ℕ

@@ -1,16 +1,17 @@
 -- A log whose changes are in a journal, except for those of the round that isn't committed yet.
-use Rattle.std.specs.Prelude.{◌≡◌, ◌+◌, ℕ, Bool, List, [], ◌∷◌, ◌++◌, length, nat_lt, if◌then◌else◌}
+use Rattle.std.specs.Prelude.{◌≡◌, ℕ, Bool, List, [], ◌∷◌, ◌++◌, length, nat_lt, if◌then◌else◌}
 use Rattle.seq_arith.specs.Message.{Message}
 use Rattle.ft_model.specs.Log.{Log, empty_log}
 use Rattle.trace_laws.specs.NeededMessages.{log_after_all}
 use Rattle.logger_store.specs.Changes.{changes}
 use Rattle.disk.specs.declared.calls.DiskCall.{DiskCall}
-use Rattle.kept_log.specs.Format.{front, keeping}
+use Rattle.kept_log.specs.Format.{tip_of, next_tip, keeping}
 use Rattle.kept_log.specs.MessageList.{Says, AreKept}
+use Rattle.kept_log.specs.declared.tip.Tip.{Tip}
 
 pub record KeptState : Type 0 where
   pub log : Log
-  pub end : ℕ  -- the place of the closed gate in the file
+  pub tip : Tip  -- where the next block begins in the file
   pub round : List ℕ  -- the messages that have changed the log since the last commit, byte for byte as they came
 
 -- no room is left for one more message of the greatest length
@@ -22,23 +23,24 @@ abbrev pub kept_of : Log → Message → List ℕ → List ℕ
 kept_of log message bytes = if changes log message then bytes else []
 
 -- the calls that commit a round: none if it is empty
-abbrev pub committing : ℕ → List ℕ → List DiskCall
-committing end [] = []
-committing end (byte ∷ round) = keeping end (byte ∷ round)
+abbrev pub committing : Tip → List ℕ → List DiskCall
+committing tip [] = []
+committing tip (byte ∷ round) = keeping tip (byte ∷ round)
 
-abbrev pub end_after : ℕ → List ℕ → ℕ
-end_after end [] = end
-end_after end (byte ∷ round) = end + 5 + length (byte ∷ round)
+abbrev pub tip_after : Tip → List ℕ → Tip
+tip_after tip [] = tip
+tip_after tip (byte ∷ round) = next_tip tip (byte ∷ round)
 
 abbrev pub with_round : List (List ℕ) → List ℕ → List (List ℕ)
 with_round bodies [] = bodies
 with_round bodies (byte ∷ round) = bodies ++ (byte ∷ round) ∷ []
 
--- the log of the blocks before the closed gate at this place
-pub record HasLog (bodies : List (List ℕ)) (end : ℕ) (log : Log) : Type 0 where
+-- the log of the blocks before this place
+pub record HasLog (made : List ℕ) (bodies : List (List ℕ)) (tip : Tip) (log : Log) : Type 0 where
+  pub time : length made ≡ 8
   pub messages : List Message
   pub kept : AreKept bodies messages
-  pub end_is : end ≡ length (front bodies)
+  pub tip_is : tip ≡ tip_of made bodies
   pub log_is : log ≡ log_after_all empty_log messages
 
 -- a log after the uncommitted round, from the log before it

@@ -1,8 +1,9 @@
 -- The messages that bytes spell, one after the other. Each has its length in its header.
-use Rattle.std.specs.Prelude.{◌≡◌, ◌≤◌, ℕ, List, [], ◌∷◌, ◌++◌, length, Ok}
+use Rattle.std.specs.Prelude.{◌≡◌, ℕ, List, [], ◌∷◌, ◌++◌, Ok}
 use Rattle.std.specs.List.{AllByRecursion}
 use Rattle.seq_arith.specs.Message.{Message}
 use Rattle.seq_arith.specs.MessageGrammar.{reading}
+use Rattle.kept_log.specs.Format.{IsRound}
 
 abbrev pub Says : List ℕ → List Message → Type 0
 Says bytes [] = bytes ≡ []
@@ -12,10 +13,6 @@ Says bytes (message ∷ messages) = (first : List ℕ) × (rest : List ℕ) × (
 abbrev pub AllSay : List (List ℕ) → List Message → Type 0
 AllSay [] messages = messages ≡ []
 AllSay (body ∷ bodies) messages = (first : List Message) × (rest : List Message) × (messages ≡ first ++ rest) × Says body first × AllSay bodies rest
-
--- a block has the messages of one round, at most as long as 256 of the longest
-abbrev pub IsRound : List ℕ → Type 0
-IsRound body = length body ≤ 381696
 
 -- these bodies of blocks spell these messages
 pub record AreKept (bodies : List (List ℕ)) (messages : List Message) : Type 0 where

@@ -1,98 +1,124 @@
--- How a journal's file is opened: which files can be read, and which calls leave nothing after their closed gate.
-use Rattle.std.specs.Prelude.{◌≡◌, ◌⊎◌, ◌≤◌, ◌<◌, ℕ, false, List, [], ◌∷◌, ◌++◌, length, drop, Some}
+-- How a journal's file is opened: which files can be read, and which calls leave nothing after their blocks.
+use Rattle.std.specs.Prelude.{◌≡◌, ◌⊎◌, ◌≤◌, ◌<◌, ℕ, List, [], ◌∷◌, ◌++◌, length, codes, Some}
 use Rattle.std.specs.declared.option.Option.{Option}
 use Rattle.seq_arith.specs.Message.{Message}
+use Rattle.seq_arith.specs.MessageGrammar.{number_in}
 use Rattle.ft_model.specs.Log.{Log}
 use Rattle.ft_io.specs.Told.{Tells}
 use Rattle.disk.specs.declared.calls.DiskCall.{DiskCall}
-use Rattle.disk.specs.declared.calls.DiskCall.TheVariants.{Appended, Synced}
 use Rattle.disk.specs.declared.calls.DeskCall.{DeskCall}
 use Rattle.disk.specs.Remains.{IsFrontOf}
 use Rattle.disk.specs.CallRecord.{on_disk}
-use Rattle.kept_log.specs.Format.{magic, counted, front, at_rest, mending}
+use Rattle.kept_log.specs.Format.{magic, header, block, front, tip_of, mending, making, IsRound, BeginsNone}
+use Rattle.kept_log.specs.declared.tip.Tip.{Tip}
 use Rattle.kept_log.specs.declared.journal.KeepEnd.{KeepEnd}
 use Rattle.kept_log.specs.declared.journal.KeepEnd.TheVariants as reads
 use Rattle.kept_log.specs.MessageList.{Says, AreKept}
 use Rattle.kept_log.specs.JournaledLog.{HasLog}
 use Rattle.kept_log.specs.declared.opening.OpenEnd.{OpenEnd}
-use Rattle.kept_log.specs.declared.opening.OpenEnd.TheVariants.{NoMemory, Failed, Wrong}
+use Rattle.kept_log.specs.declared.opening.OpenEnd.TheVariants.{NoMemory, Failed, Empty, Unfinished, Older, Wrong}
 
--- the calls that complete a new journal, of which the file has this many bytes
-abbrev pub making : ℕ → List DiskCall
-making len = Appended (drop len (at_rest [])) false ∷ Synced false ∷ []
-
--- the calls that cut off what a death has left after the closed gate: none if nothing is there
+-- the calls that cut off what a death has left after the blocks: none if nothing is there
 abbrev pub cutting : ℕ → List ℕ → List DiskCall
 cutting end [] = []
 cutting end (byte ∷ tail) = mending end
 
--- a prefix of the magic, or all of it: a file whose creation wasn't completed
-pub record IsBegun (file : List ℕ) (bodies : List (List ℕ)) (calls : List DiskCall) : Type 0 where
-  pub rest : List ℕ
-  pub is : file ++ rest ≡ magic
-  pub none : bodies ≡ []
-  pub calls_are : calls ≡ making (length file)
+-- a block begins here, so many bytes after the whole ones, that is later than the next one; or the next one, but not right after them
+pub record IsMark (tip : Tip) (at : ℕ) (bytes : List ℕ) : Type 0 where
+  pub behind : List ℕ
+  pub is : bytes ≡ tip.salt ++ behind
+  pub long : 8 ≤ length behind
+  pub later : (tip.number < number_in 8 behind) ⊎ ((tip.number ≡ number_in 8 behind) × (0 < at))
 
--- blocks, the closed gate, and after it what a death has left there: no more bytes than the longest block has
-pub record IsWhole (file : List ℕ) (bodies : List (List ℕ)) (calls : List DiskCall) : Type 0 where
+-- .. or somewhere in these bytes: then more than one block came after the whole ones, and that isn't what a death leaves
+abbrev pub IsFollowed : Tip → (bytes : List ℕ) → Type 0
+IsFollowed tip bytes = (before : List ℕ) × (rest : List ℕ) × (bytes ≡ before ++ rest) × IsMark tip (length before) rest
+
+-- what a death may have left after the blocks: a part of one block
+pub record IsTorn (tip : Tip) (tail : List ℕ) : Type 0 where
+  pub few : length tail ≤ 381740  -- the longest block
+  pub none : BeginsNone tip tail
+  pub last : IsFollowed tip tail → ⊥
+
+-- a file with these blocks, and the calls that leave nothing after them
+pub record IsWhole (file made : List ℕ) (bodies : List (List ℕ)) (calls : List DiskCall) : Type 0 where
+  pub time : length made ≡ 8
   pub tail : List ℕ
-  pub is : file ≡ front bodies ++ 46 ∷ tail
-  pub torn : length tail ≤ 381701
-  pub calls_are : calls ≡ cutting (length (front bodies)) tail
+  pub is : file ≡ front made bodies ++ tail
+  pub torn : IsTorn (tip_of made bodies) tail
+  pub calls_are : calls ≡ cutting (tip_of made bodies).end tail
 
--- a file, its blocks, and the calls that leave nothing after its closed gate
-abbrev pub Finds : List ℕ → List (List ℕ) → List DiskCall → Type 0
-Finds file bodies calls = IsBegun file bodies calls ⊎ IsWhole file bodies calls
+-- these bytes begin neither with a block whose body is messages, nor are they what a death leaves
+pub record HasNoBlock (tip : Tip) (bytes : List ℕ) : Type 0 where
+  pub no_end : IsTorn tip bytes → ⊥
+  pub no_block : (body rest : List ℕ) (messages : List Message) → IsRound body → bytes ≡ block tip body ++ rest → Says body messages → ⊥
 
--- these bytes begin with no block whose body is messages, nor are they a closed gate with so few bytes after it
-pub record HasNoBlock (bytes : List ℕ) : Type 0 where
-  pub no_end : (tail : List ℕ) → bytes ≡ 46 ∷ tail → length tail ≤ 381701 → ⊥
-  pub no_block : (body rest : List ℕ) (messages : List Message) → bytes ≡ 209 ∷ (counted body ++ rest) → length body ≤ 381696 → Says body messages → ⊥
+-- a file of the first version
+abbrev pub IsOlder : (file : List ℕ) → Type 0
+IsOlder file = (rest : List ℕ) × (file ≡ codes "ftlog 1\n" ++ rest)
+
+-- a part of a header and nothing more: of a file whose making wasn't finished, or that was cut
+abbrev pub IsUnfinished : (file : List ℕ) → Type 0
+IsUnfinished file = (length file < 32) × ((rest : List ℕ) × ((file ++ rest ≡ magic) ⊎ (file ≡ magic ++ rest)))
 
 -- a file that is no journal at all
-pub record HasNoMagic (file : List ℕ) : Type 0 where
-  pub not_begun : (rest : List ℕ) → file ++ rest ≡ magic → ⊥
-  pub no_magic : (rest : List ℕ) → file ≡ magic ++ rest → ⊥
+pub record HasNoHeader (file : List ℕ) : Type 0 where
+  pub not_older : IsOlder file → ⊥
+  pub not_unfinished : IsUnfinished file → ⊥
+  pub no_header : (made rest : List ℕ) → length made ≡ 8 → file ≡ header made ++ rest → ⊥
 
--- a journal that is damaged in the block at this place: all blocks before it are complete
+-- a journal that is damaged at this place: all blocks before it are complete
 pub record IsBroken (at : ℕ) (file : List ℕ) : Type 0 where
+  pub made : List ℕ
   pub bodies : List (List ℕ)
   pub messages : List Message
   pub rest : List ℕ
-  pub is : file ≡ front bodies ++ rest
+  pub time : length made ≡ 8
+  pub is : file ≡ front made bodies ++ rest
   pub kept : AreKept bodies messages
-  pub at_is : at ≡ length (front bodies)
-  pub none : HasNoBlock rest
-  pub longer : length magic < length file
+  pub at_is : at ≡ (tip_of made bodies).end
+  pub none : HasNoBlock (tip_of made bodies) rest
 
--- the place is where neither a block follows nor a closed gate with so few bytes after it, and 0 if the magic is missing
-abbrev pub IsDamaged : ℕ → List ℕ → Type 0
-IsDamaged at file = ((at ≡ 0) × HasNoMagic file) ⊎ IsBroken at file
+-- the place is where neither a block follows nor what a death leaves, and 0 if the header isn't whole
+abbrev pub IsDamaged : (at : ℕ) (file : List ℕ) → Type 0
+IsDamaged at file = ((at ≡ 0) × HasNoHeader file) ⊎ IsBroken at file
 
--- what holds after an opening, of a file that had these bytes: its blocks have the log, and the recorded calls have left nothing after its closed gate
-pub record IsOpened (left : Option (List ℕ)) (old new : Option (List DeskCall)) (end : ℕ) (log : Log) : Type 0 where
+-- what holds after an opening, of a file that had these bytes: its blocks have the log, and the recorded calls have cut off so many bytes behind them
+pub record IsOpened (left : Option (List ℕ)) (old new : Option (List DeskCall)) (tip : Tip) (cut : ℕ) (log : Log) : Type 0 where
+  pub made : List ℕ
   pub bodies : List (List ℕ)
   pub calls : List DiskCall
-  pub has_log : HasLog bodies end log
+  pub has_log : HasLog made bodies tip log
   pub tells : Tells old new (on_disk calls)
-  pub finds : (file : List ℕ) → left ≡ Some file → Finds file bodies calls
+  pub finds : (file : List ℕ) → left ≡ Some file → (whole : IsWhole file made bodies calls) × (cut ≡ length whole.tail)
 
 -- a prefix of such calls, whose last call may have failed
 pub record IsCutShort (left : Option (List ℕ)) (old new : Option (List DeskCall)) : Type 0 where
+  pub made : List ℕ
   pub bodies : List (List ℕ)
   pub messages : List Message
   pub calls : List DiskCall
   pub done : List DiskCall
   pub kept : AreKept bodies messages
+  pub cut : ℕ
+  pub time : length made ≡ 8
   pub is_front : IsFrontOf calls done
   pub tells : Tells old new (on_disk done)
-  pub finds : (file : List ℕ) → left ≡ Some file → Finds file bodies calls
+  pub finds : (file : List ℕ) → left ≡ Some file → (whole : IsWhole file made bodies calls) × (cut ≡ length whole.tail)
 
 -- how an opening stops early: no call has changed the file, unless one of those calls failed
 abbrev pub HasStopped : (left : Option (List ℕ)) (old new : Option (List DeskCall)) → OpenEnd → Type 0
 HasStopped left old new NoMemory = Tells old new []
+HasStopped left old new Empty = Tells old new [] × ((file : List ℕ) → left ≡ Some file → file ≡ [])
+HasStopped left old new Unfinished = Tells old new [] × ((file : List ℕ) → left ≡ Some file → IsUnfinished file)
+HasStopped left old new Older = Tells old new [] × ((file : List ℕ) → left ≡ Some file → IsOlder file)
 HasStopped left old new (Wrong at) = Tells old new [] × ((file : List ℕ) → left ≡ Some file → IsDamaged at file)
 HasStopped left old new Failed = Tells old new [] ⊎ IsCutShort left old new
+
+-- how the making of a journal stops early: nothing was called, or a prefix of the calls that make it, whose last call failed
+abbrev pub HasNotBegun : (made : List ℕ) (old new : Option (List DeskCall)) → KeepEnd → Type 0
+HasNotBegun made old new reads.NoMemory = Tells old new []
+HasNotBegun made old new reads.Failed = (done : List DiskCall) × IsFrontOf (making made) done × Tells old new (on_disk done)
 
 -- how an opening ends if its reading ends early
 abbrev pub opening_end : KeepEnd → OpenEnd

@@ -1,78 +1,85 @@
 //! Wrong results that the contracts of this crate exclude. Each function calls another one of the crate, and promises of its result what a wrong body would make
 //! false. It is proved from the other's contract alone, so it is no longer proved once that contract lets the wrong body pass.
 
-ghost use Rattle.std.specs.Prelude.{◌≡◌, ◌+◌, ◌<◌, ◌^◌, [], ◌∷◌, ◌++◌, List, Some, Ok, true, false, length, take, drop, IfOk, OnOk};
+ghost use Rattle.std.specs.Prelude.{◌≡◌, ◌<◌, ◌^◌, [], ◌∷◌, ◌++◌, List, Some, Ok, true, false, length, drop, IfOk, OnOk};
 ghost use Rattle.disk.specs.declared.calls.DeskCall.{DeskCall};
 ghost use Rattle.disk.specs.declared.calls.DeskCall.TheVariants.{OnDisk};
-ghost use Rattle.disk.specs.declared.calls.DiskCall.TheVariants.{Appended, Synced};
-ghost use Rattle.kept_log.specs.Format.{sized};
+ghost use Rattle.disk.specs.declared.calls.DiskCall.TheVariants.{Synced};
+ghost use Rattle.kept_log.specs.Format.{digest, BeginsNone};
 ghost use Rattle.kept_log.specs.JournaledLog.{is_full};
-ghost use Rattle.kept_log.specs.Startup.{HasNoBlock};
+ghost use Rattle.kept_log.specs.Startup.{IsFollowed};
 ghost use Rattle.logger_store.specs.Changes.{changes};
 ghost use Rattle.logger_wire.specs.Value.{message_of, IsSendable};
-ghost use Rattle.seq_arith.specs.MessageGrammar.{reading};
+ghost use Rattle.seq_arith.specs.MessageGrammar.{number_bytes, reading};
 
-use crate::journal::{Journal, KeepEnd, block_of};
+use crate::journal::KeepEnd;
 use crate::kept::KeptLog;
-use crate::reading::{Taken, take_block};
+use crate::reading::{Found, Taken, tail_of, take_block};
+use crate::tip::{DIGEST, Tip, seal_of};
 use crate::window::Window;
 use disk::Disk;
 use ft_io::NoMemory;
 use logger_store::{LogStore, MsgOut};
 use logger_wire::Msg;
-use std::alloc::{AllocError, Global};
+use std::alloc::Global;
 
-/// A block whose body isn't messages isn't taken: the contract of `take_block`.
+/// A block that isn't the next one isn't taken: the contract of `take_block`.
 fn a_wrong_block_is_passed_over(
     alloc: Global,
     window: &mut Window,
+    tip: &mut Tip,
     store: &mut LogStore,
 ) -> Result<bool, NoMemory>
-    requires { HasNoBlock window.old }
+    requires number { tip.old.number < 2 ^ 63 }
+    requires end { tip.old.end < 2 ^ 63 }
+    requires none { BeginsNone tip.old window.old }
     ensures { IfOk result (λ is_taken. is_taken ≡ false) }
 {
-    match take_block(alloc, window, store)? {
-        Taken::Block(_) => Ok(true),
+    match take_block(alloc, window, tip, store)? {
+        Taken::Block => Ok(true),
         _ => Ok(false),
     }
 }
 
-/// The last call of an append that succeeds is a sync: the clause `kept` of `Journal::keep`.
-fn acknowledged_before_the_last_sync<D: Disk>(
-    journal: &mut Journal,
+/// The last call of an append that succeeds is a sync: the clause `kept` of `Tip::keep`.
+fn acknowledged_before_the_sync<D: Disk>(
+    tip: &mut Tip,
     alloc: Global,
     disk: &mut D,
     body: &[u8],
 ) -> Result<(), KeepEnd>
     requires small { length body.now < 2 ^ 32 }
-    requires room { journal.old.end + 5 + length body.now < 2 ^ 64 }
+    requires number { tip.old.number < 2 ^ 63 }
+    requires end { tip.old.end < 2 ^ 63 }
     requires first { D.told disk.old ≡ Some [] }
-    ensures { OnOk result ((calls : List DeskCall) → D.told disk.new ≡ Some calls → drop 3 calls ≡ OnDisk (Synced false) ∷ []) }
+    ensures { OnOk result ((calls : List DeskCall) → D.told disk.new ≡ Some calls → drop 1 calls ≡ OnDisk (Synced false) ∷ []) }
 {
-    journal.keep(alloc, disk, body)
+    tip.keep(alloc, disk, body)
 }
 
-/// The gate behind a new block is closed: the contract of `block_of`.
-fn gate_open_from_the_start(alloc: Global) -> Result<Vec<u8>, AllocError>
-    ensures { IfOk result (λ block. block.items ≡ 0 ∷ 0 ∷ 0 ∷ 1 ∷ 7 ∷ 46 ∷ []) }
+/// What follows the blocks isn't cut off if it is longer than the longest block: the contract of `tail_of`.
+fn a_long_tail_is_torn(tip: &Tip, tail: &[u8]) -> bool
+    requires { 381740 < length tail.now }
+    ensures { result ≡ false }
 {
-    block_of(alloc, &[7])
+    matches!(tail_of(tip, tail), Found::Whole(_, _))
 }
 
-/// A sync comes between a block and the opening of its gate: the clause `kept` of `Journal::keep`.
-fn opened_and_appended_in_one_sync<D: Disk>(
-    journal: &mut Journal,
-    alloc: Global,
-    disk: &mut D,
-    body: &[u8],
-) -> Result<(), KeepEnd>
-    requires small { length body.now < 2 ^ 32 }
-    requires room { journal.old.end + 5 + length body.now < 2 ^ 64 }
-    requires first { D.told disk.old ≡ Some [] }
-    ensures { OnOk result ((calls : List DeskCall) → D.told disk.new ≡ Some calls
-        → take 2 calls ≡ OnDisk (Appended (sized body.now) false) ∷ OnDisk (Synced false) ∷ []) }
+/// Nor if a later block begins in it: the contract of `tail_of`.
+fn a_later_block_is_cut_off(tip: &Tip, tail: &[u8]) -> bool
+    requires { IsFollowed tip.now tail.now }
+    ensures { result ≡ false }
 {
-    journal.keep(alloc, disk, body)
+    matches!(tail_of(tip, tail), Found::Whole(_, _))
+}
+
+/// A block's digest depends on the one before it: the contract of `seal_of`.
+#[tactic(auto, unfolding(crate::specs::Format::seal))]
+fn a_digest_without_the_previous_one(tip: &Tip, body: &[u8]) -> [u8; DIGEST]
+    requires { length body.now < 2 ^ 32 }
+    ensures { result ≡ digest (((tip.now.previous ++ number_bytes 8 tip.now.number) ++ number_bytes 4 (length body.now)) ++ body.now) }
+{
+    seal_of(tip, body)
 }
 
 /// Each message that changes the log joins the round, however short it is: the clause `round` of `KeptLog::take`.

@@ -1,6 +1,8 @@
 //! The log with its journal.
 
 ghost use Rattle.std.specs.Prelude.{[], ◌≡◌, ◌≤◌, List, ℕ, Ok, false, length, IfOk, IfErr, OnOk, OnErr, IsOk, IsErrOf};
+ghost use Rattle.seq_arith.specs.MessageGrammar.{number_bytes};
+ghost use Rattle.kept_log.specs.Format.{making};
 ghost use Rattle.ft_io.specs.Faults.{Rose};
 ghost use Rattle.ft_io.specs.Told.{Tells};
 ghost use Rattle.seq_arith.specs.MessageGrammar.{reading};
@@ -10,14 +12,14 @@ ghost use Rattle.logger_store.specs.StoreState.{answer_bytes, wants_memory};
 ghost use Rattle.disk.specs.declared.calls.DiskCall.{DiskCall};
 ghost use Rattle.disk.specs.Remains.{IsFrontOf};
 ghost use Rattle.disk.specs.CallRecord.{on_disk};
-ghost use Rattle.kept_log.specs.JournaledLog.{is_full, kept_of, committing, end_after, with_round, HasLog, Waits};
-ghost use Rattle.kept_log.specs.Startup.{IsOpened, HasStopped};
+ghost use Rattle.kept_log.specs.JournaledLog.{is_full, kept_of, committing, tip_after, with_round, HasLog, Waits};
+ghost use Rattle.kept_log.specs.Startup.{IsOpened, HasStopped, HasNotBegun};
 ghost use Rattle.std.specs.Prelude.{◌++◌};
 
 use crate::block::MOST_BODY;
-use crate::journal::{Journal, KeepEnd};
-use crate::opening::{OpenEnd, open_file};
-use crate::reading::BEYOND;
+use crate::journal::KeepEnd;
+use crate::opening::{OpenEnd, make, open_file};
+use crate::tip::Tip;
 use disk::Disk;
 use ft_io::NoMemory;
 use limits::MESSAGE;
@@ -31,7 +33,8 @@ use std::marker::Model;
 #[derive(Drop)]
 pub struct KeptLog {
     store: LogStore,
-    journal: Journal,
+    /// Where the next block begins in the journal.
+    tip: Tip,
     /// Its room is allocated once.
     round: Vec<u8>,
 }
@@ -42,17 +45,17 @@ impl Model for KeptLog {
 
     ghost Value = { KeptState };
 
-    ghost view = { λ k. record { log = k.store; end = k.journal.end; round = k.round.items } };
+    ghost view = { λ k. record { log = k.store; tip = k.tip; round = k.round.items } };
 
     ghost invariant = { λ k. (length k.round.items ≤ 381696) × (381696 ≤ vec_capacity k.round) };
 }
 
 impl KeptLog {
-    /// Reads the journal in a file that was opened just now into a log. A file of at most 8 bytes that is a prefix of the magic becomes a new journal. The
-    /// bytes that a death has left after the closed gate are cut off. A file that is damaged stays as it is.
-    pub fn open<D: Disk>(alloc: Global, disk: &mut D) -> Result<KeptLog, OpenEnd>
-        ensures opened { IfOk result (λ k. IsOpened (D.left disk.old) (D.told disk.old) (D.told disk.new) k.end k.log) }
-        ensures none_waits { IfOk result (λ k. k.round ≡ []) }
+    /// Reads the journal in a file that was opened just now into a log, and cuts off what a death has left after its blocks. Returns how many bytes that were
+    /// too. A file that isn't a whole journal stays as it is.
+    pub fn open<D: Disk>(alloc: Global, disk: &mut D) -> Result<(KeptLog, usize), OpenEnd>
+        ensures opened { IfOk result (λ r. IsOpened (D.left disk.old) (D.told disk.old) (D.told disk.new) r.0.tip r.1 r.0.log) }
+        ensures none_waits { IfOk result (λ r. r.0.round ≡ []) }
         ensures stopped { IfErr result (HasStopped (D.left disk.old) (D.told disk.old) (D.told disk.new)) }
         ensures cause { IsErrOf result OpenEnd.Failed → Rose (D.fault_count disk.old) (D.fault_count disk.new) }
         ensures never_falls { D.fault_count disk.old ≤ D.fault_count disk.new }
@@ -60,12 +63,25 @@ impl KeptLog {
     {
         let mut store = LogStore::new(alloc);
         let round = Vec::with_capacity(alloc, MOST_BODY).map_err(|_| OpenEnd::NoMemory)?;
-        let end = open_file(alloc, disk, &mut store)?;
-        Ok(KeptLog {
-            store,
-            journal: Journal { end },
-            round,
-        })
+        let (tip, cut) = open_file(alloc, disk, &mut store)?;
+        Ok((KeptLog { store, tip, round }, cut))
+    }
+
+    /// Makes a journal in a file that is empty, at this time: nanoseconds since 1970. Its log is empty.
+    #[tactic(auto, unfolding(seq_arith::specs::MessageGrammar::number_bytes))]
+    pub fn begin<D: Disk>(alloc: Global, disk: &mut D, made: u64) -> Result<KeptLog, KeepEnd>
+        ensures begun { IfOk result (λ k. HasLog (number_bytes 8 made) [] k.tip k.log) }
+        ensures told { OnOk result (Tells (D.told disk.old) (D.told disk.new) (on_disk (making (number_bytes 8 made)))) }
+        ensures none_waits { IfOk result (λ k. k.round ≡ []) }
+        ensures stopped { IfErr result (HasNotBegun (number_bytes 8 made) (D.told disk.old) (D.told disk.new)) }
+        ensures cause { IsErrOf result KeepEnd.Failed → Rose (D.fault_count disk.old) (D.fault_count disk.new) }
+        ensures never_falls { D.fault_count disk.old ≤ D.fault_count disk.new }
+        ensures beside { D.beside disk.new ≡ D.beside disk.old }
+    {
+        let store = LogStore::new(alloc);
+        let round = Vec::with_capacity(alloc, MOST_BODY)?;
+        let tip = make(alloc, disk, &made.to_be_bytes())?;
+        Ok(KeptLog { store, tip, round })
     }
 
     /// The log, with the uncommitted round applied.
@@ -75,11 +91,11 @@ impl KeptLog {
         &self.store
     }
 
-    /// The place of the closed gate, which is the file's last byte.
-    pub fn end(&self) -> u64
-        ensures { result ≡ self.now.end }
+    /// Where the next block begins: its number, and its place, which is the length of the file.
+    pub fn tip(&self) -> &Tip
+        ensures { result.now ≡ self.now.tip }
     {
-        self.journal.end
+        &self.tip
     }
 
     /// Whether the round has no room for one more message of the greatest length. It has room for 256 of these.
@@ -104,7 +120,7 @@ impl KeptLog {
         ensures next { OnOk result (self.new.log ≡ log_after self.old.log (message_of m.now)) }
         ensures answer { OnOk result (out.new ≡ answer_bytes (answer_to self.old.log (message_of m.now))) }
         ensures round { OnOk result (self.new.round ≡ self.old.round ++ kept_of self.old.log (message_of m.now) bytes.now) }
-        ensures end { self.new.end ≡ self.old.end }
+        ensures tip { self.new.tip ≡ self.old.tip }
         // The uncommitted round has all changes of the log.
         ensures waits { OnOk result ((before : Log) → Waits before self.old.round self.old.log → Waits before self.new.round self.new.log) }
         ensures refused { OnErr result (self.new ≡ self.old) }
@@ -122,14 +138,14 @@ impl KeptLog {
     /// Appends the uncommitted round as a block of the journal. After `Ok` the round is empty, and every death leaves a file that has the log. After an error
     /// the log may only be dropped; its file can then be opened again.
     pub fn commit<D: Disk>(&mut self, alloc: Global, disk: &mut D) -> Result<(), KeepEnd>
-        ensures kept { OnOk result (Tells (D.told disk.old) (D.told disk.new) (on_disk (committing self.old.end self.old.round))) }
+        ensures kept { OnOk result (Tells (D.told disk.old) (D.told disk.new) (on_disk (committing self.old.tip self.old.round))) }
         ensures round { OnOk result (self.new.round ≡ []) }
         ensures log { self.new.log ≡ self.old.log }
-        ensures end { OnOk result (self.new.end ≡ end_after self.old.end self.old.round) }
+        ensures tip { OnOk result (self.new.tip ≡ tip_after self.old.tip self.old.round) }
         // The blocks with the round have the log.
-        ensures has_log { OnOk result ((bodies : List (List ℕ)) (before : Log) → HasLog bodies self.old.end before → Waits before self.old.round self.old.log
-            → HasLog (with_round bodies self.old.round) self.new.end self.new.log) }
-        ensures stopped { OnErr result ((done : List DiskCall) × IsFrontOf (committing self.old.end self.old.round) done
+        ensures has_log { OnOk result ((made : List ℕ) (bodies : List (List ℕ)) (before : Log) → HasLog made bodies self.old.tip before
+            → Waits before self.old.round self.old.log → HasLog made (with_round bodies self.old.round) self.new.tip self.new.log) }
+        ensures stopped { OnErr result ((done : List DiskCall) × IsFrontOf (committing self.old.tip self.old.round) done
             × Tells (D.told disk.old) (D.told disk.new) (on_disk done)) }
         // An empty round is always committed.
         ensures some { OnErr result (self.old.round ≡ [] → ⊥) }
@@ -140,10 +156,10 @@ impl KeptLog {
         if self.round.is_empty() {
             return Ok(());
         }
-        if self.journal.end > BEYOND {
+        if self.tip.is_beyond() {
             return Err(KeepEnd::NoMemory);
         }
-        self.journal.keep(alloc, disk, &self.round)?;
+        self.tip.keep(alloc, disk, &self.round)?;
         self.round.clear();
         Ok(())
     }

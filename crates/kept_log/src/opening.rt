@@ -1,32 +1,39 @@
-//! Opening a journal: it is read, and then the bytes that a death has left after its closed gate are cut off.
+//! Opening a journal: it is read, and then the bytes that a death has left after its blocks are cut off. And making one.
 
-ghost use Rattle.std.specs.Prelude.{[], ◌≡◌, ◌≤◌, ◌^◌, List, ℕ, length, IfOk, IfErr, OnOk, OnErr, IsErrOf};
+ghost use Rattle.std.specs.Prelude.{◌≡◌, ◌≤◌, List, ℕ, [], length, IfOk, IfErr, OnOk, OnErr, IsErrOf};
 ghost use Rattle.ft_io.specs.Faults.{Rose};
 ghost use Rattle.ft_io.specs.Told.{Tells};
 ghost use Rattle.disk.specs.declared.calls.DiskCall.{DiskCall};
 ghost use Rattle.disk.specs.Remains.{IsFrontOf};
 ghost use Rattle.disk.specs.CallRecord.{on_disk};
 ghost use Rattle.ft_model.specs.Log.{empty_log};
-ghost use Rattle.kept_log.specs.Startup.{making, cutting, IsOpened, HasStopped};
+ghost use Rattle.kept_log.specs.Format.{header, making, first_tip};
+ghost use Rattle.kept_log.specs.Startup.{cutting, IsOpened, HasStopped, HasNotBegun};
 ghost use Rattle.kept_log.specs.declared.opening.OpenEnd.TheVariants as ends;
 
+use crate::header::{MAGIC, TIME, first_of};
 use crate::journal::KeepEnd;
-use crate::magic::MAGIC;
 use crate::reading::{Found, read_file};
+use crate::tip::Tip;
 use disk::Disk;
 use ft_io::Failed;
 use logger_store::LogStore;
-use std::alloc::Global;
+use std::alloc::{AllocError, Global};
 
-/// Why a journal wasn't opened.
+/// Why a journal wasn't opened. No call has changed the file, unless one of those failed that cut off what a death has left.
 #[derive(Clone, Copy)]
 pub enum OpenEnd {
     /// An allocation failed, or the blocks of the file reach beyond 2^62 bytes.
     NoMemory,
     /// A call on the disk failed; the disk may be full.
     Failed,
-    /// The file is damaged, or is no journal: the place, in bytes, where neither a block follows nor a closed gate with at most the longest block after it. No
-    /// call has changed the file.
+    /// The file is empty.
+    Empty,
+    /// The file ends within its header: its making wasn't finished, or it was cut.
+    Unfinished,
+    /// The file is a journal of the first version.
+    Older,
+    /// The file is damaged, or is no journal: the place, in bytes, where neither a block follows nor what a death leaves.
     Wrong(u64),
 }
 
@@ -51,25 +58,36 @@ impl From<KeepEnd> for OpenEnd {
     }
 }
 
-/// A new journal: the magic, and a closed gate.
-const FRESH: &[u8] = b"ftlog 1\n.";
+/// The header of a journal that is made at this time.
+fn header_of(alloc: Global, made: &[u8; TIME], tip: &Tip) -> Result<Vec<u8>, AllocError>
+    requires { tip.now ≡ first_tip made.now }
+    ensures { IfOk result (λ bytes. bytes.items ≡ header made.now) }
+{
+    let mut bytes = Vec::new(alloc);
+    bytes.extend_from_slice(MAGIC)?;
+    bytes.extend_from_slice(made)?;
+    bytes.extend_from_slice(&tip.salt)?;
+    Ok(bytes)
+}
 
-/// Completes a new journal, of which the file has this many bytes.
-fn make<D: Disk>(disk: &mut D, len: usize) -> Result<(), Failed>
-    requires { len ≤ 8 }
-    ensures made { OnOk result (Tells (D.told disk.old) (D.told disk.new) (on_disk (making len))) }
-    ensures stopped { OnErr result ((done : List DiskCall) × IsFrontOf (making len) done × Tells (D.told disk.old) (D.told disk.new) (on_disk done)) }
-    ensures cause { OnErr result (Rose (D.fault_count disk.old) (D.fault_count disk.new)) }
+/// Makes a journal in an empty file, and returns where its first block begins.
+pub fn make<D: Disk>(alloc: Global, disk: &mut D, made: &[u8; TIME]) -> Result<Tip, KeepEnd>
+    ensures tip { IfOk result (λ tip. tip ≡ first_tip made.now) }
+    ensures made { OnOk result (Tells (D.told disk.old) (D.told disk.new) (on_disk (making made.now))) }
+    ensures stopped { IfErr result (HasNotBegun made.now (D.told disk.old) (D.told disk.new)) }
+    ensures cause { IsErrOf result KeepEnd.Failed → Rose (D.fault_count disk.old) (D.fault_count disk.new) }
     ensures never_falls { D.fault_count disk.old ≤ D.fault_count disk.new }
     ensures beside { D.beside disk.new ≡ D.beside disk.old }
 {
-    disk.append(&FRESH[len..])?;
-    disk.sync()
+    let tip = first_of(made);
+    let header = header_of(alloc, made, &tip)?;
+    disk.append(&header)?;
+    disk.sync()?;
+    Ok(tip)
 }
 
-/// Cuts off this many bytes after the closed gate.
+/// Cuts off this many bytes after the blocks.
 fn cut_tail<D: Disk>(disk: &mut D, end: u64, tail: usize) -> Result<(), Failed>
-    requires { end ≤ 2 ^ 62 }
     ensures cut { OnOk result ((torn : List ℕ) → length torn ≡ tail → Tells (D.told disk.old) (D.told disk.new) (on_disk (cutting end torn))) }
     ensures stopped { OnErr result ((torn : List ℕ) → length torn ≡ tail
         → (done : List DiskCall) × IsFrontOf (cutting end torn) done × Tells (D.told disk.old) (D.told disk.new) (on_disk done)) }
@@ -80,28 +98,32 @@ fn cut_tail<D: Disk>(disk: &mut D, end: u64, tail: usize) -> Result<(), Failed>
     if tail == 0 {
         return Ok(());
     }
-    disk.cut(end + 1)?;
+    disk.cut(end)?;
     disk.sync()
 }
 
-/// Reads a file that was opened just now into the empty log, cuts off what follows its closed gate, and returns the place of that gate.
-pub fn open_file<D: Disk>(alloc: Global, disk: &mut D, store: &mut LogStore) -> Result<u64, OpenEnd>
+/// Reads a file that was opened just now into the empty log, and cuts off what follows its blocks. Returns where the next block begins, and how many bytes
+/// were cut off.
+pub fn open_file<D: Disk>(
+    alloc: Global,
+    disk: &mut D,
+    store: &mut LogStore,
+) -> Result<(Tip, usize), OpenEnd>
     requires { store.old ≡ empty_log }
-    ensures opened { IfOk result (λ end. IsOpened (D.left disk.old) (D.told disk.old) (D.told disk.new) end store.new) }
+    ensures opened { IfOk result (λ found. IsOpened (D.left disk.old) (D.told disk.old) (D.told disk.new) found.0 found.1 store.new) }
     ensures stopped { IfErr result (HasStopped (D.left disk.old) (D.told disk.old) (D.told disk.new)) }
     ensures cause { IsErrOf result OpenEnd.Failed → Rose (D.fault_count disk.old) (D.fault_count disk.new) }
     ensures never_falls { D.fault_count disk.old ≤ D.fault_count disk.new }
     ensures beside { D.beside disk.new ≡ D.beside disk.old }
 {
     match read_file(alloc, disk, store)? {
-        Found::New(len) => {
-            make(disk, len)?;
-            Ok(MAGIC.len() as u64)
+        Found::Whole(tip, tail) => {
+            cut_tail(disk, tip.end, tail)?;
+            Ok((tip, tail))
         }
-        Found::Whole(end, tail) => {
-            cut_tail(disk, end, tail)?;
-            Ok(end)
-        }
+        Found::Empty => Err(OpenEnd::Empty),
+        Found::Unfinished => Err(OpenEnd::Unfinished),
+        Found::Older => Err(OpenEnd::Older),
         Found::Wrong(at) => Err(OpenEnd::Wrong(at)),
     }
 }

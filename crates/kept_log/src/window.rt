@@ -70,6 +70,7 @@ pub fn fill<D: Disk>(disk: &mut D, window: &mut Window, chunk: &mut [u8]) -> Res
     requires { 0 < length chunk.old }
     ensures read { IfOk result (λ more. (bytes : List ℕ) × Consumes (D.left disk.old) (D.left disk.new) bytes × (window.new ≡ window.old ++ bytes)) }
     ensures grows { IfOk result (λ more. more ≡ true → length window.old < length window.new) }
+    ensures same { IfOk result (λ more. more ≡ false → window.new ≡ window.old) }
     ensures end { IfOk result (λ more. more ≡ false → IsAtEnd (D.left disk.old) × IsAtEnd (D.left disk.new)) }
     ensures told { Tells (D.told disk.old) (D.told disk.new) [] }
     ensures cause { IsErrOf result KeepEnd.Failed → Rose (D.fault_count disk.old) (D.fault_count disk.new) }

@@ -6,7 +6,7 @@ use Rattle.clap.specs.Lexer.{long_of, short_of}
 use Rattle.clap.specs.Matches.{found_of, first_value}
 use Rattle.clap.specs.declared.parser.matches.ArgMatches.{ArgMatches}
 use Rattle.link_parts.specs.declared.options.OptionName.{OptionName}
-use Rattle.link_parts.specs.declared.options.OptionName.TheVariants.{Local, Logger, SecondLogger, Server, Service, Boot, Isn, Turns, Times, Script, Program, Base, First, Second, Journal, Part, Other, To}
+use Rattle.link_parts.specs.declared.options.OptionName.TheVariants.{Local, Logger, SecondLogger, Server, Service, Boot, Isn, Turns, Times, Script, Program, Base, First, Second, Journal, Begin, Part, Other, To}
 
 abbrev pub Text : Type 0
 Text = List ℕ
@@ -32,6 +32,7 @@ name_of Base = codes "base"
 name_of First = codes "first"
 name_of Second = codes "second"
 name_of Journal = codes "journal"
+name_of Begin = codes "begin"
 name_of Part = codes "part"
 name_of Other = codes "other"
 name_of To = codes "to"
@@ -41,6 +42,7 @@ abbrev pub is_required : OptionName → Bool
 is_required Script = false
 is_required SecondLogger = false
 is_required Times = false
+is_required Begin = false
 is_required _ = true
 
 -- `--`, or a word other than `-` that begins with exactly one hyphen

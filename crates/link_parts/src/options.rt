@@ -36,6 +36,8 @@ pub enum OptionName {
     Second,
     /// The file in which a logger keeps its log. No role of `node` has this option.
     Journal,
+    /// Whether a logger makes the file in which it keeps its log. No role of `node` has this option.
+    Begin,
     /// Which of the two loggers this one is. No role of `node` has this option.
     Part,
     /// The other logger. No role of `node` has this option.
@@ -65,6 +67,7 @@ impl OptionName {
             OptionName::First => "first",
             OptionName::Second => "second",
             OptionName::Journal => "journal",
+            OptionName::Begin => "begin",
             OptionName::Part => "part",
             OptionName::Other => "other",
             OptionName::To => "to",
@@ -77,7 +80,7 @@ impl OptionName {
     {
         !matches!(
             self,
-            OptionName::Script | OptionName::SecondLogger | OptionName::Times
+            OptionName::Script | OptionName::SecondLogger | OptionName::Times | OptionName::Begin
         )
     }
 

@@ -35,7 +35,7 @@ pub struct Setting {
     pub way: Way,
 }
 
-/// A desk with no network and an empty file: no run here keeps a journal.
+/// A desk with no network and an empty file without a name: a run here keeps a journal only in a file that it makes.
 fn idle_desk(alloc: Global) -> MemDesk {
     let none = Vec::new(alloc);
     let link = MemLink::new(alloc, none, Vec::new(alloc), Vec::new(alloc), false);

@@ -8,7 +8,7 @@ use Rattle.node_process.specs.declared.role.Role.{Role}
 use Rattle.node_process.specs.declared.role.Role.TheVariants.{Node, Journal, Twin}
 
 -- how often each call has failed: reads, binds of the link, writes to standard output and to standard error, starts of children and waits for them; and of the
--- desk the calls on the file, the binds, and how often a file was refused since another process has it
+-- desk the calls on the file, the binds, and how often a file was refused
 pub record Faults : Type 0 where
   pub reads : ℕ
   pub binds : ℕ

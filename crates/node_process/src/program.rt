@@ -29,7 +29,7 @@ pub fn run_program<
         out: WriteSink::new(out),
         err: WriteSink::new(err),
         children: ProcessSpawner::new(system, system.alloc()),
-        desk: HostDesk::new(system),
+        desk: HostDesk::new(system.alloc(), system),
     };
     let status = run::<S, _, _, _, _, _, _>(system.alloc(), services, words, &mut process);
     ExitCode::from(status.code)

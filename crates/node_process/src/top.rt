@@ -1,6 +1,6 @@
 //! The entry point: `run`.
 
-ghost use Rattle.std.specs.Prelude.{◌≡◌, List, map, string_bytes, Some, Err, true, false};
+ghost use Rattle.std.specs.Prelude.{◌≡◌, ◌⊎◌, List, map, string_bytes, Some, Err, true, false};
 ghost use Rattle.ft_io.specs.Faults.{Rose};
 ghost use Rattle.ft_io.specs.Source.{ConsumesAtMost};
 ghost use Rattle.ft_model.specs.Legal.{machines};
@@ -48,7 +48,7 @@ fn run_as<S: Saved, L: Link, I: Source, O: Sink, E: Sink, P: Spawner, K: Desk>(
     ensures read_cause { result ≡ Err (ProcessEnd.Node NodeEnd.ReadFault) → Rose (I.fault_count process.old.input) (I.fault_count process.new.input) }
     ensures bind_cause { result ≡ Err (ProcessEnd.Node NodeEnd.LinkFault) → uses_link (Some role.now) ≡ true → Rose (L.bind_fault_count process.old.link) (L.bind_fault_count process.new.link) }
     ensures desk_bind_cause { result ≡ Err (ProcessEnd.Node NodeEnd.LinkFault) → uses_desk (Some role.now) ≡ true → Rose (K.beside process.old.desk).bind_faults (K.beside process.new.desk).bind_faults }
-    ensures write_cause { result ≡ Err (ProcessEnd.Node NodeEnd.WriteFault) → Rose (O.fault_count process.old.out) (O.fault_count process.new.out) }
+    ensures write_cause { result ≡ Err (ProcessEnd.Node NodeEnd.WriteFault) → Rose (O.fault_count process.old.out) (O.fault_count process.new.out) ⊎ Rose (E.fault_count process.old.err) (E.fault_count process.new.err) }
     ensures child_cause { result ≡ Err (ProcessEnd.Node NodeEnd.ChildFault) → Rose (P.fault_count process.old.children) (P.fault_count process.new.children) }
     ensures journal_cause { result ≡ Err ProcessEnd.JournalFault → Rose (K.fault_count process.old.desk) (K.fault_count process.new.desk) }
     ensures in_use { result ≡ Err ProcessEnd.InUse → Rose (K.beside process.old.desk).refusals (K.beside process.new.desk).refusals }
@@ -57,19 +57,20 @@ fn run_as<S: Saved, L: Link, I: Source, O: Sink, E: Sink, P: Spawner, K: Desk>(
     ensures no_desk_bind_fault { UnlessFault result ((K.beside process.new.desk).bind_faults ≡ (K.beside process.old.desk).bind_faults) }
     ensures no_write_fault { UnlessFault result (O.fault_count process.new.out ≡ O.fault_count process.old.out) }
     ensures no_child_fault { UnlessFault result (P.fault_count process.new.children ≡ P.fault_count process.old.children) }
-    ensures same_err { process.new.err ≡ process.old.err }
+    ensures no_error { UnlessFault result (E.fault_count process.new.err ≡ E.fault_count process.old.err) }
+    ensures same_err { uses_desk (Some role.now) ≡ false → process.new.err ≡ process.old.err }
 {
     let Process {
         link,
         input,
         out,
+        err,
         children,
         desk,
-        ..
     } = process;
     match role {
         Role::Node(role) => Ok(run_role::<S, L, I, O, P>(alloc, role, link, input, out, children)?),
-        Role::Journal(role) => run_keeper(alloc, role, desk, out),
+        Role::Journal(role) => run_keeper(alloc, role, desk, out, err),
         Role::Twin(TwinRole::Logger(role)) => Ok(run_part(alloc, role, link, out)?),
         Role::Twin(TwinRole::Alone(role)) => Ok(run_teller(role, link, out)?),
     }
@@ -103,7 +104,7 @@ fn run_words<S: Saved, L: Link, I: Source, O: Sink, E: Sink, P: Spawner, K: Desk
     ensures read_cause { result ≡ Err (ProcessEnd.Node NodeEnd.ReadFault) → Rose (I.fault_count process.old.input) (I.fault_count process.new.input) }
     ensures bind_cause { result ≡ Err (ProcessEnd.Node NodeEnd.LinkFault) → uses_link (asked_of services (map string_bytes words.now)) ≡ true → Rose (L.bind_fault_count process.old.link) (L.bind_fault_count process.new.link) }
     ensures desk_bind_cause { result ≡ Err (ProcessEnd.Node NodeEnd.LinkFault) → uses_desk (asked_of services (map string_bytes words.now)) ≡ true → Rose (K.beside process.old.desk).bind_faults (K.beside process.new.desk).bind_faults }
-    ensures write_cause { result ≡ Err (ProcessEnd.Node NodeEnd.WriteFault) → Rose (O.fault_count process.old.out) (O.fault_count process.new.out) }
+    ensures write_cause { result ≡ Err (ProcessEnd.Node NodeEnd.WriteFault) → Rose (O.fault_count process.old.out) (O.fault_count process.new.out) ⊎ Rose (E.fault_count process.old.err) (E.fault_count process.new.err) }
     ensures child_cause { result ≡ Err (ProcessEnd.Node NodeEnd.ChildFault) → Rose (P.fault_count process.old.children) (P.fault_count process.new.children) }
     ensures journal_cause { result ≡ Err ProcessEnd.JournalFault → Rose (K.fault_count process.old.desk) (K.fault_count process.new.desk) }
     ensures in_use { result ≡ Err ProcessEnd.InUse → Rose (K.beside process.old.desk).refusals (K.beside process.new.desk).refusals }
@@ -112,7 +113,8 @@ fn run_words<S: Saved, L: Link, I: Source, O: Sink, E: Sink, P: Spawner, K: Desk
     ensures no_desk_bind_fault { UnlessFault result ((K.beside process.new.desk).bind_faults ≡ (K.beside process.old.desk).bind_faults) }
     ensures no_write_fault { UnlessFault result (O.fault_count process.new.out ≡ O.fault_count process.old.out) }
     ensures no_child_fault { UnlessFault result (P.fault_count process.new.children ≡ P.fault_count process.old.children) }
-    ensures same_err { process.new.err ≡ process.old.err }
+    ensures no_error { UnlessFault result (E.fault_count process.new.err ≡ E.fault_count process.old.err) }
+    ensures same_err { uses_desk (asked_of services (map string_bytes words.now)) ≡ false → process.new.err ≡ process.old.err }
 {
     match read_role(alloc, services, words)? {
         None => Err(ProcessEnd::Node(NodeEnd::Usage)),
@@ -127,8 +129,8 @@ fn run_words<S: Saved, L: Link, I: Source, O: Sink, E: Sink, P: Spawner, K: Desk
 ///
 /// The status is 0 if all was done, 2 if the words aren't allowed or the input is longer than 2^24 bytes, 3 if an allocation failed, 4 if the bind failed, 5 if
 /// a write failed, 6 if a newer server fenced this one, 7 if the client's connection was reset, 8 if the client's turns ended before its connection, 9 if a read
-/// failed, 10 if a start of a pair's child or a wait for one failed, 11 if a call on the journal's file failed, 12 if the file is no journal or is damaged, and
-/// 13 if another process has it open.
+/// failed, 10 if a start of a pair's child or a wait for one failed, 11 if a call on the journal's file failed, 12 if the file is no journal or is damaged, or is
+/// missing and wasn't to be made, or is there and was, and 13 if another process has it open.
 pub fn run<S: Saved, L: Link, I: Source, O: Sink, E: Sink, P: Spawner, K: Desk>(
     alloc: Global,
     services: Services,
@@ -155,7 +157,8 @@ pub fn run<S: Saved, L: Link, I: Source, O: Sink, E: Sink, P: Spawner, K: Desk>(
     ensures same_children { uses_children (asked_of services (map string_bytes words.now)) ≡ false → process.new.children ≡ process.old.children }
     ensures same_desk { uses_desk (asked_of services (map string_bytes words.now)) ≡ false → process.new.desk ≡ process.old.desk }
     ensures taken { ConsumesAtMost 16777217 (I.left process.old.input) (I.left process.new.input) }
-    ensures silent { result.code ≡ 0 → process.new.err ≡ process.old.err }
+    // A logger with a journal may say how many bytes it has cut off.
+    ensures silent { result.code ≡ 0 → uses_desk (asked_of services (map string_bytes words.now)) ≡ false → process.new.err ≡ process.old.err }
     // Which calls have failed.
     ensures caused { HasCause (asked_of services (map string_bytes words.now))
         (record {

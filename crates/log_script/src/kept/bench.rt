@@ -1,7 +1,9 @@
 //! A file in memory, and the log that is kept in it.
 
 use crate::kept::datagrams::long_data;
-use crate::kept::text::{call_count, tell_calls, tell_kept_entry, tell_log, tell_opening};
+use crate::kept::text::{
+    call_count, tell_beginning, tell_calls, tell_kept_entry, tell_log, tell_opening,
+};
 use crate::readers::two_numbers;
 use disk::{Death, MemDisk};
 use ft_io::NoMemory;
@@ -111,6 +113,7 @@ impl Bench {
         let played = match word {
             "file" => self.set_file(alloc, rest, said),
             "more" => self.lengthen(rest, said),
+            "begin" => self.begin(alloc, rest, said),
             "open" => self.open(alloc, said),
             "cuts" => self.open_cuts(alloc, said),
             "flips" => self.open_flips(alloc, said),
@@ -185,7 +188,22 @@ impl Bench {
         let told = tell_opening(&opened, &disk, said);
         self.shown = call_count(&disk);
         self.disk = disk;
-        self.log = opened.ok();
+        self.log = opened.ok().map(|(log, _)| log);
+        told
+    }
+
+    fn begin(&mut self, alloc: Global, text: &str, said: &mut Said) -> Result<(), NoMemory> {
+        let Ok(made) = text.parse::<u64>() else {
+            said.add(b"no such line");
+            return Ok(());
+        };
+        said.add(b"begin ");
+        let mut disk = disk_of(alloc, &[], self.fails)?;
+        let begun = KeptLog::begin(alloc, &mut disk, made);
+        let told = tell_beginning(&begun, &disk, said);
+        self.shown = call_count(&disk);
+        self.disk = disk;
+        self.log = begun.ok();
         told
     }
 

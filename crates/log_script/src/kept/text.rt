@@ -3,7 +3,7 @@
 use crate::readers::{tell_extent, tell_key};
 use disk::{DeskCall, DiskCall, MemDisk};
 use ft_io::NoMemory;
-use kept_log::{KeptLog, OpenEnd};
+use kept_log::{KeepEnd, KeptLog, OpenEnd};
 use logger_store::LogStore;
 use test_data::Said;
 
@@ -43,23 +43,44 @@ pub(crate) fn call_count(disk: &MemDisk) -> usize {
     }
 }
 
-/// Says a log's boot number, its count of entries and the place of the closed gate.
+/// Says a log's boot number, its count of entries and where the next block begins.
 pub(crate) fn tell_log(log: &KeptLog, said: &mut Said) {
-    let (boot, count, end) = (log.log().boot(), log.log().count(), log.end());
+    let (boot, count, end) = (log.log().boot(), log.log().count(), log.tip().end);
     write!(said, "boot {boot} count {count} end {end}");
 }
 
 /// Says what came of an opening, with the calls on the file.
 pub(crate) fn tell_opening(
-    opened: &Result<KeptLog, OpenEnd>,
+    opened: &Result<(KeptLog, usize), OpenEnd>,
     disk: &MemDisk,
     said: &mut Said,
 ) -> Result<(), NoMemory> {
     match opened {
-        Ok(log) => tell_log(log, said),
+        Ok((log, cut)) => {
+            tell_log(log, said);
+            write!(said, " cut {cut}");
+        }
         Err(OpenEnd::NoMemory) => return Err(NoMemory),
         Err(OpenEnd::Failed) => said.add(b"failed"),
+        Err(OpenEnd::Empty) => said.add(b"empty"),
+        Err(OpenEnd::Unfinished) => said.add(b"unfinished"),
+        Err(OpenEnd::Older) => said.add(b"older"),
         Err(OpenEnd::Wrong(at)) => write!(said, "wrong {at}"),
+    }
+    tell_calls(disk, 0, said);
+    Ok(())
+}
+
+/// Says what came of the making of a journal, with the calls on the file.
+pub(crate) fn tell_beginning(
+    begun: &Result<KeptLog, KeepEnd>,
+    disk: &MemDisk,
+    said: &mut Said,
+) -> Result<(), NoMemory> {
+    match begun {
+        Ok(log) => tell_log(log, said),
+        Err(KeepEnd::NoMemory) => return Err(NoMemory),
+        Err(KeepEnd::Failed) => said.add(b"failed"),
     }
     tell_calls(disk, 0, said);
     Ok(())

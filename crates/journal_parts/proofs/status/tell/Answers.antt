@@ -1,4 +1,7 @@
-use Rattle.journal_parts.specs.declared.status.ProcessEnd.TheVariants.{JournalFault, BadJournal, InUse}
+use Rattle.std.proofs.Common.{List, ℕ, OnOk, OnErr, subst}
+use Rattle.std.specs.Io.KnownBytes.{Appends}
+use Rattle.ft_io.specs.Sink.{AppendsFront}
+use Rattle.journal_parts.specs.declared.status.ProcessEnd.TheVariants.{JournalFault, BadJournal, NoJournal, InUse}
 use Rattle.journal_parts.proofs.EndReport.{told_end}
 use Rattle.journal_parts.proofs.status.tell.Goals as goal
 
@@ -18,3 +21,12 @@ returns-in-InUse-clause-told g c =
     rw c.in-InUse.is (told_end InUse c.write_all-in-InUse.result (g.E.Sink.taken c.args.err.now) (g.E.Sink.taken c.write_all-in-InUse.new.out) (g.E.Sink.fault_count c.args.err.now)
     (g.E.Sink.fault_count c.write_all-in-InUse.new.out) c.status_of-in-InUse.result.code c.write_all-in-InUse.ensures.whole c.write_all-in-InUse.ensures.front
     c.write_all-in-InUse.ensures.cause c.status_of-in-InUse.ensures.ok c.status_of-in-InUse.ensures.err)
+
+pub returns-in-NoJournal-clause-told : goal.returns-in-NoJournal-clause-told
+returns-in-NoJournal-clause-told g c =
+    let written = c.write_all-in-NoJournal.result in
+    let whole = subst (λ (t : List ℕ). OnOk written (Appends (g.E.Sink.taken c.args.err.now) (g.E.Sink.taken c.write_all-in-NoJournal.new.out) t)) c.line_of.ensures c.write_all-in-NoJournal.ensures.whole in
+    let front = subst (λ (t : List ℕ). OnErr written (AppendsFront (g.E.Sink.taken c.args.err.now) (g.E.Sink.taken c.write_all-in-NoJournal.new.out) t)) c.line_of.ensures c.write_all-in-NoJournal.ensures.front in
+    rw c.in-NoJournal.is (told_end (NoJournal c.in-NoJournal.lack) written (g.E.Sink.taken c.args.err.now) (g.E.Sink.taken c.write_all-in-NoJournal.new.out)
+    (g.E.Sink.fault_count c.args.err.now) (g.E.Sink.fault_count c.write_all-in-NoJournal.new.out) c.status_of-in-NoJournal.result.code whole front
+    c.write_all-in-NoJournal.ensures.cause c.status_of-in-NoJournal.ensures.ok c.status_of-in-NoJournal.ensures.err)

@@ -1,24 +1,40 @@
-use Rattle.std.proofs.Common.{◌∷◌, [], List, ℕ, true, false, drop, subst}
-use Rattle.std.proofs.lemmas.List.{take_rest}
+use Rattle.std.proofs.Common.{◌≡◌, ◌∙◌, inl, inr, refl, subst, List, ℕ, [], ◌∷◌, true, false}
 use Rattle.ft_io.specs.Told.{Tells}
 use Rattle.disk.specs.declared.calls.DiskCall.TheVariants.{Appended, Synced}
-use Rattle.disk.specs.declared.calls.DeskCall.TheVariants.{OnDisk}
-use Rattle.kept_log.specs.Format.{at_rest}
-use Rattle.ft_io.proofs.Outcomes.{at_err}
-use Rattle.kept_log.proofs.Settled.{first_failed, sync_failed}
+use Rattle.disk.specs.CallRecord.{on_disk}
+use Rattle.ft_io.proofs.Tellings.{tells_on}
+use Rattle.kept_log.specs.Format.{header}
+use Rattle.kept_log.specs.Startup.{HasNotBegun}
+use Rattle.kept_log.specs.declared.journal.KeepEnd.TheVariants.{Failed}
+use Rattle.kept_log.proofs.Settled.{if_err}
 use Rattle.kept_log.proofs.opening.make.Goals as goal
 
 pub returns-in_err-append-clause-stopped : goal.returns-in_err-append-clause-stopped
 returns-in_err-append-clause-stopped g c =
-    let told = g.D.Disk.told in
-    let wrote : Tells (told c.args.disk.now) (told c.append.new.self) (OnDisk (Appended (drop c.args.len (at_rest [])) true) ∷ []) =
-    subst (λ (b : List ℕ). Tells (told c.args.disk.now) (told c.append.new.self) (OnDisk (Appended b true) ∷ [])) (take_rest (at_rest []) c.args.len) c.in_err-append.ensures.told in
-    at_err c.from_residual.result
-    (first_failed (Appended (drop c.args.len (at_rest [])) false) (Synced false ∷ []) (told c.args.disk.now) (told c.append.new.self) wrote)
+    let t = g.D.Disk.told in
+    let new = header c.args.made.now in
+    let is : c.deref.result.now ≡ new = c.deref.ensures.value ∙ c.in_ok-header.ensures in
+    if_err c.from_residual-in_err-append.result Failed (HasNotBegun c.args.made.now (t c.args.disk.now) (t c.append.new.self)) c.from_residual-in_err-append.ensures.1
+    (Appended new true ∷ [], inr (refl, refl), subst (λ (b : List ℕ). Tells (t c.args.disk.now) (t c.append.new.self) (on_disk (Appended b true ∷ []))) is c.in_err-append.ensures.told)
 
-pub returns-clause-stopped : goal.returns-clause-stopped
-returns-clause-stopped g c =
-    let told = g.D.Disk.told in
-    let wrote : Tells (told c.args.disk.now) (told c.append.new.self) (OnDisk (Appended (drop c.args.len (at_rest [])) false) ∷ []) =
-    subst (λ (b : List ℕ). Tells (told c.args.disk.now) (told c.append.new.self) (OnDisk (Appended b false) ∷ [])) (take_rest (at_rest []) c.args.len) c.in_ok-append.ensures.told in
-    sync_failed (Appended (drop c.args.len (at_rest [])) false) (told c.args.disk.now) (told c.append.new.self) (told c.sync.new.self) c.sync.result wrote c.sync.ensures.told
+pub returns-in_err-sync-clause-stopped : goal.returns-in_err-sync-clause-stopped
+returns-in_err-sync-clause-stopped g c =
+    let t = g.D.Disk.told in
+    let new = header c.args.made.now in
+    let is : c.deref.result.now ≡ new = c.deref.ensures.value ∙ c.in_ok-header.ensures in
+    let wrote : Tells (t c.args.disk.now) (t c.append.new.self) (on_disk (Appended new false ∷ [])) =
+    subst (λ (b : List ℕ). Tells (t c.args.disk.now) (t c.append.new.self) (on_disk (Appended b false ∷ []))) is c.in_ok-append.ensures.told in
+    if_err c.from_residual-in_err-sync.result Failed (HasNotBegun c.args.made.now (t c.args.disk.now) (t c.sync.new.self)) c.from_residual-in_err-sync.ensures.1 (
+      Appended new false ∷ Synced true ∷ [],
+      inl (refl, inr (refl, refl)),
+      tells_on (t c.args.disk.now) (t c.append.new.self) (t c.sync.new.self) (on_disk (Appended new false ∷ [])) (on_disk (Synced true ∷ [])) wrote c.in_err-sync.ensures.told,
+    )
+
+pub returns-clause-made : goal.returns-clause-made
+returns-clause-made g c =
+    let t = g.D.Disk.told in
+    let new = header c.args.made.now in
+    let is : c.deref.result.now ≡ new = c.deref.ensures.value ∙ c.in_ok-header.ensures in
+    let wrote : Tells (t c.args.disk.now) (t c.append.new.self) (on_disk (Appended new false ∷ [])) =
+    subst (λ (b : List ℕ). Tells (t c.args.disk.now) (t c.append.new.self) (on_disk (Appended b false ∷ []))) is c.in_ok-append.ensures.told in
+    tells_on (t c.args.disk.now) (t c.append.new.self) (t c.sync.new.self) (on_disk (Appended new false ∷ [])) (on_disk (Synced false ∷ [])) wrote c.in_ok-sync.ensures.told

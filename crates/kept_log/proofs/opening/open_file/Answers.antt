@@ -1,47 +1,26 @@
 use Rattle.std.proofs.Common.{inr, subst}
 use Rattle.kept_log.specs.Startup.{IsCutShort, HasStopped}
 use Rattle.kept_log.specs.ReadSteps.{FindsAs}
-use Rattle.kept_log.specs.declared.reading.Found.TheVariants.{New, Whole}
+use Rattle.kept_log.specs.declared.reading.Found.TheVariants.{Whole}
 use Rattle.kept_log.specs.declared.opening.OpenEnd.TheVariants.{Failed}
-use Rattle.kept_log.proofs.Settled.{if_err, begun_opened, begun_stopped, whole_opened, whole_stopped}
+use Rattle.kept_log.proofs.Settled.{if_err, whole_opened, whole_stopped}
 use Rattle.kept_log.proofs.opening.open_file.Goals as goal
-
-pub returns-in_err-make-in-New-clause-stopped : goal.returns-in_err-make-in-New-clause-stopped
-returns-in_err-make-in-New-clause-stopped g c =
-    let left = g.D.Disk.left in
-    let told = g.D.Disk.told in
-    let found : FindsAs (left c.args.disk.now) c.read_file.new.store (New c.in-New.len) = subst (FindsAs (left c.args.disk.now) c.read_file.new.store) c.in-New.is c.in_ok-len.ensures.found in
-    let short : IsCutShort (left c.args.disk.now) (told c.args.disk.now) (told c.make.new.disk) =
-    begun_stopped (left c.args.disk.now) (told c.args.disk.now) (told c.read_file.new.disk) (told c.make.new.disk) c.read_file.new.store c.read_file.ensures.told c.in-New.len found
-    c.in_err-make-in-New.ensures.stopped in
-    if_err c.from_residual-in_err-make-in-New.result Failed (HasStopped (left c.args.disk.now) (told c.args.disk.now) (told c.make.new.disk))
-    c.from_residual-in_err-make-in-New.ensures.1 (inr short)
 
 pub returns-in_err-cut_tail-in-Whole-clause-stopped : goal.returns-in_err-cut_tail-in-Whole-clause-stopped
 returns-in_err-cut_tail-in-Whole-clause-stopped g c =
     let left = g.D.Disk.left in
     let told = g.D.Disk.told in
-    let found : FindsAs (left c.args.disk.now) c.read_file.new.store (Whole c.in-Whole.end c.in-Whole.tail) =
-    subst (FindsAs (left c.args.disk.now) c.read_file.new.store) c.in-Whole.is c.in_ok-len.ensures.found in
+    let found : FindsAs (left c.args.disk.now) c.read_file.new.store (Whole c.in-Whole.tip c.in-Whole.tail) = subst (FindsAs (left c.args.disk.now) c.read_file.new.store) c.in-Whole.is c.in_ok-tip.ensures.found in
     let short : IsCutShort (left c.args.disk.now) (told c.args.disk.now) (told c.cut_tail.new.disk) =
-    whole_stopped (left c.args.disk.now) (told c.args.disk.now) (told c.read_file.new.disk) (told c.cut_tail.new.disk) c.read_file.new.store c.read_file.ensures.told c.in-Whole.end c.in-Whole.tail
+    whole_stopped (left c.args.disk.now) (told c.args.disk.now) (told c.read_file.new.disk) (told c.cut_tail.new.disk) c.read_file.new.store c.read_file.ensures.told c.in-Whole.tip c.in-Whole.tail
     found c.in_err-cut_tail-in-Whole.ensures.stopped in
     if_err c.from_residual-in_err-cut_tail-in-Whole.result Failed (HasStopped (left c.args.disk.now) (told c.args.disk.now) (told c.cut_tail.new.disk))
     c.from_residual-in_err-cut_tail-in-Whole.ensures.1 (inr short)
-
-pub returns-in_ok-make-in-New-clause-opened : goal.returns-in_ok-make-in-New-clause-opened
-returns-in_ok-make-in-New-clause-opened g c =
-    let left = g.D.Disk.left in
-    let told = g.D.Disk.told in
-    let found : FindsAs (left c.args.disk.now) c.read_file.new.store (New c.in-New.len) = subst (FindsAs (left c.args.disk.now) c.read_file.new.store) c.in-New.is c.in_ok-len.ensures.found in
-    begun_opened (left c.args.disk.now) (told c.args.disk.now) (told c.read_file.new.disk) (told c.make.new.disk) c.read_file.new.store c.read_file.ensures.told c.in-New.len found
-    c.in_ok-make-in-New.ensures.made
 
 pub returns-in_ok-cut_tail-in-Whole-clause-opened : goal.returns-in_ok-cut_tail-in-Whole-clause-opened
 returns-in_ok-cut_tail-in-Whole-clause-opened g c =
     let left = g.D.Disk.left in
     let told = g.D.Disk.told in
-    let found : FindsAs (left c.args.disk.now) c.read_file.new.store (Whole c.in-Whole.end c.in-Whole.tail) =
-    subst (FindsAs (left c.args.disk.now) c.read_file.new.store) c.in-Whole.is c.in_ok-len.ensures.found in
-    whole_opened (left c.args.disk.now) (told c.args.disk.now) (told c.read_file.new.disk) (told c.cut_tail.new.disk) c.read_file.new.store c.read_file.ensures.told c.in-Whole.end c.in-Whole.tail
+    let found : FindsAs (left c.args.disk.now) c.read_file.new.store (Whole c.in-Whole.tip c.in-Whole.tail) = subst (FindsAs (left c.args.disk.now) c.read_file.new.store) c.in-Whole.is c.in_ok-tip.ensures.found in
+    whole_opened (left c.args.disk.now) (told c.args.disk.now) (told c.read_file.new.disk) (told c.cut_tail.new.disk) c.read_file.new.store c.read_file.ensures.told c.in-Whole.tip c.in-Whole.tail
     found c.in_ok-cut_tail-in-Whole.ensures.cut

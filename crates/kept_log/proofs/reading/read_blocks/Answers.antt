@@ -10,15 +10,15 @@ loop-step-preserved g c =
     let left = g.D.Disk.left in
     let told = g.D.Disk.told in
     let inv = c.loop-step.invariant in
-    let on : IsAt c.args.window.now (left c.args.disk.now) (left c.step.new.disk) c.step.new.window c.match-branch-2.place c.step.new.store =
+    let on : IsAt c.args.made.now c.args.window.now (left c.args.disk.now) (left c.step.new.disk) c.step.new.window c.step.new.tip c.step.new.store =
     elim c.match-branch-2.branch [
       | in-Block w ↦
-          step_block c.args.window.now (left c.args.disk.now) (left c.loop-step.disk) (left c.step.new.disk) c.loop-step.window c.step.new.window c.loop-step.place w.in-Block.len
-          c.match-branch-2.place c.loop-step.store c.step.new.store inv.0
-          (subst (Steps (left c.loop-step.disk) (left c.step.new.disk) c.loop-step.window c.step.new.window c.loop-step.store c.step.new.store) w.in-Block.is c.in_ok-len.ensures.stepped) w.place-is
+          step_block c.args.made.now c.args.window.now (left c.args.disk.now) (left c.loop-step.disk) (left c.step.new.disk) c.loop-step.window c.step.new.window c.loop-step.tip c.step.new.tip
+          c.loop-step.store c.step.new.store inv.0
+          (subst (Steps (left c.loop-step.disk) (left c.step.new.disk) c.loop-step.tip c.step.new.tip c.loop-step.window c.step.new.window c.loop-step.store c.step.new.store) w.in-Block.is c.in_ok-step.ensures.stepped)
       | in-Short w ↦
-          step_more c.args.window.now (left c.args.disk.now) (left c.loop-step.disk) (left c.step.new.disk) c.loop-step.window c.step.new.window c.loop-step.place
-          c.match-branch-2.place c.loop-step.store c.step.new.store inv.0
-          (subst (Steps (left c.loop-step.disk) (left c.step.new.disk) c.loop-step.window c.step.new.window c.loop-step.store c.step.new.store) w.in-Short.is c.in_ok-len.ensures.stepped) w.place-is
+          step_more c.args.made.now c.args.window.now (left c.args.disk.now) (left c.loop-step.disk) (left c.step.new.disk) c.loop-step.window c.step.new.window c.loop-step.tip c.step.new.tip
+          c.loop-step.store c.step.new.store inv.0
+          (subst (Steps (left c.loop-step.disk) (left c.step.new.disk) c.loop-step.tip c.step.new.tip c.loop-step.window c.step.new.window c.loop-step.store c.step.new.store) w.in-Short.is c.in_ok-step.ensures.stepped)
     ] in
     (on, quiet_on (told c.args.disk.now) (told c.loop-step.disk) (told c.step.new.disk) inv.1 c.step.ensures.told, omega (arith, inv.2, c.step.ensures.never_falls), c.step.ensures.beside ∙ inv.3)

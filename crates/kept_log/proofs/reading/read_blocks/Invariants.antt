@@ -4,7 +4,7 @@ use Rattle.kept_log.specs.ReadSteps.{IsAt}
 use Rattle.kept_log.proofs.reading.read_blocks.Given as goal
 
 abbrev pub invariant-loop-step : goal.invariant-loop-step
-invariant-loop-step g l = IsAt l.initial.window (g.D.Disk.left l.initial.disk) (g.D.Disk.left l.disk) l.window l.place l.store
+invariant-loop-step g l = IsAt l.made l.initial.window (g.D.Disk.left l.initial.disk) (g.D.Disk.left l.disk) l.window l.tip l.store
     × Tells (g.D.Disk.told l.initial.disk) (g.D.Disk.told l.disk) []
     × (g.D.Disk.fault_count l.initial.disk ≤ g.D.Disk.fault_count l.disk)
     × (g.D.Disk.beside l.disk ≡ g.D.Disk.beside l.initial.disk)

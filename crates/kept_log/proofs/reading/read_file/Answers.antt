@@ -1,34 +1,46 @@
-use Rattle.std.proofs.Common.{ℕ, List, length, sym, subst}
+use Rattle.std.proofs.Common.{ℕ, List, subst}
 use Rattle.std.proofs.lemmas.Result.{IfOk-weaker}
-use Rattle.kept_log.specs.ReadSteps.{HasMagic, FindsBehind, FindsAs}
-use Rattle.kept_log.specs.declared.magic.Magic.TheVariants.{Part, Whole, Missing}
-use Rattle.kept_log.specs.declared.reading.Found.TheVariants as finds
-use Rattle.kept_log.proofs.Whole.{has_first, found_part, found_missing, found_whole}
+use Rattle.kept_log.specs.ReadSteps.{HasBegin, FindsBehind, FindsAs}
+use Rattle.kept_log.specs.declared.header.Begin.TheVariants.{Empty, Unfinished, Older, Whole, Missing}
+use Rattle.kept_log.proofs.Whole.{begin_fits, has_first, found_empty, found_unfinished, found_older, found_missing, found_whole}
 use Rattle.kept_log.proofs.reading.read_file.Goals as goal
 
-pub returns-in-Part-clause-found : goal.returns-in-Part-clause-found
-returns-in-Part-clause-found g c =
+pub returns-in-Empty-clause-found : goal.returns-in-Empty-clause-found
+returns-in-Empty-clause-found g c =
     let left = g.D.Disk.left in
-    let first = has_first (left c.args.disk.now) (left c.read_front.new.disk) c.new-window.result c.read_front.new.window c.in_ok-read_front.ensures.read c.new-window.ensures
-    c.in_ok-read_front.ensures.end in
-    let begins : HasMagic c.read_front.new.window Part = subst (λ (b : List ℕ). HasMagic b Part) c.bytes.ensures c.in-Part.ensures in
-    subst (λ (b : List ℕ). FindsAs (left c.args.disk.now) c.args.store.now (finds.New (length b))) (sym c.bytes-in-Part.ensures)
-    (found_part (left c.args.disk.now) (left c.read_front.new.disk) c.read_front.new.window c.args.store.now first c.requires begins)
+    let first = has_first (left c.args.disk.now) (left c.fill_up.new.disk) c.new-window.result c.fill_up.new.window c.in_ok-fill_up.ensures.read c.new-window.ensures c.in_ok-fill_up.ensures.end in
+    found_empty (left c.args.disk.now) (left c.fill_up.new.disk) c.fill_up.new.window c.args.store.now first
+    (subst (λ (b : List ℕ). HasBegin b Empty) c.bytes.ensures c.in-Empty.ensures)
+
+pub returns-in-Unfinished-clause-found : goal.returns-in-Unfinished-clause-found
+returns-in-Unfinished-clause-found g c =
+    let left = g.D.Disk.left in
+    let first = has_first (left c.args.disk.now) (left c.fill_up.new.disk) c.new-window.result c.fill_up.new.window c.in_ok-fill_up.ensures.read c.new-window.ensures c.in_ok-fill_up.ensures.end in
+    found_unfinished (left c.args.disk.now) (left c.fill_up.new.disk) c.fill_up.new.window c.args.store.now first
+    (subst (λ (b : List ℕ). HasBegin b Unfinished) c.bytes.ensures c.in-Unfinished.ensures)
+
+pub returns-in-Older-clause-found : goal.returns-in-Older-clause-found
+returns-in-Older-clause-found g c =
+    let left = g.D.Disk.left in
+    let first = has_first (left c.args.disk.now) (left c.fill_up.new.disk) c.new-window.result c.fill_up.new.window c.in_ok-fill_up.ensures.read c.new-window.ensures c.in_ok-fill_up.ensures.end in
+    found_older (left c.args.disk.now) (left c.fill_up.new.disk) c.fill_up.new.window c.args.store.now first
+    (subst (λ (b : List ℕ). HasBegin b Older) c.bytes.ensures c.in-Older.ensures)
 
 pub returns-in-Missing-clause-found : goal.returns-in-Missing-clause-found
 returns-in-Missing-clause-found g c =
     let left = g.D.Disk.left in
-    let first = has_first (left c.args.disk.now) (left c.read_front.new.disk) c.new-window.result c.read_front.new.window c.in_ok-read_front.ensures.read c.new-window.ensures
-    c.in_ok-read_front.ensures.end in
-    let begins : HasMagic c.read_front.new.window Missing = subst (λ (b : List ℕ). HasMagic b Missing) c.bytes.ensures c.in-Missing.ensures in
-    found_missing (left c.args.disk.now) (left c.read_front.new.disk) c.read_front.new.window c.args.store.now first begins
+    let first = has_first (left c.args.disk.now) (left c.fill_up.new.disk) c.new-window.result c.fill_up.new.window c.in_ok-fill_up.ensures.read c.new-window.ensures c.in_ok-fill_up.ensures.end in
+    found_missing (left c.args.disk.now) (left c.fill_up.new.disk) c.fill_up.new.window c.args.store.now first
+    (subst (λ (b : List ℕ). HasBegin b Missing) c.bytes.ensures c.in-Missing.ensures)
 
 pub returns-clause-found : goal.returns-clause-found
 returns-clause-found g c =
     let left = g.D.Disk.left in
-    let first = has_first (left c.args.disk.now) (left c.read_front.new.disk) c.new-window.result c.read_front.new.window c.in_ok-read_front.ensures.read c.new-window.ensures
-    c.in_ok-read_front.ensures.end in
-    let begins : HasMagic c.read_front.new.window Whole = subst (λ (b : List ℕ). HasMagic b Whole) c.bytes.ensures c.in-Whole.ensures in
-    IfOk-weaker c.read_rest.result (FindsBehind c.skip.new.self (left c.read_front.new.disk) c.read_rest.new.store) (FindsAs (left c.args.disk.now) c.read_rest.new.store)
-    (λ found behind. found_whole (left c.args.disk.now) (left c.read_front.new.disk) c.read_front.new.window c.read_rest.new.store first begins found
-    (subst (λ (b : List ℕ). FindsBehind b (left c.read_front.new.disk) c.read_rest.new.store found) c.skip.ensures behind)) c.read_rest.ensures.found
+    let first = has_first (left c.args.disk.now) (left c.fill_up.new.disk) c.new-window.result c.fill_up.new.window c.in_ok-fill_up.ensures.read c.new-window.ensures c.in_ok-fill_up.ensures.end in
+    let begins : HasBegin c.fill_up.new.window (Whole c.in-Whole.made) = subst (λ (b : List ℕ). HasBegin b (Whole c.in-Whole.made)) c.bytes.ensures c.in-Whole.ensures in
+    IfOk-weaker c.read_rest.result (FindsBehind c.in-Whole.made c.skip.new.self (left c.fill_up.new.disk) c.read_rest.new.store) (FindsAs (left c.args.disk.now) c.read_rest.new.store)
+    (λ found behind. found_whole (left c.args.disk.now) (left c.fill_up.new.disk) c.in-Whole.made c.fill_up.new.window c.read_rest.new.store first begins found
+    (subst (λ (b : List ℕ). FindsBehind c.in-Whole.made b (left c.fill_up.new.disk) c.read_rest.new.store found) c.skip.ensures behind)) c.read_rest.ensures.found
+
+pub skip-requires : goal.skip-requires
+skip-requires g c = begin_fits c.fill_up.new.window c.in-Whole.made (subst (λ (b : List ℕ). HasBegin b (Whole c.in-Whole.made)) c.bytes.ensures c.in-Whole.ensures)

@@ -1,7 +1,7 @@
-use Rattle.std.proofs.Common.{◌≡◌, ◌≤◌, ◌-◌, ◌++◌, ℕ, List, [], length}
+use Rattle.std.proofs.Common.{◌≡◌, ◌≤◌, ◌+◌, ◌-◌, ◌++◌, ℕ, List, [], length}
 use Rattle.std.specs.Io.KnownBytes.{Consumes}
 use Rattle.ft_io.specs.Told.{Tells}
-use Rattle.kept_log.proofs.reading.read_front.Given as goal
+use Rattle.kept_log.proofs.reading.fill_up.Given as goal
 
 abbrev pub invariant-loop-disk : goal.invariant-loop-disk
 invariant-loop-disk g l = ((bytes : List ℕ) × Consumes (g.D.Disk.left l.initial.disk) (g.D.Disk.left l.disk) bytes × (l.window ≡ l.initial.window ++ bytes))
@@ -10,4 +10,4 @@ invariant-loop-disk g l = ((bytes : List ℕ) × Consumes (g.D.Disk.left l.initi
     × (g.D.Disk.beside l.disk ≡ g.D.Disk.beside l.initial.disk)
 
 abbrev pub decreases-loop-disk : goal.decreases-loop-disk
-decreases-loop-disk g l = 9 - length l.window
+decreases-loop-disk g l = l.most + 1 - length l.window
