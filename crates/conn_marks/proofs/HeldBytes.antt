@@ -4,9 +4,9 @@ use Rattle.std.specs.Prelude.{ℤ, pos, ◌+ℤ◌, IfSome}
 use Rattle.std.specs.List.{AllByRecursion}
 use Rattle.ft_io.proofs.Choices.{holds_if}
 use Rattle.ft_io.specs.declared.Addr.{Addr}
-use Rattle.seq_arith.specs.Arrival.{below}
-use Rattle.seq_arith.specs.Coming.{Early, Came, nothing_came, ahead, new_text, with_text, holds_fin, with_fin, continued, stands_at, with_fin_taken, comes}
-use Rattle.seq_arith.specs.Early.{laid, run_count, front_run, behind_front_run, most_runs, held_with}
+use Rattle.tcp_rules.specs.Arrival.{below}
+use Rattle.tcp_rules.specs.Coming.{Early, Came, nothing_came, ahead, new_text, with_text, holds_fin, with_fin, continued, stands_at, with_fin_taken, comes}
+use Rattle.tcp_rules.specs.Early.{laid, run_count, front_run, behind_front_run, most_runs, held_with}
 use Rattle.seq_arith.specs.Packet.{Segment}
 use Rattle.server_trait.specs.Service.{Machine, AreBytes}
 use Rattle.ft_model.specs.Connection.{ConnectionTurn, LiveTurn, ResetTurn}

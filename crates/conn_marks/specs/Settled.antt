@@ -2,7 +2,7 @@
 use Rattle.std.specs.Prelude.{◌≡◌, ℕ, ◌<◌, Option, Some, IfSome, List}
 use Rattle.std.specs.List.{AllByRecursion}
 use Rattle.ft_io.specs.declared.Key.{Key}
-use Rattle.seq_arith.specs.Coming.{Early}
+use Rattle.tcp_rules.specs.Coming.{Early}
 use Rattle.server_trait.specs.Service.{AreBytes}
 use Rattle.ft_model.specs.Node.{Place}
 use Rattle.ft_model.specs.Node.Place.{Lives}

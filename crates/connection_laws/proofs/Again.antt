@@ -3,7 +3,7 @@ use Rattle.std.proofs.Common.{◌≡◌, ℕ, ◌≤◌, ◌+◌, ◌%◌, ◌^�
 use Rattle.std.specs.Prelude.{pos, ◌&&◌, nat_abs, nat_lt, int_le, if◌then◌else◌}
 use Rattle.std.proofs.lemmas.Bool.{or_parts}
 use Rattle.ft_io.specs.declared.Addr.{Addr}
-use Rattle.seq_arith.specs.Arrival.{una_after}
+use Rattle.tcp_rules.specs.Arrival.{una_after}
 use Rattle.seq_arith.specs.Packet.{Segment, has_ack}
 use Rattle.server_trait.specs.Service.{Machine}
 use Rattle.endpoint_laws.specs.Laws.{KeepsTime}

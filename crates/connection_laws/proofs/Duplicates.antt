@@ -4,7 +4,7 @@ use Rattle.std.proofs.Common.{◌≡◌, ℕ, ◌<◌, ◌≤◌, ◌+◌, ◌-�
 use Rattle.std.specs.Prelude.{ℤ, pos, ◌==◌, ◌&&◌, nat_abs, nat_lt, int_le, if◌then◌else◌}
 use Rattle.std.proofs.lemmas.Int.{ints}
 use Rattle.std.proofs.lemmas.Bool.{false≢true}
-use Rattle.seq_arith.specs.Congestion.{Congestion, is_partial, with_new_data, with_duplicate}
+use Rattle.tcp_rules.specs.Congestion.{Congestion, is_partial, with_new_data, with_duplicate}
 use Rattle.ft_io.proofs.Booleans.{and_when}
 use Rattle.connection_laws.proofs.Lowered.{Lowers, window_inside, window_usual, unsigned}
 

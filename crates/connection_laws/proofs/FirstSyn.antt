@@ -2,13 +2,13 @@
 use Rattle.std.proofs.Common.{◌≡◌, ℕ, ◌<◌, ◌+◌, ◌-◌, ◌%◌, ◌^◌, not, List, [], ◌∷◌, ◌++◌, length, min, max, Some, refl, sym, ap, subst, arith, ◌∙◌}
 use Rattle.std.specs.Prelude.{◌&&◌, ◌||◌, nat_lt, nat_le, if◌then◌else◌}
 use Rattle.ft_io.specs.declared.Addr.{Addr}
-use Rattle.seq_arith.specs.Congestion.{initial_congestion, initial_window}
+use Rattle.tcp_rules.specs.Congestion.{initial_congestion, initial_window}
 use Rattle.seq_arith.specs.Message.{Numbers}
 use Rattle.seq_arith.specs.Number.{number_at}
 use Rattle.seq_arith.specs.Packet.{Segment}
 use Rattle.server_trait.specs.Service.{Machine}
-use Rattle.seq_arith.specs.Profile.{Profile}
-use Rattle.seq_arith.specs.Timing.{first_base, initial_timing, with_sent}
+use Rattle.tcp_rules.specs.Profile.{Profile}
+use Rattle.tcp_rules.specs.Timing.{first_base, initial_timing, with_sent}
 use Rattle.ft_model.specs.Answered.{answered_after, reads_answered_after}
 use Rattle.ft_model.specs.Connection.{LiveTurn}
 use Rattle.ft_model.specs.ResetAndEnd.{end_ticks_after}

@@ -3,13 +3,13 @@ use Rattle.std.proofs.Common.{◌≡◌, ℕ, zero, suc, ◌<◌, ◌+◌, ◌-�
 use Rattle.std.specs.Prelude.{ℤ, pos, ◌+ℤ◌, ◌==◌, ◌&&◌, ◌||◌, nat_abs, nat_lt, int_lt, int_le, nat_le, if◌then◌else◌}
 use Rattle.std.proofs.lemmas.Int.{ints}
 use Rattle.std.proofs.lemmas.Bool.{false≢true, and_right}
-use Rattle.seq_arith.specs.Arrival.{int_eq, is_acceptable, is_at_right_edge, is_allowed_at_zero, is_usable, is_beyond, una_after, updates_window}
-use Rattle.seq_arith.specs.Coming.{nothing_came, nothing_early, comes}
-use Rattle.seq_arith.specs.Congestion.{is_partial, is_third, with_new_data, with_duplicate}
-use Rattle.seq_arith.proofs.Coming.{in_order, ComesAlone, comes_alone}
+use Rattle.tcp_rules.specs.Arrival.{int_eq, is_acceptable, is_at_right_edge, is_allowed_at_zero, is_usable, is_beyond, una_after, updates_window}
+use Rattle.tcp_rules.specs.Coming.{nothing_came, nothing_early, comes}
+use Rattle.tcp_rules.specs.Congestion.{is_partial, is_third, with_new_data, with_duplicate}
+use Rattle.tcp_rules.proofs.Coming.{in_order, ComesAlone, comes_alone}
 use Rattle.seq_arith.specs.Packet.{Segment, has_fin, has_syn, has_rst, has_ack}
 use Rattle.server_trait.specs.Service.{Machine, reference}
-use Rattle.seq_arith.specs.Timing.{Timing, with_acknowledged, with_sample, without_trip, with_sent}
+use Rattle.tcp_rules.specs.Timing.{Timing, with_acknowledged, with_sample, without_trip, with_sent}
 use Rattle.ft_model.specs.Offset.{one_if, first_of, ack_of, text_of, fin_of, length_of}
 use Rattle.ft_model.specs.Point.{Point, taken_units, most, receive_edge, room, target}
 use Rattle.ft_model.specs.News.News.{Comes}

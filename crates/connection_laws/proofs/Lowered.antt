@@ -5,7 +5,7 @@ use Rattle.std.proofs.lemmas.Int.{ints}
 use Rattle.std.proofs.Math.Nat.{max-zero}
 use Rattle.seq_arith.specs.Number.{gap, distance, number_at, offset_of}
 use Rattle.std.proofs.lemmas.Bool.{false≢true}
-use Rattle.seq_arith.specs.Arrival.{int_eq, is_beyond, una_after, updates_window}
+use Rattle.tcp_rules.specs.Arrival.{int_eq, is_beyond, una_after, updates_window}
 use Rattle.seq_arith.specs.Packet.{Segment}
 use Rattle.seq_arith.proofs.Shifts.{gap_from, offset_shift, offset_of_number}
 use Rattle.ft_model.specs.Offset.{ack_of}

@@ -3,12 +3,12 @@ use Rattle.std.proofs.Common.{◌≡◌, ℕ, ◌≤◌, ◌+◌, ◌-◌, ◌*�
 use Rattle.std.specs.Prelude.{ℤ, pos, ◌==◌, ◌&&◌, ◌||◌, nat_abs, nat_lt, int_le, if◌then◌else◌}
 use Rattle.std.proofs.lemmas.Bool.{false≢true}
 use Rattle.ft_io.specs.declared.Addr.{Addr}
-use Rattle.seq_arith.specs.Arrival.{una_after}
-use Rattle.seq_arith.specs.Coming.{nothing_came, comes}
-use Rattle.seq_arith.specs.Congestion.{is_partial, with_new_data, is_third, with_duplicate, with_expiry}
+use Rattle.tcp_rules.specs.Arrival.{una_after}
+use Rattle.tcp_rules.specs.Coming.{nothing_came, comes}
+use Rattle.tcp_rules.specs.Congestion.{is_partial, with_new_data, is_third, with_duplicate, with_expiry}
 use Rattle.seq_arith.specs.Packet.{Segment, has_syn, has_rst, has_ack}
 use Rattle.server_trait.specs.Service.{Machine}
-use Rattle.seq_arith.specs.Timing.{with_acknowledged, without_trip, with_sent}
+use Rattle.tcp_rules.specs.Timing.{with_acknowledged, without_trip, with_sent}
 use Rattle.ft_model.specs.Offset.{first_of, ack_of, text_of, fin_of}
 use Rattle.ft_model.specs.Point.{Point, taken_units, most, receive_edge, released, target}
 use Rattle.ft_model.specs.News.{News}

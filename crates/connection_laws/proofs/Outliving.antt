@@ -4,11 +4,11 @@ use Rattle.std.specs.Prelude.{◌==◌, ◌&&◌, ◌||◌, nat_abs, nat_lt, if�
 use Rattle.std.proofs.lemmas.Bool.{false≢true, and_parts}
 use Rattle.ft_io.specs.declared.Addr.{Addr}
 use Rattle.ft_io.proofs.Numbers.{plus_none}
-use Rattle.seq_arith.specs.Arrival.{una_after}
-use Rattle.seq_arith.specs.Coming.{nothing_came, comes, early_from, StandsBehind}
-use Rattle.seq_arith.specs.Congestion.{Congestion}
-use Rattle.seq_arith.specs.Timing.{Timing}
-use Rattle.seq_arith.proofs.Coming.{comes_ended}
+use Rattle.tcp_rules.specs.Arrival.{una_after}
+use Rattle.tcp_rules.specs.Coming.{nothing_came, comes, early_from, StandsBehind}
+use Rattle.tcp_rules.specs.Congestion.{Congestion}
+use Rattle.tcp_rules.specs.Timing.{Timing}
+use Rattle.tcp_rules.proofs.Coming.{comes_ended}
 use Rattle.seq_arith.specs.Packet.{Segment, has_rst, has_ack}
 use Rattle.server_trait.specs.Service.{Machine, reference}
 use Rattle.ft_model.specs.Growth.{IsPrefix}

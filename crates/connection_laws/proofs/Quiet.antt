@@ -2,8 +2,8 @@
 use Rattle.std.proofs.Common.{◌≡◌, ℕ, ◌≤◌, ◌+◌, ◌-◌, Bool, true, false, not, [], ◌∷◌, ◌++◌, length, min, refl, ap, arith}
 use Rattle.std.specs.Prelude.{◌==◌, ◌&&◌, ◌||◌, nat_abs, nat_lt, nat_le, if◌then◌else◌}
 use Rattle.std.proofs.lemmas.Bool.{and_right}
-use Rattle.seq_arith.specs.Arrival.{una_after}
-use Rattle.seq_arith.specs.Congestion.{is_third}
+use Rattle.tcp_rules.specs.Arrival.{una_after}
+use Rattle.tcp_rules.specs.Congestion.{is_third}
 use Rattle.ft_io.specs.declared.Addr.{Addr}
 use Rattle.ft_io.proofs.Booleans.{and_false}
 use Rattle.server_trait.specs.Service.{Machine}

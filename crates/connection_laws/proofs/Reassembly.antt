@@ -1,7 +1,7 @@
 -- What is held at a point at which an endpoint stands: it comes after the bytes taken, as it does in the endpoint.
 use Rattle.std.proofs.Common.{ℕ, ◌+◌, Bool, length, sym, subst}
-use Rattle.seq_arith.specs.Coming.{Early, early_from, StandsBehind}
-use Rattle.seq_arith.proofs.Coming.{behind_from}
+use Rattle.tcp_rules.specs.Coming.{Early, early_from, StandsBehind}
+use Rattle.tcp_rules.proofs.Coming.{behind_from}
 use Rattle.ft_model.specs.Point.{Point, receive_edge, HoldsBehind}
 use Rattle.tcp_endpoint.specs.ReceiveHalf.{Receiving, taken}
 use Rattle.tcp_endpoint.specs.ReceiveHalf as receiver

@@ -1,10 +1,10 @@
 -- What news leave of TCP's send buffer: the bytes after what is acknowledged, and where they end.
 use Rattle.std.proofs.Common.{◌≡◌, ℕ, ◌≤◌, ◌+◌, ◌-◌, Bool, true, false, List, length, length-drop, drop, refl, sym, ap, subst, arith, ◌∙◌}
 use Rattle.std.specs.Prelude.{ℤ, nat_abs, if◌then◌else◌}
-use Rattle.seq_arith.specs.Arrival.{is_new_ack}
-use Rattle.seq_arith.specs.Congestion.{Congestion}
+use Rattle.tcp_rules.specs.Arrival.{is_new_ack}
+use Rattle.tcp_rules.specs.Congestion.{Congestion}
 use Rattle.seq_arith.specs.Offset.{one_if}
-use Rattle.seq_arith.specs.Timing.{Timing}
+use Rattle.tcp_rules.specs.Timing.{Timing}
 use Rattle.ft_model.specs.News.{News}
 use Rattle.ft_model.specs.News.News.{Comes, Logged, Ticks, Begins}
 use Rattle.tcp_endpoint.specs.States.{has_begun}

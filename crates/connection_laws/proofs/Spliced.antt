@@ -6,13 +6,13 @@ use Rattle.std.proofs.lemmas.Bool.{false≢true}
 use Rattle.ft_io.specs.declared.Addr.{Addr}
 use Rattle.ft_io.specs.declared.Key.{Key}
 use Rattle.seq_arith.specs.Number.{number_at}
-use Rattle.seq_arith.specs.Arrival.{int_eq}
-use Rattle.seq_arith.specs.Congestion.{initial_congestion}
+use Rattle.tcp_rules.specs.Arrival.{int_eq}
+use Rattle.tcp_rules.specs.Congestion.{initial_congestion}
 use Rattle.tcp_endpoint.specs.ReceiveHalf.{next}
 use Rattle.seq_arith.specs.Packet.{Segment}
 use Rattle.seq_arith.proofs.Shifts.{offset_of_number}
 use Rattle.server_trait.specs.Service.{Machine}
-use Rattle.seq_arith.specs.Profile.{Profile}
+use Rattle.tcp_rules.specs.Profile.{Profile}
 use Rattle.ft_model.specs.Offset.{one_if, first_of, ack_of}
 use Rattle.ft_model.specs.Log.{Entry}
 use Rattle.ft_model.specs.Point.{Point, answered_run}

@@ -4,7 +4,7 @@ use Rattle.std.specs.Prelude.{◌⊎◌, ◌==◌, ◌&&◌, ◌||◌, nat_lt, i
 use Rattle.std.proofs.lemmas.Bool.{false≢true, and_parts}
 use Rattle.ft_io.proofs.Numbers.{equal_of_test}
 use Rattle.server_trait.specs.Service.{Machine}
-use Rattle.seq_arith.specs.Congestion.{Congestion}
+use Rattle.tcp_rules.specs.Congestion.{Congestion}
 use Rattle.ft_model.specs.Offset.{one_if}
 use Rattle.ft_model.specs.Point.{Point, answered_run, released, target}
 use Rattle.ft_model.specs.Network.{Packet}

@@ -3,7 +3,7 @@
 -- counts from a number of its own, and the wrappers hide the difference).
 use Rattle.std.specs.Prelude.{◌≡◌, ℕ, false, ◌+◌, ◌-◌, ◌%◌, ◌^◌, ◌<◌, ◌≤◌, [], drop, length}
 use Rattle.server_trait.specs.Service.{Machine, Served, Run}
-use Rattle.seq_arith.specs.Coming.{nothing_early}
+use Rattle.tcp_rules.specs.Coming.{nothing_early}
 use Rattle.ft_model.specs.Point.{Point, taken_units}
 use Rattle.endpoint_laws.specs.Laws.{KeepsTime}
 

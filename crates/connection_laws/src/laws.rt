@@ -3,7 +3,7 @@
 ghost use Rattle.std.specs.Prelude.{◌≡◌, ◌≤◌, ◌<◌, ◌^◌, ◌++◌, ℕ, false, List, [], length};
 ghost use Rattle.ft_io.specs.declared.Addr.{Addr};
 ghost use Rattle.server_trait.specs.Service.{machine};
-ghost use Rattle.seq_arith.specs.Profile.{Profile};
+ghost use Rattle.tcp_rules.specs.Profile.{Profile};
 ghost use Rattle.ft_model.specs.Log.{Entry};
 ghost use Rattle.ft_model.specs.Restart.{point_of, resumed_at};
 ghost use Rattle.ft_model.specs.Network.{Packet};

@@ -4,9 +4,9 @@ use Rattle.std.specs.Prelude.{pos, ◌+ℤ◌}
 use Rattle.std.proofs.Math.ListN.{replicate}
 use Rattle.std.proofs.Math.Seq.{drop-append_seam}
 use Rattle.std.proofs.lemmas.List.{length-replicate}
-use Rattle.seq_arith.specs.Coming.{early_from}
+use Rattle.tcp_rules.specs.Coming.{early_from}
 use Rattle.seq_arith.specs.Number.{offset_of}
-use Rattle.seq_arith.specs.Profile.{plain}
+use Rattle.tcp_rules.specs.Profile.{plain}
 use Rattle.ft_model.specs.Point.{Point, blank_point}
 use Rattle.ft_model.specs.News.{News}
 use Rattle.tcp_endpoint.specs.States.{has_begun}

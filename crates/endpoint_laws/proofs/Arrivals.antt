@@ -3,9 +3,9 @@ use Rattle.std.proofs.Common.{◌≡◌, ℕ, ◌≤◌, ◌+◌, ◌-◌, Bool,
 use Rattle.std.specs.Prelude.{pos, ◌+ℤ◌, ◌==◌, ◌&&◌, ◌||◌, nat_abs, nat_lt, int_lt, if◌then◌else◌}
 use Rattle.std.proofs.lemmas.Bool.{false≢true, or_left}
 use Rattle.seq_arith.specs.Number.{offset_of}
-use Rattle.seq_arith.specs.Arrival.{int_eq, una_after}
-use Rattle.seq_arith.specs.Congestion.{Congestion, with_expiry}
-use Rattle.seq_arith.specs.Timing.{Timing, with_acknowledged, with_tick, without_trip, with_backoff}
+use Rattle.tcp_rules.specs.Arrival.{int_eq, una_after}
+use Rattle.tcp_rules.specs.Congestion.{Congestion, with_expiry}
+use Rattle.tcp_rules.specs.Timing.{Timing, with_acknowledged, with_tick, without_trip, with_backoff}
 use Rattle.seq_arith.specs.Packet.{Segment, has_syn, has_rst, has_ack}
 use Rattle.segment_codec.specs.declared.Head.{Head}
 use Rattle.seq_arith.specs.Offset.{one_if, first_of, length_of}
@@ -38,7 +38,7 @@ use Rattle.endpoint_laws.proofs.Calls.{FinIsLast}
 use Rattle.endpoint_laws.proofs.StandingLaw.{Meets, next_is, accepts_is, first_is, ack_is, unsent_is, una_is, loss_is, received_receives, received_sends}
 use Rattle.ft_io.proofs.Booleans.{false_or, or_false}
 use Rattle.ft_io.proofs.Choices.{of_if}
-use Rattle.seq_arith.proofs.Shifts.{point_shift}
+use Rattle.tcp_rules.proofs.Shifts.{point_shift}
 
 -- where the laws lead a point, but for the reads, what is sent, and the timer
 abbrev pub moved : News → Point → Point

@@ -4,12 +4,12 @@ use Rattle.std.specs.Prelude.{ℤ, pos, ◌==◌, ◌&&◌, nat_abs, nat_lt, int
 use Rattle.std.proofs.lemmas.Int.{ints}
 use Rattle.std.proofs.lemmas.Bool.{false≢true}
 use Rattle.seq_arith.specs.Number.{offset_of}
-use Rattle.seq_arith.specs.Arrival.{int_eq, is_new_ack}
-use Rattle.seq_arith.specs.Coming.{Came, StandsBehind}
+use Rattle.tcp_rules.specs.Arrival.{int_eq, is_new_ack}
+use Rattle.tcp_rules.specs.Coming.{Came, StandsBehind}
 use Rattle.seq_arith.proofs.Gaps.{offset_leads}
-use Rattle.seq_arith.specs.Congestion.{Congestion, with_new_data, with_duplicate, with_expiry, IsOpen}
-use Rattle.seq_arith.proofs.Congested.{opens, new_data_open, duplicate_open, expiry_open}
-use Rattle.seq_arith.specs.Timing.{Timing, with_sent as with_unit_sent}
+use Rattle.tcp_rules.specs.Congestion.{Congestion, with_new_data, with_duplicate, with_expiry, IsOpen}
+use Rattle.tcp_rules.proofs.Congested.{opens, new_data_open, duplicate_open, expiry_open}
+use Rattle.tcp_rules.specs.Timing.{Timing, with_sent as with_unit_sent}
 use Rattle.seq_arith.specs.Packet.{Segment, segment_size, has_syn, has_rst, has_ack}
 use Rattle.ft_io.specs.declared.Addr.{Addr}
 use Rattle.seq_arith.specs.Offset.{one_if, text_of, fin_of}
@@ -27,7 +27,7 @@ use Rattle.endpoint_laws.specs.Laws.{counts, acknowledges, is_duplicate, congest
 use Rattle.endpoint_laws.proofs.TakenLaw.{taken_law, counted}
 use Rattle.endpoint_laws.proofs.SendingLaw.{new_test, sending_is, held_field, near_of_counts}
 use Rattle.endpoint_laws.proofs.Timings.{choice_within, initial_keeps, acknowledged_keeps, tick_keeps, trip_keeps, backoff_keeps, unit_keeps, by_ack_lost, expiry_lost}
-use Rattle.seq_arith.proofs.Coming.{stays_behind, comes_within, behind_within, behind_up, nothing_behind}
+use Rattle.tcp_rules.proofs.Coming.{stays_behind, comes_within, behind_within, behind_up, nothing_behind}
 use Rattle.ft_io.proofs.Booleans.{left_true, right_true}
 use Rattle.ft_io.proofs.Choices.{holds_either_way}
 

@@ -5,12 +5,12 @@ use Rattle.std.specs.Prelude.{pos, ◌==◌, ◌&&◌, ◌||◌, nat_lt, if◌th
 use Rattle.std.specs.List.{AllByRecursion}
 use Rattle.std.proofs.lemmas.Bool.{false≢true}
 use Rattle.ft_io.specs.declared.Addr.{Addr}
-use Rattle.seq_arith.specs.Arrival.{int_eq}
-use Rattle.seq_arith.specs.Congestion.{Congestion}
-use Rattle.seq_arith.specs.Timing.{Timing, with_tick, with_backoff}
+use Rattle.tcp_rules.specs.Arrival.{int_eq}
+use Rattle.tcp_rules.specs.Congestion.{Congestion}
+use Rattle.tcp_rules.specs.Timing.{Timing, with_tick, with_backoff}
 use Rattle.seq_arith.specs.Packet.{Segment, has_syn, has_rst, has_ack}
-use Rattle.seq_arith.proofs.Coming.{nothing_behind}
-use Rattle.seq_arith.proofs.Congested.{opens}
+use Rattle.tcp_rules.proofs.Coming.{nothing_behind}
+use Rattle.tcp_rules.proofs.Congested.{opens}
 use Rattle.ft_model.specs.News.{News}
 use Rattle.ft_model.specs.News.News.{Comes, Logged, Ticks, Begins}
 use Rattle.tcp_endpoint.specs.declared.states.StateName.{StateName}

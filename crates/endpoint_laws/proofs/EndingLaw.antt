@@ -3,9 +3,9 @@ use Rattle.std.proofs.Common.{◌≡◌, ◌⊎◌, inl, inr, ℕ, ◌≤◌, �
 use Rattle.std.specs.Prelude.{ℤ, pos, ◌==◌, ◌&&◌, ◌||◌, nat_abs, nat_lt, if◌then◌else◌}
 use Rattle.std.proofs.lemmas.Int.{ints}
 use Rattle.std.proofs.lemmas.Bool.{false≢true}
-use Rattle.seq_arith.specs.Arrival.{int_eq, is_acceptable, is_at_right_edge, is_new_ack}
-use Rattle.seq_arith.specs.Congestion.{Congestion}
-use Rattle.seq_arith.specs.Timing.{Timing, with_tick, with_backoff}
+use Rattle.tcp_rules.specs.Arrival.{int_eq, is_acceptable, is_at_right_edge, is_new_ack}
+use Rattle.tcp_rules.specs.Congestion.{Congestion}
+use Rattle.tcp_rules.specs.Timing.{Timing, with_tick, with_backoff}
 use Rattle.seq_arith.specs.Packet.{Segment, has_fin, has_syn, has_rst, has_ack}
 use Rattle.seq_arith.specs.Offset.{one_if, length_of}
 use Rattle.ft_model.specs.Opening.{is_syn}
@@ -31,7 +31,7 @@ use Rattle.endpoint_laws.proofs.Listening.{begun_by, closed_by_calls}
 use Rattle.endpoint_laws.proofs.SendingLaw.{answered_at, used_with, used_is}
 use Rattle.endpoint_laws.proofs.TurnLaw.{after_steps}
 use Rattle.endpoint_laws.proofs.AnswersAlone.{closed_sends}
-use Rattle.seq_arith.proofs.Coming.{fin_stays}
+use Rattle.tcp_rules.proofs.Coming.{fin_stays}
 use Rattle.ft_io.proofs.Booleans.{left_true, right_true, not_true, false_by, or_false, or_true}
 use Rattle.ft_io.proofs.Choices.{by_cases, holds_if}
 use Rattle.endpoint_laws.proofs.Bounding.{new_within}

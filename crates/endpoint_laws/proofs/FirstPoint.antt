@@ -5,9 +5,9 @@ use Rattle.std.specs.Bool.{MatchBool}
 use Rattle.std.proofs.lemmas.Bool.{false≢true}
 use Rattle.std.proofs.Math.Seq.{drop-length}
 use Rattle.ft_io.specs.declared.Addr.{Addr}
-use Rattle.seq_arith.specs.Coming.{early_from, nothing_early}
-use Rattle.seq_arith.specs.Congestion.{initial_congestion}
-use Rattle.seq_arith.specs.Timing.{Timing, first_base, initial_timing}
+use Rattle.tcp_rules.specs.Coming.{early_from, nothing_early}
+use Rattle.tcp_rules.specs.Congestion.{initial_congestion}
+use Rattle.tcp_rules.specs.Timing.{Timing, first_base, initial_timing}
 use Rattle.seq_arith.specs.Packet.{Segment}
 use Rattle.ft_model.specs.Opening as opening
 use Rattle.seq_arith.specs.Offset.{one_if}

@@ -4,12 +4,12 @@ use Rattle.std.specs.Prelude.{◌&&◌, if◌then◌else◌}
 use Rattle.std.proofs.lemmas.Bool.{false≢true}
 use Rattle.ft_io.specs.declared.Addr.{Addr}
 use Rattle.seq_arith.specs.Packet.{Segment, has_syn, has_rst, has_ack}
-use Rattle.seq_arith.proofs.Coming.{nothing_behind}
-use Rattle.seq_arith.proofs.Congested.{opens}
+use Rattle.tcp_rules.proofs.Coming.{nothing_behind}
+use Rattle.tcp_rules.proofs.Congested.{opens}
 use Rattle.ft_model.specs.News.{News}
 use Rattle.ft_model.specs.News.News.{Comes, Logged, Ticks, Begins}
 use Rattle.ft_model.specs.Opening.{is_syn}
-use Rattle.seq_arith.specs.Timing.{with_tick}
+use Rattle.tcp_rules.specs.Timing.{with_tick}
 use Rattle.tcp_endpoint.specs.declared.states.StateName.{StateName}
 use Rattle.tcp_endpoint.specs.declared.states.StateName.TheVariants.{Closed, Listen}
 use Rattle.tcp_endpoint.specs.States.{after_close, is_closed}

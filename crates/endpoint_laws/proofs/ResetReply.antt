@@ -1,7 +1,7 @@
 -- The RST that answers a segment, and what a segment leaves of what else is due.
 use Rattle.std.proofs.Common.{◌≡◌, ℕ, Bool, true, false, not, Some, refl, sym, ap, arith, ◌∙◌}
 use Rattle.std.specs.Prelude.{ℤ, pos, ◌&&◌, ◌||◌, nat_lt, int_lt, if◌then◌else◌}
-use Rattle.seq_arith.specs.Arrival.{int_eq, is_allowed_at_zero, is_beyond}
+use Rattle.tcp_rules.specs.Arrival.{int_eq, is_allowed_at_zero, is_beyond}
 use Rattle.seq_arith.specs.Packet.{Segment, has_syn, has_rst, has_ack}
 use Rattle.seq_arith.specs.Offset.{length_of}
 use Rattle.std.proofs.lemmas.Int.{ints}

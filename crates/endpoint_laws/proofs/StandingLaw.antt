@@ -5,13 +5,13 @@ use Rattle.std.proofs.lemmas.Int.{ints}
 use Rattle.std.proofs.lemmas.List.{drop-append-le}
 use Rattle.std.proofs.lemmas.Bool.{false≢true, and_right, and_left}
 use Rattle.seq_arith.specs.Number.{offset_of}
-use Rattle.seq_arith.specs.Arrival.{int_eq, lies_in, is_acceptable, is_at_right_edge, is_acceptable_or_at_edge, is_allowed_at_zero, is_beyond, una_after, updates_window}
-use Rattle.seq_arith.specs.Coming.{Came, early_from, nothing_came, came_from, comes}
-use Rattle.seq_arith.specs.Congestion.{Congestion, is_partial, with_new_data, is_third, with_duplicate}
+use Rattle.tcp_rules.specs.Arrival.{int_eq, lies_in, is_acceptable, is_at_right_edge, is_acceptable_or_at_edge, is_allowed_at_zero, is_beyond, una_after, updates_window}
+use Rattle.tcp_rules.specs.Coming.{Came, early_from, nothing_came, came_from, comes}
+use Rattle.tcp_rules.specs.Congestion.{Congestion, is_partial, with_new_data, is_third, with_duplicate}
 use Rattle.seq_arith.specs.Packet.{Segment, has_syn, has_rst, has_ack}
 use Rattle.seq_arith.proofs.Gaps.{Leads, offset_leads}
-use Rattle.seq_arith.proofs.Shifts.{lies_in_shift, updates_window_shift}
-use Rattle.seq_arith.proofs.Coming.{comes_from}
+use Rattle.tcp_rules.proofs.Shifts.{lies_in_shift, updates_window_shift}
+use Rattle.tcp_rules.proofs.Coming.{comes_from}
 use Rattle.seq_arith.specs.Offset.{one_if, first_of, ack_of, text_of, fin_of, length_of}
 use Rattle.ft_model.specs.Point.{Point, taken_units, room}
 use Rattle.ft_model.specs.Point as point

@@ -5,7 +5,7 @@ use Rattle.std.proofs.lemmas.Int.{ints}
 use Rattle.std.proofs.lemmas.Bool.{false≢true, and_parts}
 use Rattle.std.proofs.Math.Bool.{and_assoc}
 use Rattle.seq_arith.specs.Number.{offset_of}
-use Rattle.seq_arith.specs.Arrival.{int_eq, is_acceptable_or_at_edge, is_allowed_at_zero, is_usable, is_beyond}
+use Rattle.tcp_rules.specs.Arrival.{int_eq, is_acceptable_or_at_edge, is_allowed_at_zero, is_usable, is_beyond}
 use Rattle.seq_arith.specs.Packet.{Segment, has_fin, has_syn, has_rst, has_ack}
 use Rattle.seq_arith.specs.Offset.{one_if, length_of, text_of, fin_of}
 use Rattle.tcp_buffers.specs.Near.{is_ahead}

@@ -3,8 +3,8 @@ use Rattle.std.proofs.Common.{◌≡◌, ℕ, ◌≤◌, ◌+◌, ◌-◌, ◌*�
 use Rattle.std.specs.Prelude.{◌&&◌, nat_le, if◌then◌else◌}
 use Rattle.std.proofs.lemmas.Bool.{false≢true}
 use Rattle.ft_io.proofs.Choices.{holds_if, holds_either_way, if_false}
-use Rattle.seq_arith.specs.Congestion.{Congestion, most_window, is_recovering, is_partial, with_new_data, lowered_threshold, is_third, with_duplicate, with_expiry}
-use Rattle.seq_arith.specs.Timing.{Timing, initial_timing, with_sample, with_acknowledged, with_tick, without_trip, with_backoff, with_sent}
+use Rattle.tcp_rules.specs.Congestion.{Congestion, most_window, is_recovering, is_partial, with_new_data, lowered_threshold, is_third, with_duplicate, with_expiry}
+use Rattle.tcp_rules.specs.Timing.{Timing, initial_timing, with_sample, with_acknowledged, with_tick, without_trip, with_backoff, with_sent}
 use Rattle.endpoint_laws.specs.Laws.{KeepsTime}
 use Rattle.endpoint_laws.proofs.TakenLaw.{same_if, if_when}
 

@@ -2,9 +2,9 @@
 use Rattle.std.proofs.Common.{◌≡◌, ℕ, ◌≤◌, ◌+◌, ◌-◌, Bool, true, false, not, List, ◌++◌, length, length-append, max, min, refl, sym, ap, arith, ◌∙◌}
 use Rattle.std.specs.Prelude.{pos, ◌==◌, ◌&&◌, ◌||◌, nat_lt, if◌then◌else◌}
 use Rattle.std.proofs.lemmas.Bool.{false≢true, and_parts}
-use Rattle.seq_arith.specs.Arrival.{int_eq}
-use Rattle.seq_arith.specs.Congestion.{Congestion}
-use Rattle.seq_arith.specs.Timing.{Timing}
+use Rattle.tcp_rules.specs.Arrival.{int_eq}
+use Rattle.tcp_rules.specs.Congestion.{Congestion}
+use Rattle.tcp_rules.specs.Timing.{Timing}
 use Rattle.seq_arith.specs.Packet.{Segment, has_syn, has_rst, has_ack}
 use Rattle.seq_arith.specs.Offset.{one_if}
 use Rattle.tcp_buffers.specs.Near.{is_ahead}

@@ -3,7 +3,7 @@ use Rattle.std.proofs.Common.{◌≡◌, ℕ, ◌≤◌, ◌+◌, ◌-◌, Bool,
 use Rattle.std.specs.Prelude.{pos, ◌+ℤ◌, ◌==◌, ◌&&◌, ◌||◌, nat_lt, if◌then◌else◌}
 use Rattle.std.proofs.lemmas.Bool.{false≢true}
 use Rattle.seq_arith.specs.Number.{offset_of}
-use Rattle.seq_arith.specs.Timing.{Timing, with_sent as with_unit_sent}
+use Rattle.tcp_rules.specs.Timing.{Timing, with_sent as with_unit_sent}
 use Rattle.server_trait.specs.Service.{Machine}
 use Rattle.seq_arith.specs.Offset.{one_if}
 use Rattle.ft_model.specs.Point.{Point}

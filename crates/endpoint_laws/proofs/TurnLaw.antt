@@ -3,10 +3,10 @@ use Rattle.std.proofs.Common.{◌≡◌, ℕ, ◌≤◌, ◌+◌, ◌-◌, ◌*�
 use Rattle.std.specs.Prelude.{ℤ, pos, ◌==◌, ◌&&◌, ◌||◌, nat_abs, nat_lt, int_le, if◌then◌else◌}
 use Rattle.std.proofs.lemmas.Int.{ints}
 use Rattle.std.proofs.lemmas.Bool.{false≢true}
-use Rattle.seq_arith.specs.Arrival.{is_new_ack}
-use Rattle.seq_arith.specs.Congestion.{Congestion}
+use Rattle.tcp_rules.specs.Arrival.{is_new_ack}
+use Rattle.tcp_rules.specs.Congestion.{Congestion}
 use Rattle.seq_arith.specs.Packet.{Segment}
-use Rattle.seq_arith.specs.Timing.{Timing, with_acknowledged, with_sent as with_unit_sent}
+use Rattle.tcp_rules.specs.Timing.{Timing, with_acknowledged, with_sent as with_unit_sent}
 use Rattle.seq_arith.specs.Offset.{one_if}
 use Rattle.tcp_endpoint.specs.States.{has_begun}
 use Rattle.tcp_endpoint.specs.SendHalf.{Sending, with_syn_acked, acknowledged, congestion_expired, timing_acknowledged, target, in_flight, send_edge, sendable, sends_fin, ticked, timed, with_sent, with_fin_sent}

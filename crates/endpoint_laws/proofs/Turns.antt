@@ -5,13 +5,13 @@ use Rattle.std.proofs.lemmas.Bool.{false≢true, and_parts}
 use Rattle.ft_io.specs.declared.Addr.{Addr}
 use Rattle.ft_io.proofs.Booleans.{left_true, right_true, or_false, or_true, and_false}
 use Rattle.ft_io.proofs.Choices.{holds_either_way}
-use Rattle.seq_arith.specs.Coming.{early_from}
+use Rattle.tcp_rules.specs.Coming.{early_from}
 use Rattle.seq_arith.specs.Number.{offset_of}
 use Rattle.seq_arith.specs.Packet.{Segment}
-use Rattle.seq_arith.specs.Timing.{Timing, with_sent}
+use Rattle.tcp_rules.specs.Timing.{Timing, with_sent}
 use Rattle.server_trait.specs.Service.{Machine}
-use Rattle.seq_arith.specs.Arrival.{una_after}
-use Rattle.seq_arith.specs.Congestion.{Congestion, is_third}
+use Rattle.tcp_rules.specs.Arrival.{una_after}
+use Rattle.tcp_rules.specs.Congestion.{Congestion, is_third}
 use Rattle.seq_arith.specs.Offset.{one_if, text_of, fin_of}
 use Rattle.ft_model.specs.News.{News}
 use Rattle.ft_model.specs.News.News.{Comes, Logged, Ticks, Begins}

@@ -1,7 +1,7 @@
 -- How a connection that has begun ends: its state shows what has happened (RFC 9293, 3.3.2, figure 5), and it becomes CLOSED by a RST at exactly the next
 -- number, or once the peer's FIN is taken and its own FIN is acknowledged.
 use Rattle.std.specs.Prelude.{◌≡◌, Bool, true, false, pos, ◌&&◌}
-use Rattle.seq_arith.specs.Arrival.{int_eq}
+use Rattle.tcp_rules.specs.Arrival.{int_eq}
 use Rattle.seq_arith.specs.Packet.{has_rst}
 use Rattle.ft_model.specs.News.{News}
 use Rattle.ft_model.specs.News.News.{Comes}

@@ -4,12 +4,12 @@
 -- 2^24, and the target is the bytes written, and one more once the user has closed.
 use Rattle.std.specs.Prelude.{◌≡◌, ℕ, Bool, true, false, pos, ◌+◌, ◌-◌, ◌*◌, ◌^◌, ◌<◌, ◌≤◌, ◌-ℤ◌, ◌≤ℤ◌, ◌==◌, ◌&&◌, ◌||◌, not, nat_lt, int_lt, int_le, max, min, nat_abs, length, if◌then◌else◌}
 use Rattle.seq_arith.specs.Number.{offset_of}
-use Rattle.seq_arith.specs.Arrival.{int_eq, is_acceptable_or_at_edge, is_usable, is_beyond, una_after, updates_window}
+use Rattle.tcp_rules.specs.Arrival.{int_eq, is_acceptable_or_at_edge, is_usable, is_beyond, una_after, updates_window}
 use Rattle.seq_arith.specs.Packet.{Segment, has_syn, has_rst, has_ack}
 use Rattle.seq_arith.specs.Offset.{one_if, text_of, fin_of, length_of}
-use Rattle.seq_arith.specs.Coming.{StandsBehind}
-use Rattle.seq_arith.specs.Congestion.{Congestion, is_partial, with_new_data, is_third, with_duplicate, with_expiry, IsOpen}
-use Rattle.seq_arith.specs.Timing.{Timing, with_acknowledged, with_tick, without_trip, with_backoff, with_sent}
+use Rattle.tcp_rules.specs.Coming.{StandsBehind}
+use Rattle.tcp_rules.specs.Congestion.{Congestion, is_partial, with_new_data, is_third, with_duplicate, with_expiry, IsOpen}
+use Rattle.tcp_rules.specs.Timing.{Timing, with_acknowledged, with_tick, without_trip, with_backoff, with_sent}
 use Rattle.tcp_buffers.specs.Near.{IsNearFirst}
 use Rattle.tcp_endpoint.specs.ReceiveHalf.{Receiving, taken, next, receive_edge, advertised_edge, with_segment}
 use Rattle.tcp_endpoint.specs.SendHalf.{Sending, target}

@@ -4,10 +4,10 @@
 use Rattle.std.specs.Prelude.{◌≡◌, ℕ, Bool, true, false, pos, ◌+◌, ◌≤◌, ◌%◌, ◌^◌, ◌+ℤ◌, ◌==◌, ◌&&◌, ◌||◌, not, max, List, [], ◌∷◌, ◌++◌, length, drop, sum, if◌then◌else◌, take, ◌⊎◌}
 use Rattle.std.specs.Bool.{MatchBool}
 use Rattle.ft_io.specs.declared.Addr.{Addr}
-use Rattle.seq_arith.specs.Coming.{early_from}
+use Rattle.tcp_rules.specs.Coming.{early_from}
 use Rattle.seq_arith.specs.Number.{offset_of}
 use Rattle.seq_arith.specs.Packet.{Segment, has_syn, has_rst}
-use Rattle.seq_arith.specs.Timing.{first_base}
+use Rattle.tcp_rules.specs.Timing.{first_base}
 use Rattle.seq_arith.specs.Message.{Numbers}
 use Rattle.server_trait.specs.Service.{Machine}
 use Rattle.ft_model.specs.Point.{Point, taken_units, advertised_edge, answered_run, released}

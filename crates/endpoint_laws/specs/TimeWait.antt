@@ -1,7 +1,7 @@
 -- TIME-WAIT, from turn to turn (RFC 9293, 3.6.1, 3.10.7.4 and 3.10.8).
 use Rattle.std.specs.Prelude.{◌≡◌, ℕ, Bool, false, pos, ◌+◌, ◌+ℤ◌, ◌==◌, ◌&&◌, List, [], ◌∷◌, length, if◌then◌else◌}
 use Rattle.std.specs.Bool.{MatchBool}
-use Rattle.seq_arith.specs.Arrival.{int_eq}
+use Rattle.tcp_rules.specs.Arrival.{int_eq}
 use Rattle.seq_arith.specs.Offset.{first_of, fin_of}
 use Rattle.ft_model.specs.News.{News}
 use Rattle.ft_model.specs.News.News.{Comes, Ticks}

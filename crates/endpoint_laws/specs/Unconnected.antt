@@ -1,7 +1,7 @@
 -- What an endpoint sends that has no connection: in CLOSED, LISTEN and SYN-SENT (RFC 9293, 3.10.7.1 to 3.10.7.3). The RSTs, field by field, are the model's.
 use Rattle.std.specs.Prelude.{ℕ, Bool, true, false, pos, ◌==◌, ◌&&◌, not, min, Some, List, [], ◌∷◌, if◌then◌else◌}
 use Rattle.ft_io.specs.declared.Addr.{Addr}
-use Rattle.seq_arith.specs.Arrival.{int_eq}
+use Rattle.tcp_rules.specs.Arrival.{int_eq}
 use Rattle.seq_arith.specs.Offset.{ack_of}
 use Rattle.seq_arith.specs.Packet.{Segment, has_syn, has_rst, has_ack}
 use Rattle.ft_model.specs.News.{News}

@@ -3,7 +3,7 @@
 
 ghost use Rattle.std.specs.Prelude.{◌≡◌, ℕ, ◌+◌, ◌%◌, ◌<◌, ◌≤◌, ◌^◌, Bool, true, false, List, length};
 ghost use Rattle.seq_arith.specs.Packet.{Segment};
-ghost use Rattle.seq_arith.specs.Timing.{first_base};
+ghost use Rattle.tcp_rules.specs.Timing.{first_base};
 ghost use Rattle.tcp_endpoint.specs.States.{has_begun};
 ghost use Rattle.tcp_endpoint.specs.Tcb.{Tcb, listening, listening_measuring, connecting, connecting_measuring};
 ghost use Rattle.tcp_endpoint.specs.Arrival.{received};

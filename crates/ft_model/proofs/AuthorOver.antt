@@ -3,7 +3,7 @@ use Rattle.std.proofs.Common.{append-nil, le_trans, sum, ◌≡◌, ℕ, ◌≤�
 use Rattle.std.specs.List.{AllByRecursion}
 use Rattle.ft_io.specs.declared.Key.{Key}
 use Rattle.ft_io.specs.Key.{key_eq}
-use Rattle.seq_arith.specs.Profile.{Profile}
+use Rattle.tcp_rules.specs.Profile.{Profile}
 use Rattle.server_trait.specs.Service.{Machine}
 use Rattle.ft_model.specs.Log.{Log, Entry, entry_of, opened}
 use Rattle.ft_model.specs.Network.{Packet}

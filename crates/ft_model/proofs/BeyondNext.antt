@@ -1,6 +1,6 @@
 -- Each turn is lawful: each equation computes.
 use Rattle.std.proofs.Common.{refl, [], ◌∷◌}
-use Rattle.seq_arith.specs.Profile.{plain}
+use Rattle.tcp_rules.specs.Profile.{plain}
 use Rattle.ft_model.specs.News.News.{Comes, Begins}
 use Rattle.ft_model.specs.Opening.{point_opened}
 use Rattle.ft_model.specs.Node.{booted}

@@ -1,6 +1,6 @@
 -- Each turn of both incarnations is lawful: each equation computes.
 use Rattle.std.proofs.Common.{true, refl, [], ◌∷◌}
-use Rattle.seq_arith.specs.Profile.{plain}
+use Rattle.tcp_rules.specs.Profile.{plain}
 use Rattle.ft_model.specs.News.News.{Comes, Logged, Ticks, Begins}
 use Rattle.ft_model.specs.Opening.{point_opened}
 use Rattle.ft_model.specs.Restart.{point_of, entry_in}

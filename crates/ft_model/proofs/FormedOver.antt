@@ -2,7 +2,7 @@
 use Rattle.std.proofs.Common.{◌≡◌, ℕ, ◌+◌, ◌<◌, ◌≤◌, ◌^◌, true, ◌&&◌, not, nat_lt, refl, sym, ap, ◌∙◌, subst, true≢false, ⊎_elim, Option, Some, None, option_to_list, List, [], ◌∷◌, map, length, arith, ltb-true}
 use Rattle.std.specs.List.{AllByRecursion}
 use Rattle.ft_io.specs.Key.{key_eq}
-use Rattle.seq_arith.specs.Profile.{Profile}
+use Rattle.tcp_rules.specs.Profile.{Profile}
 use Rattle.seq_arith.specs.Packet.{Segment, has_rst}
 use Rattle.server_trait.specs.Service.{Machine, WritesBytes}
 use Rattle.ft_model.specs.Log.{Log, Entry}

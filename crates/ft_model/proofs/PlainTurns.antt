@@ -1,7 +1,7 @@
 -- The laws of a turn as they are in a plain connection: the timer starts with one tick, only an expiry and a third duplicate retransmit, and an ACK that is due is
 -- pending.
 use Rattle.std.proofs.Common.{◌≡◌, refl, ap, ◌-◌, ◌*◌, Bool, true, false, ◌==◌, ◌&&◌, ◌||◌, not, nat_lt, min, if◌then◌else◌}
-use Rattle.seq_arith.specs.Timing.{initial_timing}
+use Rattle.tcp_rules.specs.Timing.{initial_timing}
 use Rattle.server_trait.specs.Service.{Machine}
 use Rattle.ft_model.specs.News.{News}
 use Rattle.ft_model.specs.News.News.{Comes, Logged, Ticks, Begins}

@@ -4,11 +4,11 @@ use Rattle.std.specs.Prelude.{nat_le}
 use Rattle.std.specs.List.{AllByRecursion}
 use Rattle.ft_io.specs.declared.Addr.{Addr}
 use Rattle.ft_io.proofs.Choices.{holds_either_way, if_false}
-use Rattle.seq_arith.specs.Congestion.{Congestion, is_partial, with_new_data, with_duplicate, with_expiry}
+use Rattle.tcp_rules.specs.Congestion.{Congestion, is_partial, with_new_data, with_duplicate, with_expiry}
 use Rattle.seq_arith.specs.Message.{Numbers}
-use Rattle.seq_arith.specs.Profile.{Profile, plain}
-use Rattle.seq_arith.proofs.Unmeasured.{duplicate_recovers, duplicate_notes_none}
-use Rattle.seq_arith.specs.Timing.{Timing, initial_timing, with_sample, with_acknowledged, with_tick, without_trip, with_backoff, with_sent}
+use Rattle.tcp_rules.specs.Profile.{Profile, plain}
+use Rattle.tcp_rules.proofs.Unmeasured.{duplicate_recovers, duplicate_notes_none}
+use Rattle.tcp_rules.specs.Timing.{Timing, initial_timing, with_sample, with_acknowledged, with_tick, without_trip, with_backoff, with_sent}
 use Rattle.server_trait.specs.Service.{Machine}
 use Rattle.ft_model.specs.Log.{Entry}
 use Rattle.ft_model.specs.Network.{Packet}

@@ -2,7 +2,7 @@
 use Rattle.std.proofs.Common.{◌^◌, ◌≡◌, Bool, true, false, refl, sym, ap, true≢false, None, List, [], ◌∷◌, map}
 use Rattle.std.specs.List.{AllByRecursion}
 use native.Mathlib.Bridge.{le_by_compare, IsLe}
-use Rattle.seq_arith.specs.Profile.{plain}
+use Rattle.tcp_rules.specs.Profile.{plain}
 use Rattle.seq_arith.specs.Message.Body.{HelloMsg, SummaryMsg}
 use Rattle.ft_model.specs.Client.Move.{Acknowledge}
 use Rattle.ft_model.specs.Network.{Packet}

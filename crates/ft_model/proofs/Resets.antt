@@ -3,7 +3,7 @@ use Rattle.std.proofs.Common.{◌≡◌, ℕ, true, false, ◌&&◌, not, refl, 
 use Rattle.std.specs.List.{AllByRecursion}
 use Rattle.std.proofs.lemmas.Bool.{and_parts}
 use Rattle.ft_io.specs.declared.Key.{Key}
-use Rattle.seq_arith.specs.Profile.{Profile}
+use Rattle.tcp_rules.specs.Profile.{Profile}
 use Rattle.seq_arith.specs.Packet.{Segment, has_rst}
 use Rattle.seq_arith.specs.Message.{Body, Message}
 use Rattle.seq_arith.specs.Message.Body.{OpenMsg}

@@ -1,6 +1,6 @@
 -- The turns of a restart from a log with one entry are lawful: each equation computes.
 use Rattle.std.proofs.Common.{refl, [], ◌∷◌}
-use Rattle.seq_arith.specs.Profile.{plain}
+use Rattle.tcp_rules.specs.Profile.{plain}
 use Rattle.server_trait.specs.Service.{Machine}
 use Rattle.ft_model.specs.News.News.{Begins}
 use Rattle.ft_model.specs.Restart.{point_of, entry_in}

@@ -4,12 +4,12 @@ use Rattle.std.specs.List.{AllByRecursion}
 use Rattle.std.proofs.lemmas.Bool.{and_parts, or_parts}
 use Rattle.ft_io.specs.declared.Addr.{Addr}
 use Rattle.ft_io.specs.declared.Key.{Key}
-use Rattle.seq_arith.specs.Arrival.{int_eq, below}
-use Rattle.seq_arith.specs.Coming.{Early, Came, nothing_early, nothing_came, comes, StandsBehind}
+use Rattle.tcp_rules.specs.Arrival.{int_eq, below}
+use Rattle.tcp_rules.specs.Coming.{Early, Came, nothing_early, nothing_came, comes, StandsBehind}
 use Rattle.seq_arith.specs.Packet.{Segment, has_syn}
 use Rattle.seq_arith.specs.Message.{Part, Body}
 use Rattle.seq_arith.specs.Message.Body.{DataMsg}
-use Rattle.seq_arith.proofs.Coming.{stays_behind, behind_within, behind_up, nothing_behind}
+use Rattle.tcp_rules.proofs.Coming.{stays_behind, behind_within, behind_up, nothing_behind}
 use Rattle.seq_arith.proofs.Shifts.{offset_of_number}
 use Rattle.server_trait.specs.Service.{Machine}
 use Rattle.ft_model.specs.Offset.{first_of, text_of, fin_of}

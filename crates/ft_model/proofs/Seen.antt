@@ -3,8 +3,8 @@ use Rattle.std.proofs.Common.{◌≡◌, ℕ, ℤ, pos, int_lt, Bool, true, fals
 use Rattle.std.specs.Prelude.{IfSome}
 use Rattle.ft_io.specs.declared.Key.{Key}
 use Rattle.seq_arith.specs.Number.{number_at}
-use Rattle.seq_arith.specs.Arrival.{int_eq}
-use Rattle.seq_arith.specs.Coming.{Early, nothing_early}
+use Rattle.tcp_rules.specs.Arrival.{int_eq}
+use Rattle.tcp_rules.specs.Coming.{Early, nothing_early}
 use Rattle.seq_arith.specs.Packet.{Segment, has_syn, has_rst, has_ack}
 use Rattle.server_trait.specs.Service.{Machine, Run}
 use Rattle.ft_model.specs.Offset.{first_of, ack_of, text_of, fin_of}
@@ -20,7 +20,7 @@ use Rattle.ft_model.proofs.Grows.{found_later, logged_lengths_grow}
 use Rattle.ft_model.proofs.Fetching.{full_front}
 use Rattle.ft_model.proofs.StreamAgreement.{Agrees, Fronts, Says, agrees_later, comes_fits}
 use Rattle.ft_model.proofs.Stands.{drop_prefix}
-use Rattle.seq_arith.proofs.Coming.{fin_stays}
+use Rattle.tcp_rules.proofs.Coming.{fin_stays}
 use Rattle.ft_model.proofs.Services.{RunExtends, reads_go_on}
 use Rattle.ft_model.proofs.Authored.{CarriesOutput, logged_run}
 use Rattle.ft_io.proofs.Choices.{holds_if}

@@ -7,7 +7,7 @@ use Rattle.ft_model.specs.Taken.{taken_after, early_after, fin_after}
 use Rattle.ft_model.specs.Answered.{answered_after, reads_answered_after}
 use Rattle.ft_model.specs.Reads.{Makes, next_length, may_read}
 use Rattle.ft_model.specs.Timer.{interval_after, rest_after}
-use Rattle.seq_arith.specs.Timing.{Timing}
+use Rattle.tcp_rules.specs.Timing.{Timing}
 use Rattle.ft_model.specs.Sending.{syn_acked_after, acknowledged_after, edge_after, wl1_after, wl2_after, congestion_after, sent_after, timing_after}
 use Rattle.ft_model.specs.ResetAndEnd.{end_ticks_after}
 

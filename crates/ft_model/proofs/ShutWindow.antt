@@ -2,10 +2,10 @@
 -- window a segment of length 0 is acceptable.
 use Rattle.std.proofs.Common.{◌≡◌, ℕ, ◌+◌, ◌-◌, ◌<◌, ℤ, pos, Bool, true, false, ◌==◌, ◌&&◌, ◌||◌, nat_lt, refl, sym, ap, ap₂, ◌∙◌, subst, List, ◌++◌, length, arith, append-nil, if◌then◌else◌}
 use Rattle.std.proofs.lemmas.Int.{ints}
-use Rattle.seq_arith.specs.Arrival.{int_eq, is_acceptable, is_at_right_edge, is_allowed_at_zero}
+use Rattle.tcp_rules.specs.Arrival.{int_eq, is_acceptable, is_at_right_edge, is_allowed_at_zero}
 use Rattle.seq_arith.specs.Packet.{Segment, has_rst}
-use Rattle.seq_arith.specs.Coming.{Early, Came, nothing_came, comes, StandsBehind}
-use Rattle.seq_arith.proofs.Coming.{comes_shut, comes_ended, behind_within}
+use Rattle.tcp_rules.specs.Coming.{Early, Came, nothing_came, comes, StandsBehind}
+use Rattle.tcp_rules.proofs.Coming.{comes_shut, comes_ended, behind_within}
 use Rattle.ft_model.specs.Offset.{first_of, text_of, fin_of, length_of}
 use Rattle.ft_model.specs.News.News.{Comes}
 use Rattle.ft_model.specs.Point.{Point, taken_units, receive_edge, HoldsBehind, room}

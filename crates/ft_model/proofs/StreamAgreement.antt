@@ -3,9 +3,9 @@
 use Rattle.std.proofs.Common.{◌≡◌, ℕ, zero, suc, ◌+◌, ◌-◌, ◌≤◌, ℤ, pos, ◌+ℤ◌, int_le, nat_le, Bool, true, false, ◌==◌, ◌&&◌, refl, sym, ap, ap₂, ◌∙◌, subst, true≢false, ◌⊎◌, ⊎_elim, Option, Some, None, List, [], ◌∷◌, ◌++◌, length, take, drop, drop-drop, length-append, length-drop, arith, leb-true, eqb-true}
 use Rattle.std.specs.Prelude.{nat_abs, IfSome}
 use Rattle.std.proofs.lemmas.Bool.{and_parts}
-use Rattle.seq_arith.specs.Arrival.{int_eq, below}
-use Rattle.seq_arith.specs.Early.{laid, run_count, most_runs, held_with, front_run, behind_front_run}
-use Rattle.seq_arith.specs.Coming.{Early, Came, nothing_came, text_edge, ahead, new_text, with_text, holds_fin, with_fin, continued, stands_at, with_fin_taken, comes}
+use Rattle.tcp_rules.specs.Arrival.{int_eq, below}
+use Rattle.tcp_rules.specs.Early.{laid, run_count, most_runs, held_with, front_run, behind_front_run}
+use Rattle.tcp_rules.specs.Coming.{Early, Came, nothing_came, text_edge, ahead, new_text, with_text, holds_fin, with_fin, continued, stands_at, with_fin_taken, comes}
 use Rattle.ft_model.specs.Growth.{IsPrefix}
 use Rattle.ft_model.proofs.Stands.{nothing_first, part_stands, take_nothing}
 use Rattle.ft_model.proofs.Fetching.{join_front}

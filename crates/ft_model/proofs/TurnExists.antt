@@ -1,7 +1,7 @@
 -- Each turn can be made: from each stand, each input has a lawful turn, and the counts stay in order.
 use Rattle.std.proofs.Common.{◌≡◌, ℕ, ◌≤◌, ◌+◌, Bool, true, false, ◌==◌, ◌&&◌, nat_lt, refl, MatchBool, Option, Some, None, List, [], ◌∷◌, ◌++◌, map, length, length-append, le_refl, true≢false, flat_map, arith, if◌then◌else◌}
 use Rattle.std.specs.List.{AllByRecursion}
-use Rattle.seq_arith.specs.Profile.{Profile}
+use Rattle.tcp_rules.specs.Profile.{Profile}
 use Rattle.seq_arith.specs.Message.{Numbers, Body}
 use Rattle.seq_arith.specs.Message.Body.{OpenedMsg, StableMsg, ReadsMsg, EndedMsg, FullMsg}
 use Rattle.server_trait.specs.Service.{Machine}

@@ -2,16 +2,16 @@
 use Rattle.std.proofs.Common.{◌≡◌, ℕ, Bool, true, false, nat_le, MatchBool, None, List, [], ◌∷◌, ◌++◌, length, refl, sym, ap, ◌∙◌, subst, append-nil, ◌+◌, true≢false, arith, ◌≤◌, min}
 use Rattle.ft_io.specs.declared.Addr.{Addr}
 use Rattle.seq_arith.specs.Number.{offset_of}
-use Rattle.seq_arith.specs.Arrival.{is_at_right_edge, is_allowed_at_zero}
-use Rattle.seq_arith.specs.Early.{laid, runs_behind, held_with, front_run, behind_front_run, holds_some}
-use Rattle.seq_arith.specs.Congestion.{with_new_data, is_third, with_duplicate, with_expiry}
-use Rattle.seq_arith.specs.Coming.{comes, new_text, with_text, holds_fin, with_fin, continued, with_fin_taken}
+use Rattle.tcp_rules.specs.Arrival.{is_at_right_edge, is_allowed_at_zero}
+use Rattle.tcp_rules.specs.Early.{laid, runs_behind, held_with, front_run, behind_front_run, holds_some}
+use Rattle.tcp_rules.specs.Congestion.{with_new_data, is_third, with_duplicate, with_expiry}
+use Rattle.tcp_rules.specs.Coming.{comes, new_text, with_text, holds_fin, with_fin, continued, with_fin_taken}
 use Rattle.server_trait.specs.Service.{Machine, reference}
 use Rattle.ft_model.specs.Log.{log_after, answer_to}
 use Rattle.ft_model.specs.Taken.{accepts, uses, acknowledges_unsent, counts, came, taken_after, early_after, fin_after}
 use Rattle.ft_model.specs.Answered.{answered_after, reads_answered_after}
 use Rattle.ft_model.specs.Reads.{next_length, may_read, reads_told}
-use Rattle.seq_arith.specs.Timing.{with_sample, with_acknowledged, with_tick, without_trip, with_backoff, with_sent}
+use Rattle.tcp_rules.specs.Timing.{with_sample, with_acknowledged, with_tick, without_trip, with_backoff, with_sent}
 use Rattle.ft_model.specs.Timer.{must_run, timing_noted, interval_after, rest_after}
 use Rattle.ft_model.specs.Sending.{syn_acked_after, acknowledged_after, edge_after, wl1_after, wl2_after, is_duplicate, is_third_duplicate, congestion_after, sent_at_once, sent_after, send_edge, timing_after, is_partial_ack}
 use Rattle.ft_model.specs.Copy.{copies, own_data, further_data, datas}

@@ -2,7 +2,7 @@
 use Rattle.std.proofs.Common.{◌^◌, ◌≡◌, ℕ, Bool, false, ◌==◌, refl, sym, ap, true≢false, subst, None, List, [], ◌∷◌, ◌++◌}
 use Rattle.std.specs.List.{AllByRecursion}
 use native.Mathlib.Bridge.{le_by_compare, IsLe}
-use Rattle.seq_arith.specs.Profile.{plain}
+use Rattle.tcp_rules.specs.Profile.{plain}
 use Rattle.seq_arith.specs.Message.Body.{HelloMsg, SummaryMsg, ListMsg, EntryMsg, ReadsMsg, StaleMsg}
 use Rattle.ft_model.specs.Client.Move.{Text}
 use Rattle.ft_model.specs.Log.{Entry}

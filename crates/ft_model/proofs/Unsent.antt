@@ -2,7 +2,7 @@
 use Rattle.std.proofs.Common.{◌≡◌, ℕ, ◌+◌, ℤ, pos, negsuc, true, false, ◌&&◌, ◌||◌, not, int_le, int_lt, refl, sym, ap, ◌∙◌, true≢false, ◌++◌, arith, append-nil}
 use Rattle.std.proofs.lemmas.Bool.{and_parts, and_left, and_right, not_from_true, not_from_false, not-true}
 use Rattle.seq_arith.specs.Packet.{Segment, has_syn, has_rst, has_ack}
-use Rattle.seq_arith.specs.Coming.{Came, nothing_came}
+use Rattle.tcp_rules.specs.Coming.{Came, nothing_came}
 use Rattle.ft_model.specs.Offset.{ack_of}
 use Rattle.ft_model.specs.News.News.{Comes}
 use Rattle.ft_model.specs.Point.{Point, most}

@@ -3,8 +3,8 @@ use Rattle.std.specs.Prelude.{◌≡◌, ℕ, ℤ, Bool, true, false, pos, ◌+�
 use Rattle.ft_io.specs.declared.Addr.{Addr}
 use Rattle.ft_io.specs.declared.Key.{Key}
 use Rattle.seq_arith.specs.Number.{number_at}
-use Rattle.seq_arith.specs.Arrival.{int_eq, is_acceptable, is_usable}
-use Rattle.seq_arith.specs.Coming.{Early, Came, nothing_early, comes}
+use Rattle.tcp_rules.specs.Arrival.{int_eq, is_acceptable, is_usable}
+use Rattle.tcp_rules.specs.Coming.{Early, Came, nothing_early, comes}
 use Rattle.seq_arith.specs.Packet.{Segment, has_syn, has_rst, has_ack}
 use Rattle.ft_model.specs.Offset.{first_of, ack_of, text_of, fin_of, length_of, one_if}
 use Rattle.ft_model.specs.declared.phase.Phase.{Phase}

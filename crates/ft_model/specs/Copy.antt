@@ -3,7 +3,7 @@
 -- was acceptable doesn't matter.
 use Rattle.std.specs.Prelude.{ℕ, ℤ, Bool, false, zero, suc, pos, negsuc, ◌+◌, ◌-◌, ◌&&◌, ◌||◌, not, nat_lt, nat_le, max, min, List, [], ◌∷◌, ◌++◌, length, take, drop, if◌then◌else◌}
 use Rattle.ft_io.specs.declared.Key.{Key}
-use Rattle.seq_arith.specs.Arrival.{int_eq, below}
+use Rattle.tcp_rules.specs.Arrival.{int_eq, below}
 use Rattle.seq_arith.specs.Packet.{Segment}
 use Rattle.seq_arith.specs.Message.{Part, Body}
 use Rattle.seq_arith.specs.Message.Body.{DataMsg}

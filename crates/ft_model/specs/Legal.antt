@@ -1,7 +1,7 @@
 -- A legal trace of a schedule: it starts with the schedule's clients and the empty log, its server runs the schedule's service, its events are exactly the
 -- schedule's, in order, each of them is allowed, and its clients are scripted.
 use Rattle.std.specs.Prelude.{◌≡◌, ℕ, ◌*◌, length, nat_le, Option, Some, None, is_some, List, [], ◌∷◌, if◌then◌else◌}
-use Rattle.seq_arith.specs.Profile.{plain}
+use Rattle.tcp_rules.specs.Profile.{plain}
 use Rattle.server_trait.specs.Service.{Served, Machine, machine}
 use Rattle.ft_model.specs.Client.{Client, Move, move_asked, window_of, refusal_of_move, segment_of, moved}
 use Rattle.ft_model.specs.Log.{empty_log}

@@ -1,6 +1,6 @@
 -- The law Opening: how a connection is opened (RFC 9293, 3.10.7.2; FT-TCP, INFOCOM 2001: the initial sequence numbers are logged before the SYN-ACK is sent).
 use Rattle.std.specs.Prelude.{ℕ, Bool, ◌+◌, ◌*◌, ◌%◌, ◌^◌, ◌&&◌, not}
-use Rattle.seq_arith.specs.Profile.{Profile}
+use Rattle.tcp_rules.specs.Profile.{Profile}
 use Rattle.seq_arith.specs.Packet.{Segment, has_syn, has_rst, has_ack}
 use Rattle.seq_arith.specs.Message.{Numbers}
 pub use Rattle.seq_arith.specs.Packet.{segment_size}

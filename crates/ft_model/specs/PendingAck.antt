@@ -1,6 +1,6 @@
 -- When an ACK is pending, so that a pure ACK is sent where no other segment is (RFC 9293, 3.10.7.4, in the offsets of the point before the turn).
 use Rattle.std.specs.Prelude.{Bool, true, false, pos, length, is_none, ◌==◌, ◌&&◌, ◌||◌, not, nat_lt, int_lt, if◌then◌else◌}
-use Rattle.seq_arith.specs.Arrival.{int_eq}
+use Rattle.tcp_rules.specs.Arrival.{int_eq}
 use Rattle.seq_arith.specs.Packet.{Segment, has_syn, has_rst, has_ack}
 use Rattle.server_trait.specs.Service.{Machine}
 use Rattle.ft_model.specs.Offset.{first_of, ack_of, length_of}

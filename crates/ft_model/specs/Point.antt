@@ -3,10 +3,10 @@
 -- is counted.
 use Rattle.std.specs.Prelude.{ℕ, ℤ, Bool, false, pos, ◌+◌, ◌-◌, ◌^◌, ◌&&◌, nat_lt, max, min, sum, List, [], length, take}
 use Rattle.ft_io.specs.declared.Key.{Key}
-use Rattle.seq_arith.specs.Coming.{Early, nothing_early, StandsBehind}
-use Rattle.seq_arith.specs.Congestion.{Congestion, initial_congestion}
-use Rattle.seq_arith.specs.Timing.{Timing, first_base, initial_timing}
-use Rattle.seq_arith.specs.Profile.{Profile}
+use Rattle.tcp_rules.specs.Coming.{Early, nothing_early, StandsBehind}
+use Rattle.tcp_rules.specs.Congestion.{Congestion, initial_congestion}
+use Rattle.tcp_rules.specs.Timing.{Timing, first_base, initial_timing}
+use Rattle.tcp_rules.specs.Profile.{Profile}
 use Rattle.server_trait.specs.Service.{Machine, Run, reference}
 use Rattle.ft_model.specs.Offset.{one_if}
 

@@ -1,7 +1,7 @@
 -- What a connection has of its server's profile, in every turn.
 use Rattle.std.specs.Prelude.{◌≡◌, false}
-use Rattle.seq_arith.specs.Profile.{Profile}
-use Rattle.seq_arith.specs.Timing.{initial_timing}
+use Rattle.tcp_rules.specs.Profile.{Profile}
+use Rattle.tcp_rules.specs.Timing.{initial_timing}
 use Rattle.ft_model.specs.Point.{Point}
 
 -- a connection has the profile's constants; where nothing is measured its timing is what it was at first, and no loss is noted

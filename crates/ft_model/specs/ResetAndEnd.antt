@@ -1,6 +1,6 @@
 -- The law Reset and end, for a live connection: when its client resets it, and when the server reports to the logger that it is done.
 use Rattle.std.specs.Prelude.{ℕ, Bool, pos, ◌+◌, ◌==◌, ◌&&◌, ◌||◌, not, min, List, [], ◌∷◌, if◌then◌else◌}
-use Rattle.seq_arith.specs.Arrival.{int_eq}
+use Rattle.tcp_rules.specs.Arrival.{int_eq}
 use Rattle.seq_arith.specs.Packet.{has_rst}
 use Rattle.seq_arith.specs.Message.{Body}
 use Rattle.seq_arith.specs.Message.Body.{DoneMsg}

@@ -8,7 +8,7 @@ use Rattle.ft_io.specs.Key.{key_eq}
 use Rattle.seq_arith.specs.declared.flags.TheConstants.{ACK}
 use Rattle.seq_arith.specs.Number.{number_at}
 use Rattle.seq_arith.specs.Packet.{Segment}
-use Rattle.seq_arith.specs.Profile.{Profile}
+use Rattle.tcp_rules.specs.Profile.{Profile}
 use Rattle.seq_arith.specs.Message.{EntryHead, Body}
 use Rattle.seq_arith.specs.Message.Body.{ListMsg, EntryMsg, BytesMsg, PartMsg, CutsMsg, LensMsg}
 use Rattle.server_trait.specs.Service.{Machine, Run, reference}

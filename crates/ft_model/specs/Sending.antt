@@ -1,8 +1,8 @@
 -- The law Sending: what an acknowledgement does, and how much is sent (RFC 9293, 3.10.7.4, fifth check, and 3.8; RFC 5681, 2 and 3). All fields are read from
 -- the point before the turn, except in `sent_after`, which uses the released output, the edge and the congestion window after it.
 use Rattle.std.specs.Prelude.{ℕ, ℤ, Bool, false, pos, ◌+◌, ◌-◌, ◌==◌, ◌&&◌, ◌||◌, not, nat_lt, int_le, max, min, nat_abs, length, if◌then◌else◌}
-use Rattle.seq_arith.specs.Arrival.{una_after, updates_window}
-use Rattle.seq_arith.specs.Congestion.{Congestion, is_partial, with_new_data, is_third, with_duplicate, with_expiry}
+use Rattle.tcp_rules.specs.Arrival.{una_after, updates_window}
+use Rattle.tcp_rules.specs.Congestion.{Congestion, is_partial, with_new_data, is_third, with_duplicate, with_expiry}
 use Rattle.seq_arith.specs.Packet.{Segment}
 use Rattle.server_trait.specs.Service.{Machine}
 use Rattle.ft_model.specs.Offset.{first_of, ack_of, text_of, fin_of, one_if}
@@ -10,7 +10,7 @@ use Rattle.ft_model.specs.Point.{Point, target}
 use Rattle.ft_model.specs.News.{News}
 use Rattle.ft_model.specs.News.News.{Comes, Logged, Ticks, Begins}
 use Rattle.ft_model.specs.Taken.{counts}
-use Rattle.seq_arith.specs.Timing.{Timing, with_sent}
+use Rattle.tcp_rules.specs.Timing.{Timing, with_sent}
 use Rattle.ft_model.specs.Timer.{expires, probes, timing_noted}
 
 -- the segment's acknowledgement is used: the segment counts, and its acknowledgement is at offset 0 of the output or later

@@ -1,9 +1,9 @@
 -- The law Taken: which bytes of a segment are taken, which are held, and when its FIN is taken (RFC 9293, 3.10.7.4: first, seventh and eighth check). All tests
 -- are made at the point before the turn.
 use Rattle.std.specs.Prelude.{ℕ, ℤ, Bool, pos, ◌+ℤ◌, ◌&&◌, ◌||◌, not, int_le, List, ◌++◌, length, if◌then◌else◌}
-use Rattle.seq_arith.specs.Arrival.{is_acceptable_or_at_edge, is_usable, is_beyond}
+use Rattle.tcp_rules.specs.Arrival.{is_acceptable_or_at_edge, is_usable, is_beyond}
 use Rattle.seq_arith.specs.Packet.{Segment, has_syn, has_rst, has_ack}
-use Rattle.seq_arith.specs.Coming.{Early, Came, nothing_came, comes}
+use Rattle.tcp_rules.specs.Coming.{Early, Came, nothing_came, comes}
 use Rattle.ft_model.specs.Offset.{first_of, ack_of, text_of, fin_of, length_of}
 use Rattle.ft_model.specs.Point.{Point, taken_units, most, receive_edge, room}
 use Rattle.ft_model.specs.News.{News}

@@ -1,6 +1,6 @@
 -- The timer for retransmissions and probes (RFC 9293, 3.8.1 and 3.8.6.1; RFC 6298, 5, in ticks).
 use Rattle.std.specs.Prelude.{ℕ, Bool, true, false, ◌-◌, ◌*◌, ◌==◌, ◌&&◌, ◌||◌, not, nat_lt, max, min, if◌then◌else◌}
-use Rattle.seq_arith.specs.Timing.{Timing, with_acknowledged, with_tick, without_trip, with_backoff}
+use Rattle.tcp_rules.specs.Timing.{Timing, with_acknowledged, with_tick, without_trip, with_backoff}
 use Rattle.server_trait.specs.Service.{Machine}
 use Rattle.ft_model.specs.Point.{Point, target}
 use Rattle.ft_model.specs.News.{News}

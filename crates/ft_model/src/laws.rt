@@ -17,8 +17,8 @@ ghost use Rattle.ft_model.specs.Sending.{syn_acked_after, acknowledged_after, ed
 ghost use Rattle.ft_model.specs.PendingAck.{needs_ack, is_ack_due, is_ack_pending};
 ghost use Rattle.seq_arith.specs.Packet.{Segment, has_syn, has_rst, has_ack};
 ghost use Rattle.seq_arith.specs.Message.{Numbers};
-ghost use Rattle.seq_arith.specs.Profile.{Profile, plain};
-ghost use Rattle.seq_arith.specs.Timing.{initial_timing};
+ghost use Rattle.tcp_rules.specs.Profile.{Profile, plain};
+ghost use Rattle.tcp_rules.specs.Timing.{initial_timing};
 ghost use Rattle.ft_model.specs.Log.{Entry};
 ghost use Rattle.ft_model.specs.Profiled.{HasProfile};
 ghost use Rattle.ft_model.specs.Opening.{point_opened};

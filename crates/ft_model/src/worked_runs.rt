@@ -3,7 +3,7 @@
 
 ghost use Rattle.std.specs.Prelude.{◌≡◌, [], ◌∷◌};
 ghost use Rattle.std.specs.List.{concat};
-ghost use Rattle.seq_arith.specs.Profile.{plain};
+ghost use Rattle.tcp_rules.specs.Profile.{plain};
 ghost use Rattle.ft_model.specs.Node.{booted};
 ghost use Rattle.ft_model.specs.Node.Input.{Tick_comes};
 ghost use Rattle.ft_model.specs.Node.Stage.{Serving};

@@ -5,8 +5,8 @@ use Rattle.std.specs.Prelude.{ℤ, pos, ◌==◌, ◌&&◌, nat_abs, nat_lt, int
 use Rattle.std.proofs.lemmas.Int.{ints}
 use Rattle.std.proofs.lemmas.List.{length-take}
 use Rattle.ft_io.specs.declared.Addr.{Addr}
-use Rattle.seq_arith.specs.Arrival.{int_eq, is_new_ack}
-use Rattle.seq_arith.specs.Coming.{Came, StandsBehind}
+use Rattle.tcp_rules.specs.Arrival.{int_eq, is_new_ack}
+use Rattle.tcp_rules.specs.Coming.{Came, StandsBehind}
 use Rattle.seq_arith.specs.Offset.{one_if, length_of}
 use Rattle.seq_arith.specs.Packet.{Segment, has_fin, has_syn, has_rst, has_ack}
 use Rattle.seq_arith.specs.PacketGrammar.{reading}
@@ -28,7 +28,7 @@ use Rattle.link_parts.specs.Receipt.{Received, datagram, silence, failure}
 use Rattle.link_parts.specs.ClientTurns.{ClientTurn, after_receive, emptied, due_at}
 use Rattle.link_parts.specs.ClientParts.{HasLimits, IsWithin, IsLimited}
 use Rattle.ft_io.proofs.Booleans.{left_true, right_true}
-use Rattle.seq_arith.proofs.Coming.{comes_within, stays_behind, behind_within, nothing_behind}
+use Rattle.tcp_rules.proofs.Coming.{comes_within, stays_behind, behind_within, nothing_behind}
 use Rattle.seq_arith.proofs.Units.{one_at_most}
 use Rattle.ft_io.proofs.Choices.{holds_if, holds_either_way}
 

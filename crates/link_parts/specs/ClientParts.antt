@@ -1,6 +1,6 @@
 -- What the parts of a client's turn do, and what always holds of a live client.
 use Rattle.std.specs.Prelude.{◌≡◌, ℕ, ◌+◌, ◌^◌, ◌≤◌, min, Bool, Option, None, List, [], ◌∷◌, length}
-use Rattle.seq_arith.specs.Coming.{Early, StandsBehind}
+use Rattle.tcp_rules.specs.Coming.{Early, StandsBehind}
 use Rattle.seq_arith.specs.Offset.{one_if}
 use Rattle.ft_io.specs.declared.Addr.{Addr}
 use Rattle.ft_io.specs.declared.link_call.LinkCall.{LinkCall}

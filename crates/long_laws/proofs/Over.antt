@@ -6,7 +6,7 @@ use Rattle.std.proofs.lemmas.Bool.{and_parts}
 use Rattle.ft_io.specs.declared.Addr.{Addr}
 use Rattle.ft_io.specs.declared.Key.{Key}
 use Rattle.ft_io.proofs.Choices.{by_cases, holds_if, if_false}
-use Rattle.seq_arith.specs.Arrival.{int_eq, una_after}
+use Rattle.tcp_rules.specs.Arrival.{int_eq, una_after}
 use Rattle.seq_arith.specs.Packet.{Segment, has_syn, has_rst, has_ack}
 use Rattle.seq_arith.specs.Message.{Body}
 use Rattle.seq_arith.specs.Message.Body.{DataMsg, DoneMsg}

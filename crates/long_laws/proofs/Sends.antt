@@ -4,9 +4,9 @@ use Rattle.std.proofs.Common.{◌≡◌, ◌⊎◌, ℕ, zero, suc, ◌+◌, ◌
 use Rattle.std.proofs.lemmas.Bool.{and_parts}
 use Rattle.std.proofs.lemmas.List.{take_all}
 use Rattle.ft_io.specs.declared.Addr.{Addr}
-use Rattle.seq_arith.specs.Profile.{Profile}
-use Rattle.seq_arith.specs.Arrival.{una_after}
-use Rattle.seq_arith.specs.Congestion.{with_expiry}
+use Rattle.tcp_rules.specs.Profile.{Profile}
+use Rattle.tcp_rules.specs.Arrival.{una_after}
+use Rattle.tcp_rules.specs.Congestion.{with_expiry}
 use Rattle.seq_arith.specs.Message.{Numbers}
 use Rattle.server_trait.specs.Service.{Machine, reference}
 use Rattle.ft_io.proofs.Booleans.{not_true}

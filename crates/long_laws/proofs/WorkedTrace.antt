@@ -3,7 +3,7 @@ use Rattle.std.proofs.Common.{◌≡◌, ◌^◌, refl, sym, ◌∙◌, subst, t
 use native.Mathlib.Bridge.{le_by_compare, IsLe}
 use Rattle.std.specs.List.{AllByRecursion}
 use Rattle.ft_io.specs.Key.{key_eq}
-use Rattle.seq_arith.specs.Profile.{plain}
+use Rattle.tcp_rules.specs.Profile.{plain}
 use Rattle.seq_arith.specs.Message.Body.{OpenMsg, OpenedMsg}
 use Rattle.ft_model.specs.Client.Move.{Syn}
 use Rattle.ft_model.specs.Lawful.{LawfulTurn}

@@ -1,7 +1,7 @@
 -- A late refusal: a live client refuses a wrong acknowledgement of its SYN by a RST, and opens after all. When the RST comes, its number is exactly the next one:
 -- it ends the connection, which its client believes open. Fifteen events.
 use Rattle.std.specs.Prelude.{true, Some, List, [], ◌∷◌}
-use Rattle.seq_arith.specs.Profile.{plain}
+use Rattle.tcp_rules.specs.Profile.{plain}
 use Rattle.seq_arith.specs.Message.Body.{DoneMsg, EndedMsg}
 use Rattle.ft_model.specs.Client.{Client}
 use Rattle.ft_model.specs.Client.ClientKind.{Live}

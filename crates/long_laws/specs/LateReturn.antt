@@ -1,6 +1,6 @@
 -- A client comes back in time: its SYN comes when the server has forgotten the key, and it gets a connection.
 use Rattle.std.specs.Prelude.{Some, List, [], ◌∷◌, map}
-use Rattle.seq_arith.specs.Profile.{plain}
+use Rattle.tcp_rules.specs.Profile.{plain}
 use Rattle.seq_arith.specs.Message.Body.{OpenMsg, OpenedMsg}
 use Rattle.ft_model.specs.Client.{Client}
 use Rattle.ft_model.specs.Log.{new_entry}

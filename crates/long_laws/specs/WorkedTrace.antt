@@ -2,7 +2,7 @@
 -- its entry is recycled, the second client arrives and sends its SYN, and once the server has forgotten the key this SYN opens a connection with other initial
 -- sequence numbers. It stays half-open: the server sends a keep-alive, gets no answer, and lets go of the client.
 use Rattle.std.specs.Prelude.{ℕ, true, Some, None, List, [], ◌∷◌, ◌++◌, map}
-use Rattle.seq_arith.specs.Profile.{plain}
+use Rattle.tcp_rules.specs.Profile.{plain}
 use Rattle.seq_arith.specs.Packet.{Segment}
 use Rattle.seq_arith.specs.Message.{Numbers, Message}
 use Rattle.seq_arith.specs.Message.Body.{HelloMsg, SummaryMsg, OpenMsg, OpenedMsg, DataMsg, StableMsg, ReadsMsg, DoneMsg, EndedMsg}

@@ -24,7 +24,7 @@ use Rattle.ft_model.proofs.Turns.{laws, goes, segment_in, message_in, kept_in}
 use Rattle.mark_laws.specs.MarkedLog.{after_mark, answer_above, answer_to_mark}
 use Rattle.mark_laws.specs.Marking.{Marking, Outgoing, is_due}
 use Rattle.mark_laws.specs.Marking.Outgoing.{Plain, Mark_to_logger}
-use Rattle.seq_arith.specs.Profile.{plain}
+use Rattle.tcp_rules.specs.Profile.{plain}
 use Rattle.seq_arith.specs.Mark.MarkBody.{MarkMsg, AskMsg, HeldMsg}
 use Rattle.seq_arith.specs.Message.Body.{HelloMsg, SummaryMsg, ListMsg, EntryMsg, DataMsg}
 use Rattle.ft_model.specs.WorkedRuns.Common.{client_segment, from_client, to_client, to_log, from_log, part_with, fetched_with}

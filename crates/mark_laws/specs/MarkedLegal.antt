@@ -1,6 +1,6 @@
 -- A legal trace of a schedule with marks. It is like one without, except that the messages about marks count among the packets.
 use Rattle.std.specs.Prelude.{◌≡◌, ℕ, ◌*◌, length, nat_le, Option, Some, None, is_some, List, [], ◌∷◌, ◌++◌, if◌then◌else◌}
-use Rattle.seq_arith.specs.Profile.{plain}
+use Rattle.tcp_rules.specs.Profile.{plain}
 use Rattle.server_trait.specs.Service.{Machine}
 use Rattle.server_trait.specs.Saved.{writing}
 use Rattle.ft_model.specs.Legal.{refusal, IsScripted}

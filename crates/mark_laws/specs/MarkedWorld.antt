@@ -2,7 +2,7 @@
 use Rattle.std.specs.Prelude.{◌≡◌, ℕ, zero, suc, ◌<◌, ◌*◌, length, map, Result, Ok, Err, Option, Some, None, option_map, is_some, true, List, [], ◌∷◌, ◌++◌, slice_get}
 use Rattle.std.specs.Option.{option_to_list, option_map_or}
 use Rattle.ft_io.specs.declared.Addr.{Addr}
-use Rattle.seq_arith.specs.Profile.{Profile}
+use Rattle.tcp_rules.specs.Profile.{Profile}
 use Rattle.seq_arith.specs.Damage.{flipped}
 use Rattle.seq_arith.specs.Mark.{MarkBody, MarkMessage}
 use Rattle.seq_arith.specs.Mark.MarkBody.{HeldMsg}

@@ -2,7 +2,7 @@
 -- sent. The server crashes, and the next incarnation begins at the mark: it fetches neither the bytes nor the read.
 use Rattle.std.specs.Prelude.{ℕ, Bool, true, false, pos, Option, Some, None, option_map, List, [], ◌∷◌, ◌++◌, map, if◌then◌else◌}
 use Rattle.ft_io.specs.Key.{key_eq}
-use Rattle.seq_arith.specs.Profile.{plain}
+use Rattle.tcp_rules.specs.Profile.{plain}
 use Rattle.seq_arith.specs.Mark.{Mark, MarkBody, MarkMessage}
 use Rattle.seq_arith.specs.Mark.MarkBody.{MarkMsg, MarkedMsg, AskMsg, HeldMsg}
 use Rattle.seq_arith.specs.Message.{EntryHead}

@@ -4,7 +4,7 @@
 #![tactic(auto)]
 
 ghost use Rattle.std.specs.Prelude.{◌≡◌, ℕ, Bool, true, false, ◌≤◌, List, [], ◌∷◌, Some, None, IfSome, length, sum, slice_get, ◌<◌, codes};
-ghost use Rattle.seq_arith.specs.Profile.{Profile};
+ghost use Rattle.tcp_rules.specs.Profile.{Profile};
 ghost use Rattle.server_trait.specs.Service.{machine, reference, AreBytes, CanCut};
 ghost use Rattle.server_trait.specs.Saved.{Writing, ReadsBack, writing};
 ghost use Rattle.seq_arith.specs.Mark.{Mark, MarkMessage};

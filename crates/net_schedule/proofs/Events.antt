@@ -4,7 +4,7 @@ use Rattle.std.specs.List.{AllByRecursion}
 use Rattle.std.proofs.lemmas.Bool.Decides.{nat_tests}
 use Rattle.seq_arith.specs.Damage.{flipped}
 use Rattle.server_trait.specs.Service.{Machine}
-use Rattle.seq_arith.specs.Profile.{plain}
+use Rattle.tcp_rules.specs.Profile.{plain}
 use Rattle.ft_model.specs.Client.{move_asked}
 use Rattle.ft_model.specs.Lawful.{hello}
 use Rattle.ft_model.specs.Legal.{refusal, refusal_of_flip, IsScripted}

@@ -1,7 +1,7 @@
 -- With marks: the start and the turn of a node, as its contract has them, are those of the definitions' server.
 use Rattle.std.proofs.Common.{◌≡◌, sym, ap, subst, ℕ, ◌<◌, ◌≤◌, ◌^◌, true, Some, None, List, map}
 use Rattle.server_trait.specs.declared.Service.{Ghosts}
-use Rattle.seq_arith.specs.Profile.{plain}
+use Rattle.tcp_rules.specs.Profile.{plain}
 use Rattle.ft_model.specs.Lawful.{hello}
 use Rattle.ft_model.specs.Legal.{machines}
 use Rattle.ft_model.specs.Node.{booted}

@@ -2,7 +2,7 @@
 -- two.
 use Rattle.std.specs.Prelude.{◌≡◌, None, List, ◌++◌, map}
 use Rattle.server_trait.specs.Service.{Machine}
-use Rattle.seq_arith.specs.Profile.{plain}
+use Rattle.tcp_rules.specs.Profile.{plain}
 use Rattle.ft_model.specs.Legal.{refusal, IsScripted}
 use Rattle.ft_model.specs.Network.{Packet}
 use Rattle.ft_model.specs.Wire.{wire_of}

@@ -6,7 +6,7 @@ use Rattle.seq_arith.specs.Mark.{MarkMessage}
 use Rattle.seq_arith.specs.PacketGrammar as segments
 use Rattle.ft_io.specs.declared.Key.{Key}
 use Rattle.server_trait.specs.Service.{Machine}
-use Rattle.seq_arith.specs.Profile.{plain}
+use Rattle.tcp_rules.specs.Profile.{plain}
 use Rattle.ft_model.specs.Lawful.{IsNearInput, IsSoundInput, fence}
 use Rattle.ft_model.specs.Legal.{IsScripted}
 use Rattle.ft_model.specs.Network.Packet.{To_server, To_client, To_logger, From_logger}

@@ -1,7 +1,7 @@
 -- An incarnation's constants, and the model's node and the service that they determine.
 use Rattle.server_trait.specs.Service.{Machine, machine}
 use Rattle.server_trait.specs.declared.Service.{Ghosts}
-use Rattle.seq_arith.specs.Profile.{plain}
+use Rattle.tcp_rules.specs.Profile.{plain}
 use Rattle.ft_model.specs.Node.{Node, Stage}
 use Rattle.node_serving.specs.declared.identity.Identity.{Identity}
 

@@ -3,10 +3,10 @@ use Rattle.std.proofs.Common.{◌≡◌, ℕ, ◌≤◌, ◌+◌, ◌-◌, ◌^�
 use Rattle.std.specs.Prelude.{ℤ, pos, ◌-ℤ◌, ◌≤ℤ◌, ◌&&◌, ◌||◌, nat_lt, int_lt, if◌then◌else◌}
 use Rattle.std.proofs.lemmas.Bool.{false≢true}
 use Rattle.std.proofs.lemmas.Int.{ints}
-use Rattle.seq_arith.specs.Arrival.{int_eq, is_acceptable, is_at_right_edge, is_allowed_at_zero, is_usable}
-use Rattle.seq_arith.specs.Coming.{comes}
-use Rattle.seq_arith.specs.Congestion.{Congestion}
-use Rattle.seq_arith.specs.Timing.{Timing}
+use Rattle.tcp_rules.specs.Arrival.{int_eq, is_acceptable, is_at_right_edge, is_allowed_at_zero, is_usable}
+use Rattle.tcp_rules.specs.Coming.{comes}
+use Rattle.tcp_rules.specs.Congestion.{Congestion}
+use Rattle.tcp_rules.specs.Timing.{Timing}
 use Rattle.seq_arith.specs.Offset.{length_of, first_of, ack_of, text_of, fin_of, one_if}
 use Rattle.seq_arith.specs.Packet.{Segment, has_fin, has_syn, has_rst, has_ack}
 use Rattle.tcp_buffers.specs.Near.{is_ahead}

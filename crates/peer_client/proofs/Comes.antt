@@ -4,11 +4,11 @@ use Rattle.std.specs.Prelude.{ℤ, pos, ◌&&◌, nat_abs, int_lt, int_le, if◌
 use Rattle.std.proofs.lemmas.Int.{ints}
 use Rattle.std.proofs.lemmas.Bool.{false≢true}
 use Rattle.std.proofs.lemmas.List.{drop-append-le}
-use Rattle.seq_arith.specs.Arrival.{is_new_ack}
-use Rattle.seq_arith.specs.Coming.{Came, StandsBehind, comes}
-use Rattle.seq_arith.specs.Congestion.{Congestion}
-use Rattle.seq_arith.specs.Timing.{Timing}
-use Rattle.seq_arith.proofs.Coming.{comes_within, fin_stays, stays_behind}
+use Rattle.tcp_rules.specs.Arrival.{is_new_ack}
+use Rattle.tcp_rules.specs.Coming.{Came, StandsBehind, comes}
+use Rattle.tcp_rules.specs.Congestion.{Congestion}
+use Rattle.tcp_rules.specs.Timing.{Timing}
+use Rattle.tcp_rules.proofs.Coming.{comes_within, fin_stays, stays_behind}
 use Rattle.tcp_endpoint.specs.ReceiveHalf.{Receiving, taken, receive_edge, came, with_came, with_segment}
 use Rattle.tcp_endpoint.specs.SendHalf.{Sending, acknowledged, moves_edge}
 use Rattle.ft_model.specs.Client as machine

@@ -6,7 +6,7 @@ use Rattle.seq_arith.specs.Packet.{Segment}
 use Rattle.seq_arith.specs.Offset.{one_if}
 use Rattle.tcp_endpoint.specs.States.{is_closed, has_begun}
 use Rattle.tcp_endpoint.specs.ReceiveHalf.{next, taken, receive_edge, advertised_edge}
-use Rattle.seq_arith.specs.Timing.{Timing}
+use Rattle.tcp_rules.specs.Timing.{Timing}
 use Rattle.tcp_endpoint.specs.SendHalf.{Sending, in_flight, is_unacknowledged, send_edge, sends_fin, resent_length, with_sent, with_fin_sent, with_unit_timed}
 use Rattle.tcp_endpoint.specs.Tcb.{Tcb}
 use Rattle.tcp_endpoint.specs.Output.{segment_at, text_at, fin_at, texts, reset_reply_segments, reset_reply_out, retransmission_out, retransmitted_segment, opening_segment, probes, probes_text, probes_fin, probe_out, with_probe, new_length, text_out, with_text_sent, new_fin, fin_out, with_fin_out, full_out, with_timed, after_full, is_ack_pending, bare_segment, or_bare, leaving}

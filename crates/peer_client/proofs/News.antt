@@ -2,9 +2,9 @@
 use Rattle.std.proofs.Common.{◌≡◌, ◌⊎◌, inl, inr, ℕ, ◌+◌, ◌-◌, ◌*◌, ◌^◌, Bool, true, false, None, Some, length, drop, min, refl, sym, ap, subst, arith, ◌∙◌}
 use Rattle.std.specs.Prelude.{pos, ◌-ℤ◌, ◌≤ℤ◌, ◌&&◌, ◌||◌, if◌then◌else◌}
 use Rattle.std.proofs.lemmas.Bool.{false≢true}
-use Rattle.seq_arith.specs.Arrival.{int_eq}
-use Rattle.seq_arith.specs.Congestion.{Congestion}
-use Rattle.seq_arith.specs.Timing.{Timing, with_tick, with_backoff}
+use Rattle.tcp_rules.specs.Arrival.{int_eq}
+use Rattle.tcp_rules.specs.Congestion.{Congestion}
+use Rattle.tcp_rules.specs.Timing.{Timing, with_tick, with_backoff}
 use Rattle.seq_arith.specs.Offset.{ack_of, one_if}
 use Rattle.seq_arith.specs.Packet.{Segment, has_rst, has_ack}
 use Rattle.tcp_endpoint.specs.States.{has_begun, is_closed, is_time_wait}

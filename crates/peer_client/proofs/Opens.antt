@@ -4,13 +4,13 @@ use Rattle.std.specs.Prelude.{◌&&◌, ◌||◌, nat_lt, nat_le, if◌then◌el
 use Rattle.std.proofs.lemmas.Bool.{false≢true}
 use Rattle.ft_io.specs.declared.Addr.{Addr}
 use Rattle.seq_arith.specs.Packet.{Segment}
-use Rattle.seq_arith.proofs.Coming.{nothing_behind}
+use Rattle.tcp_rules.proofs.Coming.{nothing_behind}
 use Rattle.segment_codec.specs.Value.{said}
 use Rattle.segment_codec.specs.declared.Head.{Head}
 use Rattle.tcp_endpoint.specs.declared.states.StateName.TheVariants.{SynSent}
 use Rattle.tcp_endpoint.specs.States.{has_begun}
 use Rattle.tcp_endpoint.specs.ReceiveHalf.{Receiving, window, receive_edge, read_out}
-use Rattle.seq_arith.specs.Timing.{Timing}
+use Rattle.tcp_rules.specs.Timing.{Timing}
 use Rattle.tcp_endpoint.specs.SendHalf.{Sending, in_flight, with_unit_timed}
 use Rattle.tcp_endpoint.specs.Tcb.{Tcb, connecting, listening}
 use Rattle.tcp_endpoint.specs.UserCalls.{closing, write_room}

@@ -3,12 +3,12 @@ use Rattle.std.proofs.Common.{◌≡◌, ◌⊎◌, inl, inr, ℕ, ◌≤◌, �
 use Rattle.std.specs.Prelude.{◌==◌, ◌||◌, nat_le, if◌then◌else◌}
 use Rattle.std.proofs.lemmas.Bool.{false≢true}
 use Rattle.std.proofs.lemmas.List.{take-append-drop, drop-append-le, take-take, drop-take, take_min}
-use Rattle.seq_arith.specs.Coming.{StandsBehind}
+use Rattle.tcp_rules.specs.Coming.{StandsBehind}
 use Rattle.seq_arith.specs.Offset.{one_if}
-use Rattle.seq_arith.proofs.Coming.{behind_up}
+use Rattle.tcp_rules.proofs.Coming.{behind_up}
 use Rattle.tcp_endpoint.specs.States.{has_begun}
 use Rattle.tcp_endpoint.specs.ReceiveHalf.{Receiving, next, taken, receive_edge, advertised_edge, read_out}
-use Rattle.seq_arith.specs.Timing.{Timing}
+use Rattle.tcp_rules.specs.Timing.{Timing}
 use Rattle.tcp_endpoint.specs.SendHalf.{Sending, timed}
 use Rattle.tcp_endpoint.specs.Tcb.{Tcb}
 use Rattle.tcp_endpoint.specs.Output.{reset_reply_segments, is_timed, with_advertised, with_turn_ended, flushed}

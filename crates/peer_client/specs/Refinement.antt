@@ -1,7 +1,7 @@
 -- How the client machine of the model corresponds to a live client: the machine has accepted what the client's TCP has taken, and has sent and advertised what
 -- TCP has. Every call preserves this, and each segment that is sent is a move of the machine.
 use Rattle.std.specs.Prelude.{◌≡◌, ◌⊎◌, ℕ, Bool, true, false, pos, ◌+◌, ◌-ℤ◌, ◌≤ℤ◌, ◌^◌, ◌<◌, ◌≤◌, ◌==◌, ◌&&◌, Option, None, Some, Result, Ok, Err, List, [], ◌∷◌, length, take, drop, if◌then◌else◌}
-use Rattle.seq_arith.specs.Coming.{StandsBehind}
+use Rattle.tcp_rules.specs.Coming.{StandsBehind}
 use Rattle.seq_arith.specs.Number.{number_at}
 use Rattle.seq_arith.specs.Offset.{one_if, ack_of}
 use Rattle.seq_arith.specs.Packet.{Segment, has_ack}

@@ -36,7 +36,7 @@ pub struct Client {
 
 impl Model for Client {
     ghost use Rattle.std.specs.Prelude.{ℕ, ◌≤◌, ◌+◌, ◌^◌, length};
-    ghost use Rattle.seq_arith.specs.Coming.{nothing_early};
+    ghost use Rattle.tcp_rules.specs.Coming.{nothing_early};
     ghost use Rattle.ft_model.specs.Client as machine;
     ghost use Rattle.ft_model.specs.Client.ClientKind.{Scripted};
 

@@ -3,7 +3,7 @@ use Rattle.std.proofs.Common.{◌≡◌, ℕ, Bool, sym, subst, List, arith}
 use Rattle.server_trait.specs.Service.{Machine}
 use Rattle.plain_connection.specs.Made.{nothing_made, made_of}
 use Rattle.seq_arith.specs.Message.{Numbers}
-use Rattle.seq_arith.specs.Profile.{plain}
+use Rattle.tcp_rules.specs.Profile.{plain}
 use Rattle.ft_model.specs.Opening.{point_opened}
 use Rattle.ft_model.specs.Point.{made}
 use Rattle.plain_point.specs.Resumed.{point_fetched}

@@ -4,7 +4,7 @@ use Rattle.std.specs.Bool.{MatchBool}
 use Rattle.std.specs.Int.{from_bool}
 use Rattle.ft_io.specs.declared.Addr.{Addr}
 use Rattle.server_trait.specs.Service.{Machine}
-use Rattle.seq_arith.specs.Timing.{initial_timing}
+use Rattle.tcp_rules.specs.Timing.{initial_timing}
 use Rattle.ft_model.proofs.Profiles.{turn_stays}
 use Rattle.ft_model.specs.Connection.{LiveTurn, ResetTurn, sent_by, told_by}
 use Rattle.ft_model.specs.Copy.{copies}

@@ -1,7 +1,7 @@
 -- What a turn of a connection compares with the connection before it.
 use Rattle.std.specs.Prelude.{◌≡◌, ◌||◌, length}
 use Rattle.server_trait.specs.Service.{Machine}
-use Rattle.seq_arith.specs.Profile.{plain}
+use Rattle.tcp_rules.specs.Profile.{plain}
 use Rattle.ft_model.specs.Profiled.{HasProfile}
 use Rattle.ft_model.specs.Point.{Point, taken_units, advertised_edge}
 use Rattle.ft_model.specs.News.{News}

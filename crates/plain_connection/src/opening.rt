@@ -3,7 +3,7 @@
 ghost use Rattle.std.specs.Prelude.{◌≡◌, ◌≤◌, [], true, false, IfOk, OnOk, nat_le, sum, length};
 ghost use Rattle.std.specs.List.{list_all};
 ghost use Rattle.server_trait.specs.Service.{machine};
-ghost use Rattle.seq_arith.specs.Profile.{plain};
+ghost use Rattle.tcp_rules.specs.Profile.{plain};
 ghost use Rattle.ft_model.specs.Opening.{point_opened};
 ghost use Rattle.ft_model.specs.Restart.{entry_in, point_of, is_whole};
 ghost use Rattle.logger_wire.specs.Records.{numbers_said};

@@ -3,8 +3,8 @@ use Rattle.std.proofs.Common.{◌≡◌, ℕ, ◌+◌, ◌-◌, Bool, false, ari
 use Rattle.std.specs.Prelude.{ℤ, pos, ◌<ℤ◌, nat_abs, int_lt, int_le, not, ◌&&◌}
 use Rattle.std.proofs.lemmas.Int.{ints}
 use Rattle.std.proofs.lemmas.Bool.{and_left, and_right}
-use Rattle.seq_arith.specs.Early.{holds_some}
-use Rattle.seq_arith.specs.Coming.{Came, is_none, holds_fin}
+use Rattle.tcp_rules.specs.Early.{holds_some}
+use Rattle.tcp_rules.specs.Coming.{Came, is_none, holds_fin}
 
 pub none_before : (n edge : ℕ) (place : ℤ) (c : Came) → place <ℤ pos 0 → holds_fin n edge place c ≡ false
 unfolding holds_fin

@@ -1,7 +1,7 @@
 -- The first of the places.
 use Rattle.std.proofs.Common.{◌≡◌, ℕ, ◌+◌, Bool, true, false, refl, arith, Option, Some, None, is_some, List, ◌∷◌}
 use Rattle.std.specs.Prelude.{◌&&◌, ◌||◌, not, if◌then◌else◌}
-use Rattle.seq_arith.specs.Early.{runs_behind, holds_some}
+use Rattle.tcp_rules.specs.Early.{runs_behind, holds_some}
 
 pub holds_first : (place : Option ℕ) (text : List (Option ℕ)) → holds_some (place ∷ text) ≡ (is_some place || holds_some text)
 unfolding holds_some

@@ -1,7 +1,7 @@
 -- Bytes that are laid over places one after another.
 use Rattle.std.proofs.Common.{◌≡◌, ℕ, zero, suc, ◌+◌, ◌<◌, refl, ap, subst, arith, Option, Some, None, List, [], ◌∷◌, ◌++◌, length}
 use Rattle.std.proofs.Math.ListN.{set}
-use Rattle.seq_arith.specs.Early.{laid}
+use Rattle.tcp_rules.specs.Early.{laid}
 
 pub nothing_laid : (at : ℕ) (bytes : List ℕ) (text : List (Option ℕ)) → length bytes ≡ 0 → laid at bytes text ≡ text
 unfolding laid

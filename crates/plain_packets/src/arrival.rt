@@ -3,7 +3,7 @@
 
 ghost use Rattle.std.specs.Prelude.{◌≡◌, ◌+◌, ◌^◌, ◌<◌, ◌≤◌, MatchOption, pos, ◌+ℤ◌, ◌<ℤ◌, length, take, drop};
 ghost use Rattle.seq_arith.specs.Number.{number_at, offset_of as offset_lem};
-ghost use Rattle.seq_arith.specs.Arrival.{int_eq, is_acceptable as acceptable_lem, is_acceptable_or_at_edge, is_at_right_edge, is_allowed_at_zero, is_usable as usable_lem, lies_in as lies_lem};
+ghost use Rattle.tcp_rules.specs.Arrival.{int_eq, is_acceptable as acceptable_lem, is_acceptable_or_at_edge, is_at_right_edge, is_allowed_at_zero, is_usable as usable_lem, lies_in as lies_lem};
 
 use seq_arith::Seq;
 
@@ -71,7 +71,7 @@ pub fn is_acceptable(next: u64, window: u64, first: i64, len: u64) -> bool
 }
 
 /// Returns whether a segment of length 0 is at exactly the right edge of an open window.
-#[tactic(auto, unfolding(seq_arith::specs::Arrival::is_at_right_edge))]
+#[tactic(auto, unfolding(tcp_rules::specs::Arrival::is_at_right_edge))]
 pub(crate) fn is_at_right_edge(next: u64, window: u64, first: i64, len: u64) -> bool
     requires next { next ≤ 2 ^ 63 }
     requires window { window < 2 ^ 62 }
@@ -91,7 +91,7 @@ pub fn accepts(next: u64, window: u64, first: i64, len: u64) -> bool
 }
 
 /// Returns whether a segment begins at exactly the next number while the window is zero.
-#[tactic(auto, unfolding(seq_arith::specs::Arrival::is_allowed_at_zero))]
+#[tactic(auto, unfolding(tcp_rules::specs::Arrival::is_allowed_at_zero))]
 pub(crate) fn is_allowed_at_zero(next: u64, window: u64, first: i64) -> bool
     ensures { result ≡ is_allowed_at_zero next window first }
 {

@@ -1,13 +1,13 @@
 //! The effect of a segment's text and FIN on a stream. The rules apply in the order of the functions here.
 
 ghost use Rattle.std.specs.Prelude.{◌≡◌, ◌<◌, ◌+◌, ◌^◌, pos, ◌+ℤ◌, IfOk, OnOk, length};
-ghost use Rattle.seq_arith.specs.Coming.{Early, nothing_came, ahead as ahead_lem, new_text as new_lem, comes};
+ghost use Rattle.tcp_rules.specs.Coming.{Early, nothing_came, ahead as ahead_lem, new_text as new_lem, comes};
 
 use crate::arrival::{part, place_of};
 use crate::held::Held;
 use crate::places::{behind, holds_some, take_front};
 use ft_io::NoMemory;
-use seq_arith::below;
+use tcp_rules::below;
 use std::alloc::Global;
 use std::marker::Model;
 
@@ -20,7 +20,7 @@ pub struct Coming {
 }
 
 impl Model for Coming {
-    ghost use Rattle.seq_arith.specs.Coming.{Came};
+    ghost use Rattle.tcp_rules.specs.Coming.{Came};
 
     ghost Value = { Came };
 
@@ -40,7 +40,7 @@ fn ahead(n: u64, first: i64) -> u64
 }
 
 impl Coming {
-    ghost use Rattle.seq_arith.specs.Coming.{with_text, holds_fin as holds_lem, with_fin, continued, with_fin_taken};
+    ghost use Rattle.tcp_rules.specs.Coming.{with_text, holds_fin as holds_lem, with_fin, continued, with_fin_taken};
 
     /// Returns the state before the first rule: nothing is added, and what was held is held.
     fn nothing(alloc: Global, held: Held, fin: bool) -> Coming
@@ -54,7 +54,7 @@ impl Coming {
     }
 
     /// Returns the new text of a segment: from the end of the bytes taken up to the edge below which text counts.
-    #[tactic(auto, unfolding(seq_arith::specs::Coming::new_text))]
+    #[tactic(auto, unfolding(tcp_rules::specs::Coming::new_text))]
     fn new_text<'a>(&self, n: u64, edge: u64, first: i64, text: &'a [u8]) -> &'a [u8]
         requires { n < 2 ^ 63 }
         ensures { result.now ≡ new_lem n edge self.now.fin self.now.early first text.now }
@@ -65,7 +65,7 @@ impl Coming {
     }
 
     /// Takes new text that begins where the bytes taken end, and no longer holds anything in its places. Holds other new text.
-    #[tactic(auto, unfolding(seq_arith::specs::Coming::with_text))]
+    #[tactic(auto, unfolding(tcp_rules::specs::Coming::with_text))]
     fn take_text(
         &mut self,
         alloc: Global,
@@ -90,7 +90,7 @@ impl Coming {
 
     /// Returns whether a FIN at this place may be held: it isn't before the end of the bytes taken, it is below the receive edge, no text at or past it is
     /// held, and no FIN is held or taken.
-    #[tactic(auto, unfolding(seq_arith::specs::Coming::holds_fin))]
+    #[tactic(auto, unfolding(tcp_rules::specs::Coming::holds_fin))]
     fn holds_fin(&self, n: u64, edge: u64, place: u64) -> bool
         requires { n < 2 ^ 63 }
         ensures { result ≡ holds_lem n edge (pos place) self.now }
@@ -104,7 +104,7 @@ impl Coming {
     }
 
     /// Holds the segment's FIN, which is `len` past `first`, if the rules allow it.
-    #[tactic(auto, using(crate::proofs::Fins::none_before), unfolding(seq_arith::specs::Coming::with_fin))]
+    #[tactic(auto, using(crate::proofs::Fins::none_before), unfolding(tcp_rules::specs::Coming::with_fin))]
     fn hold_fin(&mut self, n: u64, edge: u64, first: i64, len: u64, has_fin: bool)
         requires n { n < 2 ^ 63 }
         requires len { len < 2 ^ 63 }
@@ -122,7 +122,7 @@ impl Coming {
     }
 
     /// Takes the held bytes that follow the bytes taken without a gap.
-    #[tactic(auto, unfolding(seq_arith::specs::Coming::continued))]
+    #[tactic(auto, unfolding(tcp_rules::specs::Coming::continued))]
     fn take_held(&mut self, alloc: Global) -> Result<(), NoMemory>
         ensures { OnOk result (self.new ≡ continued self.old) }
     {
@@ -133,7 +133,7 @@ impl Coming {
     }
 
     /// Takes a FIN that is held at the end of the bytes taken.
-    #[tactic(auto, unfolding(seq_arith::specs::Coming::with_fin_taken))]
+    #[tactic(auto, unfolding(tcp_rules::specs::Coming::with_fin_taken))]
     fn take_fin(&mut self, n: u64)
         requires { n < 2 ^ 63 }
         ensures { self.new ≡ with_fin_taken n self.old }
@@ -149,7 +149,7 @@ impl Coming {
 
     /// Returns the effect of a segment on a stream, given the out-of-order data held. The segment's text begins at `first`, and `has_fin` says whether its
     /// FIN follows the text.
-    #[tactic(auto, unfolding(seq_arith::specs::Coming::comes))]
+    #[tactic(auto, unfolding(tcp_rules::specs::Coming::comes))]
     pub fn of(
         alloc: Global,
         stream: Stream,

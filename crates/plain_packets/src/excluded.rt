@@ -2,7 +2,7 @@
 //! false. It is proved from the other's contract alone, so it is no longer proved once that contract lets the wrong body pass.
 
 ghost use Rattle.std.specs.Prelude.{◌≡◌, OnOk, true, false};
-ghost use Rattle.seq_arith.specs.Early.{laid, run_count};
+ghost use Rattle.tcp_rules.specs.Early.{laid, run_count};
 
 use crate::arrival::{is_allowed_at_zero, is_at_right_edge};
 use crate::held::Held;
@@ -10,7 +10,7 @@ use ft_io::NoMemory;
 use std::alloc::Global;
 
 /// Text that would make a seventeenth run isn't held: the contract of `Held::hold`.
-#[tactic(auto, unfolding(seq_arith::specs::Early::held_with))]
+#[tactic(auto, unfolding(tcp_rules::specs::Early::held_with))]
 fn a_seventeenth_run(
     held: &mut Held,
     alloc: Global,
@@ -24,7 +24,7 @@ fn a_seventeenth_run(
 }
 
 /// A byte at exactly the right edge isn't accepted; only a segment of length 0 is: the contract of `is_at_right_edge`.
-#[tactic(auto, unfolding(seq_arith::specs::Arrival::is_at_right_edge))]
+#[tactic(auto, unfolding(tcp_rules::specs::Arrival::is_at_right_edge))]
 fn accepts_a_byte_at_the_right_edge() -> bool
     ensures { result ≡ false }
 {
@@ -39,7 +39,7 @@ fn text_behind_the_fin(held: &Held) -> u64
 }
 
 /// While the window is zero, a segment past the next number isn't used: the contract of `is_allowed_at_zero`.
-#[tactic(auto, unfolding(seq_arith::specs::Arrival::is_allowed_at_zero))]
+#[tactic(auto, unfolding(tcp_rules::specs::Arrival::is_allowed_at_zero))]
 fn zero_window_uses_any_number() -> bool
     ensures { result ≡ false }
 {

@@ -1,7 +1,7 @@
 //! Out-of-order data: text after a gap, and a FIN.
 
 ghost use Rattle.std.specs.Prelude.{◌≡◌, OnOk};
-ghost use Rattle.seq_arith.specs.Coming.{nothing_early, text_edge as edge_lem};
+ghost use Rattle.tcp_rules.specs.Coming.{nothing_early, text_edge as edge_lem};
 
 use crate::places::{lay, run_count};
 use ft_io::NoMemory;
@@ -19,7 +19,7 @@ pub struct Held {
 }
 
 impl Model for Held {
-    ghost use Rattle.seq_arith.specs.Coming.{Early};
+    ghost use Rattle.tcp_rules.specs.Coming.{Early};
 
     ghost Value = { Early };
 
@@ -28,7 +28,7 @@ impl Model for Held {
 
 impl Held {
     ghost use Rattle.std.specs.Prelude.{ℕ};
-    ghost use Rattle.seq_arith.specs.Early.{held_with};
+    ghost use Rattle.tcp_rules.specs.Early.{held_with};
 
     /// Creates an empty value: nothing is held. Allocates nothing.
     pub fn new(alloc: Global) -> Held
@@ -54,7 +54,7 @@ impl Held {
     }
 
     /// Holds bytes from a place on, unless that would make more than sixteen runs. After `NoMemory` it may only be dropped.
-    #[tactic(auto, unfolding(seq_arith::specs::Early::held_with))]
+    #[tactic(auto, unfolding(tcp_rules::specs::Early::held_with))]
     pub(crate) fn hold(&mut self, alloc: Global, at: usize, bytes: &[u8]) -> Result<(), NoMemory>
         ensures { OnOk result (self.new ≡ record self.old { text = held_with at bytes.now self.old.text }) }
     {

@@ -1,7 +1,7 @@
 //! Places after the bytes taken. Each holds a byte or none.
 
 ghost use Rattle.std.specs.Prelude.{ℕ, List, ◌≡◌, ◌≤◌, ◌<◌, ◌+◌, ◌^◌, [], ◌∷◌, ◌++◌, Option, None, IfOk, OnOk, length, drop};
-ghost use Rattle.seq_arith.specs.Early.{laid, run_count as count_lem, front_run, behind_front_run, holds_some as holds_lem};
+ghost use Rattle.tcp_rules.specs.Early.{laid, run_count as count_lem, front_run, behind_front_run, holds_some as holds_lem};
 
 use ft_io::NoMemory;
 
@@ -15,7 +15,7 @@ pub(crate) fn behind(text: &[Option<u8>], first: u64) -> &[Option<u8>]
 }
 
 /// Returns whether some place holds a byte.
-#[tactic(auto, using(crate::proofs::FirstPlace::holds_first), unfolding(seq_arith::specs::Early::holds_some))]
+#[tactic(auto, using(crate::proofs::FirstPlace::holds_first), unfolding(tcp_rules::specs::Early::holds_some))]
 pub(crate) fn holds_some(text: &[Option<u8>]) -> bool
     ensures { result ≡ holds_lem text.now }
 {
@@ -30,7 +30,7 @@ pub(crate) fn holds_some(text: &[Option<u8>]) -> bool
 }
 
 /// Returns how many runs of held bytes there are.
-#[tactic(auto, using(crate::proofs::FirstPlace::runs_first), unfolding(seq_arith::specs::Early::runs_behind))]
+#[tactic(auto, using(crate::proofs::FirstPlace::runs_first), unfolding(tcp_rules::specs::Early::runs_behind))]
 pub(crate) fn run_count(text: &[Option<u8>]) -> usize
     ensures { result ≡ count_lem text.now }
 {
@@ -45,7 +45,7 @@ pub(crate) fn run_count(text: &[Option<u8>]) -> usize
 }
 
 /// Appends the held bytes that continue what is taken, and returns the places after them. After `NoMemory` `added` may only be dropped.
-#[tactic(auto, using(std::proofs::Common::append_assoc), unfolding(seq_arith::specs::Early::front_run, seq_arith::specs::Early::behind_front_run))]
+#[tactic(auto, using(std::proofs::Common::append_assoc), unfolding(tcp_rules::specs::Early::front_run, tcp_rules::specs::Early::behind_front_run))]
 pub(crate) fn take_front<'a>(
     text: &'a [Option<u8>],
     added: &mut Vec<u8>,

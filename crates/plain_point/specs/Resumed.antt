@@ -1,7 +1,7 @@
 -- The point of an entry of the log, before its reads are made again and after.
 use Rattle.std.specs.Prelude.{ℕ, Bool, true, pos, ◌+◌, List, length}
 use Rattle.seq_arith.specs.Message.{Numbers}
-use Rattle.seq_arith.specs.Profile.{plain}
+use Rattle.tcp_rules.specs.Profile.{plain}
 use Rattle.ft_model.specs.Offset.{one_if}
 use Rattle.ft_model.specs.Opening.{point_opened}
 use Rattle.ft_model.specs.Point.{Point}

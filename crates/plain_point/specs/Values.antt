@@ -1,6 +1,6 @@
 -- The code's values as those of the definitions.
 use Rattle.std.specs.Prelude.{◌≡◌, Bool, true, false, Option, Some, None, List, [], ◌∷◌}
-use Rattle.seq_arith.specs.Congestion.{Congestion}
+use Rattle.tcp_rules.specs.Congestion.{Congestion}
 use Rattle.seq_arith.specs.Message as said
 use Rattle.seq_arith.specs.Message.Body.{DataMsg}
 use Rattle.seq_arith.specs.Packet.{Segment}

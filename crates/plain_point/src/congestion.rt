@@ -1,7 +1,7 @@
 //! Congestion control (RFC 5681, 3.1 and 3.2), in bytes.
 
 ghost use Rattle.std.specs.Prelude.{◌≡◌, ◌≤◌, false};
-ghost use Rattle.seq_arith.specs.Congestion.{initial_congestion, initial_window as initial_lem, growth as growth_lem, lowered_threshold as lowered_lem, with_new_data, with_duplicate, with_expiry, is_third};
+ghost use Rattle.tcp_rules.specs.Congestion.{initial_congestion, initial_window as initial_lem, growth as growth_lem, lowered_threshold as lowered_lem, with_new_data, with_duplicate, with_expiry, is_third};
 ghost use Rattle.plain_point.specs.Values.{congestion_in};
 
 /// The upper bound of the congestion window, in bytes.
@@ -39,7 +39,7 @@ impl Window {
     }
 
     /// Returns the state after new data is acknowledged: fast recovery ends, or the window grows.
-    #[tactic(auto, unfolding(seq_arith::specs::Congestion::with_new_data))]
+    #[tactic(auto, unfolding(tcp_rules::specs::Congestion::with_new_data))]
     pub(crate) fn with_new_data(self, mss: u16, units: u64) -> Window
         ensures { congestion_in result ≡ with_new_data mss units (congestion_in self) }
     {
@@ -59,7 +59,7 @@ impl Window {
     }
 
     /// Returns whether the next duplicate is the third in a row.
-    #[tactic(auto, unfolding(seq_arith::specs::Congestion::is_third))]
+    #[tactic(auto, unfolding(tcp_rules::specs::Congestion::is_third))]
     pub(crate) fn is_third(self) -> bool
         ensures { result ≡ is_third (congestion_in self) }
     {
@@ -67,7 +67,7 @@ impl Window {
     }
 
     /// Returns the state after a duplicate acknowledgement. The third one begins fast recovery.
-    #[tactic(auto, unfolding(seq_arith::specs::Congestion::with_duplicate, seq_arith::specs::Congestion::is_third))]
+    #[tactic(auto, unfolding(tcp_rules::specs::Congestion::with_duplicate, tcp_rules::specs::Congestion::is_third))]
     pub(crate) fn with_duplicate(self, mss: u16, flight: u64) -> Window
         ensures { congestion_in result ≡ with_duplicate mss flight (congestion_in self) }
     {
@@ -94,7 +94,7 @@ impl Window {
     }
 
     /// Returns the state after the timer expires: everything in flight counts as lost. Only the first expiry lowers the threshold.
-    #[tactic(auto, unfolding(seq_arith::specs::Congestion::with_expiry))]
+    #[tactic(auto, unfolding(tcp_rules::specs::Congestion::with_expiry))]
     pub(crate) fn with_expiry(self, mss: u16, flight: u64, is_first: bool) -> Window
         ensures { congestion_in result ≡ with_expiry mss flight is_first (congestion_in self) }
     {

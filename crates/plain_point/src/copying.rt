@@ -10,7 +10,7 @@ use crate::point::PlainPoint;
 use ft_io::Key;
 use plain_packets::{counted_text, counts_fin, is_at, part, place_of, rest};
 use segment_codec::PacketRef;
-use seq_arith::below;
+use tcp_rules::below;
 
 /// A part of the client's stream that is sent to the logger.
 #[derive(Clone, Copy)]

@@ -60,7 +60,7 @@ pub struct PlainPoint {
 impl Model for PlainPoint {
     ghost use Rattle.std.specs.Prelude.{◌≡◌, ◌≤◌, ◌==◌, ◌^◌, false, length, sum};
     ghost use Rattle.std.specs.List.{list_any};
-    ghost use Rattle.seq_arith.specs.Timing.{initial_timing};
+    ghost use Rattle.tcp_rules.specs.Timing.{initial_timing};
     ghost use Rattle.ft_model.specs.Point.{Point};
     ghost use Rattle.plain_point.specs.Values.{congestion_in};
 
@@ -101,7 +101,7 @@ impl Model for PlainPoint {
 impl PlainPoint {
     ghost use Rattle.ft_model.specs.Point.{taken_units as units_lem, acknowledgement as acknowledgement_lem, receive_edge as edge_lem, advertised_edge as advertised_lem, room as room_lem, window as window_lem};
     ghost use Rattle.ft_model.specs.Opening.{point_opened};
-    ghost use Rattle.seq_arith.specs.Profile.{plain};
+    ghost use Rattle.tcp_rules.specs.Profile.{plain};
     ghost use Rattle.ft_model.specs.Profiled.{HasProfile};
 
     /// Creates the point of a new connection: nothing is taken, and nothing may be sent yet. Allocates nothing.

@@ -1,8 +1,8 @@
 -- What comes to a client that holds nothing, in plain words.
 use Rattle.std.proofs.Common.{◌≡◌, ℕ, ◌+◌, Bool, List, ◌++◌, length, ap, ◌∙◌}
 use Rattle.std.specs.Prelude.{ℤ, pos, ◌+ℤ◌, ◌&&◌, ◌||◌, if◌then◌else◌}
-use Rattle.seq_arith.specs.Coming.{nothing_early, comes}
-use Rattle.seq_arith.proofs.Coming.{comes_alone}
+use Rattle.tcp_rules.specs.Coming.{nothing_early, comes}
+use Rattle.tcp_rules.proofs.Coming.{comes_alone}
 use Rattle.ft_model.specs.Client as machine
 use Rattle.ft_model.specs.Client.{Client, is_ended, holds}
 use Rattle.ft_model.specs.Client.ClientKind.{Scripted}

@@ -3,7 +3,7 @@ use Rattle.std.proofs.Common.{◌≡◌, ◌∙◌, sym, ap, ap₂, subst, refl,
 use Rattle.std.proofs.Math.ListN.{set}
 use Rattle.std.proofs.lemmas.Bool.{leb-false}
 use Rattle.server_trait.specs.Service.{Machine}
-use Rattle.seq_arith.specs.Profile.{plain}
+use Rattle.tcp_rules.specs.Profile.{plain}
 use Rattle.ft_model.specs.Client.{Client, Move, move_asked, mover_of, move_of, window_of, refusal_of_move, segment_of, moved}
 use Rattle.ft_model.specs.Client.{Move as moves}
 use Rattle.ft_model.specs.Lawful.{hello}

@@ -3,7 +3,7 @@ use Rattle.std.proofs.Common.{◌≡◌, ◌∙◌, sym, ap, ap₂, subst, refl,
 use Rattle.std.specs.List.{AllByRecursion}
 use Rattle.std.proofs.lemmas.List.{map-append}
 use Rattle.server_trait.specs.Service.{Machine}
-use Rattle.seq_arith.specs.Profile.{plain}
+use Rattle.tcp_rules.specs.Profile.{plain}
 use Rattle.ft_model.specs.Image.{HasWires}
 use Rattle.ft_model.specs.Lawful.{fence}
 use Rattle.ft_model.specs.Legal.{start_of, refusal, IsScripted}

@@ -1,7 +1,7 @@
 -- What a client that holds no out-of-order data accepts of a segment, defined without reassembly.
 use Rattle.std.specs.Prelude.{ℕ, ℤ, Bool, pos, ◌-◌, ◌&&◌, ◌||◌, nat_lt, int_lt, List, [], length, take, drop, if◌then◌else◌}
-use Rattle.seq_arith.specs.Arrival.{int_eq, below}
-use Rattle.seq_arith.specs.Coming.{Came, nothing_early, comes}
+use Rattle.tcp_rules.specs.Arrival.{int_eq, below}
+use Rattle.tcp_rules.specs.Coming.{Came, nothing_early, comes}
 use Rattle.ft_model.specs.Client.{Client, is_ended}
 
 -- what a text that begins at `first`, and a FIN after it, add to what the client has accepted

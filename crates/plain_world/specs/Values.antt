@@ -3,7 +3,7 @@ use Rattle.std.specs.Prelude.{ℕ, Bool, true, false, List, [], ◌∷◌, map}
 use Rattle.ft_io.specs.declared.Addr.{Addr}
 use Rattle.logger_wire.specs.Value.{message_of, IsSendable}
 use Rattle.segment_codec.specs.Value.{segment_of}
-use Rattle.seq_arith.specs.Profile.{plain}
+use Rattle.tcp_rules.specs.Profile.{plain}
 use Rattle.ft_model.specs.Node as law
 use Rattle.logger_wire.specs.Records.{numbers_said}
 use Rattle.plain_world.specs.declared.incarnation.Incarnation.{Incarnation}

@@ -41,7 +41,7 @@ pub struct PlainClient {
 
 impl Model for PlainClient {
     ghost use Rattle.std.specs.Prelude.{ℕ, ◌≤◌, ◌+◌, ◌^◌, length};
-    ghost use Rattle.seq_arith.specs.Coming.{nothing_early};
+    ghost use Rattle.tcp_rules.specs.Coming.{nothing_early};
     ghost use Rattle.ft_model.specs.Client as machine;
     ghost use Rattle.ft_model.specs.Client.ClientKind.{Scripted};
 

@@ -5,7 +5,7 @@ ghost use Rattle.server_trait.specs.Service.{Machine, machine};
 ghost use Rattle.seq_arith.specs.Message.Body.{OpenedMsg, StableMsg, ReadsMsg, EndedMsg, FullMsg};
 ghost use Rattle.logger_wire.specs.Value.{body_of};
 ghost use Rattle.ft_io.specs.declared.Key.{Key as key_type};
-ghost use Rattle.seq_arith.specs.Profile.{plain};
+ghost use Rattle.tcp_rules.specs.Profile.{plain};
 ghost use Rattle.ft_model.specs.Node as law;
 ghost use Rattle.ft_model.specs.News.News.{Begins};
 ghost use Rattle.ft_model.specs.Node.Place.{Lives};

@@ -14,7 +14,7 @@ use plain_packets::{
     number_of, part, segment_len,
 };
 use segment_codec::PacketRef;
-use seq_arith::below;
+use tcp_rules::below;
 
 /// Returns whether a FIN that is `len` past `first` is accepted: at the next offset, below the right edge.
 #[tactic(auto, unfolding(crate::specs::Accepting::is_fin_at))]

@@ -2,7 +2,7 @@
 
 ghost use Rattle.std.specs.Prelude.{◌≡◌, ◌<◌, ◌≤◌, ◌+◌, ◌∷◌, [], ◌^◌, true, IfOk, OnOk, length};
 ghost use Rattle.server_trait.specs.Service.{machine};
-ghost use Rattle.seq_arith.specs.Profile.{plain};
+ghost use Rattle.tcp_rules.specs.Profile.{plain};
 ghost use Rattle.ft_model.specs.Lawful.{Revives, restored, restored_count};
 ghost use Rattle.ft_model.specs.Node as law;
 ghost use Rattle.ft_model.specs.Restart.{is_whole};

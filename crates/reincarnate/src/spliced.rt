@@ -2,7 +2,7 @@
 
 ghost use Rattle.std.specs.Prelude.{◌≡◌, ℕ};
 ghost use Rattle.server_trait.specs.Service.{machine};
-ghost use Rattle.seq_arith.specs.Profile.{plain};
+ghost use Rattle.tcp_rules.specs.Profile.{plain};
 ghost use Rattle.ft_model.specs.Log.{Entry};
 ghost use Rattle.ft_model.specs.Restart.{point_of};
 ghost use Rattle.wrapped_conn.specs.Sound.{IsSound};

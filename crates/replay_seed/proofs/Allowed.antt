@@ -11,7 +11,7 @@ use Rattle.ft_model.specs.Network.{packet_at}
 use Rattle.ft_model.specs.World.{World, client_at}
 use Rattle.ft_model.specs.declared.event.Event.TheVariants as events
 use Rattle.ft_model.specs.declared.event.EventWhy.TheVariants as why
-use Rattle.seq_arith.specs.Generator.{stepped}
+use Rattle.pseudorandom.specs.Generator.{stepped}
 use Rattle.replay_seed.specs.Draws.{draw}
 use Rattle.replay_seed.specs.SeedEvents.{Drawn, server_event, risky_event, delivery, text_start, text_event, progress, acknowledgement, client_event, server_of, next_event_in}
 use Rattle.replay_seed.proofs.Boots.{HasNextBoot}

@@ -9,7 +9,7 @@ use Rattle.ft_model.specs.Schedule.{bytes_of, clients_of, letters}
 use Rattle.ft_model.specs.World.{are_apart}
 use Rattle.ft_model.specs.declared.schedule.ClientLine.{ClientLine}
 use Rattle.ft_model.proofs.Lists.{all_append, all_weaker}
-use Rattle.seq_arith.specs.Generator.{stepped}
+use Rattle.pseudorandom.specs.Generator.{stepped}
 use Rattle.replay_seed.specs.Draws.{draw}
 use Rattle.ft_model.proofs.Letters.{length_letters}
 use Rattle.replay_seed.specs.Generated.{server_address, client_line, client_lines, after_draws, schedule_of}

@@ -1,6 +1,6 @@
 -- What a generator draws from a state. The state after the draw is its successor.
 use Rattle.std.specs.Prelude.{ℕ}
-use Rattle.seq_arith.specs.Generator.{stepped, drawn}
+use Rattle.pseudorandom.specs.Generator.{stepped, drawn}
 
 abbrev pub draw : ℕ → ℕ
 draw state = drawn (stepped state)

@@ -8,7 +8,7 @@ use Rattle.ft_model.specs.declared.schedule.Schedule.{Schedule}
 use Rattle.ft_model.specs.declared.schedule.ClientLine.{ClientLine}
 use Rattle.ft_model.specs.declared.schedule.Script.TheVariants.{Fill}
 use Rattle.ft_model.specs.declared.schedule.ServiceKind.TheVariants.{Echo}
-use Rattle.seq_arith.specs.Generator.{stepped}
+use Rattle.pseudorandom.specs.Generator.{stepped}
 use Rattle.replay_seed.specs.Draws.{draw}
 use Rattle.replay_seed.specs.SeedEvents.{next_event_in}
 

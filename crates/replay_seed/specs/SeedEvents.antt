@@ -4,7 +4,7 @@ use Rattle.ft_model.specs.Client.{Client, is_new, is_opening, is_open}
 use Rattle.ft_model.specs.World.{World, client_at}
 use Rattle.ft_model.specs.declared.event.Event.{Event}
 use Rattle.ft_model.specs.declared.event.Event.TheVariants.{Boot, Crash, Tick, Deliver, Begin, Send, Fin, Ack}
-use Rattle.seq_arith.specs.Generator.{stepped}
+use Rattle.pseudorandom.specs.Generator.{stepped}
 use Rattle.replay_seed.specs.Draws.{draw}
 use Rattle.replay_seed.specs.declared.dice.ServerNow.{ServerNow}
 

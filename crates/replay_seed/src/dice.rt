@@ -3,14 +3,14 @@
 ghost use Rattle.std.specs.Prelude.{◌≡◌, ℕ, ◌*◌, ◌<◌, ◌^◌, Some, option_copied, length};
 ghost use Rattle.ft_model.specs.Client.{Client as Seen};
 ghost use Rattle.ft_model.specs.World.{client_at};
-ghost use Rattle.seq_arith.specs.Generator.{stepped};
+ghost use Rattle.pseudorandom.specs.Generator.{stepped};
 ghost use Rattle.replay_seed.specs.Draws.{draw as draw_lem};
 
 use ft_model::{Event, Phase};
 use net_schedule::World;
 use peer_client::Client;
 use sample_servers::AnyService;
-use seq_arith::Generator;
+use pseudorandom::Generator;
 
 /// The window that a client advertises.
 const WINDOW: u16 = 65_535;

@@ -16,7 +16,7 @@ use ft_io::{Failed, NoMemory, Sink, write_all};
 use net_schedule::World;
 use replay_check::joint_traces_are_safe;
 use sample_servers::AnyService;
-use seq_arith::Generator;
+use pseudorandom::Generator;
 use std::alloc::Global;
 
 /// Why a generated run ends without its complete summary.

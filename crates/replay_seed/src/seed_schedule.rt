@@ -2,13 +2,13 @@
 
 ghost use Rattle.std.specs.Prelude.{◌≡◌, ◌≤◌, ◌+◌, [], length, IfOk};
 ghost use Rattle.ft_model.specs.Playable.{IsPlayable};
-ghost use Rattle.seq_arith.specs.Generator.{stepped};
+ghost use Rattle.pseudorandom.specs.Generator.{stepped};
 ghost use Rattle.replay_seed.specs.Generated.{client_line as client_lem, client_lines, after_draws, schedule_of};
 
 use crate::dice::STEP;
 use ft_io::{Addr, Key, NoMemory};
 use ft_model::{ClientLine, ClientLines, Events, Schedule, Script, ServiceKind};
-use seq_arith::Generator;
+use pseudorandom::Generator;
 use std::alloc::Global;
 
 /// 192.0.2.100, port 7.

@@ -1,9 +1,3 @@
-pub mod Coming
-pub mod ComingAlone
-pub mod ComingFins
-pub mod ComingKeeps
-pub mod ComingShifts
-pub mod Congested
 pub mod Damaged
 pub mod Flipped
 pub mod Gaps
@@ -17,5 +11,4 @@ pub mod Spelling
 pub mod Sums
 pub mod Texts
 pub mod TwinSpelling
-pub mod Unmeasured
 pub mod Units

@@ -1,10 +1,4 @@
 pub mod Number
-pub mod Arrival
-pub mod Coming
-pub mod Congestion
-pub mod Timing
-pub mod Profile
-pub mod Early
 pub mod Packet
 pub mod Offset
 pub mod Reset
@@ -14,7 +8,6 @@ pub mod Checksum
 pub mod Bytes
 pub mod PacketGrammar
 pub mod MessageGrammar
-pub mod Generator
 pub mod Damage
 pub mod Header
 pub mod TwinDatagram

@@ -7,24 +7,20 @@ ghost use Rattle.seq_arith.specs.Number.{distance, gap, precedes, precedes_or_is
 pub use checksum::{Sum16, patch16};
 pub use damage::flip;
 pub use flags::{ACK, CWR, ECE, FIN, PSH, RST, SYN, URG, has};
-pub use generator::Generator;
 pub use head::Head;
 pub use kinds::{BadMsg, Field, Kind};
 pub use mark::{BadMark, MarkKind};
 pub use options::segment_size;
-pub use text::{below, text_between};
 pub use twin::{BadTwin, TwinKind};
 
 mod checksum;
 mod damage;
 mod flags;
-mod generator;
 mod head;
 mod kinds;
 pub mod laws;
 mod mark;
 mod options;
-mod text;
 mod twin;
 
 /// Why a string of bytes is no packet: the first test of the packet grammar that it fails, in this order.

@@ -5,7 +5,7 @@ use Rattle.seq_arith.specs.Message.{Message}
 use Rattle.seq_arith.specs.Packet.{Segment}
 use Rattle.server_trait.specs.Service.{machine}
 use Rattle.server_trait.specs.declared.Service.{Ghosts}
-use Rattle.seq_arith.specs.Profile.{plain}
+use Rattle.tcp_rules.specs.Profile.{plain}
 use Rattle.ft_model.specs.Lawful.{AreSound, Fetches, StageTurn, asked, fetched_then, held}
 use Rattle.ft_model.specs.Log.{Entry}
 use Rattle.ft_model.specs.Node.{Stage as law_stage}

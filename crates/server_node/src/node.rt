@@ -25,7 +25,7 @@ pub struct Node<S: Service> {
 impl<S: Saved> Node<S> {
     ghost use Rattle.std.specs.Prelude.{◌≡◌, ◌≤◌, ℕ, map, IfOk, IfErr, IsErrOf, IfSome, OnOk, option_copied};
     ghost use Rattle.std.specs.Borrow.{sem};
-    ghost use Rattle.seq_arith.specs.Profile.{plain};
+    ghost use Rattle.tcp_rules.specs.Profile.{plain};
     ghost use Rattle.ft_model.specs.Node.{Stage as Standing, booted};
     ghost use Rattle.ft_model.specs.Lawful.{hello};
     ghost use Rattle.ft_model.specs.Wire.{wire_of};

@@ -1,7 +1,7 @@
 -- The run with a crash, whole: each moment happens and is allowed.
 use Rattle.std.proofs.Common.{ℕ, zero, suc, ◌^◌, refl, List, [], ◌∷◌}
 use native.Mathlib.Bridge.{le_by_compare, IsLe}
-use Rattle.seq_arith.specs.Profile.{plain}
+use Rattle.tcp_rules.specs.Profile.{plain}
 use Rattle.server_trait.specs.Service.{Machine}
 use Rattle.sample_servers.specs.declared.any_service.AnyService.{AnyService}
 use Rattle.sample_servers.specs.AnyService.{any_machine}

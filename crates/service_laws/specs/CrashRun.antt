@@ -1,7 +1,7 @@
 -- The complete run with a crash after bytes are logged: a client opens and sends five bytes; they and their read are logged, the server crashes before an
 -- answer about them reaches it, and its next boot fetches the log and sends the output. Thirty events, twenty-six packets.
 use Rattle.std.specs.Prelude.{ℕ, codes, false, None, Some, List, [], ◌∷◌}
-use Rattle.seq_arith.specs.Profile.{plain}
+use Rattle.tcp_rules.specs.Profile.{plain}
 use Rattle.seq_arith.specs.Packet.{Segment}
 use Rattle.seq_arith.specs.Message.Body.{HelloMsg, SummaryMsg, EntryMsg, PartMsg, LensMsg, ReadsMsg, DataMsg}
 use Rattle.ft_model.specs.Client.{Client}

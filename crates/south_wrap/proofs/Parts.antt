@@ -1,7 +1,7 @@
 -- The part of a packet's bytes that goes to the logger.
 use Rattle.std.proofs.Common.{◌≡◌, ℕ, ◌+◌, ◌-◌, ◌≤◌, ◌&&◌, ◌||◌, ℤ, pos, ◌+ℤ◌, Bool, true, false, min, max, nat_le, refl, sym, ap, ◌∙◌, subst, List, [], length, take, drop, arith, length-drop, length-take, if◌then◌else◌}
 use Rattle.std.proofs.lemmas.List.{drop-drop, take_min, drop_all}
-use Rattle.seq_arith.specs.Arrival.{below, int_eq}
+use Rattle.tcp_rules.specs.Arrival.{below, int_eq}
 use Rattle.seq_arith.specs.Offset.{first_of, text_of, fin_of}
 use Rattle.seq_arith.specs.Packet.{Segment, has_syn, has_rst}
 use Rattle.ft_model.specs.Copy.{from_start}

@@ -1,7 +1,7 @@
 -- What the south wrapper knows of a connection, and what it does to numbers (FT-TCP, INFOCOM 2001: the south side wrapper, with its delta and its stable
 -- number). Initial sequence numbers are those that the client knows. Bytes and units are counted from the connection's start, over all incarnations.
 use Rattle.std.specs.Prelude.{ℕ, Bool, false, pos, ◌+◌, ◌-◌, ◌%◌, ◌^◌, ◌&&◌, not, max, min, int_lt, nat_abs, if◌then◌else◌}
-use Rattle.seq_arith.specs.Arrival.{is_beyond}
+use Rattle.tcp_rules.specs.Arrival.{is_beyond}
 use Rattle.seq_arith.specs.Number.{number_at, distance, offset_of}
 use Rattle.seq_arith.specs.Offset.{one_if}
 

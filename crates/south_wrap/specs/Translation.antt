@@ -1,7 +1,7 @@
 -- What becomes of a segment between the client and TCP, and what part of it is sent to the logger.
 use Rattle.std.specs.Prelude.{◌≡◌, ◌≤◌, ℕ, Bool, pos, ◌-◌, ◌+ℤ◌, ◌==◌, ◌&&◌, ◌||◌, max, nat_lt, nat_le, List, length, take, drop, if◌then◌else◌}
 use Rattle.seq_arith.specs.Number.{number_at}
-use Rattle.seq_arith.specs.Arrival.{below, int_eq}
+use Rattle.tcp_rules.specs.Arrival.{below, int_eq}
 use Rattle.seq_arith.specs.Offset.{first_of, text_of, fin_of}
 use Rattle.seq_arith.specs.Packet.{Segment, has_rst}
 use Rattle.ft_model.specs.Copy.{from_start}

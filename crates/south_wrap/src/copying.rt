@@ -1,7 +1,7 @@
 //! The part of a segment that is sent to the logger.
 
 ghost use Rattle.std.specs.Prelude.{◌≡◌, ◌≤◌, ◌<◌, ◌+◌, ◌+ℤ◌, ◌^◌, ◌&&◌, ◌||◌, pos, nat_abs, nat_lt, nat_le, max, min, IsOk, IfOk, IfSome, is_some, length};
-ghost use Rattle.seq_arith.specs.Arrival.{below, int_eq};
+ghost use Rattle.tcp_rules.specs.Arrival.{below, int_eq};
 ghost use Rattle.seq_arith.specs.Offset.{text_of, fin_of};
 ghost use Rattle.seq_arith.specs.PacketGrammar.{reading};
 ghost use Rattle.segment_codec.specs.Value.{segment_of};
@@ -11,7 +11,8 @@ ghost use Rattle.south_wrap.specs.Translation.{copied, is_some_copied, IsPart};
 use crate::answers::CopyPart;
 use crate::south::South;
 use segment_codec::{PacketRef, read_accepted};
-use seq_arith::{FIN, RST, SYN, below, has};
+use seq_arith::{FIN, RST, SYN, has};
+use tcp_rules::below;
 
 impl South {
     /// Returns the part of a client's segment that is taken and not known to be logged, if there is any. Text and FIN of a segment with SYN or RST don't count.

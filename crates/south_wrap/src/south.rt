@@ -1,7 +1,7 @@
 //! What the wrapper knows of its connection.
 
 ghost use Rattle.std.specs.Prelude.{◌≡◌, ◌≤◌, ◌<◌, ◌+◌, ◌^◌, ◌&&◌, ℕ, List, pos, nat_abs, is_some, ◌-◌, nat_le, IfNone, IfSome};
-ghost use Rattle.seq_arith.specs.Arrival.{int_eq};
+ghost use Rattle.tcp_rules.specs.Arrival.{int_eq};
 ghost use Rattle.segment_codec.specs.Value.{said};
 ghost use Rattle.seq_arith.specs.Number.{number_at, offset_of};
 ghost use Rattle.seq_arith.specs.Offset.{one_if};

@@ -3,7 +3,7 @@ use Rattle.std.proofs.Common.{◌≡◌, ℕ, ◌+◌, ◌<◌, ◌≤◌, Bool,
 use Rattle.std.proofs.Math.Bool.{or-false}
 use Rattle.ft_io.proofs.Choices.{holds_if}
 use Rattle.tcp_buffers.specs.declared.early_runs.Run.{Run}
-use Rattle.seq_arith.specs.Early.{laid, run_count}
+use Rattle.tcp_rules.specs.Early.{laid, run_count}
 use Rattle.tcp_buffers.specs.Runs.{is_held, marked, AreApart, reach, run, covered, written}
 use Rattle.tcp_buffers.proofs.Overwrites.{length_written, zero_plus}
 use Rattle.tcp_buffers.proofs.Marked.{laid_marked, past_reach, reach_up, run_count_is, spans}

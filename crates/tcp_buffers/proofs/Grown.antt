@@ -4,7 +4,7 @@ use Rattle.std.proofs.Math.Seq.{drop-nil, take-nil}
 use Rattle.std.proofs.Math.Nat.{sub_self}
 use Rattle.ft_io.proofs.Choices.{by_cases}
 use Rattle.tcp_buffers.specs.declared.early_runs.Run.{Run}
-use Rattle.seq_arith.specs.Early.{front_run, behind_front_run}
+use Rattle.tcp_rules.specs.Early.{front_run, behind_front_run}
 use Rattle.tcp_buffers.specs.Runs.{is_held, marked, AreApart, reach, grown_to, runs_past, shifted}
 use Rattle.tcp_buffers.proofs.Overwrites.{suc_plus}
 use Rattle.tcp_buffers.proofs.Marked.{before_apart, forget_run, in_first, reach_up, plus_suc}

@@ -3,7 +3,7 @@ use Rattle.std.proofs.Common.{◌≡◌, ℕ, zero, suc, ◌+◌, ◌-◌, ◌<�
 use Rattle.std.proofs.Math.Bool.{or-true, or-false}
 use Rattle.ft_io.proofs.Choices.{by_cases}
 use Rattle.tcp_buffers.specs.declared.early_runs.Run.{Run}
-use Rattle.seq_arith.specs.Early.{laid, runs_behind, run_count, front_run, holds_some}
+use Rattle.tcp_rules.specs.Early.{laid, runs_behind, run_count, front_run, holds_some}
 use Rattle.tcp_buffers.specs.Runs.{is_held, marked, AreApart, reach, written}
 use Rattle.tcp_buffers.proofs.Overwrites.{zero_plus}
 

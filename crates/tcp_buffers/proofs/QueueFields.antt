@@ -7,7 +7,7 @@ use Rattle.std.proofs.lemmas.List.{take-take, take_all}
 use Rattle.std.proofs.Math.Seq.{drop-nil}
 use Rattle.ft_io.proofs.Choices.{by_cases}
 use Rattle.tcp_buffers.specs.declared.early_runs.Run.{Run}
-use Rattle.seq_arith.specs.Early.{laid, run_count, front_run, behind_front_run, holds_some, held_with}
+use Rattle.tcp_rules.specs.Early.{laid, run_count, front_run, behind_front_run, holds_some, held_with}
 use Rattle.tcp_buffers.specs.Queue.{Queue, fitting, left_over, added_by, pushed}
 use Rattle.tcp_buffers.specs.Runs.{QueueInvariant, is_held, marked, AreApart, reach, covered, grown_to, runs_past, shifted, written}
 use Rattle.tcp_buffers.proofs.Overwrites.{drop_written, length_written, long_written, no_items, take_written, written_end, written_front}

@@ -1,6 +1,6 @@
 -- A receive queue, and what a push and a hold do to it: the bytes in order that aren't read, and after them places that each hold a byte or none.
 use Rattle.std.specs.Prelude.{ℕ, ◌-◌, Option, List, [], ◌++◌, length, take, drop}
-use Rattle.seq_arith.specs.Early.{front_run, behind_front_run}
+use Rattle.tcp_rules.specs.Early.{front_run, behind_front_run}
 
 pub record Queue : Type 0 where
   pub unread : List ℕ  -- in order, the oldest first

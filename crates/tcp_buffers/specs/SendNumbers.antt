@@ -1,7 +1,7 @@
 -- TCP's tests on a segment's acknowledgement and window, on numbers modulo 2^32 (RFC 9293, 3.4 and 3.10.7.4, fifth check), and what they do to the sender's
 -- variables, the congestion window among them (RFC 5681; RFC 6582). `laws` states that they agree with the tests on offsets in seq_arith's Arrival.
 use Rattle.std.specs.Prelude.{◌≡◌, ℕ, Bool, ◌+◌, ◌-◌, ◌*◌, ◌%◌, ◌^◌, ◌==◌, ◌&&◌, ◌||◌, not, min, if◌then◌else◌}
-use Rattle.seq_arith.specs.Congestion.{Congestion, with_new_data, with_duplicate, with_expiry}
+use Rattle.tcp_rules.specs.Congestion.{Congestion, with_new_data, with_duplicate, with_expiry}
 use Rattle.seq_arith.specs.Number.{distance, precedes, precedes_or_is}
 use Rattle.tcp_buffers.specs.declared.send_state.AckKind.{AckKind}
 use Rattle.tcp_buffers.specs.declared.send_state.AckKind.TheVariants.{New, Old, Beyond}

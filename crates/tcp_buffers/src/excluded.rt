@@ -45,7 +45,7 @@ fn reads_what_came_early(queue: &mut RecvQueue, buf: &mut [u8]) -> usize
 }
 
 /// The second duplicate in a row isn't yet the third, at which fast recovery begins: the clause `third` of `SendState::on_duplicate`.
-#[tactic(auto, unfolding(seq_arith::specs::Congestion::is_third))]
+#[tactic(auto, unfolding(tcp_rules::specs::Congestion::is_third))]
 fn third_duplicate_comes_early(state: &SendState) -> bool
     ensures { result ≡ false }
 {
@@ -67,7 +67,7 @@ fn window_grows_by_all_units(state: &SendState) -> u64
 }
 
 /// One unit at a time is timed, so its round trip is measured though a later unit was sent: the contract of `Timing::on_send`.
-#[tactic(auto, unfolding(seq_arith::specs::Timing::with_sent, seq_arith::specs::Timing::with_tick, seq_arith::specs::Timing::with_acknowledged, seq_arith::specs::Timing::with_sample))]
+#[tactic(auto, unfolding(tcp_rules::specs::Timing::with_sent, tcp_rules::specs::Timing::with_tick, tcp_rules::specs::Timing::with_acknowledged, tcp_rules::specs::Timing::with_sample))]
 fn a_later_unit_is_timed() -> u8
     ensures { result ≡ 3 }
 {
@@ -80,7 +80,7 @@ fn a_later_unit_is_timed() -> u8
 }
 
 /// A round trip is measured when the timed unit is acknowledged: the contract of `Timing::on_ack`.
-#[tactic(auto, unfolding(seq_arith::specs::Timing::with_sent, seq_arith::specs::Timing::with_tick, seq_arith::specs::Timing::with_acknowledged, seq_arith::specs::Timing::with_sample))]
+#[tactic(auto, unfolding(tcp_rules::specs::Timing::with_sent, tcp_rules::specs::Timing::with_tick, tcp_rules::specs::Timing::with_acknowledged, tcp_rules::specs::Timing::with_sample))]
 fn round_trip_ends_a_unit_late() -> u8
     ensures { result ≡ 3 }
 {
@@ -92,7 +92,7 @@ fn round_trip_ends_a_unit_late() -> u8
 }
 
 /// Where nothing is measured the timer starts with one tick, also after an expiry: the contract of `Timing::on_expiry`.
-#[tactic(auto, unfolding(seq_arith::specs::Timing::with_backoff))]
+#[tactic(auto, unfolding(tcp_rules::specs::Timing::with_backoff))]
 fn measures_where_it_must_not() -> u8
     ensures { result ≡ 1 }
 {
@@ -102,7 +102,7 @@ fn measures_where_it_must_not() -> u8
 }
 
 /// An interval that has doubled stays until a round trip is measured, whatever is acknowledged: the contract of `Timing::on_ack`.
-#[tactic(auto, unfolding(seq_arith::specs::Timing::with_backoff, seq_arith::specs::Timing::with_acknowledged, seq_arith::specs::Timing::with_sample))]
+#[tactic(auto, unfolding(tcp_rules::specs::Timing::with_backoff, tcp_rules::specs::Timing::with_acknowledged, tcp_rules::specs::Timing::with_sample))]
 fn any_acknowledgement_ends_a_backoff() -> u8
     ensures { result ≡ 20 }
 {
@@ -113,7 +113,7 @@ fn any_acknowledgement_ends_a_backoff() -> u8
 }
 
 /// While what was in flight at an earlier loss is recovered, no duplicate counts as the third: the clause `third` of `SendState::on_duplicate`.
-#[tactic(auto, unfolding(seq_arith::specs::Congestion::is_third))]
+#[tactic(auto, unfolding(tcp_rules::specs::Congestion::is_third))]
 fn third_duplicate_counts_in_a_recovery(state: &SendState) -> bool
     ensures { result ≡ false }
 {

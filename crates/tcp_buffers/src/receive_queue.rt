@@ -1,7 +1,7 @@
 //! The bytes received in order that the user hasn't read, and after them those received out of order.
 
 ghost use Rattle.std.specs.Prelude.{◌≡◌, ℕ, ◌+◌, ◌-◌, ◌<◌, ◌≤◌, ◌==◌, [], ◌++◌, length, min, take, drop, nat_le, nat_lt, IfOk};
-ghost use Rattle.seq_arith.specs.Early.{laid, run_count, front_run, holds_some, held_with, most_runs};
+ghost use Rattle.tcp_rules.specs.Early.{laid, run_count, front_run, holds_some, held_with, most_runs};
 ghost use Rattle.tcp_buffers.specs.Queue.{empty_queue, pushed, added_by};
 
 use crate::QUEUE_ROOM;

@@ -1,7 +1,7 @@
 //! The sender's numbers, its timer and its congestion window (RFC 9293, 3.3.1 and 3.10.7.4; RFC 6298, 5, in ticks; RFC 5681; RFC 6582).
 
 ghost use Rattle.std.specs.Prelude.{◌≡◌, ◌<◌, ◌≤◌, ◌^◌, ◌==◌, min, if◌then◌else◌};
-ghost use Rattle.seq_arith.specs.Congestion.{most_window, growth, is_recovering, is_partial, deflated, with_new_data, lowered_threshold, is_third};
+ghost use Rattle.tcp_rules.specs.Congestion.{most_window, growth, is_recovering, is_partial, deflated, with_new_data, lowered_threshold, is_third};
 ghost use Rattle.tcp_buffers.specs.declared.send_state.AckKind.TheVariants.{Beyond};
 ghost use Rattle.tcp_buffers.specs.SendNumbers.{kind_of, is_window_used, edge_after, una_by, interval_by, left_by, IsUsed, ticked};
 ghost use Rattle.tcp_buffers.specs.SendNumbers.{congestion_of, segment_of, flight_of, congestion_by, duplicated, is_lost, expired, ticked_after};
@@ -85,7 +85,7 @@ impl SendState {
     /// Counts a duplicate acknowledgement, and returns whether it is the third in a row, at which a segment has to be retransmitted at once. The third begins
     /// fast recovery, and each further one widens the congestion window by a segment (RFC 5681, 3.2). None counts as the third while what was in flight at an
     /// earlier loss is recovered.
-    #[tactic(auto, unfolding(seq_arith::specs::Congestion::is_third, seq_arith::specs::Congestion::with_duplicate))]
+    #[tactic(auto, unfolding(tcp_rules::specs::Congestion::is_third, tcp_rules::specs::Congestion::with_duplicate))]
     pub fn on_duplicate(&mut self) -> bool
         ensures third { result ≡ is_third (congestion_of self.old) }
         ensures state { self.new ≡ duplicated self.old }
@@ -138,7 +138,7 @@ impl SendState {
     }
 
     /// Notes that what is in flight is lost, if the peer's right edge is past SND.UNA.
-    #[tactic(auto, unfolding(seq_arith::specs::Congestion::with_expiry))]
+    #[tactic(auto, unfolding(tcp_rules::specs::Congestion::with_expiry))]
     fn expire(&mut self, first: bool)
         ensures state { self.new ≡ expired first self.old }
         ensures interval { self.new.interval ≡ self.old.interval }
@@ -185,7 +185,7 @@ impl SendState {
     }
 
     /// Whether the next duplicate counts as the third in a row.
-    #[tactic(auto, unfolding(seq_arith::specs::Congestion::is_third))]
+    #[tactic(auto, unfolding(tcp_rules::specs::Congestion::is_third))]
     fn is_third(&self) -> bool
         ensures { result ≡ is_third (congestion_of self.now) }
     {
@@ -218,7 +218,7 @@ impl SendState {
     }
 
     /// The congestion window, the count of duplicates and what is to be recovered, after an acknowledgement of this kind.
-    #[tactic(auto, unfolding(seq_arith::specs::Congestion::with_new_data))]
+    #[tactic(auto, unfolding(tcp_rules::specs::Congestion::with_new_data))]
     fn congestion_by(&self, kind: AckKind) -> (u32, u8, u32)
         ensures cwnd { result.0 ≡ (congestion_by kind self.now).cwnd }
         ensures ssthresh { self.now.ssthresh ≡ (congestion_by kind self.now).ssthresh }
@@ -237,7 +237,7 @@ impl SendState {
     }
 
     /// The count of duplicates once `units` units are newly acknowledged: fast recovery continues at a partial acknowledgement.
-    #[tactic(auto, unfolding(seq_arith::specs::Congestion::with_new_data))]
+    #[tactic(auto, unfolding(tcp_rules::specs::Congestion::with_new_data))]
     fn dups_after(&self, units: u32) -> u8
         ensures { result ≡ (with_new_data (segment_of self.now) units (congestion_of self.now)).dups }
     {
@@ -249,7 +249,7 @@ impl SendState {
     }
 
     /// What is to be recovered once `units` units are newly acknowledged.
-    #[tactic(auto, unfolding(seq_arith::specs::Congestion::with_new_data))]
+    #[tactic(auto, unfolding(tcp_rules::specs::Congestion::with_new_data))]
     fn lost_after(&self, units: u32) -> u32
         ensures { result ≡ (with_new_data (segment_of self.now) units (congestion_of self.now)).lost }
     {
@@ -261,7 +261,7 @@ impl SendState {
     }
 
     /// The congestion window once `units` units are newly acknowledged.
-    #[tactic(auto, unfolding(seq_arith::specs::Congestion::with_new_data))]
+    #[tactic(auto, unfolding(tcp_rules::specs::Congestion::with_new_data))]
     fn grown(&self, units: u32) -> u32
         ensures { result ≡ (with_new_data (segment_of self.now) units (congestion_of self.now)).cwnd }
     {

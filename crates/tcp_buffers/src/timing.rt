@@ -1,7 +1,7 @@
 //! The estimate of the round-trip time, in ticks, and the interval with which the retransmission timer starts (RFC 6298).
 
 ghost use Rattle.std.specs.Prelude.{◌≡◌, ◌≤◌};
-ghost use Rattle.seq_arith.specs.Timing.{initial_timing, smoothed_by, variation_by, computed_base, with_sample, with_acknowledged, with_tick, without_trip, with_backoff, with_sent};
+ghost use Rattle.tcp_rules.specs.Timing.{initial_timing, smoothed_by, variation_by, computed_base, with_sample, with_acknowledged, with_tick, without_trip, with_backoff, with_sent};
 
 use std::marker::Model;
 
@@ -29,7 +29,7 @@ pub struct Timing {
 }
 
 impl Model for Timing {
-    ghost use Rattle.seq_arith.specs.Timing.{Timing as Estimate, IsTiming};
+    ghost use Rattle.tcp_rules.specs.Timing.{Timing as Estimate, IsTiming};
 
     ghost Value = { Estimate };
 
@@ -100,7 +100,7 @@ impl Timing {
     }
 
     /// Notes that `units` units are newly acknowledged. A measurement ends if the timed unit is among them.
-    #[tactic(auto, unfolding(seq_arith::specs::Timing::with_acknowledged))]
+    #[tactic(auto, unfolding(tcp_rules::specs::Timing::with_acknowledged))]
     pub fn on_ack(&mut self, units: u32)
         ensures { self.new ≡ with_acknowledged units self.old }
     {
@@ -115,7 +115,7 @@ impl Timing {
     }
 
     /// Counts a tick.
-    #[tactic(auto, unfolding(seq_arith::specs::Timing::with_tick))]
+    #[tactic(auto, unfolding(tcp_rules::specs::Timing::with_tick))]
     pub fn on_tick(&mut self)
         ensures { self.new ≡ with_tick self.old }
     {
@@ -125,7 +125,7 @@ impl Timing {
     }
 
     /// Notes that something is retransmitted: no measurement is under way.
-    #[tactic(auto, unfolding(seq_arith::specs::Timing::without_trip))]
+    #[tactic(auto, unfolding(tcp_rules::specs::Timing::without_trip))]
     pub fn on_retransmission(&mut self)
         ensures { self.new ≡ without_trip self.old }
     {
@@ -133,7 +133,7 @@ impl Timing {
     }
 
     /// Notes that the timer expired, and that its interval is now this long.
-    #[tactic(auto, unfolding(seq_arith::specs::Timing::with_backoff))]
+    #[tactic(auto, unfolding(tcp_rules::specs::Timing::with_backoff))]
     pub fn on_expiry(&mut self, interval: u8)
         requires least { 1 ≤ interval }
         requires most { interval ≤ 64 }
@@ -147,7 +147,7 @@ impl Timing {
     }
 
     /// Notes that a unit that ends `ahead` units after SND.UNA is sent for the first time. It is timed, if none is.
-    #[tactic(auto, unfolding(seq_arith::specs::Timing::with_sent))]
+    #[tactic(auto, unfolding(tcp_rules::specs::Timing::with_sent))]
     pub fn on_send(&mut self, ahead: u32)
         ensures { self.new ≡ with_sent ahead self.old }
     {
@@ -159,7 +159,7 @@ impl Timing {
     }
 
     /// Notes the round trip of the timed unit.
-    #[tactic(auto, unfolding(seq_arith::specs::Timing::with_sample))]
+    #[tactic(auto, unfolding(tcp_rules::specs::Timing::with_sample))]
     fn sample(&mut self)
         ensures { self.new ≡ with_sample self.old }
     {

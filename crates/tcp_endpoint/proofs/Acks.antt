@@ -4,9 +4,9 @@ use Rattle.std.specs.Prelude.{ℤ, pos, ◌==◌, ◌&&◌, ◌||◌, nat_abs, n
 use Rattle.std.proofs.lemmas.Int.{ints}
 use Rattle.std.proofs.lemmas.List.{drop_min}
 use Rattle.seq_arith.specs.Number.{distance, number_at, offset_of, precedes, precedes_or_is}
-use Rattle.seq_arith.specs.Arrival.{int_eq, is_new_ack}
-use Rattle.seq_arith.specs.Congestion.{with_new_data, is_partial, is_third}
-use Rattle.seq_arith.specs.Timing.{Timing, with_acknowledged}
+use Rattle.tcp_rules.specs.Arrival.{int_eq, is_new_ack}
+use Rattle.tcp_rules.specs.Congestion.{with_new_data, is_partial, is_third}
+use Rattle.tcp_rules.specs.Timing.{Timing, with_acknowledged}
 use Rattle.seq_arith.proofs.Gaps.{offset_leads}
 use Rattle.tcp_buffers.specs.declared.send_state.AckKind.{AckKind}
 use Rattle.tcp_buffers.specs.declared.send_state.AckKind.TheVariants.{New, Old, Beyond}

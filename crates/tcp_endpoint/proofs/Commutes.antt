@@ -5,8 +5,8 @@ use Rattle.std.specs.Prelude.{ℤ, nat_abs, int_lt, int_le}
 use Rattle.std.proofs.lemmas.Int.{ints}
 use Rattle.ft_io.proofs.Booleans.{and_false}
 use Rattle.ft_io.proofs.Choices.{by_cases}
-use Rattle.seq_arith.specs.Early.{front_run, behind_front_run, holds_some}
-use Rattle.seq_arith.specs.Coming.{Came, is_none, holds_fin, with_fin, continued}
+use Rattle.tcp_rules.specs.Early.{front_run, behind_front_run, holds_some}
+use Rattle.tcp_rules.specs.Coming.{Came, is_none, holds_fin, with_fin, continued}
 
 -- each place of the front run holds a byte, ..
 front_holds : (k : ℕ) (places : List (Option ℕ)) → k < length (front_run places) → holds_some (drop k places) ≡ true

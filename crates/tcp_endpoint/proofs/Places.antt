@@ -3,11 +3,11 @@ use Rattle.std.proofs.Common.{◌≡◌, ℕ, ◌<◌, ◌≤◌, ◌+◌, ◌%�
 use Rattle.std.specs.Prelude.{ℤ, pos, negsuc, ◌+ℤ◌, ◌≤ℤ◌, nat_eq, int_lt}
 use Rattle.std.proofs.lemmas.Int.{ints}
 use Rattle.seq_arith.specs.Number.{distance, number_at, offset_of, precedes, is_in_window}
-use Rattle.seq_arith.specs.Arrival.{int_eq, lies_in, is_acceptable, is_at_right_edge, is_acceptable_or_at_edge, is_allowed_at_zero, is_usable, below}
-use Rattle.seq_arith.specs.Coming.{ahead}
+use Rattle.tcp_rules.specs.Arrival.{int_eq, lies_in, is_acceptable, is_at_right_edge, is_acceptable_or_at_edge, is_allowed_at_zero, is_usable, below}
+use Rattle.tcp_rules.specs.Coming.{ahead}
 use Rattle.seq_arith.proofs.Gaps.{offset_leads}
 use Rattle.tcp_buffers.specs.Near.{IsNearFirst}
-use Rattle.seq_arith.proofs.Shifts.{below_low}
+use Rattle.tcp_rules.proofs.Shifts.{below_low}
 use Rattle.ft_io.proofs.Booleans.{or_other}
 use Rattle.ft_io.proofs.Choices.{by_cases}
 

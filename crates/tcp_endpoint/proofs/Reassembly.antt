@@ -4,13 +4,13 @@ use Rattle.std.specs.Prelude.{ℤ, ◌≢◌, IfSome, nat_lt}
 use Rattle.std.proofs.lemmas.Int.{ints}
 use Rattle.std.proofs.lemmas.List.{take_all}
 use Rattle.ft_io.proofs.Choices.{by_cases, holds_either_way}
-use Rattle.seq_arith.specs.Arrival.{below}
-use Rattle.seq_arith.specs.Early.{laid, held_with, front_run, behind_front_run, holds_some}
-use Rattle.seq_arith.specs.Coming.{Early, Came, StandsBehind, nothing_came, text_edge, ahead, new_text, with_text, holds_fin, continued, stands_at, with_fin_taken, comes}
+use Rattle.tcp_rules.specs.Arrival.{below}
+use Rattle.tcp_rules.specs.Early.{laid, held_with, front_run, behind_front_run, holds_some}
+use Rattle.tcp_rules.specs.Coming.{Early, Came, StandsBehind, nothing_came, text_edge, ahead, new_text, with_text, holds_fin, continued, stands_at, with_fin_taken, comes}
 use Rattle.tcp_buffers.specs.Queue.{Queue, empty_queue, added_by, pushed}
 use Rattle.tcp_endpoint.specs.ReceiveHalf.{Receiving, ReceiverInvariant, taken, receive_edge, came, with_came, with_segment}
-use Rattle.seq_arith.proofs.Coming.{behind_gap, behind_within, stays_behind, comes_bare, nothing_behind}
-use Rattle.seq_arith.proofs.ComingKeeps.{bounded}
+use Rattle.tcp_rules.proofs.Coming.{behind_gap, behind_within, stays_behind, comes_bare, nothing_behind}
+use Rattle.tcp_rules.proofs.ComingKeeps.{bounded}
 use Rattle.tcp_endpoint.proofs.Steps.{text_step, fin_step, fin_then, in_steps, step_adds_none, not_held, held_at, was_none, text_alone, is_taken, isnt_taken}
 
 -- a queue appends bytes, or holds them where they are ahead

@@ -7,8 +7,8 @@ use Rattle.std.proofs.lemmas.Int.{ints}
 use Rattle.ft_io.proofs.Booleans.{and_false}
 use Rattle.ft_io.proofs.Choices.{by_cases, holds_either_way}
 use Rattle.ft_io.proofs.Numbers.{plus_none}
-use Rattle.seq_arith.specs.Early.{laid, held_with, holds_some}
-use Rattle.seq_arith.specs.Coming.{Early, Came, nothing_came, with_text, is_none, holds_fin, with_fin, continued, stands_at, with_fin_taken, comes}
+use Rattle.tcp_rules.specs.Early.{laid, held_with, holds_some}
+use Rattle.tcp_rules.specs.Coming.{Early, Came, nothing_came, with_text, is_none, holds_fin, with_fin, continued, stands_at, with_fin_taken, comes}
 use Rattle.tcp_endpoint.proofs.Commutes.{fin_after_text}
 
 -- nothing is held of no bytes

@@ -1,7 +1,7 @@
 -- What an arriving segment does to an endpoint: the checks of RFC 9293, 3.10.7, in their order. Of those in 3.10.7.4, the third (security) and the sixth
 -- (URG) aren't made, and a repeated FIN restarts TIME-WAIT before the first.
 use Rattle.std.specs.Prelude.{ℕ, ℤ, Bool, true, pos, ◌+◌, ◌%◌, ◌^◌, ◌==◌, ◌&&◌, ◌||◌, not, nat_lt, None, Some, if◌then◌else◌, ◌+ℤ◌, length, take}
-use Rattle.seq_arith.specs.Arrival.{int_eq, is_acceptable_or_at_edge, is_allowed_at_zero}
+use Rattle.tcp_rules.specs.Arrival.{int_eq, is_acceptable_or_at_edge, is_allowed_at_zero}
 use Rattle.seq_arith.specs.Packet.{Segment, has_fin, has_syn, has_rst, has_ack}
 use Rattle.ft_io.specs.declared.Addr.{Addr}
 use Rattle.seq_arith.specs.Packet.{segment_size}

@@ -1,7 +1,7 @@
 -- The receiving half of a connection, in offsets of the peer's stream: byte k has offset k, and a FIN that is taken counts as one more unit (RFC 9293, 3.3.1,
 -- receive sequence variables, and 3.10.7.4, first, seventh and eighth check).
 use Rattle.std.specs.Prelude.{ℕ, ℤ, Bool, false, ◌+◌, ◌-◌, ◌^◌, ◌≤◌, min, Option, List, [], ◌++◌, length, drop}
-use Rattle.seq_arith.specs.Coming.{Early, Came, nothing_early, comes, StandsBehind}
+use Rattle.tcp_rules.specs.Coming.{Early, Came, nothing_early, comes, StandsBehind}
 use Rattle.seq_arith.specs.Offset.{one_if}
 use Rattle.tcp_buffers.specs.Queue.{Queue}
 

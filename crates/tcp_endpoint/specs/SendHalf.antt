@@ -1,10 +1,10 @@
 -- The sending half of a connection, in offsets of our stream: byte k has offset k, and a FIN counts as one more unit (RFC 9293, 3.3.1, send sequence variables,
 -- and 3.10.7.4, fifth check; RFC 5681; RFC 6298; RFC 6582).
 use Rattle.std.specs.Prelude.{ℕ, ℤ, Bool, true, false, pos, ◌+◌, ◌-◌, ◌*◌, ◌%◌, ◌^◌, ◌<◌, ◌≤◌, ◌==◌, ◌&&◌, ◌||◌, not, nat_lt, nat_le, int_le, min, max, nat_abs, List, [], length, drop, if◌then◌else◌}
-use Rattle.seq_arith.specs.Arrival.{int_eq, is_new_ack}
-use Rattle.seq_arith.specs.Congestion.{Congestion, initial_congestion, is_partial, with_new_data, is_third, with_duplicate, with_expiry}
+use Rattle.tcp_rules.specs.Arrival.{int_eq, is_new_ack}
+use Rattle.tcp_rules.specs.Congestion.{Congestion, initial_congestion, is_partial, with_new_data, is_third, with_duplicate, with_expiry}
 use Rattle.seq_arith.specs.Number.{distance, precedes}
-use Rattle.seq_arith.specs.Timing.{Timing, first_base, initial_timing, with_acknowledged, with_tick, without_trip, with_backoff, with_sent as with_unit_sent}
+use Rattle.tcp_rules.specs.Timing.{Timing, first_base, initial_timing, with_acknowledged, with_tick, without_trip, with_backoff, with_sent as with_unit_sent}
 use Rattle.tcp_buffers.specs.Near.{is_ahead}
 use Rattle.tcp_buffers.specs.SendNumbers.{acks_new, edge_of, congestion_of}
 use Rattle.tcp_buffers.specs.declared.send_state.AckKind.{AckKind}

@@ -2,7 +2,7 @@
 //! false. It is proved from the other's contract alone, so it is no longer proved once that contract lets the wrong body pass.
 
 ghost use Rattle.std.specs.Prelude.{◌≡◌, ◌≤◌, pos, true, false, length};
-ghost use Rattle.seq_arith.specs.Arrival.{int_eq};
+ghost use Rattle.tcp_rules.specs.Arrival.{int_eq};
 ghost use Rattle.seq_arith.specs.Number.{offset_of};
 ghost use Rattle.seq_arith.specs.Packet.{has_rst};
 ghost use Rattle.segment_codec.specs.Value.{segment_of};
@@ -39,7 +39,7 @@ fn sends_past_the_congestion_window(sender: &Sender) -> u32
 }
 
 /// No more text is taken or held than the receive window has room for: the contract of `Receiver::new_part`.
-#[tactic(auto, unfolding(seq_arith::specs::Coming::new_text))]
+#[tactic(auto, unfolding(tcp_rules::specs::Coming::new_text))]
 fn takes_outside_window<'a>(receiver: &Receiver, seq: Seq, text: &'a [u8]) -> &'a [u8]
     requires { IsNearFirst (offset_of receiver.now.irs seq.0) }
     ensures { receiver.now.early.fin ≡ None → length result.now ≤ window receiver.now }

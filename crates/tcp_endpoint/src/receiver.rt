@@ -4,11 +4,11 @@
 ghost use Rattle.std.specs.Prelude.{◌≡◌, ℕ, ◌+◌, ◌-◌, ◌^◌, ◌<◌, ◌≤◌, ◌==◌, ◌&&◌, ◌||◌, not, is_none, pos, negsuc, ◌+ℤ◌, int_lt, Bool, false, true, List, [], ◌++◌, length, min, take, drop, if◌then◌else◌};
 ghost use Rattle.std.specs.Bool.{OnTrue};
 ghost use Rattle.seq_arith.specs.Number.{number_at, offset_of};
-ghost use Rattle.seq_arith.specs.Arrival.{int_eq, lies_in, is_acceptable, is_at_right_edge, is_acceptable_or_at_edge, is_allowed_at_zero, below};
-ghost use Rattle.seq_arith.specs.Coming.{StandsBehind, nothing_came, ahead, text_edge, new_text, holds_fin, stands_at};
+ghost use Rattle.tcp_rules.specs.Arrival.{int_eq, lies_in, is_acceptable, is_at_right_edge, is_acceptable_or_at_edge, is_allowed_at_zero, below};
+ghost use Rattle.tcp_rules.specs.Coming.{StandsBehind, nothing_came, ahead, text_edge, new_text, holds_fin, stands_at};
 ghost use Rattle.tcp_buffers.specs.Near.{IsNearFirst};
 ghost use Rattle.tcp_buffers.specs.Queue.{empty_queue, pushed};
-ghost use Rattle.seq_arith.specs.Early.{held_with};
+ghost use Rattle.tcp_rules.specs.Early.{held_with};
 ghost use Rattle.tcp_endpoint.specs.ReceiveHalf.{taken, next, receive_edge, advertised_edge, window, receiving_up_to, with_segment, read_out};
 ghost use Rattle.tcp_endpoint.specs.Tcb.{kept_limit};
 
@@ -203,7 +203,7 @@ impl Receiver {
 
     /// Whether a segment of length 0 is at exactly the right edge of an open window. After a sender has filled the window and a segment was lost, its
     /// acknowledgements have this number.
-    #[tactic(auto, using(crate::proofs::Places::near_of_place), unfolding(seq_arith::specs::Arrival::is_at_right_edge))]
+    #[tactic(auto, using(crate::proofs::Places::near_of_place), unfolding(tcp_rules::specs::Arrival::is_at_right_edge))]
     fn is_at_right_edge(&self, seq: Seq, len: u32) -> bool
         ensures edge { result ≡ is_at_right_edge (next self.now) (window self.now) (offset_of self.now.irs seq.0) len }
         ensures near { OnTrue result (IsNearFirst (offset_of self.now.irs seq.0)) }
@@ -224,7 +224,7 @@ impl Receiver {
 
     /// Whether this is RCV.NXT while the window is zero. The acknowledgement and the window of such a segment are used, whatever its length (RFC 9293,
     /// 3.10.7.4, first check, special allowance).
-    #[tactic(auto, using(crate::proofs::Places::near_of_place), unfolding(seq_arith::specs::Arrival::is_allowed_at_zero))]
+    #[tactic(auto, using(crate::proofs::Places::near_of_place), unfolding(tcp_rules::specs::Arrival::is_allowed_at_zero))]
     pub(crate) fn allows(&self, seq: Seq) -> bool
         ensures allowed { result ≡ is_allowed_at_zero (next self.now) (window self.now) (offset_of self.now.irs seq.0) }
         // Such a segment begins where numbers show the order of offsets.
@@ -303,7 +303,7 @@ impl Receiver {
     }
 
     /// Returns the new part of a text. The text leaves a gap of `gap` bytes after the bytes taken, or none where `gap` is 0.
-    #[tactic(auto, unfolding(seq_arith::specs::Coming::new_text))]
+    #[tactic(auto, unfolding(tcp_rules::specs::Coming::new_text))]
     pub(crate) fn new_part<'a>(&self, seq: Seq, gap: u32, text: &'a [u8]) -> &'a [u8]
         requires near { IsNearFirst (offset_of self.now.irs seq.0) }
         requires gap { gap ≡ ahead (taken self.now) (offset_of self.now.irs seq.0) }

@@ -4,8 +4,8 @@
 ghost use Rattle.std.specs.Prelude.{◌≡◌, ℕ, ◌+◌, ◌-◌, ◌%◌, ◌^◌, ◌<◌, ◌≤◌, ◌==◌, ◌&&◌, ◌||◌, pos, int_le, Bool, false, true, not, List, [], ◌++◌, length, min, take};
 ghost use Rattle.std.specs.Prelude.{drop, if◌then◌else◌};
 ghost use Rattle.seq_arith.specs.Number.{number_at, offset_of};
-ghost use Rattle.seq_arith.specs.Arrival.{int_eq};
-ghost use Rattle.seq_arith.specs.Congestion.{initial_window, is_third};
+ghost use Rattle.tcp_rules.specs.Arrival.{int_eq};
+ghost use Rattle.tcp_rules.specs.Congestion.{initial_window, is_third};
 ghost use Rattle.seq_arith.specs.Packet.{segment_size};
 ghost use Rattle.tcp_buffers.specs.Near.{is_ahead};
 ghost use Rattle.tcp_endpoint.specs.SendHalf.{sending_measuring, with_segment_size, with_syn_acked, fin_acked, in_flight, is_unacknowledged, expires, is_first_expiry, ticked, must_run, timed};

@@ -1,6 +1,6 @@
--- The states of the generator of Rattle.seq_arith.specs.Generator.
+-- The states of the generator of Rattle.pseudorandom.specs.Generator.
 use Rattle.std.specs.Prelude.{ℕ, zero, suc}
-use Rattle.seq_arith.specs.Generator.{stepped}
+use Rattle.pseudorandom.specs.Generator.{stepped}
 
 -- the state after so many draws
 unfoldable pub state_after : ℕ → ℕ → ℕ

@@ -1,10 +1,12 @@
 //! Numbers that follow from a seed.
 
 ghost use Rattle.std.specs.Prelude.{◌≡◌, ◌+◌, ◌-◌, ◌*◌, ◌<◌, ◌≤◌, ◌%◌, ◌^◌, EachIndex, length, slice_index};
-ghost use Rattle.seq_arith.specs.Generator.{stepped, drawn};
+ghost use Rattle.pseudorandom.specs.Generator.{stepped, drawn};
 ghost use Rattle.test_data.specs.Draws.{state_after};
 
-use seq_arith::{Generator, Seq};
+use pseudorandom::Generator;
+
+use seq_arith::Seq;
 use std::marker::Model;
 
 /// Numbers that are drawn from a seed, one after another. The same calls from the same seed give the same numbers.

@@ -30,7 +30,7 @@ fn hides_a_zero_byte(alloc: Global) -> Result<String, NoMemory>
 }
 
 /// A byte that is drawn may have any value, 255 as well: the clause `values` of `Draws::fill`.
-#[tactic(auto, unfolding(crate::specs::Draws::state_after, seq_arith::specs::Generator::stepped))]
+#[tactic(auto, unfolding(crate::specs::Draws::state_after, pseudorandom::specs::Generator::stepped))]
 fn never_draws_255() -> u8
     ensures { result ≡ 255 }
 {

@@ -6,7 +6,7 @@ use Rattle.std.proofs.lemmas.Bool.{and_parts}
 use Rattle.ft_io.specs.declared.Addr.{Addr}
 use Rattle.ft_io.specs.declared.Key.{Key}
 use Rattle.seq_arith.specs.Number.{distance, number_at, offset_of}
-use Rattle.seq_arith.specs.Arrival.{int_eq}
+use Rattle.tcp_rules.specs.Arrival.{int_eq}
 use Rattle.seq_arith.specs.Packet.{Segment, has_rst, has_syn, has_ack}
 use Rattle.seq_arith.proofs.Shifts.{offset_of_number}
 use Rattle.server_trait.specs.Service.{Machine}

@@ -1,7 +1,7 @@
 -- A worked run: the server boots, the head takes its Hello and forwards it, and the tail applies it and answers.
 use Rattle.std.specs.Prelude.{Some, None, List, [], ◌∷◌, ◌++◌, map}
 use Rattle.ft_io.specs.declared.Addr.{Addr}
-use Rattle.seq_arith.specs.Profile.{plain}
+use Rattle.tcp_rules.specs.Profile.{plain}
 use Rattle.seq_arith.specs.Message.{Message}
 use Rattle.seq_arith.specs.Message.Body.{HelloMsg, SummaryMsg}
 use Rattle.ft_model.specs.Network.Packet.{To_logger, From_logger}

@@ -1,7 +1,7 @@
 -- A worked run in which the tail stops. The head has taken a client's Open and forwarded it, and the tail stops before it applies it. At the next tick the server
 -- asks again, and the head, which serves alone, answers: the entry was in its log already.
 use Rattle.std.specs.Prelude.{Some, None, true, List, [], ◌∷◌, ◌++◌}
-use Rattle.seq_arith.specs.Profile.{plain}
+use Rattle.tcp_rules.specs.Profile.{plain}
 use Rattle.seq_arith.specs.Message.Body.{HelloMsg, OpenMsg}
 use Rattle.ft_model.specs.Node.{booted}
 use Rattle.ft_model.specs.Node.Place.{Opens}

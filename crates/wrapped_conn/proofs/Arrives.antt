@@ -2,7 +2,7 @@
 use Rattle.std.proofs.Common.{◌≡◌, ◌<◌, ◌≤◌, ◌^◌, Bool, true, false, not, length, refl, sym, subst, arith, ◌∙◌}
 use Rattle.std.specs.Prelude.{pos, ◌&&◌, ◌||◌, nat_lt, if◌then◌else◌}
 use Rattle.std.proofs.lemmas.Bool.{false≢true}
-use Rattle.seq_arith.specs.Arrival.{int_eq, is_acceptable_or_at_edge, is_allowed_at_zero}
+use Rattle.tcp_rules.specs.Arrival.{int_eq, is_acceptable_or_at_edge, is_allowed_at_zero}
 use Rattle.seq_arith.specs.Offset.{one_if, length_of}
 use Rattle.seq_arith.specs.Packet.{Segment, has_syn, has_rst, has_ack, has_fin}
 use Rattle.tcp_buffers.specs.Near.{IsNearFirst, is_ahead}

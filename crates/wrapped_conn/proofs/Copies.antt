@@ -2,7 +2,7 @@
 use Rattle.std.proofs.Common.{◌≡◌, ℕ, ◌+◌, ◌-◌, ◌≤◌, Bool, true, false, not, List, [], ◌∷◌, ◌++◌, length, drop, min, max, refl, sym, ap, arith, ◌∙◌}
 use Rattle.std.specs.Prelude.{◌&&◌, ◌+ℤ◌, nat_lt, nat_le, pos, if◌then◌else◌}
 use Rattle.std.proofs.lemmas.List.{drop-drop}
-use Rattle.seq_arith.specs.Arrival.{int_eq}
+use Rattle.tcp_rules.specs.Arrival.{int_eq}
 use Rattle.seq_arith.specs.Message.{Kept, Body}
 use Rattle.seq_arith.specs.Message.Body.{DataMsg}
 use Rattle.seq_arith.specs.Packet.{Segment}

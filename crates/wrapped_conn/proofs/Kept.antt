@@ -4,11 +4,11 @@ use Rattle.std.specs.Prelude.{ℤ, nat_abs, if◌then◌else◌}
 use Rattle.std.proofs.lemmas.Int.{ints}
 use Rattle.std.proofs.lemmas.Bool.{false≢true}
 use Rattle.seq_arith.specs.Number.{offset_of}
-use Rattle.seq_arith.specs.Arrival.{is_new_ack}
-use Rattle.seq_arith.specs.Coming.{Came, StandsBehind}
-use Rattle.seq_arith.proofs.Coming.{stays_behind, comes_within}
-use Rattle.seq_arith.specs.Congestion.{Congestion, with_new_data, IsOpen}
-use Rattle.seq_arith.proofs.Congested.{new_data_open, duplicate_open}
+use Rattle.tcp_rules.specs.Arrival.{is_new_ack}
+use Rattle.tcp_rules.specs.Coming.{Came, StandsBehind}
+use Rattle.tcp_rules.proofs.Coming.{stays_behind, comes_within}
+use Rattle.tcp_rules.specs.Congestion.{Congestion, with_new_data, IsOpen}
+use Rattle.tcp_rules.proofs.Congested.{new_data_open, duplicate_open}
 use Rattle.tcp_buffers.specs.Near.{IsNearFirst}
 use Rattle.tcp_endpoint.specs.declared.states.StateName.{StateName}
 use Rattle.tcp_endpoint.specs.declared.states.StateName.TheVariants.{Closed, Listen, SynSent, SynReceived, Established, FinWait1, FinWait2, CloseWait, Closing, LastAck, TimeWait}
@@ -17,7 +17,7 @@ use Rattle.tcp_endpoint.specs.ReceiveHalf.{Receiving, taken, receive_edge, came,
 use Rattle.tcp_endpoint.specs.SendHalf.{Sending, with_syn_acked, acknowledged, moves_edge, timing_acknowledged, in_flight, duplicated, untimed_if}
 use Rattle.tcp_endpoint.specs.Tcb.{Tcb}
 use Rattle.ft_io.proofs.Choices.{holds_either_way}
-use Rattle.seq_arith.specs.Timing.{with_acknowledged}
+use Rattle.tcp_rules.specs.Timing.{with_acknowledged}
 use Rattle.endpoint_laws.specs.Laws.{KeepsTime, Bounds}
 use Rattle.endpoint_laws.proofs.Timings.{choice_within, acknowledged_keeps, trip_keeps, by_ack_lost, duplicate_lost}
 use Rattle.endpoint_laws.proofs.SendingLaw.{held_field}

@@ -2,7 +2,7 @@
 use Rattle.std.proofs.Common.{◌≡◌, Bool, true, false, List, [], ◌∷◌, refl, ◌∙◌}
 use Rattle.std.specs.Prelude.{if◌then◌else◌, ◌&&◌, not, pos}
 use Rattle.ft_io.specs.declared.Addr.{Addr}
-use Rattle.seq_arith.specs.Arrival.{int_eq}
+use Rattle.tcp_rules.specs.Arrival.{int_eq}
 use Rattle.seq_arith.specs.Packet.{Segment, has_rst, has_syn, has_ack, has_fin}
 use Rattle.tcp_buffers.specs.Near.{is_ahead}
 use Rattle.tcp_endpoint.specs.declared.states.StateName.{StateName}

@@ -2,7 +2,7 @@
 use Rattle.std.proofs.Common.{◌≡◌, ℕ, ℤ, ◌-◌, Bool, true, false, not, refl, sym, ◌∙◌}
 use Rattle.std.specs.Prelude.{◌&&◌, ◌||◌, nat_lt, int_lt, pos, if◌then◌else◌}
 use Rattle.std.proofs.lemmas.Bool.{false≢true}
-use Rattle.seq_arith.specs.Arrival.{int_eq, is_acceptable_or_at_edge}
+use Rattle.tcp_rules.specs.Arrival.{int_eq, is_acceptable_or_at_edge}
 use Rattle.seq_arith.specs.Offset.{first_of, ack_of, length_of}
 use Rattle.seq_arith.specs.Packet.{Segment, has_rst, has_syn, has_ack}
 use Rattle.server_trait.specs.Service.{Machine}

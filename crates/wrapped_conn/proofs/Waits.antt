@@ -1,7 +1,7 @@
 -- Where the connection's ACK waits for the log, the law's does.
 use Rattle.std.proofs.Common.{◌≡◌, ◌⊎◌, ℕ, ◌+◌, ◌-◌, ◌^◌, Bool, true, false, length, min, None, Some, Option, refl, sym, ap, ⊎_elim, ◌∙◌}
 use Rattle.std.specs.Prelude.{◌==◌, ◌&&◌, nat_lt, is_none, option_map}
-use Rattle.seq_arith.specs.Coming.{Early, early_from}
+use Rattle.tcp_rules.specs.Coming.{Early, early_from}
 use Rattle.seq_arith.specs.Offset.{one_if}
 use Rattle.seq_arith.specs.Packet.{Segment}
 use Rattle.server_trait.specs.Service.{Machine}

@@ -1,4 +1,3 @@
-pub mod Profiles
 pub mod ConnState
 pub mod Numbers
 pub mod NewConnection

@@ -5,7 +5,7 @@ use Rattle.ft_io.specs.declared.Key.{Key}
 use Rattle.seq_arith.specs.Number.{number_at, distance}
 use Rattle.seq_arith.specs.Offset.{one_if}
 use Rattle.seq_arith.specs.Packet.{Segment}
-use Rattle.seq_arith.specs.Profile.{Profile, plain}
+use Rattle.tcp_rules.specs.Profile.{Profile, plain}
 use Rattle.south_wrap.specs.SouthState.{SouthState, first_south}
 use Rattle.north_wrap.specs.NorthState.{NorthState, fresh_north}
 use Rattle.tcp_endpoint.specs.Arrival.{received}

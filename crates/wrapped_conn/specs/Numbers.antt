@@ -1,7 +1,7 @@
 -- The offsets of a connection in its two streams, as its parts show them (RFC 9293, 3.3.1, and FT-TCP, INFOCOM 2001: the inner TCP's numbers are delta below
 -- the client's).
 use Rattle.std.specs.Prelude.{ℕ, Bool, true, false, pos, ◌+◌, ◌-◌, ◌%◌, ◌^◌, ◌&&◌, ◌||◌, not, nat_lt, min, max, length, if◌then◌else◌}
-use Rattle.seq_arith.specs.Arrival.{int_eq, is_acceptable_or_at_edge}
+use Rattle.tcp_rules.specs.Arrival.{int_eq, is_acceptable_or_at_edge}
 use Rattle.seq_arith.specs.Number.{number_at, distance, offset_of}
 use Rattle.seq_arith.specs.Offset.{one_if, first_of, length_of}
 use Rattle.seq_arith.specs.Packet.{Segment, has_rst, has_syn, has_ack}

@@ -6,11 +6,11 @@ ghost use Rattle.server_trait.specs.Service.{machine};
 ghost use Rattle.ft_model.specs.Point.{Point, whole_run};
 ghost use Rattle.wrapped_conn.specs.NewConnection.{first_conn, first_conn_in, joined_conn, joined_conn_in, syn};
 ghost use Rattle.wrapped_conn.specs.Numbers.{has_fin as has_fin_lem, is_over as is_over_lem};
-ghost use Rattle.wrapped_conn.specs.Profiles.{profile_of};
+ghost use Rattle.tcp_rules.specs.Profiles.{profile_of};
 ghost use Rattle.wrapped_conn.specs.Sound.{IsSound};
 ghost use Rattle.wrapped_conn.specs.Refinement.{Stands};
 
-use crate::profile::Profile;
+use tcp_rules::Profile;
 use crate::stage::ConnStage;
 use ft_io::{Addr, Key, NoMemory};
 use limits::STREAM;

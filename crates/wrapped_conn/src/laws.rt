@@ -5,7 +5,7 @@ ghost use Rattle.ft_io.specs.declared.Addr.{Addr};
 ghost use Rattle.seq_arith.specs.Message.{Numbers};
 ghost use Rattle.seq_arith.specs.Packet.{Segment};
 ghost use Rattle.server_trait.specs.Service.{machine};
-ghost use Rattle.seq_arith.specs.Profile.{Profile};
+ghost use Rattle.tcp_rules.specs.Profile.{Profile};
 ghost use Rattle.ft_model.specs.Log.{Entry};
 ghost use Rattle.ft_model.specs.News.News.{Comes, Logged, Ticks, Begins};
 ghost use Rattle.ft_model.specs.Opening.{point_opened};

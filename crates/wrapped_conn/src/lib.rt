@@ -4,7 +4,6 @@
 
 pub use conn::{Conn, Opened};
 pub use inside::Inside;
-pub use profile::Profile;
 pub use quiet::Quiet;
 pub use stage::ConnStage;
 pub use turn_out::TurnOut;
@@ -16,7 +15,6 @@ mod inside;
 pub mod laws;
 mod leaving;
 mod numbers;
-mod profile;
 mod quiet;
 mod stage;
 mod telling;

@@ -1,7 +1,7 @@
 //! The offsets of a connection in its two streams, as its parts show them.
 
 ghost use Rattle.std.specs.Prelude.{◌≡◌, ◌≤◌, ◌+◌, ◌-◌, ◌^◌, ◌%◌, pos, nat_abs, length, max, min};
-ghost use Rattle.seq_arith.specs.Arrival.{int_eq, is_acceptable, is_acceptable_or_at_edge, is_at_right_edge, lies_in};
+ghost use Rattle.tcp_rules.specs.Arrival.{int_eq, is_acceptable, is_acceptable_or_at_edge, is_at_right_edge, lies_in};
 ghost use Rattle.seq_arith.specs.Number.{number_at, offset_of};
 ghost use Rattle.seq_arith.specs.Offset.{length_of as length_of_lem, text_of};
 ghost use Rattle.segment_codec.specs.Value.{segment_of, said};
@@ -245,7 +245,7 @@ fn is_acceptable(next: u32, room: u32, first: i64, len: u32) -> bool
 }
 
 /// Whether a segment's SEG.LEN is 0 and it is at the right edge of an open window.
-#[tactic(auto, unfolding(seq_arith::specs::Arrival::is_at_right_edge))]
+#[tactic(auto, unfolding(tcp_rules::specs::Arrival::is_at_right_edge))]
 fn is_at_right_edge(next: u32, room: u32, first: i64, len: u32) -> bool
     ensures { result ≡ is_at_right_edge next room first len }
 {

@@ -6,7 +6,7 @@ use crate::restarts::play::{BOOT, hand};
 use ft_io::{Key, NoMemory};
 use reincarnate::Fetching;
 use sample_servers::AnyService;
-use seq_arith::Generator;
+use pseudorandom::Generator;
 use std::alloc::Global;
 
 /// One of them: an answer of another boot, of another key, of another place, of another kind, or bytes that are no message.

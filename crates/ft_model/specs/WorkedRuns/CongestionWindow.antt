@@ -2,7 +2,7 @@
 -- Two duplicates of it allow none. At the third the missing segment is retransmitted, and as much new text is sent as the window then has room for.
 -- Twenty-five events, twenty-seven packets.
 use Rattle.std.specs.Prelude.{ℕ, codes, zero, suc, ◌+◌, ◌*◌, ◌%◌, ◌==◌, min, false, None, Some, List, [], ◌∷◌, ◌++◌, length, pos}
-use Rattle.seq_arith.specs.Profile.{plain}
+use Rattle.tcp_rules.specs.Profile.{plain}
 use Rattle.seq_arith.specs.Message.Body.{DataMsg, StableMsg, ReadMsg, ReadsMsg}
 use Rattle.server_trait.specs.Service.{Served, Machine}
 use Rattle.ft_model.specs.Client.{Client}

@@ -1,6 +1,6 @@
 -- A crash after the opening is logged and before the SYN-ACK is sent: the second incarnation answers the client's SYN with the logged numbers.
 use Rattle.std.specs.Prelude.{true, false, Some, None, List, [], ◌∷◌}
-use Rattle.seq_arith.specs.Profile.{plain}
+use Rattle.tcp_rules.specs.Profile.{plain}
 use Rattle.seq_arith.specs.Packet.{Segment}
 use Rattle.seq_arith.specs.Message.{EntryHead}
 use Rattle.seq_arith.specs.Message.Body.{SummaryMsg, ListMsg, EntryMsg}

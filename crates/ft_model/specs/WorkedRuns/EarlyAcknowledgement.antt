@@ -1,7 +1,7 @@
 -- A server passes TCP's own acknowledgement on: its client learns that its five bytes are received before they are logged, and the crash loses them. The law
 -- Acknowledgement refuses the turn.
 use Rattle.std.specs.Prelude.{false, Some, None, List, [], ◌∷◌}
-use Rattle.seq_arith.specs.Profile.{plain}
+use Rattle.tcp_rules.specs.Profile.{plain}
 use Rattle.seq_arith.specs.Message.{Message}
 use Rattle.seq_arith.specs.Message.Body.{HelloMsg, SummaryMsg, DataMsg}
 use Rattle.ft_model.specs.Client.{Client}

@@ -1,7 +1,7 @@
 -- A server answers as CLOSED while it fetches the log: the client is reset, although its connection is logged. The law Restart refuses the turn: before its
 -- entry is fetched, a client gets no answer.
 use Rattle.std.specs.Prelude.{Some, None, List, [], ◌∷◌}
-use Rattle.seq_arith.specs.Profile.{plain}
+use Rattle.tcp_rules.specs.Profile.{plain}
 use Rattle.seq_arith.specs.Message.Body.{HelloMsg, SummaryMsg, ListMsg}
 use Rattle.ft_model.specs.Client.{Client}
 use Rattle.ft_model.specs.Node.{booted}

@@ -1,7 +1,7 @@
 -- A restart from a log with one entry: client 1 has sent "hello", one read has taken it, and the output isn't acknowledged. The runs with such a restart
 -- share the entry, the turns until all of it is fetched, and the connection then.
 use Rattle.std.specs.Prelude.{pos, true, false, None, [], ◌∷◌}
-use Rattle.seq_arith.specs.Profile.{plain}
+use Rattle.tcp_rules.specs.Profile.{plain}
 use Rattle.seq_arith.specs.Message.{EntryHead}
 use Rattle.seq_arith.specs.Message.Body.{SummaryMsg, ListMsg, EntryMsg, BytesMsg, PartMsg, CutsMsg, LensMsg}
 use Rattle.ft_model.specs.Point.{Point, blank_point}

@@ -1,7 +1,7 @@
 -- A crash loses a read: the first incarnation reads three bytes, and neither Data nor Read reaches the log before it crashes. The second one, to which the
 -- client sends all five bytes, reads them at once. The service's output shows the lengths of its reads.
 use Rattle.std.specs.Prelude.{ℕ, Bool, false, ◌==◌, Some, None, List, [], ◌∷◌, length}
-use Rattle.seq_arith.specs.Profile.{plain}
+use Rattle.tcp_rules.specs.Profile.{plain}
 use Rattle.seq_arith.specs.Message.Body.{HelloMsg, SummaryMsg, ListMsg, EntryMsg, DataMsg, StableMsg, ReadMsg, ReadsMsg}
 use Rattle.server_trait.specs.Service.{Served, Machine}
 use Rattle.ft_model.specs.Client.{Client}

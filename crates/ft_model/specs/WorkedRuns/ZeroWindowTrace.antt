@@ -1,7 +1,7 @@
 -- The complete run with a client without room: clients, log and server, from the boot to the output that is retransmitted. Twenty-five events, nineteen
 -- packets.
 use Rattle.std.specs.Prelude.{ℕ, codes, false, Some, None, List, [], ◌∷◌}
-use Rattle.seq_arith.specs.Profile.{plain}
+use Rattle.tcp_rules.specs.Profile.{plain}
 use Rattle.seq_arith.specs.Message.Body.{HelloMsg, SummaryMsg, OpenedMsg, StableMsg, ReadsMsg}
 use Rattle.ft_model.specs.Client.{Client}
 use Rattle.ft_model.specs.Network.Packet.{To_server}

@@ -1,6 +1,6 @@
 use Rattle.std.proofs.Common.{rules, refl, subst}
 use Rattle.server_trait.specs.Service.{machine}
-use Rattle.seq_arith.specs.Profile.{plain}
+use Rattle.tcp_rules.specs.Profile.{plain}
 use Rattle.ft_model.specs.News.News.{Begins as Becomes_live}
 use Rattle.ft_model.specs.Opening.{point_opened}
 use Rattle.connection_laws.specs.FirstSyn.{MayOpen}

@@ -1,5 +1,5 @@
 use Rattle.std.specs.Prelude.{length, ◌≡◌}
-use Rattle.seq_arith.specs.Early.{holds_some}
+use Rattle.tcp_rules.specs.Early.{holds_some}
 use Rattle.plain_packets.proofs.places.holds_some.Given as goal
 
 abbrev pub invariant-loop-place : goal.invariant-loop-place

@@ -1,5 +1,5 @@
 use Rattle.std.specs.Prelude.{◌≡◌, ◌≤◌, length}
-use Rattle.seq_arith.specs.Early.{laid}
+use Rattle.tcp_rules.specs.Early.{laid}
 use Rattle.plain_packets.proofs.places.lay_within.Given as goal
 
 abbrev pub invariant-loop-byte : goal.invariant-loop-byte

@@ -1,5 +1,5 @@
 use Rattle.std.specs.Prelude.{◌≡◌, ◌<◌, ℕ, ◌-◌, List, length}
-use Rattle.seq_arith.specs.Early.{laid}
+use Rattle.tcp_rules.specs.Early.{laid}
 use Rattle.plain_packets.proofs.places.pad.Given as goal
 
 abbrev pub invariant-loop-text : goal.invariant-loop-text

@@ -1,5 +1,5 @@
 use Rattle.std.specs.Prelude.{◌≡◌, ◌≤◌, ◌+◌, length, false}
-use Rattle.seq_arith.specs.Early.{runs_behind}
+use Rattle.tcp_rules.specs.Early.{runs_behind}
 use Rattle.plain_packets.proofs.places.run_count.Given as goal
 
 abbrev pub invariant-loop-place : goal.invariant-loop-place

@@ -1,5 +1,5 @@
 use Rattle.std.specs.Prelude.{length, ◌≡◌, ◌++◌}
-use Rattle.seq_arith.specs.Early.{front_run, behind_front_run}
+use Rattle.tcp_rules.specs.Early.{front_run, behind_front_run}
 use Rattle.plain_packets.proofs.places.take_front.Given as goal
 
 abbrev pub invariant-loop-place : goal.invariant-loop-place

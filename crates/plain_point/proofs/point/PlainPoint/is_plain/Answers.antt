@@ -1,5 +1,5 @@
 use Rattle.std.proofs.Common.{refl, subst}
-use Rattle.seq_arith.specs.Profile.{plain}
+use Rattle.tcp_rules.specs.Profile.{plain}
 use Rattle.ft_model.specs.Profiled.{HasProfile}
 use Rattle.plain_point.proofs.point.PlainPoint.is_plain.Goals as goal
 

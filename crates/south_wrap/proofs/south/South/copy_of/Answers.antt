@@ -2,7 +2,7 @@ use Rattle.std.proofs.Common.{◌≡◌, ◌&&◌, ◌||◌, ◌+ℤ◌, pos, mi
 use Rattle.std.proofs.lemmas.Int.{to_z-of_z}
 use mir.Syntax.{w64}
 use mir.Val.{SFits}
-use Rattle.seq_arith.specs.Arrival.{below, int_eq}
+use Rattle.tcp_rules.specs.Arrival.{below, int_eq}
 use Rattle.seq_arith.specs.Offset.{fin_of}
 use Rattle.ft_model.specs.Copy.{from_start}
 use Rattle.std.specs.Prelude.{IfOk, IfSome, is_some, Some, None, Option}

@@ -1,5 +1,5 @@
 use Rattle.std.proofs.Common.{ap, arith}
-use Rattle.seq_arith.specs.Early.{run_count}
+use Rattle.tcp_rules.specs.Early.{run_count}
 use Rattle.tcp_buffers.specs.Queue.{Queue}
 use Rattle.tcp_buffers.proofs.QueueFields.{run_count_shown}
 use Rattle.tcp_buffers.proofs.receive_queue.RecvQueue.few.Goals as goal

@@ -1,5 +1,5 @@
 use Rattle.std.proofs.Common.{ap, ◌∙◌, sym, drop}
-use Rattle.seq_arith.specs.Early.{front_run}
+use Rattle.tcp_rules.specs.Early.{front_run}
 use Rattle.tcp_buffers.specs.Queue.{Queue}
 use Rattle.tcp_buffers.proofs.Marked.{front_is_open}
 use Rattle.tcp_buffers.proofs.receive_queue.RecvQueue.has_gap.Goals as goal

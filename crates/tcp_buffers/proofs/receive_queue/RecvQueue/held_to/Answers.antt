@@ -1,6 +1,6 @@
 use Rattle.std.proofs.Common.{◌-◌, ap, ◌∙◌, sym, drop, length, length-drop}
 use Rattle.std.specs.Prelude.{nat_lt}
-use Rattle.seq_arith.specs.Early.{holds_some}
+use Rattle.tcp_rules.specs.Early.{holds_some}
 use Rattle.tcp_buffers.specs.Queue.{Queue}
 use Rattle.tcp_buffers.proofs.Marked.{marked_length}
 use Rattle.tcp_buffers.proofs.QueueFields.{held_up_to}

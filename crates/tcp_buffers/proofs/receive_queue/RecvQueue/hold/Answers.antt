@@ -1,6 +1,6 @@
 use Rattle.std.proofs.Common.{◌≡◌, ◌+◌, ◌<◌, ◌≤◌, true, ap, arith, length, ◌∙◌, [], sym, take, length-take, eqb-true}
 use Rattle.std.specs.Prelude.{nat_le}
-use Rattle.seq_arith.specs.Early.{laid, run_count}
+use Rattle.tcp_rules.specs.Early.{laid, run_count}
 use Rattle.tcp_buffers.specs.Queue.{Queue}
 use Rattle.tcp_buffers.proofs.Overwrites.{no_items}
 use Rattle.tcp_buffers.proofs.QueueFields.{held_so, none_laid, held_by, not_held_by, hold_counts, shown}

@@ -1,6 +1,6 @@
 use Rattle.std.proofs.Common.{◌-◌, arith}
 use Rattle.std.proofs.lemmas.Int.{ints}
-use Rattle.seq_arith.specs.Coming.{holds_fin}
+use Rattle.tcp_rules.specs.Coming.{holds_fin}
 use Rattle.tcp_endpoint.specs.ReceiveHalf.{taken}
 use Rattle.tcp_endpoint.proofs.receiver.Receiver.holds_fin.Goals.{then-place-receive_edge-via-then-place-receive_edge, then-place-receive_edge-via-else-place-receive_edge+then-place-taken}
 use Rattle.tcp_endpoint.proofs.receiver.Receiver.holds_fin.Goals as goal

@@ -1,7 +1,7 @@
 use Rattle.std.proofs.Common.{◌≡◌, ◌∙◌, ap, sym, subst, true, pos, ◌+ℤ◌, ◌&&◌, [], Some}
 use Rattle.ft_io.proofs.Booleans.{and_false}
 use Rattle.seq_arith.specs.Number.{offset_of}
-use Rattle.seq_arith.specs.Coming.{holds_fin, nothing_came}
+use Rattle.tcp_rules.specs.Coming.{holds_fin, nothing_came}
 use Rattle.tcp_endpoint.specs.ReceiveHalf.{Receiving, taken, receive_edge, with_segment}
 use Rattle.tcp_endpoint.proofs.Reassembly.{Makes, KeepsOf, no_fin, takes_fin, keeps_fin}
 use Rattle.tcp_endpoint.proofs.Steps.{held_by_number, held_number}

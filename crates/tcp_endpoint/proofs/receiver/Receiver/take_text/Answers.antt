@@ -1,6 +1,6 @@
 use Rattle.std.proofs.Common.{◌≡◌, ◌+◌, ◌∙◌, ap, sym, length, true, false, None}
 use Rattle.seq_arith.specs.Number.{offset_of}
-use Rattle.seq_arith.specs.Coming.{stands_at}
+use Rattle.tcp_rules.specs.Coming.{stands_at}
 use Rattle.tcp_endpoint.proofs.Reassembly.{Makes, fits_queue, is_put, text_ends, text_goes_on}
 use Rattle.tcp_endpoint.specs.contracts.receiver.Receiver.{the_view}
 use Rattle.tcp_endpoint.proofs.receiver.Receiver.take_text.Goals as goal

@@ -1,5 +1,5 @@
 use Rattle.std.proofs.Common.{◌≡◌, ℕ, ◌+◌, ◌%◌, ◌<◌, get_or}
-use Rattle.seq_arith.specs.Generator.{drawn}
+use Rattle.pseudorandom.specs.Generator.{drawn}
 use Rattle.test_data.specs.Draws.{state_after}
 use Rattle.test_data.proofs.draws.Draws.fill.Given as goal
 

@@ -3,7 +3,7 @@ use Rattle.segment_codec.specs.Value.{said}
 use Rattle.endpoint_laws.specs.Laws.{IsBounded}
 use Rattle.endpoint_laws.proofs.Bounding.{bounded_at_listen_measuring, bounded_is_short}
 use Rattle.tcp_endpoint.specs.Tcb.{listening_measuring}
-use Rattle.wrapped_conn.specs.Profiles.{profile_of}
+use Rattle.tcp_rules.specs.Profiles.{profile_of}
 use Rattle.wrapped_conn.specs.Sound.{IsSound}
 use Rattle.wrapped_conn.proofs.Begun.{first_is, first_sound}
 use Rattle.wrapped_conn.proofs.conn.Conn.open_in.Goals as goal

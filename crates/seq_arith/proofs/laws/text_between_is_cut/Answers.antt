@@ -1,5 +1,0 @@
-use Rattle.seq_arith.proofs.Texts.{text_between_is_cut}
-use Rattle.seq_arith.proofs.laws.text_between_is_cut.Goals as goal
-
-pub returns : goal.returns
-returns c = text_between_is_cut

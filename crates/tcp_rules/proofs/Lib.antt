@@ -1,0 +1,9 @@
+pub mod Coming
+pub mod ComingAlone
+pub mod ComingFins
+pub mod ComingKeeps
+pub mod ComingShifts
+pub mod Congested
+pub mod Shifts
+pub mod Texts
+pub mod Unmeasured

@@ -1,0 +1,30 @@
+//! What an operator chooses for a server or a client.
+
+ghost use Rattle.std.specs.Prelude.{◌≡◌};
+ghost use Rattle.tcp_rules.specs.Profiles.{profile_of};
+
+/// What an operator chooses for a server. It stays as long as the server's log.
+#[derive(Clone, Copy, Debug, PartialEq, Eq)]
+pub enum Profile {
+    /// Every retransmission timer starts with one tick, and every ACK is sent at once: for clients that are a few milliseconds away.
+    Plain,
+    /// The retransmission timer follows measured round trips, the losses of one flight are recovered one after another, and the ACK of what isn't logged yet
+    /// waits for the log: for clients beyond a wide-area network.
+    Wan,
+}
+
+impl Profile {
+    /// Whether TCP measures round trips, and recovers the losses of one flight one after another.
+    pub fn measures(self) -> bool
+        ensures { result ≡ (profile_of self).measures }
+    {
+        matches!(self, Profile::Wan)
+    }
+
+    /// Whether the ACK of what isn't logged yet waits for the log.
+    pub fn delays(self) -> bool
+        ensures { result ≡ (profile_of self).delays }
+    {
+        matches!(self, Profile::Wan)
+    }
+}
