@@ -28,10 +28,10 @@ has_key key e = key_eq e.key key
 abbrev pub AreKept : List (Key × Entry) → Type 0
 AreKept es = keys_of es ≡ map (λ e. e.key) (values_of es)
 
-first_kept : (e : Key × Entry) (es : List (Key × Entry)) → AreKept (e ∷ es) → e.0 ≡ e.1.key
+pub first_kept : (e : Key × Entry) (es : List (Key × Entry)) → AreKept (e ∷ es) → e.0 ≡ e.1.key
 first_kept e es kept = cc
 
-rest_kept : (e : Key × Entry) (es : List (Key × Entry)) → AreKept (e ∷ es) → AreKept es
+pub rest_kept : (e : Key × Entry) (es : List (Key × Entry)) → AreKept (e ∷ es) → AreKept es
 rest_kept e es kept = cc
 
 -- the map finds the entry of a key
@@ -66,7 +66,7 @@ others_stay key change (e ∷ es) kept none =
     ap₂ ◌∷◌ (ap (λ b. if b then change e.1 else e.1) other) (others_stay key change es (rest_kept e es kept) none.1)
 
 -- a look-up that finds nothing finds none of the keys
-none_found : (key : Key) (es : List (Key × Entry)) → lookup (key_eq key) es ≡ None → AllByRecursion (λ k. key_eq key k ≡ false) (keys_of es)
+pub none_found : (key : Key) (es : List (Key × Entry)) → lookup (key_eq key) es ≡ None → AllByRecursion (λ k. key_eq key k ≡ false) (keys_of es)
 none_found key [] e = tt
 none_found key (x ∷ es) e = go (key_eq key x.0) refl (none_found key es)
   where

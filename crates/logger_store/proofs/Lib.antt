@@ -2,6 +2,7 @@ pub mod Answers
 pub mod Changed
 pub mod Entries
 pub mod Places
+pub mod Removed
 pub mod Left
 pub mod Without
 pub mod LeftLogs

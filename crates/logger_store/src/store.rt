@@ -4,7 +4,8 @@ ghost use Rattle.std.specs.Prelude.{[], ◌≡◌, ◌≤◌, ◌<◌, ◌^◌, 
 ghost use Rattle.std.specs.Prelude.{slice_get, slice_index};
 ghost use Rattle.ft_model.specs.Log.{Entry, Log, log_after, answer_to, empty_log, opened, with_body, answer_from, is_hello, entry_of, with_entry};
 ghost use Rattle.ft_model.specs.Log.{with_part, with_read, head_of};
-ghost use Rattle.std.specs.Prelude.{◌||◌, nat_le};
+ghost use Rattle.std.specs.Prelude.{◌||◌, nat_le, not, map, filter};
+ghost use Rattle.ft_model.specs.Keys.{AreDistinct};
 ghost use Rattle.std.specs.List.{list_any};
 ghost use Rattle.ft_io.specs.Key.{key_eq};
 ghost use Rattle.seq_arith.specs.Message.Body.{OpenMsg, DataMsg, ReadMsg, DoneMsg};
@@ -142,6 +143,25 @@ impl LogStore {
         ensures { result ≡ list_any (λ e. key_eq e.key key) self.now.entries }
     {
         self.find(key).is_some()
+    }
+
+    /// The entry of a key, without its bytes and lengths; `None` exactly if the key has no entry. No two entries have the same key.
+    pub fn head_of(&self, key: Key) -> Option<EntryHead>
+        ensures value { option_map head_said result ≡ option_map head_of (entry_of key self.now) }
+        ensures apart { AreDistinct (map (λ e. e.key) self.now.entries) }
+    {
+        let place = self.entries.get_index_of(&key)?;
+        self.entry(place as u16)
+    }
+
+    /// Removes the entry of a key, if it has one. The others keep their order. Nothing is allocated.
+    pub fn remove(&mut self, key: Key)
+        ensures { self.new ≡ record self.old { entries = filter (λ e. not (key_eq e.key key)) self.old.entries } }
+    {
+        let Some(_place) = self.entries.get_index_of(&key) else {
+            return;
+        };
+        drop(self.entries.shift_remove(&key));
     }
 
     /// Whether no entry is added for a key: it has one, or the log is full.

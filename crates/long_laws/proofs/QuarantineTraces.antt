@@ -1,8 +1,9 @@
 -- A trace of a server with a quarantine is a long trace, and masked.
-use Rattle.std.proofs.Common.{◌≡◌, inl, inr, ⊎_elim, ℕ, zero, suc, ◌<◌, Bool, true, false, ◌&&◌, nat_lt, refl, sym, ap, ◌∙◌, subst, true≢false, append-nil, MatchBool, Option, Some, None, List, [], ◌∷◌, ◌++◌, slice_get}
+use Rattle.std.proofs.Common.{◌≡◌, inl, inr, ⊎_elim, ℕ, zero, suc, ◌<◌, ◌≤◌, arith, max, Bool, true, false, ◌&&◌, nat_lt, refl, sym, ap, ◌∙◌, subst, true≢false, append-nil, MatchBool, Option, Some, None, List, [], ◌∷◌, ◌++◌, slice_get, if◌then◌else◌}
 use Rattle.std.specs.List.{AllByRecursion}
 use Rattle.server_trait.specs.Service.{Machine}
 use Rattle.ft_io.specs.declared.Key.{Key}
+use Rattle.ft_io.specs.Key.{key_eq}
 use Rattle.ft_model.specs.Masked.{AcknowledgesLogged, RestartIsExact, is_restarting}
 use Rattle.ft_model.specs.Network.{Packet}
 use Rattle.ft_model.specs.Node.{Node, Stage, Input, pending_count}
@@ -13,22 +14,22 @@ use Rattle.ft_model.specs.Opening.{numbers_for}
 use Rattle.ft_model.specs.Point.{Point}
 use Rattle.ft_model.specs.ServingTurn.{is_strange}
 use Rattle.seq_arith.specs.Message.{Message}
-use Rattle.ft_io.proofs.Choices.{if_false}
+use Rattle.ft_io.proofs.Choices.{if_false, holds_if}
 use Rattle.ft_model.specs.World.{World, IsStart}
 use Rattle.ft_model.specs.declared.event.Event.{Event}
 use Rattle.ft_model.proofs.Exact.{same_exact}
-use Rattle.ft_model.proofs.Lists.{none_is_some}
+use Rattle.ft_model.proofs.Lists.{all_weaker, all_append, all_map, all_find, none_is_some}
 use Rattle.ft_model.proofs.Running.{HasSmallOutputs}
-use Rattle.long_laws.specs.Forgetting.{ForgetMessage}
+use Rattle.long_laws.specs.Forgetting.{ForgetMessage, forget}
 use Rattle.long_laws.specs.LongTrace.{LongWorld, LongStep, last_rst, MayForget}
 use Rattle.long_laws.specs.LongTrace.LongStep.{Joint_event, Recycles, Forgets, Arrives, Lets_go, Keeps_alive}
-use Rattle.long_laws.specs.Quarantine.{Quarantined, quarantine_after, forgets, taken_away}
+use Rattle.long_laws.specs.Quarantine.{Quarantined, quarantined_at, quarantine_after, forgets, early, ended_early, taken_away}
 use Rattle.long_laws.specs.QuarantineWorld.{QuarantineWorld, QuarantineStep, QuarantineMoment, MayQuarantine, without_at, QuarantineJoint, Usually, seen, event_input, step_input, quarantine_then, forgets_then, drops, is_by_message, IsFresh, new_places, new_places_then, after_forget_came, after_forgotten_came, after_moments, IsLongStep, AreLongSteps, IsRefusal, DropsSilently, is_full_input, AreMaskedMoments, IsRecycling}
-use Rattle.long_laws.specs.QuarantineWorld.QuarantineStep.{Usual, To_log, To_node, Is_lost}
+use Rattle.long_laws.specs.QuarantineWorld.QuarantineStep.{Usual, To_log, To_node, Is_lost, Ends_early}
 use Rattle.long_laws.proofs.Long.{AllSaw, Passed, passed}
 use Rattle.long_laws.proofs.QuarantineEvents.{Elsewhere, Went, went, SaysNothing}
 use Rattle.long_laws.proofs.QuarantineEvents.Went.{took_turn, was_elsewhere, has_booted, is_down}
-use Rattle.long_laws.proofs.QuarantineKept.{Keeps, IsOfServer, NoteHolds, all_fresh, elsewhere_kept, turned_same, turned_kept, booted_kept, down_kept}
+use Rattle.long_laws.proofs.QuarantineKept.{Keeps, Rests, IsOfServer, NoteHolds, all_fresh, elsewhere_kept, turned_same, turned_kept, booted_kept, down_kept}
 use Rattle.long_laws.proofs.QuarantineMessages.{KeepsAll, forget_came, forgotten_came, changes, older_than_restart, may_forget, takes_away}
 use Rattle.long_laws.proofs.Refusals.{full_forgets, full_refuses, stands_without_refusals}
 use Rattle.long_laws.proofs.Stands.{Stands, at_start, sees_front, all_told}
@@ -80,6 +81,25 @@ lost_kept w notes qs number k = record {
   rests = k.rests;
   holds = λ n e. all_without_at (NoteHolds w n) number notes (k.holds n e);
 }
+
+-- a quarantine ends early
+early_rests : (w : World) (node : Node) (wait : ℕ) (key : Key) (q : Quarantined) → Rests w node q → Rests w node (early wait key q)
+early_rests w node wait key q r = holds_if (Rests w node) (key_eq q.named.key key) (record q { age = max wait q.age }) q (λ t. r) (λ t. r)
+
+early_kept : {State : Type 0} (service : Machine State) (w : World) (notes : List ForgetMessage) (qs : List Quarantined) (wait : ℕ) (key : Key) (node : Node) (q : Quarantined)
+    → Stands service w → w.node ≡ Some node → quarantined_at key qs ≡ Some q → Keeps w notes qs
+    → Keeps w (notes ++ forget node.boot q.named ∷ []) (ended_early wait key qs)
+early_kept service w notes qs wait key node q o up found k =
+    let own : node.boot ≡ w.boot = (o.fenced.node node up).boot in
+    let low : node.boot ≤ w.boot = omega (arith, own) in
+    record {
+      of_servers = all_append (IsOfServer w) notes (forget node.boot q.named ∷ []) k.of_servers ((low, k.hello_said node up), tt);
+      hello_said = k.hello_said;
+      rests = λ n e. all_map (Rests w n) (early wait key) qs
+          (all_weaker (Rests w n) (λ x. Rests w n (early wait key x)) qs (λ x r. early_rests w n wait key x r) (k.rests n e));
+      holds = λ n e. all_append (NoteHolds w n) notes (forget node.boot q.named ∷ []) (k.holds n e)
+          (λ same. inl (all_find (Rests w n) (λ x. key_eq x.named.key key) qs q (k.rests n e) found), tt);
+    }
 
 -- no server, no quarantine
 kept_down : (w : World) (notes : List ForgetMessage) (qs rs : List Quarantined) → w.node ≡ None → Keeps w notes qs → Keeps w notes rs
@@ -282,6 +302,10 @@ module _ {State : Type 0} (service : Machine State) (small : HasSmallOutputs ser
       (subst (λ x. Goes before x (after_forgotten_came message before)) (sym s) (forgotten_came service before k number message there))
   moment_goes before after (Is_lost number) sent o past k (s, is) =
       (inl (s, ap seen is), subst KeepsAll (sym is) (lost_kept before.now before.notes before.quarantine number k))
+  moment_goes before after (Ends_early key) sent o past k (s, e) = (
+    inl (s, ap seen e.after_is),
+    subst KeepsAll (sym e.after_is) (early_kept service before.now before.notes before.quarantine wait key e.node e.quarantined o e.up e.found k),
+  )
 
   -- A trace
 

@@ -1,5 +1,5 @@
 -- What is done is in quarantine, in every trace.
-use Rattle.std.proofs.Common.{◌≡◌, ◌⊎◌, inl, inr, ⊎_elim, ℕ, Bool, true, false, ◌==◌, ◌&&◌, ◌||◌, nat_lt, MatchBool, refl, sym, ap, ◌∙◌, subst, true≢false, eq-eqb, find, is_some, option_map, flat_map, Option, Some, None, List, [], ◌∷◌, ◌++◌, map, slice_get}
+use Rattle.std.proofs.Common.{◌≡◌, ◌⊎◌, inl, inr, ⊎_elim, ℕ, Bool, true, false, ◌==◌, ◌&&◌, ◌||◌, nat_lt, max, MatchBool, refl, sym, ap, ◌∙◌, subst, true≢false, eq-eqb, find, is_some, option_map, flat_map, Option, Some, None, List, [], ◌∷◌, ◌++◌, map, slice_get}
 use Rattle.std.proofs.lemmas.List.Folds.{list_any-append}
 use Rattle.std.proofs.lemmas.Bool.{or_right}
 use Rattle.std.specs.List.{AllByRecursion}
@@ -35,9 +35,9 @@ use Rattle.long_laws.specs.Forgetting.{Named, ForgetAnswer, answer_to_forget}
 use Rattle.long_laws.specs.Forgetting.ForgetAnswer.{About_forgetting, Of_log}
 use Rattle.long_laws.specs.LongTrace.{LongStep, others, places_at, stage_without}
 use Rattle.long_laws.specs.LongTrace.LongStep.{Joint_event, Recycles, Forgets, Arrives, Lets_go, Keeps_alive}
-use Rattle.long_laws.specs.Quarantine.{Quarantined, aged, named_point, named_head, named_place, or_nothing, fetched_now, named_in, quarantined_at, goes_on_or_begins, quarantine_of, quarantine_after, taken_away}
+use Rattle.long_laws.specs.Quarantine.{Quarantined, aged, named_point, named_head, named_place, or_nothing, fetched_now, named_in, quarantined_at, goes_on_or_begins, quarantine_of, quarantine_after, ended_early, taken_away}
 use Rattle.long_laws.specs.QuarantineWorld.{QuarantineWorld, QuarantineStep, QuarantineMoment, MayQuarantine, QuarantineJoint, Usually, DropsSilently, event_input, step_input, quarantine_then, drops, is_full_input, is_by_message, recycled_by, recycled_world, with_answer, without_place, after_moments, IsHeld, AllAreHeld}
-use Rattle.long_laws.specs.QuarantineWorld.QuarantineStep.{Usual, To_log, To_node, Is_lost}
+use Rattle.long_laws.specs.QuarantineWorld.QuarantineStep.{Usual, To_log, To_node, Is_lost, Ends_early}
 use Rattle.long_laws.proofs.Forgotten.{Was, was}
 use Rattle.long_laws.proofs.Others.{all_others}
 use Rattle.long_laws.proofs.QuarantineEvents.{Went, went}
@@ -370,6 +370,18 @@ away_has (Some key) w h = λ node e.
     let b : Was key w.now.node node = was key w.now.node node e in
     subst (λ n. AllByRecursion (HasIts (others (λ q. key_eq q.named.key key) w.quarantine)) (places_at n.stage)) (sym b.is) (stage_left key w.quarantine b.node.stage (h b.node b.up))
 
+-- a quarantine that ends early is still there
+early_keys : (wait : ℕ) (key : Key) (qs : List Quarantined) → map its_key (ended_early wait key qs) ≡ map its_key qs
+early_keys wait key [] = refl
+early_keys wait key (q ∷ qs) =
+    holds_if (λ x. map its_key (x ∷ ended_early wait key qs) ≡ map its_key (q ∷ qs)) (key_eq q.named.key key) (record q { age = max wait q.age }) q
+    (λ t. ap (λ ks. q.named.key ∷ ks) (early_keys wait key qs)) (λ t. ap (λ ks. q.named.key ∷ ks) (early_keys wait key qs))
+
+early_its : (wait : ℕ) (key : Key) (qs : List Quarantined) (place : Place) → HasIts qs place → HasIts (ended_early wait key qs) place
+early_its wait key qs (Ended k) h = subst (λ ks. has_key k ks ≡ true) (sym (early_keys wait key qs)) h
+early_its wait key qs (Lives p) h = tt
+early_its wait key qs (Opens n) h = tt
+
 module _ {State : Type 0} (service : Machine State) (small : HasSmallOutputs service) (wait : ℕ) where
   step_has : (before after : QuarantineWorld) (step : QuarantineStep) (sent : List Packet) → Stands service before.now → AllHave before.now before.quarantine
       → MayQuarantine service wait before step sent after → AllHave after.now after.quarantine
@@ -382,6 +394,9 @@ module _ {State : Type 0} (service : Machine State) (small : HasSmallOutputs ser
   step_has before after (To_node number) sent o h (message, there, s, is) =
       subst (λ w. AllHave w.now w.quarantine) (sym is) (away_has (taken_away before.now.node message before.quarantine) before h)
   step_has before after (Is_lost number) sent o h (s, is) = subst (λ w. AllHave w.now w.quarantine) (sym is) h
+  step_has before after (Ends_early key) sent o h (s, e) =
+      subst (λ w. AllHave w.now w.quarantine) (sym e.after_is)
+      (λ node up. all_weaker (HasIts before.quarantine) (HasIts (ended_early wait key before.quarantine)) (places_at node.stage) (early_its wait key before.quarantine) (h node up))
 
   all_have : (start : World) (trace : List QuarantineMoment) → QuarantineJoint service wait start trace → AllHave (after_moments start trace).now (after_moments start trace).quarantine
   all_have start [] j = λ node e. none_is_some node (sym j.node ∙ e)

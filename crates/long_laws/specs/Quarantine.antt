@@ -1,6 +1,6 @@
 -- Quarantine: a server keeps the place of a connection that is done for `wait` ticks, until no packet of the connection is under way any more (RFC 9293, 3.6.1,
 -- TIME-WAIT; RFC 791, 3.2: the time to live). Then it has the log recycle the entry, and forgets the key.
-use Rattle.std.specs.Prelude.{◌≡◌, ◌⊎◌, ◌≤◌, ℕ, ◌+◌, ◌==◌, ◌&&◌, nat_le, Bool, false, map, if◌then◌else◌, find, Option, Some, None, option_map, List, [], ◌∷◌, filter}
+use Rattle.std.specs.Prelude.{◌≡◌, ◌⊎◌, ◌≤◌, ℕ, ◌+◌, ◌==◌, ◌&&◌, nat_le, max, Bool, false, map, if◌then◌else◌, find, Option, Some, None, option_map, List, [], ◌∷◌, filter}
 use Rattle.std.specs.List.{list_any, flat_map}
 use Rattle.ft_io.specs.declared.Addr.{Addr}
 use Rattle.ft_io.specs.declared.Key.{Key}
@@ -90,6 +90,13 @@ forgets wait boot Tick_comes qs = map (λ q. forget boot q.named) (filter (is_le
 forgets wait boot (Packet_comes segment) qs = []
 forgets wait boot (Message_comes message) qs = []
 forgets wait boot Noise_comes qs = []
+
+-- A server may end a quarantine early, when it learns that the client has a new connection (RFC 9293, 3.6.1): from then on the old one is leaving
+abbrev pub early : (wait : ℕ) → Key → Quarantined → Quarantined
+early wait key q = if key_eq q.named.key key then record q { age = max wait q.age } else q
+
+abbrev pub ended_early : (wait : ℕ) → Key → List Quarantined → List Quarantined
+ended_early wait key qs = map (early wait key) qs
 
 -- a segment of a connection that is leaving is dropped: no RST answers it. So a new client's SYN is merely lost, and its repetition opens
 abbrev pub is_dropped : (wait : ℕ) → Addr → Input → List Quarantined → Bool

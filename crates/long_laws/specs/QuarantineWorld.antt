@@ -24,13 +24,13 @@ use Rattle.ft_model.specs.Wire.{wire_of}
 use Rattle.ft_model.specs.World.{World, IsStart, segment_or_noise, message_or_noise}
 use Rattle.ft_model.specs.declared.event.Event.{Event}
 use Rattle.ft_model.specs.declared.event.Event.TheVariants.{Tick, Deliver, Flip}
-use Rattle.long_laws.specs.Forgetting.{Named, ForgetBody, ForgetMessage, is_recycled, ForgetAnswer, after_forget, answer_to_forget, named_of}
+use Rattle.long_laws.specs.Forgetting.{Named, ForgetBody, ForgetMessage, is_recycled, ForgetAnswer, after_forget, answer_to_forget, named_of, forget}
 use Rattle.long_laws.specs.Forgetting.ForgetBody.{ForgetMsg, ForgottenMsg}
 use Rattle.long_laws.specs.Forgetting.ForgetAnswer.{About_forgetting, Of_log}
 use Rattle.long_laws.specs.LongResets.{says_full}
 use Rattle.long_laws.specs.LongTrace.{others, places_at, without_entry, recycled, MayRecycle, forgotten, Gone, gone_with, LongWorld, LongStep, MayPass, IsMaskedMoment}
 use Rattle.long_laws.specs.LongTrace.LongStep.{Joint_event, Recycles, Forgets}
-use Rattle.long_laws.specs.Quarantine.{Quarantined, quarantined_at, quarantine_after, forgets, is_dropped, taken_away}
+use Rattle.long_laws.specs.Quarantine.{Quarantined, quarantined_at, quarantine_after, forgets, ended_early, is_dropped, taken_away}
 
 pub record QuarantineWorld : Type 0 where
   pub now : World
@@ -163,6 +163,14 @@ without_place None w = w
 abbrev pub after_forgotten_came : ForgetMessage → QuarantineWorld → QuarantineWorld
 after_forgotten_came message w = without_place (taken_away w.now.node message w.quarantine) w
 
+-- The server ends the quarantine of a key early: a Forget goes out at once
+pub record EndsEarly (wait : ℕ) (key : Key) (before after : QuarantineWorld) : Type 0 where
+  pub node : Node
+  pub up : before.now.node ≡ Some node
+  pub quarantined : Quarantined
+  pub found : quarantined_at key before.quarantine ≡ Some quarantined
+  pub after_is : after ≡ record before { notes = before.notes ++ forget node.boot quarantined.named ∷ []; quarantine = ended_early wait key before.quarantine }
+
 -- a list without the item with this number
 abbrev pub without_at : {A : Type 0} → ℕ → List A → List A
 without_at number [] = []
@@ -174,6 +182,7 @@ pub data QuarantineStep : Type 0 where
   To_log : (number : ℕ) → QuarantineStep  -- the message about forgetting with this number, from 0, reaches the log
   To_node : (number : ℕ) → QuarantineStep  -- .. or the server
   Is_lost : (number : ℕ) → QuarantineStep  -- .. or is lost, and comes no more
+  Ends_early : Key → QuarantineStep  -- the server ends a quarantine before its time
 
 abbrev pub MayQuarantine : {State : Type 0} → Machine State → (wait : ℕ) → QuarantineWorld → QuarantineStep → List Packet → QuarantineWorld → Type 0
 MayQuarantine service wait before (Usual step) sent after =
@@ -186,6 +195,7 @@ MayQuarantine service wait before (To_log number) sent after =
 MayQuarantine service wait before (To_node number) sent after =
     (message : ForgetMessage) × (slice_get before.notes number ≡ Some message) × (sent ≡ []) × (after ≡ after_forgotten_came message before)
 MayQuarantine service wait before (Is_lost number) sent after = (sent ≡ []) × (after ≡ record before { notes = without_at number before.notes })
+MayQuarantine service wait before (Ends_early key) sent after = (sent ≡ []) × EndsEarly wait key before after
 
 pub record QuarantineMoment : Type 0 where
   pub step : QuarantineStep

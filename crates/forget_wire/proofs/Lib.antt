@@ -1,0 +1,2 @@
+pub mod ForgetRead
+pub mod ForgetWritten

@@ -1,0 +1,4 @@
+pub mod Watching
+pub mod Closing
+pub mod LastingTurn
+pub mod WorkedSilence

@@ -1,0 +1,57 @@
+//! A server that lasts: the law of its turn, as definitions, and what follows from it. It keeps what is done in quarantine, has it recycled and forgets it, and it
+//! watches its clients: it asks a silent one for a sign of life, and lets go of one that is gone. Nothing here runs; each function is a theorem.
+#![tactic(auto)]
+
+ghost use Rattle.std.specs.Prelude.{◌≡◌, ◌<◌, ◌≤◌, ◌+◌, ◌*◌, ℕ, true, false, [], ◌∷◌, Some, None};
+ghost use Rattle.ft_io.specs.declared.Key.{Key};
+ghost use Rattle.seq_arith.specs.Packet.{Segment};
+ghost use Rattle.ft_model.specs.Node.{Node};
+ghost use Rattle.ft_model.specs.Node.Input.{Packet_comes, Message_comes, Tick_comes};
+ghost use Rattle.ft_model.specs.Point.{Point};
+ghost use Rattle.ft_model.specs.ServingTurn.{concerns};
+ghost use Rattle.seq_arith.specs.Message.{Message};
+ghost use Rattle.lasting_laws.specs.Watching.Origin.{Opened_here, Restored_empty, Restored};
+ghost use Rattle.lasting_laws.specs.WorkedSilence.{open_point, half_open_point, asked_at, let_go_at};
+ghost use Rattle.lasting_laws.specs.Watching.{Watch, watched, is_half_open, is_unheard, is_let_go, is_asked};
+
+/// A connection that is neither half-open nor restored empty and unheard is let go of only after its client was silent for twice the threshold; never without a
+/// threshold, and never once it is reset.
+pub fn established_connections_are_let_go_after_silence()
+    ensures silent { (silence : ℕ) (w : Watch) (p : Point) → is_half_open w p ≡ false → is_unheard w.origin ≡ false → is_let_go silence w p ≡ true
+        → (0 < silence) × (2 * silence ≤ w.silent) }
+    ensures reset { (silence : ℕ) (w : Watch) (p : Point) → p.reset ≡ true → is_let_go silence w p ≡ false }
+{}
+
+/// Only ticks count as silence, each as one, and a packet of the client ends it.
+pub fn silence_is_counted_in_ticks()
+    ensures heard { (node : Node) (segment : Segment) (key : Key) (w : Watch) → concerns node (Packet_comes segment) key ≡ true
+        → ((watched node (Packet_comes segment) key w).silent ≡ 0) × (is_unheard (watched node (Packet_comes segment) key w).origin ≡ false) }
+    ensures others { (node : Node) (segment : Segment) (key : Key) (w : Watch) → concerns node (Packet_comes segment) key ≡ false
+        → watched node (Packet_comes segment) key w ≡ w }
+    ensures messages { (node : Node) (message : Message) (key : Key) (w : Watch) → watched node (Message_comes message) key w ≡ w }
+    ensures ticks { (node : Node) (key : Key) (w : Watch) → (watched node Tick_comes key w).silent ≤ w.silent + 1 }
+{}
+
+/// A half-open connection is let go of at its 250th tick and not before, whatever the threshold is, and is sent no keep-alive.
+pub fn half_open_connections_are_let_go()
+    ensures late { (silence : ℕ) (w : Watch) (p : Point) → is_half_open w p ≡ true → p.reset ≡ false → 250 ≤ w.age → is_let_go silence w p ≡ true }
+    ensures early { (silence : ℕ) (w : Watch) (p : Point) → is_half_open w p ≡ true → w.age < 250 → is_let_go silence w p ≡ false }
+    ensures unasked { (silence : ℕ) (w : Watch) (p : Point) → is_half_open w p ≡ true → is_asked silence w p ≡ false }
+{}
+
+/// Worked: with a threshold of 16 ticks a silent client is asked at every second tick from the 16th to the 30th, and let go of at the 32nd; with one of 5, which
+/// is below 8, at each tick from the 5th to the 9th, and let go of at the 10th. Without a threshold nothing happens to it.
+pub fn worked_silences()
+    ensures sixteen { asked_at 16 Opened_here open_point 32 ≡ 16 ∷ 18 ∷ 20 ∷ 22 ∷ 24 ∷ 26 ∷ 28 ∷ 30 ∷ [] }
+    ensures then_gone { let_go_at 16 Opened_here open_point 40 ≡ Some 32 }
+    ensures five { asked_at 5 Restored open_point 12 ≡ 5 ∷ 6 ∷ 7 ∷ 8 ∷ 9 ∷ [] }
+    ensures soon_gone { let_go_at 5 Restored open_point 12 ≡ Some 10 }
+    ensures never { (asked_at 0 Restored open_point 300 ≡ []) × (let_go_at 0 Restored open_point 300 ≡ None) }
+{}
+
+/// Worked: whatever the threshold, a half-open connection is let go of at the 250th tick, unasked; and one that may be half-open is asked at each fiftieth tick
+/// before.
+pub fn worked_half_open_connections()
+    ensures half_open { (asked_at 5 Opened_here half_open_point 250 ≡ []) × (let_go_at 5 Opened_here half_open_point 260 ≡ Some 250) }
+    ensures empty { (asked_at 5 Restored_empty open_point 260 ≡ 50 ∷ 100 ∷ 150 ∷ 200 ∷ []) × (let_go_at 5 Restored_empty open_point 260 ≡ Some 250) }
+{}
