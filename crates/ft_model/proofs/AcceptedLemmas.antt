@@ -7,10 +7,11 @@ use Rattle.std.proofs.lemmas.Bool.{ltb-true, leb-true, leb-false}
 use Rattle.std.proofs.lemmas.List.{append-nil}
 use Rattle.std.proofs.lemmas.Option.{cond_some}
 use Rattle.ft_io.specs.declared.Addr.{Addr}
+use Rattle.tcp_rules.specs.declared.profile.Profile.{Profile}
 use Rattle.ft_model.specs.Words.{words_of, lines_of}
 use Rattle.ft_model.specs.Spelling.{numeral, number_of, within, addr_of, is_hex, hex_bytes, script_of}
 use Rattle.ft_model.specs.Grammar.Refusal.{TooLong}
-use Rattle.ft_model.specs.Grammar.{◌>>=◌, line_of, line_of_words, line_behind, line_from, may_stand, may_join, keyword_of, verb_of, names_no_service, is_printable, client_line, free_address, is_taken, service_line, server_line, bare_line, marks_line, has_only_server, event_line, client_number, long_number, Objection, no_objection, unless_objected, after_line, read_lines, read_with, read_text, with_line, is_passed_over, is_too_much, at_line}
+use Rattle.ft_model.specs.Grammar.{◌>>=◌, line_of, line_of_words, line_behind, line_from, may_stand, may_join, keyword_of, verb_of, is_misnamed, is_printable, client_line, free_address, is_taken, service_line, server_line, bare_line, profile_line, marks_line, has_only_server, event_line, client_number, long_number, Objection, no_objection, unless_objected, after_line, read_lines, read_with, read_text, with_line, is_passed_over, is_too_much, at_line}
 use Rattle.ft_model.specs.Accepted.{AreApart, IsAccepted}
 use Rattle.ft_model.specs.Schedule.{bytes_of}
 use Rattle.ft_model.specs.declared.event.Event.{Event}
@@ -63,7 +64,7 @@ unfolding line_behind
 passes_words draft text [] l e f = absurd (cc)
 passes_words draft text (word ∷ words) l e f =
     let at = bind_ok (ok_or (keyword_of word) why.Word) (λ k. line_behind draft k words) l f in
-    let named = unless (names_no_service at.0 words) why.Word (cond (may_stand draft at.0 words) (line_from draft at.0 words) (Err why.Place)) l at.2 in
+    let named = unless (is_misnamed at.0 words) why.Word (cond (may_stand draft at.0 words) (line_from draft at.0 words) (Err why.Place)) l at.2 in
     let placed = provided (may_stand draft at.0 words) why.Place (line_from draft at.0 words) l named.1 in
     record {
       word = word;
@@ -89,6 +90,7 @@ bare_says own (word ∷ more) said other e = absurd (cc)
 says_event : (draft : Draft) (k : Keyword) (words : List (List ℕ)) (e : Event) → line_from draft k words ≡ Ok (line.Event e) → (v : Verb) × (k ≡ keyword.Event v)
 says_event draft keyword.Service words e h = let b = bind_ok (service_line words) (λ kind. Ok (line.Service kind)) (line.Event e) h in absurd (cc b.2)
 says_event draft keyword.Server words e h = let b = bind_ok (server_line words) (λ addr. Ok (line.Server addr)) (line.Event e) h in absurd (cc b.2)
+says_event draft keyword.Profile words e h = let b = bind_ok (profile_line words) (λ profile. Ok (line.Profile profile)) (line.Event e) h in absurd (cc b.2)
 says_event draft keyword.Twin words e h = absurd (bare_says line.Twin words (line.Event e) (λ f. cc) h)
 says_event draft keyword.Marks words e h = let b = bind_ok (marks_line words) (λ every. Ok (line.Marks every)) (line.Event e) h in absurd (cc b.2)
 says_event draft keyword.Client words e h = let b = bind_ok (client_line draft words) (λ client. Ok (line.Client client)) (line.Event e) h in absurd (cc b.2)
@@ -97,6 +99,7 @@ says_event draft (keyword.Event v) words e h = (v, refl)
 pub says_client : (draft : Draft) (k : Keyword) (words : List (List ℕ)) (c : ClientLine) → line_from draft k words ≡ Ok (line.Client c) → (k ≡ keyword.Client) × (client_line draft words ≡ Ok c)
 says_client draft keyword.Service words c h = let b = bind_ok (service_line words) (λ kind. Ok (line.Service kind)) (line.Client c) h in absurd (cc b.2)
 says_client draft keyword.Server words c h = let b = bind_ok (server_line words) (λ addr. Ok (line.Server addr)) (line.Client c) h in absurd (cc b.2)
+says_client draft keyword.Profile words c h = let b = bind_ok (profile_line words) (λ profile. Ok (line.Profile profile)) (line.Client c) h in absurd (cc b.2)
 says_client draft keyword.Twin words c h = absurd (bare_says line.Twin words (line.Client c) (λ f. cc) h)
 says_client draft keyword.Marks words c h = let b = bind_ok (marks_line words) (λ every. Ok (line.Marks every)) (line.Client c) h in absurd (cc b.2)
 says_client draft keyword.Client words c h = let b = bind_ok (client_line draft words) (λ client. Ok (line.Client client)) (line.Client c) h in (refl, (cc (b.1, b.2)))
@@ -112,7 +115,7 @@ verb_in None v e = absurd (cc)
 
 verb_behind : (word : List ℕ) (v : Verb) → keyword_of word ≡ Some (keyword.Event v) → verb_of word ≡ Some v
 unfolding keyword_of
-verb_behind word v e = verb_in (verb_of word) v (another _ keyword.Client (keyword.Event v) _ (λ h. cc) (another _ keyword.Marks (keyword.Event v) _ (λ h. cc) (another _ keyword.Twin (keyword.Event v) _ (λ h. cc) (another _ keyword.Server (keyword.Event v) _ (λ h. cc) (another _ keyword.Service (keyword.Event v) _ (λ h. cc) e)))))
+verb_behind word v e = verb_in (verb_of word) v (another _ keyword.Client (keyword.Event v) _ (λ h. cc) (another _ keyword.Marks (keyword.Event v) _ (λ h. cc) (another _ keyword.Twin (keyword.Event v) _ (λ h. cc) (another _ keyword.Profile (keyword.Event v) _ (λ h. cc) (another _ keyword.Server (keyword.Event v) _ (λ h. cc) (another _ keyword.Service (keyword.Event v) _ (λ h. cc) e))))))
 
 -- A script has at most 2^24 bytes.
 half : (digits : List ℕ) → 2 * length (hex_bytes digits) ≤ length digits
@@ -216,6 +219,7 @@ with_event s e h room = record {
 says_twin : (draft : Draft) (k : Keyword) (words : List (List ℕ)) → line_from draft k words ≡ Ok line.Twin → k ≡ keyword.Twin
 says_twin draft keyword.Service words h = let b = bind_ok (service_line words) (λ kind. Ok (line.Service kind)) line.Twin h in absurd (cc b.2)
 says_twin draft keyword.Server words h = let b = bind_ok (server_line words) (λ addr. Ok (line.Server addr)) line.Twin h in absurd (cc b.2)
+says_twin draft keyword.Profile words h = let b = bind_ok (profile_line words) (λ profile. Ok (line.Profile profile)) line.Twin h in absurd (cc b.2)
 says_twin draft keyword.Twin words h = refl
 says_twin draft keyword.Marks words h = let b = bind_ok (marks_line words) (λ every. Ok (line.Marks every)) line.Twin h in absurd (cc b.2)
 says_twin draft keyword.Client words h = let b = bind_ok (client_line draft words) (λ client. Ok (line.Client client)) line.Twin h in absurd (cc b.2)
@@ -225,6 +229,7 @@ pub says_marks : (draft : Draft) (k : Keyword) (words : List (List ℕ)) (every 
     → (k ≡ keyword.Marks) × (marks_line words ≡ Ok every)
 says_marks draft keyword.Service words every h = let b = bind_ok (service_line words) (λ kind. Ok (line.Service kind)) (line.Marks every) h in absurd (cc b.2)
 says_marks draft keyword.Server words every h = let b = bind_ok (server_line words) (λ addr. Ok (line.Server addr)) (line.Marks every) h in absurd (cc b.2)
+says_marks draft keyword.Profile words every h = let b = bind_ok (profile_line words) (λ profile. Ok (line.Profile profile)) (line.Marks every) h in absurd (cc b.2)
 says_marks draft keyword.Twin words every h = absurd (bare_says line.Twin words (line.Marks every) (λ f. cc) h)
 says_marks draft keyword.Marks words every h = let b = bind_ok (marks_line words) (λ x. Ok (line.Marks x)) (line.Marks every) h in (refl, cc (b.1, b.2))
 says_marks draft keyword.Client words every h = let b = bind_ok (client_line draft words) (λ client. Ok (line.Client client)) (line.Marks every) h in absurd (cc b.2)
@@ -250,6 +255,16 @@ is_single s h = not_true s.twin (right_true _ _ (left_true _ _ h))
 is_unmarked : (s : Schedule) → has_only_server s ≡ true → is_none s.marks ≡ true
 unfolding has_only_server
 is_unmarked s h = right_true _ _ h
+
+with_profile : (s : Schedule) (profile : Profile) → IsAccepted s → IsAccepted (record s { profile = profile })
+unfolding is_taken
+with_profile s profile h = record {
+  clients = h.clients;
+  addresses = h.addresses;
+  scripts = h.scripts;
+  events = h.events;
+  marks = h.marks;
+}
 
 with_pair : (s : Schedule) → IsAccepted s → is_none s.marks ≡ true → IsAccepted (record s { twin = true })
 unfolding is_taken
@@ -287,18 +302,21 @@ room_for_event s text word words v e f h = leb-false _ _ (not_both _ _ h (rw (e,
 line_kept : (draft : Draft) (text : List ℕ) (l : Line) → Kept draft → is_too_much draft text ≡ false → Passes draft text l → Kept (with_line draft l)
 line_kept Empty text (line.Service kind) h few p = tt
 line_kept Empty text (line.Server addr) h few p = tt
+line_kept Empty text (line.Profile profile) h few p = tt
 line_kept Empty text line.Twin h few p = tt
 line_kept Empty text (line.Marks every) h few p = tt
 line_kept Empty text (line.Client c) h few p = tt
 line_kept Empty text (line.Event e) h few p = tt
 line_kept (Named kind) text (line.Service name) h few p = tt
 line_kept (Named kind) text (line.Server addr) h few p = record { clients = omega arith; addresses = tt; scripts = tt; events = omega arith; marks = λ every e. absurd (cc) }
+line_kept (Named kind) text (line.Profile profile) h few p = tt
 line_kept (Named kind) text line.Twin h few p = tt
 line_kept (Named kind) text (line.Marks every) h few p = tt
 line_kept (Named kind) text (line.Client c) h few p = tt
 line_kept (Named kind) text (line.Event e) h few p = tt
 line_kept (Begun s) text (line.Service kind) h few p = h
 line_kept (Begun s) text (line.Server addr) h few p = h
+line_kept (Begun s) text (line.Profile profile) h few p = with_profile s profile h
 line_kept (Begun s) text line.Twin h few p =
     let said = says_twin (Begun s) p.k p.words p.says in
     let stands : has_only_server s ≡ true = rw said at p.stands in

@@ -8,7 +8,7 @@ use Rattle.hex.specs.Hex.{IsBytes}
 use Rattle.ft_io.specs.declared.Addr.{Addr}
 use Rattle.ft_model.specs.Words.{is}
 use Rattle.ft_model.specs.Spelling.{numeral, number_of, short_number_of, octet_of, joined_octets, host_in, host_of, addr_from, addr_in, addr_of, hex_bytes, is_hex, script_of}
-use Rattle.ft_model.specs.Grammar.{◌>>=◌, number, boot_number, packet_number, client_number, window, long_number, boot_line, bare_line, deliver_line, flip_line, client_and_window, send_line, client_alone, stop_line, part_number, marks_line, event_line, client_line, free_address, service_line, server_line, line_from, is_taken, is_too_much, with_line, no_objection, read_text}
+use Rattle.ft_model.specs.Grammar.{◌>>=◌, number, boot_number, packet_number, client_number, window, long_number, boot_line, bare_line, deliver_line, flip_line, client_and_window, send_line, client_alone, stop_line, part_number, profile_line, marks_line, event_line, client_line, free_address, service_line, server_line, line_from, is_taken, is_too_much, with_line, no_objection, read_text}
 use Rattle.ft_model.specs.declared.event.Event.{Event}
 use Rattle.ft_model.specs.declared.event.Event.TheVariants as event
 use Rattle.ft_model.specs.declared.line.Draft.{Draft}
@@ -257,6 +257,7 @@ event_fits verb.Stop words e h = stop_fits words e h
 says_event : (draft : Draft) (k : Keyword) (words : List (List ℕ)) (e : Event) → line_from draft k words ≡ Ok (line.Event e) → FitsEvent e
 says_event draft keyword.Service words e h = let b = bind_ok (service_line words) (λ kind. Ok (line.Service kind)) (line.Event e) h in absurd (cc b.2)
 says_event draft keyword.Server words e h = let b = bind_ok (server_line words) (λ addr. Ok (line.Server addr)) (line.Event e) h in absurd (cc b.2)
+says_event draft keyword.Profile words e h = let b = bind_ok (profile_line words) (λ profile. Ok (line.Profile profile)) (line.Event e) h in absurd (cc b.2)
 says_event draft keyword.Twin words e h = absurd (bare_says line.Twin words (line.Event e) (λ f. cc) h)
 says_event draft keyword.Marks words e h = let b = bind_ok (marks_line words) (λ every. Ok (line.Marks every)) (line.Event e) h in absurd (cc b.2)
 says_event draft keyword.Client words e h = let b = bind_ok (client_line draft words) (λ client. Ok (line.Client client)) (line.Event e) h in absurd (cc b.2)
@@ -269,6 +270,7 @@ says_server draft keyword.Service words a h = let b = bind_ok (service_line word
 says_server draft keyword.Server words a h =
     let b = bind_ok (server_line words) (λ x. Ok (line.Server x)) (line.Server a) h in
     let same : b.0 ≡ a = cc b.2 in subst FitsAddr same (server_fits words b.0 b.1)
+says_server draft keyword.Profile words a h = let b = bind_ok (profile_line words) (λ profile. Ok (line.Profile profile)) (line.Server a) h in absurd (cc b.2)
 says_server draft keyword.Twin words a h = absurd (bare_says line.Twin words (line.Server a) (λ f. cc) h)
 says_server draft keyword.Marks words a h = let b = bind_ok (marks_line words) (λ every. Ok (line.Marks every)) (line.Server a) h in absurd (cc b.2)
 says_server draft keyword.Client words a h = let b = bind_ok (client_line draft words) (λ client. Ok (line.Client client)) (line.Server a) h in absurd (cc b.2)
@@ -282,6 +284,7 @@ FitsDraft (Begun s) = FitsSchedule s
 line_fits : (draft : Draft) (text : List ℕ) (l : Line) → FitsDraft draft → is_too_much draft text ≡ false → Passes draft text l → FitsDraft (with_line draft l)
 line_fits Empty text (line.Service kind) h few p = tt
 line_fits Empty text (line.Server addr) h few p = tt
+line_fits Empty text (line.Profile profile) h few p = tt
 line_fits Empty text line.Twin h few p = tt
 line_fits Empty text (line.Marks every) h few p = tt
 line_fits Empty text (line.Client c) h few p = tt
@@ -290,12 +293,14 @@ line_fits (Named kind) text (line.Service name) h few p = tt
 line_fits (Named kind) text (line.Server addr) h few p =
     let at : FitsAddr addr = says_server (Named kind) p.k p.words addr p.says in
     record { ip = at.0; port = at.1; marks = tt; clients = tt; count = omega arith; events = tt }
+line_fits (Named kind) text (line.Profile profile) h few p = tt
 line_fits (Named kind) text line.Twin h few p = tt
 line_fits (Named kind) text (line.Marks every) h few p = tt
 line_fits (Named kind) text (line.Client c) h few p = tt
 line_fits (Named kind) text (line.Event e) h few p = tt
 line_fits (Begun s) text (line.Service kind) h few p = h
 line_fits (Begun s) text (line.Server addr) h few p = h
+line_fits (Begun s) text (line.Profile profile) h few p = record { ip = h.ip; port = h.port; marks = h.marks; clients = h.clients; count = h.count; events = h.events }
 line_fits (Begun s) text line.Twin h few p = record { ip = h.ip; port = h.port; marks = h.marks; clients = h.clients; count = h.count; events = h.events }
 line_fits (Begun s) text (line.Marks every) h few p =
     let within = every_bounds p.words every (says_marks (Begun s) p.k p.words every p.says).1 in

@@ -81,18 +81,21 @@ Keeps (Begun s) = IsApart s
 line_keeps : (draft : Draft) (text : List ℕ) (l : Line) → Keeps draft → is_too_much draft text ≡ false → Passes draft text l → Keeps (with_line draft l)
 line_keeps Empty text (line.Service kind) h few p = tt
 line_keeps Empty text (line.Server addr) h few p = tt
+line_keeps Empty text (line.Profile profile) h few p = tt
 line_keeps Empty text line.Twin h few p = tt
 line_keeps Empty text (line.Marks every) h few p = tt
 line_keeps Empty text (line.Client c) h few p = tt
 line_keeps Empty text (line.Event e) h few p = tt
 line_keeps (Named kind) text (line.Service name) h few p = tt
 line_keeps (Named kind) text (line.Server addr) h few p = record { numbers = tt; apart = refl }
+line_keeps (Named kind) text (line.Profile profile) h few p = tt
 line_keeps (Named kind) text line.Twin h few p = tt
 line_keeps (Named kind) text (line.Marks every) h few p = tt
 line_keeps (Named kind) text (line.Client c) h few p = tt
 line_keeps (Named kind) text (line.Event e) h few p = tt
 line_keeps (Begun s) text (line.Service kind) h few p = h
 line_keeps (Begun s) text (line.Server addr) h few p = h
+line_keeps (Begun s) text (line.Profile profile) h few p = record { numbers = h.numbers; apart = h.apart }
 line_keeps (Begun s) text line.Twin h few p = record { numbers = h.numbers; apart = h.apart }
 line_keeps (Begun s) text (line.Marks every) h few p = record { numbers = h.numbers; apart = h.apart }
 line_keeps (Begun s) text (line.Client c) h few p =

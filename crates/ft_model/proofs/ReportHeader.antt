@@ -6,6 +6,8 @@ use Rattle.std.proofs.lemmas.List.{append_cancel_left}
 use Rattle.hex.specs.Hex.{IsBytes, encode_lower, decode_of}
 use Rattle.hex.proofs.HexLemmas.{decode_of-encode_lower}
 use Rattle.ft_io.specs.declared.Key.{Key}
+use Rattle.tcp_rules.specs.declared.profile.Profile.{Profile}
+use Rattle.tcp_rules.specs.declared.profile.Profile.TheVariants.{Plain, Wan}
 use Rattle.ft_model.specs.declared.phase.Phase.{Phase}
 use Rattle.ft_model.specs.declared.phase.Phase.TheVariants.{New, Opening, Established, Ended, Reset}
 use Rattle.ft_model.specs.declared.schedule.ServiceKind.{ServiceKind}
@@ -18,7 +20,7 @@ use Rattle.ft_model.specs.Client.{Client}
 use Rattle.ft_model.specs.Log.{Entry}
 use Rattle.ft_model.specs.World.{World}
 use Rattle.ft_model.specs.Texts.{spaced, line, address_text, key_text, hex_text, service_text, script_text, phase_text}
-use Rattle.ft_model.specs.Report.{schedule_line, schedule_lines, twin_line, marks_line, header, phase_line, client_line, client_lines, entry_line, log_line, end_line, closing_lines}
+use Rattle.ft_model.specs.Report.{schedule_line, schedule_lines, profile_line, twin_line, marks_line, header, phase_line, client_line, client_lines, entry_line, log_line, end_line, closing_lines}
 use Rattle.ft_model.specs.Readable.{IsWord, FitsU64, FitsOption, FitsKey, FitsScript, FitsClient, FitsSchedule}
 use Rattle.ft_model.proofs.ReportWords.{cut, all_append, IsDigit, digits_decimal, word_decimal}
 use Rattle.ft_model.proofs.ReportParts.{address_same}
@@ -232,6 +234,28 @@ clients_no_twin : (n : ℕ) (asked : List ClientLine) (r : List ℕ) → NoTwin 
 clients_no_twin n [] r h = h
 clients_no_twin n (a ∷ asked) r h = λ f. omega (arith, f, ap mark (append_assoc (schedule_line n a) (schedule_lines (n + 1) asked) r) ∙ client_mark n a (schedule_lines (n + 1) asked ++ r))
 
+-- a text that doesn't go on with the line on a profile
+abbrev pub NoProfile : List ℕ → Type 0
+NoProfile text = mark text ≡ mark (codes "pr") → ⊥
+
+profile_cut : (a b : Profile) (r s : List ℕ) → NoProfile r → NoProfile s → profile_line a ++ r ≡ profile_line b ++ s → (a ≡ b) × (r ≡ s)
+profile_cut Wan Wan r s nr ns e = (refl, append_cancel_left (profile_line Wan) r s e)
+profile_cut Wan Plain r s nr ns e = absurd (ns (sym (ap mark e)))
+profile_cut Plain Wan r s nr ns e = absurd (nr (ap mark e))
+profile_cut Plain Plain r s nr ns e = (refl, e)
+
+clients_no_profile : (n : ℕ) (asked : List ClientLine) (r : List ℕ) → NoProfile r → NoProfile (schedule_lines n asked ++ r)
+clients_no_profile n [] r h = h
+clients_no_profile n (a ∷ asked) r h = λ f. omega (arith, f, ap mark (append_assoc (schedule_line n a) (schedule_lines (n + 1) asked) r) ∙ client_mark n a (schedule_lines (n + 1) asked ++ r))
+
+marks_no_profile : (marks : Option ℕ) (r : List ℕ) → NoProfile r → NoProfile (marks_line marks ++ r)
+marks_no_profile None r h = h
+marks_no_profile (Some every) r h = λ f. omega (arith, f, marks_mark every r)
+
+twin_no_profile : (twin : Bool) (r : List ℕ) → NoProfile r → NoProfile (twin_line twin ++ r)
+twin_no_profile true r h = λ f. omega (arith, f)
+twin_no_profile false r h = h
+
 -- how a run ends: clients, entries of the log, and the count of events
 phase_mark : (n : ℕ) (phase : Phase) (accepted r : List ℕ) → mark (phase_line n phase accepted ++ r) ≡ mark (codes "cl")
 unfolding phase_line
@@ -249,17 +273,18 @@ pub record IsClosing (text : List ℕ) : Type 0 where
   pub packet : NoPacket text
   pub event : NoEvent text
   pub client : NoClient text
+  pub profile : NoProfile text
   pub twin : NoTwin text
   pub marks : NoMarks text
 
-of_mark : (text : List ℕ) (m : ℕ) → mark text ≡ m → (m ≡ mark (codes "pa") → ⊥) → (m ≡ mark (codes "ev") → ⊥) → (m ≡ mark (codes "cl") → ⊥) → (m ≡ mark (codes "tw") → ⊥) → (m ≡ mark (codes "ma") → ⊥) → IsClosing text
-of_mark text m at p e c t k = record { packet = λ f. p (sym at ∙ f); event = λ f. e (sym at ∙ f); client = other_mark text (λ f. c (sym at ∙ f)); twin = λ f. t (sym at ∙ f); marks = λ f. k (sym at ∙ f) }
+of_mark : (text : List ℕ) (m : ℕ) → mark text ≡ m → (m ≡ mark (codes "pa") → ⊥) → (m ≡ mark (codes "ev") → ⊥) → (m ≡ mark (codes "cl") → ⊥) → (m ≡ mark (codes "pr") → ⊥) → (m ≡ mark (codes "tw") → ⊥) → (m ≡ mark (codes "ma") → ⊥) → IsClosing text
+of_mark text m at p e c q t k = record { packet = λ f. p (sym at ∙ f); event = λ f. e (sym at ∙ f); client = other_mark text (λ f. c (sym at ∙ f)); profile = λ f. q (sym at ∙ f); twin = λ f. t (sym at ∙ f); marks = λ f. k (sym at ∙ f) }
 
 ends : (clients : List Client) (entries : List Entry) (n : ℕ) → IsClosing (client_lines 1 clients ++ (flat_map log_line entries ++ end_line n))
-ends [] [] n = of_mark (end_line n) (mark (codes "en")) (end_mark n) (λ f. omega (arith, f)) (λ f. omega (arith, f)) (λ f. omega (arith, f)) (λ f. omega (arith, f)) (λ f. omega (arith, f))
+ends [] [] n = of_mark (end_line n) (mark (codes "en")) (end_mark n) (λ f. omega (arith, f)) (λ f. omega (arith, f)) (λ f. omega (arith, f)) (λ f. omega (arith, f)) (λ f. omega (arith, f)) (λ f. omega (arith, f))
 ends [] (e ∷ entries) n =
     of_mark _ (mark (codes "lo")) (ap mark (append_assoc (log_line e) (flat_map log_line entries) (end_line n)) ∙ entry_mark e _)
-    (λ f. omega (arith, f)) (λ f. omega (arith, f)) (λ f. omega (arith, f)) (λ f. omega (arith, f)) (λ f. omega (arith, f))
+    (λ f. omega (arith, f)) (λ f. omega (arith, f)) (λ f. omega (arith, f)) (λ f. omega (arith, f)) (λ f. omega (arith, f)) (λ f. omega (arith, f))
 ends (c ∷ clients) entries n =
     let rest : List ℕ = flat_map log_line entries ++ end_line n in
     let whole = append_assoc (client_line 1 c) (client_lines 2 clients) rest in
@@ -268,6 +293,7 @@ ends (c ∷ clients) entries n =
       packet = λ f. omega (arith, at, f);
       event = λ f. omega (arith, at, f);
       client = λ n asked more fits client e. phase_apart 1 n c.phase c.accepted asked _ more (omega arith) fits client (sym whole ∙ e);
+      profile = λ f. omega (arith, at, f);
       twin = λ f. omega (arith, at, f);
       marks = λ f. omega (arith, at, f);
     }
@@ -279,6 +305,10 @@ closing_ends w n = ends w.clients w.log.entries n
 pub no_client : {Turn Told : Type 0} (by : Telling Turn Told) (turns : List Turn) (r : List ℕ) → NoClient r → NoClient (lines_of by turns ++ r)
 no_client by [] r h = h
 no_client by (m ∷ earlier) r h = let at = events_lead by m earlier r in other_mark (lines_of by (m ∷ earlier) ++ r) (λ f. omega (arith, at, f))
+
+pub no_profile : {Turn Told : Type 0} (by : Telling Turn Told) (turns : List Turn) (r : List ℕ) → NoProfile r → NoProfile (lines_of by turns ++ r)
+no_profile by [] r h = h
+no_profile by (m ∷ earlier) r h = let at = events_lead by m earlier r in λ f. omega (arith, at, f)
 
 pub no_twin : {Turn Told : Type 0} (by : Telling Turn Told) (turns : List Turn) (r : List ℕ) → NoTwin r → NoTwin (lines_of by turns ++ r)
 no_twin by [] r h = h
@@ -292,31 +322,34 @@ no_marks by (m ∷ earlier) r h = let at = events_lead by m earlier r in λ f. o
 header_then : (schedule : Schedule) (r : List ℕ)
     → header schedule ++ r ≡ line (codes "ftreplay") (codes "1" ∷ []) ++ (line (codes "service") (service_text schedule.service ∷ [])
     ++ (line (codes "server") (address_text schedule.server.ip schedule.server.port ∷ [])
-    ++ (twin_line schedule.twin ++ (marks_line schedule.marks ++ (schedule_lines 1 schedule.clients ++ r)))))
+    ++ (profile_line schedule.profile ++ (twin_line schedule.twin ++ (marks_line schedule.marks ++ (schedule_lines 1 schedule.clients ++ r))))))
 unfolding header
 header_then schedule r =
     let first : List ℕ = line (codes "ftreplay") (codes "1" ∷ []) in
     let service : List ℕ = line (codes "service") (service_text schedule.service ∷ []) in
     let server : List ℕ = line (codes "server") (address_text schedule.server.ip schedule.server.port ∷ []) in
+    let profile : List ℕ = profile_line schedule.profile in
     let twin : List ℕ = twin_line schedule.twin in
     let marks : List ℕ = marks_line schedule.marks in
     let clients : List ℕ = schedule_lines 1 schedule.clients in
-    append_assoc first (service ++ (server ++ (twin ++ (marks ++ clients)))) r
-    ∙ ap (λ t. first ++ t) (append_assoc service (server ++ (twin ++ (marks ++ clients))) r
-    ∙ ap (λ t. service ++ t) (append_assoc server (twin ++ (marks ++ clients)) r
-    ∙ ap (λ t. server ++ t) (append_assoc twin (marks ++ clients) r ∙ ap (λ t. twin ++ t) (append_assoc marks clients r))))
+    append_assoc first (service ++ (server ++ (profile ++ (twin ++ (marks ++ clients))))) r
+    ∙ ap (λ t. first ++ t) (append_assoc service (server ++ (profile ++ (twin ++ (marks ++ clients)))) r
+    ∙ ap (λ t. service ++ t) (append_assoc server (profile ++ (twin ++ (marks ++ clients))) r
+    ∙ ap (λ t. server ++ t) (append_assoc profile (twin ++ (marks ++ clients)) r
+    ∙ ap (λ t. profile ++ t) (append_assoc twin (marks ++ clients) r ∙ ap (λ t. twin ++ t) (append_assoc marks clients r)))))
 
 -- the same was asked, but for the events
 pub record IsSameHeader (schedule other : Schedule) : Type 0 where
   pub service : schedule.service ≡ other.service
   pub server : schedule.server ≡ other.server
+  pub profile : schedule.profile ≡ other.profile
   pub twin : schedule.twin ≡ other.twin
   pub marks : schedule.marks ≡ other.marks
   pub clients : schedule.clients ≡ other.clients
 
 pub header_cut : (schedule other : Schedule) (r s : List ℕ) → FitsSchedule schedule → FitsSchedule other → NoClient r → NoClient s
-    → NoTwin r → NoTwin s → NoMarks r → NoMarks s → header schedule ++ r ≡ header other ++ s → IsSameHeader schedule other × (r ≡ s)
-header_cut schedule other r s p q nr ns tr ts mr ms e =
+    → NoProfile r → NoProfile s → NoTwin r → NoTwin s → NoMarks r → NoMarks s → header schedule ++ r ≡ header other ++ s → IsSameHeader schedule other × (r ≡ s)
+header_cut schedule other r s p q nr ns pr ps tr ts mr ms e =
     let all = append_cancel_left (line (codes "ftreplay") (codes "1" ∷ [])) _ _ (sym (header_then schedule r) ∙ (e ∙ header_then other s)) in
     let service = line_cut (codes "service") (service_text schedule.service ∷ []) (service_text other.service ∷ []) _ _
     (word_service schedule.service, tt) (word_service other.service, tt) all in
@@ -327,13 +360,19 @@ header_cut schedule other r s p q nr ns tr ts mr ms e =
     let address = address_same schedule.server.ip other.server.ip schedule.server.port other.server.port p.ip q.ip p.port q.port addresses in
     let one : List ℕ = schedule_lines 1 schedule.clients ++ r in
     let two : List ℕ = schedule_lines 1 other.clients ++ s in
-    let twin = twin_cut schedule.twin other.twin (marks_line schedule.marks ++ one) (marks_line other.marks ++ two)
-    (marks_no_twin schedule.marks one (clients_no_twin 1 schedule.clients r tr)) (marks_no_twin other.marks two (clients_no_twin 1 other.clients s ts)) server.1 in
+    let three : List ℕ = marks_line schedule.marks ++ one in
+    let four : List ℕ = marks_line other.marks ++ two in
+    let profile = profile_cut schedule.profile other.profile (twin_line schedule.twin ++ three) (twin_line other.twin ++ four)
+    (twin_no_profile schedule.twin three (marks_no_profile schedule.marks one (clients_no_profile 1 schedule.clients r pr)))
+    (twin_no_profile other.twin four (marks_no_profile other.marks two (clients_no_profile 1 other.clients s ps))) server.1 in
+    let twin = twin_cut schedule.twin other.twin three four
+    (marks_no_twin schedule.marks one (clients_no_twin 1 schedule.clients r tr)) (marks_no_twin other.marks two (clients_no_twin 1 other.clients s ts)) profile.1 in
     let marks = marks_cut schedule.marks other.marks one two p.marks q.marks (clients_no_marks 1 schedule.clients r mr) (clients_no_marks 1 other.clients s ms) twin.1 in
     let clients = clients_cut 1 schedule.clients other.clients r s p.clients q.clients (omega (arith, p.count)) (omega (arith, q.count)) nr ns marks.1 in (
       record {
         service = service_same schedule.service other.service (ap verb service.0);
         server = λ i. record { ip = address.0 i; port = address.1 i };
+        profile = profile.0;
         twin = twin.0;
         marks = marks.0;
         clients = clients.0;

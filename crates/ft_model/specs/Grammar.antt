@@ -1,15 +1,18 @@
 -- The grammar of a schedule's text: the schedule that it spells, or the first line that is refused and why.
 --
--- First `service NAME`, then `server ADDRESS`, then `twin` where there are two loggers or `marks EVERY` where the server marks the log, then 0 to 16 times
--- `client N ADDRESS ISN SCRIPT` with N from 1 in order, then events: `boot BOOT ISN`, `crash`, `tick`, `deliver P`, `flip P BIT`, `open N W`,
--- `send N FROM LEN`, `fin N`, `ack N W`, `reset N`, `stop PART`. A line without words, or whose first byte is `#`, is skipped, but counted.
+-- First `service NAME`, then `server ADDRESS`, then `profile NAME` where the server's profile isn't the plain one, then `twin` where there are two loggers or
+-- `marks EVERY` where the server marks the log, then 0 to 16 times `client N ADDRESS ISN SCRIPT` with N from 1 in order, then events: `boot BOOT ISN`,
+-- `crash`, `tick`, `deliver P`, `flip P BIT`, `open N W`, `send N FROM LEN`, `fin N`, `ack N W`, `reset N`, `stop PART`. A line without words, or whose first
+-- byte is `#`, is skipped, but counted.
 use Rattle.std.specs.Prelude.{ℕ, Bool, true, false, ◌+◌, ◌-◌, ◌^◌, ◌==◌, ◌&&◌, ◌||◌, not, nat_lt, nat_le, Option, Some, None, is_none, option_map, Result, Ok, Err, List, [], ◌∷◌, ◌++◌, length, codes, if◌then◌else◌}
 use Rattle.std.specs.List.{list_all, list_any}
 use Rattle.std.specs.Option.{ok_or}
 use Rattle.std.specs.Str.{bytes_eq}
 use Rattle.ft_io.specs.declared.Addr.{Addr}
+use Rattle.tcp_rules.specs.declared.profile.Profile.{Profile}
+use Rattle.tcp_rules.specs.declared.profile.Profile.TheVariants.{Plain, Wan}
 use Rattle.ft_model.specs.Words.{is_empty, lines_of, words_of}
-use Rattle.ft_model.specs.Spelling.{numeral, number_of, addr_of, service_of, script_of}
+use Rattle.ft_model.specs.Spelling.{numeral, number_of, addr_of, service_of, script_of, profile_named}
 use Rattle.ft_model.specs.declared.event.Event.{Event}
 use Rattle.ft_model.specs.declared.event.Event.TheVariants as event
 use Rattle.ft_model.specs.declared.line.Draft.{Draft}
@@ -142,6 +145,10 @@ unfoldable pub server_line : List (List ℕ) → Result Addr LineWhy
 server_line (address ∷ []) = ok_or (addr_of address) why.Address
 server_line _ = Err why.Count
 
+unfoldable pub profile_line : List (List ℕ) → Result Profile LineWhy
+profile_line (name ∷ []) = ok_or (profile_named name) why.Word
+profile_line _ = Err why.Count
+
 unfoldable pub marks_line : List (List ℕ) → Result ℕ LineWhy
 marks_line (every ∷ []) = every_number every
 marks_line _ = Err why.Count
@@ -172,6 +179,7 @@ client_line draft _ = Err why.Count
 abbrev pub line_from : Draft → Keyword → List (List ℕ) → Result Line LineWhy
 line_from draft keyword.Service words = service_line words >>= λ kind. Ok (line.Service kind)
 line_from draft keyword.Server words = server_line words >>= λ addr. Ok (line.Server addr)
+line_from draft keyword.Profile words = profile_line words >>= λ profile. Ok (line.Profile profile)
 line_from draft keyword.Twin words = bare_line line.Twin words
 line_from draft keyword.Marks words = marks_line words >>= λ every. Ok (line.Marks every)
 line_from draft keyword.Client words = client_line draft words >>= λ client. Ok (line.Client client)
@@ -198,7 +206,7 @@ abbrev pub announced : List (List ℕ × Verb) → List ℕ → Option Verb
 announced [] word = None
 announced (row ∷ rows) word = if bytes_eq word row.0 then Some row.1 else announced rows word
 
--- The test `word`: the first word is one of these, and a service has one of the four names.
+-- The test `word`: the first word is one of these, a service has one of the four names, and a profile the name of one.
 unfoldable pub verb_of : List ℕ → Option Verb
 verb_of word = announced verbs word
 
@@ -206,15 +214,17 @@ unfoldable pub keyword_of : List ℕ → Option Keyword
 keyword_of word =
     if bytes_eq word (codes "service") then Some keyword.Service
     else (if bytes_eq word (codes "server") then Some keyword.Server
+    else (if bytes_eq word (codes "profile") then Some keyword.Profile
     else (if bytes_eq word (codes "twin") then Some keyword.Twin
     else (if bytes_eq word (codes "marks") then Some keyword.Marks
     else (if bytes_eq word (codes "client") then Some keyword.Client
-    else option_map keyword.Event (verb_of word)))))
+    else option_map keyword.Event (verb_of word))))))
 
--- a service line without a name is left to the test `count`
-unfoldable pub names_no_service : Keyword → List (List ℕ) → Bool
-names_no_service keyword.Service (name ∷ more) = is_none (service_of name)
-names_no_service _ _ = false
+-- a line that names a service or a profile that doesn't exist. One without a name is left to the test `count`
+unfoldable pub is_misnamed : Keyword → List (List ℕ) → Bool
+is_misnamed keyword.Service (name ∷ more) = is_none (service_of name)
+is_misnamed keyword.Profile (name ∷ more) = is_none (profile_named name)
+is_misnamed _ _ = false
 
 -- The test `place`. A client line's number is the next one; a line without a number is left to the test `count`, and a word that is
 -- no number to the test `number`.
@@ -230,13 +240,19 @@ has_next_number count (client ∷ more) = is_next count (numeral 20 client)
 unfoldable pub may_join : Schedule → List (List ℕ) → Bool
 may_join schedule words = length schedule.events == 0 && nat_lt (length schedule.clients) 16 && has_next_number (length schedule.clients) words
 
--- the line `twin` or `marks` comes directly after the server's line
+-- the line `twin` or `marks` comes directly after the server's line, or after that of its profile
 unfoldable pub has_only_server : Schedule → Bool
 has_only_server schedule = length schedule.events == 0 && length schedule.clients == 0 && not schedule.twin && is_none schedule.marks
+
+-- whether no line has named a profile
+abbrev pub is_unnamed : Profile → Bool
+is_unnamed Plain = true
+is_unnamed Wan = false
 
 abbrev pub may_stand : Draft → Keyword → List (List ℕ) → Bool
 may_stand Empty keyword.Service words = true
 may_stand (Named kind) keyword.Server words = true
+may_stand (Begun schedule) keyword.Profile words = is_unnamed schedule.profile && has_only_server schedule
 may_stand (Begun schedule) keyword.Twin words = has_only_server schedule
 may_stand (Begun schedule) keyword.Marks words = has_only_server schedule
 may_stand (Begun schedule) keyword.Client words = may_join schedule words
@@ -249,7 +265,7 @@ is_printable text = list_all (λ byte. nat_le 32 byte && nat_le byte 126) text
 
 unfoldable pub line_behind : Draft → Keyword → List (List ℕ) → Result Line LineWhy
 line_behind draft k words =
-    if names_no_service k words then Err why.Word
+    if is_misnamed k words then Err why.Word
     else (if may_stand draft k words then line_from draft k words
     else Err why.Place)
 
@@ -265,7 +281,8 @@ line_of draft text = if is_printable text then line_of_words draft (words_of tex
 -- what a line adds to the lines before it
 abbrev pub with_line : Draft → Line → Draft
 with_line Empty (line.Service kind) = Named kind
-with_line (Named kind) (line.Server addr) = Begun (record { service = kind; server = addr; twin = false; marks = None; clients = []; events = [] })
+with_line (Named kind) (line.Server addr) = Begun (record { service = kind; server = addr; profile = Plain; twin = false; marks = None; clients = []; events = [] })
+with_line (Begun schedule) (line.Profile profile) = Begun (record schedule { profile = profile })
 with_line (Begun schedule) line.Twin = Begun (record schedule { twin = true })
 with_line (Begun schedule) (line.Marks every) = Begun (record schedule { marks = Some every })
 with_line (Begun schedule) (line.Client client) = Begun (record schedule { clients = schedule.clients ++ client ∷ [] })

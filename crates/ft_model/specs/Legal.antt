@@ -1,7 +1,7 @@
 -- A legal trace of a schedule: it starts with the schedule's clients and the empty log, its server runs the schedule's service, its events are exactly the
 -- schedule's, in order, each of them is allowed, and its clients are scripted.
 use Rattle.std.specs.Prelude.{◌≡◌, ℕ, ◌*◌, length, nat_le, Option, Some, None, is_some, List, [], ◌∷◌, if◌then◌else◌}
-use Rattle.tcp_rules.specs.Profile.{plain}
+use Rattle.tcp_rules.specs.Profiles.{profile_of}
 use Rattle.server_trait.specs.Service.{Served, Machine, machine}
 use Rattle.ft_model.specs.Client.{Client, Move, move_asked, window_of, refusal_of_move, segment_of, moved}
 use Rattle.ft_model.specs.Log.{empty_log}
@@ -16,9 +16,17 @@ use Rattle.ft_model.specs.declared.event.EventWhy.{EventWhy}
 use Rattle.ft_model.specs.declared.event.EventWhy.TheVariants as why
 use Rattle.ft_model.specs.declared.schedule.Schedule.{Schedule}
 
--- before the first event: nothing was sent, nothing is logged, and the server is down. Its profile is the plain one
+-- before the first event: nothing was sent, nothing is logged, and the server is down. Its profile is the schedule's
 abbrev pub start_of : Schedule → World
-start_of schedule = record { server = schedule.server; profile = plain; clients = clients_of schedule.server schedule.clients; log = empty_log; packets = []; boot = 0; node = None }
+start_of schedule = record {
+  server = schedule.server;
+  profile = profile_of schedule.profile;
+  clients = clients_of schedule.server schedule.clients;
+  log = empty_log;
+  packets = [];
+  boot = 0;
+  node = None;
+}
 
 -- why the move of a client isn't made. The schedule may have no such client
 abbrev pub refusal_of_client : Option Client → Move → Option EventWhy

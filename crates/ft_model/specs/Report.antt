@@ -4,6 +4,8 @@ use Rattle.std.specs.List.{flat_map}
 use Rattle.std.specs.Option.{option_map_or}
 use Rattle.std.specs.Fmt.{decimal}
 use Rattle.ft_io.specs.declared.Key.{Key}
+use Rattle.tcp_rules.specs.declared.profile.Profile.{Profile}
+use Rattle.tcp_rules.specs.declared.profile.Profile.TheVariants.{Plain, Wan}
 use Rattle.ft_io.specs.Key.{key_eq}
 use Rattle.seq_arith.specs.Packet.{Segment}
 use Rattle.seq_arith.specs.Message.{Numbers, Kept, EntryHead, Part, Body, Message}
@@ -33,6 +35,11 @@ abbrev pub schedule_lines : ℕ → List ClientLine → List ℕ
 schedule_lines n [] = []
 schedule_lines n (asked ∷ others) = schedule_line n asked ++ schedule_lines (n + 1) others
 
+-- the profile of the server, unless it is the plain one
+abbrev pub profile_line : Profile → List ℕ
+profile_line Plain = []
+profile_line Wan = line (codes "profile") (codes "wan" ∷ [])
+
 -- that there are two loggers
 abbrev pub twin_line : Bool → List ℕ
 twin_line true = line (codes "twin") []
@@ -47,7 +54,7 @@ unfoldable pub header : Schedule → List ℕ
 header schedule =
     line (codes "ftreplay") (codes "1" ∷ []) ++ (line (codes "service") (service_text schedule.service ∷ [])
     ++ (line (codes "server") (address_text schedule.server.ip schedule.server.port ∷ [])
-    ++ (twin_line schedule.twin ++ (marks_line schedule.marks ++ schedule_lines 1 schedule.clients))))
+    ++ (profile_line schedule.profile ++ (twin_line schedule.twin ++ (marks_line schedule.marks ++ schedule_lines 1 schedule.clients)))))
 
 -- an event, as a schedule spells it
 abbrev pub event_words : Event → List (List ℕ)

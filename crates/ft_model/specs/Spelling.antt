@@ -2,7 +2,7 @@
 --
 -- A number is 1 to 20 decimal digits; leading zeros are allowed. An address is four numbers up to 255 joined by `.`, then `:` and a port
 -- from 1 to 65535, each of these with at most five digits. A script is `-`, or `hex:` and 1 to 2^24 pairs of hexadecimal digits of
--- either case, or `fill:` and a number from 1 to 2^24. A service is `echo`, `line`, `transfer` or `meter`.
+-- either case, or `fill:` and a number from 1 to 2^24. A service is `echo`, `line`, `transfer` or `meter`. A profile that is named is `wan`.
 use Rattle.std.specs.Prelude.{ℕ, Bool, ◌+◌, ◌*◌, ◌%◌, ◌^◌, ◌==◌, ◌&&◌, nat_eq, nat_le, Option, Some, None, option_map, List, [], ◌∷◌, length, drop, codes, if◌then◌else◌}
 use Rattle.std.specs.Char.{digit_value, is_ascii_digit, is_ascii_hexdigit}
 use Rattle.std.specs.List.{list_all, slice_split, starts_with}
@@ -10,6 +10,8 @@ use Rattle.std.specs.Option.{option_and_then}
 use Rattle.std.specs.Str.{bytes_eq}
 use Rattle.std.specs.Str.Parse.{digits_value}
 use Rattle.ft_io.specs.declared.Addr.{Addr}
+use Rattle.tcp_rules.specs.declared.profile.Profile.{Profile}
+use Rattle.tcp_rules.specs.declared.profile.Profile.TheVariants.{Wan}
 use Rattle.ft_model.specs.Words.{is}
 use Rattle.ft_model.specs.declared.schedule.Script.{Script}
 use Rattle.ft_model.specs.declared.schedule.Script.TheVariants.{Bytes, Fill}
@@ -67,6 +69,10 @@ service_of word =
     else (if bytes_eq word (codes "transfer") then Some Transfer
     else (if bytes_eq word (codes "meter") then Some Meter
     else None)))
+
+-- the plain profile has no name: a schedule that doesn't name one has it
+unfoldable pub profile_named : List ℕ → Option Profile
+profile_named word = if bytes_eq word (codes "wan") then Some Wan else None
 
 -- the byte of each pair of hexadecimal digits
 unfoldable pub hex_bytes : List ℕ → List ℕ

@@ -14,16 +14,19 @@ ghost use Rattle.ft_model.specs.declared.schedule.LineWhy.TheVariants as why;
 ghost use Rattle.ft_model.specs.declared.schedule.Schedule.{Schedule};
 ghost use Rattle.ft_model.specs.declared.schedule.Script.TheVariants.{Bytes, Fill};
 ghost use Rattle.ft_model.specs.declared.schedule.ServiceKind.TheVariants.{Echo, Meter};
+ghost use Rattle.tcp_rules.specs.declared.profile.Profile.TheVariants.{Plain, Wan};
 
 /// Texts and what they spell: a schedule without clients and events, one in which a client says hello to an echo service, one of two clients and the other
-/// kinds of events, one of two loggers of which both are asked to stop, two in which the server marks the log, and refused lines.
+/// kinds of events, one of two loggers of which both are asked to stop, two in which the server marks the log, three whose server has the profile for wide-area
+/// networks, and refused lines.
 pub fn worked_texts()
     ensures empty { read_text (codes "service echo\nserver 192.0.2.100:7\n")
-        ≡ Ok (record { service = Echo; server = record { ip = 3221226084; port = 7 }; twin = false; marks = None; clients = []; events = [] }) }
+        ≡ Ok (record { service = Echo; server = record { ip = 3221226084; port = 7 }; profile = Plain; twin = false; marks = None; clients = []; events = [] }) }
     ensures first_path { read_text (codes "service echo\nserver 192.0.2.100:7\nclient 1 192.0.2.1:40000 1000 hex:68656c6c6f\nboot 1 5000\ndeliver 1\ndeliver 2\nopen 1 65535\ndeliver 3\ndeliver 4\ndeliver 5\ndeliver 6\nack 1 65535\ndeliver 7\nsend 1 0 5\ndeliver 8\ndeliver 10\ndeliver 12\ndeliver 11\ndeliver 14\ndeliver 15\n")
         ≡ Ok (record {
           service = Echo;
           server = record { ip = 3221226084; port = 7 };
+          profile = Plain;
           twin = false;
           marks = None;
           clients = record { key = record { ip = 3221225985; port = 40000 }; isn = 1000; script = Bytes (codes "hello") } ∷ [];
@@ -38,6 +41,7 @@ pub fn worked_texts()
         ≡ Ok (record {
           service = Meter;
           server = record { ip = 3221226084; port = 7 };
+          profile = Plain;
           twin = false;
           marks = None;
           clients = record { key = record { ip = 3221225985; port = 40000 }; isn = 1000; script = Fill 9 }
@@ -48,6 +52,7 @@ pub fn worked_texts()
         ≡ Ok (record {
           service = Echo;
           server = record { ip = 3221226084; port = 7 };
+          profile = Plain;
           twin = true;
           marks = None;
           clients = record { key = record { ip = 3221225985; port = 40000 }; isn = 1000; script = Bytes (codes "hello") } ∷ [];
@@ -61,13 +66,22 @@ pub fn worked_texts()
         ≡ Ok (record {
           service = Echo;
           server = record { ip = 3221226084; port = 7 };
+          profile = Plain;
           twin = false;
           marks = Some 4;
           clients = record { key = record { ip = 3221225985; port = 40000 }; isn = 1000; script = Bytes [] } ∷ [];
           events = [];
         }) }
     ensures most_marks { read_text (codes "service echo\nserver 192.0.2.100:7\nmarks 1000\n")
-        ≡ Ok (record { service = Echo; server = record { ip = 3221226084; port = 7 }; twin = false; marks = Some 1000; clients = []; events = [] }) }
+        ≡ Ok (record {
+          service = Echo;
+          server = record { ip = 3221226084; port = 7 };
+          profile = Plain;
+          twin = false;
+          marks = Some 1000;
+          clients = [];
+          events = [];
+        }) }
     ensures no_marks { read_text (codes "service echo\nserver 192.0.2.100:7\nmarks 0\n") ≡ Err (BadLine 3 why.Number) }
     ensures rare_marks { read_text (codes "service echo\nserver 192.0.2.100:7\nmarks 1001\n") ≡ Err (BadLine 3 why.Number) }
     ensures bare_marks { read_text (codes "service echo\nserver 192.0.2.100:7\nmarks\n") ≡ Err (BadLine 3 why.Count) }
@@ -75,6 +89,33 @@ pub fn worked_texts()
     ensures second_marks { read_text (codes "service echo\nserver 192.0.2.100:7\nmarks 4\nmarks 4\n") ≡ Err (BadLine 4 why.Place) }
     ensures marked_pair { read_text (codes "service echo\nserver 192.0.2.100:7\nmarks 4\ntwin\n") ≡ Err (BadLine 4 why.Place) }
     ensures pair_with_marks { read_text (codes "service echo\nserver 192.0.2.100:7\ntwin\nmarks 4\n") ≡ Err (BadLine 4 why.Place) }
+    ensures wide_area { read_text (codes "service echo\nserver 192.0.2.100:7\n profile  wan \nclient 1 192.0.2.1:40000 1000 -\nboot 1 5000\n")
+        ≡ Ok (record {
+          service = Echo;
+          server = record { ip = 3221226084; port = 7 };
+          profile = Wan;
+          twin = false;
+          marks = None;
+          clients = record { key = record { ip = 3221225985; port = 40000 }; isn = 1000; script = Bytes [] } ∷ [];
+          events = Boot 1 5000 ∷ [];
+        }) }
+    ensures wide_area_pair { read_text (codes "service echo\nserver 192.0.2.100:7\nprofile wan\ntwin\n")
+        ≡ Ok (record { service = Echo; server = record { ip = 3221226084; port = 7 }; profile = Wan; twin = true; marks = None; clients = []; events = [] }) }
+    ensures wide_area_marks { read_text (codes "service echo\nserver 192.0.2.100:7\nprofile wan\nmarks 4\n")
+        ≡ Ok (record { service = Echo; server = record { ip = 3221226084; port = 7 }; profile = Wan; twin = false; marks = Some 4; clients = []; events = [] }) }
+    ensures plain_profile { read_text (codes "service echo\nserver 192.0.2.100:7\nprofile plain\n") ≡ Err (BadLine 3 why.Word) }
+    ensures loud_profile { read_text (codes "service echo\nserver 192.0.2.100:7\nprofile Wan\n") ≡ Err (BadLine 3 why.Word) }
+    ensures bare_profile { read_text (codes "service echo\nserver 192.0.2.100:7\nprofile\n") ≡ Err (BadLine 3 why.Count) }
+    ensures long_profile { read_text (codes "service echo\nserver 192.0.2.100:7\nprofile wan wan\n") ≡ Err (BadLine 3 why.Count) }
+    ensures second_profile { read_text (codes "service echo\nserver 192.0.2.100:7\nprofile wan\nprofile wan\n") ≡ Err (BadLine 4 why.Place) }
+    ensures second_bare_profile { read_text (codes "service echo\nserver 192.0.2.100:7\nprofile wan\nprofile\n") ≡ Err (BadLine 4 why.Place) }
+    ensures second_plain_profile { read_text (codes "service echo\nserver 192.0.2.100:7\nprofile wan\nprofile plain\n") ≡ Err (BadLine 4 why.Word) }
+    ensures early_profile { read_text (codes "service echo\nprofile wan\n") ≡ Err (BadLine 2 why.Place) }
+    ensures profile_of_a_pair { read_text (codes "service echo\nserver 192.0.2.100:7\ntwin\nprofile wan\n") ≡ Err (BadLine 4 why.Place) }
+    ensures profile_behind_marks { read_text (codes "service echo\nserver 192.0.2.100:7\nmarks 4\nprofile wan\n") ≡ Err (BadLine 4 why.Place) }
+    ensures profile_behind_a_client { read_text (codes "service echo\nserver 192.0.2.100:7\nclient 1 192.0.2.1:40000 1000 -\nprofile wan\n")
+        ≡ Err (BadLine 4 why.Place) }
+    ensures profile_behind_an_event { read_text (codes "service echo\nserver 192.0.2.100:7\nboot 1 5000\nprofile wan\n") ≡ Err (BadLine 4 why.Place) }
     ensures third_logger { read_text (codes "service echo\nserver 192.0.2.100:7\nstop 3\n") ≡ Err (BadLine 3 why.Number) }
 {}
 

@@ -4,6 +4,7 @@
 use crate::event::Event;
 use crate::schedule::{ClientLine, Schedule, ServiceKind};
 use ft_io::Addr;
+use tcp_rules::Profile;
 
 /// The first word of an event's line.
 #[derive(Clone, Copy, PartialEq, Eq)]
@@ -26,6 +27,7 @@ pub enum Verb {
 pub enum Keyword {
     Service,
     Server,
+    Profile,
     Twin,
     Marks,
     Client,
@@ -37,6 +39,8 @@ pub enum Keyword {
 pub enum Line {
     Service(ServiceKind),
     Server(Addr),
+    /// The server has this profile.
+    Profile(Profile),
     /// There are two loggers.
     Twin,
     /// The server marks the log after this many reads.

@@ -11,7 +11,8 @@ ghost use Rattle.seq_arith.specs.Message.Body.{HelloMsg};
 ghost use Rattle.ft_model.specs.Client.{Client};
 ghost use Rattle.ft_model.specs.Network.{Packet};
 ghost use Rattle.ft_model.specs.FirstPath.{client_key, from_client, from_server, hello, opening, bytes_to_log, read, stable, reads, entry, part, cuts, lens};
-ghost use Rattle.ft_model.specs.Report.{event_line, packet_line, line_of_packet, forward_words, got_words, way_of, turns_of, report, phase_line, entry_line, end_line};
+ghost use Rattle.ft_model.specs.Report.{event_line, packet_line, line_of_packet, forward_words, got_words, way_of, turns_of, report, profile_line, phase_line};
+ghost use Rattle.ft_model.specs.Report.{entry_line, end_line};
 ghost use Rattle.ft_model.specs.Schedule.{clients_of};
 ghost use Rattle.ft_model.specs.World.{Moment};
 ghost use Rattle.ft_model.specs.Legal.{Legal, machines};
@@ -20,6 +21,7 @@ ghost use Rattle.ft_model.specs.declared.way.Way.{Way};
 ghost use Rattle.ft_model.specs.declared.way.Way.TheVariants.{ClientToServer, ServerToClient, ServerToLogger, LoggerToServer, HeadToTail, TailToHead};
 ghost use Rattle.ft_model.specs.declared.event.Event.TheVariants.{Begin, Boot, Deliver, Send, Stop};
 ghost use Rattle.ft_model.specs.declared.phase.Phase.TheVariants.{Established};
+ghost use Rattle.tcp_rules.specs.declared.profile.Profile.TheVariants.{Plain, Wan};
 
 use server_trait::Service;
 
@@ -61,6 +63,8 @@ pub fn worked_lines()
     ensures forward { line_of_packet 2 HeadToTail (forward_words 1 (record { boot = 1; body = HelloMsg })) ≡ codes "packet 2 H>T Forward number 1 Hello boot 1\n" }
     ensures got { line_of_packet 4 TailToHead (got_words 1) ≡ codes "packet 4 T>H Got number 1\n" }
 
+    ensures profile { profile_line Wan ≡ codes "profile wan\n" }
+    ensures plain_profile { profile_line Plain ≡ [] }
     ensures client { phase_line 1 Established (codes "hello") ≡ codes "client 1 open accepted 5 68656c6c6f\n" }
     ensures log { entry_line client_key 5 false 0 false (5 ∷ [])
         ≡ codes "log 192.0.2.1:40000 length 5 fin 0 acked 0 done 0 reads 5\n" }
@@ -100,7 +104,8 @@ pub fn turns_of_reports()
         → AllByRecursion (IsReadableTurn schedule.server (clients_of schedule.server schedule.clients)) trace
         → AllByRecursion (IsReadableTurn other.server (clients_of other.server other.clients)) also
         → report schedule trace ≡ report other also
-        → (schedule.service ≡ other.service) × (schedule.server ≡ other.server) × (schedule.twin ≡ other.twin) × (schedule.marks ≡ other.marks) × (schedule.clients ≡ other.clients) × (turns_of trace ≡ turns_of also) }
+        → (schedule.service ≡ other.service) × (schedule.server ≡ other.server) × (schedule.profile ≡ other.profile) × (schedule.twin ≡ other.twin)
+        × (schedule.marks ≡ other.marks) × (schedule.clients ≡ other.clients) × (turns_of trace ≡ turns_of also) }
 {}
 
 /// A report determines its schedule and its trace: two legal traces have the same report only where their schedules are the same, and the traces too.

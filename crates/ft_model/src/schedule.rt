@@ -7,6 +7,7 @@ use crate::event::Event;
 use ft_io::{Addr, Key, NoMemory, Octets};
 use std::alloc::Global;
 use std::marker::Model;
+use tcp_rules::Profile;
 
 /// The services that a schedule can name.
 #[derive(Clone, Copy, PartialEq, Eq)]
@@ -162,6 +163,8 @@ pub struct Schedule {
     pub service: ServiceKind,
     /// The server's address and port.
     pub server: Addr,
+    /// The profile of the server.
+    pub profile: Profile,
     /// Whether two loggers keep the log, a head and a tail.
     pub twin: bool,
     /// The number of reads after which the server marks the log, if it does.
@@ -177,7 +180,7 @@ pub struct Schedule {
 pub enum LineWhy {
     /// A byte that is no printable ASCII.
     Character,
-    /// A first word that begins no line, or a service that doesn't exist.
+    /// A first word that begins no line, or a service or a profile that doesn't exist.
     Word,
     /// A line that isn't allowed at this place.
     Place,

@@ -3,6 +3,7 @@
 -- Twenty-five events, twenty-seven packets.
 use Rattle.std.specs.Prelude.{ℕ, codes, zero, suc, ◌+◌, ◌*◌, ◌%◌, ◌==◌, min, false, None, Some, List, [], ◌∷◌, ◌++◌, length, pos}
 use Rattle.tcp_rules.specs.Profile.{plain}
+use Rattle.tcp_rules.specs.declared.profile.Profile.TheVariants.{Plain}
 use Rattle.seq_arith.specs.Message.Body.{DataMsg, StableMsg, ReadMsg, ReadsMsg}
 use Rattle.server_trait.specs.Service.{Served, Machine}
 use Rattle.ft_model.specs.Client.{Client}
@@ -53,6 +54,7 @@ abbrev pub schedule : Schedule
 schedule = record {
   service = Transfer;
   server = server;
+  profile = Plain;
   twin = false;
   marks = None;
   clients = record { key = key; isn = 1000; script = Bytes requests } ∷ [];

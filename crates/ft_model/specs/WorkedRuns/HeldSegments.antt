@@ -1,6 +1,7 @@
 -- Two segments of a client arrive in the wrong order. The second one's text is held until the first one fills the gap, and is then taken and copied. Fourteen
 -- events, fourteen packets.
 use Rattle.std.specs.Prelude.{ℕ, codes, false, None, Some, List, [], ◌∷◌, pos}
+use Rattle.tcp_rules.specs.declared.profile.Profile.TheVariants.{Plain}
 use Rattle.seq_arith.specs.Message.Body.{DataMsg}
 use Rattle.ft_model.specs.Client.{Client}
 use Rattle.ft_model.specs.Network.{Packet}
@@ -20,6 +21,7 @@ abbrev pub schedule : Schedule
 schedule = record {
   service = Echo;
   server = server;
+  profile = Plain;
   twin = false;
   marks = None;
   clients = record { key = key; isn = 1000; script = Bytes hello_text } ∷ [];

@@ -2,6 +2,7 @@
 -- packets.
 use Rattle.std.specs.Prelude.{ℕ, codes, false, Some, None, List, [], ◌∷◌}
 use Rattle.tcp_rules.specs.Profile.{plain}
+use Rattle.tcp_rules.specs.declared.profile.Profile.TheVariants.{Plain}
 use Rattle.seq_arith.specs.Message.Body.{HelloMsg, SummaryMsg, OpenedMsg, StableMsg, ReadsMsg}
 use Rattle.ft_model.specs.Client.{Client}
 use Rattle.ft_model.specs.Network.Packet.{To_server}
@@ -21,6 +22,7 @@ abbrev pub schedule : Schedule
 schedule = record {
   service = Echo;
   server = server;
+  profile = Plain;
   twin = false;
   marks = None;
   clients = record { key = key; isn = 1000; script = Bytes hello_text } ∷ [];
