@@ -1,4 +1,5 @@
 -- What is stored of a connection's marks, and which mark a connection gives.
+use Rattle.limits.specs.Limits.{longest_stream, most_units}
 use Rattle.std.specs.Prelude.{ℕ, ◌≤◌, ◌+◌, ◌^◌, Bool, false, ◌&&◌, nat_lt, nat_le, is_none, Option, Some, None, List, length, if◌then◌else◌}
 use Rattle.seq_arith.specs.Mark.{Mark}
 use Rattle.mark_laws.specs.Marking.{Marking}
@@ -13,9 +14,9 @@ mark_with quiet state = record { reads = quiet.reads; length = quiet.length; mad
 -- a mark that a message can hold
 pub record IsTellableMark (m : Mark) : Type 0 where
   pub some : 1 ≤ m.reads
-  pub reads : m.reads ≤ 2 ^ 24 + 1
-  pub bytes : m.length ≤ 2 ^ 24
-  pub made : m.made ≤ 2 ^ 24
+  pub reads : m.reads ≤ most_units
+  pub bytes : m.length ≤ longest_stream
+  pub made : m.made ≤ longest_stream
   pub state : length m.state ≤ 1100
 
 -- the numbers of the mark that is due: none is outstanding, at least `every` reads were made after the last one, and the connection is quiet

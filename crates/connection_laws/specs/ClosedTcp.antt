@@ -1,5 +1,6 @@
 -- A wrapped connection whose TCP is CLOSED, since it has taken the client's FIN and its own is acknowledged: TCP sends the client nothing more, and the
 -- connection itself answers.
+use Rattle.limits.specs.Limits.{longest_stream}
 use Rattle.std.specs.Prelude.{◌≡◌, ◌^◌, ◌%◌, ◌<◌, ℕ, true, false, ◌+◌, ◌-◌, ◌≤◌, length, max, sum, List, [], None}
 use Rattle.ft_io.specs.declared.Addr.{Addr}
 use Rattle.server_trait.specs.Service.{Machine}
@@ -23,7 +24,7 @@ pub record CountsFrom (u i delta : ℕ) (p : Point) (e : Tcb) : Type 0 where
   pub una : p.una - u ≡ e.sending.una
   pub sent : p.sent - u ≡ e.sending.sent
   pub above : u ≤ p.una
-  pub small : u ≤ 2 ^ 24
+  pub small : u ≤ longest_stream
   pub sisn : p.sisn < 2 ^ 32
   pub shift : (i + delta) % 2 ^ 32 ≡ (p.sisn + u) % 2 ^ 32
   pub delta_fits : delta < 2 ^ 32

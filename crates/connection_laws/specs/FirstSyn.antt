@@ -1,4 +1,5 @@
 -- How a new connection begins: its TCP receives the SYN with the logged numbers, and sends the SYN-ACK (RFC 9293, 3.10.7.2).
+use Rattle.limits.specs.Limits.{largest_segment, least_segment, longest_stream}
 use Rattle.std.specs.Prelude.{Bool, ◌≡◌, ◌≤◌, ◌<◌, ◌^◌, List, [], ◌∷◌}
 use Rattle.ft_io.specs.declared.Addr.{Addr}
 use Rattle.seq_arith.specs.Message.{Numbers}
@@ -18,8 +19,8 @@ use Rattle.connection_laws.specs.Turn.{StandsInside}
 
 -- numbers with which a connection may open
 pub record MayOpen (numbers : Numbers) : Type 0 where
-  pub least : 64 ≤ numbers.mss
-  pub most : numbers.mss ≤ 1460
+  pub least : least_segment ≤ numbers.mss
+  pub most : numbers.mss ≤ largest_segment
   pub cisn : numbers.cisn < 2 ^ 32
   pub sisn : numbers.sisn < 2 ^ 32
 
@@ -28,7 +29,7 @@ abbrev pub opened_syn : Addr → Numbers → Segment
 opened_syn local numbers = forged_syn numbers.key local numbers.cisn 0 numbers.mss
 
 abbrev pub listens_with : (measures : Bool) → Addr → Numbers → Tcb
-listens_with measures local numbers = listening_measuring measures local numbers.sisn (2 ^ 24)
+listens_with measures local numbers = listening_measuring measures local numbers.sisn longest_stream
 
 -- output begins at its start, with the initial sequence number that the client knows. What is sent, as the client receives it, is what the law says, and the
 -- connection adds nothing

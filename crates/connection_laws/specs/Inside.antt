@@ -1,6 +1,7 @@
 -- What the inner TCP of a wrapped connection sees: the same connection with an initial sequence number of its own. Its output continues where the restart
 -- continued, its user writes all output except what was acknowledged before, and all that is taken may be acknowledged (FT-TCP, INFOCOM 2001: the restarted TCP
 -- counts from a number of its own, and the wrappers hide the difference).
+use Rattle.limits.specs.Limits.{longest_stream}
 use Rattle.std.specs.Prelude.{◌≡◌, ℕ, false, ◌+◌, ◌-◌, ◌%◌, ◌^◌, ◌<◌, ◌≤◌, [], drop, length}
 use Rattle.server_trait.specs.Service.{Machine, Served, Run}
 use Rattle.tcp_rules.specs.Coming.{nothing_early}
@@ -29,7 +30,7 @@ inside u i p =
 -- past what is acknowledged, sent, or allowed by the client's window
 pub record GoesOn (u i delta : ℕ) (p : Point) : Type 0 where
   pub shift : (i + delta) % 2 ^ 32 ≡ (p.sisn + u) % 2 ^ 32
-  pub small : u ≤ 2 ^ 24
+  pub small : u ≤ longest_stream
   pub sisn : p.sisn < 2 ^ 32
   pub delta_fits : delta < 2 ^ 32
   pub i_fits : i < 2 ^ 32

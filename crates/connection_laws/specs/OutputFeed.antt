@@ -1,4 +1,5 @@
 -- How the north wrapper's output gets to the inner TCP.
+use Rattle.limits.specs.Limits.{buffer_size, longest_stream}
 use Rattle.std.specs.Prelude.{◌⊎◌, ◌≡◌, ℕ, Bool, false, ◌+◌, ◌≤◌, ◌^◌, List, [], ◌∷◌, ◌++◌, map, length, if◌then◌else◌}
 use Rattle.server_trait.specs.Service.{Machine}
 use Rattle.ft_model.specs.Network.{Packet}
@@ -33,7 +34,7 @@ pub record Feeds {State : Type 0} (service : Machine State) (u : ℕ) (p : Point
   pub holds : HoldsUpTo (answered_run service p).output (e.sending.una + u) given e.sending.held
   pub until : bytes_end e.sending + u ≡ given
   pub low : given ≤ released service p
-  pub queued : length e.sending.held ≤ 65535
+  pub queued : length e.sending.held ≤ buffer_size
 
 -- the calls that a turn of the north wrapper makes: it writes, may close, and reads
 abbrev pub north_calls : (text : List ℕ) → (closes : Bool) → (reads : List ℕ) → List Call
@@ -52,7 +53,7 @@ pub record TurnsNorth {S : Type 0} (service : Machine S) (boot u i delta : ℕ) 
   pub goes_unreset : reset_after news p ≡ false
   pub kept : e.reset ≡ false
   pub shut : e.sending.closed ≡ old.shut
-  pub short : released service q ≤ 2 ^ 24
+  pub short : released service q ≤ longest_stream
   pub feeds : Feeds service u p given e
   pub stands : NorthStands service (before_reads p q) given old
   pub turn : NorthTurn service tcp_reader tcp_writer (before_reads p q) given old (arrived (news_inside delta p news) e) reads new t
@@ -69,7 +70,7 @@ pub record FedBy {S : Type 0} (service : Machine S) (u i : ℕ) (q : Point) (giv
   pub kept : (flushed (used calls m)).reset ≡ false
   pub shut : (flushed (used calls m)).sending.closed ≡ new.shut
   pub exact : new.shut ≡ is_all_given service q given
-  pub all_or_full : (given ≡ released service q) ⊎ (length (flushed (used calls m)).sending.held ≡ 65535)
+  pub all_or_full : (given ≡ released service q) ⊎ (length (flushed (used calls m)).sending.held ≡ buffer_size)
 
 -- the north wrapper's turn, as TCP sees it
 pub record FedInside {S : Type 0} (service : Machine S) (u i delta : ℕ) (news : News) (p q : Point) (given : ℕ) (new : NorthState S) (calls : List Call) (e t : Tcb) : Type 0 where

@@ -1,4 +1,5 @@
 -- The parts of a wrapped connection at a point: its TCP, its north wrapper, and how much output that has given to TCP.
+use Rattle.limits.specs.Limits.{buffer_size}
 use Rattle.std.specs.Prelude.{true, ◌≡◌, ◌⊎◌, ℕ, Bool, false, ◌≤◌, ◌&&◌, ◌||◌, ◌++◌, min, None, List, [], ◌∷◌, length, if◌then◌else◌}
 use Rattle.ft_io.specs.declared.Addr.{Addr}
 use Rattle.server_trait.specs.Service.{Machine}
@@ -43,7 +44,7 @@ pub record PartsRest {S : Type 0} (service : Machine S) (u i delta given : ℕ) 
   pub stand : PartsStand service u i delta given p n e
   pub no_read : next_read service p ≡ None
   pub exact : n.shut ≡ is_all_given service p given
-  pub all_or_full : (given ≡ released service p) ⊎ (length e.sending.held ≡ 65535)
+  pub all_or_full : (given ≡ released service p) ⊎ (length e.sending.held ≡ buffer_size)
 
 -- what the north wrapper learns before its turn
 abbrev pub north_after_news : {S : Type 0} → News → NorthState S → NorthState S

@@ -1,4 +1,5 @@
 -- How a fresh endpoint is brought to where a restart continues: by forged segments.
+use Rattle.limits.specs.Limits.{largest_segment, least_segment, longest_stream}
 use Rattle.std.specs.Prelude.{false, ◌≡◌, ◌≤◌, ◌<◌, true, length, sum, ℕ, Bool, ◌+◌, ◌-◌, ◌%◌, ◌^◌, Option, Some, None, [], if◌then◌else◌}
 use Rattle.ft_io.specs.declared.Addr.{Addr}
 use Rattle.ft_io.specs.declared.Key.{Key}
@@ -38,7 +39,7 @@ forged_fin key local cisn fetched i = forged key local (number_at cisn fetched) 
 unfoldable pub connected_measuring : (measures : Bool) → Key → Addr → (cisn fetched mss i : ℕ) → Tcb
 connected_measuring measures key local cisn fetched mss i =
     turned (Comes (forged_ack key local cisn fetched i)) []
-    (turned (Comes (forged_syn key local cisn fetched mss)) [] (listening_measuring measures local i (2 ^ 24 - fetched)))
+    (turned (Comes (forged_syn key local cisn fetched mss)) [] (listening_measuring measures local i (longest_stream - fetched)))
 
 abbrev pub spliced_measuring : (measures : Bool) → Key → Addr → (cisn fetched mss i : ℕ) → (fin : Bool) → Tcb
 spliced_measuring measures key local cisn fetched mss i fin =
@@ -54,12 +55,12 @@ spliced = spliced_measuring false
 
 -- the entry and the initial sequence number from which a restart continues
 pub record GoesOnFrom {State : Type 0} (service : Machine State) (e : Entry) (i : ℕ) : Type 0 where
-  pub least : 64 ≤ e.mss
-  pub most : e.mss ≤ 1460
-  pub short : length e.bytes ≤ 2 ^ 24
-  pub fin : e.fin ≡ true → length e.bytes < 2 ^ 24
+  pub least : least_segment ≤ e.mss
+  pub most : e.mss ≤ largest_segment
+  pub short : length e.bytes ≤ longest_stream
+  pub fin : e.fin ≡ true → length e.bytes < longest_stream
   pub cut : sum e.lengths ≤ length e.bytes
-  pub small : resumed_at service e ≤ 2 ^ 24
+  pub small : resumed_at service e ≤ longest_stream
   pub sisn : e.sisn < 2 ^ 32
   pub i_fits : i < 2 ^ 32
 

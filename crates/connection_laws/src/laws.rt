@@ -1,5 +1,6 @@
 //! The laws of a wrapped connection and its inner TCP.
 
+ghost use Rattle.limits.specs.Limits.{longest_stream};
 ghost use Rattle.std.specs.Prelude.{◌≡◌, ◌≤◌, ◌<◌, ◌^◌, ◌++◌, ℕ, false, List, [], length};
 ghost use Rattle.ft_io.specs.declared.Addr.{Addr};
 ghost use Rattle.server_trait.specs.Service.{machine};
@@ -96,7 +97,7 @@ pub fn connections_turn_by_their_parts<S: Service>()
     ensures { (fresh : S) (boot u i delta given : ℕ) (news : News) (before : Point) (old new : NorthState S) (reads : List ReadRecord) (e t : Tcb)
         → PartsStand (machine fresh S.after) u i delta given before old e → NewsFit before news → IsLater news before → reset_after news before ≡ false
         → NorthTurns S.after tcp_reader tcp_writer (acknowledged_after news before) (north_after_news news old) (arrived (news_inside delta before news) e) reads new t
-        → new.run.made ≤ 2 ^ 24
+        → new.run.made ≤ longest_stream
         → PartsTurn (machine fresh S.after) e.local boot u i delta news before (lengths_of reads) new t }
 {}
 
@@ -104,7 +105,7 @@ pub fn connections_turn_by_their_parts<S: Service>()
 pub fn new_connections_start_with_their_parts<S: Service>()
     ensures { (fresh : S) (profile : Profile) (boot : ℕ) (local : Addr) (numbers : Numbers) (old new : NorthState S) (reads : List ReadRecord) (t : Tcb) → MayOpen numbers
         → NorthStands (machine fresh S.after) (point_opened profile numbers) 0 old → old.shut ≡ false
-        → NorthTurns S.after tcp_reader tcp_writer 0 old (received (listens_with profile.measures local numbers) (opened_syn local numbers)) reads new t → new.run.made ≤ 2 ^ 24
+        → NorthTurns S.after tcp_reader tcp_writer 0 old (received (listens_with profile.measures local numbers) (opened_syn local numbers)) reads new t → new.run.made ≤ longest_stream
         → PartsTurn (machine fresh S.after) local boot 0 numbers.sisn 0 Begins (point_opened profile numbers) (lengths_of reads) new t }
 {}
 

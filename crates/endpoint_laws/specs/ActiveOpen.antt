@@ -1,4 +1,5 @@
 -- An endpoint of `connecting` before its SYN is answered, and what is required of the segments that arrive.
+use Rattle.limits.specs.Limits.{longest_stream}
 use Rattle.std.specs.Prelude.{◌≡◌, ℕ, false, ◌<◌, ◌≤◌, ◌^◌, length, None}
 use Rattle.ft_model.specs.News.{News}
 use Rattle.ft_model.specs.News.News.{Comes}
@@ -21,7 +22,7 @@ pub record IsConnecting (iss limit : ℕ) (e : Tcb) : Type 0 where
         rest = e.sending.rest;
       }
   pub timing : KeepsTime e.sending.timing
-  pub written : length e.sending.held ≤ 2 ^ 24
+  pub written : length e.sending.held ≤ longest_stream
   pub interval : 1 ≤ e.sending.interval
   pub runs : 1 ≤ e.sending.rest
   pub ack_pending : e.ack_pending ≡ false

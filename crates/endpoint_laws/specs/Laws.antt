@@ -2,6 +2,7 @@
 -- `tcp_endpoint`'s `Arrival` and `Output`. The laws are Taken and Sending, the one on pending ACKs, and that of the timer. They hold of passive and active
 -- opens. For passive ones, `Refinement` states the same in the model's own definitions. The endpoint's limit bounds the right edge of its window in place of
 -- 2^24, and the target is the bytes written, and one more once the user has closed.
+use Rattle.limits.specs.Limits.{buffer_size, longest_stream}
 use Rattle.std.specs.Prelude.{◌≡◌, ℕ, Bool, true, false, pos, ◌+◌, ◌-◌, ◌*◌, ◌^◌, ◌<◌, ◌≤◌, ◌-ℤ◌, ◌≤ℤ◌, ◌==◌, ◌&&◌, ◌||◌, not, nat_lt, int_lt, int_le, max, min, nat_abs, length, if◌then◌else◌}
 use Rattle.seq_arith.specs.Number.{offset_of}
 use Rattle.tcp_rules.specs.Arrival.{int_eq, is_acceptable_or_at_edge, is_usable, is_beyond, una_after, updates_window}
@@ -116,7 +117,7 @@ pub record IsSentBy (e : Tcb) (p : Segment) (after : Sending) : Type 0 where
 
 -- a packet that acknowledges nothing far before our stream; its fields fit their bytes
 pub record IsUsual (e : Tcb) (p : Segment) : Type 0 where
-  pub near : has_ack p ≡ true → (pos 0 -ℤ pos (2 ^ 30 + 2 ^ 24)) ≤ℤ ack_at e p
+  pub near : has_ack p ≡ true → (pos 0 -ℤ pos (2 ^ 30 + longest_stream)) ≤ℤ ack_at e p
   pub seq : p.head.seq < 2 ^ 32
   pub window : p.head.window ≤ 65535
   pub text : length p.payload ≤ 65535
@@ -128,20 +129,20 @@ pub record KeepsTime (t : Timing) : Type 0 where
 
 -- The bounds of an endpoint's halves, where its limit is at most 2^24 bytes and its user has written at most 2^24. Our FIN counts as one more unit
 pub record Bounds (r : Receiving) (s : Sending) : Type 0 where
-  pub limit : r.limit ≤ 2 ^ 24
+  pub limit : r.limit ≤ longest_stream
   pub early : StandsBehind (taken r) (receive_edge r) r.fin r.early
   pub taken : taken r ≤ r.limit
   pub order : s.una ≤ s.sent
   pub syn_unacked : s.syn_acked ≡ false → s.sent ≡ 0
   pub shut : s.syn_acked ≡ false → s.edge ≡ 0
   pub flight : s.sent ≤ s.una + length s.held + one_if s.fin_sent
-  pub written : s.una + length s.held ≤ 2 ^ 24 + one_if s.fin_sent
-  pub sent : s.sent ≤ 2 ^ 24 + one_if s.fin_sent
+  pub written : s.una + length s.held ≤ longest_stream + one_if s.fin_sent
+  pub sent : s.sent ≤ longest_stream + one_if s.fin_sent
   pub wl1 : s.syn_acked ≡ true → IsNearFirst (offset_of r.irs s.wl1)
   pub wl1_fits : s.wl1 ≤ 2 ^ 32 - 1
   pub wl2 : s.wl2 ≤ s.una
-  pub edge : s.edge ≤ 2 ^ 24 + 2 ^ 16 + 1
-  pub reach : s.edge ≤ s.una + 65535
+  pub edge : s.edge ≤ longest_stream + 2 ^ 16 + 1
+  pub reach : s.edge ≤ s.una + buffer_size
   pub congestion : IsOpen s.mss s.congestion
   pub lost : s.congestion.lost ≤ s.sent - s.una
   pub timing : KeepsTime s.timing

@@ -1,4 +1,5 @@
 -- An endpoint of `listen` before a SYN has arrived, and whether news brings it one.
+use Rattle.limits.specs.Limits.{longest_stream}
 use Rattle.std.specs.Prelude.{◌≡◌, ℕ, Bool, false, ◌≤◌, ◌^◌, length, None}
 use Rattle.ft_model.specs.News.{News}
 use Rattle.ft_model.specs.News.News.{Comes}
@@ -13,7 +14,7 @@ pub record IsListening (iss limit : ℕ) (e : Tcb) : Type 0 where
   pub name : e.name ≡ Listen
   pub receiving : e.receiving ≡ receiving_up_to (kept_limit limit)
   pub sending : e.sending ≡ record (sending_measuring e.sending.timing.measures iss) { held = e.sending.held }
-  pub written : length e.sending.held ≤ 2 ^ 24
+  pub written : length e.sending.held ≤ longest_stream
   pub ack_pending : e.ack_pending ≡ false
   pub retransmission_due : e.retransmission_due ≡ false
   pub probe : e.probe ≡ false

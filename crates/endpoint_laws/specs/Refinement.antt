@@ -1,6 +1,7 @@
 -- An endpoint at a point of `ft_model`, and what its turns are by the laws there. Those laws have only one limit, 2^24 bytes. If an endpoint's limit is
 -- smaller, the peer's stream at its point begins as many bytes later, as if they had been fetched. So its limit takes the place of 2^24, and if it is 2^24,
 -- nothing is fetched. The point has the bytes that the user has read; the endpoint doesn't store them any more.
+use Rattle.limits.specs.Limits.{buffer_size, longest_stream}
 use Rattle.std.specs.Prelude.{◌≡◌, ℕ, Bool, true, false, pos, ◌+◌, ◌≤◌, ◌%◌, ◌^◌, ◌+ℤ◌, ◌==◌, ◌&&◌, ◌||◌, not, max, List, [], ◌∷◌, ◌++◌, length, drop, sum, if◌then◌else◌, take, ◌⊎◌}
 use Rattle.std.specs.Bool.{MatchBool}
 use Rattle.ft_io.specs.declared.Addr.{Addr}
@@ -34,7 +35,7 @@ use Rattle.endpoint_laws.specs.Turn.{Call, MayUse, IsUsualNews, IsBetweenTurns, 
 -- the receiving half
 pub record ReceivesAt (p : Point) (e : Tcb) : Type 0 where
   pub cisn : e.receiving.irs ≡ (p.cisn + p.fetched) % 2 ^ 32
-  pub limit : e.receiving.limit + p.fetched ≡ 2 ^ 24
+  pub limit : e.receiving.limit + p.fetched ≡ longest_stream
   pub read : max p.fetched (sum p.lengths) ≡ e.receiving.read + p.fetched
   pub long : length p.taken ≡ taken e.receiving + p.fetched
   pub unread : drop (e.receiving.read + p.fetched) p.taken ≡ e.receiving.unread
@@ -71,7 +72,7 @@ pub record HasWrittenAll {State : Type 0} (service : Machine State) (p : Point) 
 
 -- .. or the send buffer is full, and the user hasn't closed yet
 pub record HasFilled {State : Type 0} (service : Machine State) (p : Point) (s : Sending) : Type 0 where
-  pub full : length s.held ≡ 65535
+  pub full : length s.held ≡ buffer_size
   pub open_still : s.closed ≡ false
   pub written : bytes_end s ≤ released service p
 

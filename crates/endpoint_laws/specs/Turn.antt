@@ -1,5 +1,6 @@
 -- A turn of an endpoint, from one flush to the next: a segment arrives, a tick passes, or neither; the user makes calls, and one flush ends the turn. In a turn
 -- without either, only the user's calls and the flush change the endpoint.
+use Rattle.limits.specs.Limits.{longest_stream}
 use Rattle.std.specs.Prelude.{◌≡◌, ℕ, true, false, ◌+◌, ◌-◌, ◌≤◌, ◌^◌, List, [], ◌∷◌, length, None}
 use Rattle.seq_arith.specs.Packet.{Segment}
 use Rattle.ft_model.specs.News.{News}
@@ -53,7 +54,7 @@ pub record Events : Type 0 where
 -- an allowed call: no more is read than there is, no more is written than there is room for, and a stream has at most 2^24 bytes
 abbrev pub MayCall : Call → Tcb → Type 0
 MayCall (Reads n) e = n ≤ length e.receiving.unread
-MayCall (Writes bytes) e = (length bytes ≤ write_room e) × (bytes_end e.sending + length bytes ≤ 2 ^ 24)
+MayCall (Writes bytes) e = (length bytes ≤ write_room e) × (bytes_end e.sending + length bytes ≤ longest_stream)
 MayCall Closes e = Unit {0}
 
 abbrev pub MayUse : List Call → Tcb → Type 0

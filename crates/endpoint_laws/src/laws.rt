@@ -1,6 +1,7 @@
 //! The laws that an endpoint satisfies, each the contract of a function with an empty body, for the crates above to cite. They don't use the functions that the
 //! code's contracts name, but the terms of `ft_model`'s laws.
 
+ghost use Rattle.limits.specs.Limits.{longest_stream};
 ghost use Rattle.std.specs.Prelude.{◌≡◌, ℕ, ◌+◌, ◌%◌, ◌<◌, ◌≤◌, ◌^◌, Bool, true, false, List, length};
 ghost use Rattle.seq_arith.specs.Packet.{Segment};
 ghost use Rattle.tcp_rules.specs.Timing.{first_base};
@@ -77,15 +78,15 @@ pub fn turns_time_what_they_send()
 /// A passive open with a limit of at most 2^24 bytes is within the bounds (`IsBounded`) ..
 #[tactic(auto, using(crate::proofs::Bounding::bounded_at_listen, crate::proofs::Bounding::bounded_at_listen_measuring))]
 pub fn passive_opens_are_bounded()
-    ensures plain { (local : Addr) (iss limit : ℕ) → limit ≤ 2 ^ 24 → IsBounded (listening local iss limit) }
-    ensures measuring { (measures : Bool) (local : Addr) (iss limit : ℕ) → limit ≤ 2 ^ 24 → IsBounded (listening_measuring measures local iss limit) }
+    ensures plain { (local : Addr) (iss limit : ℕ) → limit ≤ longest_stream → IsBounded (listening local iss limit) }
+    ensures measuring { (measures : Bool) (local : Addr) (iss limit : ℕ) → limit ≤ longest_stream → IsBounded (listening_measuring measures local iss limit) }
 {}
 
 /// .. and so is an active one.
 #[tactic(auto, using(crate::proofs::Bounding::bounded_at_connect, crate::proofs::Bounding::bounded_at_connect_measuring))]
 pub fn active_opens_are_bounded()
-    ensures plain { (local remote : Addr) (iss limit : ℕ) → limit ≤ 2 ^ 24 → IsBounded (connecting local remote iss limit) }
-    ensures measuring { (measures : Bool) (local remote : Addr) (iss limit : ℕ) → limit ≤ 2 ^ 24
+    ensures plain { (local remote : Addr) (iss limit : ℕ) → limit ≤ longest_stream → IsBounded (connecting local remote iss limit) }
+    ensures measuring { (measures : Bool) (local remote : Addr) (iss limit : ℕ) → limit ≤ longest_stream
         → IsBounded (connecting_measuring measures local remote iss limit) }
 {}
 
@@ -129,7 +130,7 @@ pub fn reads_keep_the_bounds()
 /// .. when the user writes and has written no more than 2^24 bytes, ..
 #[tactic(auto, using(crate::proofs::Bounding::bounded_by_write))]
 pub fn writes_keep_the_bounds()
-    ensures { (e : Tcb) (bytes : List ℕ) → e.sending.una + length e.sending.held + length bytes ≤ 2 ^ 24 → IsBounded e → IsBounded (after_write e bytes) }
+    ensures { (e : Tcb) (bytes : List ℕ) → e.sending.una + length e.sending.held + length bytes ≤ longest_stream → IsBounded e → IsBounded (after_write e bytes) }
 {}
 
 /// .. and when the user closes.
@@ -194,7 +195,7 @@ pub fn listening_goes_on()
 /// The point counts as fetched as many bytes as the endpoint's limit is below 2^24: none if the limit is 2^24.
 pub fn syns_lead_to_points()
     ensures { (e : Tcb) (iss limit cisn : ℕ) (fetched : List ℕ) (syn : Segment) (calls : List Call)
-        → IsListening iss limit e → limit + length fetched ≡ 2 ^ 24 → is_syn syn ≡ true → syn.head.seq ≡ (cisn + length fetched) % 2 ^ 32
+        → IsListening iss limit e → limit + length fetched ≡ longest_stream → is_syn syn ≡ true → syn.head.seq ≡ (cisn + length fetched) % 2 ^ 32
         → MayUse calls (received e syn)
         → BeginsAt (point_begun e.sending.timing.measures fetched (numbers_with cisn iss syn)) e syn calls }
 {}
@@ -223,7 +224,7 @@ pub fn turns_have_points()
 /// initial sequence number of both sides, every limit up to 2^24, and every user.
 pub fn endpoints_run_by_the_laws()
     ensures { (e : Tcb) (iss limit cisn : ℕ) (fetched : List ℕ) (syn : Segment) (calls : List Call) (steps : List Step)
-        → IsListening iss limit e → limit + length fetched ≡ 2 ^ 24 → is_syn syn ≡ true → syn.head.seq ≡ (cisn + length fetched) % 2 ^ 32
+        → IsListening iss limit e → limit + length fetched ≡ longest_stream → is_syn syn ≡ true → syn.head.seq ≡ (cisn + length fetched) % 2 ^ 32
         → MayUse calls (received e syn)
         → BeginsAt (point_begun e.sending.timing.measures fetched (numbers_with cisn iss syn)) e syn calls
         × RunsByLaws (point_begun e.sending.timing.measures fetched (numbers_with cisn iss syn)) (turned (Comes syn) calls e) steps }
@@ -370,7 +371,7 @@ pub fn connecting_goes_on()
 /// After the turn in which its SYN is acknowledged, an active open satisfies all that the laws on connections that have begun require: it is as such a
 /// connection must be between two turns, and in the state that its halves imply.
 pub fn answers_begin()
-    ensures { (iss limit : ℕ) (news : News) (calls : List Call) (e : Tcb) → IsConnecting iss limit e → limit ≤ 2 ^ 24 → FieldsFit news
+    ensures { (iss limit : ℕ) (news : News) (calls : List Call) (e : Tcb) → IsConnecting iss limit e → limit ≤ longest_stream → FieldsFit news
         → MayUse calls (arrived news e) → has_begun (before_flush news calls e).name ≡ true
         → IsBetweenTurns (turned news calls e) × IsNamedRightly (turned news calls e) × (has_begun (turned news calls e).name ≡ true) }
 {}

@@ -1,4 +1,5 @@
 -- What holds of every schedule that a text spells.
+use Rattle.limits.specs.Limits.{longest_stream}
 use Rattle.std.specs.Prelude.{◌≡◌, ℕ, false, Some, ◌^◌, ◌<◌, ◌≤◌, List, [], ◌∷◌, ◌++◌, length}
 use Rattle.std.specs.List.{AllByRecursion}
 use Rattle.ft_model.specs.Grammar.{is_taken}
@@ -17,6 +18,6 @@ AreApart schedule before (client ∷ more) =
 pub record IsAccepted (schedule : Schedule) : Type 0 where
   pub clients : length schedule.clients ≤ 16
   pub addresses : AreApart schedule [] schedule.clients
-  pub scripts : AllByRecursion (λ client. length (bytes_of client.script) ≤ 2 ^ 24) schedule.clients
+  pub scripts : AllByRecursion (λ client. length (bytes_of client.script) ≤ longest_stream) schedule.clients
   pub events : length schedule.events ≤ 100000
   pub marks : (every : ℕ) → schedule.marks ≡ Some every → (0 < every) × (every ≤ 1000) × (schedule.twin ≡ false)

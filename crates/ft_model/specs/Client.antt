@@ -1,4 +1,5 @@
 -- The client: what it may send, and what it does with what arrives (RFC 9293, 3.10). Its offsets are units: bytes, and one more for a FIN.
+use Rattle.limits.specs.Limits.{largest_segment}
 use Rattle.std.specs.Prelude.{◌≡◌, ℕ, ℤ, Bool, true, false, pos, ◌+◌, ◌-◌, ◌^◌, ◌==◌, ◌&&◌, ◌||◌, not, nat_lt, nat_le, int_lt, max, min, Option, Some, None, option_map, List, [], ◌++◌, length, take, drop, nat_abs, if◌then◌else◌}
 use Rattle.ft_io.specs.declared.Addr.{Addr}
 use Rattle.ft_io.specs.declared.Key.{Key}
@@ -96,7 +97,7 @@ suits_phase client (Refuse number) = is_opening client.phase
 -- text begins no earlier than at the first unacknowledged unit and no later than at the first unsent one, has 1 to 1,460 bytes and stays within the script. A
 -- FIN comes once the whole script is sent. A refused acknowledgement is any but that of the SYN (RFC 9293, 3.10.7.3)
 abbrev pub suits_range : Client → Move → Bool
-suits_range client (Text from len) = nat_le client.acknowledged from && nat_le from client.sent && nat_le 1 len && nat_le len 1460 && nat_le (from + len) (length client.script)
+suits_range client (Text from len) = nat_le client.acknowledged from && nat_le from client.sent && nat_le 1 len && nat_le len largest_segment && nat_le (from + len) (length client.script)
 suits_range client Fin = nat_le (length client.script) client.sent
 suits_range client (Refuse number) = nat_lt number (2 ^ 32) && not (number == number_at client.isn 0)
 suits_range client _ = true

@@ -1,6 +1,7 @@
 -- The law Copy: which part of a segment is sent to the logger, and which part of the held text that is taken in the same turn (FT-TCP, INFOCOM 2001: the
 -- south side wrapper). No Data is stored for retransmission: where one is lost, the client gets no acknowledgement, and so retransmits. Whether the segment
 -- was acceptable doesn't matter.
+use Rattle.limits.specs.Limits.{largest_segment}
 use Rattle.std.specs.Prelude.{ℕ, ℤ, Bool, false, zero, suc, pos, negsuc, ◌+◌, ◌-◌, ◌&&◌, ◌||◌, not, nat_lt, nat_le, max, min, List, [], ◌∷◌, ◌++◌, length, take, drop, if◌then◌else◌}
 use Rattle.ft_io.specs.declared.Key.{Key}
 use Rattle.tcp_rules.specs.Arrival.{int_eq, below}
@@ -57,8 +58,8 @@ takes_held_fin before after segment = after.fin && not before.fin && not (copies
 unfoldable pub datas : (k : ℕ) → Key → (acked offset : ℕ) → List ℕ → Bool → List Body
 datas zero key acked offset bytes fin = []
 datas (suc k) key acked offset bytes fin =
-    if nat_lt 1460 (length bytes)
-    then DataMsg (record { key = key; offset = offset; acked = acked; fin = false; bytes = take 1460 bytes }) ∷ datas k key acked (offset + 1460) (drop 1460 bytes) fin
+    if nat_lt largest_segment (length bytes)
+    then DataMsg (record { key = key; offset = offset; acked = acked; fin = false; bytes = take largest_segment bytes }) ∷ datas k key acked (offset + largest_segment) (drop largest_segment bytes) fin
     else (if nat_lt 0 (length bytes) || fin then DataMsg (record { key = key; offset = offset; acked = acked; fin = fin; bytes = bytes }) ∷ [] else [])
 
 unfoldable pub further_data : (before after : Point) → Segment → List Body

@@ -1,5 +1,6 @@
 -- The logger (the FT-TCP article's logger): a boot number, and an entry for each connection with the client's bytes, whether its FIN is kept, the lengths of
 -- the server's reads, and how much output the client has acknowledged. One message gets at most one answer.
+use Rattle.limits.specs.Limits.{most_entries}
 use Rattle.std.specs.Prelude.{ℕ, Bool, true, false, ◌+◌, ◌-◌, ◌==◌, ◌&&◌, ◌||◌, not, nat_lt, nat_le, max, sum, map, find, Option, Some, None, option_map, List, [], ◌∷◌, ◌++◌, length, take, drop, slice_get, if◌then◌else◌}
 use Rattle.std.specs.List.{list_any}
 use Rattle.ft_io.specs.declared.Key.{Key}
@@ -37,7 +38,7 @@ new_entry n = record { key = n.key; cisn = n.cisn; sisn = n.sisn; mss = n.mss; b
 
 -- Open adds an entry for an unknown key, while there are fewer than 64
 abbrev pub opened : Numbers → Log → Log
-opened n log = if list_any (λ e. key_eq e.key n.key) log.entries || nat_le 64 (length log.entries) then log else record log { entries = log.entries ++ new_entry n ∷ [] }
+opened n log = if list_any (λ e. key_eq e.key n.key) log.entries || nat_le most_entries (length log.entries) then log else record log { entries = log.entries ++ new_entry n ∷ [] }
 
 -- Data adds the bytes past those that are kept, unless it leaves a gap. Kept bytes stay, and nothing is added after a FIN
 abbrev pub with_bytes : Part → Entry → Entry

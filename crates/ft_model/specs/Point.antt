@@ -1,6 +1,7 @@
 -- The point of a live connection: all that one incarnation of the server knows of it, and what is computed from that (RFC 9293, 3.3.1; FT-TCP, INFOCOM 2001:
 -- the stable number and the delayed output). Offsets and counts are whole numbers that don't wrap. Units count bytes, and one more where the FIN of that side
 -- is counted.
+use Rattle.limits.specs.Limits.{buffer_size, longest_stream}
 use Rattle.std.specs.Prelude.{ℕ, ℤ, Bool, false, pos, ◌+◌, ◌-◌, ◌^◌, ◌&&◌, nat_lt, max, min, sum, List, [], length, take}
 use Rattle.ft_io.specs.declared.Key.{Key}
 use Rattle.tcp_rules.specs.Coming.{Early, nothing_early, StandsBehind}
@@ -106,7 +107,7 @@ most p = max p.sent p.fetched_output
 
 -- the right edge of the receive window: 65,535 bytes are buffered past what is read, the fetched bytes are there already, and a stream has at most 2^24 bytes
 abbrev pub receive_edge : Point → ℕ
-receive_edge p = min (max p.fetched (bytes_read p) + 65535) (2 ^ 24)
+receive_edge p = min (max p.fetched (bytes_read p) + buffer_size) longest_stream
 
 -- the data that is held is after a gap and below the right edge of the receive window. This holds in every joint trace
 abbrev pub HoldsBehind : Point → Type 0

@@ -1,5 +1,6 @@
 -- The law Reads: how the service reads, and how its reads are reported to the logger (FT-TCP, INFOCOM 2001: the north side wrapper, which logs the length of
 -- each read).
+use Rattle.limits.specs.Limits.{buffer_size, longest_stream}
 use Rattle.std.specs.Prelude.{◌≡◌, ℕ, Bool, ◌+◌, ◌-◌, ◌^◌, ◌==◌, ◌&&◌, not, nat_lt, nat_le, min, Option, Some, None, List, [], ◌∷◌, ◌++◌, length, drop, if◌then◌else◌}
 use Rattle.std.specs.List.{list_any}
 use Rattle.ft_io.specs.declared.Key.{Key}
@@ -22,7 +23,7 @@ next_length p =
 -- has room in the send buffer; it stays within the stream with the output of one more read; and fewer than 32 reads are unanswered
 unfoldable pub may_read : {State : Type 0} → Machine State → Point → Bool
 may_read service p =
-    nat_le (made service p) (min (released service p) (p.una + 65535)) && nat_le (made service p) (2 ^ 24 - 2 ^ 20)
+    nat_le (made service p) (min (released service p) (p.una + buffer_size)) && nat_le (made service p) (longest_stream - 2 ^ 20)
     && nat_lt (length p.lengths - p.reads_answered) 32
 
 -- the length of the next read, if one is made

@@ -1,5 +1,6 @@
 -- The law Restart: what a server asks the log when it boots, which answers it takes, and at which point each connection then is (FT-TCP, INFOCOM 2001: the
 -- restarted server reads the log before it serves).
+use Rattle.limits.specs.Limits.{longest_stream}
 use Rattle.std.specs.Prelude.{◌≡◌, ℕ, Bool, true, pos, ◌+◌, ◌^◌, ◌≤◌, ◌<◌, ◌==◌, ◌&&◌, not, nat_lt, nat_le, min, sum, find, Option, Some, None, List, [], ◌∷◌, ◌++◌, length, if◌then◌else◌}
 use Rattle.std.specs.List.{list_any}
 use Rattle.ft_io.specs.declared.Addr.{Addr}
@@ -158,5 +159,5 @@ point_of service profile e = record (blank_point profile e.key e.cisn e.sisn e.m
 
 -- an entry is sound: a server that keeps its limits can have logged it
 pub record IsSoundEntry {State : Type 0} (service : Machine State) (e : Entry) : Type 0 where
-  pub output : length (run_of service e).output ≤ 2 ^ 24
-  pub fin : e.fin ≡ true → length e.bytes < 2 ^ 24
+  pub output : length (run_of service e).output ≤ longest_stream
+  pub fin : e.fin ≡ true → length e.bytes < longest_stream

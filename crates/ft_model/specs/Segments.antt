@@ -1,5 +1,6 @@
 -- What a turn sends to the client of a live connection (RFC 9293, 3.8.1, 3.8.3, 3.8.6.1 and 3.10.7.4; RFC 5681, 3.2). The laws Acknowledgement and Window are
 -- in the one header that all these segments share, the law Output in `text_at` and `fin_if_closed`.
+use Rattle.limits.specs.Limits.{largest_segment}
 use Rattle.std.specs.Prelude.{ℕ, Bool, false, zero, suc, ◌+◌, ◌-◌, ◌==◌, ◌&&◌, ◌||◌, not, nat_lt, nat_le, max, min, Option, Some, None, List, [], ◌∷◌, ◌++◌, take, drop, if◌then◌else◌}
 use Rattle.ft_io.specs.declared.Addr.{Addr}
 use Rattle.seq_arith.specs.declared.flags.TheConstants.{FIN, SYN, ACK}
@@ -34,7 +35,7 @@ segment_at server p offset flags payload = record { head = head_to server p (num
 
 -- the SYN-ACK, with the logged numbers. No client byte is taken when it is sent, so it acknowledges the SYN and advertises the full window
 abbrev pub syn_ack : Addr → Point → Segment
-syn_ack server p = record { head = head_to server p p.sisn (SYN + ACK) (Some 1460); payload = [] }
+syn_ack server p = record { head = head_to server p p.sisn (SYN + ACK) (Some largest_segment); payload = [] }
 
 -- Output: text is a part of the uncrashed server's output over the answered reads
 abbrev pub text_at : {State : Type 0} → Machine State → Addr → Point → (offset n : ℕ) → Segment

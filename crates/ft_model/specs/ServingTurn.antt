@@ -1,4 +1,5 @@
 -- A turn of a server that serves: what it does for each known key and for unknown keys, and in which order.
+use Rattle.limits.specs.Limits.{most_pending}
 use Rattle.std.specs.Prelude.{◌≡◌, ℕ, Bool, true, false, ◌==◌, ◌&&◌, not, nat_lt, map, List, [], ◌∷◌, ◌++◌, if◌then◌else◌}
 use Rattle.std.specs.Bool.{MatchBool}
 use Rattle.std.specs.List.{flat_map}
@@ -84,7 +85,7 @@ is_strange node segment places = is_for node.server segment && not (is_known (so
 -- Opening: a SYN of an unknown key makes a pending opening with the next initial sequence number, while fewer than 64 are pending
 abbrev pub newcomers : Node → Input → (opened : ℕ) → List Place → List Place
 newcomers node (Packet_comes segment) opened places =
-    if is_strange node segment places && is_syn segment && nat_lt (pending_count places) 64 then Opens (numbers_for node.isn opened segment) ∷ [] else []
+    if is_strange node segment places && is_syn segment && nat_lt (pending_count places) most_pending then Opens (numbers_for node.isn opened segment) ∷ [] else []
 newcomers node (Message_comes message) opened places = []
 newcomers node Noise_comes opened places = []
 newcomers node Tick_comes opened places = []

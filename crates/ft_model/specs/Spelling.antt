@@ -3,6 +3,7 @@
 -- A number is 1 to 20 decimal digits; leading zeros are allowed. An address is four numbers up to 255 joined by `.`, then `:` and a port
 -- from 1 to 65535, each of these with at most five digits. A script is `-`, or `hex:` and 1 to 2^24 pairs of hexadecimal digits of
 -- either case, or `fill:` and a number from 1 to 2^24. A service is `echo`, `line`, `transfer` or `meter`. A profile that is named is `wan`.
+use Rattle.limits.specs.Limits.{longest_stream}
 use Rattle.std.specs.Prelude.{ℕ, Bool, ◌+◌, ◌*◌, ◌%◌, ◌^◌, ◌==◌, ◌&&◌, nat_eq, nat_le, Option, Some, None, option_map, List, [], ◌∷◌, length, drop, codes, if◌then◌else◌}
 use Rattle.std.specs.Char.{digit_value, is_ascii_digit, is_ascii_hexdigit}
 use Rattle.std.specs.List.{list_all, slice_split, starts_with}
@@ -82,7 +83,7 @@ hex_bytes (high ∷ low ∷ more) = (16 * digit_value high + digit_value low) �
 
 -- pairs of hexadecimal digits, from 1 to 2^24
 unfoldable pub is_hex : List ℕ → Bool
-is_hex digits = list_all is_ascii_hexdigit digits && length digits % 2 == 0 && nat_le 2 (length digits) && nat_le (length digits) (2 * 2 ^ 24)
+is_hex digits = list_all is_ascii_hexdigit digits && length digits % 2 == 0 && nat_le 2 (length digits) && nat_le (length digits) (2 * longest_stream)
 
 unfoldable pub script_of : List ℕ → Option Script
 script_of word =

@@ -1,5 +1,6 @@
 -- The world: clients, log, network and server, and what each event of a schedule does to them. A trace is a list of moments, newest first, each with the world
 -- after it. That world is a witness: clients, log and packets are those that the events determine.
+use Rattle.limits.specs.Limits.{longest_stream}
 use Rattle.std.specs.Prelude.{◌≡◌, ℕ, Bool, true, zero, suc, ◌*◌, ◌<◌, ◌≤◌, ◌^◌, ◌==◌, ◌&&◌, not, map, Option, Some, None, Result, Ok, Err, option_map, is_some, List, [], ◌∷◌, ◌++◌, length, slice_get, if◌then◌else◌}
 use Rattle.std.specs.List.{AllByRecursion, list_any}
 use Rattle.std.specs.Option.{option_to_list}
@@ -176,7 +177,7 @@ pub record IsNewClient (server : Addr) (client : Client) : Type 0 where
   pub port : client.key.port < 2 ^ 16
   pub number : client.isn < 2 ^ 32
   pub bytes : AreBytes client.script
-  pub short : length client.script ≤ 2 ^ 24
+  pub short : length client.script ≤ longest_stream
 
 -- where a trace starts: a packet can hold the server's address and port, the clients are new and have keys of their own, the log is empty, nothing is sent, and
 -- there is no server

@@ -1,5 +1,6 @@
 -- Tests of a packet line's words. Each word is accepted only in its one spelling, and each value only in its range. The report's own spellings define what
 -- the tests mean: a line passes if and only if it is the line of a packet.
+use Rattle.limits.specs.Limits.{longest_packet}
 use Rattle.std.specs.Prelude.{ℕ, Bool, true, false, ◌+◌, ◌-◌, ◌*◌, ◌/◌, ◌%◌, ◌^◌, ◌==◌, ◌&&◌, ◌||◌, nat_lt, nat_le, codes, decimal, Option, Some, None, is_some, option_map, List, [], ◌∷◌, length, take, drop, if◌then◌else◌}
 use Rattle.std.specs.List.{list_all, slice_split, starts_with}
 use Rattle.std.specs.Prelude.{nat_eq}
@@ -113,7 +114,7 @@ segment_columns =
 
 -- a segment has at most 1,500 bytes
 abbrev pub sizes_fit : Option ℕ → Option ℕ → Bool
-sizes_fit (Some option) (Some payload) = nat_le (40 + option + payload) 1500
+sizes_fit (Some option) (Some payload) = nat_le (40 + option + payload) longest_packet
 sizes_fit _ _ = false
 
 -- the second of exactly two words, if the first is this name

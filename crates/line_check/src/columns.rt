@@ -9,6 +9,7 @@ ghost use Rattle.line_check.specs.Words.Column.{KeyColumn, NumberColumn};
 
 use crate::values::{is_address, number_word};
 use crate::words::{Words, named};
+use limits::{ENTRIES, SEGMENT, SHORTEST_SEGMENT};
 use seq_arith::Field;
 
 /// The largest size of a stream, in bytes.
@@ -48,9 +49,9 @@ fn in_range(limits: Limits, field: Field, n: u64) -> bool
     ensures { result ≡ is_in_range limits.boot limits.behind field n }
 {
     match field {
-        Field::Count => n <= 64,
+        Field::Count => n <= u64::from(ENTRIES),
         Field::Place => n <= 63,
-        Field::Mss => 64 <= n && n <= 1_460,
+        Field::Mss => u64::from(SHORTEST_SEGMENT) <= n && n <= u64::from(SEGMENT),
         Field::Length => n <= STREAM_LIMIT,
         Field::Offset => is_offset(limits, n),
         Field::Units => n <= STREAM_LIMIT + 1,

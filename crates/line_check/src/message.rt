@@ -1,5 +1,6 @@
 //! The words of a message between server and logger: its kind, its boot number, its fields, and what follows the fields.
 
+ghost use Rattle.limits.specs.Limits.{largest_segment};
 ghost use Rattle.std.specs.Prelude.{◌≡◌, ◌+◌, ◌*◌, ◌≤◌, ◌<◌, ◌^◌, Some, [], ◌∷◌, codes, drop, length, IfSome};
 ghost use Rattle.seq_arith.specs.declared.kinds.Kind.TheVariants as kinds;
 ghost use Rattle.seq_arith.specs.MessageGrammar.{behind_at, fewest_behind, has_length, is_lens, most_behind};
@@ -10,6 +11,7 @@ ghost use Rattle.line_check.specs.Words.Column.{KeyColumn, NumberColumn};
 use crate::columns::{Limits, key_fits, number_fits};
 use crate::values::{byte_count, lens_count, number_word};
 use crate::words::{Words, is_text, last_named, next_word, skip};
+use limits::TEXT;
 use seq_arith::{Field, Kind};
 
 /// Returns the kind that a word names.
@@ -94,12 +96,12 @@ fn fields_end(kind: Kind) -> usize
 /// Returns the smallest and the largest number of bytes that may follow a kind's fields.
 fn behind_bounds(kind: Kind) -> (usize, usize)
     ensures value { (result.0 ≡ fewest_behind kind) × (result.1 ≡ most_behind kind) }
-    ensures most { (result.0 ≤ 2) × (result.1 ≤ 1460) }
+    ensures most { (result.0 ≤ 2) × (result.1 ≤ largest_segment) }
 {
     match kind {
         Kind::Part => (1, 1_024),
         Kind::Lens => (2, 1_024),
-        Kind::Data => (0, 1_460),
+        Kind::Data => (0, TEXT),
         _ => (0, 0),
     }
 }

@@ -1,4 +1,5 @@
 -- What the parts of a client's turn do, and what always holds of a live client.
+use Rattle.limits.specs.Limits.{longest_stream}
 use Rattle.std.specs.Prelude.{◌≡◌, ℕ, ◌+◌, ◌^◌, ◌≤◌, min, Bool, Option, None, List, [], ◌∷◌, length}
 use Rattle.tcp_rules.specs.Coming.{Early, StandsBehind}
 use Rattle.seq_arith.specs.Offset.{one_if}
@@ -65,7 +66,7 @@ IsWithin isn written read e = HasLimits isn written read e.sending e.receiving
 pub record IsLimited (isn : ℕ) (l : LiveState) : Type 0 where
   pub tcb : IsWithin isn l.written l.tcb.receiving.read l.tcb
   pub written : l.written ≤ length l.script
-  pub script : length l.script ≤ 2 ^ 24
+  pub script : length l.script ≤ longest_stream
 
 -- the client of these words, as its first flush is due
 pub record IsFresh (role : ClientRole) (l : LiveState) : Type 0 where

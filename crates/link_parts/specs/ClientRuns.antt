@@ -1,4 +1,5 @@
 -- The whole life of a client process: what it called, what it wrote and how it ended.
+use Rattle.limits.specs.Limits.{longest_stream}
 use Rattle.std.specs.Prelude.{◌≡◌, ◌⊎◌, ℕ, ◌^◌, ◌≤◌, ◌<◌, Bool, Option, None, Some, IfSome, List, [], ◌∷◌, ◌++◌, length}
 use Rattle.std.specs.Io.KnownBytes.{Appends, IsAtEnd}
 use Rattle.ft_io.specs.declared.link_call.LinkCall.{LinkCall}
@@ -50,7 +51,7 @@ IsClient role script old new Writes Ends =
 -- the script: that of the words, or all that the source had left
 abbrev pub IsScript : Option Script → (left_old left_new : Option (List ℕ)) → List ℕ → Type 0
 IsScript (Some given) left_old left_new script = (script ≡ bytes_of given) × (left_new ≡ left_old)
-IsScript None left_old left_new script = IfSome left_old (λ left. script ≡ left) × IsAtEnd left_new × (length script ≤ 2 ^ 24)
+IsScript None left_old left_new script = IfSome left_old (λ left. script ≡ left) × IsAtEnd left_new × (length script ≤ longest_stream)
 
 abbrev pub RunsScript : ClientRole → (left_old left_new : Option (List ℕ)) → (old new : Option (List LinkCall)) → (List ℕ → Type 0)
     → (Option ClientEnd → ℕ → Type 0) → Type 0
@@ -58,7 +59,7 @@ RunsScript role left_old left_new old new Writes Ends = (script : List ℕ) × I
 
 -- why there is no script: the words give none, and a read failed or the source has more bytes than a script may have; or an allocation failed
 abbrev pub ScriptStops : Option Script → (left_old : Option (List ℕ)) → NodeEnd → Type 0
-ScriptStops script left_old Usage = (script ≡ None) × IfSome left_old (λ left. 2 ^ 24 < length left)
+ScriptStops script left_old Usage = (script ≡ None) × IfSome left_old (λ left. longest_stream < length left)
 ScriptStops script left_old ReadFault = script ≡ None
 ScriptStops script left_old NoMemory = Unit {0}
 ScriptStops script left_old _ = ⊥

@@ -1,4 +1,5 @@
 -- The ranges of a role's numbers.
+use Rattle.limits.specs.Limits.{longest_stream}
 use Rattle.std.specs.Prelude.{ℕ, ◌≤◌, ◌*◌, ◌^◌, length, IfSome}
 use Rattle.ft_model.specs.Schedule.{bytes_of}
 use Rattle.ft_model.specs.declared.schedule.Script.{Script}
@@ -18,7 +19,7 @@ pub record ServerInRange (role : ServerRole) : Type 0 where
 
 -- a script fits a stream
 abbrev pub IsShort : Script → Type 0
-IsShort script = length (bytes_of script) ≤ 2 ^ 24
+IsShort script = length (bytes_of script) ≤ longest_stream
 
 pub record ClientInRange (role : ClientRole) : Type 0 where
   pub turns : role.turns ≤ 1000000

@@ -1,5 +1,6 @@
 //! The client: a live client over a link. It sends a script, and writes the server's bytes as it accepts them.
 
+ghost use Rattle.limits.specs.Limits.{longest_stream};
 ghost use Rattle.std.specs.Prelude.{◌≡◌, ℕ, ◌+◌, ◌%◌, ◌^◌, ◌≤◌, List, [], ◌∷◌, ◌++◌, length, vec_len, None, is_none, false, IfSome, IfOk, IfErr, OnOk, OnErr, IsErrOf};
 ghost use Rattle.std.specs.Io.KnownBytes.{Appends};
 ghost use Rattle.ft_io.specs.Faults.{Rose};
@@ -180,7 +181,7 @@ fn run_script<L: Link, O: Sink>(
     link: &mut L,
     out: &mut O,
 ) -> Result<(), NodeEnd>
-    requires { length script.items ≤ 2 ^ 24 }
+    requires { length script.items ≤ longest_stream }
     ensures done { OnOk result (IsClient role.now script.items (L.told link.old) (L.told link.new) (Appends (O.taken out.old) (O.taken out.new))
         (IsEndedBy ClientEnd.Closed)) }
     ensures stops { IfErr result (ScriptRunStops role.now script.items (L.told link.old) (L.told link.new) (O.taken out.old) (O.taken out.new)) }
@@ -214,7 +215,7 @@ pub fn run_client<L: Link, I: Source, O: Sink>(
     input: &mut I,
     out: &mut O,
 ) -> Result<(), NodeEnd>
-    requires { IfSome role.now.script (λ script. length (bytes_lem script) ≤ 2 ^ 24) }
+    requires { IfSome role.now.script (λ script. length (bytes_lem script) ≤ longest_stream) }
     ensures done { OnOk result (RunsScript role.now (I.left input.old) (I.left input.new) (L.told link.old) (L.told link.new)
         (Appends (O.taken out.old) (O.taken out.new)) (IsEndedBy ClientEnd.Closed)) }
     ensures stops { IfErr result (ClientStops role.now (I.left input.old) (I.left input.new) (L.told link.old) (L.told link.new) (O.taken out.old)

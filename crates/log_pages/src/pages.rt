@@ -1,5 +1,6 @@
 //! A client's bytes in pages of 4,096.
 
+ghost use Rattle.limits.specs.Limits.{longest_stream};
 ghost use Rattle.std.specs.Prelude.{[], ◌≡◌, ◌≤◌, ◌<◌, ◌+◌, ◌-◌, ◌*◌, ◌/◌, ◌%◌, ◌^◌, ◌++◌, All, option_map, unwrap_or, IfSome, IfNone, IfOk, IsOk, OnOk, OnErr, length, max};
 ghost use Rattle.std.specs.Prelude.{take, drop, slice_index};
 ghost use Rattle.log_pages.specs.Pages.{IsFull, IsLast, kept, page_of, room_after, zeroed};
@@ -130,7 +131,7 @@ impl Pages {
     /// How many bytes there are.
     #[tactic(auto, using(crate::proofs::GivenUp::all_length))]
     pub fn len(&self) -> usize
-        requires { length self.now.bytes ≤ 2 ^ 24 }
+        requires { length self.now.bytes ≤ longest_stream }
         ensures { result ≡ length self.now.bytes }
     {
         let full = (self.given_up + self.full.len()) * PAGE;

@@ -1,5 +1,6 @@
 //! The lengths of an entry's reads. The first of them may be discarded.
 
+ghost use Rattle.limits.specs.Limits.{longest_stream};
 ghost use Rattle.std.specs.Prelude.{[], ◌≡◌, ◌≤◌, ◌<◌, ◌+◌, ◌-◌, ◌*◌, ◌^◌, ◌++◌, ◌∷◌, true, IsOk, OnOk, OnErr, length, take, drop, slice_index, sum, nat_le};
 ghost use Rattle.std.specs.List.{list_all};
 ghost use Rattle.log_pages.specs.Levels.{AreLevel};
@@ -107,7 +108,7 @@ impl ReadLengths {
 
     /// How many bytes the first `reads` reads took; `None` if a closing read is among them.
     pub fn took(&self, reads: usize) -> Option<u32>
-        requires { sum self.now ≤ 2 ^ 24 }
+        requires { sum self.now ≤ longest_stream }
         ensures { result ≡ took reads self.now }
     {
         let (low, high) = (self.low.count as usize, self.high.count as usize);
@@ -122,7 +123,7 @@ impl ReadLengths {
     /// Discards the lengths of the first `reads` reads, counting those discarded before. Nothing is allocated.
     pub fn give_up(&mut self, reads: u32)
         requires there { reads ≤ length self.old }
-        requires few { sum self.old ≤ 2 ^ 24 }
+        requires few { sum self.old ≤ longest_stream }
         requires on { reads_on (take reads self.old) ≡ true }
         requires each { list_all (λ n. nat_le n 2048) self.old ≡ true }
         ensures { self.new ≡ levelled reads self.old }

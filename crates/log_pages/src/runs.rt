@@ -1,5 +1,6 @@
 //! The lengths of an entry's reads, in runs of equal ones.
 
+ghost use Rattle.limits.specs.Limits.{longest_stream};
 ghost use Rattle.std.specs.Prelude.{[], ◌≡◌, ◌≤◌, ◌<◌, ◌+◌, ◌-◌, ◌*◌, ◌^◌, ◌++◌, ◌∷◌, true, IsOk, OnOk, OnErr, List, length, take, drop, slice_index, sum};
 ghost use Rattle.std.specs.List.{flat_map};
 ghost use Rattle.log_pages.specs.Pages.{ends_with, lengths_in, took};
@@ -54,7 +55,7 @@ pub fn spell_run(run: Run, skip: usize, lens: &mut Lens) -> usize
 /// How many bytes the first `reads` reads of a run took; `None` if they are closing reads.
 #[tactic(auto, using(crate::proofs::Took::took_same, crate::proofs::Took::took_closing, crate::proofs::Took::took_nothing, crate::proofs::Took::few_fit))]
 pub fn took_of(run: Run, reads: usize) -> Option<u32>
-    requires { sum (lengths_in run) ≤ 2 ^ 24 }
+    requires { sum (lengths_in run) ≤ longest_stream }
     ensures value { result ≡ took reads (lengths_in run) }
 {
     let count = reads.min(run.count as usize);
@@ -81,7 +82,7 @@ struct Front {
 /// Returns the longest prefix of `runs` that has at most `reads` reads.
 #[tactic(auto, using(crate::proofs::Cutting::more_reads, crate::proofs::Cutting::more_bytes, crate::proofs::Cutting::few_bytes, crate::proofs::Cutting::stops_there, crate::proofs::Cutting::stops_at_end))]
 fn front_of(runs: &[Run], reads: u32) -> Front
-    requires { sum (flat_map lengths_in runs.now) ≤ 2 ^ 24 }
+    requires { sum (flat_map lengths_in runs.now) ≤ longest_stream }
     ensures runs { result.runs ≤ length runs.now }
     ensures reads { result.reads ≡ length (flat_map lengths_in (take result.runs runs.now)) }
     ensures bytes { result.bytes ≡ sum (flat_map lengths_in (take result.runs runs.now)) }
@@ -110,7 +111,7 @@ fn front_of(runs: &[Run], reads: u32) -> Front
 #[tactic(auto, using(crate::proofs::Cutting::cut_rest, crate::proofs::Cutting::cut_took, crate::proofs::Cutting::cut_few))]
 fn cut(run: &mut Run, reads: u32) -> u32
     requires there { reads ≤ run.old.count }
-    requires few { sum (lengths_in run.old) ≤ 2 ^ 24 }
+    requires few { sum (lengths_in run.old) ≤ longest_stream }
     ensures rest { lengths_in run.new ≡ drop reads (lengths_in run.old) }
     ensures took { result ≡ sum (take reads (lengths_in run.old)) }
 {
@@ -134,7 +135,7 @@ fn drop_runs(runs: &mut Vec<Run>, count: usize)
 fn cut_first(runs: &mut Vec<Run>, last: &mut Run, reads: u32) -> u32
     requires in_run { (run : Run) → (rest : List Run) → runs.old.items ≡ run ∷ rest → reads ≤ run.count }
     requires in_last { runs.old.items ≡ [] → reads ≤ last.old.count }
-    requires few { sum (flat_map lengths_in runs.old.items ++ lengths_in last.old) ≤ 2 ^ 24 }
+    requires few { sum (flat_map lengths_in runs.old.items ++ lengths_in last.old) ≤ longest_stream }
     ensures rest { flat_map lengths_in runs.new.items ++ lengths_in last.new ≡ drop reads (flat_map lengths_in runs.old.items ++ lengths_in last.old) }
     ensures took { result ≡ sum (take reads (flat_map lengths_in runs.old.items ++ lengths_in last.old)) }
 {
@@ -211,7 +212,7 @@ impl Runs {
 
     /// How many bytes the first `reads` reads took; `None` if a closing read is among them.
     pub fn took(&self, reads: usize) -> Option<u32>
-        requires { sum self.now ≤ 2 ^ 24 }
+        requires { sum self.now ≤ longest_stream }
         ensures { result ≡ took reads self.now }
     {
         let (mut left, mut total) = (reads, 0u32);
@@ -226,7 +227,7 @@ impl Runs {
     #[tactic(auto, using(crate::proofs::Cutting::all_rest, crate::proofs::Cutting::all_took, crate::proofs::Cutting::behind_few, crate::proofs::Cutting::last_enough))]
     pub fn drop_first(&mut self, reads: u32) -> u32
         requires there { reads ≤ length self.old }
-        requires few { sum self.old ≤ 2 ^ 24 }
+        requires few { sum self.old ≤ longest_stream }
         ensures rest { self.new ≡ drop reads self.old }
         ensures took { result ≡ sum (take reads self.old) }
     {

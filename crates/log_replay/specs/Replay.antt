@@ -1,5 +1,6 @@
 -- A service that gets the logged reads again (FT-TCP, INFOCOM 2001: the restarted server replays its input). No more input and output is stored than is still
 -- needed.
+use Rattle.limits.specs.Limits.{longest_stream}
 use Rattle.std.specs.Prelude.{◌≡◌, ℕ, ◌+◌, ◌-◌, ◌^◌, Bool, true, nat_lt, List, ◌++◌, length, take, drop, if◌then◌else◌}
 use Rattle.server_trait.specs.Service.{Served, Run}
 
@@ -13,7 +14,7 @@ pub record ReplayState (S : Type 0) : Type 0 where
 
 -- a stream has 2^24 bytes. No server that keeps its limits has made more output
 abbrev pub passes_the_stream : {S : Type 0} → ReplayState S → Served S → Bool
-passes_the_stream r served = nat_lt (2 ^ 24) (r.made + length served.output)
+passes_the_stream r served = nat_lt longest_stream (r.made + length served.output)
 
 -- the new output is stored from where the client's acknowledgement ends. If it would pass the stream's end, none of it counts, and the service counts as closed
 abbrev pub served_on : {S : Type 0} → ReplayState S → Served S → ReplayState S

@@ -1,5 +1,6 @@
 //! What is known of the fetched reads, as far as it decides which reads may follow.
 
+ghost use Rattle.limits.specs.Limits.{longest_stream};
 ghost use Rattle.std.specs.Prelude.{◌≡◌, ◌≤◌, ◌+◌, ◌^◌, length, sum, false, Some, None, IfSome, if◌then◌else◌};
 ghost use Rattle.seq_arith.specs.MessageGrammar.{lens_in};
 ghost use Rattle.log_replay.specs.ReadLengths.{may_cut, cut_on, cuts_through, HaveBytes};
@@ -38,7 +39,7 @@ impl Cuts {
 
     /// Returns these reads and one more, if the log's rule lets it follow in a stream of `len` bytes, whose FIN is logged if `fin`.
     fn with(self, n: u16, len: u32, fin: bool) -> Option<Cuts>
-        requires len { len ≤ 2 ^ 24 }
+        requires len { len ≤ longest_stream }
         requires bytes { HaveBytes self }
         ensures value { result ≡ (if may_cut len fin self n then Some (cut_on self n) else None) }
         ensures bytes { IfSome result (λ cuts. HaveBytes cuts) }
@@ -61,7 +62,7 @@ impl Cuts {
     /// Returns these reads and those of the lengths `lens`, two bytes for each length, if all of these may follow.
     #[tactic(auto, using(seq_arith::proofs::Texts::lens_in_length, crate::proofs::Lengths::goes_through, crate::proofs::Lengths::stops_there, crate::proofs::Lengths::all_through, crate::proofs::Lengths::sum_through))]
     pub fn through(self, lens: &[u8], len: u32, fin: bool) -> Option<Cuts>
-        requires len { len ≤ 2 ^ 24 }
+        requires len { len ≤ longest_stream }
         requires bytes { HaveBytes self }
         requires within { self.sum ≤ len }
         ensures value { result ≡ cuts_through len fin self (lens_in lens.now) }

@@ -1,5 +1,6 @@
 //! A service that gets the logged reads again.
 
+ghost use Rattle.limits.specs.Limits.{longest_stream};
 ghost use Rattle.std.specs.Prelude.{◌≡◌, ℕ, ◌^◌, ◌-◌, ◌+◌, ◌≤◌, List, [], ◌++◌, length, take, drop, true, false, OnOk};
 ghost use Rattle.north_wrap.specs.NorthState.{resumed_north};
 ghost use Rattle.log_replay.specs.ReadLengths.{HaveBytes};
@@ -34,6 +35,7 @@ pub struct Replay<S: Service> {
 }
 
 impl<S: Service> Model for Replay<S> {
+    ghost use Rattle.limits.specs.Limits.{longest_stream};
     ghost use Rattle.std.specs.Prelude.{◌≤◌, ◌^◌, length};
     ghost use Rattle.log_replay.specs.Replay.{ReplayState};
 
@@ -41,7 +43,7 @@ impl<S: Service> Model for Replay<S> {
 
     ghost view = { λ r. record { service = r.service; closed = r.closed; made = r.made; acked = r.acked; pending = r.output.items; held = r.held } };
 
-    ghost invariant = { λ r. (r.made ≤ 2 ^ 24) × (length r.output.items ≤ r.made) };
+    ghost invariant = { λ r. (r.made ≤ longest_stream) × (length r.output.items ≤ r.made) };
 }
 
 impl<S: Service> Replay<S> {
@@ -62,7 +64,7 @@ impl<S: Service> Replay<S> {
 
     /// A service at a mark. It has made `made` bytes of output, and the client has acknowledged them all.
     pub fn resumed(alloc: Global, service: S, made: u32, acked: u32) -> Replay<S>
-        requires { made ≤ 2 ^ 24 }
+        requires { made ≤ longest_stream }
         ensures { result ≡ record { service = service; closed = false; made = made; acked = acked; pending = []; held = [] } }
     {
         Replay {
@@ -93,7 +95,7 @@ impl<S: Service> Replay<S> {
     /// How many bytes of output the service has made.
     pub fn made(&self) -> u32
         ensures value { result ≡ self.now.made }
-        ensures most { result ≤ 2 ^ 24 }
+        ensures most { result ≤ longest_stream }
         ensures pending { length self.now.pending ≤ result }
     {
         self.made
@@ -109,7 +111,7 @@ impl<S: Service> Replay<S> {
     /// A north wrapper that continues after these reads.
     pub fn into_north(self, cuts: Cuts) -> North<S>
         requires have { HaveBytes cuts }
-        requires within { cuts.sum + length self.held ≤ 2 ^ 24 }
+        requires within { cuts.sum + length self.held ≤ longest_stream }
         ensures { result ≡ resumed_north self.service self.held self.pending cuts.count cuts.sum self.made cuts.ended self.closed }
     {
         let Replay {

@@ -1,5 +1,6 @@
 //! Forged segments of the client bring a fresh TCP to where the log ends. What it answers is discarded.
 
+ghost use Rattle.limits.specs.Limits.{longest_stream};
 ghost use Rattle.std.specs.Prelude.{◌≡◌, ◌≤◌, ◌-◌, ◌+◌, ◌^◌, [], Some, None, IfOk};
 ghost use Rattle.seq_arith.specs.Number.{number_at};
 ghost use Rattle.segment_codec.specs.Value.{said};
@@ -70,7 +71,7 @@ fn connected(
     isn: Seq,
     out: &mut Outbox,
 ) -> Result<Endpoint, NoMemory>
-    requires stream { head.now.length ≤ 2 ^ 24 }
+    requires stream { head.now.length ≤ longest_stream }
     requires out { out.old ≡ [] }
     ensures state { IfOk result (λ e. e ≡ connected_lem head.now.key local head.now.cisn head.now.length head.now.mss isn.0) }
     ensures out { out.new ≡ [] }
@@ -106,7 +107,7 @@ pub fn spliced_endpoint(
     local: Addr,
     isn: Seq,
 ) -> Result<Endpoint, NoMemory>
-    requires stream { head.now.length ≤ 2 ^ 24 }
+    requires stream { head.now.length ≤ longest_stream }
     requires segments { IsSegmentSize head.now.mss }
     ensures { IfOk result (λ e. e ≡ spliced head.now.key local head.now.cisn head.now.length head.now.mss isn.0 (has_end (head_said head.now))) }
 {

@@ -1,4 +1,5 @@
 -- Which messages change a log: exactly those for which `changes` is true.
+use Rattle.limits.specs.Limits.{most_entries}
 use Rattle.std.specs.Prelude.{Bool, false, not, length, ◌+◌, ◌==◌, ◌&&◌, ◌||◌, nat_lt, nat_le, if◌then◌else◌}
 use Rattle.std.specs.List.{list_any}
 use Rattle.std.specs.Option.{option_map_or}
@@ -18,7 +19,7 @@ part_changes part e =
 -- the body of a message with the log's boot number changes the log if it opens an entry for a new key while there is room, or has such a part, the next read,
 -- or an end that isn't noted yet
 abbrev pub body_changes : Body → Log → Bool
-body_changes (OpenMsg n) log = not (list_any (λ e. key_eq e.key n.key) log.entries || nat_le 64 (length log.entries))
+body_changes (OpenMsg n) log = not (list_any (λ e. key_eq e.key n.key) log.entries || nat_le most_entries (length log.entries))
 body_changes (DataMsg part) log = option_map_or (part_changes part) (entry_of part.key log) false
 body_changes (ReadMsg key index n) log = option_map_or (λ e. is_next_read e index n) (entry_of key log) false
 body_changes (DoneMsg key) log = option_map_or (λ e. not e.done) (entry_of key log) false

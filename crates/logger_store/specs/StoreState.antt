@@ -1,4 +1,5 @@
 -- The ranges of the store's numbers, and which messages may need memory.
+use Rattle.limits.specs.Limits.{largest_segment, least_segment, longest_stream, most_entries, most_units}
 use Rattle.std.specs.Prelude.{ℕ, Bool, true, false, not, List, [], length, sum, ◌≡◌, ◌==◌, ◌≤◌, ◌+◌, ◌-◌, ◌^◌, ◌&&◌, ◌||◌, nat_le, nat_lt, max, Option, Some, None, option_map, IsOk, ◌⊎◌}
 use Rattle.std.specs.List.{list_any, list_all}
 use Rattle.std.specs.Option.{option_map_or}
@@ -13,10 +14,10 @@ use Rattle.log_pages.specs.Pages.{room_after, ends_with}
 
 -- the ranges of an entry's numbers, which are those that a message may have
 pub record IsInRange (mss bytes output : ℕ) : Type 0 where
-  pub least : 64 ≤ mss
-  pub most : mss ≤ 1460
-  pub len : bytes ≤ 2 ^ 24
-  pub acked : output ≤ 2 ^ 24 + 1
+  pub least : least_segment ≤ mss
+  pub most : mss ≤ largest_segment
+  pub len : bytes ≤ longest_stream
+  pub acked : output ≤ most_units
 
 -- the lengths of reads from a stream with so many logged bytes: their sum is at most that; there are at most as many as their sum, and one more if one of
 -- them is 0; and each is at most 2,048
@@ -51,7 +52,7 @@ begins_run n e = not (ends_with n e.lengths)
 
 -- .. and in a log: besides these, an entry for a new key
 abbrev pub adds : Body → Log → Bool
-adds (OpenMsg n) log = not (list_any (λ e. key_eq e.key n.key) log.entries || nat_le 64 (length log.entries))
+adds (OpenMsg n) log = not (list_any (λ e. key_eq e.key n.key) log.entries || nat_le most_entries (length log.entries))
 adds (DataMsg part) log = option_map_or (adds_page part) (entry_of part.key log) false
 adds (ReadMsg key index n) log = option_map_or (λ e. is_next_read e index n && begins_run n e) (entry_of key log) false
 adds _ log = false

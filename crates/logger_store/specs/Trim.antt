@@ -1,4 +1,5 @@
 -- A trimmed log store, which has discarded the beginnings of some entries: which bytes and lengths it still reports, and which logs it represents.
+use Rattle.limits.specs.Limits.{most_entries}
 use Rattle.std.specs.Prelude.{◌≡◌, ℕ, ◌≤◌, ◌<◌, ◌==◌, Bool, true, false, ◌&&◌, nat_lt, sum, Option, None, List, [], ◌∷◌, length, take, replicate, slice_get, slice_index_or, slice_set, if◌then◌else◌}
 use Rattle.std.specs.Option.{option_map_or}
 use Rattle.std.specs.List.{AllByRecursion}
@@ -20,7 +21,7 @@ pub record TrimmedLog : Type 0 where
   pub trims : List Trim
 
 abbrev pub untrimmed : TrimmedLog
-untrimmed = record { log = empty_log; trims = replicate 64 no_trim }
+untrimmed = record { log = empty_log; trims = replicate most_entries no_trim }
 
 abbrev pub trim_at : List Trim → ℕ → Trim
 trim_at trims i = slice_index_or trims i no_trim

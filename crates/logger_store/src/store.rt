@@ -1,5 +1,6 @@
 //! The log of all connections.
 
+ghost use Rattle.limits.specs.Limits.{largest_segment, least_segment, longest_stream, most_entries, most_units};
 ghost use Rattle.std.specs.Prelude.{[], ◌≡◌, ◌≤◌, ◌<◌, ◌^◌, ◌+◌, ℕ, Some, None, true, false, option_map, option_copied, OnOk, OnErr, IsOk, IfSome, length};
 ghost use Rattle.std.specs.Prelude.{slice_get, slice_index};
 ghost use Rattle.ft_model.specs.Log.{Entry, Log, log_after, answer_to, empty_log, opened, with_body, answer_from, is_hello, entry_of, with_entry};
@@ -24,12 +25,10 @@ use crate::telling::{
 };
 use ft_io::{Key, NoMemory};
 use indexmap::IndexMap;
+use limits::ENTRIES;
 use logger_wire::{Body, EntryHead, Msg, Numbers, Part};
 use std::alloc::Global;
 use std::marker::Model;
-
-/// How many entries a log may have.
-const ENTRY_LIMIT: u16 = 64;
 
 /// The log: the boot number of the newest server that has sent Hello, and an entry for each connection, in the order of their opening.
 #[derive(Drop)]
@@ -41,6 +40,7 @@ pub struct LogStore {
 }
 
 impl Model for LogStore {
+    ghost use Rattle.limits.specs.Limits.{most_entries};
     ghost use Rattle.std.specs.Prelude.{◌≡◌, ◌≤◌, length, map};
     ghost use Rattle.ft_model.specs.Log.{Log};
     ghost use Rattle.indexmap.specs.IndexMap.{keys, values};
@@ -49,7 +49,7 @@ impl Model for LogStore {
 
     ghost view = { λ l. record { boot = l.boot; entries = values l.entries } };
 
-    ghost invariant = { λ l. (keys l.entries ≡ map (λ e. e.key) (values l.entries)) × (length (values l.entries) ≤ 64) };
+    ghost invariant = { λ l. (keys l.entries ≡ map (λ e. e.key) (values l.entries)) × (length (values l.entries) ≤ most_entries) };
 }
 
 /// Whether a body is Hello.
@@ -166,14 +166,14 @@ impl LogStore {
 
     /// Whether no entry is added for a key: it has one, or the log is full.
     fn turns_away(&self, key: Key) -> bool
-        ensures { result ≡ (list_any (λ e. key_eq e.key key) self.now.entries || nat_le 64 (length self.now.entries)) }
+        ensures { result ≡ (list_any (λ e. key_eq e.key key) self.now.entries || nat_le most_entries (length self.now.entries)) }
     {
-        self.knows(key) || self.count() >= ENTRY_LIMIT
+        self.knows(key) || self.count() >= ENTRIES
     }
 
     /// Adds an entry for a key that has none, while there is room.
     fn open(&mut self, alloc: Global, numbers: &Numbers) -> Result<(), NoMemory>
-        requires { (64 ≤ numbers.now.mss) × (numbers.now.mss ≤ 1460) }
+        requires { (least_segment ≤ numbers.now.mss) × (numbers.now.mss ≤ largest_segment) }
         ensures ok { OnOk result (self.new ≡ opened (numbers_said numbers.now) self.old) }
         ensures err { OnErr result (self.new ≡ self.old) }
         ensures known { adds (OpenMsg (numbers_said numbers.now)) self.old ≡ false → IsOk result }
@@ -188,9 +188,9 @@ impl LogStore {
 
     /// Keeps a part of a client's stream.
     fn take_part(&mut self, alloc: Global, part: &Part<'_>) -> Result<(), NoMemory>
-        requires room { part.now.offset + length part.now.bytes.now ≤ 2 ^ 24 }
-        requires few { length part.now.bytes.now ≤ 1460 }
-        requires acked { part.now.acked ≤ 2 ^ 24 + 1 }
+        requires room { part.now.offset + length part.now.bytes.now ≤ longest_stream }
+        requires few { length part.now.bytes.now ≤ largest_segment }
+        requires acked { part.now.acked ≤ most_units }
         ensures ok { OnOk result (self.new ≡ with_entry part.now.key (with_part (part_said part.now)) self.old) }
         ensures err { OnErr result (self.new ≡ self.old) }
         ensures in_page { adds (DataMsg (part_said part.now)) self.old ≡ false → IsOk result }
@@ -230,7 +230,7 @@ impl LogStore {
 
     /// Notes that at least `units` units of a connection's output are acknowledged.
     pub(crate) fn acknowledge(&mut self, key: Key, units: u32)
-        requires { units ≤ 2 ^ 24 + 1 }
+        requires { units ≤ most_units }
         ensures { self.new ≡ with_entry key (acknowledging units) self.old }
     {
         let Some(entry) = self.entries.get_mut(&key) else {
@@ -253,7 +253,7 @@ impl LogStore {
     pub(crate) fn place_of(&self, key: Key) -> Option<u16>
         ensures value { result ≡ place_of key self.now }
         ensures there { IfSome result (λ i. i < length self.now.entries) }
-        ensures within { length self.now.entries ≤ 64 }
+        ensures within { length self.now.entries ≤ most_entries }
     {
         Some(self.entries.get_index_of(&key)? as u16)
     }
@@ -270,7 +270,7 @@ impl LogStore {
 
     /// Whether keeping a part changes anything.
     fn part_changes(&self, part: &Part<'_>) -> bool
-        requires { part.now.offset + length part.now.bytes.now ≤ 2 ^ 24 }
+        requires { part.now.offset + length part.now.bytes.now ≤ longest_stream }
         ensures value { result ≡ body_changes (DataMsg (part_said part.now)) self.now }
         ensures stays { result ≡ false → with_entry part.now.key (with_part (part_said part.now)) self.now ≡ self.now }
     {

@@ -1,5 +1,6 @@
 //! What is logged of one connection.
 
+ghost use Rattle.limits.specs.Limits.{largest_segment, least_segment, longest_stream, most_units};
 ghost use Rattle.std.specs.Prelude.{[], take, drop, ◌≡◌, ◌≤◌, ◌<◌, ◌+◌, ◌-◌, ◌^◌, ◌&&◌, min, nat_le, true, false, OnOk, OnErr, IsOk, length, slice_index, sum, IfSome};
 ghost use Rattle.std.specs.List.{list_all};
 ghost use Rattle.ft_model.specs.Log.{new_entry, with_bytes, with_its_fin, with_part, with_read, is_next_read, numbers_of_entry, kept_of, head_of, Entry};
@@ -65,7 +66,7 @@ impl Model for StoredEntry {
 impl StoredEntry {
     /// An entry in which nothing is logged yet. Nothing is allocated.
     pub fn new(alloc: Global, numbers: &Numbers) -> StoredEntry
-        requires { (64 ≤ numbers.now.mss) × (numbers.now.mss ≤ 1460) }
+        requires { (least_segment ≤ numbers.now.mss) × (numbers.now.mss ≤ largest_segment) }
         ensures { result ≡ new_entry (numbers_said numbers.now) }
     {
         StoredEntry {
@@ -84,7 +85,7 @@ impl StoredEntry {
     /// How many bytes are logged.
     fn length(&self) -> u32
         ensures value { result ≡ length self.now.bytes }
-        ensures within { result ≤ 2 ^ 24 }
+        ensures within { result ≤ longest_stream }
     {
         self.bytes.len() as u32
     }
@@ -92,7 +93,7 @@ impl StoredEntry {
     /// The numbers with which it was opened.
     pub fn numbers(&self) -> Numbers
         ensures value { numbers_said result ≡ numbers_of_entry self.now }
-        ensures mss { (64 ≤ result.mss) × (result.mss ≤ 1460) }
+        ensures mss { (least_segment ≤ result.mss) × (result.mss ≤ largest_segment) }
     {
         self.numbers
     }
@@ -100,8 +101,8 @@ impl StoredEntry {
     /// How much is logged.
     pub fn kept(&self) -> Kept
         ensures value { kept_said result ≡ kept_of self.now }
-        ensures length { result.length ≤ 2 ^ 24 }
-        ensures reads { result.reads ≤ 2 ^ 24 + 1 }
+        ensures length { result.length ≤ longest_stream }
+        ensures reads { result.reads ≤ most_units }
     {
         Kept {
             key: self.numbers.key,
@@ -114,10 +115,10 @@ impl StoredEntry {
     /// The entry without its bytes and lengths.
     pub fn head(&self) -> EntryHead
         ensures value { head_said result ≡ head_of self.now }
-        ensures mss { (64 ≤ result.mss) × (result.mss ≤ 1460) }
-        ensures length { result.length ≤ 2 ^ 24 }
-        ensures reads { result.reads ≤ 2 ^ 24 + 1 }
-        ensures acked { result.acked ≤ 2 ^ 24 + 1 }
+        ensures mss { (least_segment ≤ result.mss) × (result.mss ≤ largest_segment) }
+        ensures length { result.length ≤ longest_stream }
+        ensures reads { result.reads ≤ most_units }
+        ensures acked { result.acked ≤ most_units }
     {
         EntryHead {
             key: self.numbers.key,
@@ -172,8 +173,8 @@ impl StoredEntry {
 
     /// Logs the part's bytes past the logged ones, unless they leave a gap or the FIN is logged.
     pub(crate) fn take_bytes(&mut self, alloc: Global, part: &Part<'_>) -> Result<(), NoMemory>
-        requires room { part.now.offset + length part.now.bytes.now ≤ 2 ^ 24 }
-        requires few { length part.now.bytes.now ≤ 1460 }
+        requires room { part.now.offset + length part.now.bytes.now ≤ longest_stream }
+        requires few { length part.now.bytes.now ≤ largest_segment }
         ensures ok { OnOk result (self.new ≡ with_bytes (part_said part.now) self.old) }
         ensures err { OnErr result (self.new ≡ self.old) }
         ensures in_page { adds_page (part_said part.now) self.old ≡ false → IsOk result }
@@ -190,7 +191,7 @@ impl StoredEntry {
 
     /// Logs the FIN of a part that ends where the logged bytes end.
     fn take_fin(&mut self, part: &Part<'_>)
-        requires { part.now.offset + length part.now.bytes.now ≤ 2 ^ 24 }
+        requires { part.now.offset + length part.now.bytes.now ≤ longest_stream }
         ensures { self.new ≡ with_its_fin (part_said part.now) self.old }
     {
         let end = part.offset + part.bytes.len() as u32;
@@ -201,9 +202,9 @@ impl StoredEntry {
 
     /// Keeps a part of the client's stream.
     pub fn take_part(&mut self, alloc: Global, part: &Part<'_>) -> Result<(), NoMemory>
-        requires room { part.now.offset + length part.now.bytes.now ≤ 2 ^ 24 }
-        requires few { length part.now.bytes.now ≤ 1460 }
-        requires acked { part.now.acked ≤ 2 ^ 24 + 1 }
+        requires room { part.now.offset + length part.now.bytes.now ≤ longest_stream }
+        requires few { length part.now.bytes.now ≤ largest_segment }
+        requires acked { part.now.acked ≤ most_units }
         ensures ok { OnOk result (self.new ≡ with_part (part_said part.now) self.old) }
         ensures err { OnErr result (self.new ≡ self.old) }
         ensures in_page { adds_page (part_said part.now) self.old ≡ false → IsOk result }
@@ -217,7 +218,7 @@ impl StoredEntry {
 
     /// Whether keeping a part changes anything.
     pub fn part_changes(&self, part: &Part<'_>) -> bool
-        requires { part.now.offset + length part.now.bytes.now ≤ 2 ^ 24 }
+        requires { part.now.offset + length part.now.bytes.now ≤ longest_stream }
         ensures { result ≡ part_changes (part_said part.now) self.now }
     {
         let (end, logged) = (part.offset + part.bytes.len() as u32, self.length());
@@ -278,7 +279,7 @@ impl StoredEntry {
 
     /// Notes that at least `units` units of output are acknowledged.
     pub fn acknowledge(&mut self, units: u32)
-        requires { units ≤ 2 ^ 24 + 1 }
+        requires { units ≤ most_units }
         ensures { self.new ≡ acknowledging units self.old }
     {
         self.acknowledged = self.acknowledged.max(units);

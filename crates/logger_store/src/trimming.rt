@@ -1,5 +1,6 @@
 //! A log store that can be trimmed. No answer reports what is *trimmed*. Of it, the lengths and the complete pages are *discarded*: they are no longer stored.
 
+ghost use Rattle.limits.specs.Limits.{most_entries, most_units};
 ghost use Rattle.std.specs.Prelude.{[], ◌≡◌, ◌≤◌, ◌<◌, ◌+◌, ◌-◌, ◌^◌, ◌&&◌, ◌==◌, true, false, None, option_map, option_copied, IfSome, OnOk, OnErr, IsOk, length, sum, take, slice_get, slice_index, slice_index_or, slice_set, if◌then◌else◌};
 ghost use Rattle.ft_model.specs.Log.{head_of, with_entry, log_after, answer_to};
 ghost use Rattle.logger_wire.specs.Records.{head_said};
@@ -10,6 +11,7 @@ ghost use Rattle.log_pages.specs.Pages.{pages, place_of, reads_on, took};
 use crate::msg_out::MsgOut;
 use crate::store::LogStore;
 use ft_io::{Key, NoMemory};
+use limits::ENTRIES;
 use log_pages::PAGE;
 use logger_wire::{Body, EntryHead, Msg};
 use std::alloc::Global;
@@ -34,7 +36,7 @@ pub struct TrimStore {
     /// It has zeros in place of the discarded bytes.
     log: LogStore,
     /// How much of the entry at each place is trimmed.
-    trims: [Trim; 64],
+    trims: [Trim; ENTRIES as usize],
 }
 
 impl Model for TrimStore {
@@ -54,7 +56,7 @@ impl TrimStore {
     {
         TrimStore {
             log: LogStore::new(alloc),
-            trims: [UNTRIMMED; 64],
+            trims: [UNTRIMMED; ENTRIES as usize],
         }
     }
 
@@ -161,14 +163,14 @@ impl TrimStore {
     pub fn place_of(&self, key: Key) -> Option<u16>
         ensures value { result ≡ place_of key self.now.log }
         ensures there { IfSome result (λ i. i < length self.now.log.entries) }
-        ensures within { length self.now.log.entries ≤ 64 }
+        ensures within { length self.now.log.entries ≤ most_entries }
     {
         self.log.place_of(key)
     }
 
     /// Notes that `units` units of a connection's output are acknowledged, if these are more than before. Nothing is allocated.
     pub fn acknowledge(&mut self, key: Key, units: u32)
-        requires { units ≤ 2 ^ 24 + 1 }
+        requires { units ≤ most_units }
         ensures log { self.new.log ≡ with_entry key (acknowledging units) self.old.log }
         ensures trims { self.new.trims ≡ self.old.trims }
     {

@@ -7,16 +7,9 @@ ghost use Rattle.logger_wire.specs.Places.{number_at, checked};
 use crate::layout::{KEY, PORT};
 use byteorder::{BigEndian, ByteOrder};
 use ft_io::Key;
+use limits::{ENTRIES, SEGMENT, SHORTEST_SEGMENT, STREAM, UNITS};
 use seq_arith::{BadMsg, Field};
 
-/// The largest number of entries in a log.
-const ENTRIES: u16 = 64;
-/// The longest stream, in bytes.
-const STREAM: u32 = 1 << 24;
-/// The smallest and the largest segment size, in bytes.
-const SHORTEST_SEGMENT: u16 = 64;
-
-pub(crate) const LONGEST_SEGMENT: u16 = 1460;
 /// The longest read, in bytes.
 pub(crate) const LONGEST_READ: u16 = 2048;
 
@@ -105,7 +98,7 @@ pub(crate) fn segment_size(bytes: &[u8], at: usize) -> Result<u16, BadMsg>
     ensures { result ≡ checked (is_in_range 0 0 Field.Mss (number_at 2 at bytes.now)) (number_at 2 at bytes.now) }
 {
     let n = word(bytes, at);
-    if SHORTEST_SEGMENT <= n && n <= LONGEST_SEGMENT {
+    if SHORTEST_SEGMENT <= n && n <= SEGMENT {
         Ok(n)
     } else {
         Err(BadMsg::Field)
@@ -143,7 +136,7 @@ pub(crate) fn units(bytes: &[u8], at: usize) -> Result<u32, BadMsg>
     ensures { result ≡ checked (is_in_range 0 0 Field.Units (number_at 4 at bytes.now)) (number_at 4 at bytes.now) }
 {
     let n = long(bytes, at);
-    if n <= STREAM + 1 {
+    if n <= UNITS {
         Ok(n)
     } else {
         Err(BadMsg::Field)

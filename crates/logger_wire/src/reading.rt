@@ -10,8 +10,8 @@ ghost use Rattle.logger_wire.specs.Value.{seen, left_over, IsSendable};
 ghost use Rattle.logger_wire.specs.Places.{opened, placed};
 
 use crate::fields::{
-    LONGEST_READ, LONGEST_SEGMENT, behind, count, flag, huge, key, long, newer, offset, place,
-    read_length, segment_size, units,
+    LONGEST_READ, behind, count, flag, huge, key, long, newer, offset, place, read_length,
+    segment_size, units,
 };
 use crate::layout::{
     AFTER_COUNT, AFTER_KEY, AFTER_LENGTH, AFTER_NEWER, AFTER_START, BOOT_AT, HEADER, KIND_AT,
@@ -20,6 +20,7 @@ use crate::layout::{
 use crate::records::{EntryHead, Kept, Numbers, Part};
 use crate::{Body, Msg};
 use byteorder::{BigEndian, ByteOrder};
+use limits::SEGMENT;
 use seq_arith::{BadMsg, Kind, Sum16};
 
 /// The most bytes in a Part, and in the lengths of a Lens.
@@ -287,7 +288,7 @@ fn read_data(bytes: &[u8]) -> Result<Msg<'_>, BadMsg>
     ensures value { seen result ≡ placed Kind.Data bytes.now }
     ensures whole { IfOk result (λ msg. left_over msg.body ≡ 0) }
 {
-    let boot = open_within(bytes, Part::END, Part::END + usize::from(LONGEST_SEGMENT))?;
+    let boot = open_within(bytes, Part::END, Part::END + usize::from(SEGMENT))?;
     let body = Body::Data(Part::read(bytes)?);
     Ok(Msg { boot, body })
 }

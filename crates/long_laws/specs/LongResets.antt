@@ -3,6 +3,7 @@
 -- tick, so the log may say Full and take it later: if the server hears that Full afterwards, it resets a client that has an entry; and the RST for a Full that it
 -- heard in time may reach the client when the log has taken the opening. And a new client may come at a key whose entry is recycled and that the server has not
 -- forgotten yet: it gets CLOSED's RST, which may reach it when its own connection is in the log.
+use Rattle.limits.specs.Limits.{most_entries}
 use Rattle.std.specs.Prelude.{◌≡◌, ◌<◌, Bool, true, false, is_some, List, [], ◌∷◌, length}
 use Rattle.std.specs.List.{AllByRecursion, list_any}
 use Rattle.std.specs.Option.{option_to_list}
@@ -72,4 +73,4 @@ AreDiscreet start (moment ∷ earlier) = AreDiscreet start earlier × IsDiscreet
 -- the log has room for one more connection after every moment of a trace
 abbrev pub HasRoom : List LongMoment → Type 0
 HasRoom [] = Unit {0}
-HasRoom (moment ∷ earlier) = HasRoom earlier × (length moment.world.now.log.entries < 64)
+HasRoom (moment ∷ earlier) = HasRoom earlier × (length moment.world.now.log.entries < most_entries)

@@ -1,5 +1,6 @@
 -- A log as messages: for each entry an Open, its bytes in pieces, one Data with its FIN and what is acknowledged, its reads, and a Done if it is done. A journal may
 -- begin with them in place of all messages that made the log.
+use Rattle.limits.specs.Limits.{most_entries}
 use Rattle.std.specs.Prelude.{◌≡◌, ℕ, ◌+◌, ◌≤◌, true, false, map, if◌then◌else◌, List, [], ◌∷◌, ◌++◌, length}
 use Rattle.std.specs.List.{AllByRecursion}
 use Rattle.ft_io.specs.declared.Key.{Key}
@@ -51,5 +52,5 @@ CanReplay e = all_follow (length e.bytes) e.fin [] e.lengths ≡ true
 
 pub record IsOrdered (log : Log) : Type 0 where
   pub distinct : AreDistinct (map (λ e. e.key) log.entries)
-  pub few : length log.entries ≤ 64
+  pub few : length log.entries ≤ most_entries
   pub reads : AllByRecursion CanReplay log.entries

@@ -1,5 +1,6 @@
 -- A worked run: a log with one entry of 5,000 bytes in three reads takes marks that are kept and marks that aren't, and gets questions above and below the kept
 -- one.
+use Rattle.limits.specs.Limits.{largest_segment}
 use Rattle.std.specs.Prelude.{ℕ, false, [], ◌∷◌, replicate}
 use Rattle.ft_io.specs.declared.Key.{Key}
 use Rattle.seq_arith.specs.Mark.{MarkMessage}
@@ -18,7 +19,7 @@ entry = record {
   key = client;
   cisn = 1000;
   sisn = 5000;
-  mss = 1460;
+  mss = largest_segment;
   bytes = replicate 5000 120;
   fin = false;
   lengths = 2048 ∷ 2048 ∷ 904 ∷ [];

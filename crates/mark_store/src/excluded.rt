@@ -1,6 +1,7 @@
 //! Wrong results that the contracts of this crate exclude. Each function calls another one of the crate, and promises of its result what a wrong body would make
 //! false. It is proved from the other's contract alone, so it is no longer proved once that contract lets the wrong body pass.
 
+ghost use Rattle.limits.specs.Limits.{longest_stream, most_units};
 ghost use Rattle.std.specs.Prelude.{ℕ, ◌≡◌, ◌≤◌, ◌+◌, ◌^◌, true, false, Some, OnOk, length, slice_get, take};
 ghost use Rattle.ft_model.specs.Log.{Entry, with_entry};
 ghost use Rattle.logger_store.specs.Trim.{IsLeftOf, trim_at};
@@ -27,7 +28,7 @@ fn never_trims(
     key: Key,
     mark: &Mark<'_>,
 ) -> Result<(), NoMemory>
-    requires numbers { (mark.now.reads ≤ 2 ^ 24 + 1) × (mark.now.length ≤ 2 ^ 24) × (mark.now.made ≤ 2 ^ 24) }
+    requires numbers { (mark.now.reads ≤ most_units) × (mark.now.length ≤ longest_stream) × (mark.now.made ≤ longest_stream) }
     requires state { length mark.now.state.now ≤ 1100 }
     ensures { OnOk result ((l : MarkedLog) → IsLeftOfMarked store.old l → (i : ℕ) → (trim_at store.new.trimmed.trims i).reads ≡ (mark_at store.new.marks i).reads) }
 {
@@ -49,7 +50,7 @@ fn output_not_acknowledged(
     key: Key,
     mark: &Mark<'_>,
 ) -> Result<(), NoMemory>
-    requires numbers { (mark.now.reads ≤ 2 ^ 24 + 1) × (mark.now.length ≤ 2 ^ 24) × (mark.now.made ≤ 2 ^ 24) }
+    requires numbers { (mark.now.reads ≤ most_units) × (mark.now.length ≤ longest_stream) × (mark.now.made ≤ longest_stream) }
     requires state { length mark.now.state.now ≤ 1100 }
     ensures { OnOk result ((l : MarkedLog) → IsLeftOfMarked store.old l → keeps key (mark_said mark.now) l ≡ true → IsLeftOf store.new.trimmed (with_entry key (acknowledging mark.now.made) l.log)) }
 {

@@ -1,5 +1,6 @@
 //! An entry's mark, as the store has it.
 
+ghost use Rattle.limits.specs.Limits.{longest_stream, most_units};
 ghost use Rattle.std.specs.Prelude.{◌≡◌, ◌≤◌, ◌+◌, ◌^◌, IfOk, length};
 ghost use Rattle.mark_laws.specs.MarkedLog.{no_mark};
 ghost use Rattle.logger_wire.specs.MarkValue.{mark_said};
@@ -20,6 +21,7 @@ pub(crate) struct KeptMark {
 }
 
 impl Model for KeptMark {
+    ghost use Rattle.limits.specs.Limits.{longest_stream, most_units};
     ghost use Rattle.std.specs.Prelude.{◌≤◌, ◌+◌, ◌^◌, length};
     ghost use Rattle.seq_arith.specs.Mark.{Mark};
 
@@ -27,7 +29,7 @@ impl Model for KeptMark {
 
     ghost view = { λ m. record { reads = m.reads; length = m.taken; made = m.made; state = m.state.items } };
 
-    ghost invariant = { λ m. (m.reads ≤ 2 ^ 24 + 1) × (m.taken ≤ 2 ^ 24) × (m.made ≤ 2 ^ 24) × (length m.state.items ≤ 1100) };
+    ghost invariant = { λ m. (m.reads ≤ most_units) × (m.taken ≤ longest_stream) × (m.made ≤ longest_stream) × (length m.state.items ≤ 1100) };
 }
 
 impl KeptMark {
@@ -45,9 +47,9 @@ impl KeptMark {
 
     /// A copy of a mark.
     pub fn new(alloc: Global, mark: &Mark<'_>) -> Result<KeptMark, NoMemory>
-        requires reads { mark.now.reads ≤ 2 ^ 24 + 1 }
-        requires length { mark.now.length ≤ 2 ^ 24 }
-        requires made { mark.now.made ≤ 2 ^ 24 }
+        requires reads { mark.now.reads ≤ most_units }
+        requires length { mark.now.length ≤ longest_stream }
+        requires made { mark.now.made ≤ longest_stream }
         requires state { length mark.now.state.now ≤ 1100 }
         ensures { IfOk result (λ kept. kept ≡ mark_said mark.now) }
     {
@@ -64,9 +66,9 @@ impl KeptMark {
     /// The mark, as a message carries it.
     pub fn mark(&self) -> Mark<'_>
         ensures value { mark_said result ≡ self.now }
-        ensures reads { result.reads ≤ 2 ^ 24 + 1 }
-        ensures length { result.length ≤ 2 ^ 24 }
-        ensures made { result.made ≤ 2 ^ 24 }
+        ensures reads { result.reads ≤ most_units }
+        ensures length { result.length ≤ longest_stream }
+        ensures made { result.made ≤ longest_stream }
         ensures state { length result.state.now ≤ 1100 }
     {
         Mark {

@@ -1,5 +1,6 @@
 //! The log with marks.
 
+ghost use Rattle.limits.specs.Limits.{longest_stream, most_units};
 ghost use Rattle.std.specs.Prelude.{[], ◌≡◌, ◌≤◌, ◌<◌, ◌+◌, ◌^◌, ◌==◌, ◌&&◌, not, nat_lt, ℕ, true, false, Some, None, OnOk, OnErr, option_map, length, max, slice_get, if◌then◌else◌};
 ghost use Rattle.std.specs.Option.{option_map_or};
 ghost use Rattle.seq_arith.specs.Mark.MarkBody.{MarkMsg as Marking, AskMsg};
@@ -147,9 +148,9 @@ impl MarkStore {
         key: Key,
         mark: &Mark<'_>,
     ) -> Result<(), NoMemory>
-        requires reads { mark.now.reads ≤ 2 ^ 24 + 1 }
-        requires length { mark.now.length ≤ 2 ^ 24 }
-        requires made { mark.now.made ≤ 2 ^ 24 }
+        requires reads { mark.now.reads ≤ most_units }
+        requires length { mark.now.length ≤ longest_stream }
+        requires made { mark.now.made ≤ longest_stream }
         requires state { length mark.now.state.now ≤ 1100 }
         ensures ok { OnOk result ((l : MarkedLog) → IsLeftOfMarked self.old l → IsLeftOfMarked self.new (with_mark_body (Marking key (mark_said mark.now)) l)) }
         ensures err { OnErr result (self.new ≡ self.old) }
@@ -182,9 +183,9 @@ impl MarkStore {
     /// The mark of the entry at this place.
     fn mark_at(&self, place: u16) -> Mark<'_>
         ensures value { mark_said result ≡ mark_at self.now.marks place }
-        ensures reads { result.reads ≤ 2 ^ 24 + 1 }
-        ensures length { result.length ≤ 2 ^ 24 }
-        ensures made { result.made ≤ 2 ^ 24 }
+        ensures reads { result.reads ≤ most_units }
+        ensures length { result.length ≤ longest_stream }
+        ensures made { result.made ≤ longest_stream }
         ensures state { length result.state.now ≤ 1100 }
     {
         match self.marks.get(usize::from(place)) {

@@ -1,5 +1,6 @@
 //! The answers about a mark, each written as a message into the room for one answer.
 
+ghost use Rattle.limits.specs.Limits.{longest_stream, most_units};
 ghost use Rattle.std.specs.Prelude.{◌≡◌, ◌≤◌, ◌<◌, ◌+◌, ◌^◌, length, Some};
 ghost use Rattle.seq_arith.specs.Mark.MarkBody.{MarkedMsg, HeldMsg};
 ghost use Rattle.seq_arith.specs.Message.Body.{StaleMsg};
@@ -27,7 +28,7 @@ fn put_mark(m: &MarkMsg<'_>, out: &mut MsgOut)
 #[tactic(auto, unfolding(seq_arith::specs::MarkGrammar::has_length, seq_arith::specs::MarkGrammar::is_sound))]
 pub(crate) fn tell_marked(boot: u64, key: Key, reads: u32, out: &mut MsgOut)
     requires boot { 1 ≤ boot }
-    requires reads { reads ≤ 2 ^ 24 + 1 }
+    requires reads { reads ≤ most_units }
     ensures { out.new ≡ reply_bytes (Some (about_mark boot (MarkedMsg key reads))) }
 {
     let body = MarkBody::Marked { key, reads };
@@ -38,9 +39,9 @@ pub(crate) fn tell_marked(boot: u64, key: Key, reads: u32, out: &mut MsgOut)
 #[tactic(auto, unfolding(seq_arith::specs::MarkGrammar::has_length, seq_arith::specs::MarkGrammar::is_sound))]
 pub(crate) fn tell_held(boot: u64, key: Key, mark: &Mark<'_>, out: &mut MsgOut)
     requires boot { 1 ≤ boot }
-    requires reads { mark.now.reads ≤ 2 ^ 24 + 1 }
-    requires length { mark.now.length ≤ 2 ^ 24 }
-    requires made { mark.now.made ≤ 2 ^ 24 }
+    requires reads { mark.now.reads ≤ most_units }
+    requires length { mark.now.length ≤ longest_stream }
+    requires made { mark.now.made ≤ longest_stream }
     requires state { length mark.now.state.now ≤ 1100 }
     ensures { out.new ≡ reply_bytes (Some (about_mark boot (HeldMsg key (mark_said mark.now)))) }
 {

@@ -9,7 +9,7 @@ ghost use Rattle.std.specs.Prelude.{◌≤◌, IfSome};
 use crate::without_memory;
 use ft_io::NoMemory;
 use host::{Counts, Host};
-use limits::SEGMENT;
+use limits::{ENTRIES, SEGMENT};
 use std::alloc::Global;
 use std::io;
 use wrapped_conn::Inside;
@@ -17,7 +17,7 @@ use wrapped_conn::Inside;
 mod host;
 
 /// The most connections.
-const CLIENTS: u16 = 64;
+const CLIENTS: u16 = ENTRIES;
 
 /// What the words ask for.
 #[derive(Clone, Copy)]

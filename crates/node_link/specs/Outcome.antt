@@ -1,4 +1,5 @@
 -- What a process did, by its words and with any services, and how that is reported.
+use Rattle.limits.specs.Limits.{longest_stream}
 use Rattle.std.specs.Prelude.{◌≡◌, ◌⊎◌, ℕ, ◌^◌, ◌≤◌, Option, None, Some, Result, Ok, Err, List, length}
 use Rattle.std.specs.Io.KnownBytes.{Appends}
 use Rattle.ft_io.specs.declared.link_call.LinkCall.{LinkCall}
@@ -39,7 +40,7 @@ IsStill before after = Rose before after → ⊥
 -- a client can have its script: the words give it; or the source's content is specified and no longer than a script may be, and no read fails
 abbrev pub HasScript : Option Script → (left : Option (List ℕ)) → (faults_old faults_new : ℕ) → Type 0
 HasScript (Some script) left faults_old faults_new = Unit {0}
-HasScript None left faults_old faults_new = (bytes : List ℕ) × (left ≡ Some bytes) × (length bytes ≤ 2 ^ 24) × IsStill faults_old faults_new
+HasScript None left faults_old faults_new = (bytes : List ℕ) × (left ≡ Some bytes) × (length bytes ≤ longest_stream) × IsStill faults_old faults_new
 
 module _ {State : Type 0} (services : ℕ → Machine State) where
   -- what a role did. Only a client reads the input. A pair makes no call on the link

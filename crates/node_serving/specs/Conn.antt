@@ -1,4 +1,5 @@
 -- A connection as the node sees it. `Begins`, `IsOursAt` and `IsSound` are opaque to the node.
+use Rattle.limits.specs.Limits.{largest_segment}
 use Rattle.std.specs.Prelude.{◌≡◌, ◌≤◌, ℕ, List, ◌++◌, map}
 use Rattle.std.specs.List.{AllByRecursion, AllByRecursion-prop}
 use Rattle.std.proofs.Math.Nat.{ℕ_set}
@@ -23,7 +24,7 @@ use Rattle.node_serving.specs.SentBytes.{wires_of}
 pub record IsOurs {S : Type 0} (server : Addr) (boot : ℕ) (c : ConnState S) (p : Point) : Type 0 where
   pub local : c.local ≡ server
   pub incarnation : c.boot ≡ boot
-  pub size : p.mss ≤ 1460
+  pub size : p.mss ≤ largest_segment
 
 -- before the turn in which it becomes live at the end of a restart a connection begins at a point, ..
 unfoldable pub Begins : {S : Type 0} → Machine S → Addr → (boot : ℕ) → ConnState S → Point → Type 0

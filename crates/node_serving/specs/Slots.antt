@@ -1,4 +1,5 @@
 -- The slots of the node's keys, and the model's places to which they correspond.
+use Rattle.limits.specs.Limits.{largest_segment, least_segment}
 use Rattle.std.specs.Prelude.{◌≡◌, ◌≤◌, ℕ, List, [], ◌∷◌, ◌++◌, map, length}
 use Rattle.std.specs.Coded.{×_prop, Unit-prop, le_prop}
 use Rattle.std.specs.List.{AllByRecursion}
@@ -34,7 +35,7 @@ AllStand service node _ _ = ⊥
 -- a live connection is that of its key and its calls may be made, and an opening can be asked for, whatever has arrived
 abbrev pub IsSoundSlot : {S : Type 0} → Identity → Key → Slot S → Type 0
 IsSoundSlot who key (slot.Live c) = Belongs who key c
-IsSoundSlot who key (slot.Pending o) = (64 ≤ o.mss) × (o.mss ≤ 1460)
+IsSoundSlot who key (slot.Pending o) = (least_segment ≤ o.mss) × (o.mss ≤ largest_segment)
 IsSoundSlot who key _ = Unit {0}
 
 abbrev pub AllSound : {S : Type 0} → Identity → List (Key × Slot S) → Type 0

@@ -1,5 +1,6 @@
 //! What a message of the logger does at the slot of the key that it names.
 
+ghost use Rattle.limits.specs.Limits.{largest_segment};
 ghost use Rattle.std.specs.Prelude.{◌≡◌, ◌<◌, ◌≤◌, List, Some, OnOk, IfSome, length, option_map, position, remove};
 ghost use Rattle.std.specs.Map.{lookup, keys_of};
 ghost use Rattle.indexmap.specs.IndexMap.{set_value_at};
@@ -162,7 +163,7 @@ pub(crate) fn open_known<S: Service>(
 ) -> Result<(), NoMemory>
     requires boot { 1 ≤ who.boot }
     requires least { 64 ≤ numbers.mss }
-    requires most { numbers.mss ≤ 1460 }
+    requires most { numbers.mss ≤ largest_segment }
     requires sound { AllSound who slots.old.entries }
     ensures turn { OnOk result ((message : Message) → message ≡ record { boot = who.boot; body = OpenedMsg (numbers_of key numbers) }
         → SlotsTurn S.Service who (Message_comes message) slots.old.entries slots.new.entries turn.old turn.new) }

@@ -1,5 +1,6 @@
 //! The calls of a live connection: each is one turn of it, and what it gives out is sent.
 
+ghost use Rattle.limits.specs.Limits.{largest_segment};
 ghost use Rattle.std.specs.Prelude.{◌≡◌, ◌≤◌, Ok, IsOk, OnOk, IfOk};
 ghost use Rattle.seq_arith.specs.Message.{Kept};
 ghost use Rattle.seq_arith.specs.Packet.{Segment};
@@ -30,7 +31,7 @@ pub(crate) fn begin_live<S: Service>(
 ) -> Result<Conn<S>, NoMemory>
     requires boot { 1 ≤ who.boot }
     requires least { 64 ≤ numbers.mss }
-    requires most { numbers.mss ≤ 1460 }
+    requires most { numbers.mss ≤ largest_segment }
     ensures turn { IfOk result (λ conn. ConnBegins S.Service who (numbers_of key numbers) conn turn.old turn.new) }
     ensures alone { IfOk result (λ conn. SendsFor key turn.old turn.new) }
     ensures sound { IfOk result (λ conn. Belongs who key conn) }

@@ -1,5 +1,6 @@
 //! Openings: at a SYN of an unknown client the node asks the log for an entry, and asks again until the log answers.
 
+ghost use Rattle.limits.specs.Limits.{largest_segment};
 ghost use Rattle.std.specs.Prelude.{◌==◌, ◌&&◌, ◌≡◌, ◌≤◌, ◌∷◌, [], None, OnOk, true, nat_lt};
 ghost use Rattle.std.specs.Map.{lookup, keys_of};
 ghost use Rattle.std.specs.List.{IsDistinct};
@@ -39,7 +40,7 @@ pub const STRIDE: u32 = 65_536;
 fn ask(who: Identity, key: Key, opening: Opening, turn: &mut Turn) -> Result<(), NoMemory>
     requires boot { 1 ≤ who.boot }
     requires least { 64 ≤ opening.mss }
-    requires most { opening.mss ≤ 1460 }
+    requires most { opening.mss ≤ largest_segment }
     ensures { OnOk result (Sends (told_by who.boot (OpenMsg (numbers_of key opening)) ∷ []) turn.old turn.new) }
 {
     let message = Msg {

@@ -1,5 +1,6 @@
 //! The RSTs that the node itself sends, to clients that have no connection (RFC 9293, 3.10.7.1 and 3.10.7.2).
 
+ghost use Rattle.limits.specs.Limits.{largest_segment};
 ghost use Rattle.std.specs.Prelude.{◌≡◌, ◌≤◌, ◌∷◌, [], OnOk, length};
 ghost use Rattle.seq_arith.specs.Offset.{length_of};
 ghost use Rattle.seq_arith.specs.Value.{said};
@@ -31,7 +32,7 @@ pub fn send_bare(head: Head, turn: &mut Turn) -> Result<(), NoMemory>
 
 /// SEG.LEN: the text and the FIN, or only the SYN; 0 for a RST.
 fn length_of(segment: &PacketRef<'_>) -> u32
-    requires { length segment.now.payload.now ≤ 1460 }
+    requires { length segment.now.payload.now ≤ largest_segment }
     ensures { result ≡ length_of (segment_of segment.now) }
 {
     let flags = segment.head.flags;
@@ -50,7 +51,7 @@ pub(crate) fn refuse_closed(
     segment: &PacketRef<'_>,
     turn: &mut Turn,
 ) -> Result<(), NoMemory>
-    requires { length segment.now.payload.now ≤ 1460 }
+    requires { length segment.now.payload.now ≤ largest_segment }
     ensures { OnOk result (SendsSegments (as_closed who.local (segment_of segment.now)) turn.old turn.new) }
 {
     if has(segment.head.flags, RST) {

@@ -1,4 +1,5 @@
 -- The north wrapper's state, and what it does with it: the reads of a turn over any socket, and the output that it gives to TCP.
+use Rattle.limits.specs.Limits.{buffer_size, longest_stream}
 use Rattle.std.specs.Prelude.{◌≡◌, ℕ, ◌+◌, ◌-◌, ◌^◌, ◌<◌, ◌≤◌, ◌==◌, Bool, false, ◌&&◌, ◌||◌, not, min, nat_lt, nat_le, Option, Some, None, List, [], ◌∷◌, ◌++◌, length, take, drop, get_or, if◌then◌else◌}
 use Rattle.server_trait.specs.Service.{Served}
 use Rattle.north_wrap.specs.declared.read_record.ReadRecord.{ReadRecord}
@@ -27,7 +28,7 @@ length_of_next rest readable at_end ended =
 
 -- whether a read may be made
 abbrev pub is_free_to_read : {S : Type 0} → (una : ℕ) → NorthState S → Bool
-is_free_to_read una n = nat_le n.run.made (min n.last.made (una + 65535)) && nat_le n.run.made (2 ^ 24 - 2 ^ 20) && nat_lt (length n.reads) 32
+is_free_to_read una n = nat_le n.run.made (min n.last.made (una + buffer_size)) && nat_le n.run.made (longest_stream - 2 ^ 20) && nat_lt (length n.reads) 32
 
 unfoldable pub next_length : {S : Type 0} → (una readable : ℕ) → (at_end : Bool) → NorthState S → Option ℕ
 next_length una readable at_end n = if is_free_to_read una n then length_of_next (length n.rest) readable at_end n.ended else None
@@ -35,7 +36,7 @@ next_length una readable at_end n = if is_free_to_read una n then length_of_next
 -- what is known of a next read of this length
 pub record Allows {S : Type 0} (readable k : ℕ) (n : NorthState S) : Type 0 where
   pub most : k ≤ 2048
-  pub room : n.run.made ≤ 2 ^ 24 - 2 ^ 20
+  pub room : n.run.made ≤ longest_stream - 2 ^ 20
   pub fewer : length n.reads < 32
   pub rest : 0 < length n.rest → k ≤ length n.rest
   pub socket : length n.rest ≡ 0 → k ≤ readable

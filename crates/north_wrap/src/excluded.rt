@@ -1,6 +1,7 @@
 //! Wrong results that the contracts of this crate exclude. Each function calls another one of the crate, and promises of its result what a wrong body would make
 //! false. It is proved from the other's contract alone, so it is no longer proved once that contract lets the wrong body pass.
 
+ghost use Rattle.limits.specs.Limits.{most_units};
 ghost use Rattle.std.specs.Prelude.{◌≡◌, ◌+◌, ◌^◌, ◌≤◌, max, false, length};
 ghost use Rattle.north_wrap.specs.NorthState.{answered};
 
@@ -10,7 +11,7 @@ use socket_layer::Socket;
 
 /// No read is made while 32 aren't known to be logged: the contract of `North::is_free_to_read`.
 fn a_thirty_third_read<S: Service>(north: &North<S>, una: u32) -> bool
-    requires una { una ≤ 2 ^ 24 + 1 }
+    requires una { una ≤ most_units }
     requires unanswered { length north.now.reads ≡ 32 }
     ensures { result ≡ false }
 {

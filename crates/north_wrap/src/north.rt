@@ -1,5 +1,6 @@
 //! The north wrapper.
 
+ghost use Rattle.limits.specs.Limits.{longest_stream, most_units};
 ghost use Rattle.std.specs.Prelude.{◌≡◌, ◌∷◌, ◌||◌, false, ℕ, ◌+◌, ◌-◌, ◌^◌, ◌<◌, ◌≤◌, ◌==◌, ◌&&◌, Some, List, [], ◌++◌, length, take, drop, OnOk, IfSome};
 ghost use Rattle.server_trait.specs.Service.{machine};
 ghost use Rattle.ft_model.specs.Offset.{one_if};
@@ -51,6 +52,7 @@ pub struct North<S: Service> {
 }
 
 impl<S: Service> Model for North<S> {
+    ghost use Rattle.limits.specs.Limits.{longest_stream};
     ghost use Rattle.std.specs.Prelude.{length, ◌≤◌, ◌+◌, ◌^◌};
     ghost use Rattle.ft_model.specs.Offset.{one_if};
     ghost use Rattle.north_wrap.specs.Sockets.{reader, writer};
@@ -60,7 +62,7 @@ impl<S: Service> Model for North<S> {
 
     ghost view = { λ n. record { run = n.run; rest = n.rest; last = n.last; reads = n.reads; read = n.read; count = n.count; ended = n.ended; shut = n.shut } };
 
-    ghost invariant = { λ n. (length n.reads ≤ 32) × (n.read + length n.rest ≤ 2 ^ 24) × (n.count ≤ n.read + one_if n.ended) };
+    ghost invariant = { λ n. (length n.reads ≤ 32) × (n.read + length n.rest ≤ longest_stream) × (n.count ≤ n.read + one_if n.ended) };
 }
 
 impl<S: Service> North<S> {
@@ -99,8 +101,8 @@ impl<S: Service> North<S> {
         ended: bool,
         closed: bool,
     ) -> North<S>
-        requires within { read + length rest.items ≤ 2 ^ 24 }
-        requires made { made ≤ 2 ^ 24 }
+        requires within { read + length rest.items ≤ longest_stream }
+        requires made { made ≤ longest_stream }
         requires reads { reads ≤ read + one_if ended }
         ensures { result ≡ resumed_north service rest.items pending.items reads read made ended closed }
     {
@@ -118,8 +120,8 @@ impl<S: Service> North<S> {
 
     /// Returns a wrapper at the end of a restart, which goes on after these reads.
     pub fn after_reads(replayed: ReplayedReads<S>) -> North<S>
-        requires within { replayed.read + length replayed.rest.items ≤ 2 ^ 24 }
-        requires made { replayed.made ≤ 2 ^ 24 }
+        requires within { replayed.read + length replayed.rest.items ≤ longest_stream }
+        requires made { replayed.made ≤ longest_stream }
         requires reads { replayed.count ≤ replayed.read + one_if replayed.ended }
         ensures { result ≡ resumed_north replayed.service replayed.rest.items replayed.pending.items replayed.count replayed.read replayed.made replayed.ended replayed.closed }
     {
@@ -153,7 +155,7 @@ impl<S: Service> North<S> {
     /// Whether a read may be made: all output so far may be sent, and at most 65,535 bytes of it are unacknowledged; one more read's output fits into the
     /// stream; and fewer than 32 reads are unanswered.
     pub(crate) fn is_free_to_read(&self, una: u32) -> bool
-        requires { una ≤ 2 ^ 24 + 1 }
+        requires { una ≤ most_units }
         ensures { result ≡ is_free_to_read una self.now }
     {
         let made = self.run.made();
@@ -165,7 +167,7 @@ impl<S: Service> North<S> {
     /// The length of the next read, if one is made.
     #[tactic(auto, unfolding(crate::specs::NorthState::next_length))]
     fn next_length(&self, una: u32, readable: usize, at_end: bool) -> Option<usize>
-        requires { una ≤ 2 ^ 24 + 1 }
+        requires { una ≤ most_units }
         ensures value { result ≡ next_length una readable at_end self.now }
         ensures allowed { IfSome result (λ k. Allows readable k self.now) }
     {
@@ -215,7 +217,7 @@ impl<S: Service> North<S> {
     fn note(&mut self, size: usize) -> ReadRecord
         requires most { size ≤ 2048 }
         requires fewer { length self.old.reads < 32 }
-        requires within { self.old.read + size + length self.old.rest ≤ 2 ^ 24 }
+        requires within { self.old.read + size + length self.old.rest ≤ longest_stream }
         requires once { size ≡ 0 → self.old.ended ≡ false }
         ensures state { self.new ≡ record self.old {
           reads = self.old.reads ++ record_of size self.old self.old.run ∷ [];
@@ -249,13 +251,13 @@ impl<S: Service> North<S> {
     ) -> Result<(), NoMemory>
         requires allowed { Allows (length (K.unread sock.old)) size self.old }
         requires buffer { length chunk.old ≡ 2048 }
-        requires within { self.old.read + length self.old.rest + length (K.unread sock.old) ≤ 2 ^ 24 }
+        requires within { self.old.read + length self.old.rest + length (K.unread sock.old) ≤ longest_stream }
         requires room { length news.old < 32 }
         ensures state { OnOk result (self.new ≡ read_on S.after (K.unread sock.old) size self.old) }
         ensures socket { sock.new ≡ socket_on (reader K.unread K.has_end K.after_read) size self.old sock.old }
         ensures news { OnOk result (news.new ≡ news.old ++ record_of size self.old self.new.run ∷ []) }
         ensures reads { OnOk result (self.new.reads ≡ self.old.reads ++ record_of size self.old self.new.run ∷ []) }
-        ensures bounded { self.new.read + length self.new.rest + length (K.unread sock.new) ≤ 2 ^ 24 }
+        ensures bounded { self.new.read + length self.new.rest + length (K.unread sock.new) ≤ longest_stream }
     {
         self.take_chunk(sock, size, chunk)?;
         let read = self.note(size);
@@ -271,12 +273,12 @@ impl<S: Service> North<S> {
         una: u32,
         news: &mut ReadRecords,
     ) -> Result<(), NoMemory>
-        requires una { una ≤ 2 ^ 24 + 1 }
-        requires within { self.old.read + length self.old.rest + length (K.unread sock.old) ≤ 2 ^ 24 }
+        requires una { una ≤ most_units }
+        requires within { self.old.read + length self.old.rest + length (K.unread sock.old) ≤ longest_stream }
         requires none { news.old ≡ [] }
         ensures reads { OnOk result (Reads S.after (reader K.unread K.has_end K.after_read) una self.old sock.old (lengths_of news.new) self.new sock.new) }
         ensures news { OnOk result (self.new.reads ≡ self.old.reads ++ news.new) }
-        ensures bounded { self.new.read + length self.new.rest + length (K.unread sock.new) ≤ 2 ^ 24 }
+        ensures bounded { self.new.read + length self.new.rest + length (K.unread sock.new) ≤ longest_stream }
     {
         let mut chunk = [0u8; CHUNK_LIMIT];
         while let Some(size) = self.next_length(una, sock.readable(), sock.ended()) {
@@ -323,8 +325,8 @@ impl<S: Service> North<S> {
         una: u32,
         news: &mut ReadRecords,
     ) -> Result<(), NoMemory>
-        requires una { una ≤ 2 ^ 24 + 1 }
-        requires within { self.old.read + length self.old.rest + length (K.unread sock.old) ≤ 2 ^ 24 }
+        requires una { una ≤ most_units }
+        requires within { self.old.read + length self.old.rest + length (K.unread sock.old) ≤ longest_stream }
         ensures turn { OnOk result (Turns S.after (reader K.unread K.has_end K.after_read)
             (writer K.write_room K.is_closed K.after_write K.after_close) una self.old sock.old news.new self.new sock.new) }
         ensures law { OnOk result ((fresh : S) (p : Point) (given : ℕ) → NorthStands (machine fresh S.after) p given self.old
@@ -332,7 +334,7 @@ impl<S: Service> North<S> {
             → given ≤ released (machine fresh S.after) p
             → NorthTurn (machine fresh S.after) (reader K.unread K.has_end K.after_read)
             (writer K.write_room K.is_closed K.after_write K.after_close) p given self.old sock.old news.new self.new sock.new) }
-        ensures bounded { self.new.read + length self.new.rest + length (K.unread sock.new) ≤ 2 ^ 24 }
+        ensures bounded { self.new.read + length self.new.rest + length (K.unread sock.new) ≤ longest_stream }
     {
         self.make_turn(sock, una, news)
     }
@@ -343,11 +345,11 @@ impl<S: Service> North<S> {
         una: u32,
         news: &mut ReadRecords,
     ) -> Result<(), NoMemory>
-        requires una { una ≤ 2 ^ 24 + 1 }
-        requires within { self.old.read + length self.old.rest + length (K.unread sock.old) ≤ 2 ^ 24 }
+        requires una { una ≤ most_units }
+        requires within { self.old.read + length self.old.rest + length (K.unread sock.old) ≤ longest_stream }
         ensures turn { OnOk result (Turns S.after (reader K.unread K.has_end K.after_read)
             (writer K.write_room K.is_closed K.after_write K.after_close) una self.old sock.old news.new self.new sock.new) }
-        ensures bounded { self.new.read + length self.new.rest + length (K.unread sock.new) ≤ 2 ^ 24 }
+        ensures bounded { self.new.read + length self.new.rest + length (K.unread sock.new) ≤ longest_stream }
     {
         news.clear();
         self.give(sock);

@@ -1,5 +1,6 @@
 //! The service, with its output that isn't given to TCP yet.
 
+ghost use Rattle.limits.specs.Limits.{longest_stream};
 ghost use Rattle.std.specs.Prelude.{◌≡◌, ℕ, ◌^◌, ◌-◌, ◌≤◌, List, [], length, take, drop, false, OnOk};
 ghost use Rattle.north_wrap.specs.RunState.{run_on, gives, given_to};
 
@@ -24,6 +25,7 @@ pub(crate) struct ServiceRun<S: Service> {
 }
 
 impl<S: Service> Model for ServiceRun<S> {
+    ghost use Rattle.limits.specs.Limits.{longest_stream};
     ghost use Rattle.std.specs.Prelude.{drop, ◌≤◌, ◌^◌, vec_len};
     ghost use Rattle.north_wrap.specs.RunState.{RunState};
 
@@ -31,12 +33,12 @@ impl<S: Service> Model for ServiceRun<S> {
 
     ghost view = { λ r. record { service = r.service; pending = drop r.at r.output.items; made = r.made; closed = r.closed } };
 
-    ghost invariant = { λ r. (r.at ≤ vec_len r.output) × (r.made ≤ 2 ^ 24) };
+    ghost invariant = { λ r. (r.at ≤ vec_len r.output) × (r.made ≤ longest_stream) };
 }
 
 impl<S: Service> ServiceRun<S> {
     pub(crate) fn new(service: S, output: Vec<u8>, made: u32, closed: bool) -> ServiceRun<S>
-        requires { made ≤ 2 ^ 24 }
+        requires { made ≤ longest_stream }
         ensures { result ≡ record { service = service; pending = output.items; made = made; closed = closed } }
     {
         ServiceRun {
@@ -75,7 +77,7 @@ impl<S: Service> ServiceRun<S> {
     /// Gives the service a chunk, unless it has closed.
     pub(crate) fn feed(&mut self, chunk: &[u8]) -> Result<(), NoMemory>
         requires short { length chunk.now ≤ 2048 }
-        requires room { self.old.made ≤ 2 ^ 24 - 2 ^ 20 }
+        requires room { self.old.made ≤ longest_stream - 2 ^ 20 }
         ensures { OnOk result (self.new ≡ run_on S.after self.old chunk.now) }
     {
         if self.closed {
@@ -95,7 +97,7 @@ impl<S: Service> ServiceRun<S> {
         requires most { size ≤ 2048 }
         requires there { size ≤ length (K.unread sock.old) }
         requires buffer { length chunk.old ≡ 2048 }
-        requires room { self.old.made ≤ 2 ^ 24 - 2 ^ 20 }
+        requires room { self.old.made ≤ longest_stream - 2 ^ 20 }
         ensures state { OnOk result (self.new ≡ run_on S.after self.old (take size (K.unread sock.old))) }
         ensures socket { sock.new ≡ K.after_read sock.old size }
     {
@@ -105,7 +107,7 @@ impl<S: Service> ServiceRun<S> {
 
     fn take(&mut self, chunk: &[u8]) -> Result<(), NoMemory>
         requires short { length chunk.now ≤ 2048 }
-        requires room { self.old.made ≤ 2 ^ 24 - 2 ^ 20 }
+        requires room { self.old.made ≤ longest_stream - 2 ^ 20 }
         requires goes { self.old.closed ≡ false }
         ensures { OnOk result (self.new ≡ run_on S.after self.old chunk.now) }
     {

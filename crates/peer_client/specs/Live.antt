@@ -1,4 +1,5 @@
 -- The live client: an active open of the TCP endpoint. Its user writes a script as there is room, closes after it, and reads what was accepted.
+use Rattle.limits.specs.Limits.{longest_stream}
 use Rattle.std.specs.Prelude.{ℕ, Bool, ◌+◌, ◌^◌, ◌==◌, ◌&&◌, ◌||◌, nat_le, min, Option, None, Some, Result, Ok, Err, List, length, take, drop, if◌then◌else◌}
 use Rattle.ft_io.specs.declared.Addr.{Addr}
 use Rattle.seq_arith.specs.Packet.{Segment}
@@ -26,12 +27,17 @@ abbrev pub new_live : Addr → Addr → ℕ → List ℕ → LiveState
 new_live local server isn script = record {
   local = local;
   server = server;
-  tcb = connecting local server isn (2 ^ 24);
+  tcb = connecting local server isn longest_stream;
   script = script;
   written = 0;
   seen = 0;
   outcome = None;
 }
+
+-- the same of a client with this profile. A client has no log, so of the profile it has the measuring alone
+abbrev pub new_live_in : Profile → Addr → Addr → ℕ → List ℕ → LiveState
+new_live_in profile local server isn script =
+    record (new_live local server isn script) { tcb = connecting_measuring profile.measures local server isn longest_stream }
 
 -- whether the segment is one of the connection, by both addresses and ports (RFC 9293, 3.10.7)
 abbrev pub is_of : Addr → Addr → Segment → Bool

@@ -1,5 +1,6 @@
 -- How the client machine of the model corresponds to a live client: the machine has accepted what the client's TCP has taken, and has sent and advertised what
 -- TCP has. Every call preserves this, and each segment that is sent is a move of the machine.
+use Rattle.limits.specs.Limits.{largest_segment, least_segment, longest_stream}
 use Rattle.std.specs.Prelude.{◌≡◌, ◌⊎◌, ℕ, Bool, true, false, pos, ◌+◌, ◌-ℤ◌, ◌≤ℤ◌, ◌^◌, ◌<◌, ◌≤◌, ◌==◌, ◌&&◌, Option, None, Some, Result, Ok, Err, List, [], ◌∷◌, length, take, drop, if◌then◌else◌}
 use Rattle.tcp_rules.specs.Coming.{StandsBehind}
 use Rattle.seq_arith.specs.Number.{number_at}
@@ -50,7 +51,7 @@ pub record IsSame (l : LiveState) (c : Client) : Type 0 where
 -- the machine has accepted what TCP has taken, and holds what TCP holds
 pub record Hears (r : Receiving) (c : Client) : Type 0 where
   pub sisn : c.sisn ≡ r.irs
-  pub limit : r.limit ≡ 2 ^ 24
+  pub limit : r.limit ≡ longest_stream
   pub count : length c.accepted ≡ taken r
   pub rest : drop r.read c.accepted ≡ r.unread
   pub fin : is_ended c.phase ≡ r.fin
@@ -68,12 +69,12 @@ pub record Sends (s : Sending) (written : ℕ) (c : Client) : Type 0 where
   pub order : s.una ≤ s.sent
   pub wl2 : s.wl2 ≤ s.sent
   pub within : written ≤ length c.script
-  pub script : length c.script ≤ 2 ^ 24
+  pub script : length c.script ≤ longest_stream
   pub text : s.fin_sent ≡ false → s.sent ≤ written
   pub ended : s.fin_sent ≡ true → (s.closed ≡ true) × (s.sent ≡ written + 1)
   pub shut : s.closed ≡ true → written ≡ length c.script
-  pub least : 64 ≤ s.mss
-  pub most : s.mss ≤ 1460
+  pub least : least_segment ≤ s.mss
+  pub most : s.mss ≤ largest_segment
 
 pub record Agrees (l : LiveState) (c : Client) : Type 0 where
   pub same : IsSame l c

@@ -1,5 +1,6 @@
 //! The scripted client: its state, and the moves that it makes.
 
+ghost use Rattle.limits.specs.Limits.{largest_segment, longest_packet, longest_stream};
 ghost use Rattle.std.specs.Prelude.{◌≡◌, ℕ, ◌+◌, ◌-◌, ◌^◌, ◌<◌, ◌≤◌, None, length, IfOk, IfErr, IsSome, OnErr};
 ghost use Rattle.peer_client.specs.Moves.{move_value};
 
@@ -7,6 +8,7 @@ use crate::arrival::{number_of, part};
 use crate::moves::{Move, flags, of_event};
 use ft_io::{Addr, Key};
 use ft_model::{Event, EventWhy, Phase};
+use limits::SEGMENT;
 use segment_codec::{Head, write_packet};
 use seq_arith::Seq;
 use std::alloc::Global;
@@ -35,6 +37,7 @@ pub struct Client {
 }
 
 impl Model for Client {
+    ghost use Rattle.limits.specs.Limits.{longest_stream, most_units};
     ghost use Rattle.std.specs.Prelude.{ℕ, ◌≤◌, ◌+◌, ◌^◌, length};
     ghost use Rattle.tcp_rules.specs.Coming.{nothing_early};
     ghost use Rattle.ft_model.specs.Client as machine;
@@ -57,7 +60,7 @@ impl Model for Client {
       early = nothing_early;
     } };
 
-    ghost invariant = { λ c. (length c.script.items ≤ 2 ^ 24) × (c.sent ≤ 2 ^ 24 + 1) };
+    ghost invariant = { λ c. (length c.script.items ≤ longest_stream) × (c.sent ≤ most_units) };
 }
 
 impl Client {
@@ -71,7 +74,7 @@ impl Client {
 
     /// Creates a client that has sent nothing, without allocating. Its script has at most 2^24 bytes.
     pub fn new(alloc: Global, key: Key, server: Addr, isn: u32, script: Vec<u8>) -> Client
-        requires { length script.items ≤ 2 ^ 24 }
+        requires { length script.items ≤ longest_stream }
         ensures { result ≡ new_client Scripted server key isn script.items }
     {
         Client {
@@ -145,7 +148,7 @@ impl Client {
                 self.acknowledged <= from
                     && from <= self.sent
                     && 1 <= len
-                    && len <= 1_460
+                    && len <= u32::from(SEGMENT)
                     && u64::from(from) + u64::from(len) <= self.script.len() as u64
             }
             Move::Fin => self.script.len() <= self.sent as usize,
@@ -203,7 +206,7 @@ impl Client {
     fn payload(&self, made: Move) -> &[u8]
         requires { refusal_of_move self.now (move_value made) ≡ None }
         ensures text { result.now ≡ payload_of self.now (move_value made) }
-        ensures size { length result.now ≤ 1460 }
+        ensures size { length result.now ≤ largest_segment }
     {
         match made {
             Move::Text { from, len } => part(&self.script, u64::from(from), u64::from(len)),
@@ -231,7 +234,7 @@ impl Client {
     /// Writes the packet of a move, which the client may make, at the beginning of `out`, and returns its length.
     fn write(&self, made: Move, window: u16, out: &mut [u8]) -> usize
         requires may { refusal_of_move self.now (move_value made) ≡ None }
-        requires room { 1500 ≤ length out.old }
+        requires room { longest_packet ≤ length out.old }
         ensures bytes { out.new ≡ spelling (segment_of self.now (move_value made) window) ++ drop result out.old }
         ensures read { reading (take result out.new) ≡ Ok (segment_of self.now (move_value made) window) }
     {
@@ -259,7 +262,7 @@ impl Client {
     /// beginning of `out`, which has room for at least 1,500 bytes, and returns the packet's length. A refused move changes nothing.
     pub fn step(&mut self, event: &Event, out: &mut [u8]) -> Result<usize, Refused>
         requires asks { IsSome (move_of event.now) }
-        requires room { 1500 ≤ length out.old }
+        requires room { longest_packet ≤ length out.old }
         ensures made { IfOk result (λ n. Makes self.old event.now out.old n out.new self.new) }
         ensures refused { IfErr result (λ end. Refuses self.old event.now end.why) }
         ensures kept { OnErr result (self.new ≡ self.old) }

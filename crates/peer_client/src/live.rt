@@ -1,5 +1,6 @@
 //! The live client: an active open of the TCP endpoint that sends a script and hands out what the server sends.
 
+ghost use Rattle.limits.specs.Limits.{longest_stream};
 ghost use Rattle.std.specs.Prelude.{None, IsSome, ◌≡◌, ◌+◌, ◌-◌, ◌^◌, ◌≤◌, ◌==◌, ◌&&◌, ◌||◌, [], ◌++◌, IfOk, length, min, take, drop};
 ghost use Rattle.segment_codec.specs.Value.{segment_of};
 ghost use Rattle.tcp_endpoint.specs.Output.{packets};
@@ -48,6 +49,7 @@ pub struct LiveClient {
 }
 
 impl Model for LiveClient {
+    ghost use Rattle.limits.specs.Limits.{longest_stream};
     ghost use Rattle.std.specs.Prelude.{◌≤◌, ◌^◌, length};
     ghost use Rattle.peer_client.specs.Live.{LiveState};
 
@@ -63,7 +65,7 @@ impl Model for LiveClient {
       outcome = c.outcome;
     } };
 
-    ghost invariant = { λ c. (length c.script.items ≤ 2 ^ 24) × (c.written ≤ length c.script.items) };
+    ghost invariant = { λ c. (length c.script.items ≤ longest_stream) × (c.written ≤ length c.script.items) };
 }
 
 impl LiveClient {
@@ -76,12 +78,35 @@ impl LiveClient {
         isn: u32,
         script: Vec<u8>,
     ) -> Result<LiveClient, NoMemory>
-        requires { length script.items ≤ 2 ^ 24 }
+        requires { length script.items ≤ longest_stream }
         ensures made { IfOk result (λ client. client ≡ new_live local server isn script.items) }
         // A new live client of the model corresponds to it.
         ensures beside { IfOk result (λ client. IsDue client (new_client Live server (record { ip = local.ip; port = local.port }) isn script.items)) }
     {
-        let endpoint = Endpoint::connect(alloc, local, server, Seq(isn), STREAM)?;
+        LiveClient::new_in(Profile::Plain, alloc, local, server, isn, script)
+    }
+
+    /// The same of a client with this profile. Its TCP measures round trips exactly if the profile does.
+    pub fn new_in(
+        profile: Profile,
+        alloc: Global,
+        local: Addr,
+        server: Addr,
+        isn: u32,
+        script: Vec<u8>,
+    ) -> Result<LiveClient, NoMemory>
+        requires { length script.items ≤ longest_stream }
+        ensures made { IfOk result (λ client. client ≡ new_live_in (profile_of profile) local server isn script.items) }
+        ensures beside { IfOk result (λ client. IsDue client (new_client Live server (record { ip = local.ip; port = local.port }) isn script.items)) }
+    {
+        let endpoint = Endpoint::connect_measuring(
+            alloc,
+            local,
+            server,
+            Seq(isn),
+            STREAM,
+            profile.measures(),
+        )?;
         Ok(LiveClient {
             local,
             server,

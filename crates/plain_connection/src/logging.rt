@@ -1,6 +1,7 @@
 //! What a turn sends to the logger: copies of the client's text, the lengths of reads, and that the connection is done. A message that has no spelling isn't
 //! sent: one whose offset, acknowledged units or read index is past its field's range.
 
+ghost use Rattle.limits.specs.Limits.{largest_segment};
 ghost use Rattle.std.specs.Prelude.{◌≡◌, ◌≤◌, ◌+◌, ◌^◌, ◌||◌, nat_lt, [], ◌∷◌, length, map, drop, OnOk};
 ghost use Rattle.server_trait.specs.Service.{machine};
 ghost use Rattle.seq_arith.specs.Message.Body.{DataMsg, ReadMsg, DoneMsg};
@@ -18,18 +19,13 @@ use crate::before::Before;
 use crate::connection::PlainConnection;
 use crate::news::News;
 use ft_io::{Key, NoMemory};
+use limits::{STREAM, TEXT, UNITS};
 use logger_wire::{Body, Msg, Part};
 use plain_packets::PlainPackets;
 use plain_point::Data;
 use segment_codec::PacketRef;
 use server_trait::Service;
 use std::alloc::Global;
-
-/// The longest stream, in bytes.
-const LONGEST_STREAM: u64 = 1 << 24;
-
-/// The most text in one message, in bytes.
-const MOST_TEXT: usize = 1_460;
 
 /// Sends a part of the client's stream. After `NoMemory` the packets may only be dropped.
 #[tactic(auto, using(crate::proofs::Spelled::far_data, crate::proofs::Spelled::high_data))]
@@ -41,7 +37,7 @@ fn send_data(
 ) -> Result<(), NoMemory>
     ensures { OnOk result (Appends sent.old sent.new (told_by boot (DataMsg (data_in part.now)) ∷ [])) }
 {
-    if part.offset > LONGEST_STREAM || part.acked > LONGEST_STREAM + 1 {
+    if part.offset > u64::from(STREAM) || part.acked > u64::from(UNITS) {
         return Ok(());
     }
     let body = Body::Data(Part {
@@ -69,7 +65,7 @@ fn send_last(
     part: &Data<'_>,
     sent: &mut PlainPackets,
 ) -> Result<(), NoMemory>
-    requires { length part.now.bytes.now ≤ 1460 }
+    requires { length part.now.bytes.now ≤ largest_segment }
     ensures { OnOk result (Appends sent.old sent.new (map (told_by boot) (datas_of (data_in part.now)))) }
 {
     if has_any(part) {
@@ -91,8 +87,8 @@ fn send_datas(
     ensures { OnOk result (Appends sent.old sent.new (map (told_by boot) (datas_of (data_in part.now)))) }
 {
     let mut rest = *part;
-    while rest.bytes.len() > MOST_TEXT {
-        let (bytes, behind) = rest.bytes.split_at(MOST_TEXT);
+    while rest.bytes.len() > TEXT {
+        let (bytes, behind) = rest.bytes.split_at(TEXT);
         let full = Data {
             fin: false,
             bytes,
@@ -100,7 +96,7 @@ fn send_datas(
         };
         send_data(alloc, boot, &full, sent)?;
         rest = Data {
-            offset: rest.offset + MOST_TEXT as u64,
+            offset: rest.offset + TEXT as u64,
             bytes: behind,
             ..rest
         };
@@ -120,7 +116,7 @@ fn send_read(
 ) -> Result<(), NoMemory>
     ensures { OnOk result (Appends sent.old sent.new (told_by boot (ReadMsg key index length) ∷ [])) }
 {
-    if index as u64 > LONGEST_STREAM + 1 {
+    if index as u64 > u64::from(UNITS) {
         return Ok(());
     }
     let body = Body::Read {

@@ -1,4 +1,5 @@
 -- What a message changes in one entry.
+use Rattle.limits.specs.Limits.{longest_stream}
 use Rattle.std.specs.Prelude.{true, ◌≤◌, ◌+◌, ◌^◌, length, if◌then◌else◌}
 use Rattle.ft_io.specs.Key.{key_eq}
 use Rattle.seq_arith.specs.Message.{Body}
@@ -7,7 +8,7 @@ use Rattle.ft_model.specs.Log.{Entry, with_part, with_read}
 
 -- the bytes in a message are within the longest stream
 abbrev pub StaysInStream : Body → Type 0
-StaysInStream (DataMsg part) = part.offset + length part.bytes ≤ 2 ^ 24
+StaysInStream (DataMsg part) = part.offset + length part.bytes ≤ longest_stream
 StaysInStream _ = Unit {0}
 
 -- the entry after a body, which changes it only if it is about the entry's key

@@ -1,5 +1,6 @@
 //! The log's entry for one connection.
 
+ghost use Rattle.limits.specs.Limits.{longest_stream};
 ghost use Rattle.std.specs.Prelude.{◌≡◌, ◌≤◌, ◌+◌, ◌^◌, ◌++◌, OnOk, IfSome, length, take, drop, option_map, true};
 ghost use Rattle.seq_arith.specs.Message.Body.{EntryMsg, OpenedMsg, StableMsg, ReadsMsg};
 ghost use Rattle.seq_arith.specs.MessageGrammar.{lens_in};
@@ -40,6 +41,7 @@ pub struct PlainEntry {
 }
 
 impl Model for PlainEntry {
+    ghost use Rattle.limits.specs.Limits.{longest_stream};
     ghost use Rattle.std.specs.Prelude.{◌≡◌, ◌==◌, ◌≤◌, ◌^◌, ◌+◌, length, sum};
     ghost use Rattle.std.specs.List.{list_any};
     ghost use Rattle.seq_arith.specs.Offset.{one_if};
@@ -59,7 +61,7 @@ impl Model for PlainEntry {
       done = e.done;
     } };
 
-    ghost invariant = { λ e. (length e.bytes.items ≤ 2 ^ 24) × (e.read ≡ sum e.lengths.items) × (e.closed ≡ list_any (λ k. k == 0) e.lengths.items)
+    ghost invariant = { λ e. (length e.bytes.items ≤ longest_stream) × (e.read ≡ sum e.lengths.items) × (e.closed ≡ list_any (λ k. k == 0) e.lengths.items)
         × (e.read ≤ length e.bytes.items) × (length e.lengths.items ≤ e.read + one_if e.closed) };
 }
 
@@ -90,7 +92,7 @@ impl PlainEntry {
     /// Returns how many of the client's bytes are logged.
     pub fn length(&self) -> u32
         ensures value { result ≡ length self.now.bytes }
-        ensures within { result ≤ 2 ^ 24 }
+        ensures within { result ≤ longest_stream }
     {
         self.bytes.len() as u32
     }
@@ -139,7 +141,7 @@ impl PlainEntry {
 
     /// Logs those bytes of a part that aren't logged yet, unless they leave a gap or come after the FIN.
     fn take_bytes(&mut self, part: &Part<'_>) -> Result<(), NoMemory>
-        requires { part.now.offset + length part.now.bytes.now ≤ 2 ^ 24 }
+        requires { part.now.offset + length part.now.bytes.now ≤ longest_stream }
         ensures { OnOk result (self.new ≡ with_bytes (part_said part.now) self.old) }
     {
         let logged = self.length();
@@ -155,7 +157,7 @@ impl PlainEntry {
 
     /// Logs the FIN of a part that ends where the logged bytes end.
     fn take_fin(&mut self, part: &Part<'_>)
-        requires { part.now.offset + length part.now.bytes.now ≤ 2 ^ 24 }
+        requires { part.now.offset + length part.now.bytes.now ≤ longest_stream }
         ensures { self.new ≡ with_its_fin (part_said part.now) self.old }
     {
         let end = part.offset + part.bytes.len() as u32;
@@ -166,7 +168,7 @@ impl PlainEntry {
 
     /// Logs a part of the client's stream. After `NoMemory` the entry may only be dropped.
     pub(crate) fn take_part(&mut self, part: &Part<'_>) -> Result<(), NoMemory>
-        requires { part.now.offset + length part.now.bytes.now ≤ 2 ^ 24 }
+        requires { part.now.offset + length part.now.bytes.now ≤ longest_stream }
         ensures { OnOk result (self.new ≡ with_part (part_said part.now) self.old) }
     {
         self.take_bytes(part)?;

@@ -1,5 +1,6 @@
 //! The log of all connections.
 
+ghost use Rattle.limits.specs.Limits.{most_entries};
 ghost use Rattle.std.specs.Prelude.{◌≡◌, ◌≤◌, OnOk, Some, option_map, option_copied, find, map, length, slice_get, ◌||◌, nat_le};
 ghost use Rattle.std.specs.List.{list_any};
 ghost use Rattle.ft_io.specs.Key.{key_eq};
@@ -126,7 +127,7 @@ impl PlainLog {
 
     /// Returns whether a new entry for this key is refused: the key has one, or the log is full.
     pub(crate) fn turns_away(&self, key: Key) -> bool
-        ensures { result ≡ (list_any (λ e. key_eq e.key key) self.now.entries || nat_le 64 (length self.now.entries)) }
+        ensures { result ≡ (list_any (λ e. key_eq e.key key) self.now.entries || nat_le most_entries (length self.now.entries)) }
     {
         has_entry(self.entries.as_slice(), key) || self.entries.len() >= ENTRY_LIMIT
     }

@@ -7,9 +7,9 @@ use crate::arrival::{part, place_of};
 use crate::held::Held;
 use crate::places::{behind, holds_some, take_front};
 use ft_io::NoMemory;
-use tcp_rules::below;
 use std::alloc::Global;
 use std::marker::Model;
+use tcp_rules::below;
 
 /// The bytes that a segment adds to those taken, what is held afterwards, and whether the FIN is taken.
 #[derive(Drop)]

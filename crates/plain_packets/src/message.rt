@@ -1,6 +1,7 @@
 //! A message as its bytes.
 
-ghost use Rattle.std.specs.Prelude.{◌≡◌, [], ◌∷◌, ◌≤◌, ◌<◌, ◌+◌, ◌^◌, ◌%◌, ◌&&◌, true, IfOk, IfSome, IfNone, length, nat_le};
+ghost use Rattle.limits.specs.Limits.{largest_segment, least_segment, longest_stream};
+ghost use Rattle.std.specs.Prelude.{◌≡◌, ◌≤◌, ◌<◌, ◌+◌, ◌^◌, ◌%◌, ◌&&◌, true, IfOk, IfSome, IfNone, length, nat_le};
 ghost use Rattle.std.specs.List.{list_all};
 ghost use Rattle.seq_arith.specs.declared.kinds.Kind.TheVariants as kinds;
 ghost use Rattle.seq_arith.specs.Message.Body.{EntryMsg};
@@ -8,15 +9,11 @@ ghost use Rattle.seq_arith.specs.MessageGrammar.{kind_of, behind_at, behind_of, 
 ghost use Rattle.logger_wire.specs.Records.{head_said};
 ghost use Rattle.logger_wire.specs.Value.{body_of, message_of, left_over, IsSendable};
 
-use ft_io::{Key, NoMemory};
+use crate::ranges::fit_numbers;
+use ft_io::NoMemory;
+use limits::{ENTRIES, SEGMENT, SHORTEST_SEGMENT, STREAM, TEXT, UNITS};
 use logger_wire::{Body, EntryHead, Msg, len_at, put_msg};
 use std::alloc::Global;
-
-/// The largest size of a stream, in bytes.
-const STREAM_LIMIT: u32 = 1 << 24;
-
-/// The largest number of units in a stream: its FIN counts as one.
-const UNIT_LIMIT: u32 = STREAM_LIMIT + 1;
 
 /// Returns lengths of two bytes each, without a last byte that is left over.
 #[tactic(auto, using(crate::proofs::Lengths::left_out))]
@@ -111,24 +108,24 @@ fn length_fits(body: &Body<'_>, behind: usize) -> bool
     match *body {
         Body::Part { .. } => 1 <= behind && behind <= 1_024,
         Body::Lens { .. } => lens_length_fits(behind),
-        Body::Data(_) => behind <= 1_460,
+        Body::Data(_) => behind <= TEXT,
         _ => true,
     }
 }
 
 /// Returns whether a segment size is in its range.
 fn mss_fits(mss: u16) -> bool
-    ensures { result ≡ (nat_le 64 mss && nat_le mss 1460) }
+    ensures { result ≡ (nat_le least_segment mss && nat_le mss largest_segment) }
 {
-    64 <= mss && mss <= 1_460
+    SHORTEST_SEGMENT <= mss && mss <= SEGMENT
 }
 
 /// Returns whether an offset and the bytes after it are within a stream.
 fn offset_fits(offset: u32, behind: usize) -> bool
     requires { behind < 2 ^ 63 }
-    ensures { result ≡ nat_le (offset + behind) (2 ^ 24) }
+    ensures { result ≡ nat_le (offset + behind) longest_stream }
 {
-    offset as usize + behind <= STREAM_LIMIT as usize
+    offset as usize + behind <= STREAM as usize
 }
 
 /// Returns whether each number of an Entry is in its field's range.
@@ -138,9 +135,9 @@ fn head_fits(index: u16, head: &EntryHead) -> bool
 {
     index <= 63
         && mss_fits(head.mss)
-        && head.length <= STREAM_LIMIT
-        && head.reads <= UNIT_LIMIT
-        && head.acked <= UNIT_LIMIT
+        && head.length <= STREAM
+        && head.reads <= UNITS
+        && head.acked <= UNITS
 }
 
 /// Returns whether each number of a message is in its field's range.
@@ -150,17 +147,15 @@ fn numbers_fit(boot: u64, body: &Body<'_>, behind: usize) -> bool
     ensures { result ≡ all_in_range boot behind (fields_of (kind_of (body_of body.now))) (numbers_of (body_of body.now)) }
 {
     match *body {
-        Body::Summary { count } => count <= 64,
+        Body::Summary { count } => count <= ENTRIES,
         Body::List { index } => index <= 63,
         Body::Entry { index, head } => head_fits(index, &head),
         Body::Bytes { offset, .. } | Body::Part { offset, .. } => offset_fits(offset, behind),
-        Body::Cuts { first, .. } | Body::Lens { first, .. } => first <= UNIT_LIMIT,
+        Body::Cuts { first, .. } | Body::Lens { first, .. } => first <= UNITS,
         Body::Open(numbers) | Body::Opened(numbers) => mss_fits(numbers.mss),
-        Body::Data(part) => offset_fits(part.offset, behind) && part.acked <= UNIT_LIMIT,
-        Body::Stable(kept) | Body::Reads(kept) => {
-            kept.length <= STREAM_LIMIT && kept.reads <= UNIT_LIMIT
-        }
-        Body::Read { index, length, .. } => index <= UNIT_LIMIT && length <= 2_048,
+        Body::Data(part) => offset_fits(part.offset, behind) && part.acked <= UNITS,
+        Body::Stable(kept) | Body::Reads(kept) => { kept.length <= STREAM && kept.reads <= UNITS }
+        Body::Read { index, length, .. } => index <= UNITS && length <= 2_048,
         Body::Stale { newer } => boot < newer,
         Body::Hello | Body::Done { .. } | Body::Ended { .. } | Body::Full { .. } => { true }
     }

@@ -1,4 +1,5 @@
 -- What the news of a turn changes at once, before the service reads, and what a turn compares with the point before it.
+use Rattle.limits.specs.Limits.{buffer_size, longest_stream}
 use Rattle.std.specs.Prelude.{◌≡◌, ℕ, Bool, ◌+◌, ◌-◌, ◌*◌, ◌^◌, ◌==◌, ◌&&◌, ◌||◌, not, nat_lt, nat_le, min, length, if◌then◌else◌}
 use Rattle.ft_model.specs.News.{News}
 use Rattle.ft_model.specs.Point.{Point}
@@ -35,7 +36,7 @@ pub record IsSendingAfter (news : News) (p : Point) (sending : Sending) : Type 0
 
 -- whether the service may read on, after all its reads have made `made` bytes of output, and the answered ones `released` bytes
 abbrev pub may_read_at : (made released : ℕ) → Point → Bool
-may_read_at made released p = nat_le made (min released (p.una + 65535)) && nat_le made (2 ^ 24 - 2 ^ 20) && nat_lt (length p.lengths - p.reads_answered) 32
+may_read_at made released p = nat_le made (min released (p.una + buffer_size)) && nat_le made (longest_stream - 2 ^ 20) && nat_lt (length p.lengths - p.reads_answered) 32
 
 -- the timer before a turn
 abbrev pub timer_of : Point → Timer

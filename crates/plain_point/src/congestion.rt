@@ -4,6 +4,8 @@ ghost use Rattle.std.specs.Prelude.{◌≡◌, ◌≤◌, false};
 ghost use Rattle.tcp_rules.specs.Congestion.{initial_congestion, initial_window as initial_lem, growth as growth_lem, lowered_threshold as lowered_lem, with_new_data, with_duplicate, with_expiry, is_third};
 ghost use Rattle.plain_point.specs.Values.{congestion_in};
 
+use limits::BUFFER;
+
 /// The upper bound of the congestion window, in bytes.
 const MOST_WINDOW: u64 = 1 << 20;
 
@@ -22,7 +24,7 @@ impl Window {
     {
         Window {
             cwnd: initial_window(mss),
-            ssthresh: 65_535,
+            ssthresh: u64::from(BUFFER),
             dups: 0,
         }
     }

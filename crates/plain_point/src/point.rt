@@ -1,9 +1,12 @@
 //! The point: its fields, and what is computed from them.
 
+ghost use Rattle.limits.specs.Limits.{longest_stream, most_units};
 ghost use Rattle.std.specs.Prelude.{◌≡◌, ◌≤◌, ◌+◌, ◌^◌, length};
 ghost use Rattle.logger_wire.specs.Records.{numbers_said};
 
 use crate::congestion::Window;
+use crate::timing::Timing;
+use limits::{BUFFER, STREAM};
 use logger_wire::Numbers;
 use plain_packets::Held;
 use std::alloc::Global;
@@ -160,18 +163,18 @@ impl PlainPoint {
     /// Returns the right edge of the receive window: no byte from here on is taken.
     pub fn receive_edge(&self) -> u64
         ensures value { result ≡ edge_lem self.now }
-        ensures within { result ≤ 2 ^ 24 }
+        ensures within { result ≤ longest_stream }
     {
         self.fetched
             .max(self.read)
-            .saturating_add(65_535)
-            .min(1 << 24)
+            .saturating_add(u64::from(BUFFER))
+            .min(u64::from(STREAM))
     }
 
     /// Returns the right edge that TCP advertises: a FIN that is taken has used up one number.
     pub fn advertised_edge(&self) -> u64
         ensures value { result ≡ advertised_lem self.now }
-        ensures within { result ≤ 2 ^ 24 + 1 }
+        ensures within { result ≤ most_units }
     {
         self.receive_edge() + u64::from(self.fin)
     }
@@ -179,7 +182,7 @@ impl PlainPoint {
     /// Returns RCV.WND.
     pub fn room(&self) -> u64
         ensures value { result ≡ room_lem self.now }
-        ensures within { result ≤ 2 ^ 24 + 1 }
+        ensures within { result ≤ most_units }
     {
         self.advertised_edge().saturating_sub(self.taken_units())
     }

@@ -4,13 +4,14 @@ ghost use Rattle.std.specs.Prelude.{◌≡◌, ◌≤◌, ◌+◌, OnOk, IfSome,
 
 use crate::point::PlainPoint;
 use ft_io::NoMemory;
+use limits::BUFFER;
 use plain_packets::part;
 
 /// The longest read, in bytes.
 const LONGEST_READ: u64 = 2_048;
 
 /// The most output, in bytes, of a service that may still read: the longest stream less the output of one read.
-const MOST_MADE: u64 = (1 << 24) - (1 << 20);
+const MOST_MADE: u64 = limits::STREAM as u64 - (1 << 20);
 
 /// The number of unanswered reads at which a service may no longer read.
 const UNANSWERED: usize = 32;
@@ -48,7 +49,7 @@ impl PlainPoint {
     pub fn may_read(&self, made: u64, released: u64) -> bool
         ensures { result ≡ may_read_at made released self.now }
     {
-        let room = released.min(self.una.saturating_add(65_535));
+        let room = released.min(self.una.saturating_add(u64::from(BUFFER)));
         made <= room && made <= MOST_MADE && self.lengths.len() - self.reads_answered < UNANSWERED
     }
 

@@ -6,12 +6,10 @@ ghost use Rattle.segment_codec.specs.Value.{segment_of};
 
 use crate::point::PlainPoint;
 use ft_io::Addr;
+use limits::SEGMENT;
 use plain_packets::number_of;
 use segment_codec::{Head, PacketRef};
 use seq_arith::{ACK, SYN, Seq};
-
-/// The segment size that a SYN-ACK offers, in bytes.
-const OFFERED_SIZE: u16 = 1_460;
 
 impl PlainPoint {
     ghost use Rattle.ft_model.specs.Segments.{head_to, segment_at as segment_lem, syn_ack as syn_lem, bare_segment as bare_lem};
@@ -55,7 +53,7 @@ impl PlainPoint {
         ensures { segment_of result ≡ syn_lem server self.now }
     {
         PacketRef {
-            head: self.head_to(server, self.numbers.sisn, SYN | ACK, Some(OFFERED_SIZE)),
+            head: self.head_to(server, self.numbers.sisn, SYN | ACK, Some(SEGMENT)),
             payload: &[],
         }
     }

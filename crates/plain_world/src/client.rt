@@ -1,5 +1,6 @@
 //! The state of the client, and the moves that it may make.
 
+ghost use Rattle.limits.specs.Limits.{longest_stream};
 ghost use Rattle.std.specs.Prelude.{◌≡◌, ℕ, ◌+◌, ◌-◌, ◌^◌, ◌<◌, ◌≤◌, None, length};
 ghost use Rattle.segment_codec.specs.Value.{segment_of as value_of};
 ghost use Rattle.seq_arith.specs.Value.{said};
@@ -8,6 +9,7 @@ ghost use Rattle.plain_world.specs.Moves.{move_value};
 use crate::moves::{Move, flags};
 use ft_io::{Addr, Key};
 use ft_model::{Event, EventWhy, Phase};
+use limits::SEGMENT;
 use plain_packets::{number_of, part};
 use segment_codec::{Head, PacketRef};
 use seq_arith::Seq;
@@ -40,6 +42,7 @@ pub struct PlainClient {
 }
 
 impl Model for PlainClient {
+    ghost use Rattle.limits.specs.Limits.{longest_stream, most_units};
     ghost use Rattle.std.specs.Prelude.{ℕ, ◌≤◌, ◌+◌, ◌^◌, length};
     ghost use Rattle.tcp_rules.specs.Coming.{nothing_early};
     ghost use Rattle.ft_model.specs.Client as machine;
@@ -62,7 +65,7 @@ impl Model for PlainClient {
       early = nothing_early;
     } };
 
-    ghost invariant = { λ c. (length c.script.items ≤ 2 ^ 24) × (c.sent ≤ 2 ^ 24 + 1) };
+    ghost invariant = { λ c. (length c.script.items ≤ longest_stream) × (c.sent ≤ most_units) };
 }
 
 impl PlainClient {
@@ -72,7 +75,7 @@ impl PlainClient {
 
     /// Creates a client that has sent nothing. Its script has at most 2^24 bytes. Allocates nothing.
     pub fn new(alloc: Global, key: Key, server: Addr, isn: u32, script: Vec<u8>) -> PlainClient
-        requires { length script.items ≤ 2 ^ 24 }
+        requires { length script.items ≤ longest_stream }
         ensures { result ≡ new_client Scripted server key isn script.items }
     {
         PlainClient {
@@ -139,7 +142,7 @@ impl PlainClient {
                 self.acknowledged <= from
                     && from <= self.sent
                     && 1 <= len
-                    && len <= 1_460
+                    && len <= u32::from(SEGMENT)
                     && u64::from(from) + u64::from(len) <= self.script.len() as u64
             }
             Move::Fin => self.script.len() <= self.sent as usize,

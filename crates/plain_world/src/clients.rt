@@ -1,5 +1,6 @@
 //! The clients: their creation from a schedule, what they receive, and the moves that they make.
 
+ghost use Rattle.limits.specs.Limits.{longest_stream};
 ghost use Rattle.std.specs.Prelude.{◌≡◌, ◌≤◌, ◌^◌, length, All, IfOk, OnOk, option_copied, if◌then◌else◌};
 ghost use Rattle.ft_io.specs.Key.{key_eq};
 ghost use Rattle.segment_codec.specs.Value.{segment_of};
@@ -18,7 +19,7 @@ use std::alloc::Global;
 
 /// Creates a client of a schedule, before anything is sent.
 fn new_client(alloc: Global, server: Addr, line: &ClientLine) -> Result<PlainClient, NoMemory>
-    requires { length (bytes_of line.now.script) ≤ 2 ^ 24 }
+    requires { length (bytes_of line.now.script) ≤ longest_stream }
     ensures { IfOk result (λ client. client ≡ client_of server line.now) }
 {
     let script = line.script.bytes(alloc)?;
@@ -31,7 +32,7 @@ pub(crate) fn new_clients(
     server: Addr,
     lines: &[ClientLine],
 ) -> Result<Vec<PlainClient>, NoMemory>
-    requires { All (λ line. length (bytes_of line.script) ≤ 2 ^ 24) lines.now }
+    requires { All (λ line. length (bytes_of line.script) ≤ longest_stream) lines.now }
     ensures { IfOk result (λ clients. clients.items ≡ clients_of server lines.now) }
 {
     let mut clients = Vec::new(alloc);

@@ -1,4 +1,5 @@
 -- An entry of the log as far as it is fetched. Its reads are replayed as soon as their bytes are there.
+use Rattle.limits.specs.Limits.{longest_stream}
 use Rattle.std.specs.Prelude.{◌≡◌, ◌⊎◌, ℕ, ◌+◌, ◌^◌, ◌<◌, ◌≤◌, ◌==◌, Bool, true, false, ◌&&◌, nat_lt, nat_le, Option, Some, None, List, [], ◌∷◌, ◌++◌, length, sum, if◌then◌else◌}
 use Rattle.std.specs.List.{AllByRecursion}
 use Rattle.ft_io.specs.declared.Key.{Key}
@@ -97,7 +98,7 @@ IsShort (n ∷ more) held = held < n
 
 -- how the counts of an entry are related
 pub record IsSized {S : Type 0} (e : EntryState S) : Type 0 where
-  pub stream : e.head.length ≤ 2 ^ 24
+  pub stream : e.head.length ≤ longest_stream
   pub segments : IsSegmentSize e.head.mss
   pub bytes : e.bytes ≤ e.head.length
   pub cuts : e.cuts.sum ≤ e.head.length

@@ -1,4 +1,5 @@
 -- How far a restart has fetched and replayed the log, by the law Restart.
+use Rattle.limits.specs.Limits.{longest_stream}
 use Rattle.std.specs.Prelude.{◌≡◌, ℕ, ◌^◌, ◌≤◌, ◌==◌, Bool, true, false, Option, Some, None, MatchOption, List, [], ◌∷◌, ◌++◌, length, drop, sum, if◌then◌else◌}
 use Rattle.std.specs.List.{AllByRecursion}
 use Rattle.seq_arith.specs.Message.{Message}
@@ -25,7 +26,7 @@ pub record HasReplayed {S : Type 0} (service : Machine S) (bytes lengths waiting
   pub within : sum replayed ≤ length bytes
   pub held : r.held ≡ drop (sum replayed) bytes
   pub acked_is : r.acked ≡ acked
-  pub run : length (reference service bytes replayed).output ≤ 2 ^ 24 → RunsTo (reference service bytes replayed) acked r
+  pub run : length (reference service bytes replayed).output ≤ longest_stream → RunsTo (reference service bytes replayed) acked r
 
 -- an entry as far as it is fetched
 pub record StandsFor {S : Type 0} (service : Machine S) (f : Fetched) (e : EntryState S) : Type 0 where
@@ -92,7 +93,7 @@ pub record IsReplayed {S : Type 0} (service : Machine S) (e : Entry) (r : Replay
   pub cuts : r.cuts ≡ cuts_of e.lengths
   pub enough : sum e.lengths ≤ length e.bytes
   pub rest : r.replay.held ≡ drop (sum e.lengths) e.bytes
-  pub run : length (run_of service e).output ≤ 2 ^ 24 → RunsTo (run_of service e) e.acknowledged r.replay
+  pub run : length (run_of service e).output ≤ longest_stream → RunsTo (run_of service e) e.acknowledged r.replay
 
 -- the entries, beginning with the first that isn't done
 abbrev pub live_from : List Fetched → List Fetched

@@ -1,4 +1,5 @@
 -- The parts of a connection at the end of a restart, which are at the point of its entry.
+use Rattle.limits.specs.Limits.{longest_stream}
 use Rattle.std.specs.Prelude.{◌≡◌, ℕ, ◌+◌, ◌<◌, ◌≤◌, ◌^◌, length, min}
 use Rattle.ft_io.specs.declared.Addr.{Addr}
 use Rattle.ft_io.specs.declared.Key.{Key}
@@ -60,7 +61,7 @@ spliced_from boot local i r = record {
 -- segment size is one that the log keeps
 pub record IsSpliced {S : Type 0} (service : Machine S) (e : Entry) (i : ℕ) (s : SplicedState S) : Type 0 where
   pub key : s.key ≡ e.key
-  pub short : length e.bytes ≤ 2 ^ 24
+  pub short : length e.bytes ≤ longest_stream
   pub segments : IsSegmentSize e.mss
   pub local : s.endpoint.local ≡ s.local
   pub south : s.south ≡ south_at (delta_from service e i) (point_of service plain e)
@@ -68,7 +69,7 @@ pub record IsSpliced {S : Type 0} (service : Machine S) (e : Entry) (i : ℕ) (s
 
 -- the numbers of an entry and an initial sequence number are within their ranges
 pub record EntryNumbersFit {S : Type 0} (r : ReplayedState S) (i : ℕ) : Type 0 where
-  pub stream : r.head.length ≤ 2 ^ 24
+  pub stream : r.head.length ≤ longest_stream
   pub segments : IsSegmentSize r.head.mss
   pub sisn : r.head.sisn < 2 ^ 32
   pub i_fits : i < 2 ^ 32

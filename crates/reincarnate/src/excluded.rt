@@ -1,6 +1,7 @@
 //! Wrong results that the contracts of this crate exclude. Each function calls another one of the crate, and promises of its result what a wrong body would
 //! make false. It is proved from the other's contract alone, so it is no longer proved once that contract lets the wrong body pass.
 
+ghost use Rattle.limits.specs.Limits.{longest_stream};
 ghost use Rattle.std.specs.Prelude.{◌≡◌, ◌^◌, ◌≤◌, true, length};
 ghost use Rattle.logger_wire.specs.Records.{head_said};
 ghost use Rattle.mark_laws.specs.Restart.{lies_within};
@@ -37,8 +38,8 @@ fn delta_without_syn() -> South
 
 /// Where the service has closed, an earlier incarnation may have sent one unit more than its output: the clause `value` of `south_behind`.
 fn bounds_without_the_closing_unit(head: &EntryHead, cuts: Cuts, isn: Seq) -> South
-    requires stream { head.now.length ≤ 2 ^ 24 }
-    requires read { cuts.sum ≤ 2 ^ 24 }
+    requires stream { head.now.length ≤ longest_stream }
+    requires read { cuts.sum ≤ longest_stream }
     ensures { result.fetched_output ≡ 101 }
 {
     south_behind(head, cuts, 100, true, isn)
@@ -46,8 +47,8 @@ fn bounds_without_the_closing_unit(head: &EntryHead, cuts: Cuts, isn: Seq) -> So
 
 /// The wrapper keeps how many units an earlier incarnation may have sent, also where the client has acknowledged none: the clause `value` of `south_behind`.
 fn forgets_the_fetched_output(head: &EntryHead, cuts: Cuts, isn: Seq) -> South
-    requires stream { head.now.length ≤ 2 ^ 24 }
-    requires read { cuts.sum ≤ 2 ^ 24 }
+    requires stream { head.now.length ≤ longest_stream }
+    requires read { cuts.sum ≤ longest_stream }
     requires acked { head.now.acked ≡ 0 }
     ensures { result.fetched_output ≡ 100 }
 {
@@ -61,9 +62,9 @@ fn replays_from_the_start<S: Service>(
     mark: &Mark<'_>,
     service: S,
 ) -> FetchedEntry<S>
-    requires stream { head.length ≤ 2 ^ 24 }
+    requires stream { head.length ≤ longest_stream }
     requires segments { IsSegmentSize head.mss }
-    requires made { mark.now.made ≤ 2 ^ 24 }
+    requires made { mark.now.made ≤ longest_stream }
     requires within { lies_within (head_said head) (mark_said mark.now) ≡ true }
     ensures { result.bytes ≡ mark.now.length }
 {

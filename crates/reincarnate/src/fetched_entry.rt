@@ -1,5 +1,6 @@
 //! An entry of the log as far as it is fetched.
 
+ghost use Rattle.limits.specs.Limits.{longest_stream};
 ghost use Rattle.std.specs.Prelude.{◌≡◌, ◌⊎◌, ◌<◌, ◌≤◌, ◌+◌, ◌^◌, ◌++◌, true, false, length, sum, option_map, OnOk, IfOk, IfSome};
 ghost use Rattle.std.specs.List.{AllByRecursion};
 ghost use Rattle.seq_arith.specs.MessageGrammar.{lens_in};
@@ -62,7 +63,7 @@ impl<S: Service> Model for FetchedEntry<S> {
 impl<S: Service> FetchedEntry<S> {
     /// An entry of which only the head is fetched.
     pub(crate) fn begin(alloc: Global, kind: u8, head: EntryHead) -> FetchedEntry<S>
-        requires stream { head.length ≤ 2 ^ 24 }
+        requires stream { head.length ≤ longest_stream }
         requires segments { IsSegmentSize head.mss }
         ensures { result ≡ begun_entry (S.started kind) (head_said head) }
     {
@@ -83,9 +84,9 @@ impl<S: Service> FetchedEntry<S> {
         mark: &Mark<'_>,
         service: S,
     ) -> FetchedEntry<S>
-        requires stream { head.length ≤ 2 ^ 24 }
+        requires stream { head.length ≤ longest_stream }
         requires segments { IsSegmentSize head.mss }
-        requires made { mark.now.made ≤ 2 ^ 24 }
+        requires made { mark.now.made ≤ longest_stream }
         requires within { lies_within (head_said head) (mark_said mark.now) ≡ true }
         ensures { result ≡ begun_at (head_said head) (mark_said mark.now) service }
     {
@@ -277,7 +278,7 @@ impl<S: Saved> FetchedEntry<S> {
         kind: u8,
         mark: &Mark<'_>,
     ) -> Result<Option<FetchedEntry<S>>, NoMemory>
-        requires { mark.now.made ≤ 2 ^ 24 }
+        requires { mark.now.made ≤ longest_stream }
         ensures { IfOk result (λ begun. begun ≡ begun_from (S.started kind) (S.state_of kind) (mark_said mark.now) self.now.head) }
     {
         if !lies_within(mark, &self.head) {

@@ -1,5 +1,6 @@
 //! The restart while it asks for the log's entries.
 
+ghost use Rattle.limits.specs.Limits.{longest_stream};
 ghost use Rattle.std.specs.Prelude.{◌≡◌, ◌⊎◌, ◌<◌, ◌≤◌, ◌^◌, true, false, length, option_map, find, OnOk, IfOk, IfNone, IfSome, MatchOption, None, [], List, ◌++◌};
 ghost use Rattle.std.specs.Prelude.{reverse, if◌then◌else◌};
 ghost use Rattle.std.specs.List.{AllByRecursion};
@@ -264,7 +265,7 @@ impl<S: Service> Fetching<S> {
     /// Takes the head of an entry, if it is an answer.
     #[tactic(auto, using(crate::proofs::Ready::fits_asked))]
     fn on_head(&mut self, alloc: Global, index: u16, head: EntryHead) -> Result<bool, NoMemory>
-        requires stream { head.length ≤ 2 ^ 24 }
+        requires stream { head.length ≤ longest_stream }
         requires segments { IsSegmentSize head.mss }
         ensures fits { IfOk result (λ fits. fits ≡ head_fits index head.key self.old) }
         ensures state { IfOk result (λ fits. self.new ≡ (if fits then with_head (S.started self.old.kind) (head_said head) self.old else self.old)) }
@@ -386,7 +387,7 @@ impl<S: Saved> Fetching<S> {
 
     /// Takes the mark of the newest entry: if it is an answer, the entry begins there.
     fn on_held(&mut self, alloc: Global, key: Key, mark: &Mark<'_>) -> Result<bool, NoMemory>
-        requires { mark.now.made ≤ 2 ^ 24 }
+        requires { mark.now.made ≤ longest_stream }
         ensures value { IfOk result (λ fits. MatchOption (held_heard S.started S.state_of (HeldMsg key (mark_said mark.now)) self.old)
             ((fits ≡ false) × (self.new ≡ self.old)) (λ s. (fits ≡ true) × (self.new ≡ s))) }
     {
@@ -405,7 +406,7 @@ impl<S: Saved> Fetching<S> {
         key: Key,
         mark: &Mark<'_>,
     ) -> Result<Option<FetchedEntry<S>>, NoMemory>
-        requires { mark.now.made ≤ 2 ^ 24 }
+        requires { mark.now.made ≤ longest_stream }
         ensures { IfOk result (λ begun. begun ≡ marked_on (S.started self.now.kind) (S.state_of self.now.kind) key (mark_said mark.now) self.now.newest) }
     {
         match &self.newest {

@@ -1,5 +1,6 @@
 //! A connection whose service is where the log ends.
 
+ghost use Rattle.limits.specs.Limits.{longest_stream};
 ghost use Rattle.std.specs.Prelude.{◌≡◌, ◌+◌, ◌^◌, ◌<◌, ◌≤◌, length, min, IfOk, IfErr};
 ghost use Rattle.server_trait.specs.Service.{machine};
 ghost use Rattle.ft_model.specs.Offset.{one_if};
@@ -35,6 +36,7 @@ pub struct Replayed<S: Service> {
 }
 
 impl<S: Service> Model for Replayed<S> {
+    ghost use Rattle.limits.specs.Limits.{longest_stream};
     ghost use Rattle.std.specs.Prelude.{◌≡◌, ◌+◌, ◌^◌, ◌≤◌, length};
     ghost use Rattle.log_replay.specs.ReadLengths.{HaveBytes};
     ghost use Rattle.logger_wire.specs.Records.{head_said};
@@ -45,12 +47,12 @@ impl<S: Service> Model for Replayed<S> {
 
     ghost view = { λ r. record { head = head_said r.head; cuts = r.cuts; replay = r.replay } };
 
-    ghost invariant = { λ r. (r.head.length ≤ 2 ^ 24) × IsSegmentSize r.head.mss × HaveBytes r.cuts × (r.cuts.sum + length r.replay.held ≡ r.head.length) };
+    ghost invariant = { λ r. (r.head.length ≤ longest_stream) × IsSegmentSize r.head.mss × HaveBytes r.cuts × (r.cuts.sum + length r.replay.held ≡ r.head.length) };
 }
 
 impl<S: Service> Replayed<S> {
     pub(crate) fn new(head: EntryHead, cuts: Cuts, replay: Replay<S>) -> Replayed<S>
-        requires stream { head.length ≤ 2 ^ 24 }
+        requires stream { head.length ≤ longest_stream }
         requires segments { IsSegmentSize head.mss }
         requires have { HaveBytes cuts }
         requires whole { cuts.sum + length replay.held ≡ head.length }
@@ -121,9 +123,9 @@ impl<S: Service> Replayed<S> {
 /// A south wrapper that continues where the entry ends. Its service has made `made` bytes of output, and `closed` says whether it has closed: an earlier
 /// incarnation may have sent all of this.
 pub(crate) fn south_behind(head: &EntryHead, cuts: Cuts, made: u32, closed: bool, isn: Seq) -> South
-    requires stream { head.now.length ≤ 2 ^ 24 }
-    requires made { made ≤ 2 ^ 24 }
-    requires read { cuts.sum ≤ 2 ^ 24 }
+    requires stream { head.now.length ≤ longest_stream }
+    requires made { made ≤ longest_stream }
+    requires read { cuts.sum ≤ longest_stream }
     ensures numbers { (head.now.sisn < 2 ^ 32) × (isn.0 < 2 ^ 32) }
     ensures value { result ≡ record (resumed_south head.now.cisn head.now.sisn head.now.length (made + one_if closed)
         (has_end (head_said head.now)) (min head.now.acked made) isn.0) { read = cuts.sum } }

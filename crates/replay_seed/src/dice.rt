@@ -9,8 +9,8 @@ ghost use Rattle.replay_seed.specs.Draws.{draw as draw_lem};
 use ft_model::{Event, Phase};
 use net_schedule::World;
 use peer_client::Client;
-use sample_servers::AnyService;
 use pseudorandom::Generator;
+use sample_servers::AnyService;
 
 /// The window that a client advertises.
 const WINDOW: u16 = 65_535;

@@ -14,9 +14,9 @@ use crate::seed_schedule::schedule_for;
 use crate::seed_summary::summarize;
 use ft_io::{Failed, NoMemory, Sink, write_all};
 use net_schedule::World;
+use pseudorandom::Generator;
 use replay_check::joint_traces_are_safe;
 use sample_servers::AnyService;
-use pseudorandom::Generator;
 use std::alloc::Global;
 
 /// Why a generated run ends without its complete summary.

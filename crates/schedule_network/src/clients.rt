@@ -1,5 +1,6 @@
 //! The clients of a schedule before anything is sent, and how to find them by key.
 
+ghost use Rattle.limits.specs.Limits.{longest_stream};
 ghost use Rattle.std.specs.Prelude.{◌≡◌, ◌≤◌, ◌+◌, ◌%◌, ◌^◌, map, length, All, IfOk, IfSome, position};
 ghost use Rattle.ft_io.specs.Key.{key_eq};
 ghost use Rattle.ft_model.specs.Schedule.{bytes_of as bytes_lem, client_of as client_lem, clients_of};
@@ -12,7 +13,7 @@ use std::alloc::Global;
 
 /// Creates a client of a schedule, before anything is sent.
 fn new_client(alloc: Global, server: Addr, line: &ClientLine) -> Result<Client, NoMemory>
-    requires { length (bytes_lem line.now.script) ≤ 2 ^ 24 }
+    requires { length (bytes_lem line.now.script) ≤ longest_stream }
     ensures { IfOk result (λ client. client ≡ client_lem server line.now) }
 {
     let script = line.script.bytes(alloc)?;
@@ -25,7 +26,7 @@ pub fn new_clients(
     server: Addr,
     lines: &[ClientLine],
 ) -> Result<Vec<Client>, NoMemory>
-    requires { All (λ line. length (bytes_lem line.script) ≤ 2 ^ 24) lines.now }
+    requires { All (λ line. length (bytes_lem line.script) ≤ longest_stream) lines.now }
     ensures { IfOk result (λ clients. clients.items ≡ clients_of server lines.now) }
 {
     let mut clients = Vec::new(alloc);

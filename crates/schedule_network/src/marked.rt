@@ -1,5 +1,6 @@
 //! The logger of a world with marks.
 
+ghost use Rattle.limits.specs.Limits.{longest_stream};
 ghost use Rattle.std.specs.Prelude.{◌≡◌, ◌≤◌, ◌<◌, ◌+◌, ◌^◌, Ok, OnOk, option_map};
 ghost use Rattle.seq_arith.specs.Message.Body.{DataMsg};
 ghost use Rattle.ft_model.specs.Log.{entry_of, log_after};
@@ -87,8 +88,8 @@ impl MarkedLog {
         made: u32,
     ) -> Result<(), NoMemory>
         requires boot { 1 ≤ boot }
-        requires length { length ≤ 2 ^ 24 }
-        requires made { made ≤ 2 ^ 24 }
+        requires length { length ≤ longest_stream }
+        requires made { made ≤ longest_stream }
         ensures { OnOk result (self.new ≡ record self.old { journal = log_after self.old.journal (record { boot = boot; body = DataMsg (no_bytes key length made) }) }) }
     {
         let body = Body::Data(Part {

@@ -1,5 +1,6 @@
 //! The words of a schedule: numbers, addresses, services and scripts. Each is accepted only in its spelling.
 
+ghost use Rattle.limits.specs.Limits.{longest_stream};
 ghost use Rattle.std.specs.Prelude.{◌≡◌, ◌+◌, ◌*◌, ◌%◌, ◌<◌, ◌≤◌, ◌^◌, true, length, option_map, IsTrue, IfOk, IfSome};
 ghost use Rattle.std.specs.List.{list_all};
 ghost use Rattle.ft_model.specs.declared.schedule.Script.TheVariants.{Fill};
@@ -204,7 +205,7 @@ pub fn read_script(alloc: Global, word: &[u8]) -> Result<Option<Script>, NoMemor
 }
 
 fn read_fill(word: &[u8]) -> Option<Script>
-    ensures { result ≡ option_map Fill (number_of 1 (2 ^ 24) word.now) }
+    ensures { result ≡ option_map Fill (number_of 1 longest_stream word.now) }
 {
     let len = read_number(word, 1, SCRIPT_LIMIT as u64)? as u32;
     Some(Script::Fill { len })

@@ -1,5 +1,6 @@
 //! A packet that is known to be accepted is read without the tests, and so without computing a checksum.
 
+ghost use Rattle.limits.specs.Limits.{largest_segment, longest_packet};
 ghost use Rattle.std.specs.Prelude.{◌≡◌, ◌≤◌, ◌-◌, Ok, IsOk, length, drop};
 ghost use Rattle.seq_arith.specs.PacketGrammar.{reading, payload_at, options_in, mss_in};
 ghost use Rattle.segment_codec.specs.Value.{segment_of};
@@ -15,8 +16,8 @@ pub fn read_accepted(bytes: &[u8]) -> PacketRef<'_>
     // The payload is the end of the bytes.
     ensures place { result.payload.now ≡ drop (length bytes.now - length result.payload.now) bytes.now }
     ensures within { length result.payload.now ≤ length bytes.now }
-    ensures most { length result.payload.now ≤ 1460 }
-    ensures short { length bytes.now ≤ 1500 }
+    ensures most { length result.payload.now ≤ largest_segment }
+    ensures short { length bytes.now ≤ longest_packet }
 {
     let start = accepted_start(bytes);
     PacketRef {

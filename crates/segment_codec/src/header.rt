@@ -1,6 +1,7 @@
 //! The headers of a packet in its one spelling: no option but the segment size, "don't fragment", a time to live of 64, and zero for the rest. The checksums
 //! are computed with zero in their places.
 
+ghost use Rattle.limits.specs.Limits.{longest_packet};
 ghost use Rattle.std.specs.Prelude.{◌≡◌, ◌<◌, ◌≤◌, ◌+◌, ◌/◌, ◌^◌, IfSome, length, drop, Ok};
 ghost use Rattle.seq_arith.specs.PacketGrammar.{mss_option, reading, spelling};
 ghost use Rattle.segment_codec.specs.Change.{put};
@@ -14,7 +15,7 @@ use crate::fields::{ip_checksum, put_long, put_word, seal};
 /// The packet is then what `write_packet` writes.
 pub fn write_header(head: &Head, packet: &mut [u8])
     requires room { 40 + length (mss_option head.now.mss) ≤ length packet.old }
-    requires fits { length packet.old ≤ 1500 }
+    requires fits { length packet.old ≤ longest_packet }
     ensures bytes { packet.new ≡ spelling (segment_with head.now (drop (40 + length (mss_option head.now.mss)) packet.old)) }
     // What was written is read back.
     ensures read { reading packet.new ≡ Ok (segment_with head.now (drop (40 + length (mss_option head.now.mss)) packet.old)) }
@@ -104,7 +105,7 @@ fn put_options(out: &mut [u8], mss: Option<u16>)
 #[tactic(auto, unfolding(crate::specs::Spelling::with_checksums))]
 fn seal_both(packet: &mut [u8])
     requires long { 40 ≤ length packet.old }
-    requires short { length packet.old ≤ 1500 }
+    requires short { length packet.old ≤ longest_packet }
     ensures { packet.new ≡ with_checksums packet.old }
 {
     let check = ip_checksum(packet);

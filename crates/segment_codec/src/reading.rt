@@ -9,6 +9,7 @@ ghost use Rattle.segment_codec.specs.Value.{said, seen};
 
 use crate::fields::{ip_checksum, read_long, read_word, tcp_checksum};
 use crate::{Head, PacketRef};
+use limits::PACKET;
 use seq_arith::{BadPacket, Seq};
 
 /// Reads a packet, or returns the first test of the grammar that refuses it. It reads the payload once and copies none of it.
@@ -70,7 +71,7 @@ pub(crate) fn read_tcp(bytes: &[u8]) -> Result<PacketRef<'_>, BadPacket>
     if tcp_checksum(bytes) != 0 {
         return Err(BadPacket::TcpChecksum);
     }
-    if bytes.len() > 1500 {
+    if bytes.len() > PACKET {
         return Err(BadPacket::TooLong);
     }
     Ok(PacketRef {

@@ -1,6 +1,7 @@
 -- The message grammar: which strings of bytes are a message between server and logger and what they say, and the one spelling in which this project writes a
 -- message. The format is this project's own. A message has a header of 16 bytes: the magic, the version, the kind, the length of the whole message, its
 -- checksum, and the boot number. The fields of its kind follow, and then the bytes of Part and Data, or the lengths of Lens.
+use Rattle.limits.specs.Limits.{largest_segment, least_segment, longest_stream, most_entries, most_units}
 use Rattle.std.specs.Prelude.{ℕ, zero, suc, Bool, true, false, not, List, [], ◌∷◌, ◌++◌, length, drop, slice_index, find, Option, None, Some, Result, Ok, Err, ◌≡◌, ◌+◌, ◌*◌, ◌%◌, ◌^◌, ◌<◌, ◌==◌, ◌&&◌, ◌||◌, nat_lt, nat_le, if◌then◌else◌}
 use Rattle.std.specs.Int.{bytes_high_first}
 use Rattle.std.specs.List.{flat_map, list_all}
@@ -96,7 +97,7 @@ fewest_behind _ = 0
 abbrev pub most_behind : Kind → ℕ
 most_behind kinds.Part = 1024
 most_behind kinds.Lens = 1024
-most_behind kinds.Data = 1460
+most_behind kinds.Data = largest_segment
 most_behind _ = 0
 
 abbrev pub is_lens : Kind → Bool
@@ -121,12 +122,12 @@ width fields.Newer = 8
 -- The range of a field, in a message with this boot number and this many bytes after its fields. An offset and those bytes stay within a stream, which has at
 -- most 2^24 bytes. A count of units may also count the FIN, or a last read of length 0. Keys and initial sequence numbers are unrestricted
 abbrev pub is_in_range : (boot behind : ℕ) → Field → ℕ → Bool
-is_in_range boot behind fields.Count n = nat_le n 64
+is_in_range boot behind fields.Count n = nat_le n most_entries
 is_in_range boot behind fields.Place n = nat_le n 63
-is_in_range boot behind fields.Mss n = nat_le 64 n && nat_le n 1460
-is_in_range boot behind fields.Length n = nat_le n (2 ^ 24)
-is_in_range boot behind fields.Offset n = nat_le (n + behind) (2 ^ 24)
-is_in_range boot behind fields.Units n = nat_le n (2 ^ 24 + 1)
+is_in_range boot behind fields.Mss n = nat_le least_segment n && nat_le n largest_segment
+is_in_range boot behind fields.Length n = nat_le n longest_stream
+is_in_range boot behind fields.Offset n = nat_le (n + behind) longest_stream
+is_in_range boot behind fields.Units n = nat_le n most_units
 is_in_range boot behind fields.ReadLength n = nat_le n 2048
 is_in_range boot behind fields.Flag n = nat_le n 1
 is_in_range boot behind fields.Newer n = nat_lt boot n

@@ -1,4 +1,5 @@
 -- What a TCP packet says: the value that its bytes spell (RFC 791, 3.1; RFC 9293, 3.1).
+use Rattle.limits.specs.Limits.{largest_segment, least_segment}
 use Rattle.std.specs.Prelude.{ℕ, Bool, Option, None, Some, List, ◌/◌, ◌%◌, ◌==◌, max, min}
 use Rattle.seq_arith.specs.declared.flags.TheConstants.{FIN, SYN, RST, ACK}
 
@@ -37,7 +38,7 @@ has_ack segment = has segment.head.flags ACK
 
 -- RFC 9293, 3.7.1: the segment size for a peer whose SYN offers this one. It is limited to the range from 64 to 1,460, and is 536 where none is offered
 abbrev pub segment_size : Option ℕ → ℕ
-segment_size (Some mss) = max 64 (min 1460 mss)
+segment_size (Some mss) = max least_segment (min largest_segment mss)
 segment_size None = 536
 
 -- the segment with one field changed

@@ -1,5 +1,6 @@
 -- The packet grammar: which strings of bytes are a TCP packet over IPv4 and what they say (RFC 791, 3.1; RFC 9293, 3.1 and 3.2), and
 -- the one spelling in which this project writes a packet. Places are counted in the whole packet, from 0.
+use Rattle.limits.specs.Limits.{longest_packet}
 use Rattle.std.specs.Prelude.{ℕ, zero, suc, Bool, true, false, not, List, [], ◌∷◌, ◌++◌, length, take, drop, slice_index, Option, None, Some, Result, Ok, Err, IfSome, ◌+◌, ◌-◌, ◌*◌, ◌/◌, ◌%◌, ◌^◌, ◌<◌, ◌≤◌, ◌==◌, ◌&&◌, ◌||◌, nat_lt, if◌then◌else◌}
 use Rattle.seq_arith.specs.declared.BadPacket.{BadPacket}
 use Rattle.seq_arith.specs.declared.BadPacket.TheVariants.{Short, Version, HeaderLength, TotalLength, Fragment, Protocol, IpChecksum, DataOffset, OptionLength, TcpChecksum, TooLong}
@@ -57,7 +58,7 @@ tcp_tests bytes =
     (nat_lt (payload_at bytes) 40 || nat_lt (length bytes) (payload_at bytes), DataOffset)
     ∷ (has_bad_option 0 (options_in bytes), OptionLength)
     ∷ (not (checksum (tcp_text bytes) == 0), TcpChecksum)
-    ∷ (nat_lt 1500 (length bytes), TooLong)
+    ∷ (nat_lt longest_packet (length bytes), TooLong)
     ∷ []
 
 -- the refusal of the first test that holds
@@ -124,4 +125,4 @@ pub record IsSpellable (segment : Segment) : Type 0 where
   pub flags : segment.head.flags < 2 ^ 8
   pub window : segment.head.window < 2 ^ 16
   pub mss : IfSome segment.head.mss (λ mss. mss < 2 ^ 16)
-  pub size : packet_length segment ≤ 1500
+  pub size : packet_length segment ≤ longest_packet

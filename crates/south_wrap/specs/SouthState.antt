@@ -1,5 +1,6 @@
 -- What the south wrapper knows of a connection, and what it does to numbers (FT-TCP, INFOCOM 2001: the south side wrapper, with its delta and its stable
 -- number). Initial sequence numbers are those that the client knows. Bytes and units are counted from the connection's start, over all incarnations.
+use Rattle.limits.specs.Limits.{buffer_size, longest_stream}
 use Rattle.std.specs.Prelude.{ℕ, Bool, false, pos, ◌+◌, ◌-◌, ◌%◌, ◌^◌, ◌&&◌, not, max, min, int_lt, nat_abs, if◌then◌else◌}
 use Rattle.tcp_rules.specs.Arrival.{is_beyond}
 use Rattle.seq_arith.specs.Number.{number_at, distance, offset_of}
@@ -28,7 +29,7 @@ acknowledged s = min (taken_units s) s.answered
 -- the right edge of the receive window, as an offset: 65,535 bytes are buffered past what is read, the fetched bytes are there already, and a stream has at
 -- most 2^24 bytes
 abbrev pub receive_edge : SouthState → ℕ
-receive_edge s = min (max s.fetched s.read + 65535) (2 ^ 24)
+receive_edge s = min (max s.fetched s.read + buffer_size) longest_stream
 
 -- Window: from what is acknowledged up to the edge, and one number more once the FIN is taken; at most 65,535
 abbrev pub window : SouthState → ℕ

@@ -1,5 +1,6 @@
 //! The part of a segment that is sent to the logger.
 
+ghost use Rattle.limits.specs.Limits.{largest_segment};
 ghost use Rattle.std.specs.Prelude.{◌≡◌, ◌≤◌, ◌<◌, ◌+◌, ◌+ℤ◌, ◌^◌, ◌&&◌, ◌||◌, pos, nat_abs, nat_lt, nat_le, max, min, IsOk, IfOk, IfSome, is_some, length};
 ghost use Rattle.tcp_rules.specs.Arrival.{below, int_eq};
 ghost use Rattle.seq_arith.specs.Offset.{text_of, fin_of};
@@ -40,7 +41,7 @@ impl South {
     /// Whether the segment's FIN is the one that is taken, and isn't known to be logged.
     fn copies_fin(&self, segment: &PacketRef<'_>, first: i64, len: usize) -> bool
         requires begins { nat_abs first ≤ 2 ^ 31 }
-        requires most { len ≤ 1460 }
+        requires most { len ≤ largest_segment }
         ensures { result ≡ (fin_of (segment_of segment.now)
             && (self.now.fin && int_eq (first +ℤ pos len) (pos self.now.taken) && nat_le self.now.answered self.now.taken)) }
     {

@@ -1,6 +1,7 @@
 //! Wrong results that the contracts of this crate exclude. Each function calls another one of the crate, and promises of its result what a wrong body would make
 //! false. It is proved from the other's contract alone, so it is no longer proved once that contract lets the wrong body pass.
 
+ghost use Rattle.limits.specs.Limits.{longest_stream, most_units};
 ghost use Rattle.std.specs.Prelude.{◌≡◌, ◌≤◌, ◌+◌, ◌^◌, true};
 ghost use Rattle.south_wrap.specs.SouthState.{acknowledges_unsent, lowered};
 
@@ -18,8 +19,8 @@ fn lowers_without_a_bound(south: &South, ack: Seq) -> Seq
 
 /// The wrapper at the end of a restart knows how much output an earlier incarnation may have sent: the contract of `South::after_fetch`.
 fn forgets_the_fetched_output(fetched_output: u32, acked: u32) -> South
-    requires most { fetched_output ≤ 2 ^ 24 + 1 }
-    requires acked { acked ≤ 2 ^ 24 }
+    requires most { fetched_output ≤ most_units }
+    requires acked { acked ≤ longest_stream }
     ensures { result.fetched_output ≡ fetched_output }
 {
     let fetched = Fetched {

@@ -1,5 +1,6 @@
 //! What the wrapper knows of its connection.
 
+ghost use Rattle.limits.specs.Limits.{longest_stream, most_units};
 ghost use Rattle.std.specs.Prelude.{◌≡◌, ◌≤◌, ◌<◌, ◌+◌, ◌^◌, ◌&&◌, ℕ, List, pos, nat_abs, is_some, ◌-◌, nat_le, IfNone, IfSome};
 ghost use Rattle.tcp_rules.specs.Arrival.{int_eq};
 ghost use Rattle.segment_codec.specs.Value.{said};
@@ -44,6 +45,7 @@ pub struct South {
 }
 
 impl Model for South {
+    ghost use Rattle.limits.specs.Limits.{longest_stream, most_units};
     ghost use Rattle.std.specs.Prelude.{◌≤◌, ◌+◌, ◌^◌};
     ghost use Rattle.seq_arith.specs.Offset.{one_if};
     ghost use Rattle.south_wrap.specs.SouthState.{SouthState, receive_edge};
@@ -64,8 +66,8 @@ impl Model for South {
       sent = s.sent;
     } };
 
-    ghost invariant = { λ s. (s.fetched ≤ 2 ^ 24) × (s.fetched_output ≤ 2 ^ 24 + 1) × (s.taken ≤ 2 ^ 24) × (s.answered ≤ 2 ^ 24 + 1)
-        × (s.read ≤ 2 ^ 24) × (s.una ≤ 2 ^ 24 + 1) × (s.sent ≤ 2 ^ 25 + 1) };
+    ghost invariant = { λ s. (s.fetched ≤ longest_stream) × (s.fetched_output ≤ most_units) × (s.taken ≤ longest_stream) × (s.answered ≤ most_units)
+        × (s.read ≤ longest_stream) × (s.una ≤ most_units) × (s.sent ≤ 2 ^ 25 + 1) };
 }
 
 impl South {
@@ -100,9 +102,9 @@ impl South {
         acked: u32,
         inner: Seq,
     ) -> South
-        requires length { length ≤ 2 ^ 24 }
-        requires fetched_output { fetched_output ≤ 2 ^ 24 + 1 }
-        requires acked { acked ≤ 2 ^ 24 }
+        requires length { length ≤ longest_stream }
+        requires fetched_output { fetched_output ≤ most_units }
+        requires acked { acked ≤ longest_stream }
         ensures { result ≡ resumed_south cisn.0 sisn.0 length fetched_output fin acked inner.0 }
     {
         let fetched = Fetched {
@@ -119,9 +121,9 @@ impl South {
     /// The wrapper of a connection at the end of a restart, which goes on after what was fetched. The new TCP has the initial sequence number `inner`, from which
     /// it counts the output after what the client had acknowledged.
     pub fn after_fetch(fetched: Fetched, inner: Seq) -> South
-        requires length { fetched.length ≤ 2 ^ 24 }
-        requires output { fetched.output ≤ 2 ^ 24 + 1 }
-        requires acked { fetched.acked ≤ 2 ^ 24 }
+        requires length { fetched.length ≤ longest_stream }
+        requires output { fetched.output ≤ most_units }
+        requires acked { fetched.acked ≤ longest_stream }
         ensures { result ≡ resumed_south fetched.cisn.0 fetched.sisn.0 fetched.length fetched.output fetched.fin fetched.acked inner.0 }
     {
         let Fetched {
@@ -159,7 +161,7 @@ impl South {
 
     /// Notes how many units of output the client has acknowledged.
     pub fn acked(&mut self, units: u32)
-        requires { units ≤ 2 ^ 24 + 1 }
+        requires { units ≤ most_units }
         ensures { self.new ≡ record self.old { una = units } }
     {
         self.una = units;
@@ -176,7 +178,7 @@ impl South {
 
     /// Notes how many bytes the service has read.
     pub fn read_to(&mut self, bytes: u32)
-        requires most { bytes ≤ 2 ^ 24 }
+        requires most { bytes ≤ longest_stream }
         requires rises { self.old.read ≤ bytes }
         ensures { self.new ≡ record self.old { read = bytes } }
     {
@@ -186,7 +188,7 @@ impl South {
     /// Notes the logger's answer that it has `length` bytes of the client, and its FIN if `fin`. Returns what to acknowledge to the client now, if more is
     /// known to be logged.
     pub fn on_stable(&mut self, length: u32, fin: bool) -> Option<AckOut>
-        requires { length ≤ 2 ^ 24 }
+        requires { length ≤ longest_stream }
         ensures state { self.new ≡ with_stable (length + one_if fin) self.old }
         ensures none { IfNone result (length + one_if fin ≤ self.old.answered) }
         ensures some { IfSome result (λ told. self.old.answered < length + one_if fin) }
@@ -215,7 +217,7 @@ impl South {
     /// The units that may be acknowledged.
     fn acknowledged(&self) -> u32
         ensures value { result ≡ acknowledged self.now }
-        ensures most { result ≤ 2 ^ 24 + 1 }
+        ensures most { result ≤ most_units }
     {
         (self.taken + u32::from(self.fin)).min(self.answered)
     }
@@ -258,7 +260,7 @@ impl South {
 
     pub(crate) fn answered(&self) -> u32
         ensures value { result ≡ self.now.answered }
-        ensures most { result ≤ 2 ^ 24 + 1 }
+        ensures most { result ≤ most_units }
     {
         self.answered
     }

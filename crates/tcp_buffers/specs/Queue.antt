@@ -1,4 +1,5 @@
 -- A receive queue, and what a push and a hold do to it: the bytes in order that aren't read, and after them places that each hold a byte or none.
+use Rattle.limits.specs.Limits.{buffer_size}
 use Rattle.std.specs.Prelude.{ℕ, ◌-◌, Option, List, [], ◌++◌, length, take, drop}
 use Rattle.tcp_rules.specs.Early.{front_run, behind_front_run}
 
@@ -11,7 +12,7 @@ empty_queue = record { unread = []; early = [] }
 
 -- the prefix of these bytes that fits after those in order
 abbrev pub fitting : List ℕ → Queue → List ℕ
-fitting bytes q = take (65535 - length q.unread) bytes
+fitting bytes q = take (buffer_size - length q.unread) bytes
 
 -- the places after those of the fitting bytes. What is held at the places of these bytes is dropped
 abbrev pub left_over : List ℕ → Queue → List (Option ℕ)

@@ -18,4 +18,4 @@ mod send_state;
 mod timing;
 
 /// How many bytes a queue holds: as many as a window without scaling can advertise.
-pub const QUEUE_ROOM: usize = 65_535;
+pub const QUEUE_ROOM: usize = limits::BUFFER as usize;

@@ -1,5 +1,6 @@
 //! Overwriting a queue's bytes, and writing past its end.
 
+ghost use Rattle.limits.specs.Limits.{buffer_size};
 ghost use Rattle.std.specs.Prelude.{◌≡◌, ℕ, ◌+◌, ◌<◌, ◌≤◌, List, ◌++◌, length, max, replicate, slice_set};
 ghost use Rattle.tcp_buffers.specs.Runs.{written};
 
@@ -8,10 +9,10 @@ use circular_buffer::HeapCircularBuffer;
 /// Writes bytes over those of a queue, from place `from` on, and past its end. A gap before them is filled with zeros.
 #[tactic(auto, using(crate::proofs::Overwrites::length_written))]
 pub(crate) fn overwrite(queue: &mut HeapCircularBuffer<u8>, from: usize, bytes: &[u8])
-    requires fits { from + length bytes.now ≤ 65535 }
-    requires room { queue.old.capacity ≡ 65535 }
+    requires fits { from + length bytes.now ≤ buffer_size }
+    requires room { queue.old.capacity ≡ buffer_size }
     ensures items { queue.new.items ≡ written from bytes.now queue.old.items }
-    ensures room { queue.new.capacity ≡ 65535 }
+    ensures room { queue.new.capacity ≡ buffer_size }
 {
     if bytes.is_empty() {
         return;
@@ -24,12 +25,12 @@ pub(crate) fn overwrite(queue: &mut HeapCircularBuffer<u8>, from: usize, bytes: 
 
 /// Fills a queue with zeros up to place `to`.
 fn pad(queue: &mut HeapCircularBuffer<u8>, to: usize)
-    requires fits { to ≤ 65535 }
-    requires room { queue.old.capacity ≡ 65535 }
+    requires fits { to ≤ buffer_size }
+    requires room { queue.old.capacity ≡ buffer_size }
     ensures items { (bytes : List ℕ) → 0 < length bytes → written to bytes queue.new.items ≡ written to bytes queue.old.items }
     ensures long { to ≤ length queue.new.items }
     ensures longer { length queue.new.items ≡ max (length queue.old.items) to }
-    ensures room { queue.new.capacity ≡ 65535 }
+    ensures room { queue.new.capacity ≡ buffer_size }
 {
     if queue.len() < to {
         pad_with(&[0; 512], queue, to);
@@ -39,12 +40,12 @@ fn pad(queue: &mut HeapCircularBuffer<u8>, to: usize)
 /// Fills a shorter queue with zeros up to place `to`, by appending these zeros as often as needed.
 fn pad_with(zeros: &[u8], queue: &mut HeapCircularBuffer<u8>, to: usize)
     requires zeros { zeros.now ≡ replicate 512 0 }
-    requires fits { to ≤ 65535 }
+    requires fits { to ≤ buffer_size }
     requires short { length queue.old.items < to }
-    requires room { queue.old.capacity ≡ 65535 }
+    requires room { queue.old.capacity ≡ buffer_size }
     ensures items { (bytes : List ℕ) → 0 < length bytes → written to bytes queue.new.items ≡ written to bytes queue.old.items }
     ensures long { length queue.new.items ≡ to }
-    ensures room { queue.new.capacity ≡ 65535 }
+    ensures room { queue.new.capacity ≡ buffer_size }
 {
     while queue.len() < to {
         let count = zeros.len().min(to - queue.len());
@@ -55,10 +56,10 @@ fn pad_with(zeros: &[u8], queue: &mut HeapCircularBuffer<u8>, to: usize)
 /// Appends bytes that fit.
 #[tactic(auto, using(std::proofs::lemmas::List::take_all))]
 fn append(queue: &mut HeapCircularBuffer<u8>, bytes: &[u8])
-    requires fits { length queue.old.items + length bytes.now ≤ 65535 }
-    requires room { queue.old.capacity ≡ 65535 }
+    requires fits { length queue.old.items + length bytes.now ≤ buffer_size }
+    requires room { queue.old.capacity ≡ buffer_size }
     ensures items { queue.new.items ≡ queue.old.items ++ bytes.now }
-    ensures room { queue.new.capacity ≡ 65535 }
+    ensures room { queue.new.capacity ≡ buffer_size }
 {
     queue.fill_from_slice(bytes);
 }
@@ -66,7 +67,7 @@ fn append(queue: &mut HeapCircularBuffer<u8>, bytes: &[u8])
 /// Writes bytes over those of a queue from place `from` on. A queue that wraps around in its room is written byte by byte, since moving it would cost more.
 fn set_all(queue: &mut HeapCircularBuffer<u8>, from: usize, bytes: &[u8])
     requires within { from + length bytes.now ≤ length queue.old.items }
-    requires fits { from + length bytes.now ≤ 65535 }
+    requires fits { from + length bytes.now ≤ buffer_size }
     ensures items { queue.new.items ≡ written from bytes.now queue.old.items }
     ensures long { length queue.new.items ≡ length queue.old.items }
     ensures room { queue.new.capacity ≡ queue.old.capacity }
@@ -82,7 +83,7 @@ fn set_all(queue: &mut HeapCircularBuffer<u8>, from: usize, bytes: &[u8])
 /// Writes bytes over those of a queue from place `from` on, by one copy.
 fn set_slice(queue: &mut HeapCircularBuffer<u8>, from: usize, bytes: &[u8])
     requires within { from + length bytes.now ≤ length queue.old.items }
-    requires fits { from + length bytes.now ≤ 65535 }
+    requires fits { from + length bytes.now ≤ buffer_size }
     ensures items { queue.new.items ≡ written from bytes.now queue.old.items }
     ensures long { length queue.new.items ≡ length queue.old.items }
     ensures room { queue.new.capacity ≡ queue.old.capacity }
@@ -93,7 +94,7 @@ fn set_slice(queue: &mut HeapCircularBuffer<u8>, from: usize, bytes: &[u8])
 /// Writes bytes over others from place `from` on.
 fn copy_over(items: &mut [u8], from: usize, bytes: &[u8])
     requires within { from + length bytes.now ≤ length items.old }
-    requires fits { from + length bytes.now ≤ 65535 }
+    requires fits { from + length bytes.now ≤ buffer_size }
     ensures items { items.new ≡ written from bytes.now items.old }
     ensures long { length items.new ≡ length items.old }
 {
@@ -104,7 +105,7 @@ fn copy_over(items: &mut [u8], from: usize, bytes: &[u8])
 #[tactic(auto, using(crate::proofs::Overwrites::set_one, crate::proofs::Overwrites::length_set), unfolding(crate::specs::Runs::written))]
 fn set_each(queue: &mut HeapCircularBuffer<u8>, from: usize, bytes: &[u8])
     requires within { from + length bytes.now ≤ length queue.old.items }
-    requires fits { from + length bytes.now ≤ 65535 }
+    requires fits { from + length bytes.now ≤ buffer_size }
     ensures items { queue.new.items ≡ written from bytes.now queue.old.items }
     ensures long { length queue.new.items ≡ length queue.old.items }
     ensures room { queue.new.capacity ≡ queue.old.capacity }

@@ -1,5 +1,6 @@
 //! The bytes received in order that the user hasn't read, and after them those received out of order.
 
+ghost use Rattle.limits.specs.Limits.{buffer_size};
 ghost use Rattle.std.specs.Prelude.{◌≡◌, ℕ, ◌+◌, ◌-◌, ◌<◌, ◌≤◌, ◌==◌, [], ◌++◌, length, min, take, drop, nat_le, nat_lt, IfOk};
 ghost use Rattle.tcp_rules.specs.Early.{laid, run_count, front_run, holds_some, held_with, most_runs};
 ghost use Rattle.tcp_buffers.specs.Queue.{empty_queue, pushed, added_by};
@@ -27,6 +28,7 @@ pub struct RecvQueue {
 }
 
 impl Model for RecvQueue {
+    ghost use Rattle.limits.specs.Limits.{buffer_size};
     ghost use Rattle.std.specs.Prelude.{◌≡◌, take, drop};
     ghost use Rattle.tcp_buffers.specs.Queue.{Queue};
     ghost use Rattle.tcp_buffers.specs.Runs.{QueueInvariant, marked};
@@ -35,7 +37,7 @@ impl Model for RecvQueue {
 
     ghost view = { λ q. record { unread = take q.in_order q.bytes.items; early = marked 0 q.early (drop q.in_order q.bytes.items) } };
 
-    ghost invariant = { λ q. (q.bytes.capacity ≡ 65535) × QueueInvariant q.bytes.items q.in_order q.early };
+    ghost invariant = { λ q. (q.bytes.capacity ≡ buffer_size) × QueueInvariant q.bytes.items q.in_order q.early };
 }
 
 impl RecvQueue {
@@ -105,7 +107,7 @@ impl RecvQueue {
     /// more than sixteen runs.
     pub fn hold(&mut self, at: usize, bytes: &[u8]) -> bool
         requires ahead { 0 < at }
-        requires fits { length self.old.unread + at + length bytes.now ≤ 65535 }
+        requires fits { length self.old.unread + at + length bytes.now ≤ buffer_size }
         ensures held { result ≡ nat_le (run_count (laid at bytes.now self.old.early)) most_runs }
         ensures state { self.new ≡ record self.old { early = held_with at bytes.now self.old.early } }
     {

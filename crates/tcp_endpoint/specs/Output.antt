@@ -1,4 +1,5 @@
 -- What an endpoint sends at the end of a turn, in order (RFC 9293, 3.7, 3.8.1, 3.8.6.1 and 3.10.7.4), and what it is after that.
+use Rattle.limits.specs.Limits.{largest_segment}
 use Rattle.std.specs.Prelude.{ℕ, Bool, false, zero, suc, ◌+◌, ◌-◌, ◌==◌, ◌&&◌, ◌||◌, not, nat_lt, min, Option, None, Some, List, [], ◌∷◌, ◌++◌, length, take, drop, map, if◌then◌else◌}
 use Rattle.seq_arith.specs.Number.{number_at}
 use Rattle.seq_arith.specs.Packet.{Head, Segment}
@@ -28,8 +29,8 @@ head_at e seq flags = record {
 unfoldable pub opening_segment : Tcb → Segment
 opening_segment e =
     if is_syn_sent e.name
-    then record { head = record (head_at e e.sending.iss 2) { ack = 0; mss = Some 1460 }; payload = [] }
-    else record { head = record (head_at e e.sending.iss 18) { mss = Some 1460 }; payload = [] }
+    then record { head = record (head_at e e.sending.iss 2) { ack = 0; mss = Some largest_segment }; payload = [] }
+    else record { head = record (head_at e e.sending.iss 18) { mss = Some largest_segment }; payload = [] }
 
 -- a segment that begins `place` units after SND.UNA, with these flags
 abbrev pub segment_at : Tcb → (place flags : ℕ) → List ℕ → Segment

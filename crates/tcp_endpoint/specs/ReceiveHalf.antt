@@ -1,5 +1,6 @@
 -- The receiving half of a connection, in offsets of the peer's stream: byte k has offset k, and a FIN that is taken counts as one more unit (RFC 9293, 3.3.1,
 -- receive sequence variables, and 3.10.7.4, first, seventh and eighth check).
+use Rattle.limits.specs.Limits.{buffer_size}
 use Rattle.std.specs.Prelude.{ℕ, ℤ, Bool, false, ◌+◌, ◌-◌, ◌^◌, ◌≤◌, min, Option, List, [], ◌++◌, length, drop}
 use Rattle.tcp_rules.specs.Coming.{Early, Came, nothing_early, comes, StandsBehind}
 use Rattle.seq_arith.specs.Offset.{one_if}
@@ -23,7 +24,7 @@ next r = taken r + one_if r.fin
 
 -- the right edge of the receive window, as an offset: 65,535 bytes past what is read, and at most the limit. No byte from there on is taken
 abbrev pub receive_edge : Receiving → ℕ
-receive_edge r = min (r.read + 65535) r.limit
+receive_edge r = min (r.read + buffer_size) r.limit
 
 -- the right edge that is advertised: a FIN that is taken has used up one number
 abbrev pub advertised_edge : Receiving → ℕ
@@ -55,6 +56,6 @@ read_out r n = record r { read = r.read + n; unread = drop n r.unread }
 -- the invariant of a receiver's fields
 pub record ReceiverInvariant (read : ℕ) (queue : Queue) (fin : Bool) (held_fin : Option ℕ) (limit : ℕ) : Type 0 where
   pub within : read + length queue.unread ≤ limit
-  pub queued : length queue.unread ≤ 65535
+  pub queued : length queue.unread ≤ buffer_size
   pub near : limit ≤ 2 ^ 30
-  pub behind : StandsBehind (read + length queue.unread) (min (read + 65535) limit) fin (record { text = queue.early; fin = held_fin })
+  pub behind : StandsBehind (read + length queue.unread) (min (read + buffer_size) limit) fin (record { text = queue.early; fin = held_fin })

@@ -1,5 +1,6 @@
 -- The sending half of a connection, in offsets of our stream: byte k has offset k, and a FIN counts as one more unit (RFC 9293, 3.3.1, send sequence variables,
 -- and 3.10.7.4, fifth check; RFC 5681; RFC 6298; RFC 6582).
+use Rattle.limits.specs.Limits.{buffer_size, largest_segment, least_segment}
 use Rattle.std.specs.Prelude.{ℕ, ℤ, Bool, true, false, pos, ◌+◌, ◌-◌, ◌*◌, ◌%◌, ◌^◌, ◌<◌, ◌≤◌, ◌==◌, ◌&&◌, ◌||◌, not, nat_lt, nat_le, int_le, min, max, nat_abs, List, [], length, drop, if◌then◌else◌}
 use Rattle.tcp_rules.specs.Arrival.{int_eq, is_new_ack}
 use Rattle.tcp_rules.specs.Congestion.{Congestion, initial_congestion, is_partial, with_new_data, is_third, with_duplicate, with_expiry}
@@ -230,9 +231,9 @@ sending_of iss syn_acked n timing held closed fin_sent = record {
 -- the invariant of a sender's fields: no more is in flight than the bytes written and not acknowledged, and the FIN. No interval is empty
 pub record SenderInvariant (n : SendState) (held : List ℕ) (fin_sent : Bool) : Type 0 where
   pub flight : distance n.nxt.0 n.una.0 ≤ length held + one_if fin_sent
-  pub queued : length held ≤ 65535
-  pub least : 64 ≤ n.mss
-  pub most : n.mss ≤ 1460
+  pub queued : length held ≤ buffer_size
+  pub least : least_segment ≤ n.mss
+  pub most : n.mss ≤ largest_segment
   pub interval : 1 ≤ n.interval
 
 -- the offsets are so small that numbers modulo 2^32 show their order

@@ -1,4 +1,5 @@
 -- What a tick and the user's calls do to an endpoint (RFC 9293, 3.8.1, 3.8.6.1, 3.9.1 and 3.10).
+use Rattle.limits.specs.Limits.{buffer_size}
 use Rattle.std.specs.Prelude.{ℕ, Bool, true, ◌-◌, ◌&&◌, ◌||◌, not, nat_lt, List, ◌++◌, length, if◌then◌else◌}
 use Rattle.seq_arith.specs.Number.{number_at}
 use Rattle.tcp_endpoint.specs.declared.states.StateName.TheVariants.{Closed}
@@ -40,7 +41,7 @@ abbrev pub is_ended : Tcb → Bool
 is_ended e = e.sending.closed || e.reset
 
 abbrev pub write_room : Tcb → ℕ
-write_room e = if is_ended e then 0 else 65535 - length e.sending.held
+write_room e = if is_ended e then 0 else buffer_size - length e.sending.held
 
 -- SND.NXT, which is ISS in LISTEN, and SND.UNA, which is ISS until the SYN is acknowledged
 abbrev pub sent_number : Tcb → ℕ

@@ -1,5 +1,6 @@
 //! The end of a turn: what is sent, in order (RFC 9293, 3.7, 3.8.1, 3.8.6.1 and 3.10.7.4), and the timer.
 
+ghost use Rattle.limits.specs.Limits.{largest_segment, longest_packet};
 ghost use Rattle.std.specs.Prelude.{◌≡◌, ℕ, ◌+◌, ◌*◌, ◌-◌, ◌<◌, ◌≤◌, ◌==◌, ◌&&◌, ◌||◌, Bool, true, false, None, Some, List, [], ◌∷◌, ◌++◌, length};
 ghost use Rattle.std.specs.Prelude.{if◌then◌else◌};
 ghost use Rattle.seq_arith.specs.Packet.{Segment};
@@ -14,6 +15,7 @@ ghost use Rattle.tcp_endpoint.specs.Output.{with_turn_ended, flushed, packets, o
 
 use crate::endpoint::Endpoint;
 use crate::outbox::Outbox;
+use limits::SEGMENT;
 use segment_codec::Head;
 use seq_arith::{ACK, FIN, SYN, Seq};
 
@@ -67,13 +69,13 @@ impl Endpoint {
             let head = self.head(self.sender.iss(), SYN);
             return Head {
                 ack: Seq(0),
-                mss: Some(1_460),
+                mss: Some(SEGMENT),
                 ..head
             };
         }
         let head = self.head(self.sender.iss(), SYN | ACK);
         Head {
-            mss: Some(1_460),
+            mss: Some(SEGMENT),
             ..head
         }
     }
@@ -96,7 +98,7 @@ impl Endpoint {
     #[tactic(auto, unfolding(crate::specs::Output::text_at))]
     fn send_text_at(&self, place: u32, n: u32, out: &mut Outbox)
         requires text { place + n ≤ length self.now.sending.held }
-        requires size { n ≤ 1460 }
+        requires size { n ≤ largest_segment }
         requires count { length out.old < 1100 }
         requires bytes { byte_count out.old ≤ 118000 }
         ensures sent { out.new ≡ out.old ++ spelling (text_at self.now place n) ∷ [] }
@@ -130,7 +132,7 @@ impl Endpoint {
         requires bytes { byte_count out.old ≤ 44 }
         ensures sent { out.new ≡ out.old ++ packets (retransmission_out self.now) }
         ensures count { length out.new ≤ length out.old + 1 }
-        ensures bytes { byte_count out.new ≤ byte_count out.old + 1500 }
+        ensures bytes { byte_count out.new ≤ byte_count out.old + longest_packet }
         ensures readable { AreReadable (retransmission_out self.now) }
     {
         if !self.retransmission_due || self.name.is_closed() || !self.sender.is_unacknowledged() {

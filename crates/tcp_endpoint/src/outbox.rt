@@ -1,5 +1,6 @@
 //! The packets that a turn sends, in order. Their room is allocated once.
 
+ghost use Rattle.limits.specs.Limits.{longest_packet};
 ghost use Rattle.std.specs.Prelude.{◌≡◌, ℕ, ◌+◌, ◌-◌, ◌<◌, ◌≤◌, ◌==◌, ◌&&◌, ◌↔◌, List, [], ◌∷◌, ◌++◌, Some, length, nat_lt, nat_le, IfOk, IsTrue, slice_get};
 ghost use Rattle.std.specs.Prelude.{slice_index, slice_set, take, drop, replicate, vec_capacity};
 ghost use Rattle.std.specs.Borrow.{sem};
@@ -107,7 +108,7 @@ impl Outbox {
     /// Appends a segment. Its text is given in two pieces. It is written once, in its final place.
     #[tactic(auto, using(crate::proofs::Pieces::length_pieces, crate::proofs::Pieces::byte_count_pieces))]
     pub(crate) fn push_segment(&mut self, head: &Head, front: &[u8], back: &[u8])
-        requires size { packet_length (segment_with head.now (front.now ++ back.now)) ≤ 1500 }
+        requires size { packet_length (segment_with head.now (front.now ++ back.now)) ≤ longest_packet }
         requires count { length self.old < PACKET_ROOM }
         requires bytes { byte_count self.old ≤ 118000 }
         ensures sent { self.new ≡ self.old ++ spelling (segment_with head.now (front.now ++ back.now)) ∷ [] }
@@ -149,8 +150,8 @@ fn note_end(end: usize, ends: &mut Vec<usize>)
 
 /// Appends a segment to bytes that have room for it.
 fn append_segment(head: &Head, front: &[u8], back: &[u8], bytes: &mut Vec<u8>)
-    requires size { packet_length (segment_with head.now (front.now ++ back.now)) ≤ 1500 }
-    requires room { length bytes.old.items + 1500 ≤ vec_capacity bytes.old }
+    requires size { packet_length (segment_with head.now (front.now ++ back.now)) ≤ longest_packet }
+    requires room { length bytes.old.items + longest_packet ≤ vec_capacity bytes.old }
     ensures bytes { bytes.new.items ≡ bytes.old.items ++ spelling (segment_with head.now (front.now ++ back.now)) }
     ensures capacity { vec_capacity bytes.old ≤ vec_capacity bytes.new }
     ensures readable { IsReadable (segment_with head.now (front.now ++ back.now)) }

@@ -1,6 +1,7 @@
 //! The receiving half of a connection. It compares the peer's numbers, modulo 2^32; only SEG.SEQ and SND.WL1 are compared elsewhere, by `SendState`. Contracts
 //! speak of offsets in the peer's stream, whatever its initial sequence number.
 
+ghost use Rattle.limits.specs.Limits.{buffer_size, longest_stream};
 ghost use Rattle.std.specs.Prelude.{◌≡◌, ℕ, ◌+◌, ◌-◌, ◌^◌, ◌<◌, ◌≤◌, ◌==◌, ◌&&◌, ◌||◌, not, is_none, pos, negsuc, ◌+ℤ◌, int_lt, Bool, false, true, List, [], ◌++◌, length, min, take, drop, if◌then◌else◌};
 ghost use Rattle.std.specs.Bool.{OnTrue};
 ghost use Rattle.seq_arith.specs.Number.{number_at, offset_of};
@@ -12,6 +13,7 @@ ghost use Rattle.tcp_rules.specs.Early.{held_with};
 ghost use Rattle.tcp_endpoint.specs.ReceiveHalf.{taken, next, receive_edge, advertised_edge, window, receiving_up_to, with_segment, read_out};
 ghost use Rattle.tcp_endpoint.specs.Tcb.{kept_limit};
 
+use limits::BUFFER;
 use seq_arith::Seq;
 use std::marker::Model;
 use tcp_buffers::RecvQueue;
@@ -117,7 +119,7 @@ impl Receiver {
     fn receive_edge(&self) -> u32
         ensures { result ≡ receive_edge self.now }
     {
-        (self.read + 65_535).min(self.limit)
+        (self.read + BUFFER).min(self.limit)
     }
 
     /// The right edge that is advertised, as an offset: RCV.NXT + RCV.WND.
@@ -266,7 +268,7 @@ impl Receiver {
     pub(crate) fn gap(&self, seq: Seq) -> u32
         requires { IsNearFirst (offset_of self.now.irs seq.0) }
         ensures count { result ≡ ahead (taken self.now) (offset_of self.now.irs seq.0) }
-        ensures most { result ≤ 2 ^ 30 + 2 ^ 24 }
+        ensures most { result ≤ 2 ^ 30 + longest_stream }
     {
         self.ranges(seq);
         if self.is_past(seq) {
@@ -307,7 +309,7 @@ impl Receiver {
     pub(crate) fn new_part<'a>(&self, seq: Seq, gap: u32, text: &'a [u8]) -> &'a [u8]
         requires near { IsNearFirst (offset_of self.now.irs seq.0) }
         requires gap { gap ≡ ahead (taken self.now) (offset_of self.now.irs seq.0) }
-        requires most { gap ≤ 2 ^ 30 + 2 ^ 24 }
+        requires most { gap ≤ 2 ^ 30 + longest_stream }
         ensures { result.now ≡ new_text (taken self.now) (receive_edge self.now) self.now.fin self.now.early (offset_of self.now.irs seq.0) text.now }
     {
         let known = self.known(seq, gap);
@@ -436,7 +438,7 @@ fn part(text: &[u8], known: usize, room: usize) -> &[u8]
 /// Appends bytes to those in order, with the held bytes that continue them, or holds them where they begin after a gap.
 #[tactic(auto, using(crate::proofs::Steps::none_held))]
 fn put(queue: &mut RecvQueue, gap: usize, bytes: &[u8])
-    requires fits { 0 < length bytes.now → length queue.old.unread + gap + length bytes.now ≤ 65535 }
+    requires fits { 0 < length bytes.now → length queue.old.unread + gap + length bytes.now ≤ buffer_size }
     ensures { queue.new ≡ (if gap == 0 then pushed bytes.now queue.old else record queue.old { early = held_with gap bytes.now queue.old.early }) }
 {
     if gap == 0 {

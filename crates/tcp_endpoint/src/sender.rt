@@ -1,6 +1,7 @@
 //! The sending half of a connection. It compares numbers of our stream, modulo 2^32, with the help of `SendState`. Contracts speak of offsets in our stream,
 //! whatever its initial sequence number.
 
+ghost use Rattle.limits.specs.Limits.{buffer_size, largest_segment, least_segment};
 ghost use Rattle.std.specs.Prelude.{◌≡◌, ℕ, ◌+◌, ◌-◌, ◌%◌, ◌^◌, ◌<◌, ◌≤◌, ◌==◌, ◌&&◌, ◌||◌, pos, int_le, Bool, false, true, not, List, [], ◌++◌, length, min, take};
 ghost use Rattle.std.specs.Prelude.{drop, if◌then◌else◌};
 ghost use Rattle.seq_arith.specs.Number.{number_at, offset_of};
@@ -14,6 +15,7 @@ ghost use Rattle.tcp_endpoint.specs.SendHalf.{units_of, was_sent, repeats, acks_
 ghost use Rattle.tcp_endpoint.specs.SendHalf.{untimed_if, answered_by, use_of, NumbersFit, IsShort};
 ghost use Rattle.tcp_endpoint.specs.declared.sender.AckUse.TheVariants.{Used, ShowsLoss};
 
+use limits::BUFFER;
 use seq_arith::{Seq, segment_size};
 use std::marker::Model;
 use tcp_buffers::{AckKind, SendQueue, SendState, Timing};
@@ -79,7 +81,7 @@ impl Sender {
                 left: 0,
                 mss: 536,
                 cwnd: initial_window(536),
-                ssthresh: 65_535,
+                ssthresh: BUFFER,
                 dups: 0,
                 recovers: measures,
                 lost: 0,
@@ -99,7 +101,7 @@ impl Sender {
         self.numbers = SendState {
             mss,
             cwnd: initial_window(mss),
-            ssthresh: 65_535,
+            ssthresh: BUFFER,
             dups: 0,
             lost: 0,
             ..self.numbers
@@ -295,8 +297,8 @@ impl Sender {
     /// The segment size.
     pub(crate) fn mss(&self) -> u32
         ensures size { result ≡ self.now.mss }
-        ensures least { 64 ≤ result }
-        ensures most { result ≤ 1460 }
+        ensures least { least_segment ≤ result }
+        ensures most { result ≤ largest_segment }
     {
         self.numbers.mss
     }
@@ -337,7 +339,7 @@ impl Sender {
     pub(crate) fn resent_length(&self) -> u32
         ensures count { result ≡ resent_length self.now }
         ensures most { result ≤ length self.now.held }
-        ensures segment { result ≤ 1460 }
+        ensures segment { result ≤ largest_segment }
     {
         let sent = self.in_flight().min(self.held.len() as u32);
         self.mss().min(sent.min(self.room().max(1)))
@@ -345,7 +347,7 @@ impl Sender {
 
     /// How many more bytes may be written.
     pub(crate) fn write_room(&self) -> usize
-        ensures { result ≡ 65535 - length self.now.held }
+        ensures { result ≡ buffer_size - length self.now.held }
     {
         self.held.room()
     }
@@ -440,7 +442,7 @@ impl Sender {
 
     /// Appends the first bytes of `bytes` to those written, as many as fit, and returns how many.
     pub(crate) fn write(&mut self, bytes: &[u8]) -> usize
-        ensures count { result ≡ min (65535 - length self.old.held) (length bytes.now) }
+        ensures count { result ≡ min (buffer_size - length self.old.held) (length bytes.now) }
         ensures state { self.new ≡ record self.old { held = self.old.held ++ take result bytes.now } }
     {
         self.held.write(bytes)
@@ -501,7 +503,7 @@ fn restart(numbers: &mut SendState, timing: &mut Timing, kind: AckKind)
 
 /// The initial congestion window.
 fn initial_window(mss: u32) -> u32
-    requires { mss ≤ 1460 }
+    requires { mss ≤ largest_segment }
     ensures { result ≡ initial_window mss }
 {
     if mss <= 1_095 { 4 * mss } else { 3 * mss }

@@ -5,7 +5,6 @@ ghost use Rattle.pseudorandom.specs.Generator.{stepped, drawn};
 ghost use Rattle.test_data.specs.Draws.{state_after};
 
 use pseudorandom::Generator;
-
 use seq_arith::Seq;
 use std::marker::Model;
 

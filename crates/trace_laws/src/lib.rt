@@ -4,6 +4,7 @@
 //! function is a theorem.
 #![tactic(auto)]
 
+ghost use Rattle.limits.specs.Limits.{longest_stream};
 ghost use Rattle.std.specs.Prelude.{◌≡◌, ℕ, ◌≤◌, ◌^◌, false, min, Some, None, List, [], ◌∷◌, ◌++◌, length, sum};
 ghost use Rattle.std.specs.List.{AllByRecursion};
 ghost use Rattle.ft_io.specs.declared.Addr.{Addr};
@@ -58,7 +59,7 @@ pub fn fetched_entries_are_sound<S: Service>()
 pub fn fronts_run_short<S: Service>()
     ensures { (kind : ℕ) (f : Fetched) (lengths : List ℕ) → IsSoundFront (machine (S.started kind) S.after) f → IsPrefix lengths f.lengths
         → sum lengths ≤ length f.bytes
-        → length (reference (machine (S.started kind) S.after) f.bytes lengths).output ≤ 2 ^ 24 }
+        → length (reference (machine (S.started kind) S.after) f.bytes lengths).output ≤ longest_stream }
 {}
 
 /// Every packet without RST that a client ever sent to the server is near to the client's connection, if that is live.
@@ -117,8 +118,8 @@ pub fn far_packets_are_refused()
 
 /// The log must keep its limits: in a trace with one moment in which it keeps a FIN after 2^24 bytes, an entry isn't sound.
 pub fn late_fins_are_refused()
-    ensures wrong_once { (bytes : List ℕ) → length bytes ≡ 2 ^ 24 → IsWrongOnce echo FirstPath.start [] (LateFin.wrong bytes) FirstPath.opening_trace }
-    ensures not_sound { (bytes : List ℕ) → length bytes ≡ 2 ^ 24 → AllByRecursion (IsSoundEntry echo) (LateFin.wrong bytes).world.log.entries → ⊥ }
+    ensures wrong_once { (bytes : List ℕ) → length bytes ≡ longest_stream → IsWrongOnce echo FirstPath.start [] (LateFin.wrong bytes) FirstPath.opening_trace }
+    ensures not_sound { (bytes : List ℕ) → length bytes ≡ longest_stream → AllByRecursion (IsSoundEntry echo) (LateFin.wrong bytes).world.log.entries → ⊥ }
 {}
 
 /// Each world that such a trace leads to is the world after a joint trace from the same start, except that the latter may have further answers of the logger.

@@ -1,4 +1,5 @@
 -- What a connection sends to the logger in a turn.
+use Rattle.limits.specs.Limits.{largest_segment, most_units}
 use Rattle.std.specs.Prelude.{ℕ, ℤ, Bool, true, false, pos, ◌≤◌, ◌+◌, ◌-◌, ◌*◌, ◌^◌, ◌+ℤ◌, ◌&&◌, not, min, max, nat_lt, nat_le, List, [], ◌∷◌, ◌++◌, map, length, drop, if◌then◌else◌}
 use Rattle.std.specs.List.{AllByRecursion}
 use Rattle.seq_arith.specs.Offset.{first_of, text_of}
@@ -69,7 +70,7 @@ copies before segment c = or_una before.una c (own_data segment c ++ further_dat
 
 -- a read whose numbers a message can hold
 pub record IsTellable (read : ReadRecord) : Type 0 where
-  pub index : read.index ≤ 2 ^ 24 + 1
+  pub index : read.index ≤ most_units
   pub length : read.length ≤ 2048
 
 abbrev pub AreTellable : List ReadRecord → Type 0
@@ -92,7 +93,7 @@ text_length body = length (behind_of (body_of body))
 
 -- the messages of a turn have no more text than one segment and a full buffer have ..
 abbrev pub most_text : ℕ
-most_text = 1460 + 65535
+most_text = largest_segment + 65535
 
 -- .. and headers of at most 64 bytes
 abbrev pub AreShort : List (List ℕ) → Type 0

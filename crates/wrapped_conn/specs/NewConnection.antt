@@ -1,4 +1,5 @@
 -- How a connection begins.
+use Rattle.limits.specs.Limits.{longest_stream}
 use Rattle.std.specs.Prelude.{ℕ, false, ◌+◌, ◌-◌, ◌%◌, ◌^◌, Some, []}
 use Rattle.ft_io.specs.declared.Addr.{Addr}
 use Rattle.ft_io.specs.declared.Key.{Key}
@@ -44,7 +45,7 @@ syn key local cisn mss = record {
 unfoldable pub first_conn_in : {S : Type 0} → Profile → (boot : ℕ) → Key → Addr → (cisn sisn mss : ℕ) → S → ConnState S
 first_conn_in profile boot key local cisn sisn mss service =
     joined_conn_in profile boot key local (first_south cisn sisn)
-    (received (listening_measuring profile.measures local sisn (2 ^ 24)) (syn key local cisn mss)) (fresh_north service)
+    (received (listening_measuring profile.measures local sisn longest_stream) (syn key local cisn mss)) (fresh_north service)
 
 abbrev pub first_conn : {S : Type 0} → (boot : ℕ) → Key → Addr → (cisn sisn mss : ℕ) → S → ConnState S
 first_conn = first_conn_in plain

@@ -1,5 +1,6 @@
 -- The offsets of a connection in its two streams, as its parts show them (RFC 9293, 3.3.1, and FT-TCP, INFOCOM 2001: the inner TCP's numbers are delta below
 -- the client's).
+use Rattle.limits.specs.Limits.{longest_stream, most_units}
 use Rattle.std.specs.Prelude.{ℕ, Bool, true, false, pos, ◌+◌, ◌-◌, ◌%◌, ◌^◌, ◌&&◌, ◌||◌, not, nat_lt, min, max, length, if◌then◌else◌}
 use Rattle.tcp_rules.specs.Arrival.{int_eq, is_acceptable_or_at_edge}
 use Rattle.seq_arith.specs.Number.{number_at, distance, offset_of}
@@ -39,11 +40,11 @@ units_taken c = bytes_taken c + one_if (has_fin c.endpoint.name)
 
 -- the right edge that TCP advertises, as an offset
 abbrev pub advertised : {S : Type 0} → ConnState S → ℕ
-advertised c = min (fetched_or_read c + 65535) (2 ^ 24) + one_if (has_fin c.endpoint.name)
+advertised c = min (fetched_or_read c + 65535) longest_stream + one_if (has_fin c.endpoint.name)
 
 -- the units of output that the client has acknowledged, 0 until the SYN is; a stream has at most 2^24 bytes and a FIN
 abbrev pub una_units : {S : Type 0} → ConnState S → ℕ
-una_units c = min (from_start (offset_of c.south.sisn (raised c.south (acked_number c.endpoint)))) (2 ^ 24 + 1)
+una_units c = min (from_start (offset_of c.south.sisn (raised c.south (acked_number c.endpoint)))) most_units
 
 -- the number after what TCP has sent, as the client knows it, and the units that are sent
 abbrev pub outer_sent : {S : Type 0} → ConnState S → ℕ

@@ -1,4 +1,5 @@
 -- The segments that a turn sends: TCP's, each through the south wrapper, and those that the connection adds.
+use Rattle.limits.specs.Limits.{largest_segment}
 use Rattle.std.specs.Prelude.{ℕ, Bool, ◌+◌, ◌-◌, ◌==◌, nat_lt, is_none, min, length, ◌&&◌, ◌||◌, not, Option, Some, None, List, [], ◌∷◌, ◌++◌, map, if◌then◌else◌}
 use Rattle.std.specs.List.{list_any}
 use Rattle.seq_arith.specs.Number.{number_at}
@@ -54,7 +55,7 @@ own_segment c seq flags mss = record {
 
 -- the SYN-ACK with the logged numbers, and a pure ACK, whose sequence number is the one after all that is sent
 unfoldable pub syn_ack : {S : Type 0} → ConnState S → Segment
-syn_ack c = own_segment c c.south.sisn 18 (Some 1460)
+syn_ack c = own_segment c c.south.sisn 18 (Some largest_segment)
 
 unfoldable pub bare : {S : Type 0} → ConnState S → Segment
 bare c = own_segment c (outer_sent c) 16 None

@@ -1,4 +1,5 @@
 -- The invariant of a connection from its beginning on, whatever arrives.
+use Rattle.limits.specs.Limits.{longest_stream, most_units}
 use Rattle.std.specs.Prelude.{◌≡◌, ℕ, Bool, true, false, ◌+◌, ◌≤◌, ◌<◌, ◌%◌, ◌^◌, max, length}
 use Rattle.seq_arith.specs.Number.{distance}
 use Rattle.seq_arith.specs.Offset.{one_if}
@@ -28,10 +29,10 @@ pub record IsSoundTcp (e : Tcb) : Type 0 where
 -- given has room in the stream
 pub record AreSound {S : Type 0} (fetched : ℕ) (n : NorthState S) (e : Tcb) : Type 0 where
   pub tcp : IsSoundTcp e
-  pub limit : e.receiving.limit + fetched ≤ 2 ^ 24
+  pub limit : e.receiving.limit + fetched ≤ longest_stream
   pub read : max fetched n.read ≡ e.receiving.read + fetched
   pub rest : n.read + length n.rest ≡ e.receiving.read + fetched
-  pub made : n.run.made ≤ 2 ^ 24
+  pub made : n.run.made ≤ longest_stream
   pub written : e.sending.closed ≡ false → e.sending.una + length e.sending.held + length n.run.pending ≤ n.run.made
   pub count : n.count ≤ n.read + one_if n.ended
   pub tellable : AreTellable n.reads
@@ -47,6 +48,6 @@ pub record IsSound {S : Type 0} (c : ConnState S) : Type 0 where
   pub fetched : c.south.fetched ≡ c.fetched
   pub read : c.south.read ≡ c.north.read
   pub taken : c.south.taken ≤ bytes_taken c
-  pub begins : swallowed c ≤ 2 ^ 24
+  pub begins : swallowed c ≤ longest_stream
   pub sent : c.south.sent ≤ swallowed c + c.endpoint.sending.sent
-  pub answered : c.south.answered ≤ 2 ^ 24 + 1
+  pub answered : c.south.answered ≤ most_units

@@ -1,5 +1,6 @@
 //! One connection: what it is, and how it begins.
 
+ghost use Rattle.limits.specs.Limits.{largest_segment};
 ghost use Rattle.std.specs.Prelude.{◌≡◌, ◌<◌, ◌≤◌, ◌-◌, false, Some, [], IfOk};
 ghost use Rattle.segment_codec.specs.Value.{said};
 ghost use Rattle.server_trait.specs.Service.{machine};
@@ -10,7 +11,6 @@ ghost use Rattle.tcp_rules.specs.Profiles.{profile_of};
 ghost use Rattle.wrapped_conn.specs.Sound.{IsSound};
 ghost use Rattle.wrapped_conn.specs.Refinement.{Stands};
 
-use tcp_rules::Profile;
 use crate::stage::ConnStage;
 use ft_io::{Addr, Key, NoMemory};
 use limits::STREAM;
@@ -22,6 +22,7 @@ use south_wrap::South;
 use std::alloc::Global;
 use std::marker::Model;
 use tcp_endpoint::{Endpoint, StateName};
+use tcp_rules::Profile;
 
 /// What the log keeps of a connection's opening, as its Opened says.
 #[derive(Clone, Copy)]
@@ -98,7 +99,7 @@ impl<S: Service> Conn<S> {
     ) -> Result<Conn<S>, NoMemory>
         requires boot { 1 ≤ boot }
         requires least { 64 ≤ mss }
-        requires most { mss ≤ 1460 }
+        requires most { mss ≤ largest_segment }
         ensures state { IfOk result (λ c. c ≡ first_conn boot key local cisn.0 sisn.0 mss (S.started kind)) }
         ensures sound { IfOk result (λ c. IsSound c) }
     {
@@ -122,7 +123,7 @@ impl<S: Service> Conn<S> {
     ) -> Result<Conn<S>, NoMemory>
         requires boot { 1 ≤ boot }
         requires least { 64 ≤ opened.mss }
-        requires most { opened.mss ≤ 1460 }
+        requires most { opened.mss ≤ largest_segment }
         ensures state { IfOk result (λ c. c ≡ first_conn boot opened.key local opened.cisn.0 opened.sisn.0 opened.mss (S.started kind)) }
         ensures sound { IfOk result (λ c. IsSound c) }
     {
@@ -140,7 +141,7 @@ impl<S: Service> Conn<S> {
     ) -> Result<Conn<S>, NoMemory>
         requires boot { 1 ≤ boot }
         requires least { 64 ≤ opened.mss }
-        requires most { opened.mss ≤ 1460 }
+        requires most { opened.mss ≤ largest_segment }
         ensures state { IfOk result (λ c. c ≡ first_conn_in (profile_of profile) boot opened.key local opened.cisn.0 opened.sisn.0 opened.mss (S.started kind)) }
         ensures sound { IfOk result (λ c. IsSound c) }
     {

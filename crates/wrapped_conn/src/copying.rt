@@ -1,5 +1,6 @@
 //! What part of the client's stream a connection sends to the logger when a segment arrives.
 
+ghost use Rattle.limits.specs.Limits.{largest_segment, longest_stream};
 ghost use Rattle.std.specs.Prelude.{◌≡◌, ◌≤◌, ◌+◌, ◌-◌, ◌*◌, ◌^◌, ◌∷◌, ◌++◌, [], true, Bool, List, min, length, take, drop, IsOk, IfOk};
 ghost use Rattle.seq_arith.specs.PacketGrammar.{reading};
 ghost use Rattle.seq_arith.specs.Message.{Body as Told};
@@ -26,7 +27,7 @@ impl<S: Service> Conn<S> {
     pub(crate) fn tell_copy(&self, packet: &[u8], before: Before, out: &mut Outbox)
         requires sound { IsSound self.now }
         requires accepted { IsOk (reading packet.now) }
-        requires before { before.taken ≤ 2 ^ 24 }
+        requires before { before.taken ≤ longest_stream }
         requires empty { out.old ≡ [] }
         ensures told { IfOk (reading packet.now) (λ segment. out.new ≡ spelled self.now.boot (copies before segment self.now)) }
         ensures few { length out.new ≤ 46 }
@@ -47,7 +48,7 @@ impl<S: Service> Conn<S> {
         ensures told { IfOk (reading packet.now) (λ segment. out.new ≡ spelled self.now.boot (own_data segment self.now)) }
         ensures fin { IfOk (reading packet.now) (λ segment. result ≡ (copied self.now.south segment).fin) }
         ensures few { length out.new ≤ 1 }
-        ensures short { byte_count out.new ≤ 64 * length out.new + 1460 }
+        ensures short { byte_count out.new ≤ 64 * length out.new + largest_segment }
     {
         match self.south.copy_of(packet) {
             Some(part) => {
@@ -80,9 +81,9 @@ impl<S: Service> Conn<S> {
     /// Sends the unread text from this offset on, in Data of 1,460 bytes each except the last, which has the FIN if `fin`.
     fn tell_further(&self, start: u32, fin: bool, out: &mut Outbox)
         requires sound { IsSound self.now }
-        requires start { fin ≡ true → start ≤ 2 ^ 24 }
+        requires start { fin ≡ true → start ≤ longest_stream }
         requires few { length out.old ≤ 1 }
-        requires short { byte_count out.old ≤ 64 * length out.old + 1460 }
+        requires short { byte_count out.old ≤ 64 * length out.old + largest_segment }
         ensures told { out.new ≡ out.old ++ spelled self.now.boot (datas_of self.now start (unread_from self.now start) fin) }
         ensures few { length out.new ≤ length out.old + 45 }
         ensures short { AreShort out.new }
@@ -101,12 +102,12 @@ impl<S: Service> Conn<S> {
         requires start { start ≤ fetched_or_read self.now + from }
         requires count { count ≡ length self.now.endpoint.receiving.unread - from }
         requires few { length out.old ≤ 1 }
-        requires short { byte_count out.old ≤ 64 * length out.old + 1460 }
+        requires short { byte_count out.old ≤ 64 * length out.old + largest_segment }
         ensures told { (fin : Bool) → out.new ++ spelled self.now.boot (datas_of self.now (start + result) (drop (from + result) self.now.endpoint.receiving.unread) fin)
             ≡ out.old ++ spelled self.now.boot (datas_of self.now start (drop from self.now.endpoint.receiving.unread) fin) }
         ensures within { result ≤ count }
-        ensures rest { count ≤ result + 1460 }
-        ensures few { 1460 * length out.new ≡ 1460 * length out.old + result }
+        ensures rest { count ≤ result + largest_segment }
+        ensures few { largest_segment * length out.new ≡ largest_segment * length out.old + result }
         ensures short { byte_count out.new + 64 * length out.old ≤ byte_count out.old + 64 * length out.new + result }
     {
         let mut told = 0;
@@ -120,18 +121,18 @@ impl<S: Service> Conn<S> {
     /// Sends the unread text from a place on as one Data, at most 1,460 bytes of it.
     fn tell_piece(&self, offset: u32, from: u32, fin: bool, out: &mut Outbox)
         requires boot { 1 ≤ self.now.boot }
-        requires within { offset + min (length self.now.endpoint.receiving.unread - from) 1460 ≤ 2 ^ 24 }
+        requires within { offset + min (length self.now.endpoint.receiving.unread - from) largest_segment ≤ longest_stream }
         requires few { length out.old ≤ 80 }
-        requires short { byte_count out.old + min (length self.now.endpoint.receiving.unread - from) 1460 ≤ 64 * length out.old + most_text }
+        requires short { byte_count out.old + min (length self.now.endpoint.receiving.unread - from) largest_segment ≤ 64 * length out.old + most_text }
         ensures told { out.new ≡ out.old ++ spelled self.now.boot (DataMsg (record {
           key = self.now.key;
           offset = offset;
           acked = una_units self.now;
           fin = fin;
-          bytes = take 1460 (drop from self.now.endpoint.receiving.unread);
+          bytes = take largest_segment (drop from self.now.endpoint.receiving.unread);
         }) ∷ []) }
         ensures few { length out.new ≡ length out.old + 1 }
-        ensures short { byte_count out.new ≤ byte_count out.old + 64 + min (length self.now.endpoint.receiving.unread - from) 1460 }
+        ensures short { byte_count out.new ≤ byte_count out.old + 64 + min (length self.now.endpoint.receiving.unread - from) largest_segment }
     {
         let mut bytes = [0u8; DATA as usize];
         let count = self.endpoint.peek(from as usize, &mut bytes);
@@ -157,7 +158,7 @@ impl<S: Service> Conn<S> {
     fn logged_bytes(&self) -> u32
         requires { IsSound self.now }
         ensures value { result ≡ min (logged_units self.now) (bytes_taken self.now) }
-        ensures most { result ≤ 2 ^ 24 }
+        ensures most { result ≤ longest_stream }
     {
         self.logged().min(self.taken())
     }

@@ -1,6 +1,7 @@
 //! Wrong results that the contracts of this crate exclude. Each function calls another one of the crate, and promises of its result what a wrong body would make
 //! false. It is proved from the other's contract alone, so it is no longer proved once that contract lets the wrong body pass.
 
+ghost use Rattle.limits.specs.Limits.{largest_segment};
 ghost use Rattle.std.specs.Prelude.{◌≡◌, ◌<◌, ◌≤◌, true, false, length};
 ghost use Rattle.seq_arith.specs.Packet.{has_rst};
 ghost use Rattle.segment_codec.specs.Value.{segment_of};
@@ -45,7 +46,7 @@ fn drops_an_unsent_acknowledgement_silently<S: Service>(
     segment: &PacketRef<'_>,
 ) -> bool
     requires sound { IsSound conn.now }
-    requires short { length segment.now.payload.now ≤ 1460 }
+    requires short { length segment.now.payload.now ≤ largest_segment }
     requires no_reset { has_rst (segment_of segment.now) ≡ false }
     requires unsent { is_unsent_ack conn.now (segment_of segment.now) ≡ true }
     ensures { result ≡ true }

@@ -1,5 +1,6 @@
 //! The offsets of a connection in its two streams, as its parts show them.
 
+ghost use Rattle.limits.specs.Limits.{largest_segment, longest_stream, most_units};
 ghost use Rattle.std.specs.Prelude.{◌≡◌, ◌≤◌, ◌+◌, ◌-◌, ◌^◌, ◌%◌, pos, nat_abs, length, max, min};
 ghost use Rattle.tcp_rules.specs.Arrival.{int_eq, is_acceptable, is_acceptable_or_at_edge, is_at_right_edge, lies_in};
 ghost use Rattle.seq_arith.specs.Number.{number_at, offset_of};
@@ -67,7 +68,7 @@ impl<S: Service> Conn<S> {
     pub(crate) fn taken(&self) -> u32
         requires { IsSound self.now }
         ensures value { result ≡ bytes_taken self.now }
-        ensures most { result ≤ 2 ^ 24 }
+        ensures most { result ≤ longest_stream }
     {
         self.fetched_or_read() + self.unread()
     }
@@ -76,7 +77,7 @@ impl<S: Service> Conn<S> {
     pub(crate) fn taken_units(&self) -> u32
         requires { IsSound self.now }
         ensures value { result ≡ units_taken self.now }
-        ensures most { result ≤ 2 ^ 24 + 1 }
+        ensures most { result ≤ most_units }
     {
         self.taken() + u32::from(self.has_fin())
     }
@@ -86,7 +87,7 @@ impl<S: Service> Conn<S> {
     pub(crate) fn edge(&self) -> u32
         requires { IsSound self.now }
         ensures value { result ≡ advertised self.now }
-        ensures most { result ≤ 2 ^ 24 + 1 }
+        ensures most { result ≤ most_units }
     {
         (self.fetched_or_read() + BUFFER).min(STREAM) + u32::from(self.has_fin())
     }
@@ -94,7 +95,7 @@ impl<S: Service> Conn<S> {
     /// The units of output that the client has acknowledged; 0 before the SYN is acknowledged.
     pub(crate) fn una(&self) -> u32
         ensures value { result ≡ una_units self.now }
-        ensures most { result ≤ 2 ^ 24 + 1 }
+        ensures most { result ≤ most_units }
     {
         let outer = self.endpoint.acked().add(self.south.delta());
         units(offset(self.south.sisn(), outer))
@@ -139,8 +140,8 @@ impl<S: Service> Conn<S> {
 
     /// The offset at which a segment's text ends in the client's stream, limited to the range from 0 to 2^24 + 1.
     pub(crate) fn text_end(&self, segment: &PacketRef<'_>) -> u32
-        requires { length segment.now.payload.now ≤ 1460 }
-        ensures { result ≡ min (from_start (end_of (segment_of segment.now) self.now)) (2 ^ 24 + 1) }
+        requires { length segment.now.payload.now ≤ largest_segment }
+        ensures { result ≡ min (from_start (end_of (segment_of segment.now) self.now)) most_units }
     {
         units(self.place_of(&segment.head) + i64::from(text_length(segment)))
     }
@@ -172,7 +173,7 @@ impl<S: Service> Conn<S> {
     #[tactic(auto, unfolding(crate::specs::Numbers::needs_ack))]
     pub(crate) fn needs_ack(&self, segment: &PacketRef<'_>) -> bool
         requires sound { IsSound self.now }
-        requires short { length segment.now.payload.now ≤ 1460 }
+        requires short { length segment.now.payload.now ≤ largest_segment }
         ensures { result ≡ needs_ack self.now (segment_of segment.now) }
     {
         let first = self.place_of(&segment.head);
@@ -188,7 +189,7 @@ impl<S: Service> Conn<S> {
     /// Whether an acceptable segment makes an ACK pending.
     pub(crate) fn needs_ack_if_acceptable(&self, segment: &PacketRef<'_>) -> bool
         requires sound { IsSound self.now }
-        requires short { length segment.now.payload.now ≤ 1460 }
+        requires short { length segment.now.payload.now ≤ largest_segment }
         ensures { result ≡ needs_ack_if_acceptable self.now (segment_of segment.now) }
     {
         let head = &segment.head;
@@ -214,8 +215,8 @@ fn offset(isn: Seq, number: Seq) -> i64
 /// An offset as units of a stream, limited to the range from 0 to 2^24 + 1.
 fn units(offset: i64) -> u32
     requires { nat_abs offset ≤ 2 ^ 32 }
-    ensures value { result ≡ min (from_start offset) (2 ^ 24 + 1) }
-    ensures most { result ≤ 2 ^ 24 + 1 }
+    ensures value { result ≡ min (from_start offset) most_units }
+    ensures most { result ≤ most_units }
 {
     if offset < 0 {
         return 0;
@@ -261,7 +262,7 @@ fn lies_in(next: u32, room: u32, offset: i64) -> bool
 
 /// SEG.LEN: the text and the FIN, or only the SYN; 0 for a RST.
 fn length_of(segment: &PacketRef<'_>) -> u32
-    requires { length segment.now.payload.now ≤ 1460 }
+    requires { length segment.now.payload.now ≤ largest_segment }
     ensures value { result ≡ length_of_lem (segment_of segment.now) }
     ensures most { result ≤ 2 ^ 16 }
 {
@@ -276,9 +277,9 @@ fn length_of(segment: &PacketRef<'_>) -> u32
 
 /// The length of a segment's text: none of it counts with SYN or RST.
 fn text_length(segment: &PacketRef<'_>) -> u32
-    requires { length segment.now.payload.now ≤ 1460 }
+    requires { length segment.now.payload.now ≤ largest_segment }
     ensures value { result ≡ length (text_of (segment_of segment.now)) }
-    ensures most { result ≤ 1460 }
+    ensures most { result ≤ largest_segment }
 {
     if has(segment.head.flags, SYN) || has(segment.head.flags, RST) {
         return 0;

@@ -1,5 +1,6 @@
 //! The messages of a connection to the logger.
 
+ghost use Rattle.limits.specs.Limits.{largest_segment, longest_stream, most_units};
 ghost use Rattle.std.specs.Prelude.{◌≡◌, ◌≤◌, ◌<◌, ◌+◌, ◌*◌, ◌^◌, ◌∷◌, ◌++◌, [], length};
 ghost use Rattle.seq_arith.specs.MessageGrammar.{spelling, message_length};
 ghost use Rattle.seq_arith.specs.Message.Body.{DataMsg};
@@ -30,9 +31,9 @@ impl<S: Service> Conn<S> {
         out: &mut Outbox,
     )
         requires boot { 1 ≤ self.now.boot }
-        requires within { offset + length bytes.now ≤ 2 ^ 24 }
-        requires acked { acked ≤ 2 ^ 24 + 1 }
-        requires most { length bytes.now ≤ 1460 }
+        requires within { offset + length bytes.now ≤ longest_stream }
+        requires acked { acked ≤ most_units }
+        requires most { length bytes.now ≤ largest_segment }
         requires few { length out.old ≤ 80 }
         requires short { byte_count out.old + length bytes.now ≤ 64 * length out.old + most_text }
         ensures told { out.new ≡ out.old ++ spelled self.now.boot (DataMsg (record {

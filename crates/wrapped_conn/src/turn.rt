@@ -1,5 +1,6 @@
 //! The turns of a connection.
 
+ghost use Rattle.limits.specs.Limits.{longest_stream};
 ghost use Rattle.std.specs.Prelude.{◌≡◌, ◌≤◌, ◌<◌, ◌+◌, ◌*◌, ◌^◌, ◌∷◌, ◌++◌, [], true, false, Bool, List, ℕ, length, nat_lt, OnOk, IsOk, IfOk, if◌then◌else◌};
 ghost use Rattle.seq_arith.specs.PacketGrammar.{reading};
 ghost use Rattle.seq_arith.specs.Message.{Body as Told};
@@ -97,7 +98,7 @@ impl<S: Service> Conn<S> {
         requires sound { IsSound self.now }
         requires accepted { IsOk (reading packet.now) }
         ensures value { IfOk (reading packet.now) (λ segment. result ≡ before_segment self.now segment) }
-        ensures taken { result.taken ≤ 2 ^ 24 }
+        ensures taken { result.taken ≤ longest_stream }
     {
         let segment = read_accepted(packet);
         Before {
@@ -133,7 +134,7 @@ impl<S: Service> Conn<S> {
     fn arrive(&mut self, packet: &mut [u8], before: Before, messages: &mut Outbox) -> bool
         requires sound { IsSound self.old }
         requires accepted { IsOk (reading packet.old) }
-        requires before { before.taken ≤ 2 ^ 24 }
+        requires before { before.taken ≤ longest_stream }
         requires empty { messages.old ≡ [] }
         ensures repeats { IfOk (reading packet.old) (λ segment. result ≡ repeats_syn self.old.south segment) }
         ensures state { IfOk (reading packet.old) (λ segment. self.new ≡ arrived segment self.old) }
@@ -246,7 +247,7 @@ impl<S: Service> Conn<S> {
     /// The turn of an answer that says how much of the connection is logged.
     fn hear(&mut self, alloc: Global, kept: Kept, out: &mut TurnOut) -> Result<(), NoMemory>
         requires sound { IsSound self.old }
-        requires most { kept.length ≤ 2 ^ 24 }
+        requires most { kept.length ≤ longest_stream }
         requires no_segment { out.old.segments ≡ [] }
         requires no_message { out.old.messages ≡ [] }
         ensures turn { OnOk result (Hears S.after kept.length kept.fin kept.reads self.old self.new out.new.segments out.new.messages) }
@@ -263,7 +264,7 @@ impl<S: Service> Conn<S> {
     /// Both wrappers learn what is logged. Returns whether more of the client's units are known to be logged.
     fn note_logged(&mut self, length: u32, fin: bool, reads: u32) -> bool
         requires sound { IsSound self.old }
-        requires most { length ≤ 2 ^ 24 }
+        requires most { length ≤ longest_stream }
         ensures state { self.new ≡ with_logged length fin reads self.old }
         ensures news { result ≡ is_news length fin self.old }
         ensures sound { IsSound self.new }

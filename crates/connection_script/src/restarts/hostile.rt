@@ -4,9 +4,9 @@ use crate::restarts::letters::{LOG, begin_letter, end_letter};
 use crate::restarts::logged::{Logged, head_of, lens_of, part_of};
 use crate::restarts::play::{BOOT, hand};
 use ft_io::{Key, NoMemory};
+use pseudorandom::Generator;
 use reincarnate::Fetching;
 use sample_servers::AnyService;
-use pseudorandom::Generator;
 use std::alloc::Global;
 
 /// One of them: an answer of another boot, of another key, of another place, of another kind, or bytes that are no message.

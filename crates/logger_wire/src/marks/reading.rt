@@ -1,5 +1,6 @@
 //! Reading a message about marks in place: the tests in the order of the grammar, and each field at a constant position.
 
+ghost use Rattle.limits.specs.Limits.{longest_stream, most_units};
 ghost use Rattle.std.specs.Prelude.{◌≡◌, ◌≤◌, ◌+◌, ◌^◌, ◌&&◌, nat_le, true, length, drop, IfOk};
 ghost use Rattle.seq_arith.specs.MessageGrammar.{number_in};
 ghost use Rattle.seq_arith.specs.MarkGrammar.{kind_numbered, has_length as has_length_lem, marking, fields_of, numbers_of, behind_at, behind_of, kind_of, mark_in, body_in};
@@ -11,10 +12,8 @@ use crate::marks::{HEADER, MAGIC, Mark, MarkBody, MarkMsg, VERSION};
 use crate::reading::{checksum_of, word_at};
 use byteorder::{BigEndian, ByteOrder};
 use ft_io::Key;
+use limits::{STREAM, UNITS};
 use seq_arith::{BadMark, MarkKind};
-
-/// The longest stream, in bytes.
-const STREAM: u32 = 1 << 24;
 
 /// Reads a message about marks. The error is the first test of its grammar that it fails. It copies none of the message's bytes.
 #[tactic(auto, unfolding(seq_arith::specs::MarkGrammar::reading))]
@@ -117,7 +116,7 @@ fn is_sound(msg: &MarkMsg<'_>) -> bool
 {
     let is_body_sound = match msg.body {
         MarkBody::Mark { mark, .. } => mark.reads >= 1 && is_in_range(&mark),
-        MarkBody::Marked { reads, .. } => reads <= STREAM + 1,
+        MarkBody::Marked { reads, .. } => reads <= UNITS,
         MarkBody::Ask { .. } => true,
         MarkBody::Held { mark, .. } => is_in_range(&mark),
     };
@@ -126,9 +125,9 @@ fn is_sound(msg: &MarkMsg<'_>) -> bool
 
 /// Returns whether the numbers of a mark are in the ranges that those of a Held have.
 fn is_in_range(mark: &Mark<'_>) -> bool
-    ensures { result ≡ (nat_le mark.now.reads (2 ^ 24 + 1) && (nat_le mark.now.length (2 ^ 24) && nat_le mark.now.made (2 ^ 24))) }
+    ensures { result ≡ (nat_le mark.now.reads most_units && (nat_le mark.now.length longest_stream && nat_le mark.now.made longest_stream)) }
 {
-    mark.reads <= STREAM + 1 && mark.length <= STREAM && mark.made <= STREAM
+    mark.reads <= UNITS && mark.length <= STREAM && mark.made <= STREAM
 }
 
 /// Reads the mark that follows the key: its numbers, and then the state.
