@@ -7,9 +7,8 @@ ghost use Rattle.segment_codec.specs.Value.{said};
 ghost use Rattle.ft_model.specs.News.News.{Comes};
 ghost use Rattle.logger_wire.specs.Records.{head_said};
 ghost use Rattle.tcp_endpoint.specs.SendHalf.{IsShort};
-ghost use Rattle.tcp_endpoint.specs.Tcb.{listening};
 ghost use Rattle.endpoint_laws.specs.Turn.{turned};
-ghost use Rattle.connection_laws.specs.Splice.{forged as forged_lem, forged_syn, forged_ack, forged_fin, connected as connected_lem, spliced};
+ghost use Rattle.connection_laws.specs.Splice.{forged as forged_lem, forged_syn, forged_ack, forged_fin, connected_measuring, spliced_measuring};
 ghost use Rattle.log_replay.specs.LoggedHead.{IsSegmentSize, has_end};
 
 use ft_io::{Addr, Key, NoMemory};
@@ -63,21 +62,23 @@ fn forge(endpoint: &mut Endpoint, head: Head, out: &mut Outbox)
 }
 
 /// An endpoint that is connected at the end of the entry's bytes: the forged SYN has the client's initial sequence number plus their count.
-#[tactic(auto, using(crate::proofs::Forging::listen_short, crate::proofs::Forging::syn_short), unfolding(connection_laws::specs::Splice::connected_measuring, tcp_endpoint::specs::Tcb::listening_measuring, tcp_endpoint::specs::Tcb::listening))]
+#[tactic(auto, using(crate::proofs::Forging::listen_short, crate::proofs::Forging::syn_short), unfolding(connection_laws::specs::Splice::connected_measuring))]
 fn connected(
     alloc: Global,
     head: &EntryHead,
     local: Addr,
     isn: Seq,
+    measures: bool,
     out: &mut Outbox,
 ) -> Result<Endpoint, NoMemory>
     requires stream { head.now.length ≤ longest_stream }
     requires out { out.old ≡ [] }
-    ensures state { IfOk result (λ e. e ≡ connected_lem head.now.key local head.now.cisn head.now.length head.now.mss isn.0) }
+    ensures state { IfOk result (λ e. e ≡ connected_measuring measures head.now.key local head.now.cisn head.now.length head.now.mss isn.0) }
     ensures out { out.new ≡ [] }
 {
     let cisn = Seq(head.cisn);
-    let mut endpoint = Endpoint::listen(alloc, local, isn, STREAM - head.length)?;
+    let limit = STREAM - head.length;
+    let mut endpoint = Endpoint::listen_measuring(alloc, local, isn, limit, measures)?;
     let syn = forged(
         head.key,
         local,
@@ -99,20 +100,21 @@ fn connected(
     Ok(endpoint)
 }
 
-/// An endpoint at the end of the entry, including the FIN where one is logged.
+/// An endpoint at the end of the entry, including the FIN where one is logged. `measures` says whether it measures round trips.
 #[tactic(auto, using(crate::proofs::Forging::connected_short))]
 pub fn spliced_endpoint(
     alloc: Global,
     head: &EntryHead,
     local: Addr,
     isn: Seq,
+    measures: bool,
 ) -> Result<Endpoint, NoMemory>
     requires stream { head.now.length ≤ longest_stream }
     requires segments { IsSegmentSize head.now.mss }
-    ensures { IfOk result (λ e. e ≡ spliced head.now.key local head.now.cisn head.now.length head.now.mss isn.0 (has_end (head_said head.now))) }
+    ensures { IfOk result (λ e. e ≡ spliced_measuring measures head.now.key local head.now.cisn head.now.length head.now.mss isn.0 (has_end (head_said head.now))) }
 {
     let mut out = Outbox::new(alloc)?;
-    let mut endpoint = connected(alloc, head, local, isn, &mut out)?;
+    let mut endpoint = connected(alloc, head, local, isn, measures, &mut out)?;
     if !has_end(head) {
         return Ok(endpoint);
     }

@@ -3,7 +3,7 @@ use Rattle.std.proofs.Common.{◌≡◌, ℕ, Bool, true, false, ◌≤◌, ◌<
 use Rattle.std.specs.Prelude.{◌&&◌, nat_lt}
 use Rattle.std.proofs.lemmas.List.{drop_min, take_all}
 use Rattle.ft_io.specs.declared.Addr.{Addr}
-use Rattle.tcp_rules.specs.Profile.{plain}
+use Rattle.tcp_rules.specs.Profile.{Profile}
 use Rattle.seq_arith.specs.Number.{distance, number_at}
 use Rattle.seq_arith.specs.Offset.{one_if}
 use Rattle.server_trait.specs.Service.{Machine}
@@ -11,19 +11,19 @@ use Rattle.ft_model.specs.Log.{Entry}
 use Rattle.ft_model.specs.Restart.{point_of, output_units, resumed_at, run_of, IsSoundEntry}
 use Rattle.south_wrap.specs.SouthPoint.{south_at}
 use Rattle.north_wrap.specs.Refinement.{HasReplayed}
-use Rattle.connection_laws.specs.Splice.{GoesOnFrom, delta_from, spliced}
+use Rattle.connection_laws.specs.Splice.{GoesOnFrom, delta_from, spliced_measuring}
 use Rattle.connection_laws.specs.Parts.{PartsStand}
 use Rattle.connection_laws.proofs.Spliced.{splices_parts}
 use Rattle.connection_laws.specs.PointNumbers.{PartsTell}
 use Rattle.connection_laws.proofs.PointNumbers.{parts_tell}
-use Rattle.wrapped_conn.specs.NewConnection.{joined_conn}
+use Rattle.wrapped_conn.specs.NewConnection.{joined_conn_in}
 use Rattle.wrapped_conn.specs.Numbers.{has_fin}
 use Rattle.wrapped_conn.specs.Refinement.{StandsBefore}
 use Rattle.wrapped_conn.proofs.NumbersAt.{has_fin_is, logged_at}
 use Rattle.reincarnate.specs.Progress.{ReplayedState}
 use Rattle.log_replay.specs.LoggedHead.{IsSegmentSize, has_end}
 use Rattle.reincarnate.specs.Refinement.{IsReplayed}
-use Rattle.reincarnate.specs.Splice.{SplicedState, goes_on_at, made_units, south_from, north_from, spliced_from, EntryNumbersFit, IsSpliced}
+use Rattle.reincarnate.specs.Splice.{SplicedState, goes_on_at, made_units, south_from, north_from, spliced_from_in, EntryNumbersFit, IsSplicedIn}
 use Rattle.wrapped_conn.proofs.Joining.{spliced_local}
 
 goes_on : {S : Type 0} (service : Machine S) (e : Entry) (r : ReplayedState S) (i : ℕ) → EntryNumbersFit r i → IsReplayed service e r → IsSoundEntry service e → GoesOnFrom service e i
@@ -56,9 +56,9 @@ room_for true n h = let few = h refl in grind (arith, few)
 has_end_is : {S : Type 0} (service : Machine S) (e : Entry) (r : ReplayedState S) → IsReplayed service e r → IsSoundEntry service e → has_end r.head ≡ e.fin
 has_end_is service e r re sound = ap has_end re.head ∙ room_for e.fin (length e.bytes) sound.fin
 
-replayed : {S : Type 0} (service : Machine S) (e : Entry) (r : ReplayedState S) → IsReplayed service e r → IsSoundEntry service e
-    → HasReplayed service (point_of service plain e) (resumed_at service e) (north_from r)
-replayed service e r re sound =
+replayed : {S : Type 0} (service : Machine S) (profile : Profile) (e : Entry) (r : ReplayedState S) → IsReplayed service e r → IsSoundEntry service e
+    → HasReplayed service (point_of service profile e) (resumed_at service e) (north_from r)
+replayed service profile e r re sound =
     let run = re.run sound.output in
     record {
       run = record {
@@ -80,9 +80,9 @@ replayed service e r re sound =
       shut = refl;
     }
 
-south_is : {S : Type 0} (service : Machine S) (e : Entry) (r : ReplayedState S) (i : ℕ) → IsReplayed service e r → IsSoundEntry service e
-    → south_from i r ≡ south_at (delta_from service e i) (point_of service plain e)
-south_is service e r i re sound =
+south_is : {S : Type 0} (service : Machine S) (profile : Profile) (e : Entry) (r : ReplayedState S) (i : ℕ) → IsReplayed service e r → IsSoundEntry service e
+    → south_from i r ≡ south_at (delta_from service e i) (point_of service profile e)
+south_is service profile e r i re sound =
     let u = goes_on_is service e r re sound in
     let ends = has_end_is service e r re sound in
     let units = units_are service e r re sound in λ j. record {
@@ -99,20 +99,21 @@ south_is service e r i re sound =
       sent = u j;
     }
 
-pub splice_stands : {S : Type 0} (service : Machine S) (local : Addr) (boot : ℕ) (e : Entry) (r : ReplayedState S) (i : ℕ) → EntryNumbersFit r i → IsReplayed service e r → IsSoundEntry service e
-    → IsSpliced service e i (spliced_from boot local i r)
-splice_stands service local boot e r i f re sound =
+pub splice_stands : {S : Type 0} (service : Machine S) (profile : Profile) (local : Addr) (boot : ℕ) (e : Entry) (r : ReplayedState S) (i : ℕ) → EntryNumbersFit r i → IsReplayed service e r → IsSoundEntry service e
+    → IsSplicedIn profile service e i (spliced_from_in profile boot local i r)
+splice_stands service profile local boot e r i f re sound =
     let g = goes_on service e r i f re sound in
     let n = north_from r in
     record {
+      profile_is = refl;
       key = ap (λ h. h.key) re.head;
       short = g.short;
       segments = subst IsSegmentSize (ap (λ h. h.mss) re.head) f.segments;
-      local = spliced_local false r.head.key local r.head.cisn r.head.length r.head.mss i (has_end r.head);
-      south = south_is service e r i re sound;
-      parts = subst (λ t. PartsStand service (resumed_at service e) i (delta_from service e i) (resumed_at service e) (point_of service plain e) n t)
-          (λ j. spliced ((sym re.head) j).key local ((sym re.head) j).cisn ((sym re.head) j).length ((sym re.head) j).mss i (sym (has_end_is service e r re sound) j))
-          (splices_parts service plain local e i n g (replayed service e r re sound));
+      local = spliced_local profile.measures r.head.key local r.head.cisn r.head.length r.head.mss i (has_end r.head);
+      south = south_is service profile e r i re sound;
+      parts = subst (λ t. PartsStand service (resumed_at service e) i (delta_from service e i) (resumed_at service e) (point_of service profile e) n t)
+          (λ j. spliced_measuring profile.measures ((sym re.head) j).key local ((sym re.head) j).cisn ((sym re.head) j).length ((sym re.head) j).mss i (sym (has_end_is service e r re sound) j))
+          (splices_parts service profile local e i n g (replayed service profile e r re sound));
     }
 
 -- a FIN is one of the logged units
@@ -126,10 +127,10 @@ less_fin cisn fetched fin h = (λ j. logged_at cisn (fetched + one_if fin) (few 
     back : (a b : ℕ) → a + b - b ≡ a
     back a b = omega arith
 
-pub hands_on : {S : Type 0} (service : Machine S) (e : Entry) (i : ℕ) (s : SplicedState S) → IsSpliced service e i s
-    → StandsBefore service (joined_conn s.boot s.key s.local s.south s.endpoint s.north) (point_of service plain e)
-hands_on service e i s is =
-    let p = point_of service plain e in
+pub hands_on : {S : Type 0} (service : Machine S) (profile : Profile) (e : Entry) (i : ℕ) (s : SplicedState S) → IsSplicedIn profile service e i s
+    → StandsBefore service (joined_conn_in s.profile s.boot s.key s.local s.south s.endpoint s.north) (point_of service profile e)
+hands_on service profile e i s is =
+    let p = point_of service profile e in
     let u : ℕ = resumed_at service e in
     let d : ℕ = delta_from service e i in
     let delta : s.south.delta ≡ d = ap (λ x. x.delta) is.south in
@@ -144,7 +145,7 @@ hands_on service e i s is =
         four = omega arith;
         reset = refl;
         unanswered = refl;
-        delays = refl;
+        delays = ap (λ x. x.delays) is.profile_is;
       };
       u = u;
       i = i;

@@ -5,7 +5,7 @@ use Rattle.std.proofs.lemmas.Bool.{false≢true}
 use Rattle.std.proofs.lemmas.List.{length-replicate, take_all}
 use Rattle.ft_io.specs.declared.Addr.{Addr}
 use Rattle.ft_io.specs.declared.Key.{Key}
-use Rattle.tcp_rules.specs.Profile.{plain}
+use Rattle.tcp_rules.specs.Profile.{Profile}
 use Rattle.seq_arith.specs.Number.{distance, number_at}
 use Rattle.seq_arith.specs.Offset.{one_if}
 use Rattle.server_trait.specs.Service.{reference}
@@ -18,7 +18,7 @@ use Rattle.tcp_endpoint.specs.declared.states.StateName.TheVariants.{Closed, Lis
 use Rattle.tcp_endpoint.specs.SendHalf.{Sending, bytes_end}
 use Rattle.tcp_endpoint.specs.States.{has_begun}
 use Rattle.tcp_endpoint.specs.Tcb.{Tcb}
-use Rattle.connection_laws.specs.Splice.{GoesOnFrom, StandsAtEntry, delta_from, spliced}
+use Rattle.connection_laws.specs.Splice.{GoesOnFrom, StandsAtEntry, delta_from, spliced_measuring}
 use Rattle.connection_laws.specs.PointNumbers.{PartsTell}
 use Rattle.connection_laws.proofs.Spliced.{splices, splices_parts}
 use Rattle.connection_laws.proofs.PointNumbers.{parts_tell}
@@ -28,7 +28,7 @@ use Rattle.wrapped_conn.proofs.NumbersAt.{has_fin_is}
 use Rattle.log_replay.specs.ReadLengths.{HaveBytes}
 use Rattle.reincarnate.specs.Progress.{ReplayedState}
 use Rattle.log_replay.specs.LoggedHead.{IsSegmentSize, has_end}
-use Rattle.reincarnate.specs.Splice.{SplicedState, conn_of, goes_on_at, spliced_from, EntryNumbersFit}
+use Rattle.reincarnate.specs.Splice.{SplicedState, conn_of, goes_on_at, spliced_from_in, EntryNumbersFit}
 use Rattle.log_replay.proofs.Forging.{idle}
 use Rattle.reincarnate.proofs.Joined.{less_fin}
 use Rattle.ft_io.proofs.Booleans.{false_by}
@@ -64,9 +64,9 @@ unread_entry key cisn fetched mss fin = record {
 abbrev idle_north : List ℕ → NorthState ℕ
 idle_north bytes = resumed_north 0 bytes [] 0 0 0 false false
 
-idle_replayed : (e : Entry) → HasReplayed idle (point_of idle plain (record e { lengths = []; acknowledged = 0 })) 0 (idle_north e.bytes)
+idle_replayed : (profile : Profile) (e : Entry) → HasReplayed idle (point_of idle profile (record e { lengths = []; acknowledged = 0 })) 0 (idle_north e.bytes)
 unfolding reference
-idle_replayed e = record {
+idle_replayed profile e = record {
   run = record { service = refl; closed = refl; made = refl; pending = refl; within = omega arith };
   rest = sym (take_all (length e.bytes) e.bytes (le_refl (length e.bytes)));
   last = (refl, refl);
@@ -93,13 +93,13 @@ record IsFresh (i fetched : ℕ) (has_end : Bool) (t : Tcb) : Type 0 where
 end_is : (s : Sending) → s.fin_sent ≡ false → bytes_end s ≡ s.una + length s.held
 end_is s e = ap (λ b. if b then s.sent - 1 else s.una + length s.held) e
 
-fresh_at : (key : Key) (local : Addr) (cisn fetched mss i : ℕ) (fin : Bool) (e : Entry) → e ≡ unread_entry key cisn fetched mss fin → GoesOnFrom idle e i
-    → HasReplayed idle (point_of idle plain e) (resumed_at idle e) (idle_north e.bytes)
-    → IsFresh i (length e.bytes) e.fin (spliced e.key local e.cisn (length e.bytes) e.mss i e.fin)
-fresh_at key local cisn fetched mss i fin e is g replayed =
-    let t : Tcb = spliced e.key local e.cisn (length e.bytes) e.mss i e.fin in
+fresh_at : (profile : Profile) (key : Key) (local : Addr) (cisn fetched mss i : ℕ) (fin : Bool) (e : Entry) → e ≡ unread_entry key cisn fetched mss fin → GoesOnFrom idle e i
+    → HasReplayed idle (point_of idle profile e) (resumed_at idle e) (idle_north e.bytes)
+    → IsFresh i (length e.bytes) e.fin (spliced_measuring profile.measures e.key local e.cisn (length e.bytes) e.mss i e.fin)
+fresh_at profile key local cisn fetched mss i fin e is g replayed =
+    let t : Tcb = spliced_measuring profile.measures e.key local e.cisn (length e.bytes) e.mss i e.fin in
     let u : ℕ = resumed_at idle e in
-    let s : StandsAtEntry idle plain e i t = splices idle plain local e i g in
+    let s : StandsAtEntry idle profile e i t = splices idle profile local e i g in
     let at = s.tcp.stands.stands in
     let between = s.tcp.stands.between in
     let reads : max (length e.bytes) (sum e.lengths) ≡ length e.bytes = ap (λ x. max (length e.bytes) (sum x.lengths)) is ∙ max_zero (length e.bytes) in
@@ -107,8 +107,8 @@ fresh_at key local cisn fetched mss i fin e is g replayed =
     let unread : length t.receiving.unread ≡ 0 = omega (arith, at.receives.long, read) in
     let una : t.sending.una ≡ 0 = omega (arith, at.sends.una) in
     let last = end_is t.sending (false_by t.sending.fin_sent t.sending.closed (λ f. (between.fin_last f).0) s.open_still) in
-    let tell : PartsTell idle (delta_from idle e i) (point_of idle plain e) (idle_north e.bytes) t =
-    parts_tell idle u i (delta_from idle e i) u (point_of idle plain e) (idle_north e.bytes) t (splices_parts idle plain local e i (idle_north e.bytes) g replayed) in
+    let tell : PartsTell idle (delta_from idle e i) (point_of idle profile e) (idle_north e.bytes) t =
+    parts_tell idle u i (delta_from idle e i) u (point_of idle profile e) (idle_north e.bytes) t (splices_parts idle profile local e i (idle_north e.bytes) g replayed) in
     record {
       sound = record {
         bounds = between.bounds;
@@ -127,9 +127,9 @@ fresh_at key local cisn fetched mss i fin e is g replayed =
     max_zero : (n : ℕ) → max n 0 ≡ n
     max_zero n = omega arith
 
-fresh_tcp : (key : Key) (local : Addr) (cisn fetched mss i : ℕ) (fin : Bool) → fetched ≤ 2 ^ 24 → IsSegmentSize mss → (fin ≡ true → fetched < 2 ^ 24) → i < 2 ^ 32
-    → IsFresh i fetched fin (spliced key local cisn fetched mss i fin)
-fresh_tcp key local cisn fetched mss i fin few segments room fits =
+fresh_tcp : (profile : Profile) (key : Key) (local : Addr) (cisn fetched mss i : ℕ) (fin : Bool) → fetched ≤ 2 ^ 24 → IsSegmentSize mss → (fin ≡ true → fetched < 2 ^ 24) → i < 2 ^ 32
+    → IsFresh i fetched fin (spliced_measuring profile.measures key local cisn fetched mss i fin)
+fresh_tcp profile key local cisn fetched mss i fin few segments room fits =
     let e : Entry = unread_entry key cisn fetched mss fin in
     let size : length e.bytes ≡ fetched = length-replicate fetched 0 in
     let none : resumed_at idle e ≡ 0 = omega arith in
@@ -144,7 +144,7 @@ fresh_tcp key local cisn fetched mss i fin few segments room fits =
       i_fits = fits;
     } in
     let replayed = subst (λ u. HasReplayed idle (point_of idle profile e) u (idle_north e.bytes)) (sym none) (idle_replayed profile e) in
-    subst (λ n. IsFresh i n fin (spliced_measuring profile.measures key local cisn n mss i fin)) size (fresh_at profile key local cisn fetched mss i fin e refl g replayed)
+    subst (λ n. IsFresh i n fin (spliced key local cisn n mss i fin)) size (fresh_at profile key local cisn fetched mss i fin e refl g replayed)
 
 -- what is swallowed is what the entry has acknowledged
 swallowed_is : (i sisn u iss : ℕ) → iss ≡ i → i < 2 ^ 32 → sisn < 2 ^ 32 → u ≤ 2 ^ 24 → distance ((iss + distance ((sisn + u) % 2 ^ 32) i) % 2 ^ 32) sisn ≡ u
@@ -162,13 +162,13 @@ below false room n is h = absurd (false≢true h)
 below true false n is h = absurd (false≢true h)
 below true true n is h = grind (arith, is)
 
-pub spliced_sound : {S : Type 0} (boot : ℕ) (local : Addr) (i : ℕ) (r : ReplayedState S) → 1 ≤ boot → EntryNumbersFit r i → HaveBytes r.cuts → r.cuts.sum + length r.replay.held ≡ r.head.length
-    → r.replay.made ≤ 2 ^ 24 → length r.replay.pending ≤ r.replay.made → IsSound (conn_of (spliced_from boot local i r))
-spliced_sound boot local i r live f have whole made pending =
-    let s : SplicedState _ = spliced_from boot local i r in
+pub spliced_sound : {S : Type 0} (profile : Profile) (boot : ℕ) (local : Addr) (i : ℕ) (r : ReplayedState S) → 1 ≤ boot → EntryNumbersFit r i → HaveBytes r.cuts → r.cuts.sum + length r.replay.held ≡ r.head.length
+    → r.replay.made ≤ 2 ^ 24 → length r.replay.pending ≤ r.replay.made → IsSound (conn_of (spliced_from_in profile boot local i r))
+spliced_sound profile boot local i r live f have whole made pending =
+    let s : SplicedState _ = spliced_from_in profile boot local i r in
     let t : Tcb = s.endpoint in
     let ends : Bool = has_end r.head in
-    let fresh = fresh_tcp r.head.key local r.head.cisn r.head.length r.head.mss i ends f.stream f.segments (below r.head.fin (nat_lt r.head.length (2 ^ 24)) r.head.length refl) f.i_fits in
+    let fresh = fresh_tcp profile r.head.key local r.head.cisn r.head.length r.head.mss i ends f.stream f.segments (below r.head.fin (nat_lt r.head.length (2 ^ 24)) r.head.length refl) f.i_fits in
     let fetched : distance (number_at r.head.cisn (r.head.length + one_if ends)) ((r.head.cisn + 1) % 2 ^ 32) - one_if (has_fin t.name) ≡ r.head.length =
     (λ j. distance (number_at r.head.cisn (r.head.length + one_if ends)) ((r.head.cisn + 1) % 2 ^ 32) - one_if (fresh.fin j)) ∙ less_fin r.head.cisn r.head.length ends f.stream in
     let behind = swallowed_is i r.head.sisn (goes_on_at r) t.sending.iss fresh.iss f.i_fits f.sisn (omega (arith, made)) in

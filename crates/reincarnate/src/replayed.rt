@@ -2,13 +2,14 @@
 
 ghost use Rattle.limits.specs.Limits.{longest_stream};
 ghost use Rattle.std.specs.Prelude.{◌≡◌, ◌+◌, ◌^◌, ◌<◌, ◌≤◌, length, min, IfOk, IfErr};
+ghost use Rattle.tcp_rules.specs.Profiles.{profile_of};
 ghost use Rattle.server_trait.specs.Service.{machine};
 ghost use Rattle.ft_model.specs.Offset.{one_if};
 ghost use Rattle.ft_model.specs.Log.{Entry};
 ghost use Rattle.ft_model.specs.Restart.{IsSoundEntry};
 ghost use Rattle.south_wrap.specs.SouthState.{resumed_south};
 ghost use Rattle.reincarnate.specs.Refinement.{IsReplayed};
-ghost use Rattle.reincarnate.specs.Splice.{spliced_from, EntryNumbersFit, IsSpliced};
+ghost use Rattle.reincarnate.specs.Splice.{spliced_from, spliced_from_in, EntryNumbersFit, IsSpliced, IsSplicedIn};
 ghost use Rattle.log_replay.specs.ReadLengths.{HaveBytes};
 ghost use Rattle.logger_wire.specs.Records.{head_said};
 ghost use Rattle.log_replay.specs.LoggedHead.{IsSegmentSize, has_end};
@@ -23,6 +24,7 @@ use server_trait::Service;
 use south_wrap::{Fetched, South};
 use std::alloc::Global;
 use std::marker::Model;
+use tcp_rules::Profile;
 
 /// An entry of the log whose reads are all replayed.
 #[derive(Drop)]
@@ -89,18 +91,43 @@ impl<S: Service> Replayed<S> {
         ensures law { IfOk result (λ s. (fresh : S) (e : Entry) → IsReplayed (machine fresh S.after) e self → IsSoundEntry (machine fresh S.after) e
             → IsSpliced (machine fresh S.after) e isn.0 s) }
     {
-        self.join(alloc, boot, local, isn)
+        self.splice_in(Profile::Plain, alloc, boot, local, isn)
     }
 
-    fn join(self, alloc: Global, boot: u64, local: Addr, isn: Seq) -> Result<Spliced<S>, LostIn>
+    /// The same of a server with this profile. TCP measures round trips anew if the profile measures them.
+    pub fn splice_in(
+        self,
+        profile: Profile,
+        alloc: Global,
+        boot: u64,
+        local: Addr,
+        isn: Seq,
+    ) -> Result<Spliced<S>, LostIn>
         requires { 1 ≤ boot }
-        ensures value { IfOk result (λ s. s ≡ spliced_from boot local isn.0 self) }
+        ensures value { IfOk result (λ s. s ≡ spliced_from_in (profile_of profile) boot local isn.0 self) }
+        ensures lost { IfErr result (λ e. e.stage ≡ Stage.Replayed) }
+        ensures law { IfOk result (λ s. (fresh : S) (e : Entry) → IsReplayed (machine fresh S.after) e self → IsSoundEntry (machine fresh S.after) e
+            → IsSplicedIn (profile_of profile) (machine fresh S.after) e isn.0 s) }
+    {
+        self.join(profile, alloc, boot, local, isn)
+    }
+
+    fn join(
+        self,
+        profile: Profile,
+        alloc: Global,
+        boot: u64,
+        local: Addr,
+        isn: Seq,
+    ) -> Result<Spliced<S>, LostIn>
+        requires { 1 ≤ boot }
+        ensures value { IfOk result (λ s. s ≡ spliced_from_in (profile_of profile) boot local isn.0 self) }
         ensures lost { IfErr result (λ e. e.stage ≡ Stage.Replayed) }
         ensures fits { EntryNumbersFit self isn.0 }
     {
         let Replayed { head, cuts, replay } = self;
         let south = south_behind(&head, cuts, replay.made(), replay.has_closed(), isn);
-        let endpoint = match spliced_endpoint(alloc, &head, local, isn) {
+        let endpoint = match spliced_endpoint(alloc, &head, local, isn, profile.measures()) {
             Ok(endpoint) => endpoint,
             Err(_) => {
                 drop(replay);
@@ -110,6 +137,7 @@ impl<S: Service> Replayed<S> {
             }
         };
         Ok(Spliced {
+            profile,
             boot,
             key: head.key,
             local,

@@ -2,12 +2,12 @@
 
 ghost use Rattle.std.specs.Prelude.{◌≡◌, ℕ};
 ghost use Rattle.server_trait.specs.Service.{machine};
-ghost use Rattle.tcp_rules.specs.Profile.{plain};
+ghost use Rattle.tcp_rules.specs.Profile.{Profile as ProfileRules, plain};
 ghost use Rattle.ft_model.specs.Log.{Entry};
 ghost use Rattle.ft_model.specs.Restart.{point_of};
 ghost use Rattle.wrapped_conn.specs.Sound.{IsSound};
 ghost use Rattle.wrapped_conn.specs.Refinement.{StandsBefore};
-ghost use Rattle.reincarnate.specs.Splice.{conn_of, IsSpliced};
+ghost use Rattle.reincarnate.specs.Splice.{conn_of, IsSpliced, IsSplicedIn};
 
 use ft_io::{Addr, Key};
 use north_wrap::North;
@@ -15,11 +15,14 @@ use server_trait::Service;
 use south_wrap::South;
 use std::marker::Model;
 use tcp_endpoint::Endpoint;
+use tcp_rules::Profile;
 use wrapped_conn::Conn;
 
 /// The parts of a connection at the end of a restart: both wrappers, with a TCP between them that has never seen the client.
 #[derive(Drop)]
 pub struct Spliced<S: Service> {
+    /// The server's profile.
+    pub(crate) profile: Profile,
     /// The server's boot number.
     pub(crate) boot: u64,
     /// The client's address and port.
@@ -35,14 +38,16 @@ pub struct Spliced<S: Service> {
 }
 
 impl<S: Service> Model for Spliced<S> {
+    ghost use Rattle.tcp_rules.specs.Profiles.{profile_of};
     ghost use Rattle.wrapped_conn.specs.Sound.{IsSound};
     ghost use Rattle.reincarnate.specs.Splice.{SplicedState, conn_of};
 
     ghost Value = { SplicedState S };
 
-    ghost view = { λ s. record { boot = s.boot; key = s.key; local = s.local; south = s.south; endpoint = s.endpoint; north = s.north } };
+    ghost view = { λ s. record { profile = profile_of s.profile; boot = s.boot; key = s.key; local = s.local; south = s.south; endpoint = s.endpoint; north = s.north } };
 
     ghost invariant = { λ s. IsSound (conn_of {S = S} (record {
+      profile = profile_of s.profile;
       boot = s.boot;
       key = s.key;
       local = s.local;
@@ -101,8 +106,12 @@ impl<S: Service> Spliced<S> {
         ensures sound { IsSound result }
         ensures law { (fresh : S) (e : Entry) (i : ℕ) → IsSpliced (machine fresh S.after) e i self
             → StandsBefore (machine fresh S.after) result (point_of (machine fresh S.after) plain e) }
+        // The same in any profile.
+        ensures profile { (profile : ProfileRules) (fresh : S) (e : Entry) (i : ℕ) → IsSplicedIn profile (machine fresh S.after) e i self
+            → StandsBefore (machine fresh S.after) result (point_of (machine fresh S.after) profile e) }
     {
         let Spliced {
+            profile,
             boot,
             key,
             local,
@@ -110,6 +119,6 @@ impl<S: Service> Spliced<S> {
             endpoint,
             north,
         } = self;
-        Conn::joined(boot, key, local, south, endpoint, north)
+        Conn::joined_in(profile, boot, key, local, south, endpoint, north)
     }
 }

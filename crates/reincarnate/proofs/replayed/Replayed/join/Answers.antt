@@ -1,10 +1,12 @@
 use Rattle.std.proofs.Common.{◌≡◌, ◌∙◌, ◌+◌, ◌≤◌, ◌^◌, length, min, sym, ap, ap₂, subst}
 use Rattle.ft_model.specs.Offset.{one_if}
+use Rattle.tcp_rules.specs.Profiles.{profile_of}
 use Rattle.logger_wire.specs.Records.{head_said}
 use Rattle.south_wrap.specs.SouthState.{resumed_south}
+use Rattle.connection_laws.specs.Splice.{spliced_measuring}
 use Rattle.wrapped_conn.specs.Sound.{IsSound}
 use Rattle.reincarnate.specs.Progress.{ReplayedState}
-use Rattle.reincarnate.specs.Splice.{SplicedState, conn_of, south_from, spliced_from, EntryNumbersFit}
+use Rattle.reincarnate.specs.Splice.{SplicedState, conn_of, south_from, spliced_from_in, EntryNumbersFit}
 use Rattle.log_replay.specs.LoggedHead.{has_end}
 use Rattle.reincarnate.proofs.Startable.{spliced_sound}
 use Rattle.reincarnate.proofs.replayed.Replayed.join.Goals as goal
@@ -18,9 +20,10 @@ invariant_of-result g c =
     let south : c.south_behind-south.result ≡ south_from c.args.isn.0 r =
     c.south_behind-south.ensures.value
     ∙ ap₂ (λ m closed. record (resumed_south h.cisn h.sisn h.length (m + one_if closed) (has_end (head_said h)) (min h.acked m) c.args.isn.0) { read = c.self.inside.cuts.sum }) c.made.ensures.value c.has_closed.ensures in
-    let is : spliced_from c.args.boot c.args.local c.args.isn.0 r
-    ≡ record { boot = c.args.boot; key = h.key; local = c.args.local; south = c.south_behind-south.result; endpoint = c.in-Ok.endpoint; north = c.into_north.result } =
-    λ j. record { boot = c.args.boot; key = h.key; local = c.args.local; south = sym south j; endpoint = sym c.in-Ok.ensures j; north = sym c.into_north.ensures j } in
+    let tcp = c.in-Ok.ensures ∙ ap (λ m. spliced_measuring m h.key c.args.local h.cisn h.length h.mss c.args.isn.0 (has_end (head_said h))) c.measures.ensures in
+    let is : spliced_from_in (profile_of c.args.profile) c.args.boot c.args.local c.args.isn.0 r
+    ≡ record { profile = profile_of c.args.profile; boot = c.args.boot; key = h.key; local = c.args.local; south = c.south_behind-south.result; endpoint = c.in-Ok.endpoint; north = c.into_north.result } =
+    λ j. record { profile = profile_of c.args.profile; boot = c.args.boot; key = h.key; local = c.args.local; south = sym south j; endpoint = sym tcp j; north = sym c.into_north.ensures j } in
     subst (λ (s : SplicedState _). IsSound (conn_of s)) is
-    (spliced_sound c.args.boot c.args.local c.args.isn.0 r c.requires fits c.self.invariant.2 c.self.invariant.3
+    (spliced_sound (profile_of c.args.profile) c.args.boot c.args.local c.args.isn.0 r c.requires fits c.self.invariant.2 c.self.invariant.3
     (subst (λ n. n ≤ 2 ^ 24) c.made.ensures.value c.made.ensures.most) (subst (λ n. length c.self.inside.replay.pending ≤ n) c.made.ensures.value c.made.ensures.pending))
