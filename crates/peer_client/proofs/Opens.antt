@@ -10,9 +10,10 @@ use Rattle.segment_codec.specs.declared.Head.{Head}
 use Rattle.tcp_endpoint.specs.declared.states.StateName.TheVariants.{SynSent}
 use Rattle.tcp_endpoint.specs.States.{has_begun}
 use Rattle.tcp_endpoint.specs.ReceiveHalf.{Receiving, window, receive_edge, read_out}
+use Rattle.tcp_rules.specs.Profile.{Profile}
 use Rattle.tcp_rules.specs.Timing.{Timing}
 use Rattle.tcp_endpoint.specs.SendHalf.{Sending, in_flight, with_unit_timed}
-use Rattle.tcp_endpoint.specs.Tcb.{Tcb, connecting, listening}
+use Rattle.tcp_endpoint.specs.Tcb.{Tcb, connecting_measuring, listening, listening_measuring}
 use Rattle.tcp_endpoint.specs.UserCalls.{closing, write_room}
 use Rattle.tcp_endpoint.specs.Output.{head_at, opening_segment, retransmission_out, retransmitted_segment, reset_reply_out, reset_reply_segments, probe_out, with_probe, text_out, texts, with_text_sent, fin_out, with_fin_out, full_out, with_timed, after_full, is_ack_pending, leaving, is_timed, with_advertised, with_turn_ended, flushed}
 use Rattle.ft_model.specs.Client.{Client, IsMove, new_client, is_new, is_opening, is_ended, is_live}
@@ -20,16 +21,16 @@ use Rattle.ft_model.specs.Client.ClientKind.{Live}
 use Rattle.ft_model.specs.Client.Move.{Syn, Refuse}
 use Rattle.ft_model.specs.declared.phase.Phase.{Phase}
 use Rattle.ft_model.specs.declared.phase.Phase.TheVariants as phases
-use Rattle.peer_client.specs.Live.{LiveState, new_live, given_up, supplied, closes, before_flush, sent_by, turned}
+use Rattle.peer_client.specs.Live.{LiveState, new_live_in, given_up, supplied, closes, before_flush, sent_by, turned}
 use Rattle.peer_client.specs.Refinement.{AreMoves, IsSame, Sends, Refuses, AnswersBy, Waits, IsWaiting}
 use Rattle.peer_client.proofs.Spoken.{moves_on}
 use Rattle.peer_client.proofs.TurnEnds.{read_hears, write_sends, room_none, timed_sends, timed_same}
 
 -- at the start
-pub starts : (local server : Addr) (isn : ℕ) (script : List ℕ) → length script ≤ 2 ^ 24
-    → Waits (new_live local server isn script) (new_client Live server (record { ip = local.ip; port = local.port }) isn script)
-unfolding connecting listening
-starts local server isn script short = record {
+pub starts : (profile : Profile) (local server : Addr) (isn : ℕ) (script : List ℕ) → length script ≤ 2 ^ 24
+    → Waits (new_live_in profile local server isn script) (new_client Live server (record { ip = local.ip; port = local.port }) isn script)
+unfolding connecting_measuring listening listening_measuring
+starts profile local server isn script short = record {
   agrees = record {
     same = record { kind = refl; ip = refl; port = refl; server = refl; script = refl; isn = refl; local = refl; remote = refl };
     hears = record {

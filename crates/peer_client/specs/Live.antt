@@ -5,8 +5,9 @@ use Rattle.ft_io.specs.declared.Addr.{Addr}
 use Rattle.seq_arith.specs.Packet.{Segment}
 use Rattle.seq_arith.specs.PacketGrammar.{reading}
 use Rattle.seq_arith.specs.declared.BadPacket.{BadPacket}
+use Rattle.tcp_rules.specs.Profile.{Profile}
 use Rattle.tcp_endpoint.specs.States.{has_begun, is_closed, is_time_wait}
-use Rattle.tcp_endpoint.specs.Tcb.{Tcb, connecting}
+use Rattle.tcp_endpoint.specs.Tcb.{Tcb, connecting, connecting_measuring}
 use Rattle.tcp_endpoint.specs.Arrival.{received}
 use Rattle.tcp_endpoint.specs.UserCalls.{after_tick, after_read, after_write, closing, write_room}
 use Rattle.tcp_endpoint.specs.Output.{leaving, flushed}
@@ -37,7 +38,7 @@ new_live local server isn script = record {
 -- the same of a client with this profile. A client has no log, so of the profile it has the measuring alone
 abbrev pub new_live_in : Profile → Addr → Addr → ℕ → List ℕ → LiveState
 new_live_in profile local server isn script =
-    record (new_live local server isn script) { tcb = connecting_measuring profile.measures local server isn longest_stream }
+    record (new_live local server isn script) { tcb = connecting_measuring profile.measures local server isn (2 ^ 24) }
 
 -- whether the segment is one of the connection, by both addresses and ports (RFC 9293, 3.10.7)
 abbrev pub is_of : Addr → Addr → Segment → Bool

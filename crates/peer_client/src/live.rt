@@ -8,10 +8,11 @@ ghost use Rattle.tcp_endpoint.specs.Packets.{AreReadable};
 ghost use Rattle.tcp_endpoint.specs.SendHalf.{IsShort};
 ghost use Rattle.tcp_endpoint.specs.States.{has_begun as begun_lem};
 ghost use Rattle.tcp_endpoint.specs.UserCalls.{after_read};
-ghost use Rattle.peer_client.specs.Live.{new_live, is_of, end_of, first_end, met, after_packet, ticked, unread, handed, given_up, supplied, closes as closes_lem};
+ghost use Rattle.peer_client.specs.Live.{new_live, new_live_in, is_of, end_of, first_end, met, after_packet, ticked, unread, handed, given_up, supplied, closes as closes_lem};
 ghost use Rattle.peer_client.specs.Live.{shut as shut_lem, before_flush, sent_by, turned};
 ghost use Rattle.peer_client.specs.Refinement.{IsBetween, IsDue, AcksNear, AckFits, receiving, Moves, HasHeard, handed_out, outcome_of};
 ghost use Rattle.seq_arith.specs.PacketGrammar.{reading};
+ghost use Rattle.tcp_rules.specs.Profiles.{profile_of};
 ghost use Rattle.ft_model.specs.Client.{Client, new_client};
 ghost use Rattle.ft_model.specs.Client.ClientKind.{Live};
 
@@ -23,6 +24,7 @@ use socket_layer::Socket;
 use std::alloc::Global;
 use std::marker::Model;
 use tcp_endpoint::{Endpoint, Outbox, StateName};
+use tcp_rules::Profile;
 
 /// How a live client's connection ended.
 #[derive(Clone, Copy, Debug, PartialEq, Eq)]
@@ -71,6 +73,7 @@ impl Model for LiveClient {
 impl LiveClient {
     /// Creates a client that connects from `local` to `server` with the initial sequence number `isn`. Its script has at most 2^24 bytes. The next flush
     /// sends the SYN. Fails where an allocation fails.
+    #[tactic(auto, unfolding(tcp_endpoint::specs::Tcb::connecting, tcp_endpoint::specs::Tcb::listening, tcp_endpoint::specs::Tcb::connecting_measuring, tcp_endpoint::specs::Tcb::listening_measuring))]
     pub fn new(
         alloc: Global,
         local: Addr,
@@ -95,7 +98,7 @@ impl LiveClient {
         isn: u32,
         script: Vec<u8>,
     ) -> Result<LiveClient, NoMemory>
-        requires { length script.items ≤ longest_stream }
+        requires { length script.items ≤ 2 ^ 24 }
         ensures made { IfOk result (λ client. client ≡ new_live_in (profile_of profile) local server isn script.items) }
         ensures beside { IfOk result (λ client. IsDue client (new_client Live server (record { ip = local.ip; port = local.port }) isn script.items)) }
     {
