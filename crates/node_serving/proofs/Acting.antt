@@ -11,7 +11,7 @@ use Rattle.logger_wire.specs.declared.Body.{Body as Said}
 use Rattle.logger_wire.specs.declared.Body.TheVariants as body
 use Rattle.logger_wire.specs.Records.{kept_said}
 use Rattle.logger_wire.specs.Value.{body_of}
-use Rattle.tcp_rules.specs.Profile.{plain}
+use Rattle.tcp_rules.specs.Profile.{Profile}
 use Rattle.ft_model.specs.News.{News}
 use Rattle.ft_model.specs.News.News.{Comes, Logged, Ticks, Begins as Becomes_live}
 use Rattle.ft_model.specs.Offset.{IsNear}
@@ -22,7 +22,7 @@ use Rattle.north_wrap.specs.Refinement.{NorthStands}
 use Rattle.connection_laws.specs.FirstSyn.{MayOpen}
 use Rattle.wrapped_conn.specs.ConnState.{ConnState}
 use Rattle.wrapped_conn.specs.Arrival.{arrived}
-use Rattle.wrapped_conn.specs.NewConnection.{first_conn, first_conn_in}
+use Rattle.wrapped_conn.specs.NewConnection.{first_conn_in}
 use Rattle.wrapped_conn.specs.Refinement as conn
 use Rattle.wrapped_conn.specs.Refinement.{StandsLive, StandsReset, Leads}
 use Rattle.wrapped_conn.specs.LoggerMessages.{with_done}
@@ -151,15 +151,15 @@ start_acts service server boot p c now segments messages typed s s_now r st =
     acts service server boot Becomes_live p now segments messages typed tt st.1.size (counts service c p st.0.given st.0.parts.north) s_now (same.local ∙ st.1.local) (same.boot ∙ st.1.incarnation)
     (ours service server boot Becomes_live p c now segments messages st.1 (starts service p c now segments messages s s_now st.0 r))
 
-pub first_acts : {S : Type 0} (service : Machine S) (server : Addr) (boot : ℕ) (numbers : Numbers) (now : ConnState S) (segments messages : List (List ℕ))
+pub first_acts : {S : Type 0} (service : Machine S) (profile : Profile) (server : Addr) (boot : ℕ) (numbers : Numbers) (now : ConnState S) (segments messages : List (List ℕ))
     → IsTyped server boot numbers.key segments messages → MayOpen numbers → IsSound now
-    → Starts service.after (first_conn boot numbers.key server numbers.cisn numbers.sisn numbers.mss service.fresh) now segments messages
-    → Acts service server boot Becomes_live (point_opened plain numbers) now segments messages
+    → Starts service.after (first_conn_in profile boot numbers.key server numbers.cisn numbers.sisn numbers.mss service.fresh) now segments messages
+    → Acts service server boot Becomes_live (point_opened profile numbers) now segments messages
 unfolding IsSound first_conn_in
-first_acts service server boot numbers now segments messages typed may s r =
-    let same = starts_same service (first_conn boot numbers.key server numbers.cisn numbers.sisn numbers.mss service.fresh) now segments messages r in
-    acts service server boot Becomes_live (point_opened plain numbers) now segments messages typed tt may.most (omega arith) s same.local same.boot
-    (new_starts service plain boot server numbers now segments messages may s r)
+first_acts service profile server boot numbers now segments messages typed may s r =
+    let same = starts_same service (first_conn_in profile boot numbers.key server numbers.cisn numbers.sisn numbers.mss service.fresh) now segments messages r in
+    acts service server boot Becomes_live (point_opened profile numbers) now segments messages typed tt may.most (omega arith) s same.local same.boot
+    (new_starts service profile boot server numbers now segments messages may s r)
 
 -- a connection that a restart has put together
 pub begins : {S : Type 0} (service : Machine S) (server : Addr) (boot : ℕ) (p : Point) (c : ConnState S) → conn.StandsBefore service c p → c.local ≡ server → c.boot ≡ boot → p.mss ≤ 1460

@@ -19,6 +19,7 @@ use Rattle.seq_arith.specs.Message.{Body as body}
 use Rattle.seq_arith.specs.MessageGrammar.{reading, reading_of, reading_if, spelling, spelled, header, message_in, kind_numbered, kind_of, numbers_of, behind_of, fields_of, numbers_bytes, number_bytes, number_in, has_length, is_sound_in}
 use Rattle.seq_arith.proofs.MessageSpelling.{kind_back, number_back}
 use Rattle.server_trait.specs.Service.{Served, Machine}
+use Rattle.tcp_rules.specs.Profile.{Profile}
 use Rattle.ft_model.specs.Copy.{datas}
 use Rattle.ft_model.specs.Wire.{Wire}
 use Rattle.ft_model.proofs.Lists.{same_key, key_is, all_append}
@@ -28,7 +29,7 @@ use Rattle.north_wrap.specs.declared.read_record.ReadRecord.{ReadRecord}
 use Rattle.north_wrap.specs.Refinement.{messages_of}
 use Rattle.south_wrap.specs.Translation.{copied, is_some_copied}
 use Rattle.wrapped_conn.specs.Arrival.{arrived, before_segment}
-use Rattle.wrapped_conn.specs.NewConnection.{first_conn, first_conn_in}
+use Rattle.wrapped_conn.specs.NewConnection.{first_conn_in}
 use Rattle.wrapped_conn.specs.ConnState.{ConnState}
 use Rattle.wrapped_conn.specs.Numbers.{una_units, resets}
 use Rattle.wrapped_conn.specs.LoggerMessages as told
@@ -256,17 +257,17 @@ came_ok bytes P ok h = go (packets.reading bytes) ok h
     go (Err e) k x = absurd (true≢false (sym k))
 
 -- a new connection
-pub first_own : {S : Type 0} (after : S → List ℕ → Served S) (boot : ℕ) (server : Addr) (numbers : Numbers) (fresh : S) (now : ConnState S) (segments messages : List (List ℕ)) (old new : List Wire)
-    → FitsKey numbers.key → Starts after (first_conn boot numbers.key server numbers.cisn numbers.sisn numbers.mss fresh) now segments messages
+pub first_own : {S : Type 0} (after : S → List ℕ → Served S) (profile : Profile) (boot : ℕ) (server : Addr) (numbers : Numbers) (fresh : S) (now : ConnState S) (segments messages : List (List ℕ)) (old new : List Wire)
+    → FitsKey numbers.key → Starts after (first_conn_in profile boot numbers.key server numbers.cisn numbers.sisn numbers.mss fresh) now segments messages
     → new ≡ old ++ wires_of numbers.key segments messages → IsOnlyFor numbers.key old new
 unfolding first_conn_in
-first_own after boot server numbers fresh now segments messages old new fits r put =
-    let c = first_conn boot numbers.key server numbers.cisn numbers.sisn numbers.mss fresh in
+first_own after profile boot server numbers fresh now segments messages old new fits r put =
+    let c = first_conn_in profile boot numbers.key server numbers.cisn numbers.sisn numbers.mss fresh in
     leaves_for numbers.key c segments messages old new fits refl (starts_own after c now segments messages r) put
 
-pub first_belongs : {S : Type 0} (service : Machine S) (who : Identity) (server : Addr) (numbers : Numbers) (now : ConnState S) (segments messages : List (List ℕ))
-    → Starts service.after (first_conn who.boot numbers.key server numbers.cisn numbers.sisn numbers.mss service.fresh) now segments messages → IsSound now → Belongs who numbers.key now
+pub first_belongs : {S : Type 0} (service : Machine S) (profile : Profile) (who : Identity) (server : Addr) (numbers : Numbers) (now : ConnState S) (segments messages : List (List ℕ))
+    → Starts service.after (first_conn_in profile who.boot numbers.key server numbers.cisn numbers.sisn numbers.mss service.fresh) now segments messages → IsSound now → Belongs who numbers.key now
 unfolding first_conn_in
-first_belongs service who server numbers now segments messages r s =
-    let same = starts_same service (first_conn who.boot numbers.key server numbers.cisn numbers.sisn numbers.mss service.fresh) now segments messages r in
+first_belongs service profile who server numbers now segments messages r s =
+    let same = starts_same service (first_conn_in profile who.boot numbers.key server numbers.cisn numbers.sisn numbers.mss service.fresh) now segments messages r in
     record { sound = s; client = same.key; incarnation = same.boot }

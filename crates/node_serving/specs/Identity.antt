@@ -1,13 +1,13 @@
 -- An incarnation's constants, and the model's node and the service that they determine.
 use Rattle.server_trait.specs.Service.{Machine, machine}
 use Rattle.server_trait.specs.declared.Service.{Ghosts}
-use Rattle.tcp_rules.specs.Profile.{plain}
+use Rattle.tcp_rules.specs.Profiles.{profile_of}
 use Rattle.ft_model.specs.Node.{Node, Stage}
 use Rattle.node_serving.specs.declared.identity.Identity.{Identity}
 
--- an incarnation at this stage, of a plain server
+-- an incarnation at this stage
 abbrev pub node_of : Identity → Stage → Node
-node_of who stage = record { server = who.local; profile = plain; boot = who.boot; isn = who.isn; stage = stage }
+node_of who stage = record { server = who.local; profile = profile_of who.profile; boot = who.boot; isn = who.isn; stage = stage }
 
 -- an incarnation's service, started as its kind says
 abbrev pub service_of : {S : Type 0} → Ghosts S → Identity → Machine S

@@ -1,6 +1,7 @@
 //! The constants of an incarnation.
 
 use ft_io::Addr;
+use tcp_rules::Profile;
 
 /// What never changes in an incarnation of the server.
 #[derive(Clone, Copy)]
@@ -12,4 +13,6 @@ pub struct Identity {
     /// The kind of the service.
     pub kind: u8,
     pub local: Addr,
+    /// The profile, which stays as long as the log.
+    pub profile: Profile,
 }

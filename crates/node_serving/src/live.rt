@@ -42,7 +42,14 @@ pub(crate) fn begin_live<S: Service>(
         sisn: numbers.sisn,
         mss: numbers.mss,
     };
-    let mut conn = Conn::open(turn.alloc, who.boot, who.local, opened, who.kind)?;
+    let mut conn = Conn::open_in(
+        who.profile,
+        turn.alloc,
+        who.boot,
+        who.local,
+        opened,
+        who.kind,
+    )?;
     turn.out.clear();
     if let Err(lack) = conn.start(turn.alloc, &mut turn.out) {
         drop(conn);

@@ -5,7 +5,7 @@ use Rattle.seq_arith.specs.Message.{Message}
 use Rattle.seq_arith.specs.Packet.{Segment}
 use Rattle.server_trait.specs.Service.{machine}
 use Rattle.server_trait.specs.declared.Service.{Ghosts}
-use Rattle.tcp_rules.specs.Profile.{plain}
+use Rattle.tcp_rules.specs.Profiles.{profile_of}
 use Rattle.ft_model.specs.Lawful.{AreSound, Fetches, StageTurn, asked, fetched_then, held}
 use Rattle.ft_model.specs.Log.{Entry}
 use Rattle.ft_model.specs.Node.{Stage as law_stage}
@@ -118,7 +118,7 @@ module _ {S : Type 0} (s : Ghosts S) (who : Identity) where
   abbrev pub SlotRevivesFrom : ReplayedState S → (now : Slot S) → (old new : Turn) → Type 0
   SlotRevivesFrom replayed now old new =
       (standing : law_stage) (e : Entry) → IsReplayed (service_of s who) e replayed → IsSoundEntry (service_of s who) e
-      → SlotRevives (service_of s who) (node_of who standing) e.key (Lives (point_of (service_of s who) plain e)) now
+      → SlotRevives (service_of s who) (node_of who standing) e.key (Lives (point_of (service_of s who) (profile_of who.profile) e)) now
       old.sent.items new.sent.items
 
   -- .. and its inner TCP has this initial sequence number

@@ -10,6 +10,7 @@ use node_serving::{Identity, OutPacket, Turn};
 use server_trait::{Saved, Service};
 use std::alloc::Global;
 use std::mem;
+use tcp_rules::Profile;
 use wrapped_conn::Conn;
 
 /// The server of one incarnation: it asks the logger for its log, restarts every connection, and serves.
@@ -26,6 +27,7 @@ impl<S: Saved> Node<S> {
     ghost use Rattle.std.specs.Prelude.{◌≡◌, ◌≤◌, ℕ, map, IfOk, IfErr, IsErrOf, IfSome, OnOk, option_copied};
     ghost use Rattle.std.specs.Borrow.{sem};
     ghost use Rattle.tcp_rules.specs.Profile.{plain};
+    ghost use Rattle.tcp_rules.specs.Profiles.{profile_of};
     ghost use Rattle.ft_model.specs.Node.{Stage as Standing, booted};
     ghost use Rattle.ft_model.specs.Lawful.{hello};
     ghost use Rattle.ft_model.specs.Wire.{wire_of};
@@ -41,8 +43,8 @@ impl<S: Saved> Node<S> {
     ghost use Rattle.server_node.specs.StageTurns.{IsUnfenced, IsFenceOf};
     ghost use Rattle.server_trait.specs.Service.{machine};
 
-    /// Boots a server without marks. The boot number is at least 1; initial sequence numbers are counted from `isn`; `kind` chooses the service. `sent` then
-    /// has the Hello.
+    /// Boots a server without marks, with the plain profile. The boot number is at least 1; initial sequence numbers are counted from `isn`; `kind` chooses the
+    /// service. `sent` then has the Hello.
     pub fn boot(
         alloc: Global,
         boot: u64,
@@ -53,14 +55,14 @@ impl<S: Saved> Node<S> {
         requires { 1 ≤ boot }
         ensures stands { IfOk result (λ n. StageStands (machine (S.started kind) S.after) (booted local plain boot isn) n.stage) }
         ensures hello { IfOk result (λ n. n.turn.sent.items ≡ map wire_of (hello (booted local plain boot isn))) }
-        ensures same { IfOk result (λ n. n.who ≡ record { boot = boot; isn = isn; kind = kind; local = local }) }
+        ensures same { IfOk result (λ n. n.who ≡ record { boot = boot; isn = isn; kind = kind; local = local; profile = Profile.Plain }) }
     {
         Node::boot_marked(alloc, boot, isn, kind, local, 0)
     }
 
-    /// Boots a server with marks. Whenever a connection is quiet (`Conn::quiet`), has no unanswered mark, and has made at least `every` reads since its last
-    /// mark, the form of its service's state is sent to the logger, if it has at most 1,100 bytes. A restart begins each connection at its mark, if it has
-    /// one. If `every` is 0, or the service isn't savable, no marks are made.
+    /// Boots a server with marks, with the plain profile. Whenever a connection is quiet (`Conn::quiet`), has no unanswered mark, and has made at least `every`
+    /// reads since its last mark, the form of its service's state is sent to the logger, if it has at most 1,100 bytes. A restart begins each connection at its
+    /// mark, if it has one. If `every` is 0, or the service isn't savable, no marks are made.
     pub fn boot_marked(
         alloc: Global,
         boot: u64,
@@ -73,13 +75,35 @@ impl<S: Saved> Node<S> {
         ensures plain { IfOk result (λ n. every ≡ 0 → StageStands (machine (S.started kind) S.after) (booted local plain boot isn) n.stage) }
         ensures marked { IfOk result (λ n. 1 ≤ every → MarkedNodeStands (marker_of S.Service (saving S.form S.state_of S.is_savable) n.who every) (booted_to_mark local plain boot isn) n) }
         ensures hello { IfOk result (λ n. n.turn.sent.items ≡ map wire_of (hello (booted local plain boot isn))) }
-        ensures same { IfOk result (λ n. n.who ≡ record { boot = boot; isn = isn; kind = kind; local = local }) }
+        ensures same { IfOk result (λ n. n.who ≡ record { boot = boot; isn = isn; kind = kind; local = local; profile = Profile.Plain }) }
+    {
+        Node::boot_in(alloc, Profile::Plain, boot, isn, kind, local, every)
+    }
+
+    /// Boots a server with this profile, without marks if `every` is 0, and otherwise with marks as `boot_marked` does. Every server of one log has the same
+    /// profile.
+    pub fn boot_in(
+        alloc: Global,
+        profile: Profile,
+        boot: u64,
+        isn: u32,
+        kind: u8,
+        local: Addr,
+        every: u32,
+    ) -> Result<Node<S>, NoMemory>
+        requires { 1 ≤ boot }
+        ensures plain { IfOk result (λ n. every ≡ 0 → StageStands (machine (S.started kind) S.after) (booted local (profile_of profile) boot isn) n.stage) }
+        ensures marked { IfOk result (λ n. 1 ≤ every
+            → MarkedNodeStands (marker_of S.Service (saving S.form S.state_of S.is_savable) n.who every) (booted_to_mark local (profile_of profile) boot isn) n) }
+        ensures hello { IfOk result (λ n. n.turn.sent.items ≡ map wire_of (hello (booted local (profile_of profile) boot isn))) }
+        ensures same { IfOk result (λ n. n.who ≡ record { boot = boot; isn = isn; kind = kind; local = local; profile = profile }) }
     {
         let who = Identity {
             boot,
             isn,
             kind,
             local,
+            profile,
         };
         let mut turn = Turn::new(alloc)?;
         send_hello(who, &mut turn)?;

@@ -77,7 +77,7 @@ pub(crate) fn revive<S: Service>(
     ensures sound { IfOk result (λ slot. IsSoundSlot who replayed.head.key slot) }
 {
     let key = replayed.head().key;
-    let Ok(spliced) = replayed.splice(turn.alloc, who.boot, who.local, isn) else {
+    let Ok(spliced) = replayed.splice_in(who.profile, turn.alloc, who.boot, who.local, isn) else {
         return Err(NoMemory);
     };
     let mut conn = spliced.hand_on();

@@ -1,4 +1,5 @@
 use Rattle.std.proofs.Common.{◌≡◌, ◌∙◌, ap, sym, subst}
+use Rattle.tcp_rules.specs.Profiles.{profile_of}
 use Rattle.server_trait.specs.Service.{machine}
 use Rattle.node_serving.specs.Identity.{node_of}
 use Rattle.node_serving.specs.declared.slot.Slot.TheVariants as slot
@@ -25,13 +26,13 @@ returns-clause-turn g c = λ standing e re sound.
     let local : c.hand_on-conn.result.local ≡ c.args.who.local = ap (λ x. x.local) c.hand_on-conn.ensures.value ∙ ap (λ x. x.local) c.in-Ok.ensures.value in
     let boot : c.hand_on-conn.result.boot ≡ c.args.who.boot = ap (λ x. x.boot) c.hand_on-conn.ensures.value ∙ ap (λ x. x.boot) c.in-Ok.ensures.value in
     live_again (machine fresh g.S.Service.after) (node_of c.args.who standing) e c.hand_on-conn.result c.start_live.new.conn c.args.turn.now.sent.items c.start_live.new.turn.sent.items
-    local boot is.segments.1 (c.hand_on-conn.ensures.law fresh e c.args.isn.0 is) (λ p same begins. told p (same ∙ sym key) begins)
+    local boot is.segments.1 (c.hand_on-conn.ensures.profile (profile_of c.args.who.profile) fresh e c.args.isn.0 is) (λ p same begins. told p (same ∙ sym key) begins)
 
 pub returns-clause-number : goal.returns-clause-number
 returns-clause-number g c = λ fresh e re sound.
     let number = rw c.in_ok-start_live.was at c.start_live.ensures.number in
     let delta = rw c.in_ok-start_live.was at c.start_live.ensures.delta in
-    goes_on_under (machine fresh g.S.Service.after) e c.args.isn.0 c.in-Ok.spliced c.hand_on-conn.result c.start_live.new.conn (c.in-Ok.ensures.law fresh e re sound)
+    goes_on_under (profile_of c.args.who.profile) (machine fresh g.S.Service.after) e c.args.isn.0 c.in-Ok.spliced c.hand_on-conn.result c.start_live.new.conn (c.in-Ok.ensures.law fresh e re sound)
     c.hand_on-conn.ensures.value number delta
 
 pub returns-clause-sound : goal.returns-clause-sound
