@@ -1,20 +1,24 @@
 -- A connection that a restart has put together, in its first turn.
 use Rattle.std.proofs.Common.{◌≡◌, ◌∙◌, ◌≤◌, ℕ, refl, sym, ap, subst, ⊎_elim, Some, List, [], ◌∷◌}
 use Rattle.std.specs.Prelude.{IfSome}
-use Rattle.tcp_rules.specs.Profile.{Profile}
 use Rattle.server_trait.specs.Service.{Machine}
 use Rattle.ft_model.specs.Log.{Entry}
 use Rattle.ft_model.specs.Point.{Point}
 use Rattle.ft_model.specs.News.News.{Begins as Becomes_live}
 use Rattle.ft_model.specs.Restart.{point_of}
-use Rattle.ft_model.specs.Node.{Node}
-use Rattle.ft_model.specs.Node.Place.{Lives}
+use Rattle.ft_model.specs.Node.{Node, Place}
+use Rattle.ft_model.specs.Node.Place.{Opens, Lives, Ended}
+use Rattle.ft_model.specs.ServingTurn.{LivesOn}
 use Rattle.ft_model.specs.Wire.{Wire}
+use Rattle.ft_model.proofs.Profiles.{entry_has, turn_keeps}
 use Rattle.wrapped_conn.specs.ConnState.{ConnState}
 use Rattle.reincarnate.specs.Splice.{SplicedState, IsSplicedIn, conn_of}
 use Rattle.wrapped_conn.specs.Refinement.{StandsBefore}
 use Rattle.node_serving.specs.declared.slot.Slot.TheVariants as slot
-use Rattle.node_serving.specs.Conn.{Begins, ConnGoes}
+use Rattle.node_serving.specs.declared.slot.Slot.{Slot}
+use Rattle.node_serving.specs.Conn.{Begins, ConnGoes, IsOursAt}
+use Rattle.node_serving.specs.Loan.{conn_in}
+use Rattle.node_serving.specs.Slots.{SlotStands}
 use Rattle.server_node.specs.RestartNumbers.{GoesOnUnder}
 use Rattle.server_node.specs.RestartEnd.{SlotRevives}
 
@@ -47,7 +51,6 @@ goes_on_under profile service e i s c now is from number delta = record {
 -- its ACKs wait for the log exactly if those of its server do
 pub delays_as_its_server : {S : Type 0} (service : Machine S) (node : Node) (e : Entry) (now : Slot S) (old new : List Wire)
     → SlotRevives service node e.key (Lives (point_of service node.profile e)) now old new → IfSome (conn_in (Some now)) (λ c. c.delays ≡ node.profile.delays)
-unfolding IsOursAt
 delays_as_its_server {S} service node e now old new r = go now r.after r.turn r.stands
   where
     first : Place → List Place → Place
@@ -55,6 +58,7 @@ delays_as_its_server {S} service node e now old new r = go now r.after r.turn r.
     first other (x ∷ xs) = x
 
     stands : (c : ConnState S) (q : Point) → SlotStands service node e.key (slot.Live c) (Lives q) → c.delays ≡ q.delays
+    unfolding IsOursAt
     stands c q st = st.1.0.keeps.delays
 
     go : (now : Slot S) (after : Place) → LivesOn service node Becomes_live (point_of service node.profile e) (after ∷ []) r.packets → SlotStands service node e.key now after

@@ -1,7 +1,7 @@
 //! Wrong results that the contracts of this crate exclude. Each function calls another one of the crate, and promises of its result what a wrong body would make
 //! false. It is proved from the other's contract alone, so it is no longer proved once that contract lets the wrong body pass.
 
-ghost use Rattle.std.specs.Prelude.{◌≡◌, ◌≢◌, ◌≤◌, [], List, Ok, None, false, IfOk, OnOk, ℕ};
+ghost use Rattle.std.specs.Prelude.{◌≡◌, ◌≢◌, ◌≤◌, [], List, Ok, None, Some, false, IfOk, IfSome, OnOk, ℕ};
 ghost use Rattle.std.specs.List.{AllByRecursion};
 ghost use Rattle.std.specs.Map.{lookup};
 ghost use Rattle.ft_io.specs.Key.{key_eq};
@@ -14,7 +14,9 @@ ghost use Rattle.node_serving.specs.Markers.{saving, marker_of};
 ghost use Rattle.server_node.specs.MarkedRestart.{AreRestoredMarked};
 ghost use Rattle.logger_wire.specs.Value.{IsSendable};
 ghost use Rattle.reincarnate.specs.Questions.{asked};
-ghost use Rattle.reincarnate.specs.Refinement.{RestoredIs};
+ghost use Rattle.reincarnate.specs.Refinement.{IsReplayed, RestoredIs};
+ghost use Rattle.tcp_rules.specs.Profiles.{profile_of};
+ghost use Rattle.ft_model.specs.Log.{Entry};
 ghost use Rattle.ft_model.specs.Lawful.{restored_count};
 ghost use Rattle.ft_model.specs.Network.{source_of};
 ghost use Rattle.ft_model.specs.Node.{Stage as Standing};
@@ -33,14 +35,15 @@ ghost use Rattle.server_node.specs.Stages.{IsSoundStage};
 use crate::input::TurnEnd;
 use crate::marked_reviving::restore_marked;
 use crate::restarting::ask;
-use crate::reviving::restore;
+use crate::reviving::{restore, revive};
 use crate::stage::{Stage, hear, newer_than, on_packet};
 use conn_marks::Marks;
 use ft_io::NoMemory;
 use logger_wire::{Body, Msg};
-use node_serving::{Identity, Serving, Turn};
-use reincarnate::{Fetching, Restored};
+use node_serving::{Identity, Serving, Slot, Turn};
+use reincarnate::{Fetching, Replayed, Restored};
 use segment_codec::PacketRef;
+use seq_arith::Seq;
 use server_trait::{Saved, Service};
 
 /// A Stale that names a smaller boot number fences no server: the contract of `newer_than`.
@@ -131,4 +134,18 @@ fn restarts_from_marks_under_one_number<S: Saved>(
         → IsNumbered by.service (entry_in f) (initial_number who.isn (restored_count earlier)) (conn_in (lookup (key_eq f.head.key) serving.new.slots.entries))) }
 {
     restore_marked(who, entry, serving, marks, turn)
+}
+
+/// The ACKs of a restarted connection wait for the log exactly if the profile of its server says so: the clause `turn` of `revive`.
+fn restarts_with_the_plain_profile<S: Service>(
+    who: Identity,
+    isn: Seq,
+    replayed: Replayed<S>,
+    turn: &mut Turn,
+) -> Result<Slot<S>, NoMemory>
+    requires { 1 ≤ who.boot }
+    ensures { IfOk result (λ slot. (e : Entry) → let service = service_of S.Service who in IsReplayed service e replayed → IsSoundEntry service e
+        → IfSome (conn_in (Some slot)) (λ c. c.delays ≡ (profile_of who.profile).delays)) }
+{
+    revive(who, isn, replayed, turn)
 }
