@@ -21,10 +21,11 @@ from stored_parts import FOLDER, write_part  # noqa: E402
 
 REPORTS = sys.argv[1]
 OUT = pathlib.Path(sys.argv[2]) if sys.argv[2:] else FOLDER
+BOOTS = {"plain": "boot", "wan": "boot-wan"}
 
 def play_report(name, title, numbers=()):
     """The server's turns of a worked run. `numbers` names, behind which events, what `conn` must print."""
-    service, clients, packets, event = None, {}, {}, None
+    service, boots, clients, packets, event = None, "boot", {}, {}, None
     say(f"# {title}")
     turns = []                      # (number of the event, line, answers)
     path = f"{REPORTS}/{name}.streaming.report"       # a restart asks for an entry's cuts before its bytes
@@ -32,12 +33,14 @@ def play_report(name, title, numbers=()):
         words = line.split()
         if words[0] == "service":
             service = SERVICES[words[1]]
+        elif words[0] == "profile":
+            boots = BOOTS[words[1]]
         elif words[0] == "client" and len(words) == 5 and ":" in words[2]:
             clients[words[1]] = key_of(words[2])
         elif words[0] == "event":
             number, what, rest = int(words[1]), words[2], words[3:]
             if what == "boot":
-                turns.append((number, f"boot {service} {rest[0]} {rest[1]}", []))
+                turns.append((number, f"{boots} {service} {rest[0]} {rest[1]}", []))
             elif what == "tick":
                 turns.append((number, "tick", []))
             elif what == "deliver":
@@ -99,6 +102,17 @@ play_report("congestion_window", "four segments leave at first, and the third du
 }.items())
 play_report("early_acknowledgement", "an acknowledgement past the next number", {
     11: [(K, numbers(0, 0, 0, 0, 0, 0, 0))],
+}.items())
+play_report("wide_area_echo", "with the profile wan the ACK of text waits for the log", {
+    12: [(K, numbers(0, 5, 0, 5, 1, 0, 0))],
+    14: [(K, numbers(0, 5, 5, 5, 1, 0, 0))],
+    16: [(K, numbers(0, 5, 5, 5, 1, 0, 5))],
+}.items())
+play_report("wide_area_losses", "a measured round trip, partial acknowledgements, an expiry after six ticks, and a restart that measures anew", {
+    21: [(K, numbers(0, 4, 4, 4, 1, 536, 2047))],
+    30: [(K, numbers(0, 4, 4, 4, 1, 1072, 2047))],
+    39: [(K, numbers(0, 4, 4, 4, 1, 1608, 2047))],
+    49: [(K, numbers(4294072296, 4, 4, 4, 1, 0, 0))],
 }.items())
 
 # ---- by hand -----------------------------------------------------------------------------------------------------------------------------

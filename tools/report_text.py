@@ -62,6 +62,7 @@ class Report:
 
     service: str = ""
     server: str = ""
+    profile: str = "plain"
     twin: bool = False
     marks: int = 0  # after how many reads the server marks a connection
     clients: dict = field(default_factory=dict)
@@ -93,6 +94,8 @@ def take_line(report, words):
         report.service = words[1]
     elif head == "server":
         report.server = words[1]
+    elif head == "profile":
+        report.profile = words[1]
     elif head == "twin":
         report.twin = True
     elif head == "marks":

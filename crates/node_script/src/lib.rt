@@ -3,6 +3,7 @@
 //! - `# ..` is printed as it is;
 //! - `boot KIND BOOT ISN EVERY` boots a server at 192.0.2.100:7 with this service (1 for Echo, 2 for Line, 3 for Transfer, 4 for Meter), which marks a
 //!   connection after EVERY reads, or never without EVERY; a server that was up crashes first;
+//! - `boot-wan KIND BOOT ISN EVERY` boots one with the profile `wan`;
 //! - `packet HEX` and `message HEX` are datagrams from a client and from the logger, and a line of one word, `tick`, is a tick;
 //! - `conn IP PORT` prints the numbers of a client's connection, or `none`; IP is a number;
 //! - `attack COUNT SEED` gives COUNT datagrams that are drawn from SEED, and prints whether the server sent nothing, or else how many of its packets to

@@ -7,6 +7,7 @@ use sample_servers::AnyService;
 use seq_arith::Seq;
 use server_node::{Input, Node, OutPacket, To, TurnEnd};
 use std::alloc::Global;
+use tcp_rules::Profile;
 use test_data::{Said, bytes_of_hex};
 
 /// The server's address.
@@ -45,7 +46,8 @@ impl Player {
             return self.turn(alloc, Input::Tick);
         };
         match word {
-            "boot" => self.boot(alloc, numbers(rest)),
+            "boot" => self.boot(alloc, Profile::Plain, numbers(rest)),
+            "boot-wan" => self.boot(alloc, Profile::Wan, numbers(rest)),
             "conn" => {
                 self.tell_conn(numbers(rest));
                 Ok(())
@@ -61,16 +63,17 @@ impl Player {
         }
     }
 
-    /// Boots a server of this kind and boot number, which counts its initial sequence numbers from `isn` and marks a connection after `every` reads.
+    /// Boots a server of this profile, kind and boot number, which counts its initial sequence numbers from `isn` and marks a connection after `every` reads.
     fn boot(
         &mut self,
         alloc: Global,
+        profile: Profile,
         [kind, boot, isn, every, ..]: [u64; 5],
     ) -> Result<(), NoMemory> {
         let kind = (kind % 256) as u8;
         let isn = (isn % 4_294_967_296) as u32;
         let every = (every % 4_294_967_296) as u32;
-        self.node = Node::boot_marked(alloc, boot.max(1), isn, kind, LOCAL, every)?;
+        self.node = Node::boot_in(alloc, profile, boot.max(1), isn, kind, LOCAL, every)?;
         self.up = true;
         tell(self.node.sent(), &mut self.said);
         Ok(())
