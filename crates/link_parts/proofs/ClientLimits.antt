@@ -7,6 +7,7 @@ use Rattle.std.proofs.lemmas.List.{length-take}
 use Rattle.ft_io.specs.declared.Addr.{Addr}
 use Rattle.tcp_rules.specs.Arrival.{int_eq, is_new_ack}
 use Rattle.tcp_rules.specs.Coming.{Came, StandsBehind}
+use Rattle.tcp_rules.specs.Profile.{Profile}
 use Rattle.seq_arith.specs.Offset.{one_if, length_of}
 use Rattle.seq_arith.specs.Packet.{Segment, has_fin, has_syn, has_rst, has_ack}
 use Rattle.seq_arith.specs.PacketGrammar.{reading}
@@ -16,13 +17,13 @@ use Rattle.tcp_endpoint.specs.declared.states.StateName.TheVariants.{Closed, Lis
 use Rattle.tcp_endpoint.specs.States.{has_begun}
 use Rattle.tcp_endpoint.specs.ReceiveHalf.{Receiving, taken, next, receive_edge, came, with_came, with_segment}
 use Rattle.tcp_endpoint.specs.SendHalf.{Sending, IsShort, in_flight, with_syn_acked, acknowledged, is_duplicate, shows_loss, duplicated, untimed_if, answered_by, moves_edge, send_edge, sendable, expires, timed, with_sent, with_fin_sent}
-use Rattle.tcp_endpoint.specs.Tcb.{Tcb, listening, connecting}
+use Rattle.tcp_endpoint.specs.Tcb.{Tcb, listening, listening_measuring, connecting_measuring}
 use Rattle.tcp_endpoint.specs.Arrival.{ack_at, first, with_ack_pending_if, with_reset, received, received_in, in_closed, in_listen, begun, with_reset_reply, with_reset_reply_without_ack, answered, in_syn_sent, in_others, check_sequence, with_time_wait_restarted, check_rst, check_syn, check_ack, is_bare, with_ack_used, with_ack, with_first_ack, with_fin_acked, with_text_and_fin}
 use Rattle.tcp_endpoint.specs.Output.{probes_text, probes_fin, with_probe, with_text_sent, new_fin, with_fin_out, with_timed, after_full, with_advertised, is_timed, with_turn_ended, flushed}
 use Rattle.tcp_endpoint.specs.UserCalls.{after_tick, timer_ticked, waited, after_read, after_write, closing, write_room}
 use Rattle.endpoint_laws.proofs.Bounding.{text_facts, new_within}
 use Rattle.endpoint_laws.proofs.SendingLaw.{held_field}
-use Rattle.peer_client.specs.Live.{LiveState, new_live, is_of, met, hearing, ticked, unread, given_up, supplied, next_part, closes, before_flush, turned}
+use Rattle.peer_client.specs.Live.{LiveState, new_live_in, is_of, met, hearing, ticked, unread, given_up, supplied, next_part, closes, before_flush, turned}
 use Rattle.peer_client.proofs.TurnEnds.{read_behind}
 use Rattle.link_parts.specs.Receipt.{Received, datagram, silence, failure}
 use Rattle.link_parts.specs.ClientTurns.{ClientTurn, after_receive, emptied, due_at}
@@ -316,9 +317,9 @@ module _ (isn written read : ℕ) where
       let good : IsWithin isn written read after = fin_out_limited _ (text_sent_limited _ (probe_limited e h)) in
       timed_limited after.sending after.receiving (is_timed after) good
 
-connect_limited : (local remote : Addr) (isn limit : ℕ) → IsWithin isn 0 0 (connecting local remote isn limit)
-unfolding connecting listening
-connect_limited local remote isn limit =
+connect_limited : (measures : Bool) (local remote : Addr) (isn limit : ℕ) → IsWithin isn 0 0 (connecting_measuring measures local remote isn limit)
+unfolding connecting_measuring listening listening_measuring
+connect_limited measures local remote isn limit =
     record {
       isn_is = refl;
       order = omega arith;
@@ -343,9 +344,10 @@ own_read isn written read e h = record {
 }
 
 -- a live client
-pub new_limited : (local server : Addr) (isn : ℕ) (script : List ℕ) → length script ≤ 2 ^ 24 → IsLimited isn (new_live local server isn script)
-new_limited local server isn script short = record {
-  tcb = own_read isn 0 0 (connecting local server isn (2 ^ 24)) (connect_limited local server isn (2 ^ 24));
+pub new_limited : (profile : Profile) (local server : Addr) (isn : ℕ) (script : List ℕ) → length script ≤ 2 ^ 24
+    → IsLimited isn (new_live_in profile local server isn script)
+new_limited profile local server isn script short = record {
+  tcb = own_read isn 0 0 (connecting_measuring profile.measures local server isn (2 ^ 24)) (connect_limited profile.measures local server isn (2 ^ 24));
   written = omega arith;
   script = short;
 }

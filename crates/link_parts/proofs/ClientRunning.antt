@@ -18,7 +18,8 @@ use Rattle.ft_model.specs.Client.{Client, new_client}
 use Rattle.ft_model.specs.Client.ClientKind.{Live}
 use Rattle.ft_model.specs.Schedule.{bytes_of}
 use Rattle.ft_model.specs.declared.schedule.Script.{Script}
-use Rattle.peer_client.specs.Live.{LiveState, new_live, unread, handed, sent_by, turned}
+use Rattle.tcp_rules.specs.Profiles.{profile_of}
+use Rattle.peer_client.specs.Live.{LiveState, new_live_in, unread, handed, sent_by, turned}
 use Rattle.peer_client.specs.Refinement.{IsBetween, IsDue}
 use Rattle.peer_client.specs.declared.live.ClientEnd.{ClientEnd}
 use Rattle.peer_client.specs.declared.live.ClientEnd.TheVariants as peer
@@ -211,14 +212,14 @@ runs_behind start machine most bound before old new Writes Ends b r = record {
 
 -- the client of the words, before its first flush
 abbrev first_state : ClientRole → List ℕ → LiveState
-first_state role script = new_live role.local role.server role.isn script
+first_state role script = new_live_in (profile_of role.profile) role.local role.server role.isn script
 
 abbrev first_machine : ClientRole → List ℕ → Client
 first_machine role script = new_client Live role.server (record { ip = role.local.ip; port = role.local.port }) role.isn script
 
 pub fresh_client : (role : ClientRole) (script : List ℕ) (client : LiveState) → length script ≤ 2 ^ 24 → client ≡ first_state role script → IsFresh role client
 fresh_client role script client short made = record {
-  limited = subst (IsLimited role.isn) (sym made) (new_limited role.local role.server role.isn script short);
+  limited = subst (IsLimited role.isn) (sym made) (new_limited (profile_of role.profile) role.local role.server role.isn script short);
   server = ap (λ (l : LiveState). l.server) made;
   outcome = ap (λ (l : LiveState). l.outcome) made;
 }

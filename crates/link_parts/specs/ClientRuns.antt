@@ -10,7 +10,8 @@ use Rattle.ft_model.specs.Client.{Client, new_client}
 use Rattle.ft_model.specs.Client.ClientKind.{Live}
 use Rattle.ft_model.specs.Schedule.{bytes_of}
 use Rattle.ft_model.specs.declared.schedule.Script.{Script}
-use Rattle.peer_client.specs.Live.{LiveState, new_live}
+use Rattle.tcp_rules.specs.Profiles.{profile_of}
+use Rattle.peer_client.specs.Live.{LiveState, new_live_in}
 use Rattle.peer_client.specs.declared.live.ClientEnd.{ClientEnd}
 use Rattle.peer_client.specs.declared.live.ClientEnd.TheVariants as ends
 use Rattle.link_parts.specs.declared.role.ClientRole.{ClientRole}
@@ -42,10 +43,11 @@ pub record Runs (start : LiveState) (machine : Client) (most : ℕ) (calls : Lis
   pub ends : Ends (due_at start turns).outcome (length turns)
   pub modelled : AreNear machine turns → HasMachine start machine turns
 
--- the run that the words ask for: after one bind to their address, with their server, initial sequence number and turns
+-- the run that the words ask for: after one bind to their address, with their profile, server, initial sequence number and turns
 abbrev pub IsClient : ClientRole → (script : List ℕ) → (old new : Option (List LinkCall)) → (List ℕ → Type 0) → (Option ClientEnd → ℕ → Type 0) → Type 0
 IsClient role script old new Writes Ends =
-    Runs (new_live role.local role.server role.isn script) (new_client Live role.server (record { ip = role.local.ip; port = role.local.port }) role.isn script)
+    Runs (new_live_in (profile_of role.profile) role.local role.server role.isn script)
+    (new_client Live role.server (record { ip = role.local.ip; port = role.local.port }) role.isn script)
     role.turns (Bound role.local ∷ []) old new Writes Ends
 
 -- the script: that of the words, or all that the source had left

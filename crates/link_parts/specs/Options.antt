@@ -6,7 +6,7 @@ use Rattle.clap.specs.Lexer.{long_of, short_of}
 use Rattle.clap.specs.Matches.{found_of, first_value}
 use Rattle.clap.specs.declared.parser.matches.ArgMatches.{ArgMatches}
 use Rattle.link_parts.specs.declared.options.OptionName.{OptionName}
-use Rattle.link_parts.specs.declared.options.OptionName.TheVariants.{Local, Logger, SecondLogger, Server, Service, Boot, Isn, Turns, Times, Script, Program, Base, First, Second, Journal, Begin, Part, Other, To}
+use Rattle.link_parts.specs.declared.options.OptionName.TheVariants.{Local, Logger, SecondLogger, Server, Service, Boot, Isn, Turns, Times, Script, Program, Base, First, Second, Journal, Begin, Part, Other, To, Profile}
 
 abbrev pub Text : Type 0
 Text = List ℕ
@@ -36,6 +36,7 @@ name_of Begin = codes "begin"
 name_of Part = codes "part"
 name_of Other = codes "other"
 name_of To = codes "to"
+name_of Profile = codes "profile"
 
 -- an option that its role requires
 abbrev pub is_required : OptionName → Bool
@@ -43,6 +44,7 @@ is_required Script = false
 is_required SecondLogger = false
 is_required Times = false
 is_required Begin = false
+is_required Profile = false
 is_required _ = true
 
 -- `--`, or a word other than `-` that begins with exactly one hyphen

@@ -3,6 +3,8 @@ use Rattle.std.specs.Prelude.{ℕ, ◌*◌, ◌^◌, ◌-◌, Bool, true, false,
 use Rattle.std.specs.Option.{option_and_then}
 use Rattle.std.specs.Str.{bytes_eq}
 use Rattle.ft_io.specs.declared.Addr.{Addr}
+use Rattle.tcp_rules.specs.declared.profile.Profile.{Profile}
+use Rattle.tcp_rules.specs.declared.profile.Profile.TheVariants.{Plain, Wan}
 use Rattle.ft_model.specs.declared.schedule.ServiceKind.{ServiceKind}
 use Rattle.ft_model.specs.declared.schedule.Script.{Script}
 use Rattle.ft_model.specs.Spelling.{addr_of, number_of, service_of, script_of}
@@ -40,6 +42,17 @@ abbrev pub second_in : Option Text → Option (Option Addr)
 second_in None = Some None
 second_in (Some word) = option_map Some (addr_of word)
 
+-- a profile is `plain` or `wan`. If it is left out, it is the plain one
+abbrev pub profile_spelled : Text → Option Profile
+profile_spelled word = if bytes_eq word (codes "plain") then Some Plain else (if bytes_eq word (codes "wan") then Some Wan else None)
+
+abbrev pub profile_in : Option Text → Option Profile
+profile_in None = Some Plain
+profile_in (Some word) = profile_spelled word
+
+abbrev pub profile_at : List Use → Option Profile
+profile_at uses = profile_in (value_of uses option.Profile)
+
 abbrev pub loggers_from : Option Addr → Option (Option Addr) → Option Loggers
 loggers_from (Some first) (Some second) = Some (record { first = first; second = second })
 loggers_from _ _ = None
@@ -76,14 +89,15 @@ all_turns _ _ = None
 abbrev pub all_turns_in : List Use → Option ℕ
 all_turns_in uses = all_turns (turns_in uses) (times_in (value_of uses option.Times))
 
-abbrev pub server_from : Option ServiceKind → Option Addr → Option Loggers → Option ℕ → Option ℕ → Option ℕ → Option ServerRole
-server_from service (Some local) (Some loggers) (Some boot) (Some isn) (Some turns) =
-    Some (record { local = local; loggers = loggers; service = service; boot = boot; isn = isn; turns = turns })
-server_from _ _ _ _ _ _ = None
+abbrev pub server_from : Option ServiceKind → Option Addr → Option Loggers → Option ℕ → Option ℕ → Option ℕ → Option Profile → Option ServerRole
+server_from service (Some local) (Some loggers) (Some boot) (Some isn) (Some turns) (Some profile) =
+    Some (record { local = local; loggers = loggers; service = service; boot = boot; isn = isn; turns = turns; profile = profile })
+server_from _ _ _ _ _ _ _ = None
 
 abbrev pub server_with : List Use → Option ServiceKind → Option ServerRole
 server_with uses service =
     server_from service (addr_at uses option.Local) (loggers_in uses) (number_at 1 (2 ^ 64 - 1) uses option.Boot) (isn_in uses) (all_turns_in uses)
+    (profile_at uses)
 
 abbrev pub server_in : List Use → Option ServerRole
 server_in uses = option_and_then (λ service. server_with uses (Some service)) (service_at uses option.Service)
@@ -99,14 +113,14 @@ logger_from _ _ = None
 abbrev pub logger_in : List Use → Option LoggerRole
 logger_in uses = logger_from (addr_at uses option.Local) (all_turns_in uses)
 
-abbrev pub client_from : Option Addr → Option Addr → Option ℕ → Option ℕ → Option (Option Script) → Option ClientRole
-client_from (Some local) (Some server) (Some isn) (Some turns) (Some script) =
-    Some (record { local = local; server = server; isn = isn; turns = turns; script = script })
-client_from _ _ _ _ _ = None
+abbrev pub client_from : Option Addr → Option Addr → Option ℕ → Option ℕ → Option (Option Script) → Option Profile → Option ClientRole
+client_from (Some local) (Some server) (Some isn) (Some turns) (Some script) (Some profile) =
+    Some (record { local = local; server = server; isn = isn; turns = turns; script = script; profile = profile })
+client_from _ _ _ _ _ _ = None
 
 abbrev pub client_in : List Use → Option ClientRole
 client_in uses =
-    client_from (addr_at uses option.Local) (addr_at uses option.Server) (isn_in uses) (turns_in uses) (script_at uses option.Script)
+    client_from (addr_at uses option.Local) (addr_at uses option.Server) (isn_in uses) (turns_in uses) (script_at uses option.Script) (profile_at uses)
 
 abbrev pub pair_from : Option Text → Option ℕ → Option ℕ → Option ℕ → Option ℕ → Option PairRole
 pair_from (Some program) (Some base) (Some first) (Some second) (Some turns) =
@@ -132,16 +146,21 @@ client_options = option.Local ∷ option.Server ∷ option.Isn ∷ option.Turns 
 abbrev pub pair_options : List OptionName
 pair_options = option.Program ∷ option.Base ∷ option.First ∷ option.Second ∷ option.Turns ∷ []
 
--- in a process that isn't `node`, a server and a logger may take their turns several times. A server of a service of one's own names none
+-- in a process that isn't `node`, a server and a logger may take their turns several times, and a server and a client may have a profile. A server of a service
+-- of one's own names none
 abbrev pub lasting_server_options : List OptionName
 lasting_server_options =
-    option.Local ∷ option.Logger ∷ option.SecondLogger ∷ option.Service ∷ option.Boot ∷ option.Isn ∷ option.Turns ∷ option.Times ∷ []
+    option.Local ∷ option.Logger ∷ option.SecondLogger ∷ option.Service ∷ option.Boot ∷ option.Isn ∷ option.Turns ∷ option.Times ∷ option.Profile ∷ []
 
 abbrev pub own_server_options : List OptionName
-own_server_options = option.Local ∷ option.Logger ∷ option.SecondLogger ∷ option.Boot ∷ option.Isn ∷ option.Turns ∷ option.Times ∷ []
+own_server_options =
+    option.Local ∷ option.Logger ∷ option.SecondLogger ∷ option.Boot ∷ option.Isn ∷ option.Turns ∷ option.Times ∷ option.Profile ∷ []
 
 abbrev pub lasting_logger_options : List OptionName
 lasting_logger_options = option.Local ∷ option.Turns ∷ option.Times ∷ []
+
+abbrev pub lasting_client_options : List OptionName
+lasting_client_options = option.Local ∷ option.Server ∷ option.Isn ∷ option.Turns ∷ option.Script ∷ option.Profile ∷ []
 
 unfoldable pub server_of : List OptionName → List Text → Option NodeRole
 server_of options words = option_map Server (option_and_then server_in (allowed_uses options words))
@@ -152,8 +171,8 @@ own_server_of words = option_map Server (option_and_then own_server_in (allowed_
 unfoldable pub logger_of : List OptionName → List Text → Option NodeRole
 logger_of options words = option_map Logger (option_and_then logger_in (allowed_uses options words))
 
-unfoldable pub client_of : List Text → Option NodeRole
-client_of words = option_map Client (option_and_then client_in (allowed_uses client_options words))
+unfoldable pub client_of : List OptionName → List Text → Option NodeRole
+client_of options words = option_map Client (option_and_then client_in (allowed_uses options words))
 
 unfoldable pub pair_of : List Text → Option NodeRole
 pair_of words = option_map Pair (option_and_then pair_in (allowed_uses pair_options words))
@@ -164,7 +183,7 @@ role_of [] = None
 role_of (name ∷ words) =
     if bytes_eq name (codes "server") then server_of server_options words
     else (if bytes_eq name (codes "logger") then logger_of logger_options words
-    else (if bytes_eq name (codes "client") then client_of words
+    else (if bytes_eq name (codes "client") then client_of client_options words
     else (if bytes_eq name (codes "pair") then pair_of words
     else None)))
 
@@ -174,7 +193,7 @@ lasting_role_of [] = None
 lasting_role_of (name ∷ words) =
     if bytes_eq name (codes "server") then server_of lasting_server_options words
     else (if bytes_eq name (codes "logger") then logger_of lasting_logger_options words
-    else (if bytes_eq name (codes "client") then client_of words
+    else (if bytes_eq name (codes "client") then client_of lasting_client_options words
     else (if bytes_eq name (codes "pair") then pair_of words
     else None)))
 

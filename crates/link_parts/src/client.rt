@@ -191,7 +191,14 @@ fn run_script<L: Link, O: Sink>(
     ensures no_bind_fault { UnlessFault result (L.bind_fault_count link.new ≡ L.bind_fault_count link.old) }
     ensures no_write_fault { UnlessFault result (O.fault_count out.new ≡ O.fault_count out.old) }
 {
-    let mut client = LiveClient::new(alloc, role.local, role.server, role.isn, script)?;
+    let mut client = LiveClient::new_in(
+        role.profile,
+        alloc,
+        role.local,
+        role.server,
+        role.isn,
+        script,
+    )?;
     let mut outbox = Outbox::new(alloc)?;
     let mut room = accept_room(alloc)?;
     match link.bind(role.local) {

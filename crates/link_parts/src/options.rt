@@ -44,6 +44,8 @@ pub enum OptionName {
     Other,
     /// The logger that serves alone from now on. No role of `node` has this option.
     To,
+    /// What suits a server's or a client's path. No role of `node` has this option.
+    Profile,
 }
 
 impl OptionName {
@@ -71,6 +73,7 @@ impl OptionName {
             OptionName::Part => "part",
             OptionName::Other => "other",
             OptionName::To => "to",
+            OptionName::Profile => "profile",
         }
     }
 
@@ -80,7 +83,11 @@ impl OptionName {
     {
         !matches!(
             self,
-            OptionName::Script | OptionName::SecondLogger | OptionName::Times | OptionName::Begin
+            OptionName::Script
+                | OptionName::SecondLogger
+                | OptionName::Times
+                | OptionName::Begin
+                | OptionName::Profile
         )
     }
 

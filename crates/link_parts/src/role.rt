@@ -7,7 +7,8 @@ ghost use Rattle.link_parts.specs.declared.options.OptionName.TheVariants as opt
 ghost use Rattle.link_parts.specs.Ranges.{most_turns, ServerInRange, IsShort, ClientInRange, InRange};
 ghost use Rattle.link_parts.specs.Roles.{addr_at as addr_lem, number_at as number_lem, service_at as service_lem, script_at as script_lem};
 ghost use Rattle.link_parts.specs.Roles.{program_at as program_lem};
-ghost use Rattle.link_parts.specs.Roles.{loggers_in, times_in, all_turns_in, server_with as server_lem, server_in, own_server_in, logger_in, client_in, pair_in};
+ghost use Rattle.link_parts.specs.Roles.{loggers_in, times_in, all_turns_in, profile_spelled, profile_at as profile_lem};
+ghost use Rattle.link_parts.specs.Roles.{server_with as server_lem, server_in, own_server_in, logger_in, client_in, pair_in};
 ghost use Rattle.link_parts.specs.Roles.{server_of, own_server_of, logger_of, client_of, pair_of, role_of, lasting_role_of, own_role_of};
 ghost use Rattle.link_parts.specs.ServiceNumber.{kind_in};
 
@@ -18,6 +19,7 @@ use ft_io::{Addr, NoMemory};
 use ft_model::{Script, ServiceKind};
 use schedule_text::{read_addr, read_number, read_script, read_service};
 use std::alloc::Global;
+use tcp_rules::Profile;
 
 const SERVER_OPTIONS: [OptionName; 7] = [
     OptionName::Local,
@@ -29,7 +31,7 @@ const SERVER_OPTIONS: [OptionName; 7] = [
     OptionName::Turns,
 ];
 
-const LASTING_SERVER_OPTIONS: [OptionName; 8] = [
+const LASTING_SERVER_OPTIONS: [OptionName; 9] = [
     OptionName::Local,
     OptionName::Logger,
     OptionName::SecondLogger,
@@ -38,9 +40,10 @@ const LASTING_SERVER_OPTIONS: [OptionName; 8] = [
     OptionName::Isn,
     OptionName::Turns,
     OptionName::Times,
+    OptionName::Profile,
 ];
 
-const OWN_SERVER_OPTIONS: [OptionName; 7] = [
+const OWN_SERVER_OPTIONS: [OptionName; 8] = [
     OptionName::Local,
     OptionName::Logger,
     OptionName::SecondLogger,
@@ -48,6 +51,7 @@ const OWN_SERVER_OPTIONS: [OptionName; 7] = [
     OptionName::Isn,
     OptionName::Turns,
     OptionName::Times,
+    OptionName::Profile,
 ];
 
 const LOGGER_OPTIONS: [OptionName; 2] = [OptionName::Local, OptionName::Turns];
@@ -64,6 +68,15 @@ const CLIENT_OPTIONS: [OptionName; 5] = [
     OptionName::Isn,
     OptionName::Turns,
     OptionName::Script,
+];
+
+const LASTING_CLIENT_OPTIONS: [OptionName; 6] = [
+    OptionName::Local,
+    OptionName::Server,
+    OptionName::Isn,
+    OptionName::Turns,
+    OptionName::Script,
+    OptionName::Profile,
 ];
 
 const PAIR_OPTIONS: [OptionName; 5] = [
@@ -106,6 +119,8 @@ pub struct ServerRole {
     pub isn: u32,
     /// How many turns it takes, 1 to 4 * 10^18.
     pub turns: u64,
+    /// What suits the path to its clients.
+    pub profile: Profile,
 }
 
 /// A logger that starts with an empty log.
@@ -130,6 +145,8 @@ pub struct ClientRole {
     pub turns: u32,
     /// The bytes that it sends. `None`: it reads them from the input.
     pub script: Option<Script>,
+    /// What suits the path to its server.
+    pub profile: Profile,
 }
 
 /// Two servers, one after the other, with a logger and a client, each a process.
@@ -258,6 +275,26 @@ fn loggers_at(matches: &ArgMatches<'_>) -> Option<Loggers>
     }
 }
 
+fn read_profile(word: &[u8]) -> Option<Profile>
+    ensures { result ≡ profile_spelled word.now }
+{
+    match word {
+        b"plain" => Some(Profile::Plain),
+        b"wan" => Some(Profile::Wan),
+        _ => None,
+    }
+}
+
+/// Returns the profile, or `None` where the word names none. Without a word it is the plain one.
+fn profile_at(matches: &ArgMatches<'_>) -> Option<Profile>
+    ensures { (uses : List Use) → HasValues uses matches.now → result ≡ profile_lem uses }
+{
+    match matches.get_str(OptionName::Profile.word()) {
+        None => Some(Profile::Plain),
+        Some(word) => read_profile(word.as_bytes()),
+    }
+}
+
 fn server_with(matches: &ArgMatches<'_>, service: Option<ServiceKind>) -> Option<ServerRole>
     ensures range { IfSome result (λ role. ServerInRange role) }
     ensures value { (uses : List Use) → HasValues uses matches.now → result ≡ server_lem uses service }
@@ -269,6 +306,7 @@ fn server_with(matches: &ArgMatches<'_>, service: Option<ServiceKind>) -> Option
         boot: number_at(matches, OptionName::Boot, 1, u64::MAX)?,
         isn: number_at(matches, OptionName::Isn, 0, u64::from(u32::MAX))? as u32,
         turns: all_turns_at(matches)?,
+        profile: profile_at(matches)?,
     })
 }
 
@@ -310,6 +348,7 @@ fn client_with(matches: &ArgMatches<'_>, script: Option<Option<Script>>) -> Opti
         isn: number_at(matches, OptionName::Isn, 0, u64::from(u32::MAX))? as u32,
         turns: number_at(matches, OptionName::Turns, 1, TURN_LIMIT)? as u32,
         script: script?,
+        profile: profile_at(matches)?,
     })
 }
 
@@ -376,11 +415,15 @@ fn read_logger(
 }
 
 #[tactic(auto, unfolding(crate::specs::Roles::client_of))]
-fn read_client(alloc: Global, words: &[String]) -> Result<Option<NodeRole>, NoMemory>
-    ensures role { IfOk result (λ role. role ≡ client_of (map string_bytes words.now)) }
+fn read_client(
+    alloc: Global,
+    options: &[OptionName],
+    words: &[String],
+) -> Result<Option<NodeRole>, NoMemory>
+    ensures role { IfOk result (λ role. role ≡ client_of options.now (map string_bytes words.now)) }
     ensures range { IfOk result (λ role. IfSome role InRange) }
 {
-    let Some(matches) = read_options(alloc, &CLIENT_OPTIONS, words)? else {
+    let Some(matches) = read_options(alloc, options, words)? else {
         return Ok(None);
     };
     match client_role(alloc, &matches)? {
@@ -416,13 +459,13 @@ pub fn read_role(alloc: Global, words: &[String]) -> Result<Option<NodeRole>, No
     match name.as_str() {
         "server" => read_server(alloc, &SERVER_OPTIONS, words),
         "logger" => read_logger(alloc, &LOGGER_OPTIONS, words),
-        "client" => read_client(alloc, words),
+        "client" => read_client(alloc, &CLIENT_OPTIONS, words),
         "pair" => read_pair(alloc, words),
         _ => Ok(None),
     }
 }
 
-/// Reads a role as [`read_role`] does. The words of a server and of a logger may have `--times` too.
+/// Reads a role as [`read_role`] does. The words of a server and of a logger may have `--times` too, and those of a server and of a client `--profile`.
 #[tactic(auto, unfolding(crate::specs::Roles::lasting_role_of))]
 pub fn read_lasting_role(alloc: Global, words: &[String]) -> Result<Option<NodeRole>, NoMemory>
     ensures role { IfOk result (λ role. role ≡ lasting_role_of (map string_bytes words.now)) }
@@ -434,13 +477,14 @@ pub fn read_lasting_role(alloc: Global, words: &[String]) -> Result<Option<NodeR
     match name.as_str() {
         "server" => read_server(alloc, &LASTING_SERVER_OPTIONS, words),
         "logger" => read_logger(alloc, &LASTING_LOGGER_OPTIONS, words),
-        "client" => read_client(alloc, words),
+        "client" => read_client(alloc, &LASTING_CLIENT_OPTIONS, words),
         "pair" => read_pair(alloc, words),
         _ => Ok(None),
     }
 }
 
-/// Reads the role of a program with a service of its own: a server, without `--service`, or a logger. Both may have `--times`.
+/// Reads the role of a program with a service of its own: a server, without `--service`, or a logger. Both may have `--times`, and the
+/// server `--profile`.
 #[tactic(auto, unfolding(crate::specs::Roles::own_role_of))]
 pub fn read_own_role(alloc: Global, words: &[String]) -> Result<Option<NodeRole>, NoMemory>
     ensures role { IfOk result (λ role. role ≡ own_role_of (map string_bytes words.now)) }

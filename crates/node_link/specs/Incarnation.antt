@@ -3,7 +3,7 @@ use Rattle.std.specs.Prelude.{◌≡◌, ℕ, Option, None, map, List, [], ◌�
 use Rattle.std.specs.List.{AllByRecursion}
 use Rattle.ft_io.specs.declared.Key.{Key}
 use Rattle.server_trait.specs.Service.{Machine}
-use Rattle.tcp_rules.specs.Profile.{plain}
+use Rattle.tcp_rules.specs.Profiles.{profile_of}
 use Rattle.ft_model.specs.Node.{Node, Input, booted}
 use Rattle.ft_model.specs.Lawful.{Turn, IsLawful, node_after, hello, fence, IsNearInput, IsSoundInput}
 use Rattle.ft_model.specs.Wire.{wire_of, HasWire}
@@ -14,9 +14,9 @@ use Rattle.link_parts.specs.Receipt.{Received}
 use Rattle.node_link.specs.ServerTurns.{Sent, wires_in, ServerTurn, input_from}
 use Rattle.link_parts.specs.ServiceNumber.{kind_in}
 
--- the incarnation of these words, as it boots. Its profile is plain
+-- the incarnation of these words, as it boots
 abbrev pub first_of : ServerRole → Node
-first_of role = booted role.local plain role.boot role.isn
+first_of role = booted role.local (profile_of role.profile) role.boot role.isn
 
 abbrev pub input_in : ServerRole → Received → Input
 input_in role received = input_from role.loggers received

@@ -56,7 +56,7 @@ pub record HasSent (loggers : Loggers) (wires : List Wire) (old new : Option (Li
   pub counts_are : counts ≡ with_calls counted (sending loggers sent)
 
 abbrev pub identity_of : ServerRole → Identity
-identity_of role = record { boot = role.boot; isn = role.isn; kind = kind_in role.service; local = role.local }
+identity_of role = record { boot = role.boot; isn = role.isn; kind = kind_in role.service; local = role.local; profile = role.profile }
 
 -- a turn that ended the node: it received, and sent nothing
 pub record EndsTurn (loggers : Loggers) (old new : Option (List LinkCall)) (Ends : law.Input → Type 0) : Type 0 where

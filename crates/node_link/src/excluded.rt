@@ -1,11 +1,13 @@
 //! Wrong results that the contracts of this crate exclude. Each function calls another one of the crate, and promises of its result what a wrong body would make
 //! false. It is proved from the other's contract alone, so it is no longer proved once that contract lets the wrong body pass.
 
-ghost use Rattle.std.specs.Prelude.{◌≡◌, ◌^◌, Bool, Some, [], ◌∷◌, List, map, IsErrOf, OnOk};
+ghost use Rattle.std.specs.Prelude.{◌≡◌, ◌^◌, Bool, Some, [], ◌∷◌, List, map, IfOk, IsErrOf, OnOk};
 ghost use Rattle.ft_io.specs.declared.Addr.{Addr};
 ghost use Rattle.ft_io.specs.Told.{Tells};
 ghost use Rattle.ft_io.specs.declared.link_call.LinkCall.{LinkCall};
 ghost use Rattle.ft_io.specs.declared.link_call.LinkCall.TheVariants.{Bound, Handed};
+ghost use Rattle.tcp_rules.specs.Profile.{wan};
+ghost use Rattle.tcp_rules.specs.declared.profile.Profile.TheVariants as profiles;
 ghost use Rattle.ft_model.specs.Lawful.{hello};
 ghost use Rattle.ft_model.specs.Node.{Stage};
 ghost use Rattle.ft_model.specs.Node.Input.{Tick_comes};
@@ -17,8 +19,8 @@ ghost use Rattle.link_parts.specs.Ranges.{ServerInRange};
 ghost use Rattle.node_link.specs.ServerParts.{standing_of};
 ghost use Rattle.node_link.specs.ServerTurns.{ServerTurn, address_of, input_from, second_for, turn_calls, wires_in};
 
-use crate::server::{run_server, send_one, take_turn};
-use ft_io::{Link, Sink};
+use crate::server::{boot, run_server, send_one, take_turn};
+use ft_io::{Link, NoMemory, Sink};
 use link_parts::{Counts, Loggers, NodeEnd, ServerRole};
 use server_node::{Node, OutPacket, TurnEnd};
 use server_trait::Saved;
@@ -66,4 +68,19 @@ fn sends_to_one_logger_alone<L: Link>(
         (Handed (address_of loggers.first packet.now.to) packet.now.bytes is_lost ∷ Handed second packet.now.bytes is_second_lost ∷ []) }
 {
     send_one(link, loggers, packet, counts);
+}
+
+/// A server whose words say `wan` boots a node with that profile: the clause `booted` of `boot`.
+fn ignores_the_profile<S: Saved, L: Link>(
+    alloc: Global,
+    role: &ServerRole,
+    link: &mut L,
+    counts: &mut Counts,
+) -> Result<Node<S>, NoMemory>
+    requires range { ServerInRange role.now }
+    requires room { HasRoom (2 ^ 65) counts.old }
+    requires chosen { role.now.profile ≡ profiles.Wan }
+    ensures { IfOk result (λ node. (standing : Stage) → (node_of (standing_of node).who standing).profile ≡ wan) }
+{
+    boot::<S, L>(alloc, role, link, counts)
 }

@@ -145,8 +145,8 @@ pub(crate) fn take_turn<S: Saved, L: Link>(
     Ok(())
 }
 
-/// Boots a node, and sends the packets of its boot.
-fn boot<S: Saved, L: Link>(
+/// Boots a node without marks, and sends the packets of its boot.
+pub(crate) fn boot<S: Saved, L: Link>(
     alloc: Global,
     role: &ServerRole,
     link: &mut L,
@@ -158,7 +158,15 @@ fn boot<S: Saved, L: Link>(
     ensures lost { OnErr result (L.told link.new ≡ L.told link.old) }
     ensures no_bind_fault { L.bind_fault_count link.new ≡ L.bind_fault_count link.old }
 {
-    let node = Node::boot(alloc, role.boot, role.isn, role.kind(), role.local)?;
+    let node = Node::boot_in(
+        alloc,
+        role.profile,
+        role.boot,
+        role.isn,
+        role.kind(),
+        role.local,
+        0,
+    )?;
     send_all(link, role.loggers, node.sent(), counts);
     Ok(node)
 }
