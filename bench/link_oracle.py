@@ -127,6 +127,13 @@ refused += [without(LOGGER, "turns") + " --times 3"]
 allowed += [(words + more, name) for words, name in ((LOGGER, "logger"), (SERVER, "server"), (PARTED, "head"), (KEPT, "journal")) for more in (" --times 1", " --times=4000000000000")]
 refused += [KEPT + " --begin" + text for text in ("", " no", " ''", "=", " Yes", " 1", " yes --begin yes")] + [words + " --begin yes" for words in (LOGGER, SERVER, CLIENT, PAIR, PARTED, ALONE)]
 allowed += [(KEPT + more, "journal") for more in (" --begin yes", " --begin=yes")]
+# a profile: an option of a server and of a client, which may be left out
+refused += [words + " --profile" + text for words in (SERVER, CLIENT) for text in ("", " ''", "=", " fast", " Wan", " PLAIN", " wan~", " 1", " -", " wan wan")]
+refused += [words + " --profile wan" + text for words in (SERVER, CLIENT) for text in (" --profile wan", " --profile=plain")] + [CLIENT + " --Profile wan"]
+refused += [words + f" --profile {name}" for words in (LOGGER, KEPT, PAIR, PARTED, ALONE) for name in ("plain", "wan")]
+allowed += [(words + more, name) for words, name in ((SERVER, "server"), (CLIENT, "client"), (DOUBLE + " --times 2", "server")) for more in (" --profile plain", " --profile=plain")]
+allowed += [(words + more, name + " wan") for words, name in ((SERVER, "server"), (CLIENT, "client"), (DOUBLE + " --times 2", "server")) for more in (" --profile wan", " --profile=wan")]
+allowed += [("server --profile=wan" + SERVER[6:], "server wan"), ("client --profile wan" + CLIENT[6:] + " --script hex:6869", "client wan")]
 allowed += [(KEPT, "journal"), ("logger --times=004000000000000 --turns=1000000 --local=127.0.0.1:7040", "logger")]
 allowed += [(PARTED, "head"), ("logger --other=127.0.0.1:7041 --part=tail --turns=3 --local=127.0.0.1:7040", "tail")]
 allowed += [(ALONE, "alone"), ("alone --to=127.0.0.1:7041 --local=127.0.0.1:7050", "alone"), (DOUBLE, "server"), (SERVER + " --second=127.0.0.1:7008", "server")]
@@ -338,19 +345,19 @@ def lived(comes, turns, script, receive=0):
     return 8, accepted, turns, sends
 
 
-def life(comes, turns, status, said, receives, sends, script=b"", **fails):
-    if set(fails) <= {"receive"}:
+def life(comes, turns, status, said, receives, sends, script=b"", more="", **fails):
+    """A client's life, written down by hand. The endpoint of the model plays it too; it knows the plain profile alone."""
+    if set(fails) <= {"receive"} and not more:
         ended, accepted, *counts = lived(comes, turns, script, **fails)
         told = accepted.decode().splitlines() + [text for number, text in ((7, reset), (8, spent)) if number == ended]
         assert (ended, told, counts) == (status, said, [receives, sends]), (comes, ended, told, counts)
     for came in comes:
-        script_line = f"come 192.0.2.100:7 {packet(*came)}"
-        line(script_line)
+        line(f"come 192.0.2.100:7 {packet(*came)}" if came else "nothing")
     if script:
         line("input " + script.hex())
     for call, number in fails.items():
         line(f"fail {call} {number}")
-    words = f"brief client --local 192.0.2.1:40000 --server 192.0.2.100:7 --isn 1000 --turns {turns}"
+    words = f"brief client --local 192.0.2.1:40000 --server 192.0.2.100:7 --isn 1000 --turns {turns}{more}"
     line(words, f"status {status}", *said, f"receives {receives} sends {sends}")
 
 
@@ -405,6 +412,25 @@ life([both], 2, 8, [spent], 2, 1 + 4 + 1, script=long_script)
 life([both, (ACK, 5001, 1001 + 2144)], 3, 8, [spent], 3, 1 + 4 + 1 + 2, script=long_script, receive=2)
 life(closed, 5, 9, ["ftnode: read fault"], 0, 0, script=b"hi", read=2)
 life(closed, 5, 4, ["ftnode: link fault"], 0, 0, bind=1)
+line("# how long a client waits: a tick at first, and with the profile for far paths ten", "# how long a client waits: a tick at first, and with the profile for far paths ten")
+WAN = " --profile wan"
+for turns, plain_sends, wan_sends in ((1, 2, 1), (9, 4, 1), (10, 4, 2), (29, 5, 2), (30, 5, 3)):
+    life([], turns, 8, [spent], turns, plain_sends)
+    life([], turns, 8, [spent], turns, plain_sends, more=" --profile plain")
+    life([], turns, 8, [spent], turns, wan_sends, more=WAN)
+# the text and the FIN behind it are sent once, though the server's answer takes nine ticks
+slow = [both, *[None] * 9, (FIN | ACK, 5001, 1004)]
+life(slow, 20, 0, [], 11, 7, script=b"hi")
+life(slow, 20, 0, [], 11, 4, script=b"hi", more=WAN)
+life([both, *[None] * 10, (FIN | ACK, 5001, 1004)], 20, 0, [], 12, 5, script=b"hi", more=WAN)
+# an acknowledgement after two ticks: from then on the client waits six
+two_later = [both, None, None, (ACK, 5001, 1001 + 536)]
+for turns, sends in ((4, 1 + 4 + 2), (9, 1 + 4 + 2), (10, 1 + 4 + 2 + 1)):
+    life(two_later, turns, 8, [spent], turns, sends, script=long_script, more=WAN)
+# four segments and a FIN, of which the server has none at first: each acknowledgement of a part sends the next one again at once, to the end of both streams
+again_and_again = [(ACK, 5001, 1001 + n) for n in (536, 1072, 1608)] + [(FIN | ACK, 5001, 1001 + 2048)]
+life([both, again, again, again, *again_and_again], 20, 0, [], 8, 1 + 5 + 1 + 1, script=long_script[:2047])
+life([both, again, again, again, *again_and_again], 20, 0, [], 8, 1 + 5 + 1 + 3 + 1, script=long_script[:2047], more=WAN)
 line("# faults of the bind and of the sinks", "# faults of the bind and of the sinks")
 run(LOGGER, [], bind=1)
 run(SERVER, [], bind=1)
@@ -495,6 +521,7 @@ own_refused += ["server", without(OWN, "turns") + " --turns=0", OWN + " --boot 2
 own_refused += [without(OWN, name) for name in ("local", "logger", "boot", "isn", "turns")]
 own_refused += [without(OWN, name) + f" --{name} {value}" for name, value in (("boot", "0"), ("boot", "18446744073709551616"), ("isn", "4294967296"), ("turns", "1000001"))]
 own_refused += [without(OWN, name) + f" --{name} 127.0.0.1:0" for name in ("local", "logger")]
+own_refused += [OWN + " --profile" + text for text in ("", " fast", "=", " Plain", " wan --profile wan")] + [CLIENT + " --profile wan", PAIR + " --profile wan"]
 own_refused += [CLIENT, CLIENT + " --script -", PAIR, "pair --turns=600 --second=500 --first=40 --base=7007 --program=ftnode"]
 for words in own_refused:
     line("own " + words, "status 2", "ftnode: usage")
@@ -529,6 +556,11 @@ for way in ("run", "own"):
 line("# `node` has neither this option nor the roles beside its own", "# `node` has neither this option nor the roles beside its own")
 for words in (SERVER + " --times 2", LOGGER + " --times 2", KEPT, PARTED, ALONE):
     line("node " + words, "status 2", "ftnode: usage")
+for words in (SERVER, CLIENT, LOGGER, PAIR):
+    for name in ("plain", "wan"):
+        line(f"node {words} --profile {name}", "status 2", "ftnode: usage")
+for words in (SERVER + " --profile fast", CLIENT + " --profile wan --profile wan", LOGGER + " --profile wan", KEPT + " --profile wan", PARTED + " --profile plain"):
+    line("run " + words, "status 2", "ftnode: usage")
 run(SERVER, six, way="node")
 run(DOUBLE, six, way="node")
 run(SIX, peers, way="node")
@@ -582,29 +614,41 @@ def logs(kind, boot, body):
     return LOG, message(kind, boot, body)
 
 
-LIST, ENTRY, BYTES, PART, CUTS, LENS, OPEN, OPENED, DATA, STABLE, READ, READS = range(3, 15)
+LIST, ENTRY, BYTES, PART, CUTS, LENS, OPEN, OPENED, DATA, STABLE, READ, READS, DONE, ENDED = range(3, 17)
 MSS = bytes([2, 4]) + (1460).to_bytes(2, "big")
+TICK = ("tick",)
 
 
-def kept(length, reads):
-    return KEY + long(length) + b"\0" + long(reads)
+def kept(length, reads, fin=False):
+    return KEY + long(length) + bytes([fin]) + long(reads)
+
+
+def logs_data(boot, offset, acked, text=b"", fin=False):
+    return logs(DATA, boot, KEY + long(offset) + long(acked) + bytes([fin]) + text)
+
+
+def logs_read(boot, index, length):
+    return logs(READ, boot, KEY + long(index) + length.to_bytes(2, "big"))
 
 
 def played(words, steps, way="own", second=None):
-    """A server with these words: each step is what comes, and what the server then hands to send. What goes to the logger goes next to the second."""
+    """A server with these words, without its turns: each step is what comes (None: the boot, TICK: nothing), and what the server then hands to send. What goes to
+    the logger goes next to the second."""
     steps = [(came, [s for to, data in sends for s in [(to, data)] + ([(second, data)] if second and to == LOG else [])]) for came, sends in steps]
+    script.extend("nothing" if came == TICK else f"come {came[0]} {came[1]}" for came, sends in steps if came)
+    turns, ticks = sum(1 for came, sends in steps if came), sum(1 for came, sends in steps if came == TICK)
+    script.append(f"{way} {words} --turns {turns}")
+    calls = []
     for came, sends in steps:
-        if came:
-            script.append(f"come {came[0]} {came[1]}")
-    script.append(f"{way} {words}")
-    calls = [call for came, sends in steps for call in ([f"came {came[0]} {came[1]}"] if came else []) + [f"sent {to} {data}" for to, data in sends]]
-    turns = sum(1 for came, sends in steps if came)
-    printed.extend(["status 0", f"turns {turns} datagrams {turns} sent {sum(len(s) for c, s in steps)} lost 0 failed 0", "bound 127.0.0.1:7007 -", *calls])
+        calls += ["silent" if came == TICK else f"came {came[0]} {came[1]}"] if came else []
+        calls += [f"sent {to} {sent}" for to, sent in sends]
+    sends = sum(len(s) for c, s in steps)
+    printed.extend(["status 0", f"turns {turns} datagrams {turns - ticks} sent {sends} lost 0 failed 0", "bound 127.0.0.1:7007 -", *calls])
 
 
 line("# Counter says 6 behind the first line, and, started again from the log, 12 behind the second", "# Counter says 6 behind the first line, and, started again from the log, 12 behind the second")
 first, second = b"hello\n", b"world\n"
-played(without(OWN, "turns") + " --turns 7", [
+played(without(OWN, "turns"), [
     (None, [(LOG, hello(1))]),
     ((LOG, summary(1, 0)), []),
     (says(SYN, 1000, 0), [logs(OPEN, 1, OPENING)]),
@@ -614,7 +658,7 @@ played(without(OWN, "turns") + " --turns 7", [
     (logs(STABLE, 1, kept(6, 0)), [hears(ACK, 5001, 1007)]),
     (logs(READS, 1, kept(6, 1)), [hears(ACK, 5001, 1007, b"6\n")]),
 ])
-played(OWN.replace("--boot 1 --isn 5000 --turns 6", "--boot 2 --isn 900000 --turns 7"), [
+played(OWN.replace("--boot 1 --isn 5000 --turns 6", "--boot 2 --isn 900000"), [
     # the client has the 6 already, and says so; the second server hasn't said it yet, and does
     (None, [(LOG, hello(2))]),
     ((LOG, summary(2, 1)), [logs(LIST, 2, b"\0\0")]),
@@ -626,12 +670,65 @@ played(OWN.replace("--boot 1 --isn 5000 --turns 6", "--boot 2 --isn 900000 --tur
     (logs(READS, 2, kept(12, 2)), [hears(ACK, 5003, 1013, b"12\n")]),
 ])
 
+OPENS = [
+    (None, [(LOG, hello(1))]),
+    ((LOG, summary(1, 0)), []),
+    (says(SYN, 1000, 0), [logs(OPEN, 1, OPENING)]),
+    (logs(OPENED, 1, OPENING), [hears(SYN | ACK, 5000, 1001, options=MSS)]),
+    (says(ACK, 1001, 5001), []),
+]
+
+
+def closes(client, server, taken, output, reads, waits):
+    """The client closes behind so many bytes, the server behind its output, and the connection is done."""
+    ended = kept(taken, reads, True)
+    return [
+        (says(FIN | ACK, client, server), ([] if waits else [hears(ACK, server, client)]) + [logs_data(1, taken, output, fin=True), logs_read(1, reads, 0)]),
+        (logs(STABLE, 1, ended), [hears(ACK, server, client + 1)]),
+        (logs(READS, 1, kept(taken, reads + 1, True)), [hears(FIN | ACK, server, client + 1)]),
+        (says(ACK, client + 1, server + 1), [logs_data(1, taken, output + 1)]),
+        (logs(STABLE, 1, kept(taken, reads + 1, True)), []),
+        *[(TICK, [])] * 3,
+        (TICK, [logs(DONE, 1, KEY)]),
+        (logs(ENDED, 1, KEY), []),
+    ]
+
+
+line("# with the profile for far paths an ACK waits for the log; to the end of a connection", "# with the profile for far paths an ACK waits for the log; to the end of a connection")
+for waits in (False, True):
+    played(without(SERVER, "turns") + (WAN if waits else ""), [
+        *OPENS,
+        (says(ACK, 1001, 5001, b"hello"), ([] if waits else [hears(ACK, 5001, 1001)]) + [logs_data(1, 0, 0, b"hello"), logs_read(1, 0, 5)]),
+        (logs(STABLE, 1, kept(5, 0)), [hears(ACK, 5001, 1006)]),
+        (logs(READS, 1, kept(5, 1)), [hears(ACK, 5001, 1006, b"hello")]),
+        *closes(1006, 5006, 5, 5, 1, waits),
+    ], way="run")
+line("# it measures round trips, and recovers from a loss without a wait", "# it measures round trips, and recovers from a loss without a wait")
+output = bytes(place % 251 for place in range(2047))
+parts = [hears(ACK, 5001 + at, 1005, output[at : at + 536]) for at in range(0, 2047, 536)]
+acks = [says(ACK, 1005, 5001 + at) for at in range(0, 2047, 536)]
+played(without(SERVER, "turns").replace("echo", "transfer") + WAN, [
+    *OPENS,
+    (says(ACK, 1001, 5001, (2047).to_bytes(4, "big")), [logs_data(1, 0, 0, (2047).to_bytes(4, "big")), logs_read(1, 0, 4)]),
+    (logs(STABLE, 1, kept(4, 0)), [hears(ACK, 5001, 1005)]),
+    (logs(READS, 1, kept(4, 1)), parts),
+    *[(TICK, [])] * 2,
+    (acks[1], [logs_data(1, 4, 536)]),
+    *[(acks[1], [])] * 2,
+    (acks[1], [parts[1]]),
+    (acks[2], [parts[2], logs_data(1, 4, 1072)]),
+    *[(TICK, [])] * 5,
+    (TICK, [parts[2]]),
+    (acks[3], [parts[3], logs_data(1, 4, 1608)]),
+    (says(ACK, 1005, 5001 + 2047), [logs_data(1, 4, 2047)]),
+    *closes(1005, 5001 + 2047, 4, 2047, 1, True),
+], way="run")
+
 
 # A server with two loggers
 BACK = "127.0.0.1:7009"
 line("# each message goes to the logger and next to the second, and a datagram of either is a message", "# each message goes to the logger and next to the second, and a datagram of either is a message")
-DOUBLED = DOUBLE.replace("--turns 6", "--turns 7")
-played(DOUBLED, [
+played(without(DOUBLE, "turns"), [
     (None, [(LOG, hello(1))]),
     ((BACK, summary(1, 0)), []),
     (says(SYN, 1000, 0), [logs(OPEN, 1, OPENING)]),

@@ -1,7 +1,7 @@
 //! Runs of a process over a link in memory, by the lines of a script: it is said how each run ends. The lines of a script:
 //!
 //! - `# ..` is printed as it is;
-//! - `ask WORDS` prints which role the words ask for. In words `~` means a space, and `''` an empty word;
+//! - `ask WORDS` prints which role the words ask for, and with which profile, if it isn't the plain one. In words `~` means a space, and `''` an empty word;
 //! - `come FROM HEX` adds a datagram to what arrives at the next run, and `nothing` a receive that times out;
 //! - `input HEX` is the input of the next run;
 //! - `child N` gives the next child of the next run the status N; without this line it is 0;
@@ -33,6 +33,7 @@ use std::net::Net;
 use std::process::Processes;
 use std::rt::Env;
 use std::time::Clock;
+use tcp_rules::Profile;
 use test_data::{Said, bytes_of_hex};
 use twin_log::Part;
 
@@ -201,12 +202,18 @@ fn ask(alloc: Global, text: &str, said: &mut Said) -> Result<(), NoMemory> {
     Ok(())
 }
 
-/// The name of a role.
+/// The name of a role, and its profile if that isn't the plain one.
 fn name_of<'a>(role: &Role) -> &'a str {
     match role {
-        Role::Node(NodeRole::Server(_)) => "server",
+        Role::Node(NodeRole::Server(role)) => match role.profile {
+            Profile::Plain => "server",
+            Profile::Wan => "server wan",
+        },
         Role::Node(NodeRole::Logger(_)) => "logger",
-        Role::Node(NodeRole::Client(_)) => "client",
+        Role::Node(NodeRole::Client(role)) => match role.profile {
+            Profile::Plain => "client",
+            Profile::Wan => "client wan",
+        },
         Role::Node(NodeRole::Pair(_)) => "pair",
         Role::Journal(_) => "journal",
         Role::Twin(TwinRole::Logger(role)) => match role.part {
