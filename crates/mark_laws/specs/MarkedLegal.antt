@@ -1,6 +1,6 @@
 -- A legal trace of a schedule with marks. It is like one without, except that the messages about marks count among the packets.
 use Rattle.std.specs.Prelude.{◌≡◌, ℕ, ◌*◌, length, nat_le, Option, Some, None, is_some, List, [], ◌∷◌, ◌++◌, if◌then◌else◌}
-use Rattle.tcp_rules.specs.Profile.{plain}
+use Rattle.tcp_rules.specs.Profiles.{profile_of}
 use Rattle.server_trait.specs.Service.{Machine}
 use Rattle.server_trait.specs.Saved.{writing}
 use Rattle.ft_model.specs.Legal.{refusal, IsScripted}
@@ -14,12 +14,12 @@ use Rattle.mark_laws.specs.MarkedLog.{nothing_logged}
 use Rattle.mark_laws.specs.MarkedNode.{Marker}
 use Rattle.mark_laws.specs.MarkedWorld.{Parcel, MarkedWorld, MarkedMoment, MarkedJoint, seen, usual, parcel_at, bytes_of, marked_after}
 
--- before the first event: nothing was sent, nothing is logged, and the server is down
+-- before the first event: nothing was sent, nothing is logged, and the server is down. Its profile is the schedule's
 abbrev pub marked_start : Schedule → MarkedWorld
 marked_start schedule =
     record {
       server = schedule.server;
-      profile = plain;
+      profile = profile_of schedule.profile;
       clients = clients_of schedule.server schedule.clients;
       log = nothing_logged;
       parcels = [];

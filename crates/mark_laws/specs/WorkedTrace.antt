@@ -3,6 +3,7 @@
 use Rattle.std.specs.Prelude.{ℕ, Bool, true, false, pos, Option, Some, None, option_map, List, [], ◌∷◌, ◌++◌, map, if◌then◌else◌}
 use Rattle.ft_io.specs.Key.{key_eq}
 use Rattle.tcp_rules.specs.Profile.{plain}
+use Rattle.tcp_rules.specs.declared.profile.Profile.TheVariants.{Plain}
 use Rattle.seq_arith.specs.Mark.{Mark, MarkBody, MarkMessage}
 use Rattle.seq_arith.specs.Mark.MarkBody.{MarkMsg, MarkedMsg, AskMsg, HeldMsg}
 use Rattle.seq_arith.specs.Message.{EntryHead}
@@ -174,6 +175,7 @@ abbrev pub schedule : Schedule
 schedule = record {
   service = Echo;
   server = server;
+  profile = Plain;
   twin = false;
   marks = Some 1;
   clients = record { key = key; isn = 1000; script = Bytes hello_text } ∷ [];

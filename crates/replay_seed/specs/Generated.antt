@@ -1,6 +1,7 @@
 -- The schedule generated from a seed: its clients, and events drawn one after another, each in the world after those before it.
 use Rattle.std.specs.Prelude.{◌≡◌, ℕ, false, None, zero, suc, ◌+◌, ◌*◌, List, [], ◌∷◌, ◌++◌}
 use Rattle.ft_io.specs.declared.Addr.{Addr}
+use Rattle.tcp_rules.specs.declared.profile.Profile.TheVariants.{Plain}
 use Rattle.ft_model.specs.Legal.{start_of}
 use Rattle.ft_model.specs.World.{World, Moment, world_after}
 use Rattle.ft_model.specs.declared.event.Event.{Event}
@@ -30,9 +31,17 @@ abbrev pub client_lines : ℕ → ℕ → List ClientLine
 client_lines state zero = []
 client_lines state (suc count) = client_lines state count ++ client_line (after_draws state count) (count + 1) ∷ []
 
--- a schedule of these events, for this many clients
+-- a schedule of these events, for this many clients, with the plain profile
 abbrev pub schedule_of : (seed clients : ℕ) → List Event → Schedule
-schedule_of seed clients events = record { service = Echo; server = server_address; twin = false; marks = None; clients = client_lines seed clients; events = events }
+schedule_of seed clients events = record {
+  service = Echo;
+  server = server_address;
+  profile = Plain;
+  twin = false;
+  marks = None;
+  clients = client_lines seed clients;
+  events = events;
+}
 
 abbrev pub start_for : (seed clients : ℕ) → World
 start_for seed clients = start_of (schedule_of seed clients [])

@@ -10,6 +10,7 @@ use ft_io::{Addr, Key, NoMemory};
 use ft_model::{ClientLine, ClientLines, Events, Schedule, Script, ServiceKind};
 use pseudorandom::Generator;
 use std::alloc::Global;
+use tcp_rules::Profile;
 
 /// 192.0.2.100, port 7.
 const SERVER: Addr = Addr {
@@ -67,6 +68,7 @@ pub(crate) fn schedule_for(
     Ok(Schedule {
         service: ServiceKind::Echo,
         server: SERVER,
+        profile: Profile::Plain,
         twin: false,
         marks: None,
         clients: clients_for(alloc, generator, clients)?,

@@ -10,7 +10,7 @@ use Rattle.std.proofs.lemmas.Fmt.{decimal_is_IsNumeral, decimal_nonempty, length
 use Rattle.std.proofs.lemmas.List.Elements.{All-nil, All-cons}
 use Rattle.std.proofs.lemmas.List.Folds.{list_all-append}
 use Rattle.std.proofs.lemmas.List.Splits.{slice_split_none, slice_split_at}
-use Rattle.ft_model.specs.Grammar.{keyword_of, verb_of, boot_line, bare_line, deliver_line, flip_line, client_and_window, send_line, client_alone, stop_line, names_no_service, is_printable, line_behind, line_of}
+use Rattle.ft_model.specs.Grammar.{keyword_of, verb_of, boot_line, bare_line, deliver_line, flip_line, client_and_window, send_line, client_alone, stop_line, is_misnamed, is_printable, line_behind, line_of}
 use Rattle.ft_model.specs.Grammar as grammar
 use Rattle.ft_model.specs.Report.{event_line}
 use Rattle.ft_model.specs.Spelling.{numeral, number_of}
@@ -110,7 +110,7 @@ number_read least most n low high fits =
 -- a line of printable words whose first is a verb
 by_words : (schedule : Schedule) (word : List ℕ) (words : List (List ℕ)) (v : Verb) (e : Event) → AllByRecursion IsPlainWord (word ∷ words)
     → keyword_of word ≡ Some (keyword.Event v) → grammar.event_line v words ≡ Ok e → line_of (Begun schedule) (join_with_byte 32 (word ∷ words)) ≡ Ok (line.Event e)
-unfolding line_of line_behind names_no_service
+unfolding line_of line_behind is_misnamed
 by_words schedule word words v e plain_words announced said =
     rw (printable_joined (word ∷ words) plain_words, words_of_joined (word ∷ words) plain_words, announced, said) refl
 

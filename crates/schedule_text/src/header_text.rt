@@ -3,13 +3,14 @@
 ghost use Rattle.std.specs.Prelude.{◌≡◌, ◌+◌, ◌++◌, ◌∷◌, ◌==◌, if◌then◌else◌, codes, length, OnOk, OnErr};
 ghost use Rattle.hex.specs.Hex.{encode_lower};
 ghost use Rattle.ft_model.specs.Texts.{address_text, service_text, script_text};
-ghost use Rattle.ft_model.specs.Report.{schedule_line, schedule_lines, twin_line, marks_line, header};
+ghost use Rattle.ft_model.specs.Report.{schedule_line, schedule_lines, profile_line, twin_line, marks_line, header};
 
 use crate::line_out::LineOut;
 use crate::line_text::{put_address, put_digits, put_hex_digits, put_number, put_word};
 use ft_io::{Addr, NoMemory};
 use ft_model::{ClientLine, Schedule, Script, ServiceKind};
 use std::alloc::Global;
+use tcp_rules::Profile;
 
 /// Writes the report's name and version, and the schedule's lines before its events. After `NoMemory` `out` is unchanged.
 pub fn write_header(alloc: Global, s: &Schedule, out: &mut Vec<u8>) -> Result<(), NoMemory>
@@ -29,7 +30,7 @@ fn put_header(s: &Schedule, line: &mut LineOut) -> Result<(), NoMemory>
     line.append_text("ftreplay 1\nservice")?;
     put_word(service_word(s.service), line)?;
     put_server(s.server, line)?;
-    put_rest(s.twin, s.marks, s.clients.as_slice(), line)
+    put_rest(s.profile, s.twin, s.marks, s.clients.as_slice(), line)
 }
 
 /// Appends the end of the service's line, and the server's line.
@@ -43,9 +44,37 @@ fn put_server(server: Addr, line: &mut LineOut) -> Result<(), NoMemory>
     line.push(b'\n')
 }
 
+/// Appends the line that names the server's profile, unless it is the plain one.
+fn put_profile(profile: Profile, line: &mut LineOut) -> Result<(), NoMemory>
+    ensures ok { OnOk result (line.new.words ≡ line.old.words ++ profile_line profile) }
+    ensures before { line.new.before ≡ line.old.before }
+{
+    match profile {
+        Profile::Plain => Ok(()),
+        Profile::Wan => line.append_text("profile wan\n"),
+    }
+}
+
 /// Appends the lines after the server's.
 #[tactic(auto, using(std::proofs::Common::append_assoc))]
 fn put_rest(
+    profile: Profile,
+    twin: bool,
+    marks: Option<u32>,
+    clients: &[ClientLine],
+    line: &mut LineOut,
+) -> Result<(), NoMemory>
+    ensures ok { OnOk result (line.new.words ≡ line.old.words
+        ++ (profile_line profile ++ (twin_line twin ++ (marks_line marks ++ schedule_lines 1 clients.now)))) }
+    ensures before { line.new.before ≡ line.old.before }
+{
+    put_profile(profile, line)?;
+    put_loggers_and_clients(twin, marks, clients, line)
+}
+
+/// Appends the lines after those of the server and its profile.
+#[tactic(auto, using(std::proofs::Common::append_assoc))]
+fn put_loggers_and_clients(
     twin: bool,
     marks: Option<u32>,
     clients: &[ClientLine],

@@ -8,7 +8,7 @@ pub use ft_model::{ClientLine, ClientLines, Events, Limit, LineWhy, Schedule, Sc
 pub use header_text::write_header;
 pub use packet_text::{is_packet, write_packet_line};
 pub use read::read_schedule;
-pub use spelling::{read_addr, read_number, read_script, read_service};
+pub use spelling::{read_addr, read_number, read_profile, read_script, read_service};
 
 mod closing_text;
 mod end;

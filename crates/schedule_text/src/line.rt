@@ -3,19 +3,22 @@
 ghost use Rattle.std.specs.Prelude.{◌≡◌, ◌==◌, ◌&&◌, ◌||◌, ◌<◌, nat_le};
 ghost use Rattle.std.specs.List.{list_any};
 ghost use Rattle.ft_model.specs.Words.{words_of};
-ghost use Rattle.ft_model.specs.Grammar.{service_line, server_line, is_taken, free_address, client_line, bare_line, marks_line, line_from, verb_of, keyword_of, names_no_service};
-ghost use Rattle.ft_model.specs.Grammar.{is_next, has_next_number, may_join, has_only_server, may_stand, is_printable, line_behind, line_of, begins_event};
+ghost use Rattle.ft_model.specs.Grammar.{service_line, server_line, is_taken, free_address, client_line, bare_line, profile_line, marks_line, line_from, verb_of, keyword_of};
+ghost use Rattle.ft_model.specs.Grammar.{is_unnamed, is_misnamed, is_next, has_next_number, may_join, has_only_server, may_stand, is_printable, line_behind, line_of, begins_event};
 ghost use Rattle.schedule_text.specs.ReadResult.{GivesLine};
 
 use crate::end::LineEnd;
 use crate::event_line::{
     end_of, read_client_number, read_event, read_every, read_long_number, word_of,
 };
-use crate::spelling::{NUMBER_DIGITS, read_addr, read_numeral, read_script, read_service};
+use crate::spelling::{
+    NUMBER_DIGITS, read_addr, read_numeral, read_profile, read_script, read_service,
+};
 use crate::words::{is_text, next_word};
 use ft_io::{Addr, Key};
 use ft_model::{ClientLine, Draft, Keyword, Line, LineWhy, Schedule, ServiceKind, Verb};
 use std::alloc::Global;
+use tcp_rules::Profile;
 
 /// The largest number of clients in a schedule.
 const CLIENT_LIMIT: usize = 16;
@@ -92,6 +95,16 @@ fn read_client_line(alloc: Global, draft: &Draft, words: &[u8]) -> Result<Client
     Ok(ClientLine { key, isn, script })
 }
 
+/// Reads the line that names the server's profile.
+#[tactic(auto, unfolding(ft_model::specs::Grammar::profile_line))]
+fn read_profile_line(words: &[u8]) -> Result<Profile, LineWhy>
+    ensures { result ≡ profile_line (words_of words.now) }
+{
+    let (name, rest) = word_of(words)?;
+    end_of(rest)?;
+    read_profile(name).ok_or(LineWhy::Word)
+}
+
 /// Reads the line that says that there are two loggers.
 #[tactic(auto, unfolding(ft_model::specs::Grammar::bare_line))]
 fn read_twin_line(words: &[u8]) -> Result<Line, LineWhy>
@@ -118,6 +131,7 @@ fn read_words(alloc: Global, draft: &Draft, keyword: Keyword, words: &[u8]) -> R
     match keyword {
         Keyword::Service => Ok(Line::Service(read_service_line(words)?)),
         Keyword::Server => Ok(Line::Server(read_server_line(words)?)),
+        Keyword::Profile => Ok(Line::Profile(read_profile_line(words)?)),
         Keyword::Twin => Ok(read_twin_line(words)?),
         Keyword::Marks => Ok(Line::Marks(read_marks_line(words)?)),
         Keyword::Client => Ok(Line::Client(read_client_line(alloc, draft, words)?)),
@@ -166,6 +180,8 @@ fn read_keyword(word: &[u8]) -> Option<Keyword>
         Some(Keyword::Service)
     } else if is_text(word, "server") {
         Some(Keyword::Server)
+    } else if is_text(word, "profile") {
+        Some(Keyword::Profile)
     } else if is_text(word, "twin") {
         Some(Keyword::Twin)
     } else if is_text(word, "marks") {
@@ -177,16 +193,17 @@ fn read_keyword(word: &[u8]) -> Option<Keyword>
     }
 }
 
-/// Returns whether a service line has a name that no service has.
-#[tactic(auto, unfolding(ft_model::specs::Grammar::names_no_service))]
+/// Returns whether a line names a service or a profile that doesn't exist.
+#[tactic(auto, unfolding(ft_model::specs::Grammar::is_misnamed))]
 fn has_unknown_name(keyword: Keyword, words: &[u8]) -> bool
-    ensures { result ≡ names_no_service keyword (words_of words.now) }
+    ensures { result ≡ is_misnamed keyword (words_of words.now) }
 {
+    let Some((name, _)) = next_word(words) else {
+        return false;
+    };
     match keyword {
-        Keyword::Service => match next_word(words) {
-            Some((name, _)) => read_service(name).is_none(),
-            None => false,
-        },
+        Keyword::Service => read_service(name).is_none(),
+        Keyword::Profile => read_profile(name).is_none(),
         _ => false,
     }
 }
@@ -220,7 +237,7 @@ pub(crate) fn takes_client(schedule: &Schedule, words: &[u8]) -> bool
     fits_number(count, words)
 }
 
-/// Returns whether a line for two loggers or for marks may follow: nothing follows the server's line yet.
+/// Returns whether a line for two loggers or for marks may follow: nothing but a profile follows the server's line yet.
 #[tactic(auto, unfolding(ft_model::specs::Grammar::has_only_server))]
 fn ends_with_server(schedule: &Schedule) -> bool
     ensures { result ≡ has_only_server schedule.now }
@@ -237,12 +254,23 @@ fn ends_with_server(schedule: &Schedule) -> bool
     schedule.marks.is_none()
 }
 
+/// Returns whether the line that names the server's profile may follow.
+fn takes_profile(schedule: &Schedule) -> bool
+    ensures { result ≡ (is_unnamed schedule.now.profile && has_only_server schedule.now) }
+{
+    match schedule.profile {
+        Profile::Plain => ends_with_server(schedule),
+        Profile::Wan => false,
+    }
+}
+
 fn takes_line(draft: &Draft, keyword: Keyword, words: &[u8]) -> bool
     ensures { result ≡ may_stand draft.now keyword (words_of words.now) }
 {
     match (draft, keyword) {
         (Draft::Empty, Keyword::Service) => true,
         (Draft::Named(_), Keyword::Server) => true,
+        (Draft::Begun(schedule), Keyword::Profile) => takes_profile(schedule),
         (Draft::Begun(schedule), Keyword::Twin) => ends_with_server(schedule),
         (Draft::Begun(schedule), Keyword::Marks) => ends_with_server(schedule),
         (Draft::Begun(schedule), Keyword::Client) => takes_client(schedule, words),
@@ -251,7 +279,7 @@ fn takes_line(draft: &Draft, keyword: Keyword, words: &[u8]) -> bool
     }
 }
 
-/// Reads a line from the words after its keyword. It first tests the name of a service, and then the line's place.
+/// Reads a line from the words after its keyword. It first tests the name of a service or of a profile, and then the line's place.
 #[tactic(auto, unfolding(ft_model::specs::Grammar::line_behind))]
 fn read_behind(
     alloc: Global,

@@ -10,6 +10,7 @@ use crate::words::{next_line, next_word};
 use ft_io::NoMemory;
 use ft_model::{ClientLines, Draft, Events, Limit, Line, LineWhy, Schedule};
 use std::alloc::Global;
+use tcp_rules::Profile;
 
 /// The largest size of a text, in bytes.
 const TEXT_LIMIT: usize = 8_388_608;
@@ -66,11 +67,16 @@ fn add_line(alloc: Global, draft: Draft, line: Line) -> Result<Draft, NoMemory>
         (Draft::Named(service), Line::Server(server)) => Ok(Draft::Begun(Schedule {
             service,
             server,
+            profile: Profile::Plain,
             twin: false,
             marks: None,
             clients: ClientLines::new(Vec::new(alloc)),
             events: Events::new(Vec::new(alloc)),
         })),
+        (Draft::Begun(mut schedule), Line::Profile(profile)) => {
+            schedule.profile = profile;
+            Ok(Draft::Begun(schedule))
+        }
         (Draft::Begun(mut schedule), Line::Twin) => {
             schedule.twin = true;
             Ok(Draft::Begun(schedule))

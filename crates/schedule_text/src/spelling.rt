@@ -1,4 +1,4 @@
-//! The words of a schedule: numbers, addresses, services and scripts. Each is accepted only in its spelling.
+//! The words of a schedule: numbers, addresses, services, profiles and scripts. Each is accepted only in its spelling.
 
 ghost use Rattle.limits.specs.Limits.{longest_stream};
 ghost use Rattle.std.specs.Prelude.{◌≡◌, ◌+◌, ◌*◌, ◌%◌, ◌<◌, ◌≤◌, ◌^◌, true, length, option_map, IsTrue, IfOk, IfSome};
@@ -6,12 +6,13 @@ ghost use Rattle.std.specs.List.{list_all};
 ghost use Rattle.ft_model.specs.declared.schedule.Script.TheVariants.{Fill};
 ghost use Rattle.std.specs.Char.{digit_value, is_ascii_digit, is_ascii_hexdigit};
 ghost use Rattle.std.specs.Str.Parse.{digits_value};
-ghost use Rattle.ft_model.specs.Spelling.{numeral, within, number_of, short_number_of, octet_of, host_of, addr_of, service_of, script_of, is_hex, hex_bytes};
+ghost use Rattle.ft_model.specs.Spelling.{numeral, within, number_of, short_number_of, octet_of, host_of, addr_of, service_of, profile_named, script_of, is_hex, hex_bytes};
 
 use crate::words::{is_text, last_piece, next_piece};
 use ft_io::{Addr, NoMemory, Octets};
 use ft_model::{Script, ServiceKind};
 use std::alloc::Global;
+use tcp_rules::Profile;
 
 /// The largest number of digits in a number.
 pub(crate) const NUMBER_DIGITS: usize = 20;
@@ -139,6 +140,18 @@ pub fn read_service(word: &[u8]) -> Option<ServiceKind>
         Some(ServiceKind::Transfer)
     } else if is_text(word, "meter") {
         Some(ServiceKind::Meter)
+    } else {
+        None
+    }
+}
+
+/// Reads the name of a profile.
+#[tactic(auto, unfolding(ft_model::specs::Spelling::profile_named))]
+pub fn read_profile(word: &[u8]) -> Option<Profile>
+    ensures { result ≡ profile_named word.now }
+{
+    if is_text(word, "wan") {
+        Some(Profile::Wan)
     } else {
         None
     }

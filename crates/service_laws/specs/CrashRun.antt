@@ -2,6 +2,7 @@
 -- answer about them reaches it, and its next boot fetches the log and sends the output. Thirty events, twenty-six packets.
 use Rattle.std.specs.Prelude.{ℕ, codes, false, None, Some, List, [], ◌∷◌}
 use Rattle.tcp_rules.specs.Profile.{plain}
+use Rattle.tcp_rules.specs.declared.profile.Profile.TheVariants.{Plain}
 use Rattle.seq_arith.specs.Packet.{Segment}
 use Rattle.seq_arith.specs.Message.Body.{HelloMsg, SummaryMsg, EntryMsg, PartMsg, LensMsg, ReadsMsg, DataMsg}
 use Rattle.ft_model.specs.Client.{Client}
@@ -22,6 +23,7 @@ abbrev pub schedule : Schedule
 schedule = record {
   service = Echo;
   server = server;
+  profile = Plain;
   twin = false;
   marks = None;
   clients = record { key = key; isn = 1000; script = Bytes hello_text } ∷ [];

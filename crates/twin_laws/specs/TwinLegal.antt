@@ -1,7 +1,7 @@
 -- A legal trace of a schedule with two loggers. It is like one with a single log, except that one of the two may stop, once, and that the datagrams between
 -- them count among the packets.
 use Rattle.std.specs.Prelude.{◌≡◌, ℕ, ◌*◌, ◌==◌, ◌&&◌, ◌||◌, not, Bool, length, nat_le, Option, Some, None, is_some, List, [], ◌∷◌, ◌++◌, if◌then◌else◌}
-use Rattle.tcp_rules.specs.Profile.{plain}
+use Rattle.tcp_rules.specs.Profiles.{profile_of}
 use Rattle.server_trait.specs.Service.{Machine}
 use Rattle.ft_model.specs.Legal.{refusal, IsScripted}
 use Rattle.ft_model.specs.Schedule.{kind_of, clients_of}
@@ -20,10 +20,18 @@ use Rattle.twin_laws.specs.TwinWorld.Parcel.{Outside, Inside}
 use Rattle.twin_laws.specs.TwinWorld.TwinEvent.{Usual, Stop}
 use Rattle.twin_laws.specs.Flat.{outside}
 
--- before the first event: nothing was sent, both logs are empty, and the server is down
+-- before the first event: nothing was sent, both logs are empty, and the server is down. Its profile is the schedule's
 abbrev pub twin_start : Schedule → TwinWorld
 twin_start schedule =
-    record { server = schedule.server; profile = plain; clients = clients_of schedule.server schedule.clients; pair = new_pair; parcels = []; boot = 0; node = None }
+    record {
+      server = schedule.server;
+      profile = profile_of schedule.profile;
+      clients = clients_of schedule.server schedule.clients;
+      pair = new_pair;
+      parcels = [];
+      boot = 0;
+      node = None;
+    }
 
 -- how a schedule numbers the two loggers
 abbrev pub part_number : Part → ℕ

@@ -2,6 +2,7 @@
 -- asks again, and the head, which serves alone, answers: the entry was in its log already.
 use Rattle.std.specs.Prelude.{Some, None, true, List, [], ◌∷◌, ◌++◌}
 use Rattle.tcp_rules.specs.Profile.{plain}
+use Rattle.tcp_rules.specs.declared.profile.Profile.TheVariants.{Plain}
 use Rattle.seq_arith.specs.Message.Body.{HelloMsg, OpenMsg}
 use Rattle.ft_model.specs.Node.{booted}
 use Rattle.ft_model.specs.Node.Place.{Opens}
@@ -27,6 +28,7 @@ abbrev pub schedule : Schedule
 schedule = record {
   service = Echo;
   server = server;
+  profile = Plain;
   twin = true;
   marks = None;
   clients = record { key = key; isn = 1000; script = Bytes hello_text } ∷ [];
