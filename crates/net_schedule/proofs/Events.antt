@@ -4,7 +4,7 @@ use Rattle.std.specs.List.{AllByRecursion}
 use Rattle.std.proofs.lemmas.Bool.Decides.{nat_tests}
 use Rattle.seq_arith.specs.Damage.{flipped}
 use Rattle.server_trait.specs.Service.{Machine}
-use Rattle.tcp_rules.specs.Profile.{plain}
+use Rattle.tcp_rules.specs.Profiles.{profile_of}
 use Rattle.ft_model.specs.Client.{move_asked}
 use Rattle.ft_model.specs.Lawful.{hello}
 use Rattle.ft_model.specs.Legal.{refusal, refusal_of_flip, IsScripted}
@@ -42,15 +42,15 @@ no_move v event sent after none number move client k h = none_is_some (number, m
 module _ {State : Type 0} (service : Machine State) where
   -- the server starts
   pub boots : (w w' : Kept State) (v : Seen) (boot isn : ℕ) (s : Server State) (sent : List Wire) → ActorsStand service w v → w.node ≡ None → w.boot < boot → boot < 2 ^ 64
-      → StageStands service (booted w.server plain boot isn) s.stage → sent ≡ map wire_of (hello (booted w.server plain boot isn))
-      → s.who ≡ record { boot = boot; isn = isn; kind = w.kind; local = w.server }
+      → StageStands service (booted w.server (profile_of w.profile) boot isn) s.stage → sent ≡ map wire_of (hello (booted w.server (profile_of w.profile) boot isn))
+      → s.who ≡ record { boot = boot; isn = isn; kind = w.kind; local = w.server; profile = w.profile }
       → w' ≡ record w { packets = with_wires w.keys w.packets sent; boot = boot; node = Some s } → ActorsAdvance service v (events.Boot boot isn) w w'
   boots w w' v boot isn s wires st is_down more fits stands hello_is who e' =
       let none : v.node ≡ None = down service w.kind w.node v.node st.node is_down in
       let node : Node = booted v.server v.profile boot isn in
       let low : v.boot < boot = subst (λ n. n < boot) st.boot more in
       let rises : nat_le boot v.boot ≡ false = grind (arith, nat_tests) in
-      let said : wires ≡ map wire_of (hello node) = subst (λ a. wires ≡ map wire_of (hello (booted a plain boot isn))) st.server hello_is in
+      let said : wires ≡ map wire_of (hello node) = subst (λ a. wires ≡ map wire_of (hello (booted a (profile_of w.profile) boot isn))) st.server hello_is in
       subst (ActorsAdvance service v (events.Boot boot isn) w) (sym e')
       (record {
         happens = record {

@@ -36,6 +36,7 @@ started schedule logs every =
     record {
       kind = kind_of schedule.service;
       server = schedule.server;
+      profile = schedule.profile;
       keys = map (λ line. line.key) schedule.clients;
       clients = clients_of schedule.server schedule.clients;
       log = log_in logs;
@@ -52,6 +53,7 @@ begun schedule kind keys clients logs every packets =
     record {
       kind = kind;
       server = schedule.server;
+      profile = schedule.profile;
       keys = keys;
       clients = clients;
       log = log_in logs;

@@ -1,7 +1,7 @@
 -- With marks: the start and the turn of a node, as its contract has them, are those of the definitions' server.
 use Rattle.std.proofs.Common.{◌≡◌, sym, ap, subst, ℕ, ◌<◌, ◌≤◌, ◌^◌, true, Some, None, List, map}
 use Rattle.server_trait.specs.declared.Service.{Ghosts}
-use Rattle.tcp_rules.specs.Profile.{plain}
+use Rattle.tcp_rules.specs.Profiles.{profile_of}
 use Rattle.ft_model.specs.Lawful.{hello}
 use Rattle.ft_model.specs.Legal.{machines}
 use Rattle.ft_model.specs.Node.{booted}
@@ -22,17 +22,17 @@ module _ {State : Type 0} (ghosts : Ghosts State) (saved : Saving State) (every 
   -- the server starts
   pub boots_marked : (w w' : Kept State) (v : MarkedWorld) (boot isn : ℕ) (n : Node State ghosts) (sent : List Wire) → saved.savable ≡ true
       → MarkedWorldStands (marker_for saved (machines ghosts.started ghosts.after) every w.kind) w v → w.node ≡ None → w.boot < boot → boot < 2 ^ 64
-      → (1 ≤ w.every → MarkedNodeStands (marker_of ghosts saved n.who w.every) (booted_to_mark w.server plain boot isn) n)
-      → sent ≡ map wire_of (hello (booted w.server plain boot isn)) → n.who ≡ record { boot = boot; isn = isn; kind = w.kind; local = w.server }
+      → (1 ≤ w.every → MarkedNodeStands (marker_of ghosts saved n.who w.every) (booted_to_mark w.server (profile_of w.profile) boot isn) n)
+      → sent ≡ map wire_of (hello (booted w.server (profile_of w.profile) boot isn)) → n.who ≡ record { boot = boot; isn = isn; kind = w.kind; local = w.server; profile = w.profile }
       → w' ≡ record w { packets = with_wires w.keys w.packets sent; boot = boot; node = Some (server_of n) }
       → MarkedAdvances (marker_for saved (machines ghosts.started ghosts.after) every w.kind) v (events.Boot boot isn) w'
   boots_marked w w' v boot isn n sent savable st is_down more fits stands hello_is who e =
       let kind : n.who.kind ≡ w.kind = ap (λ i. i.kind) who in
       let some : 1 ≤ w.every = subst (λ k. 1 ≤ k) (sym st.every) st.marks in
-      let at : MarkedNodeStands (marker_of ghosts saved n.who every) (booted_to_mark w.server plain boot isn) n =
-      subst (λ k. MarkedNodeStands (marker_of ghosts saved n.who k) (booted_to_mark w.server plain boot isn) n) st.every (stands some) in
+      let at : MarkedNodeStands (marker_of ghosts saved n.who every) (booted_to_mark w.server (profile_of w.profile) boot isn) n =
+      subst (λ k. MarkedNodeStands (marker_of ghosts saved n.who k) (booted_to_mark w.server (profile_of w.profile) boot isn) n) st.every (stands some) in
       marked_boots (marker_for saved (machines ghosts.started ghosts.after) every w.kind) w w' v boot isn (server_of n) sent st is_down more fits kind at.who
-      (subst (λ b. NodeStandsAt b (booted_to_mark w.server plain boot isn) n.stage) (marker_is ghosts saved n.who every w.kind savable kind) at.stage) hello_is e
+      (subst (λ b. NodeStandsAt b (booted_to_mark w.server (profile_of w.profile) boot isn) n.stage) (marker_is ghosts saved n.who every w.kind savable kind) at.stage) hello_is e
 
   -- .. and takes a turn
   pub serves_marked : (w w' : Kept State) (v : MarkedWorld) (input : MarkedInput) (was now : Node State ghosts) (sent : List Wire) → saved.savable ≡ true

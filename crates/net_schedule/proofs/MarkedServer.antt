@@ -10,7 +10,7 @@ use Rattle.seq_arith.specs.PacketGrammar as segments
 use Rattle.seq_arith.specs.declared.kinds.BadMsg.{BadMsg}
 use Rattle.seq_arith.specs.declared.mark.BadMark.{BadMark}
 use Rattle.ft_io.specs.declared.Key.{Key}
-use Rattle.tcp_rules.specs.Profile.{plain}
+use Rattle.tcp_rules.specs.Profiles.{profile_of}
 use Rattle.ft_model.specs.Lawful.{hello, fence}
 use Rattle.ft_model.specs.Network.Packet.{To_server, To_client, To_logger, From_logger}
 use Rattle.ft_model.specs.Node.{Stage, Input, booted}
@@ -215,14 +215,14 @@ module _ {State : Type 0} (by : Marker State) where
 
   -- the server starts
   pub marked_boots : (w w' : Kept State) (v : MarkedWorld) (boot isn : ℕ) (s : Server State) (sent : List Wire) → MarkedWorldStands by w v → w.node ≡ None → w.boot < boot → boot < 2 ^ 64
-      → s.who.kind ≡ w.kind → booted w.server plain boot isn ≡ node_of s.who Asking → NodeStandsAt by (booted_to_mark w.server plain boot isn) s.stage
-      → sent ≡ map wire_of (hello (booted w.server plain boot isn))
+      → s.who.kind ≡ w.kind → booted w.server (profile_of w.profile) boot isn ≡ node_of s.who Asking → NodeStandsAt by (booted_to_mark w.server (profile_of w.profile) boot isn) s.stage
+      → sent ≡ map wire_of (hello (booted w.server (profile_of w.profile) boot isn))
       → w' ≡ record w { packets = with_wires w.keys w.packets sent; boot = boot; node = Some s } → MarkedAdvances by v (events.Boot boot isn) w'
   marked_boots w w' v boot isn s wires st is_down more fits kind who stands hello_is e' =
       let none : v.node ≡ None = marked_down by w.kind w.node v.node st.node is_down in
       let low : v.boot < boot = subst (λ n. n < boot) st.actors.boot more in
       let rises : nat_le boot v.boot ≡ false = grind (arith, nat_tests) in
-      let said : wires ≡ map wire_of (hello (booted v.server v.profile boot isn)) = subst (λ a. wires ≡ map wire_of (hello (booted a plain boot isn))) st.actors.server hello_is in
+      let said : wires ≡ map wire_of (hello (booted v.server v.profile boot isn)) = subst (λ a. wires ≡ map wire_of (hello (booted a (profile_of w.profile) boot isn))) st.actors.server hello_is in
       let world : MarkedWorld = record v { boot = boot; node = Some (booted_to_mark v.server v.profile boot isn); parcels = v.parcels ++ map Usual (hello (booted v.server v.profile boot isn)) } in
       subst (MarkedAdvances by v (events.Boot boot isn)) (sym e')
       (record {

@@ -2,7 +2,7 @@
 -- two.
 use Rattle.std.specs.Prelude.{◌≡◌, None, List, ◌++◌, map}
 use Rattle.server_trait.specs.Service.{Machine}
-use Rattle.tcp_rules.specs.Profile.{plain}
+use Rattle.tcp_rules.specs.Profiles.{profile_of}
 use Rattle.ft_model.specs.Legal.{refusal, IsScripted}
 use Rattle.ft_model.specs.Network.{Packet}
 use Rattle.ft_model.specs.Wire.{wire_of}
@@ -11,10 +11,10 @@ use Rattle.ft_model.specs.declared.event.Event.{Event}
 use Rattle.schedule_network.specs.StoredPackets.{with_wires}
 use Rattle.net_schedule.specs.Refinement.{Kept, NodeStands}
 
--- server and clients of the code's world correspond to those of a world of the definitions, whose profile is plain
+-- server and clients of the code's world correspond to those of a world of the definitions
 pub record ActorsStand {State : Type 0} (service : Machine State) (w : Kept State) (v : Seen) : Type 0 where
   pub server : w.server ≡ v.server
-  pub profile : plain ≡ v.profile
+  pub profile : profile_of w.profile ≡ v.profile
   pub keys : w.keys ≡ map (λ c. c.key) v.clients
   pub clients : w.clients ≡ v.clients
   pub boot : w.boot ≡ v.boot

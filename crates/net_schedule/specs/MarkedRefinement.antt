@@ -6,7 +6,7 @@ use Rattle.seq_arith.specs.Mark.{MarkMessage}
 use Rattle.seq_arith.specs.PacketGrammar as segments
 use Rattle.ft_io.specs.declared.Key.{Key}
 use Rattle.server_trait.specs.Service.{Machine}
-use Rattle.tcp_rules.specs.Profile.{plain}
+use Rattle.tcp_rules.specs.Profiles.{profile_of}
 use Rattle.ft_model.specs.Lawful.{IsNearInput, IsSoundInput, fence}
 use Rattle.ft_model.specs.Legal.{IsScripted}
 use Rattle.ft_model.specs.Network.Packet.{To_server, To_client, To_logger, From_logger}
@@ -56,10 +56,10 @@ MarkedNodeStands by kind None None = Unit {0}
 MarkedNodeStands by kind (Some now) (Some node) = IsMarkedAt by kind now node
 MarkedNodeStands by kind _ _ = ⊥
 
--- the server's address, the clients, and the largest boot number are those of a world of the definitions, whose profile is plain
+-- the server's address and profile, the clients, and the largest boot number are those of a world of the definitions
 pub record PeersStand {State : Type 0} (w : Kept State) (v : Seen) : Type 0 where
   pub server : w.server ≡ v.server
-  pub profile : plain ≡ v.profile
+  pub profile : profile_of w.profile ≡ v.profile
   pub keys : w.keys ≡ map (λ c. c.key) v.clients
   pub clients : w.clients ≡ v.clients
   pub boot : w.boot ≡ v.boot

@@ -3,7 +3,8 @@ use Rattle.std.specs.Prelude.{◌≡◌, ℕ, Option, None, Some, List, ◌++◌
 use Rattle.ft_io.specs.declared.Addr.{Addr}
 use Rattle.ft_io.specs.declared.Key.{Key}
 use Rattle.server_trait.specs.Service.{Machine}
-use Rattle.tcp_rules.specs.Profile.{plain}
+use Rattle.tcp_rules.specs.Profiles.{profile_of}
+use Rattle.tcp_rules.specs.declared.profile.Profile.{Profile}
 use Rattle.ft_model.specs.Client.{Client}
 use Rattle.ft_model.specs.Log.{Log}
 use Rattle.ft_model.specs.Network.{Packet}
@@ -31,6 +32,7 @@ pub record Server (State : Type 0) : Type 0 where
 pub record Kept (State : Type 0) : Type 0 where
   pub kind : ℕ  -- of the service
   pub server : Addr
+  pub profile : Profile  -- of the server
   pub keys : List Key  -- of the clients
   pub clients : List Client
   pub log : Log  -- the one that serves; with marks, the journal
@@ -53,10 +55,10 @@ NodeStands service kind None None = Unit {0}
 NodeStands service kind (Some now) (Some node) = IsAt service kind now node
 NodeStands service kind _ _ = ⊥
 
--- The code's world corresponds to a world of the definitions, whose profile is plain: each packet is stored in its one spelling, with its direction.
+-- The code's world corresponds to a world of the definitions: each packet is stored in its one spelling, with its direction.
 pub record WorldStands {State : Type 0} (service : Machine State) (w : Kept State) (v : Seen) : Type 0 where
   pub server : w.server ≡ v.server
-  pub profile : plain ≡ v.profile
+  pub profile : profile_of w.profile ≡ v.profile
   pub keys : w.keys ≡ map (λ c. c.key) v.clients
   pub clients : w.clients ≡ v.clients
   pub single : w.keepers ≡ Single

@@ -15,6 +15,7 @@ abbrev pub kept : {State : Type 0} {ghosts : Ghosts State} → World State ghost
 kept w = record {
   kind = w.kind;
   server = w.server;
+  profile = w.profile;
   keys = w.keys.items;
   clients = w.clients.items;
   log = log_in w.logs;

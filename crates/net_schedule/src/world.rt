@@ -20,6 +20,7 @@ use server_node::{Input, Node, TurnEnd};
 use server_trait::{Saved, Service};
 use std::alloc::Global;
 use std::mem;
+use tcp_rules::Profile;
 use twin_laws::{flat_traces_show_all, legal_traces_are_masked, parcels_are_written};
 use twin_log::Part;
 
@@ -71,6 +72,7 @@ fn every_of<S: Saved>(schedule: &Schedule) -> u32
 pub struct World<S: Service> {
     kind: u8,
     server: Addr,
+    profile: Profile,
     keys: Vec<Key>,
     clients: Vec<Client>,
     logs: Logs,
@@ -106,7 +108,7 @@ impl<S: Saved> World<S> {
     ghost use Rattle.net_schedule.specs.MarkedStep.{MarkedStandsAfter};
     ghost use Rattle.server_node.specs.MarkedTurns.{marked_input_of};
 
-    /// Creates the world in which a schedule starts: nothing was sent, nothing is logged, and the server is down.
+    /// Creates the world in which a schedule starts: nothing was sent, nothing is logged, and the server is down. Each of its boots has the schedule's profile.
     pub fn new(alloc: Global, schedule: &Schedule) -> Result<World<S>, NoMemory>
         requires playable { IsPlayable schedule.now }
         requires few { length schedule.now.clients ≤ 16 }
@@ -121,6 +123,7 @@ impl<S: Saved> World<S> {
         Ok(World {
             kind: schedule.service.number(),
             server: schedule.server,
+            profile: schedule.profile,
             keys: keys_of(alloc, lines)?,
             clients: new_clients(alloc, schedule.server, lines)?,
             logs: Logs::new(alloc, schedule.twin, every > 0)?,
@@ -171,7 +174,7 @@ impl<S: Saved> World<S> {
         self.node.as_ref()
     }
 
-    /// Starts the server.
+    /// Starts the server, with its profile.
     fn boot(&mut self, alloc: Global, boot: u64, isn: u32) -> Result<(), StepEnd>
         ensures done { OnOk result (ActorsDo (saving S.form S.state_of S.is_savable) (Boot boot isn) self.old self.new) }
         ensures ends { IfErr result (ActorsDecline (saving S.form S.state_of S.is_savable) (Boot boot isn) self.old self.new) }
@@ -182,7 +185,15 @@ impl<S: Saved> World<S> {
         if boot <= self.boot {
             return Err(StepEnd::BadEvent(EventWhy::Boot));
         }
-        let node = Node::boot_marked(alloc, boot, isn, self.kind, self.server, self.every)?;
+        let node = Node::boot_in(
+            alloc,
+            self.profile,
+            boot,
+            isn,
+            self.kind,
+            self.server,
+            self.every,
+        )?;
         if let Err(NoMemory) = keep_sent(&self.keys, node.sent(), &mut self.packets) {
             drop(node);
             return Err(StepEnd::NoMemory);
